@@ -1,0 +1,7 @@
+//! The instruction set of the core: RV32IM with the CSR instructions, FENCE.I and this project's
+//! timing instructions, as words and as values of [`Ins`].
+#![tactic(auto)]
+
+mod instruction;
+
+pub use instruction::{AluOp, BranchOp, CsrKind, ImmOp, Ins, LoadOp, MulOp, ShiftOp, StoreOp};
