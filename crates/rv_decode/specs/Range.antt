@@ -1,0 +1,68 @@
+-- The values that an instruction's fields may have.
+use Rattle.std.specs.Prelude.{◌≡◌, ◌<◌, ℕ, ◌-◌, ◌^◌, ℤ, pos, ◌≤ℤ◌, ◌<ℤ◌, ◌+ℤ◌}
+use Rattle.rv_decode.specs.Fields.{field}
+use Rattle.rv_decode.specs.Table.{ins}
+use Rattle.rv_decode.specs.declared.instruction.Ins.{Ins}
+use Rattle.rv_decode.specs.declared.instruction.Ins.TheVariants.{Lui, Auipc, Jal, Jalr, Branch, Load, Store, OpImm, Shift, Op, Muldiv, Fence, Ecall, Ebreak, Mret, Csr, Gt, Gth, Du, Wu, Ee, De, Illegal}
+
+-- a whole number that so many bits hold with their top bit as the sign
+abbrev pub IsSigned : ℕ → ℤ → Type 0
+IsSigned count n = (pos 0 ≤ℤ (n +ℤ pos (2 ^ (count - 1)))) × (n <ℤ pos (2 ^ (count - 1)))
+
+-- twice a whole number
+abbrev pub IsEven : ℤ → Type 0
+IsEven n = (k : ℤ) × (n ≡ k +ℤ k)
+
+-- Registers are below 32, immediates and offsets are what the word has room for, and a word that is
+-- kept whole is of the variant that keeps it.
+abbrev pub InRange : Ins → Type 0
+InRange (Lui rd imm) = (rd < 32) × (imm < 2 ^ 20)
+InRange (Auipc rd imm) = (rd < 32) × (imm < 2 ^ 20)
+InRange (Jal rd off) = (rd < 32) × IsSigned 21 off × IsEven off
+InRange (Jalr rd rs1 imm) = (rd < 32) × (rs1 < 32) × IsSigned 12 imm
+InRange (Branch op rs1 rs2 off) = (rs1 < 32) × (rs2 < 32) × IsSigned 13 off × IsEven off
+InRange (Load op rd rs1 imm) = (rd < 32) × (rs1 < 32) × IsSigned 12 imm
+InRange (Store op rs1 rs2 imm) = (rs1 < 32) × (rs2 < 32) × IsSigned 12 imm
+InRange (OpImm op rd rs1 imm) = (rd < 32) × (rs1 < 32) × IsSigned 12 imm
+InRange (Shift op rd rs1 amount) = (rd < 32) × (rs1 < 32) × (amount < 32)
+InRange (Op op rd rs1 rs2) = (rd < 32) × (rs1 < 32) × (rs2 < 32)
+InRange (Muldiv op rd rs1 rs2) = (rd < 32) × (rs1 < 32) × (rs2 < 32)
+InRange (Fence w) = (field w 0 7 ≡ 0x0f) × (field w 12 3 < 2)
+InRange Ecall = Unit {0}
+InRange Ebreak = Unit {0}
+InRange Mret = Unit {0}
+InRange (Csr op rd csr src) = (rd < 32) × (csr < 4096) × (src < 32)
+InRange (Gt rd) = rd < 32
+InRange (Gth rd) = rd < 32
+InRange (Du rs1 rs2) = (rs1 < 32) × (rs2 < 32)
+InRange (Wu rs1 rs2) = (rs1 < 32) × (rs2 < 32)
+InRange (Ee rs1 rs2) = (rs1 < 32) × (rs2 < 32)
+InRange De = Unit {0}
+InRange (Illegal w) = ins w ≡ Illegal w
+
+-- Every register that the instruction names is below 32, and so is the value of the immediate CSR
+-- forms, which stands in a register's place.
+abbrev pub HasRegisters : Ins → Type 0
+HasRegisters (Lui rd imm) = rd < 32
+HasRegisters (Auipc rd imm) = rd < 32
+HasRegisters (Jal rd off) = rd < 32
+HasRegisters (Jalr rd rs1 imm) = (rd < 32) × (rs1 < 32)
+HasRegisters (Branch op rs1 rs2 off) = (rs1 < 32) × (rs2 < 32)
+HasRegisters (Load op rd rs1 imm) = (rd < 32) × (rs1 < 32)
+HasRegisters (Store op rs1 rs2 imm) = (rs1 < 32) × (rs2 < 32)
+HasRegisters (OpImm op rd rs1 imm) = (rd < 32) × (rs1 < 32)
+HasRegisters (Shift op rd rs1 amount) = (rd < 32) × (rs1 < 32)
+HasRegisters (Op op rd rs1 rs2) = (rd < 32) × (rs1 < 32) × (rs2 < 32)
+HasRegisters (Muldiv op rd rs1 rs2) = (rd < 32) × (rs1 < 32) × (rs2 < 32)
+HasRegisters (Fence w) = Unit {0}
+HasRegisters Ecall = Unit {0}
+HasRegisters Ebreak = Unit {0}
+HasRegisters Mret = Unit {0}
+HasRegisters (Csr op rd csr src) = (rd < 32) × (src < 32)
+HasRegisters (Gt rd) = rd < 32
+HasRegisters (Gth rd) = rd < 32
+HasRegisters (Du rs1 rs2) = (rs1 < 32) × (rs2 < 32)
+HasRegisters (Wu rs1 rs2) = (rs1 < 32) × (rs2 < 32)
+HasRegisters (Ee rs1 rs2) = (rs1 < 32) × (rs2 < 32)
+HasRegisters De = Unit {0}
+HasRegisters (Illegal w) = Unit {0}
