@@ -1,0 +1,72 @@
+-- Loads and stores: the bytes of the aligned word that holds them, little endian ("Load and Store Instructions").
+use Rattle.std.specs.Prelude.{◌≡◌, ℕ, ◌+◌, ◌-◌, ◌*◌, ◌/◌, ◌%◌, ◌^◌, ◌==◌, Bool, nat_lt, if◌then◌else◌}
+use Rattle.rv_exec.specs.Words.{bit}
+use Rattle.rv_exec.specs.declared.outcome.Lanes.{Lanes}
+use Rattle.rv_decode.specs.declared.instruction.LoadOp.{LoadOp}
+use Rattle.rv_decode.specs.declared.instruction.LoadOp.TheVariants.{Lb, Lh, Lw, Lbu, Lhu}
+use Rattle.rv_decode.specs.declared.instruction.StoreOp.{StoreOp}
+use Rattle.rv_decode.specs.declared.instruction.StoreOp.TheVariants.{Sb, Sh, Sw}
+use Rattle.rv_decode.specs.declared.instruction.Ins.{Ins}
+use Rattle.rv_decode.specs.declared.instruction.Ins.TheVariants.{Load, Store}
+
+-- the number of bytes that a load or store takes
+abbrev pub load_size : LoadOp → ℕ
+load_size Lb = 1
+load_size Lh = 2
+load_size Lw = 4
+load_size Lbu = 1
+load_size Lhu = 2
+
+abbrev pub store_size : StoreOp → ℕ
+store_size Sb = 1
+store_size Sh = 2
+store_size Sw = 4
+
+-- whether an address is a multiple of a number of bytes
+abbrev pub is_aligned : ℕ → ℕ → Bool
+is_aligned address size = address % size == 0
+
+-- the address of a load or store is a multiple of its number of bytes
+abbrev pub IsAligned : Ins → ℕ → Type 0
+IsAligned (Load op rd rs1 imm) address = address % load_size op ≡ 0
+IsAligned (Store op rs1 rs2 imm) address = address % store_size op ≡ 0
+IsAligned _ address = Unit {0}
+
+-- the bytes of a word from an address on, so many of them, as a number
+abbrev pub bytes_at : ℕ → ℕ → ℕ → ℕ
+bytes_at size address w = w / 256 ^ (address % 4) % 256 ^ size
+
+-- a number of so many bytes, its top bit copied upward to 32 bits
+abbrev pub extended : ℕ → ℕ → ℕ
+extended size n = if nat_lt n (256 ^ size / 2) then n else n + (2 ^ 32 - 256 ^ size)
+
+-- the value of a load, out of the aligned word that holds the address
+unfoldable pub loaded : LoadOp → ℕ → ℕ → ℕ
+loaded Lb address w = extended 1 (bytes_at 1 address w)
+loaded Lh address w = extended 2 (bytes_at 2 address w)
+loaded Lw address w = bytes_at 4 address w
+loaded Lbu address w = bytes_at 1 address w
+loaded Lhu address w = bytes_at 2 address w
+
+-- so many low bytes of a value in their places in the aligned word, with 0 in the others, and the mask of these places
+unfoldable pub lanes_at : ℕ → ℕ → ℕ → Lanes
+lanes_at size address value = record {
+  mask = (2 ^ size - 1) * 2 ^ (address % 4);
+  value = value % 256 ^ size * 256 ^ (address % 4);
+}
+
+-- what a store writes
+abbrev pub lanes : StoreOp → ℕ → ℕ → Lanes
+lanes op address b = lanes_at (store_size op) address b
+
+-- the byte at a place of a word, 0 to 3
+abbrev pub byte : ℕ → ℕ → ℕ
+byte w place = w / 256 ^ place % 256
+
+-- the byte at a place once lanes are written: theirs where the mask names it, else the old one
+abbrev pub merged_byte : ℕ → Lanes → ℕ → ℕ
+merged_byte old l place = if bit l.mask place == 1 then byte l.value place else byte old place
+
+-- a word once lanes are written
+unfoldable pub merged : ℕ → Lanes → ℕ
+merged old l = merged_byte old l 0 + merged_byte old l 1 * 256 + merged_byte old l 2 * 256 ^ 2 + merged_byte old l 3 * 256 ^ 3

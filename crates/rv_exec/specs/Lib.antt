@@ -1,0 +1,5 @@
+pub mod Words
+pub mod Alu
+pub mod Access
+pub mod Result
+pub mod Line
