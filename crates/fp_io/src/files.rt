@@ -1,0 +1,46 @@
+//! Files that are read whole, by name.
+ghost use Rattle.std.specs.Prelude.{◌≡◌, ℕ, ◌+◌, ◌-◌, ◌^◌, ◌<◌, ◌≤◌, Option, IfOk, vec_len};
+ghost use Rattle.fp_io.specs.Causes.{Rose};
+ghost use Rattle.fp_io.specs.Content.{FileMap, Fetched, Lacks};
+
+use std::alloc::Global;
+
+/// Why a file was not fetched.
+#[derive(Clone, Copy, Debug, PartialEq, Eq)]
+pub enum FetchFault {
+    /// No file has the name.
+    Missing = 1,
+    /// The file could not be read.
+    Failed = 2,
+    /// Memory was refused.
+    NoMemory = 3,
+}
+
+/// A map from names to the bytes of files, and a count of the faults met in reading them.
+pub trait Files {
+    // The map, where the object tells it.
+    ghost told: { Self → Option FileMap };
+
+    // How many faults of reading there were: it never falls, and stays at 2^64 - 1.
+    ghost faults: { Self → ℕ };
+
+    /// The first `most + 1` bytes of a file, or the whole file where it is shorter.
+    ///
+    /// With `most` as the largest length that is accepted, an answer of `most + 1` bytes shows that
+    /// the file is too long, whatever it holds after them.
+    ///
+    /// # Errors
+    ///
+    /// `Missing` where the object tells its map and no file has the name, `Failed` where a fault
+    /// was counted in this call, `NoMemory` where memory was refused.
+    fn fetch(&mut self, alloc: Global, name: &str, most: usize) -> Result<Vec<u8>, FetchFault>
+        requires { most < 2 ^ 64 - 1 }
+        ensures stays { told self.new ≡ told self.old }
+        ensures counted { faults self.old ≤ faults self.new }
+        ensures within { IfOk result (λ bytes. vec_len bytes ≤ most + 1) }
+        ensures bytes { IfOk result (λ bytes. Fetched (told self.old) name.now most bytes.items) }
+        ensures missing { result ≡ Err FetchFault.Missing
+            → Lacks (told self.old) name.now × (faults self.new ≡ faults self.old) }
+        ensures failed { result ≡ Err FetchFault.Failed
+            → Rose (faults self.old) (faults self.new) };
+}

@@ -1,0 +1,12 @@
+//! The outside of the program: files that are read whole by name, and a sink that takes bytes.
+//!
+//! Both are traits, so that the layers above are proved for every kind of file and sink. An object
+//! may tell its content, and it counts its faults; the count lets a caller's contract say that a
+//! fault was answered only where one came up.
+#![tactic(auto)]
+
+mod files;
+mod sink;
+
+pub use files::{FetchFault, Files};
+pub use sink::{PutFailed, Sink};
