@@ -1,0 +1,16 @@
+//! A word as eight fields of four bits: the form of the registers that have one field for each slot
+//! or for each region.
+#![tactic(auto)]
+
+ghost use Rattle.std.specs.Prelude.{◌≡◌, ◌<◌};
+ghost use Rattle.nibble_word.specs.Nibbles.{nibble_at};
+
+/// Nibble `index` of a word: bits `4 * index` to `4 * index + 3`. The index is 0 to 7.
+#[tactic(auto, using(crate::proofs::Shift::shifted))]
+pub fn nibble(word: u32, index: u8) -> u8
+    requires { index < 8 }
+    ensures value { result ≡ nibble_at word index }
+    ensures small { result < 16 }
+{
+    ((word >> (4 * u32::from(index))) % 16) as u8
+}

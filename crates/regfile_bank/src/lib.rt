@@ -1,0 +1,2 @@
+//! The registers of the eight hardware threads.
+#![tactic(auto)]

@@ -1,0 +1,87 @@
+-- The regions of the two scratchpads, and who may fetch, load and store where. `size` is that of
+-- each scratchpad, in bytes; each has eight regions of a size / 8 bytes.
+use Rattle.std.specs.Prelude.{◌≡◌, ◌⊎◌, ℕ, ◌+◌, ◌/◌, ◌%◌, ◌==◌, nat_lt, nat_le, Bool, true, false, not, ◌&&◌, ◌||◌, if◌then◌else◌}
+use Rattle.nibble_word.specs.Nibbles.{nibble_at}
+
+-- the sizes that there are
+abbrev pub IsSize : ℕ → Type 0
+IsSize size = (size ≡ 16384) ⊎ (size ≡ 65536)
+
+-- what may stand in a region register for a region: a thread, shared (8) or read only (12)
+abbrev pub is_owner : ℕ → Bool
+is_owner nibble = nat_le nibble 8 || nibble == 12
+
+-- what a region is to a thread
+pub data Standing : Type 0 where
+  Mine : Standing
+  ReadOnly : Standing
+  Shared : Standing
+  Foreign : Standing
+
+-- by the region's nibble in the register
+unfoldable pub standing : ℕ → ℕ → Standing
+standing thread nibble =
+    if nibble == thread then Mine
+    else if nibble == 8 then Shared
+    else if nibble == 12 then ReadOnly
+    else Foreign
+
+-- where a confined thread may load and fetch
+abbrev pub is_readable : Standing → Bool
+is_readable Mine = true
+is_readable ReadOnly = true
+is_readable Shared = false
+is_readable Foreign = false
+
+-- where a thread may store
+abbrev pub is_writable : Standing → Bool
+is_writable Mine = true
+is_writable ReadOnly = false
+is_writable Shared = true
+is_writable Foreign = false
+
+abbrev pub is_mine : Standing → Bool
+is_mine Mine = true
+is_mine ReadOnly = false
+is_mine Shared = false
+is_mine Foreign = false
+
+-- the instruction scratchpad, the data scratchpad, and the word of the port
+abbrev pub in_i : ℕ → ℕ → Bool
+in_i size address = nat_lt address size
+
+abbrev pub in_d : ℕ → ℕ → Bool
+in_d size address = nat_le 0x20000000 address && nat_lt address (0x20000000 + size)
+
+abbrev pub at_port : ℕ → ℕ → Bool
+at_port address width = address == 0x40000000 && width == 4
+
+-- the region of an address in its scratchpad, and the index of its word there
+unfoldable pub region_of : ℕ → ℕ → ℕ
+region_of size address = address % size / (size / 8)
+
+unfoldable pub index_of : ℕ → ℕ → ℕ
+index_of size address = address % size / 4
+
+-- what the region of an address is to a thread, by the region register
+abbrev pub standing_at : ℕ → ℕ → ℕ → ℕ → Standing
+standing_at thread size regions address = standing thread (nibble_at regions (region_of size address))
+
+-- whether a confined or an unconfined thread may read there
+abbrev pub may_read : ℕ → ℕ → Bool → ℕ → ℕ → Bool
+may_read thread size confined regions address = not confined || is_readable (standing_at thread size regions address)
+
+-- who may fetch, load and store where. The address is aligned for the width, which is in bytes
+unfoldable pub may_fetch : ℕ → ℕ → Bool → ℕ → ℕ → Bool
+may_fetch thread size confined iregions address = in_i size address && may_read thread size confined iregions address
+
+unfoldable pub may_load : ℕ → ℕ → Bool → ℕ → ℕ → ℕ → ℕ → Bool
+may_load thread size confined iregions dregions address width =
+    if in_i size address then may_read thread size confined iregions address
+    else if in_d size address then may_read thread size confined dregions address
+    else at_port address width
+
+unfoldable pub may_store : ℕ → ℕ → ℕ → ℕ → ℕ → Bool
+may_store thread size dregions address width =
+    if in_d size address then is_writable (standing_at thread size dregions address)
+    else at_port address width

@@ -1,0 +1,2 @@
+//! The region registers: who may fetch, load and store where.
+#![tactic(auto)]

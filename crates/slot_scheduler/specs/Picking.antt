@@ -1,0 +1,50 @@
+-- The thread that is picked in a cycle.
+use Rattle.std.specs.Prelude.{ℕ, ◌+◌, ◌/◌, ◌%◌, ◌^◌, ◌==◌, nat_le, Bool, ◌&&◌, ◌||◌, if◌then◌else◌, List, [], ◌∷◌, slice_index_or, map, find, Option, Some, None}
+use Rattle.slot_table.specs.Frame.{turn}
+use Rattle.slot_table.specs.declared.frame.Turn.{Turn}
+use Rattle.slot_table.specs.declared.frame.Turn.TheVariants.{Thread, Soft, Nobody}
+use Rattle.slot_scheduler.specs.declared.picking.Pick.{Pick}
+use Rattle.slot_scheduler.specs.declared.picking.Pick.TheVariants.{Issue, Bubble}
+use Rattle.slot_scheduler.specs.declared.picking.Sched.{Sched}
+
+-- the mode of a thread: two bits of the modes register. 0 is hard active, 1 hard asleep, 2 soft
+-- active, 3 soft asleep
+abbrev pub mode_of : ℕ → ℕ → ℕ
+mode_of modes thread = modes / 4 ^ thread % 4
+
+-- a thread is awake where it is active and the time has reached its sleep moment
+unfoldable pub is_awake : Sched → ℕ → ℕ → Bool
+is_awake s now thread =
+    (mode_of s.modes thread == 0 || mode_of s.modes thread == 2) && nat_le (slice_index_or s.sleep thread 0) now
+
+-- a thread that may take a slot that is soft, or whose thread isn't awake
+abbrev pub takes_donated : Sched → ℕ → ℕ → Bool
+takes_donated s now thread = mode_of s.modes thread == 2 && is_awake s now thread
+
+-- the threads in the order of the search: those after the last one, and that one at the end
+abbrev pub after_last : ℕ → List ℕ
+after_last last = map (λ d. (last + d) % 8) (1 ∷ 2 ∷ 3 ∷ 4 ∷ 5 ∷ 6 ∷ 7 ∷ 8 ∷ [])
+
+-- who is picked, and the new place of the search
+pub record Picked : Type 0 where
+  pub pick : Pick
+  pub last : ℕ
+
+-- what the search for a soft thread found; it goes on from there
+abbrev pub found : Option ℕ → ℕ → Picked
+found None last = record { pick = Bubble; last = last }
+found (Some thread) last = record { pick = Issue thread; last = thread }
+
+unfoldable pub donated : Sched → ℕ → ℕ → Picked
+donated s now last = found (find (takes_donated s now) (after_last last)) last
+
+-- a thread picked by its own slot, hard or soft, doesn't move the place of the search
+abbrev pub pick_in : Sched → ℕ → ℕ → Turn → Picked
+pick_in s now last Nobody = record { pick = Bubble; last = last }
+pick_in s now last Soft = donated s now last
+pick_in s now last (Thread thread) =
+    if is_awake s now thread then record { pick = Issue thread; last = last } else donated s now last
+
+-- the pick of a cycle, by slots, modes and sleep moments, the time, and the place of the search
+unfoldable pub pick : Sched → ℕ → ℕ → ℕ → Picked
+pick s cycle now last = pick_in s now last (turn s.slots cycle)

@@ -1,0 +1,30 @@
+-- The slots register: eight slots, of which those that aren't disabled take turns.
+use Rattle.std.specs.Prelude.{ℕ, ◌%◌, ◌==◌, nat_lt, Bool, not, ◌||◌, if◌then◌else◌, List, [], ◌∷◌, slice_index_or, filter, length}
+use Rattle.nibble_word.specs.Nibbles.{nibbles}
+use Rattle.slot_table.specs.declared.frame.Turn.{Turn}
+use Rattle.slot_table.specs.declared.frame.Turn.TheVariants.{Thread, Soft, Nobody}
+
+-- what may stand in a slot: a thread, soft (14) or disabled (15)
+abbrev pub is_slot : ℕ → Bool
+is_slot nibble = nat_lt nibble 8 || nibble == 14 || nibble == 15
+
+-- a slot that takes part
+abbrev pub is_used : ℕ → Bool
+is_used nibble = not (nibble == 15)
+
+-- the slots that aren't disabled, in order
+unfoldable pub frame : ℕ → List ℕ
+frame slots = filter is_used (nibbles slots)
+
+-- whose turn a slot of the frame is
+abbrev pub turn_of_slot : ℕ → Turn
+turn_of_slot nibble = if nat_lt nibble 8 then Thread nibble else Soft
+
+-- the frame's entry number c modulo its length; an empty frame is nobody's
+abbrev pub turn_in : List ℕ → ℕ → Turn
+turn_in [] c = Nobody
+turn_in (slot ∷ slots) c = turn_of_slot (slice_index_or (slot ∷ slots) (c % length (slot ∷ slots)) 14)
+
+-- whose turn cycle c is, by the word of the register
+unfoldable pub turn : ℕ → ℕ → Turn
+turn slots c = turn_in (frame slots) c

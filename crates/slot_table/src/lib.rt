@@ -1,0 +1,8 @@
+//! The slots register: the frame of slots that share the cycles, and whose turn each cycle is.
+#![tactic(auto)]
+
+mod frame;
+mod table;
+
+pub use frame::Turn;
+pub use table::SlotTable;
