@@ -1,0 +1,3 @@
+pub mod Bitwise
+pub mod Places
+pub mod Remainder
