@@ -2,6 +2,11 @@
 //! timing instructions, as words and as values of [`Ins`].
 #![tactic(auto)]
 
+mod decoder;
+mod fields;
 mod instruction;
+mod lags;
 
+pub use decoder::decode;
 pub use instruction::{AluOp, BranchOp, CsrKind, ImmOp, Ins, LoadOp, MulOp, ShiftOp, StoreOp};
+pub use lags::lag_of;

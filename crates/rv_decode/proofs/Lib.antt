@@ -1,0 +1,2 @@
+pub mod ByOpcode
+pub mod Ranges

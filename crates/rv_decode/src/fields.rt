@@ -1,0 +1,93 @@
+//! The fields of an instruction word (RISC-V unprivileged manual, "Base Instruction Formats" and
+//! "Immediate Encoding Variants").
+
+ghost use Rattle.std.specs.Prelude.{◌≡◌};
+ghost use Rattle.rv_decode.specs.Fields.{field, imm_b, imm_i, imm_j, imm_s};
+
+pub fn opcode(word: u32) -> u32
+    ensures { result ≡ field word 0 7 }
+{
+    word & 0x7f
+}
+
+pub fn rd(word: u32) -> u8
+    ensures { result ≡ field word 7 5 }
+{
+    ((word >> 7) & 0x1f) as u8
+}
+
+pub fn funct3(word: u32) -> u32
+    ensures { result ≡ field word 12 3 }
+{
+    (word >> 12) & 0x7
+}
+
+pub fn rs1(word: u32) -> u8
+    ensures { result ≡ field word 15 5 }
+{
+    ((word >> 15) & 0x1f) as u8
+}
+
+pub fn rs2(word: u32) -> u8
+    ensures { result ≡ field word 20 5 }
+{
+    ((word >> 20) & 0x1f) as u8
+}
+
+pub fn funct7(word: u32) -> u32
+    ensures { result ≡ field word 25 7 }
+{
+    word >> 25
+}
+
+/// The number of a control and status register.
+pub fn csr(word: u32) -> u16
+    ensures { result ≡ field word 20 12 }
+{
+    (word >> 20) as u16
+}
+
+/// The immediate of format U, without the twelve zero bits below it.
+pub fn imm_u(word: u32) -> u32
+    ensures { result ≡ field word 12 20 }
+{
+    word >> 12
+}
+
+/// The immediate of format I.
+pub fn imm_i(word: u32) -> i32
+    ensures { result ≡ imm_i word }
+{
+    let bits = (word >> 20) as i32;
+    if bits < 0x800 { bits } else { bits - 0x1000 }
+}
+
+/// The immediate of format S.
+pub fn imm_s(word: u32) -> i32
+    ensures { result ≡ imm_s word }
+{
+    let bits = (((word >> 25) << 5) | ((word >> 7) & 0x1f)) as i32;
+    if bits < 0x800 { bits } else { bits - 0x1000 }
+}
+
+/// The offset of format B, in bytes.
+pub fn imm_b(word: u32) -> i32
+    ensures { result ≡ imm_b word }
+{
+    let bits = (((word >> 31) << 12)
+        + (((word >> 7) & 0x1) << 11)
+        + (((word >> 25) & 0x3f) << 5)
+        + (((word >> 8) & 0xf) << 1)) as i32;
+    if bits < 0x1000 { bits } else { bits - 0x2000 }
+}
+
+/// The offset of format J, in bytes.
+pub fn imm_j(word: u32) -> i32
+    ensures { result ≡ imm_j word }
+{
+    let bits = (((word >> 31) << 20)
+        + (((word >> 12) & 0xff) << 12)
+        + (((word >> 20) & 0x1) << 11)
+        + (((word >> 21) & 0x3ff) << 1)) as i32;
+    if bits < 0x10_0000 { bits } else { bits - 0x20_0000 }
+}

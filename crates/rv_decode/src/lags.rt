@@ -1,0 +1,40 @@
+//! How long a thread waits after an instruction.
+
+ghost use Rattle.std.specs.Prelude.{◌≡◌, ◌≤◌};
+ghost use Rattle.rv_decode.specs.Lag.{lag};
+
+use crate::instruction::Ins;
+
+/// How many cycles after the issue of `i` the thread's next instruction may issue. `taken` says
+/// whether `i` is a branch that is taken, and `trapped` whether it traps.
+#[tactic(auto, unfolding(crate::specs::Lag::lag))]
+pub fn lag_of(i: &Ins, taken: bool, trapped: bool) -> u64
+    ensures table { result ≡ lag i.now taken trapped }
+    ensures short { result ≤ 3 }
+{
+    if trapped {
+        return 3;
+    }
+    match *i {
+        Ins::Load { .. } | Ins::Muldiv { .. } => 2,
+        Ins::Branch { .. } => {
+            if taken {
+                3
+            } else {
+                1
+            }
+        }
+        Ins::Jal { .. }
+        | Ins::Jalr { .. }
+        | Ins::Mret
+        | Ins::Csr { .. }
+        | Ins::Du { .. }
+        | Ins::Wu { .. }
+        | Ins::Ee { .. }
+        | Ins::De
+        | Ins::Ecall
+        | Ins::Ebreak
+        | Ins::Illegal { .. } => 3,
+        _ => 1,
+    }
+}
