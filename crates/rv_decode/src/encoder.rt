@@ -31,9 +31,12 @@ fn word_of(i: &Ins) -> u32
         Ins::Load { op, rd, rs1, imm } => i_word(0x03, rd, load_funct3(op), rs1, low_12(imm)),
         Ins::Store { op, rs1, rs2, imm } => s_word(0x23, store_funct3(op), rs1, rs2, low_12(imm)),
         Ins::OpImm { op, rd, rs1, imm } => i_word(0x13, rd, imm_funct3(op), rs1, low_12(imm)),
-        Ins::Shift { op, rd, rs1, amount } => {
-            r_word(0x13, rd, shift_funct3(op), rs1, amount, shift_funct7(op))
-        }
+        Ins::Shift {
+            op,
+            rd,
+            rs1,
+            amount,
+        } => { r_word(0x13, rd, shift_funct3(op), rs1, amount, shift_funct7(op)) }
         Ins::Op { op, rd, rs1, rs2 } => {
             r_word(0x33, rd, alu_funct3(op), rs1, rs2, alu_funct7(op))
         }

@@ -17,13 +17,7 @@ pub fn lag_of(i: &Ins, taken: bool, trapped: bool) -> u64
     }
     match *i {
         Ins::Load { .. } | Ins::Muldiv { .. } => 2,
-        Ins::Branch { .. } => {
-            if taken {
-                3
-            } else {
-                1
-            }
-        }
+        Ins::Branch { .. } => { if taken { 3 } else { 1 } }
         Ins::Jal { .. }
         | Ins::Jalr { .. }
         | Ins::Mret

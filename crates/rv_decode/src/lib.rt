@@ -12,3 +12,6 @@ pub use decoder::decode;
 pub use encoder::encode;
 pub use instruction::{AluOp, BranchOp, CsrKind, ImmOp, Ins, LoadOp, MulOp, ShiftOp, StoreOp};
 pub use lags::lag_of;
+
+#[cfg(test)]
+mod tests;
