@@ -96,18 +96,19 @@ pub ins-none : (w : ℕ)
     → ins w ≡ Illegal w
 unfolding ins rows lui_rows auipc_rows jal_rows jalr_rows branch_rows load_rows store_rows imm_rows op_rows fence_rows system_rows time_rows
 ins-none w n0 n1 n2 n3 n4 n5 n6 n7 n8 n9 n10 n11 = no_row rows w (simp (
-    differs 0x37 (field w 0 7) n0,
-    differs 0x17 (field w 0 7) n1,
-    differs 0x6f (field w 0 7) n2,
-    differs 0x67 (field w 0 7) n3,
-    differs 0x63 (field w 0 7) n4,
-    differs 0x03 (field w 0 7) n5,
-    differs 0x23 (field w 0 7) n6,
-    differs 0x13 (field w 0 7) n7,
-    differs 0x33 (field w 0 7) n8,
-    differs 0x0f (field w 0 7) n9,
-    differs 0x73 (field w 0 7) n10,
-    differs 0x0b (field w 0 7) n11))
+  differs 0x37 (field w 0 7) n0,
+  differs 0x17 (field w 0 7) n1,
+  differs 0x6f (field w 0 7) n2,
+  differs 0x67 (field w 0 7) n3,
+  differs 0x63 (field w 0 7) n4,
+  differs 0x03 (field w 0 7) n5,
+  differs 0x23 (field w 0 7) n6,
+  differs 0x13 (field w 0 7) n7,
+  differs 0x33 (field w 0 7) n8,
+  differs 0x0f (field w 0 7) n9,
+  differs 0x73 (field w 0 7) n10,
+  differs 0x0b (field w 0 7) n11,
+))
 
 -- The word 0 is no instruction.
 pub ins-zero : ins 0 ≡ Illegal 0

@@ -1,2 +1,3 @@
 pub mod ByOpcode
 pub mod Ranges
+pub mod RoundTrip

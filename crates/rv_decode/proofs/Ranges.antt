@@ -1,10 +1,10 @@
 -- Every instruction that the table reads out of a word has its fields in range.
-use Rattle.std.proofs.Common.{◌≡◌, ◌<◌, ◌≤◌, ◌⊎◌, ℕ, ◌+◌, ◌*◌, ◌^◌, ℤ, pos, ◌-ℤ◌, ◌+ℤ◌, ◌≤ℤ◌, ◌<ℤ◌, List, [], ◌∷◌, ◌++◌, Bool, true, false, nat_lt, if◌then◌else◌, refl, sym, subst, inl, inr, arith}
+use Rattle.std.proofs.Common.{◌≡◌, ◌<◌, ◌≤◌, ◌⊎◌, ℕ, ◌+◌, ◌*◌, ◌^◌, pos, ◌-ℤ◌, ◌+ℤ◌, ◌≤ℤ◌, ◌<ℤ◌, List, [], ◌∷◌, ◌++◌, Bool, true, false, nat_lt, if◌then◌else◌, refl, sym, subst, inl, inr, arith}
 use Rattle.std.proofs.lemmas.Bool.Decides.{nat_tests}
 use Rattle.std.proofs.lemmas.Int.{ints}
-use Rattle.rv_decode.specs.Fields.{field, sign_extended, imm_i, imm_s, imm_b, imm_j}
+use Rattle.rv_decode.specs.Fields.{field, sign_extended, imm_i, imm_j}
 use Rattle.rv_decode.specs.Range.{InRange, HasRegisters, IsSigned, IsEven}
-use Rattle.rv_decode.specs.Table.{Row, row, fits, read_by, rows, ins, branch_row, load_row, store_row, imm_row, shift_row, op_row, mul_row, fence_row, csr_row, system_row, get_row, moment_row, funct3, funct7, rd_is, rs1_is, rs2_is, lui_rows, auipc_rows, jal_rows, jalr_rows, branch_rows, load_rows, store_rows, imm_rows, op_rows, fence_rows, system_rows, time_rows}
+use Rattle.rv_decode.specs.Table.{Row, row, fits, read_by, rows, ins, branch_row, load_row, store_row, imm_row, shift_row, op_row, mul_row, fence_row, csr_row, moment_row, funct3, lui_rows, auipc_rows, jal_rows, jalr_rows, branch_rows, load_rows, store_rows, imm_rows, op_rows, fence_rows, system_rows, time_rows}
 use Rattle.rv_decode.specs.declared.instruction.Ins.{Ins}
 use Rattle.rv_decode.specs.declared.instruction.Ins.TheVariants.{Lui, Auipc, Jal, Jalr, Branch, Load, Store, OpImm, Shift, Op, Muldiv, Fence, Ecall, Ebreak, Mret, Csr, Gt, Gth, Du, Wu, Ee, De, Illegal}
 use Rattle.rv_decode.specs.declared.instruction.BranchOp.{BranchOp}
@@ -57,18 +57,23 @@ sound-append [] ys g h = h
 sound-append (x ∷ xs) ys g h = (g.0, sound-append xs ys g.1 h)
 
 branch_sound : (f3 : ℕ) (op : BranchOp) → IsSound (branch_row f3 op)
-branch_sound f3 op w fit = (omega arith, omega arith,
-    signed_13 (field w 31 1 * 2 ^ 12 + field w 7 1 * 2 ^ 11 + field w 25 6 * 2 ^ 5 + field w 8 4 * 2) (omega arith),
-    even_if 4096 (field w 31 1 * 2 ^ 11 + field w 7 1 * 2 ^ 10 + field w 25 6 * 2 ^ 4 + field w 8 4)
-        (field w 31 1 * 2 ^ 12 + field w 7 1 * 2 ^ 11 + field w 25 6 * 2 ^ 5 + field w 8 4 * 2) (omega arith)
-        (nat_lt (field w 31 1 * 2 ^ 12 + field w 7 1 * 2 ^ 11 + field w 25 6 * 2 ^ 5 + field w 8 4 * 2) 4096))
+branch_sound f3 op w fit = (
+  omega arith,
+  omega arith,
+  signed_13 (field w 31 1 * 2 ^ 12 + field w 7 1 * 2 ^ 11 + field w 25 6 * 2 ^ 5 + field w 8 4 * 2) (omega arith),
+  even_if 4096 (field w 31 1 * 2 ^ 11 + field w 7 1 * 2 ^ 10 + field w 25 6 * 2 ^ 4 + field w 8 4)
+      (field w 31 1 * 2 ^ 12 + field w 7 1 * 2 ^ 11 + field w 25 6 * 2 ^ 5 + field w 8 4 * 2) (omega arith)
+      (nat_lt (field w 31 1 * 2 ^ 12 + field w 7 1 * 2 ^ 11 + field w 25 6 * 2 ^ 5 + field w 8 4 * 2) 4096),
+)
 
 jal_sound : IsSound (row 0x6f [] (λ w. Jal (field w 7 5) (imm_j w)))
-jal_sound w fit = (omega arith,
-    signed_21 (field w 31 1 * 2 ^ 20 + field w 12 8 * 2 ^ 12 + field w 20 1 * 2 ^ 11 + field w 21 10 * 2) (omega arith),
-    even_if 1048576 (field w 31 1 * 2 ^ 19 + field w 12 8 * 2 ^ 11 + field w 20 1 * 2 ^ 10 + field w 21 10)
-        (field w 31 1 * 2 ^ 20 + field w 12 8 * 2 ^ 12 + field w 20 1 * 2 ^ 11 + field w 21 10 * 2) (omega arith)
-        (nat_lt (field w 31 1 * 2 ^ 20 + field w 12 8 * 2 ^ 12 + field w 20 1 * 2 ^ 11 + field w 21 10 * 2) 1048576))
+jal_sound w fit = (
+  omega arith,
+  signed_21 (field w 31 1 * 2 ^ 20 + field w 12 8 * 2 ^ 12 + field w 20 1 * 2 ^ 11 + field w 21 10 * 2) (omega arith),
+  even_if 1048576 (field w 31 1 * 2 ^ 19 + field w 12 8 * 2 ^ 11 + field w 20 1 * 2 ^ 10 + field w 21 10)
+      (field w 31 1 * 2 ^ 20 + field w 12 8 * 2 ^ 12 + field w 20 1 * 2 ^ 11 + field w 21 10 * 2) (omega arith)
+      (nat_lt (field w 31 1 * 2 ^ 20 + field w 12 8 * 2 ^ 12 + field w 20 1 * 2 ^ 11 + field w 21 10 * 2) 1048576),
+)
 
 jalr_sound : IsSound (row 0x67 (funct3 0 ∷ []) (λ w. Jalr (field w 7 5) (field w 15 5) (imm_i w)))
 jalr_sound w fit = (omega arith, omega arith, signed_12 (field w 20 12) (omega arith))
@@ -146,8 +151,13 @@ system_all = ((λ w fit. tt), ((λ w fit. tt), ((λ w fit. tt), (csr_sound 1 Rw,
 
 time_all : AllSound time_rows
 unfolding time_rows
-time_all = ((λ w fit. omega arith), ((λ w fit. omega arith),
-    (moment_sound 2 Du (λ a b x y. (x, y)), (moment_sound 3 Wu (λ a b x y. (x, y)), (moment_sound 4 Ee (λ a b x y. (x, y)), ((λ w fit. tt), tt))))))
+time_all = (
+  (λ w fit. omega arith),
+  (
+    (λ w fit. omega arith),
+    (moment_sound 2 Du (λ a b x y. (x, y)), (moment_sound 3 Wu (λ a b x y. (x, y)), (moment_sound 4 Ee (λ a b x y. (x, y)), ((λ w fit. tt), tt)))),
+  ),
+)
 
 all : AllSound rows
 unfolding rows

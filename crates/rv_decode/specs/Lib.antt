@@ -2,3 +2,4 @@ pub mod Fields
 pub mod Table
 pub mod Range
 pub mod Lag
+pub mod Encoding

@@ -42,7 +42,10 @@ fn lui(word: u32) -> Ins
     requires { field word 0 7 ≡ 0x37 }
     ensures { result ≡ read_by lui_rows word }
 {
-    Ins::Lui { rd: rd(word), imm: imm_u(word) }
+    Ins::Lui {
+        rd: rd(word),
+        imm: imm_u(word),
+    }
 }
 
 #[tactic(auto, unfolding(crate::specs::Table::auipc_rows))]
@@ -50,7 +53,10 @@ fn auipc(word: u32) -> Ins
     requires { field word 0 7 ≡ 0x17 }
     ensures { result ≡ read_by auipc_rows word }
 {
-    Ins::Auipc { rd: rd(word), imm: imm_u(word) }
+    Ins::Auipc {
+        rd: rd(word),
+        imm: imm_u(word),
+    }
 }
 
 #[tactic(auto, unfolding(crate::specs::Table::jal_rows))]
@@ -58,7 +64,10 @@ fn jal(word: u32) -> Ins
     requires { field word 0 7 ≡ 0x6f }
     ensures { result ≡ read_by jal_rows word }
 {
-    Ins::Jal { rd: rd(word), off: imm_j(word) }
+    Ins::Jal {
+        rd: rd(word),
+        off: imm_j(word),
+    }
 }
 
 #[tactic(auto, unfolding(crate::specs::Table::jalr_rows))]
@@ -67,7 +76,11 @@ fn jalr(word: u32) -> Ins
     ensures { result ≡ read_by jalr_rows word }
 {
     match funct3(word) {
-        0 => Ins::Jalr { rd: rd(word), rs1: rs1(word), imm: imm_i(word) },
+        0 => Ins::Jalr {
+            rd: rd(word),
+            rs1: rs1(word),
+            imm: imm_i(word),
+        },
         _ => Ins::Illegal { word },
     }
 }
@@ -86,7 +99,12 @@ fn conditional_branch(word: u32) -> Ins
         7 => BranchOp::Bgeu,
         _ => return Ins::Illegal { word },
     };
-    Ins::Branch { op, rs1: rs1(word), rs2: rs2(word), off: imm_b(word) }
+    Ins::Branch {
+        op,
+        rs1: rs1(word),
+        rs2: rs2(word),
+        off: imm_b(word),
+    }
 }
 
 #[tactic(auto, unfolding(crate::specs::Table::load_rows))]
@@ -102,7 +120,12 @@ fn load(word: u32) -> Ins
         5 => LoadOp::Lhu,
         _ => return Ins::Illegal { word },
     };
-    Ins::Load { op, rd: rd(word), rs1: rs1(word), imm: imm_i(word) }
+    Ins::Load {
+        op,
+        rd: rd(word),
+        rs1: rs1(word),
+        imm: imm_i(word),
+    }
 }
 
 #[tactic(auto, unfolding(crate::specs::Table::store_rows))]
@@ -116,7 +139,12 @@ fn store(word: u32) -> Ins
         2 => StoreOp::Sw,
         _ => return Ins::Illegal { word },
     };
-    Ins::Store { op, rs1: rs1(word), rs2: rs2(word), imm: imm_s(word) }
+    Ins::Store {
+        op,
+        rs1: rs1(word),
+        rs2: rs2(word),
+        imm: imm_s(word),
+    }
 }
 
 #[tactic(auto, unfolding(crate::specs::Table::imm_rows))]
@@ -133,7 +161,12 @@ fn op_imm(word: u32) -> Ins
         7 => ImmOp::Andi,
         _ => return shift(word),
     };
-    Ins::OpImm { op, rd: rd(word), rs1: rs1(word), imm: imm_i(word) }
+    Ins::OpImm {
+        op,
+        rd: rd(word),
+        rs1: rs1(word),
+        imm: imm_i(word),
+    }
 }
 
 #[tactic(auto, unfolding(crate::specs::Table::imm_rows))]
@@ -148,7 +181,12 @@ fn shift(word: u32) -> Ins
         (0x20, 5) => ShiftOp::Srai,
         _ => return Ins::Illegal { word },
     };
-    Ins::Shift { op, rd: rd(word), rs1: rs1(word), amount: rs2(word) }
+    Ins::Shift {
+        op,
+        rd: rd(word),
+        rs1: rs1(word),
+        amount: rs2(word),
+    }
 }
 
 #[tactic(auto, unfolding(crate::specs::Table::op_rows))]
@@ -170,7 +208,12 @@ fn op(word: u32) -> Ins
         (1, _) => return muldiv(word),
         _ => return Ins::Illegal { word },
     };
-    Ins::Op { op, rd: rd(word), rs1: rs1(word), rs2: rs2(word) }
+    Ins::Op {
+        op,
+        rd: rd(word),
+        rs1: rs1(word),
+        rs2: rs2(word),
+    }
 }
 
 #[tactic(auto, unfolding(crate::specs::Table::op_rows))]
@@ -190,7 +233,12 @@ fn muldiv(word: u32) -> Ins
         7 => MulOp::Remu,
         _ => return Ins::Illegal { word },
     };
-    Ins::Muldiv { op, rd: rd(word), rs1: rs1(word), rs2: rs2(word) }
+    Ins::Muldiv {
+        op,
+        rd: rd(word),
+        rs1: rs1(word),
+        rs2: rs2(word),
+    }
 }
 
 #[tactic(auto, unfolding(crate::specs::Table::fence_rows))]
@@ -226,7 +274,12 @@ fn system(word: u32) -> Ins
         7 => CsrKind::Rci,
         _ => return Ins::Illegal { word },
     };
-    Ins::Csr { op, rd: rd(word), csr: csr(word), src: rs1(word) }
+    Ins::Csr {
+        op,
+        rd: rd(word),
+        csr: csr(word),
+        src: rs1(word),
+    }
 }
 
 #[tactic(auto, unfolding(crate::specs::Table::time_rows))]

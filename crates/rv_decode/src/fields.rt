@@ -89,5 +89,9 @@ pub fn imm_j(word: u32) -> i32
         + (((word >> 12) & 0xff) << 12)
         + (((word >> 20) & 0x1) << 11)
         + (((word >> 21) & 0x3ff) << 1)) as i32;
-    if bits < 0x10_0000 { bits } else { bits - 0x20_0000 }
+    if bits < 0x10_0000 {
+        bits
+    } else {
+        bits - 0x20_0000
+    }
 }

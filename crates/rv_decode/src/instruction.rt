@@ -91,36 +91,106 @@ pub enum CsrKind {
 /// An instruction with its fields.
 #[derive(Clone, Copy, Debug, PartialEq, Eq)]
 pub enum Ins {
-    Lui { rd: u8, imm: u32 },
-    Auipc { rd: u8, imm: u32 },
-    Jal { rd: u8, off: i32 },
-    Jalr { rd: u8, rs1: u8, imm: i32 },
-    Branch { op: BranchOp, rs1: u8, rs2: u8, off: i32 },
-    Load { op: LoadOp, rd: u8, rs1: u8, imm: i32 },
-    Store { op: StoreOp, rs1: u8, rs2: u8, imm: i32 },
-    OpImm { op: ImmOp, rd: u8, rs1: u8, imm: i32 },
-    Shift { op: ShiftOp, rd: u8, rs1: u8, amount: u8 },
-    Op { op: AluOp, rd: u8, rs1: u8, rs2: u8 },
-    Muldiv { op: MulOp, rd: u8, rs1: u8, rs2: u8 },
+    Lui {
+        rd: u8,
+        imm: u32,
+    },
+    Auipc {
+        rd: u8,
+        imm: u32,
+    },
+    Jal {
+        rd: u8,
+        off: i32,
+    },
+    Jalr {
+        rd: u8,
+        rs1: u8,
+        imm: i32,
+    },
+    Branch {
+        op: BranchOp,
+        rs1: u8,
+        rs2: u8,
+        off: i32,
+    },
+    Load {
+        op: LoadOp,
+        rd: u8,
+        rs1: u8,
+        imm: i32,
+    },
+    Store {
+        op: StoreOp,
+        rs1: u8,
+        rs2: u8,
+        imm: i32,
+    },
+    OpImm {
+        op: ImmOp,
+        rd: u8,
+        rs1: u8,
+        imm: i32,
+    },
+    Shift {
+        op: ShiftOp,
+        rd: u8,
+        rs1: u8,
+        amount: u8,
+    },
+    Op {
+        op: AluOp,
+        rd: u8,
+        rs1: u8,
+        rs2: u8,
+    },
+    Muldiv {
+        op: MulOp,
+        rd: u8,
+        rs1: u8,
+        rs2: u8,
+    },
     /// FENCE or FENCE.I; the word is kept, since its other bits are ignored.
-    Fence { word: u32 },
+    Fence {
+        word: u32,
+    },
     Ecall,
     Ebreak,
     Mret,
     /// `src` is a register, or the value itself in the immediate forms.
-    Csr { op: CsrKind, rd: u8, csr: u16, src: u8 },
+    Csr {
+        op: CsrKind,
+        rd: u8,
+        csr: u16,
+        src: u8,
+    },
     /// Get the low word of the time in nanoseconds, and latch the high word.
-    Gt { rd: u8 },
+    Gt {
+        rd: u8,
+    },
     /// Get the latched high word of the time.
-    Gth { rd: u8 },
+    Gth {
+        rd: u8,
+    },
     /// Delay until the moment `rs1` × 2^32 + `rs2`, holding the slots.
-    Du { rs1: u8, rs2: u8 },
+    Du {
+        rs1: u8,
+        rs2: u8,
+    },
     /// Wait until that moment, giving the slots away.
-    Wu { rs1: u8, rs2: u8 },
+    Wu {
+        rs1: u8,
+        rs2: u8,
+    },
     /// Arm the expiry trap at that moment.
-    Ee { rs1: u8, rs2: u8 },
+    Ee {
+        rs1: u8,
+        rs2: u8,
+    },
     /// Disarm it.
     De,
     /// A word that is no instruction.
-    Illegal { word: u32 },
+    Illegal {
+        word: u32,
+    },
 }

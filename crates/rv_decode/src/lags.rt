@@ -17,14 +17,9 @@ pub fn lag_of(i: &Ins, taken: bool, trapped: bool) -> u64
     }
     match *i {
         Ins::Load { .. } | Ins::Muldiv { .. } => 2,
-        Ins::Branch { .. } => {
-            if taken {
-                3
-            } else {
-                1
-            }
-        }
-        Ins::Jal { .. }
+        Ins::Branch { .. } if !taken => 1,
+        Ins::Branch { .. }
+        | Ins::Jal { .. }
         | Ins::Jalr { .. }
         | Ins::Mret
         | Ins::Csr { .. }
@@ -35,6 +30,14 @@ pub fn lag_of(i: &Ins, taken: bool, trapped: bool) -> u64
         | Ins::Ecall
         | Ins::Ebreak
         | Ins::Illegal { .. } => 3,
-        _ => 1,
+        Ins::Lui { .. }
+        | Ins::Auipc { .. }
+        | Ins::Store { .. }
+        | Ins::OpImm { .. }
+        | Ins::Shift { .. }
+        | Ins::Op { .. }
+        | Ins::Fence { .. }
+        | Ins::Gt { .. }
+        | Ins::Gth { .. } => 1,
     }
 }

@@ -3,10 +3,15 @@
 #![tactic(auto)]
 
 mod decoder;
+mod encoder;
 mod fields;
 mod instruction;
 mod lags;
 
 pub use decoder::decode;
+pub use encoder::encode;
 pub use instruction::{AluOp, BranchOp, CsrKind, ImmOp, Ins, LoadOp, MulOp, ShiftOp, StoreOp};
 pub use lags::lag_of;
+
+#[cfg(test)]
+mod tests;

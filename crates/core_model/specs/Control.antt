@@ -1,0 +1,73 @@
+-- Control and status registers: a hart's own, and those of the machine.
+use Rattle.std.specs.Prelude.{ℕ, ◌-◌, ◌*◌, ◌/◌, ◌^◌, ◌==◌, nat_lt, nat_le, Bool, true, false, ◌&&◌, ◌||◌, if◌then◌else◌, Option, Some, None}
+use Rattle.std.specs.List.{list_all}
+use Rattle.rv_decode.specs.declared.instruction.AluOp.TheVariants.{Or, And}
+use Rattle.rv_exec.specs.Alu.{computed}
+use Rattle.rv_exec.specs.declared.outcome.Effect.TheVariants.{Csr}
+use Rattle.region_guard.specs.Regions.{is_owner}
+use Rattle.slot_table.specs.Frame.{is_slot}
+use Rattle.nibble_word.specs.Nibbles.{nibbles}
+use Rattle.core_model.specs.declared.own.Own.{Own}
+use Rattle.core_model.specs.declared.own.CsrOp.{CsrOp}
+use Rattle.core_model.specs.declared.own.CsrOp.TheVariants.{Swap, Set, Clear}
+use Rattle.core_model.specs.Thread.{Did}
+use Rattle.core_model.specs.Parts.{plain, wrote, trapped}
+
+-- the number is one of the machine's registers: slots, modes, dregions, iregions
+abbrev pub is_shared : ℕ → Bool
+is_shared csr = nat_le 0x7C0 csr && nat_le csr 0x7C3
+
+-- a register by its number (RISC-V privileged manual, "CSR Listing"): mtvec, mscratch, mepc, mcause
+-- and mhartid, or one of the machine's; none where the number is none, or the access is refused
+abbrev pub csr_value : ℕ → Own → ℕ → Option ℕ → Option ℕ
+csr_value thread t csr shared =
+    if csr == 0x305 then Some t.trap.mtvec
+    else if csr == 0x340 then Some t.trap.mscratch
+    else if csr == 0x341 then Some t.trap.mepc
+    else if csr == 0x342 then Some t.trap.mcause
+    else if csr == 0xF14 then Some thread
+    else if is_shared csr then shared
+    else None
+
+-- the new word, from the old one and the operand
+unfoldable pub changed : CsrOp → ℕ → ℕ → ℕ
+changed Swap old operand = operand
+changed Set old operand = computed Or old operand
+changed Clear old operand = computed And old (2 ^ 32 - 1 - operand)
+
+-- the words that may be written to a register; mhartid takes none
+unfoldable pub may_hold : ℕ → ℕ → Bool
+may_hold csr value =
+    if csr == 0xF14 then false
+    else if csr == 0x7C0 then list_all is_slot (nibbles value)
+    else if csr == 0x7C1 then nat_lt value 65536
+    else if csr == 0x7C2 || csr == 0x7C3 then list_all is_owner (nibbles value)
+    else true
+
+-- the value as kept: mtvec and mepc keep their two low bits 0
+abbrev pub kept : ℕ → ℕ → ℕ
+kept csr value = if csr == 0x305 || csr == 0x341 then value / 4 * 4 else value
+
+abbrev pub with_csr : Own → ℕ → ℕ → Own
+with_csr t csr value =
+    if csr == 0x305 then record t { trap = record t.trap { mtvec = value } }
+    else if csr == 0x340 then record t { trap = record t.trap { mscratch = value } }
+    else if csr == 0x341 then record t { trap = record t.trap { mepc = value } }
+    else if csr == 0x342 then record t { trap = record t.trap { mcause = value } }
+    else t
+
+abbrev pub csr_written : ℕ → Own → ℕ → ℕ → ℕ → ℕ → ℕ → Did
+csr_written pc t word rd csr value old = plain pc (with_csr t csr value) word 3 (Csr csr value rd old)
+
+abbrev pub csr_put : ℕ → Own → ℕ → ℕ → ℕ → ℕ → ℕ → Did
+csr_put pc t word rd csr new old = if may_hold csr new then csr_written pc t word rd csr (kept csr new) old else trapped pc t word 2
+
+abbrev pub csr_done : ℕ → Own → ℕ → ℕ → ℕ → CsrOp → ℕ → Bool → Option ℕ → Did
+csr_done pc t word rd csr op operand writes None = trapped pc t word 2
+csr_done pc t word rd csr op operand writes (Some old) =
+    if writes then csr_put pc t word rd csr (changed op old operand) old else wrote pc t word 3 rd old
+
+-- an access to a register, refused as an illegal instruction
+unfoldable pub csr_access : ℕ → ℕ → Own → ℕ → ℕ → ℕ → CsrOp → ℕ → Bool → Option ℕ → Did
+csr_access thread pc t word rd csr op operand writes shared =
+    csr_done pc t word rd csr op operand writes (csr_value thread t csr shared)

@@ -1,0 +1,154 @@
+-- One whole instruction of one hart, over what it asks of its surroundings.
+use Rattle.std.specs.Prelude.{ℕ, ◌+◌, ◌/◌, ◌%◌, ◌^◌, ◌==◌, Bool, true, not, if◌then◌else◌, List, Option, Some, None}
+use Rattle.rv_decode.specs.Table.{ins}
+use Rattle.rv_decode.specs.declared.instruction.Ins.{Ins}
+use Rattle.rv_decode.specs.declared.instruction.Ins.TheVariants.{Lui, Auipc, Jal, Jalr, Branch, Load, Store, OpImm, Shift, Op, Muldiv, Fence, Mret, Csr, Gt, Gth, Du, Wu, Ee, De}
+use Rattle.rv_decode.specs.declared.instruction.CsrKind.{CsrKind}
+use Rattle.rv_decode.specs.declared.instruction.CsrKind.TheVariants.{Rw, Rs, Rc, Rwi, Rsi, Rci}
+use Rattle.rv_exec.specs.declared.outcome.Effect.{Effect}
+use Rattle.rv_exec.specs.declared.outcome.Effect.TheVariants.{Nothing}
+use Rattle.rv_exec.specs.declared.outcome.Outcome.{Outcome}
+use Rattle.rv_exec.specs.Result.{result_of}
+use Rattle.rv_exec.specs.Alu.{multiplied}
+use Rattle.rv_exec.specs.Access.{load_size, store_size, loaded}
+use Rattle.timer_unit.specs.Time.{moment, is_due}
+use Rattle.core_model.specs.declared.own.Own.{Own}
+use Rattle.core_model.specs.declared.own.CsrOp.{CsrOp}
+use Rattle.core_model.specs.declared.own.CsrOp.TheVariants.{Swap, Set, Clear}
+use Rattle.core_model.specs.Thread.{Thread, Around, Contents, Did, Done, reg_in, reg_effect, regs_after, filled}
+use Rattle.core_model.specs.Parts.{trapped, plain, wrote, load, store, went, branch, delay, wait, with_armed, with_high}
+use Rattle.core_model.specs.Control.{csr_access}
+
+-- the register that a CSR instruction reads, x0 where it has an immediate
+abbrev pub csr_source : CsrKind → ℕ → ℕ
+csr_source Rw src = src
+csr_source Rs src = src
+csr_source Rc src = src
+csr_source Rwi src = 0
+csr_source Rsi src = 0
+csr_source Rci src = 0
+
+-- the registers that an instruction reads, x0 where it reads none
+abbrev pub source_1 : Ins → ℕ
+source_1 (Jalr rd rs1 imm) = rs1
+source_1 (Branch op rs1 rs2 off) = rs1
+source_1 (Load op rd rs1 imm) = rs1
+source_1 (Store op rs1 rs2 imm) = rs1
+source_1 (OpImm op rd rs1 imm) = rs1
+source_1 (Shift op rd rs1 amount) = rs1
+source_1 (Op op rd rs1 rs2) = rs1
+source_1 (Muldiv op rd rs1 rs2) = rs1
+source_1 (Csr op rd csr src) = csr_source op src
+source_1 (Du rs1 rs2) = rs1
+source_1 (Wu rs1 rs2) = rs1
+source_1 (Ee rs1 rs2) = rs1
+source_1 _ = 0
+
+abbrev pub source_2 : Ins → ℕ
+source_2 (Branch op rs1 rs2 off) = rs2
+source_2 (Store op rs1 rs2 imm) = rs2
+source_2 (Op op rd rs1 rs2) = rs2
+source_2 (Muldiv op rd rs1 rs2) = rs2
+source_2 (Du rs1 rs2) = rs2
+source_2 (Wu rs1 rs2) = rs2
+source_2 (Ee rs1 rs2) = rs2
+source_2 _ = 0
+
+-- the register of an instruction whose value comes late
+abbrev pub late_rd : Ins → Option ℕ
+late_rd (Load op rd rs1 imm) = Some rd
+late_rd (Muldiv op rd rs1 rs2) = Some rd
+late_rd _ = None
+
+-- that value, by the loaded word, its address and the values of the sources
+abbrev pub late_value : Ins → ℕ → ℕ → ℕ → ℕ → ℕ
+late_value (Load op rd rs1 imm) word address x y = loaded op address word
+late_value (Muldiv op rd rs1 rs2) word address x y = multiplied op x y
+late_value _ word address x y = 0
+
+-- the six forms on control registers: what they do, with which operand, and whether they write
+abbrev pub csr_op : CsrKind → CsrOp
+csr_op Rw = Swap
+csr_op Rs = Set
+csr_op Rc = Clear
+csr_op Rwi = Swap
+csr_op Rsi = Set
+csr_op Rci = Clear
+
+abbrev pub csr_operand : CsrKind → ℕ → ℕ → ℕ
+csr_operand Rw src x = x
+csr_operand Rs src x = x
+csr_operand Rc src x = x
+csr_operand Rwi src x = src
+csr_operand Rsi src x = src
+csr_operand Rci src x = src
+
+abbrev pub csr_writes : CsrKind → ℕ → Bool
+csr_writes Rw src = true
+csr_writes Rs src = not (src == 0)
+csr_writes Rc src = not (src == 0)
+csr_writes Rwi src = true
+csr_writes Rsi src = not (src == 0)
+csr_writes Rci src = not (src == 0)
+
+-- an instruction whose result has no trap, by that result and the values of its sources. The last
+-- line stands for ECALL, EBREAK and an illegal word, whose result always has one
+unfoldable pub goes : Around → ℕ → Own → ℕ → ℕ → ℕ → Outcome → Ins → Did
+goes a pc t word x y o (Lui rd imm) = wrote pc t word 1 rd o.value
+goes a pc t word x y o (Auipc rd imm) = wrote pc t word 1 rd o.value
+goes a pc t word x y o (Jal rd off) = went t word o.target (reg_effect rd o.value)
+goes a pc t word x y o (Jalr rd rs1 imm) = went t word o.target (reg_effect rd o.value)
+goes a pc t word x y o (Branch op rs1 rs2 off) = branch pc t word o.taken o.target
+goes a pc t word x y o (Load op rd rs1 imm) = load pc t word o.address (a.load o.address (load_size op))
+goes a pc t word x y o (Store op rs1 rs2 imm) = store pc t word o.address (store_size op) (y % 256 ^ store_size op) (a.store o.address (store_size op))
+goes a pc t word x y o (OpImm op rd rs1 imm) = wrote pc t word 1 rd o.value
+goes a pc t word x y o (Shift op rd rs1 amount) = wrote pc t word 1 rd o.value
+goes a pc t word x y o (Op op rd rs1 rs2) = wrote pc t word 1 rd o.value
+goes a pc t word x y o (Muldiv op rd rs1 rs2) = plain pc t word 2 Nothing
+goes a pc t word x y o (Fence w) = plain pc t word 1 Nothing
+goes a pc t word x y o Mret = went t word t.trap.mepc Nothing
+goes a pc t word x y o (Csr op rd csr src) = csr_access a.thread pc t word rd csr (csr_op op) (csr_operand op src x) (csr_writes op src) (a.shared csr)
+goes a pc t word x y o (Gt rd) = wrote pc (with_high t (a.now / 2 ^ 32)) word 1 rd (a.now % 2 ^ 32)
+goes a pc t word x y o (Gth rd) = wrote pc t word 1 rd t.timer.high
+goes a pc t word x y o (Du rs1 rs2) = delay a.now pc t word (moment x y)
+goes a pc t word x y o (Wu rs1 rs2) = wait a.now pc t word (moment x y)
+goes a pc t word x y o (Ee rs1 rs2) = plain pc (with_armed t (Some (moment x y))) word 3 Nothing
+goes a pc t word x y o De = plain pc (with_armed t None) word 3 Nothing
+goes a pc t word x y o _ = trapped pc t word 2
+
+-- a result with a trap comes first
+abbrev pub unless_trap : ℕ → Own → ℕ → Option ℕ → Did → Did
+unless_trap pc t word (Some cause) d = trapped pc t word cause
+unless_trap pc t word None d = d
+
+-- what an instruction does, with the values of its sources
+unfoldable pub run : Around → ℕ → Own → ℕ → ℕ → ℕ → Ins → Did
+run a pc t word x y i = let o = result_of i pc x y in unless_trap pc t word o.trap (goes a pc t word x y o i)
+
+-- the instruction executed, but for a late value. An expiry, cause 24, comes before all else and
+-- disarms; then a fetch that is refused, cause 1. Neither shows a word
+unfoldable pub act : Around → ℕ → Own → Bool → ℕ → ℕ → ℕ → Did
+act a pc t expired word x y =
+    if expired then trapped pc (with_armed t None) 0 24
+    else if a.fetch pc then run a pc t word x y (ins word)
+    else trapped pc t 0 1
+
+-- the instruction executed at the hart's pc
+abbrev pub acts : Around → Contents → Thread → Did
+acts a m t =
+    let word = m.code t.pc in
+    act a t.pc t.own (is_due t.own.timer.armed a.now) word (reg_in t.regs (source_1 (ins word))) (reg_in t.regs (source_2 (ins word)))
+
+-- the late value, by the registers and the words that the instruction finds
+abbrev pub value_in : Contents → List ℕ → Did → ℕ
+value_in m regs d = let i = ins d.word in late_value i (m.at d.address) d.address (reg_in regs (source_1 i)) (reg_in regs (source_2 i))
+
+abbrev pub effect_of : Contents → List ℕ → Did → Option Effect
+effect_of m regs d = filled (late_rd (ins d.word)) (value_in m regs d) d.effect
+
+-- one whole instruction, in cycle c
+unfoldable pub issue : Around → Contents → ℕ → Thread → Done
+issue a m c t =
+    let d = acts a m t in
+    let e = effect_of m t.regs d in
+    record { thread = record { pc = d.pc; ready = c + d.lag; own = d.own; regs = regs_after e t.regs }; word = d.word; effect = e }

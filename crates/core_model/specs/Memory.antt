@@ -1,0 +1,24 @@
+-- The words of the two scratchpads. size is that of each scratchpad, in bytes.
+use Rattle.std.specs.Prelude.{ℕ, List, slice_index_or, slice_set, if◌then◌else◌}
+use Rattle.rv_exec.specs.Access.{lanes_at, merged}
+use Rattle.region_guard.specs.Regions.{in_i, in_d, index_of}
+
+-- the word of a list of words at an address
+abbrev pub word_at : ℕ → List ℕ → ℕ → ℕ
+word_at size words address = slice_index_or words (index_of size address) 0
+
+-- the words after a store
+abbrev pub stored : ℕ → List ℕ → ℕ → ℕ → ℕ → List ℕ
+stored size words address width value =
+    slice_set words (index_of size address) (merged (word_at size words address) (lanes_at width address value))
+
+-- the word of the instruction scratchpad, 0 outside
+unfoldable pub code_at : ℕ → List ℕ → ℕ → ℕ
+code_at size i_words pc = if in_i size pc then word_at size i_words pc else 0
+
+-- the word at an address where a load is allowed: in a scratchpad, or at the port
+unfoldable pub data_at : ℕ → List ℕ → List ℕ → ℕ → ℕ → ℕ
+data_at size i_words d_words port address =
+    if in_i size address then word_at size i_words address
+    else if in_d size address then word_at size d_words address
+    else port

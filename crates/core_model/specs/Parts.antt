@@ -1,0 +1,76 @@
+-- The outcomes of an instruction, each over plain answers. A lag is the number of cycles after
+-- which the hart's next instruction may issue.
+use Rattle.std.specs.Prelude.{ℕ, ◌+◌, ◌%◌, ◌^◌, nat_le, min, Bool, if◌then◌else◌, Option, Some, None}
+use Rattle.rv_exec.specs.declared.outcome.Effect.{Effect}
+use Rattle.rv_exec.specs.declared.outcome.Effect.TheVariants.{Nothing, Store, Trap, Wait}
+use Rattle.core_model.specs.declared.own.Own.{Own}
+use Rattle.core_model.specs.Thread.{Did, reg_effect}
+
+-- an address some bytes on; addresses wrap
+abbrev pub plus : ℕ → ℕ → ℕ
+plus a b = (a + b) % 2 ^ 32
+
+-- a trap saves pc and cause, and goes to mtvec (RISC-V privileged manual, "Machine-Level CSRs")
+abbrev pub trapped : ℕ → Own → ℕ → ℕ → Did
+trapped pc t word cause =
+    record {
+      pc = t.trap.mtvec;
+      own = record t { trap = record t.trap { mepc = pc; mcause = cause } };
+      lag = 3;
+      word = word;
+      address = 0;
+      effect = Some (Trap cause t.trap.mtvec);
+    }
+
+-- the hart goes on to the next word after a lag
+abbrev pub plain : ℕ → Own → ℕ → ℕ → Effect → Did
+plain pc t word lag effect = record { pc = plus pc 4; own = t; lag = lag; word = word; address = 0; effect = Some effect }
+
+-- a register is written, and the hart goes on to the next word
+abbrev pub wrote : ℕ → Own → ℕ → ℕ → ℕ → ℕ → Did
+wrote pc t word lag rd value = plain pc t word lag (reg_effect rd value)
+
+-- memory or the port is read or written at an address
+abbrev pub accessed : ℕ → Own → ℕ → ℕ → ℕ → Effect → Did
+accessed pc t word lag address effect = record { pc = plus pc 4; own = t; lag = lag; word = word; address = address; effect = Some effect }
+
+-- a load that is refused is a load access fault, cause 5
+unfoldable pub load : ℕ → Own → ℕ → ℕ → Bool → Did
+load pc t word address allowed = if allowed then accessed pc t word 2 address Nothing else trapped pc t word 5
+
+-- a store that is refused is a store access fault, cause 7
+unfoldable pub store : ℕ → Own → ℕ → ℕ → ℕ → ℕ → Bool → Did
+store pc t word address width value allowed = if allowed then accessed pc t word 1 address (Store address width value) else trapped pc t word 7
+
+-- a jump, with what it does to a register
+abbrev pub went : Own → ℕ → ℕ → Effect → Did
+went t word target effect = record { pc = target; own = t; lag = 3; word = word; address = 0; effect = Some effect }
+
+unfoldable pub branch : ℕ → Own → ℕ → Bool → ℕ → Did
+branch pc t word taken target = if taken then went t word target Nothing else plain pc t word 1 Nothing
+
+-- a turn that is spent at the same word, without an event
+abbrev pub held : ℕ → Own → ℕ → Did
+held pc t word = record { pc = pc; own = t; lag = 3; word = word; address = 0; effect = None }
+
+-- DU: the hart is held until the moment
+unfoldable pub delay : ℕ → ℕ → Own → ℕ → ℕ → Did
+delay now pc t word until = if nat_le until now then plain pc t word 3 Nothing else held pc t word
+
+-- the earlier of a moment and an armed one
+abbrev pub or_armed : ℕ → Option ℕ → ℕ
+or_armed until None = until
+or_armed until (Some armed) = min until armed
+
+-- WU: the hart sleeps until the moment, or until its armed moment where that is earlier
+unfoldable pub wait : ℕ → ℕ → Own → ℕ → ℕ → Did
+wait now pc t word until =
+    if nat_le until now then plain pc t word 3 Nothing
+    else plain pc (record t { sleep = or_armed until t.timer.armed }) word 3 Wait
+
+abbrev pub with_armed : Own → Option ℕ → Own
+with_armed t moment = record t { timer = record t.timer { armed = moment } }
+
+-- the latched high word of the time
+abbrev pub with_high : Own → ℕ → Own
+with_high t high = record t { timer = record t.timer { high = high } }

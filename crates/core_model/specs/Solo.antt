@@ -1,0 +1,85 @@
+-- One hart by itself, from its view: no other hart, no pick and no pipeline stage has a part in it.
+use Rattle.std.specs.Prelude.{ℕ, zero, suc, ◌-◌, ◌%◌, nat_le, Bool, false, ◌&&◌, if◌then◌else◌, List, [], ◌∷◌, ◌++◌, slice_index_or, length, Option, Some, None}
+use Rattle.rv_exec.specs.declared.outcome.Effect.{Effect}
+use Rattle.rv_exec.specs.declared.outcome.Effect.TheVariants.{Store}
+use Rattle.rv_exec.specs.declared.outcome.Event.{Event}
+use Rattle.region_guard.specs.Regions.{is_mine, in_d}
+use Rattle.timer_unit.specs.Time.{time}
+use Rattle.core_model.specs.Thread.{Thread, Contents, Done}
+use Rattle.core_model.specs.Issue.{issue}
+use Rattle.core_model.specs.Memory.{code_at, data_at, stored}
+use Rattle.core_model.specs.View.{Setting, View, kind_at, around_alone}
+
+-- the hart, and the words of the data scratchpad as it knows them
+pub record Alone : Type 0 where
+  pub thread : Thread
+  pub words : List ℕ
+
+-- what a cycle leaves, and its event if it has one
+pub record Turned : Type 0 where
+  pub alone : Alone
+  pub event : Option Event
+
+-- the cycles so far, with their events, the newest first
+pub record Past : Type 0 where
+  pub alone : Alone
+  pub events : List (Option Event)
+
+-- the words that an instruction finds, with the word of the port
+abbrev pub contents_alone : Setting → ℕ → List ℕ → Contents
+contents_alone s port words = record { code = code_at s.size s.i_words; at = data_at s.size s.i_words words port }
+
+-- a store into a region of its own changes its words; every other one is an event alone
+abbrev pub own_after : Setting → Option Effect → List ℕ → List ℕ
+own_after s (Some (Store address width value)) words =
+    if in_d s.size address && is_mine (kind_at s.size s.d_kinds address) then stored s.size words address width value else words
+own_after s _ words = words
+
+-- the event of an issue in cycle c at a pc, if it has one
+abbrev pub own_event : Setting → ℕ → ℕ → ℕ → Option Effect → Option Event
+own_event s c pc word None = None
+own_event s c pc word (Some effect) = Some (record { cycle = c; thread = s.thread; pc = pc; word = word; effect = effect })
+
+-- whether cycle c has a position of the frame that is the hart's
+abbrev pub has_position : List Bool → ℕ → Bool
+has_position own c = slice_index_or own (c % length own) false
+
+-- whether the hart issues in cycle c: at a position of its own, from its first ready cycle on, awake
+unfoldable pub may_go : Setting → ℕ → Thread → Bool
+may_go s c t = has_position s.own c && nat_le t.ready c && nat_le t.own.sleep (time s.period c)
+
+abbrev pub gone : Setting → ℕ → Alone → Done → Turned
+gone s c t d =
+    record {
+      alone = record { thread = d.thread; words = own_after s d.effect t.words };
+      event = own_event s c t.thread.pc d.word d.effect;
+    }
+
+-- one cycle, with the word of the port in it
+unfoldable pub solo_turn : Setting → ℕ → ℕ → Alone → Turned
+solo_turn s c port t =
+    if may_go s c t.thread
+    then gone s c t (issue (around_alone s c) (contents_alone s port t.words) c t.thread)
+    else record { alone = t; event = None }
+
+-- a port that isn't there reads as ones
+abbrev pub port_at : View → ℕ → ℕ
+port_at v c = slice_index_or v.shown c 0xFFFFFFFF
+
+abbrev pub past_and : Past → Turned → Past
+past_and p d = record { alone = d.alone; events = d.event ∷ p.events }
+
+-- the cycles before c
+unfoldable pub solo_at : View → ℕ → Past
+solo_at v zero = record { alone = record { thread = v.first; words = v.d_words }; events = [] }
+solo_at v (suc c) = let p = solo_at v c in past_and p (solo_turn v.setting c (port_at v c) p.alone)
+
+abbrev pub oldest_first : List (Option Event) → List Event
+oldest_first [] = []
+oldest_first (None ∷ events) = oldest_first events
+oldest_first (Some e ∷ events) = oldest_first events ++ e ∷ []
+
+-- the hart's events that have retired after n cycles: those of the cycles c with c + 4 < n, which
+-- are the first n - 4
+abbrev pub solo : View → ℕ → List Event
+solo v n = oldest_first (solo_at v (n - 4)).events

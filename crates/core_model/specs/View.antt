@@ -1,0 +1,50 @@
+-- What a hart may depend on, and what its instructions may do by it.
+use Rattle.std.specs.Prelude.{ℕ, Bool, ◌&&◌, if◌then◌else◌, List, slice_index_or, None}
+use Rattle.region_guard.specs.Regions.{Standing, is_readable, is_writable, in_i, in_d, at_port, region_of}
+use Rattle.region_guard.specs.Regions.Standing.{Foreign}
+use Rattle.timer_unit.specs.Time.{time}
+use Rattle.core_model.specs.Thread.{Thread, Around}
+
+-- what stays through a run
+pub record Setting : Type 0 where
+  pub period : ℕ                       -- of a cycle, in nanoseconds
+  pub size : ℕ                         -- of each scratchpad, in bytes
+  pub thread : ℕ
+  pub own : List Bool                  -- of each position of the frame, whether it is the hart's
+  pub i_kinds : List Standing          -- what each region of a scratchpad is to the hart
+  pub d_kinds : List Standing
+  pub i_words : List ℕ                 -- 0 in the regions that it may not read
+
+-- a hart's view: besides that, how it starts, and the word of its port in each cycle
+pub record View : Type 0 where
+  pub setting : Setting
+  pub first : Thread
+  pub d_words : List ℕ                 -- 0 in the regions that it may not read
+  pub shown : List ℕ
+
+-- what the region of an address is to the hart
+abbrev pub kind_at : ℕ → List Standing → ℕ → Standing
+kind_at size kinds address = slice_index_or kinds (region_of size address) Foreign
+
+-- what its instruction may do at a time, by what the regions are to it: it fetches and loads from
+-- regions that are its own or read only, and stores into regions that are its own or shared. At the
+-- port it may load and store whole words. The machine's own registers are refused
+unfoldable pub around_by : ℕ → ℕ → List Standing → List Standing → ℕ → Around
+around_by thread size i_kinds d_kinds now =
+    record {
+      thread = thread;
+      now = now;
+      fetch = λ pc. in_i size pc && is_readable (kind_at size i_kinds pc);
+      load = λ address width.
+        if in_i size address then is_readable (kind_at size i_kinds address)
+        else if in_d size address then is_readable (kind_at size d_kinds address)
+        else at_port address width;
+      store = λ address width.
+        if in_d size address then is_writable (kind_at size d_kinds address)
+        else at_port address width;
+      shared = λ csr. None;
+    }
+
+-- in cycle c
+abbrev pub around_alone : Setting → ℕ → Around
+around_alone s c = around_by s.thread s.size s.i_kinds s.d_kinds (time s.period c)

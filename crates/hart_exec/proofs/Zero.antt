@@ -1,0 +1,31 @@
+-- The address 0 is aligned for every load and store.
+use Rattle.std.proofs.Common.{◌≡◌, ℕ, ◌%◌, Bool, true, false, if◌then◌else◌, refl}
+use Rattle.rv_decode.specs.declared.instruction.Ins.{Ins}
+use Rattle.rv_decode.specs.declared.instruction.Ins.TheVariants.{Load, Store}
+use Rattle.rv_decode.specs.declared.instruction.LoadOp.{LoadOp}
+use Rattle.rv_decode.specs.declared.instruction.LoadOp.TheVariants.{Lb, Lh, Lw, Lbu, Lhu}
+use Rattle.rv_decode.specs.declared.instruction.StoreOp.{StoreOp}
+use Rattle.rv_decode.specs.declared.instruction.StoreOp.TheVariants.{Sb, Sh, Sw}
+use Rattle.rv_exec.specs.Access.{IsAligned, load_size, store_size}
+
+pub load_zero : (op : LoadOp) → 0 % load_size op ≡ 0
+load_zero Lb = refl
+load_zero Lh = refl
+load_zero Lw = refl
+load_zero Lbu = refl
+load_zero Lhu = refl
+
+pub store_zero : (op : StoreOp) → 0 % store_size op ≡ 0
+store_zero Sb = refl
+store_zero Sh = refl
+store_zero Sw = refl
+
+pub aligned_zero : (i : Ins) (address : ℕ) → address ≡ 0 → IsAligned i address
+aligned_zero (Load op rd rs1 imm) address e = rw e (load_zero op)
+aligned_zero (Store op rs1 rs2 imm) address e = rw e (store_zero op)
+aligned_zero _ address e = tt
+
+-- and so is an address that is aligned or 0
+pub aligned_if : (i : Ins) (allowed : Bool) (address at : ℕ) → at ≡ (if allowed then address else 0) → IsAligned i address → IsAligned i at
+aligned_if i true address at e h = rw e h
+aligned_if i false address at e h = aligned_zero i at e

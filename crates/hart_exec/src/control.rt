@@ -1,0 +1,172 @@
+//! Access to control and status registers.
+
+ghost use Rattle.std.specs.Prelude.{◌≡◌, ◌<◌, Some, None};
+ghost use Rattle.std.specs.List.{list_all};
+ghost use Rattle.nibble_word.specs.Nibbles.{nibbles};
+ghost use Rattle.slot_table.specs.Frame.{is_slot};
+ghost use Rattle.region_guard.specs.Regions.{is_owner};
+ghost use Rattle.core_model.specs.Control.{csr_value, changed, may_hold, kept, with_csr, csr_access};
+ghost use Rattle.core_model.specs.Issue.{csr_op, csr_operand, csr_writes};
+ghost use Rattle.hart_exec.specs.Meaning.{did, IsShowable, IsAlignedStore};
+
+use core_model::{CsrOp, Own};
+use rv_decode::{AluOp, CsrKind};
+use rv_exec::{Effect, compute};
+
+use crate::outcome::{Executed, Place};
+use crate::parts::{go_on, trap, write_to};
+
+/// What a CSR instruction wants of a register.
+#[derive(Clone, Copy, Debug, PartialEq, Eq)]
+pub struct Access {
+    pub op: CsrOp,
+    pub operand: u32,
+    pub writes: bool,
+}
+
+impl Access {
+    ghost use Rattle.hart_exec.specs.Meaning.{access_of};
+
+    /// What an instruction of a kind wants, with its field `src` and the value of its register.
+    pub fn of(kind: CsrKind, src: u8, a: u32) -> Access
+        ensures { result ≡ access_of kind src a }
+    {
+        let op = match kind {
+            CsrKind::Rw | CsrKind::Rwi => CsrOp::Swap,
+            CsrKind::Rs | CsrKind::Rsi => CsrOp::Set,
+            CsrKind::Rc | CsrKind::Rci => CsrOp::Clear,
+        };
+        let operand = match kind {
+            CsrKind::Rw | CsrKind::Rs | CsrKind::Rc => a,
+            CsrKind::Rwi | CsrKind::Rsi | CsrKind::Rci => u32::from(src),
+        };
+        let writes = matches!(kind, CsrKind::Rw | CsrKind::Rwi) || src != 0;
+        Access { op, operand, writes }
+    }
+}
+
+/// A register's value; None where the number is none, or the access is refused.
+fn value_of(own: &Own, thread: u8, csr: u16, shared: Option<u32>) -> Option<u32>
+    ensures { result ≡ csr_value thread own.now csr shared }
+{
+    match csr {
+        0x305 => Some(own.trap.mtvec),
+        0x340 => Some(own.trap.mscratch),
+        0x341 => Some(own.trap.mepc),
+        0x342 => Some(own.trap.mcause),
+        0xF14 => Some(u32::from(thread)),
+        0x7C0..=0x7C3 => shared,
+        _ => None,
+    }
+}
+
+/// The new word, from the old one and the operand.
+#[tactic(auto, unfolding(core_model::specs::Control::changed))]
+fn change(op: CsrOp, old: u32, operand: u32) -> u32
+    ensures { result ≡ changed op old operand }
+{
+    match op {
+        CsrOp::Swap => operand,
+        CsrOp::Set => compute(AluOp::Or, old, operand),
+        CsrOp::Clear => compute(AluOp::And, old, !operand),
+    }
+}
+
+fn is_slot_nibble(n: u32) -> bool
+    ensures { result ≡ is_slot n }
+{
+    n < 8 || n == 14 || n == 15
+}
+
+fn is_owner_nibble(n: u32) -> bool
+    ensures { result ≡ is_owner n }
+{
+    n <= 8 || n == 12
+}
+
+#[tactic(auto, unfolding(nibble_word::specs::Nibbles::nibbles))]
+fn all_nibbles_pass_slots(w: u32) -> bool
+    ensures { result ≡ list_all is_slot (nibbles w) }
+{
+    is_slot_nibble(w % 16)
+        && is_slot_nibble(w / 16 % 16)
+        && is_slot_nibble(w / 256 % 16)
+        && is_slot_nibble(w / 4096 % 16)
+        && is_slot_nibble(w / 65536 % 16)
+        && is_slot_nibble(w / 1048576 % 16)
+        && is_slot_nibble(w / 16777216 % 16)
+        && is_slot_nibble(w / 268435456 % 16)
+}
+
+#[tactic(auto, unfolding(nibble_word::specs::Nibbles::nibbles))]
+fn all_nibbles_pass_owners(w: u32) -> bool
+    ensures { result ≡ list_all is_owner (nibbles w) }
+{
+    is_owner_nibble(w % 16)
+        && is_owner_nibble(w / 16 % 16)
+        && is_owner_nibble(w / 256 % 16)
+        && is_owner_nibble(w / 4096 % 16)
+        && is_owner_nibble(w / 65536 % 16)
+        && is_owner_nibble(w / 1048576 % 16)
+        && is_owner_nibble(w / 16777216 % 16)
+        && is_owner_nibble(w / 268435456 % 16)
+}
+
+/// Whether a register may hold a word; mhartid takes none.
+#[tactic(auto, unfolding(core_model::specs::Control::may_hold))]
+fn can_hold(csr: u16, word: u32) -> bool
+    ensures { result ≡ may_hold csr word }
+{
+    match csr {
+        0xF14 => false,
+        0x7C0 => all_nibbles_pass_slots(word),
+        0x7C1 => word < 0x1_0000,
+        0x7C2 | 0x7C3 => all_nibbles_pass_owners(word),
+        _ => true,
+    }
+}
+
+/// The word as a register keeps it.
+fn keep(csr: u16, word: u32) -> u32
+    ensures { result ≡ kept csr word }
+{
+    if csr == 0x305 || csr == 0x341 { word / 4 * 4 } else { word }
+}
+
+/// Puts a value into one of the hart's own registers; other numbers change nothing of it.
+fn put(own: &mut Own, csr: u16, value: u32)
+    ensures { own.new ≡ with_csr own.old csr value }
+{
+    match csr {
+        0x305 => own.trap.mtvec = value,
+        0x340 => own.trap.mscratch = value,
+        0x341 => own.trap.mepc = value,
+        0x342 => own.trap.mcause = value,
+        _ => {}
+    }
+}
+
+/// A CSR instruction. A refused access is an illegal instruction, cause 2, and changes nothing.
+#[tactic(auto, unfolding(core_model::specs::Control::csr_access))]
+pub fn access_csr(own: &mut Own, at: Place, thread: u8, rd: u8, csr: u16, wanted: Access, shared: Option<u32>) -> Executed
+    requires rd { rd < 32 }
+    requires csr { csr < 4096 }
+    ensures did { did own.new result ≡ csr_access thread at.pc own.old at.word rd csr wanted.op wanted.operand wanted.writes shared }
+    ensures showable { IsShowable result.effect }
+    ensures store { IsAlignedStore result.effect }
+    ensures address { result.address ≡ 0 }
+{
+    let Some(old) = value_of(own, thread, csr, shared) else {
+        return trap(own, at, 2);
+    };
+    if !wanted.writes {
+        return go_on(at, 3, write_to(rd, old));
+    }
+    let word = change(wanted.op, old, wanted.operand);
+    if !can_hold(csr, word) {
+        return trap(own, at, 2);
+    }
+    let value = keep(csr, word);
+    put(own, csr, value);
+    go_on(at, 3, Effect::Csr { csr, value, rd, old })
+}

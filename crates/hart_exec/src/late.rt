@@ -1,0 +1,47 @@
+//! Values that come late: of loads, multiplications and divisions.
+
+ghost use Rattle.std.specs.Prelude.{◌≡◌, ◌<◌, Some};
+ghost use Rattle.rv_exec.specs.Access.{IsAligned};
+ghost use Rattle.rv_decode.specs.Range.{InRange};
+ghost use Rattle.core_model.specs.Thread.{filled};
+ghost use Rattle.hart_exec.specs.Meaning.{IsShowable, IsAlignedStore};
+ghost use Rattle.core_model.specs.Issue.{late_rd, late_value};
+
+use rv_decode::Ins;
+use rv_exec::{Effect, load_value, multiply};
+
+use crate::outcome::Sources;
+use crate::parts::write_to;
+
+/// The register's write takes the place of `Nothing`.
+fn fill(effect: Option<Effect>, rd: u8, value: u32) -> Option<Effect>
+    requires rd { rd < 32 }
+    requires showable { IsShowable effect }
+    requires store { IsAlignedStore effect }
+    ensures effect { result ≡ filled (Some rd) value effect }
+    ensures showable { IsShowable result }
+    ensures store { IsAlignedStore result }
+{
+    match effect {
+        Some(Effect::Nothing) => Some(write_to(rd, value)),
+        other => other,
+    }
+}
+
+/// The effect with its late value, if it has one: that of a load by the aligned word at its
+/// address, that of a multiplication or division by its sources.
+pub fn finish(effect: Option<Effect>, i: &Ins, loaded: u32, address: u32, s: Sources) -> Option<Effect>
+    requires range { InRange i.now }
+    requires aligned { IsAligned i.now address }
+    requires showable { IsShowable effect }
+    requires store { IsAlignedStore effect }
+    ensures effect { result ≡ filled (late_rd i.now) (late_value i.now loaded address s.a s.b) effect }
+    ensures showable { IsShowable result }
+    ensures store { IsAlignedStore result }
+{
+    match *i {
+        Ins::Load { op, rd, .. } => fill(effect, rd, load_value(op, address, loaded)),
+        Ins::Muldiv { op, rd, .. } => fill(effect, rd, multiply(op, s.a, s.b)),
+        _ => effect,
+    }
+}

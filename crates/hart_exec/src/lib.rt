@@ -1,0 +1,16 @@
+//! What one hart does with an instruction: its timer, its trap registers and its sleep moment, over
+//! surroundings that answer what the instruction may do. The values of loads, multiplications and
+//! divisions come late, from [`finish`].
+#![tactic(auto)]
+
+mod control;
+mod outcome;
+mod late;
+mod parts;
+mod step;
+mod surroundings;
+
+pub use outcome::{Executed, Place, Sources};
+pub use late::finish;
+pub use step::{execute_in, sources_of};
+pub use surroundings::Surroundings;

@@ -1,0 +1,118 @@
+//! The outcomes of an instruction.
+
+ghost use Rattle.std.specs.Prelude.{◌≡◌, ◌<◌, ◌%◌, ◌^◌, Some, if◌then◌else◌};
+ghost use Rattle.core_model.specs.Thread.{reg_effect};
+ghost use Rattle.core_model.specs.Parts.{plus, trapped, load, store, branch, delay, wait};
+ghost use Rattle.rv_exec.specs.Line.{IsPrintable, IsWidth};
+ghost use Rattle.hart_exec.specs.Meaning.{did, IsShowable, IsAlignedStore};
+
+use core_model::Own;
+use rv_exec::Effect;
+
+use crate::outcome::{Executed, Place};
+
+/// The effect of a register's write: none on x0.
+pub fn write_to(rd: u8, value: u32) -> Effect
+    requires { rd < 32 }
+    ensures effect { result ≡ reg_effect rd value }
+    ensures showable { IsPrintable result }
+{
+    if rd == 0 { Effect::Nothing } else { Effect::Reg { rd, value } }
+}
+
+/// A trap: it saves pc and cause, and goes to mtvec.
+pub fn trap(own: &mut Own, at: Place, cause: u8) -> Executed
+    ensures did { did own.new result ≡ trapped at.pc own.old at.word cause }
+    ensures showable { IsShowable result.effect }
+    ensures store { IsAlignedStore result.effect }
+    ensures address { result.address ≡ 0 }
+{
+    own.trap.mepc = at.pc;
+    own.trap.mcause = u32::from(cause);
+    go_to(at, own.trap.mtvec, Effect::Trap { cause, target: own.trap.mtvec })
+}
+
+/// The hart goes on to the next word.
+pub fn go_on(at: Place, lag: u8, effect: Effect) -> Executed
+    ensures { result ≡ record { pc = plus at.pc 4; lag = lag; word = at.word; address = 0; effect = Some effect } }
+{
+    Executed { pc: at.pc.wrapping_add(4), lag, word: at.word, address: 0, effect: Some(effect) }
+}
+
+/// The hart goes elsewhere.
+pub fn go_to(at: Place, target: u32, effect: Effect) -> Executed
+    ensures { result ≡ record { pc = target; lag = 3; word = at.word; address = 0; effect = Some effect } }
+{
+    Executed { pc: target, lag: 3, word: at.word, address: 0, effect: Some(effect) }
+}
+
+#[tactic(auto, unfolding(core_model::specs::Parts::branch))]
+pub fn branch_to(own: &Own, at: Place, taken: bool, target: u32) -> Executed
+    ensures did { did own.now result ≡ branch at.pc own.now at.word taken target }
+    ensures showable { IsShowable result.effect }
+    ensures store { IsAlignedStore result.effect }
+    ensures address { result.address ≡ 0 }
+{
+    if taken { go_to(at, target, Effect::Nothing) } else { go_on(at, 1, Effect::Nothing) }
+}
+
+#[tactic(auto, unfolding(core_model::specs::Parts::load))]
+pub fn load_from(own: &mut Own, at: Place, address: u32, allowed: bool) -> Executed
+    ensures did { did own.new result ≡ load at.pc own.old at.word address allowed }
+    ensures showable { IsShowable result.effect }
+    ensures store { IsAlignedStore result.effect }
+    ensures address { result.address ≡ (if allowed then address else 0) }
+{
+    if !allowed {
+        return trap(own, at, 5);
+    }
+    Executed { address, ..go_on(at, 2, Effect::Nothing) }
+}
+
+#[tactic(auto, unfolding(core_model::specs::Parts::store))]
+pub fn store_to(own: &mut Own, at: Place, address: u32, width: u8, value: u32, allowed: bool) -> Executed
+    requires width { IsWidth width }
+    requires aligned { address % width ≡ 0 }
+    requires cut { value < 256 ^ width }
+    ensures did { did own.new result ≡ store at.pc own.old at.word address width value allowed }
+    ensures showable { IsShowable result.effect }
+    ensures store { IsAlignedStore result.effect }
+    ensures address { result.address ≡ (if allowed then address else 0) }
+{
+    if !allowed {
+        return trap(own, at, 7);
+    }
+    Executed { address, ..go_on(at, 1, Effect::Store { address, size: width, value }) }
+}
+
+/// DU: the hart stays at its word until the moment.
+#[tactic(auto, unfolding(core_model::specs::Parts::delay))]
+pub fn delay_until(own: &Own, at: Place, now: u64, until: u64) -> Executed
+    ensures did { did own.now result ≡ delay now at.pc own.now at.word until }
+    ensures showable { IsShowable result.effect }
+    ensures store { IsAlignedStore result.effect }
+    ensures address { result.address ≡ 0 }
+{
+    if until <= now {
+        return go_on(at, 3, Effect::Nothing);
+    }
+    Executed { pc: at.pc, lag: 3, word: at.word, address: 0, effect: None }
+}
+
+/// WU: the hart sleeps until the moment, or until its armed one where that is earlier.
+#[tactic(auto, unfolding(core_model::specs::Parts::wait))]
+pub fn wait_until(own: &mut Own, at: Place, now: u64, until: u64) -> Executed
+    ensures did { did own.new result ≡ wait now at.pc own.old at.word until }
+    ensures showable { IsShowable result.effect }
+    ensures store { IsAlignedStore result.effect }
+    ensures address { result.address ≡ 0 }
+{
+    if until <= now {
+        return go_on(at, 3, Effect::Nothing);
+    }
+    own.sleep = match own.timer.armed {
+        Some(armed) => until.min(armed),
+        None => until,
+    };
+    go_on(at, 3, Effect::Wait)
+}

@@ -1,0 +1,140 @@
+//! The execution of an instruction, but for a late value.
+
+ghost use Rattle.std.specs.Prelude.{◌≡◌, ◌<◌, ◌%◌, ◌^◌};
+ghost use Rattle.rv_decode.specs.Table.{ins};
+ghost use Rattle.rv_exec.specs.Access.{IsAligned, store_size};
+ghost use Rattle.timer_unit.specs.Time.{moment as moment_of};
+ghost use Rattle.core_model.specs.Issue.{source_1, source_2, goes, run, act};
+ghost use Rattle.rv_decode.specs.Range.{InRange};
+ghost use Rattle.hart_exec.specs.Meaning.{did, IsShowable, IsAlignedStore};
+
+use core_model::Own;
+use rv_decode::{CsrKind, Ins, StoreOp, decode};
+use rv_exec::{Effect, Outcome, execute, size_of_load, size_of_store};
+
+use crate::control::{Access, access_csr};
+use crate::outcome::{Executed, Place, Sources};
+use crate::parts::{branch_to, delay_until, go_on, go_to, load_from, store_to, trap, wait_until, write_to};
+use crate::surroundings::Surroundings;
+
+/// The numbers of the registers that an instruction reads, x0 where it reads none.
+pub fn sources_of(i: &Ins) -> (u8, u8)
+    ensures first { result.0 ≡ source_1 i.now }
+    ensures second { result.1 ≡ source_2 i.now }
+{
+    match *i {
+        Ins::Branch { rs1, rs2, .. }
+        | Ins::Store { rs1, rs2, .. }
+        | Ins::Op { rs1, rs2, .. }
+        | Ins::Muldiv { rs1, rs2, .. }
+        | Ins::Du { rs1, rs2 }
+        | Ins::Wu { rs1, rs2 }
+        | Ins::Ee { rs1, rs2 } => (rs1, rs2),
+        Ins::Jalr { rs1, .. } | Ins::Load { rs1, .. } | Ins::OpImm { rs1, .. } | Ins::Shift { rs1, .. } => (rs1, 0),
+        Ins::Csr { op: CsrKind::Rw | CsrKind::Rs | CsrKind::Rc, src, .. } => (src, 0),
+        _ => (0, 0),
+    }
+}
+
+fn moment(high: u32, low: u32) -> u64
+    ensures { result ≡ moment_of high low }
+{
+    u64::from(high) << 32 | u64::from(low)
+}
+
+/// The value that a store writes: as many low bytes as it takes.
+fn cut(op: StoreOp, value: u32) -> u32
+    ensures cut { result ≡ value % 256 ^ store_size op }
+    ensures small { result < 256 ^ store_size op }
+{
+    match op {
+        StoreOp::Sb => value & 0xff,
+        StoreOp::Sh => value & 0xffff,
+        StoreOp::Sw => value,
+    }
+}
+
+/// An instruction whose result has no trap.
+#[tactic(auto, unfolding(core_model::specs::Issue::goes), using(crate::proofs::Zero::aligned_zero, crate::proofs::Zero::aligned_if))]
+fn go<S: Surroundings>(own: &mut Own, around: &S, at: Place, s: Sources, o: &Outcome, i: &Ins) -> Executed
+    requires range { InRange i.now }
+    requires aligned { IsAligned i.now o.now.address }
+    ensures did { did own.new result ≡ goes (S.asks around.now) at.pc own.old at.word s.a s.b o.now i.now }
+    ensures showable { IsShowable result.effect }
+    ensures store { IsAlignedStore result.effect }
+    ensures address { IsAligned i.now result.address }
+{
+    match *i {
+        Ins::Lui { rd, .. }
+        | Ins::Auipc { rd, .. }
+        | Ins::OpImm { rd, .. }
+        | Ins::Shift { rd, .. }
+        | Ins::Op { rd, .. } => go_on(at, 1, write_to(rd, o.value)),
+        Ins::Jal { rd, .. } | Ins::Jalr { rd, .. } => go_to(at, o.target, write_to(rd, o.value)),
+        Ins::Branch { .. } => branch_to(own, at, o.taken, o.target),
+        Ins::Load { op, .. } => {
+            let allowed = around.may_load(o.address, size_of_load(op));
+            load_from(own, at, o.address, allowed)
+        }
+        Ins::Store { op, .. } => {
+            let width = size_of_store(op);
+            let allowed = around.may_store(o.address, width);
+            store_to(own, at, o.address, width, cut(op, s.b), allowed)
+        }
+        Ins::Muldiv { .. } => go_on(at, 2, Effect::Nothing),
+        Ins::Fence { .. } => go_on(at, 1, Effect::Nothing),
+        Ins::Mret => go_to(at, own.trap.mepc, Effect::Nothing),
+        Ins::Csr { op, rd, csr, src } => access_csr(own, at, around.thread(), rd, csr, Access::of(op, src, s.a), around.shared(csr)),
+        Ins::Gt { rd } => {
+            own.timer.high = (around.now() / 0x1_0000_0000) as u32;
+            go_on(at, 1, write_to(rd, (around.now() % 0x1_0000_0000) as u32))
+        }
+        Ins::Gth { rd } => go_on(at, 1, write_to(rd, own.timer.high)),
+        Ins::Du { .. } => delay_until(own, at, around.now(), moment(s.a, s.b)),
+        Ins::Wu { .. } => wait_until(own, at, around.now(), moment(s.a, s.b)),
+        Ins::Ee { .. } => {
+            own.timer.armed = Some(moment(s.a, s.b));
+            go_on(at, 3, Effect::Nothing)
+        }
+        Ins::De => {
+            own.timer.armed = None;
+            go_on(at, 3, Effect::Nothing)
+        }
+        Ins::Ecall | Ins::Ebreak | Ins::Illegal { .. } => trap(own, at, 2),
+    }
+}
+
+/// What an instruction does; a trap of its result comes first.
+#[tactic(auto, unfolding(core_model::specs::Issue::run), using(crate::proofs::Zero::aligned_zero))]
+fn run_at<S: Surroundings>(own: &mut Own, around: &S, at: Place, s: Sources, i: &Ins) -> Executed
+    requires range { InRange i.now }
+    ensures did { did own.new result ≡ run (S.asks around.now) at.pc own.old at.word s.a s.b i.now }
+    ensures showable { IsShowable result.effect }
+    ensures store { IsAlignedStore result.effect }
+    ensures address { IsAligned i.now result.address }
+{
+    let o = execute(i, at.pc, s.a, s.b);
+    match o.trap {
+        Some(cause) => trap(own, at, cause),
+        None => go(own, around, at, s, &o, i),
+    }
+}
+
+/// Executes the instruction at a place, but for a late value. An expiry comes before all else and
+/// disarms; then a fetch that is refused. Neither shows a word.
+#[tactic(auto, unfolding(core_model::specs::Issue::act), using(crate::proofs::Zero::aligned_zero))]
+pub fn execute_in<S: Surroundings>(own: &mut Own, around: &S, at: Place, expired: bool, s: Sources) -> Executed
+    ensures did { did own.new result ≡ act (S.asks around.now) at.pc own.old expired at.word s.a s.b }
+    ensures showable { IsShowable result.effect }
+    ensures store { IsAlignedStore result.effect }
+    ensures address { IsAligned (ins at.word) result.address }
+{
+    if expired {
+        own.timer.armed = None;
+        return trap(own, Place { word: 0, ..at }, 24);
+    }
+    if !around.may_fetch(at.pc) {
+        return trap(own, Place { word: 0, ..at }, 1);
+    }
+    run_at(own, around, at, s, &decode(at.word))
+}

@@ -1,0 +1,13 @@
+//! One hart by itself: an engine that takes the hart's view alone, so that nothing else of the
+//! machine can have a part in what it answers.
+#![tactic(auto)]
+
+mod registers;
+mod rights;
+mod shown;
+mod solo;
+mod view;
+
+pub use shown::{NoPort, Shown};
+pub use solo::SoloRun;
+pub use view::{Kind, SoloView};
