@@ -1,0 +1,71 @@
+//! Numbers as texts, at the end of a buffer.
+
+ghost use Rattle.std.specs.Prelude.{◌≡◌, ◌+◌, ◌<◌, ◌≤◌, ◌^◌, ◌∷◌, [], ◌++◌, max, length, decimal};
+ghost use Rattle.arrayvec.specs.ArrayString.{array_string_len};
+ghost use Rattle.trace_print.specs.Digits.{hex_digit, hex, two_digits, right};
+
+use arrayvec::ArrayString;
+use itoa::{Buffer, Integer};
+
+/// Appends a number in decimal.
+pub fn push_decimal<I: Integer>(text: &mut ArrayString<96>, number: I)
+    requires room { array_string_len text.old + I.MAX_STR_LEN ≤ 96 }
+    ensures text { text.new.bytes ≡ text.old.bytes ++ I.text number }
+    ensures len { array_string_len text.new ≤ array_string_len text.old + I.MAX_STR_LEN }
+{
+    text.push_str(Buffer::new().format(number));
+}
+
+/// Appends a number in decimal, right in `places` places filled with spaces. A number that needs
+/// more places takes them.
+#[tactic(auto, unfolding(crate::specs::Digits::right))]
+pub fn push_right(text: &mut ArrayString<96>, number: u64, places: usize)
+    requires few { places ≤ 20 }
+    requires room { array_string_len text.old + 20 ≤ 96 }
+    ensures text { text.new.bytes ≡ text.old.bytes ++ right places number }
+    ensures len { array_string_len text.new ≤ array_string_len text.old + 20 }
+{
+    let mut buffer = Buffer::new();
+    let digits = buffer.format(number);
+    for _place in digits.len()..places {
+        text.push(' ');
+    }
+    text.push_str(digits);
+}
+
+/// Appends the lowest `places` hexadecimal digits of a number.
+#[tactic(auto, unfolding(crate::specs::Digits::hex))]
+pub fn push_hex(text: &mut ArrayString<96>, number: u64, places: usize)
+    requires room { array_string_len text.old + places ≤ 96 }
+    ensures text { text.new.bytes ≡ text.old.bytes ++ hex places number }
+    ensures len { array_string_len text.new ≡ array_string_len text.old + places }
+{
+    if places > 0 {
+        push_hex(text, number / 16, places - 1);
+        text.push(hex_char((number % 16) as u8));
+    }
+}
+
+/// A hexadecimal digit.
+fn hex_char(digit: u8) -> char
+    requires { digit < 16 }
+    ensures { result ≡ hex_digit digit }
+{
+    if digit < 10 {
+        char::from(b'0' + digit)
+    } else {
+        char::from(b'a' + (digit - 10))
+    }
+}
+
+/// Appends a number below 100 in two decimal digits.
+#[tactic(auto, unfolding(crate::specs::Digits::two_digits))]
+pub(crate) fn push_two_digits(text: &mut ArrayString<96>, number: u8)
+    requires small { number < 100 }
+    requires room { array_string_len text.old + 2 ≤ 96 }
+    ensures text { text.new.bytes ≡ text.old.bytes ++ two_digits number }
+    ensures len { array_string_len text.new ≡ array_string_len text.old + 2 }
+{
+    text.push(char::from(b'0' + number / 10));
+    text.push(char::from(b'0' + number % 10));
+}

@@ -1,0 +1,14 @@
+//! The texts of events and refusals, each in a buffer of fixed size: no memory is taken and
+//! nothing can fail.
+#![tactic(auto)]
+
+mod digits;
+mod events;
+mod refusals;
+
+pub use digits::{push_decimal, push_hex, push_right};
+pub use events::line;
+pub use refusals::{Refusal, refusal_line};
+
+#[cfg(test)]
+mod tests;
