@@ -1,5 +1,5 @@
 -- The turns of a frame, slot by slot.
-use Rattle.std.proofs.Common.{◌≡◌, ◌<◌, ◌≤◌, ℕ, suc, ◌+◌, ◌-◌, ◌%◌, ◌==◌, if◌then◌else◌, Bool, true, false, List, [], ◌∷◌, ◌++◌, length, take, filter, map, get_or, set, replicate, refl, ap, ◌∙◌, arith, append_assoc, length-append}
+use Rattle.std.proofs.Common.{nat_lt, ◌≡◌, ◌<◌, ◌≤◌, ℕ, suc, ◌+◌, ◌-◌, ◌%◌, ◌==◌, if◌then◌else◌, Bool, true, false, List, [], ◌∷◌, ◌++◌, length, take, filter, map, get_or, set, replicate, refl, ap, ◌∙◌, arith, append_assoc, length-append}
 use Rattle.std.proofs.lemmas.List.{take_more, get_or-map, get_or-replicate, length-map, map-append, append-nil}
 use Rattle.std.proofs.lemmas.List.Elements.{filter-append}
 use Rattle.std.proofs.lemmas.List.Sums.{length-filter, count_by-le-length}
@@ -7,9 +7,9 @@ use Rattle.std.proofs.lemmas.Bool.Decides.{nat_tests}
 use Rattle.std.proofs.Math.Seq.{set-append_seam}
 use Rattle.std.proofs.Math.ListN.{get_or-append}
 use Rattle.slot_table.specs.declared.frame.Turn.{Turn}
-use Rattle.slot_table.specs.declared.frame.Turn.TheVariants.{Nobody}
+use Rattle.slot_table.specs.declared.frame.Turn.TheVariants.{Thread, Soft, Nobody}
 use Rattle.nibble_word.specs.Nibbles.{nibbles}
-use Rattle.slot_table.specs.Frame.{is_used, turn_of_slot, turn_in, frame, turn}
+use Rattle.slot_table.specs.Frame.{IsTurn, is_used, turn_of_slot, turn_in, frame, turn}
 use Rattle.slot_table.specs.Table.{turns_of}
 
 pub is_used-other : (n : ℕ) → (n ≡ 15 → ⊥) → is_used n ≡ true
@@ -65,3 +65,19 @@ turns_of-place (slot ∷ slots) c p small e d =
 pub turn-place : (w c p : ℕ) → p < 8 → p ≡ (if length (frame w) == 0 then 0 else c % length (frame w)) → (d : Turn) → get_or (turns_of (frame w)) p d ≡ turn w c
 unfolding turn
 turn-place w c p small e d = turns_of-place (frame w) c p small e d
+
+-- a slot that is a thread's is that of one of the eight
+IsTurn-chosen : (slot : ℕ) (below : Bool) → nat_lt slot 8 ≡ below → IsTurn (if below then Thread slot else Soft)
+IsTurn-chosen slot true e = grind (arith, nat_tests)
+IsTurn-chosen slot false e = tt
+
+IsTurn-slot : (slot : ℕ) → IsTurn (turn_of_slot slot)
+IsTurn-slot slot = IsTurn-chosen slot (nat_lt slot 8) refl
+
+IsTurn-turn_in : (slots : List ℕ) (c : ℕ) → IsTurn (turn_in slots c)
+IsTurn-turn_in [] c = tt
+IsTurn-turn_in (slot ∷ slots) c = IsTurn-slot (get_or (slot ∷ slots) (c % suc (length slots)) 14)
+
+pub IsTurn-turn : (w c : ℕ) → IsTurn (turn w c)
+unfolding turn
+IsTurn-turn w c = IsTurn-turn_in (frame w) c

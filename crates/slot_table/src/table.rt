@@ -1,7 +1,7 @@
 //! The slots register as a type that holds only accepted words.
 
 ghost use Rattle.std.specs.Prelude.{◌≡◌, IsTrue, is_ok, length};
-ghost use Rattle.slot_table.specs.Frame.{frame, turn};
+ghost use Rattle.slot_table.specs.Frame.{IsTurn, frame, turn};
 ghost use Rattle.slot_table.specs.Table.{is_table, table_of};
 
 use crate::frame::{BadSlot, Frame, Turn, bad_slot};
@@ -69,7 +69,8 @@ impl SlotTable {
     /// Whose turn a cycle is: that of the frame's entry which has the cycle's number modulo the
     /// frame's length, and nobody's exactly where the frame is empty.
     pub fn turn(&self, cycle: u64) -> Turn
-        ensures { result ≡ turn self.now cycle }
+        ensures turn { result ≡ turn self.now cycle }
+        ensures thread { IsTurn result }
     {
         self.layout.turns[self.layout.place(cycle) as usize]
     }
