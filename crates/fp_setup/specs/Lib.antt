@@ -1,0 +1,5 @@
+pub mod Inputs
+pub mod Loops
+pub mod Threads
+pub mod Settings
+pub mod Rules
