@@ -3,3 +3,11 @@ pub mod Loops
 pub mod Threads
 pub mod Settings
 pub mod Rules
+pub mod Faults
+pub mod Vocabulary
+pub mod Keys
+pub mod Values
+pub mod Checks
+pub mod Tables
+pub mod Meaning
+pub mod Setup

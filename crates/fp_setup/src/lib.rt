@@ -4,11 +4,13 @@
 //! with the fault's place, in the order of checks of `docs/FORMATS.md`.
 #![tactic(auto)]
 
+mod bounds;
 mod file_name;
 mod input_list;
 mod loop_list;
 mod refusal;
 mod thread_list;
+mod vocabulary;
 mod whole;
 
 pub use file_name::Name;
