@@ -1,7 +1,8 @@
 -- The checks of one value, at its place: the first fault, or none.
-use Rattle.std.specs.Prelude.{ℕ, ℤ, pos, negsuc, ◌+◌, ◌%◌, ◌==◌, ◌&&◌, Bool, true, false, nat_le, nat_lt, List, [], ◌∷◌, length, Option, Some, None, is_some, if◌then◌else◌}
+use Rattle.std.specs.Prelude.{ℕ, ℤ, pos, negsuc, ◌+◌, ◌%◌, ◌==◌, ◌&&◌, Bool, true, false, nat_le, nat_lt, List, [], ◌∷◌, length, Option, Some, None, is_some, option_and_then, if◌then◌else◌}
 use Rattle.std.specs.List.{list_any}
-use Rattle.toml.specs.Data.{Data, Items, as_integer, as_str, as_array}
+use Rattle.std.specs.Option.{option_map_or}
+use Rattle.toml.specs.Data.{Data, as_integer, as_str}
 use Rattle.fp_setup.specs.declared.refusal.Place.{Place}
 use Rattle.fp_setup.specs.declared.refusal.Fault.{Fault}
 use Rattle.fp_setup.specs.declared.refusal.SetupNo.TheVariants as no
@@ -9,7 +10,7 @@ use Rattle.fp_setup.specs.declared.bounds.Range.{Range}
 use Rattle.fp_setup.specs.declared.vocabulary.Words.{Words}
 use Rattle.fp_setup.specs.Faults.{fault, first, element_of}
 use Rattle.fp_setup.specs.Vocabulary.{Text, number_of, refusal}
-use Rattle.fp_setup.specs.Values.{natural, number, values}
+use Rattle.fp_setup.specs.Values.{natural, number, as_list}
 
 -- an integer in a range
 abbrev pub is_in : Range → ℕ → Bool
@@ -60,9 +61,9 @@ abbrev pub eight_in_fault : Words → Place → List Data → Option Fault
 eight_in_fault words place ds =
     if length ds == 8 then each_fault (element_fault words place) 0 ds else fault no.OutOfRange place
 
-unfoldable pub eight_fault : Words → Place → Option Items → Option Fault
+unfoldable pub eight_fault : Words → Place → Option (List Data) → Option Fault
 eight_fault words place None = fault no.WrongType place
-eight_fault words place (Some items) = eight_in_fault words place (values items)
+eight_fault words place (Some ds) = eight_in_fault words place ds
 
 -- exactly two integers
 abbrev pub both : Option ℤ → Option ℤ → Option (ℤ × ℤ)
@@ -73,17 +74,12 @@ abbrev pub pair_of : List Data → Option (ℤ × ℤ)
 pair_of (a ∷ b ∷ []) = both (as_integer a) (as_integer b)
 pair_of _ = None
 
-abbrev pub pair_in : Option Items → Option (ℤ × ℤ)
-pair_in None = None
-pair_in (Some items) = pair_of (values items)
+unfoldable pub pair : Data → Option (ℤ × ℤ)
+pair d = option_and_then pair_of (as_list d)
 
 -- the cycle of an input
-abbrev pub cycle_in : Option (ℤ × ℤ) → ℕ
-cycle_in None = 0
-cycle_in (Some pair) = natural pair.0
-
 abbrev pub cycle_of : Data → ℕ
-cycle_of d = cycle_in (pair_in (as_array d))
+cycle_of d = option_map_or (λ (p : ℤ × ℤ). natural p.0) (pair d) 0
 
 -- an input, of which the one before has that cycle: a later cycle and a word
 abbrev pub is_after : Option ℕ → ℕ → Bool
@@ -96,18 +92,18 @@ is_input before _ _ = false
 
 unfoldable pub input_fault : Option ℕ → Place → Option (ℤ × ℤ) → Option Fault
 input_fault before place None = fault no.WrongType place
-input_fault before place (Some pair) = if is_input before pair.0 pair.1 then None else fault no.OutOfRange place
+input_fault before place (Some p) = if is_input before p.0 p.1 then None else fault no.OutOfRange place
 
 -- inputs in their order, the first of them with that index
 abbrev pub inputs_from : Place → ℕ → Option ℕ → List Data → Option Fault
 inputs_from place index before [] = None
 inputs_from place index before (d ∷ ds) =
-    first (input_fault before (element_of place index) (pair_in (as_array d))) (inputs_from place (index + 1) (Some (cycle_of d)) ds)
+    first (input_fault before (element_of place index) (pair d)) (inputs_from place (index + 1) (Some (cycle_of d)) ds)
 
 -- a list of at most so many elements
 abbrev pub few_fault : ℕ → (List Data → Option Fault) → Place → List Data → Option Fault
 few_fault most check place ds = if nat_lt most (length ds) then fault no.TooMany place else check ds
 
-unfoldable pub list_fault : ℕ → (List Data → Option Fault) → Place → Option Items → Option Fault
+unfoldable pub list_fault : ℕ → (List Data → Option Fault) → Place → Option (List Data) → Option Fault
 list_fault most check place None = fault no.WrongType place
-list_fault most check place (Some items) = few_fault most check place (values items)
+list_fault most check place (Some ds) = few_fault most check place ds

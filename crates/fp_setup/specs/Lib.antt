@@ -11,3 +11,4 @@ pub mod Checks
 pub mod Tables
 pub mod Meaning
 pub mod Setup
+pub mod Reading

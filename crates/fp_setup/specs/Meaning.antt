@@ -1,7 +1,7 @@
 -- What the tables of an accepted setup say.
 use Rattle.std.specs.Prelude.{ℕ, ℤ, ◌+◌, ◌*◌, ◌==◌, false, List, [], ◌∷◌, Option, Some, None, map, find, unwrap_or, option_map, codes}
 use Rattle.std.specs.Option.{option_map_or}
-use Rattle.toml.specs.Data.{Data, Members, as_array, get_member}
+use Rattle.toml.specs.Data.{Data, Members, get_member}
 use Rattle.fp_setup.specs.declared.input_list.Input.{Input}
 use Rattle.fp_setup.specs.declared.thread_list.ThreadSetup.{ThreadSetup}
 use Rattle.fp_setup.specs.declared.loop_list.LoopSetup.{LoopSetup}
@@ -10,7 +10,7 @@ use Rattle.fp_setup.specs.declared.vocabulary.Words.TheVariants.{Slots, Owners, 
 use Rattle.fp_setup.specs.Settings.{Settings}
 use Rattle.fp_setup.specs.Vocabulary.{Text, number_of}
 use Rattle.fp_setup.specs.Values.{natural, number, text, members, number_at, text_at, truth_at, elements_at}
-use Rattle.fp_setup.specs.Checks.{pair_in}
+use Rattle.fp_setup.specs.Checks.{pair}
 
 -- the number of digits in a base, the lowest first
 abbrev pub word_of : ℕ → List ℕ → ℕ
@@ -28,10 +28,10 @@ nibble_word words ds = word_of 16 (map (λ d. named words (text d)) ds)
 -- an input
 abbrev pub input_in : Option (ℤ × ℤ) → Input
 input_in None = record { at = 0; word = 0 }
-input_in (Some pair) = record { at = natural pair.0; word = natural pair.1 }
+input_in (Some p) = record { at = natural p.0; word = natural p.1 }
 
 abbrev pub input_of : Data → Input
-input_of d = input_in (pair_in (as_array d))
+input_of d = input_in (pair d)
 
 -- the table of a loop
 unfoldable pub loop_of : Members → LoopSetup

@@ -2,7 +2,7 @@
 use Rattle.std.specs.Prelude.{ℕ, ◌+◌, ◌-◌, Bool, true, false, not, ◌||◌, List, [], ◌∷◌, ◌++◌, Option, Some, None, if◌then◌else◌, codes}
 use Rattle.std.specs.List.{list_any}
 use Rattle.std.specs.Str.{bytes_eq}
-use Rattle.toml.specs.Data.{Data, Members, no_members, member, as_integer, as_str, as_bool, as_array, as_table, get_member}
+use Rattle.toml.specs.Data.{Data, Members, no_members, member, as_integer, as_str, as_bool, as_table, get_member}
 use Rattle.fp_setup.specs.declared.refusal.Place.{Place}
 use Rattle.fp_setup.specs.declared.refusal.Fault.{Fault}
 use Rattle.fp_setup.specs.declared.refusal.SetupNo.TheVariants as no
@@ -10,7 +10,7 @@ use Rattle.fp_setup.specs.declared.bounds.Range.{Range}
 use Rattle.fp_setup.specs.Faults.{fault, first, top, thread_row, loop_row, key_of}
 use Rattle.fp_setup.specs.Vocabulary.{Text}
 use Rattle.fp_setup.specs.Keys.{Kind, Integer, Fresh, Address, AddressFrom, Bytes, One, Eight, Truth, TruthWithout, Inputs, Threads, Loops, Key, top_keys, thread_keys, loop_keys, names}
-use Rattle.fp_setup.specs.Values.{members, number_at, truth_at}
+use Rattle.fp_setup.specs.Values.{as_list, members, number_at, truth_at}
 use Rattle.fp_setup.specs.Checks.{integer_fault, fresh_fault, bytes_fault, word_fault, truth_fault, permit_fault, eight_fault, inputs_from, list_fault}
 
 -- what stands around a value: the bytes of each scratchpad, the table that holds the value, and the ids of the threads before
@@ -34,10 +34,10 @@ value_fault around (AddressFrom key) place d =
     integer_fault (addresses (number_at key around.table) around.size) place (as_integer d)
 value_fault around (Bytes low high) place d = bytes_fault low high place (as_str d)
 value_fault around (One words) place d = word_fault words place (as_str d)
-value_fault around (Eight words) place d = eight_fault words place (as_array d)
+value_fault around (Eight words) place d = eight_fault words place (as_list d)
 value_fault around Truth place d = truth_fault place (as_bool d)
 value_fault around (TruthWithout key) place d = permit_fault (truth_at key around.table) place (as_bool d)
-value_fault around (Inputs most) place d = list_fault most (inputs_from place 0 None) place (as_array d)
+value_fault around (Inputs most) place d = list_fault most (inputs_from place 0 None) place (as_list d)
 value_fault around (Threads most) place d = None
 value_fault around (Loops most) place d = None
 
@@ -90,8 +90,8 @@ loops_from size index (d ∷ ds) = first (loop_fault size (loop_row index) (as_t
 
 -- the check of a value of the top table
 abbrev pub top_value_fault : Around → Kind → Place → Data → Option Fault
-top_value_fault around (Threads most) place d = list_fault most (threads_from around.size 0 []) place (as_array d)
-top_value_fault around (Loops most) place d = list_fault most (loops_from around.size 0) place (as_array d)
+top_value_fault around (Threads most) place d = list_fault most (threads_from around.size 0 []) place (as_list d)
+top_value_fault around (Loops most) place d = list_fault most (loops_from around.size 0) place (as_list d)
 top_value_fault around kind place d = value_fault around kind place d
 
 -- the first fault of the top table; its version tells the size of the scratchpads

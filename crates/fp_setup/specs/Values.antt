@@ -1,6 +1,6 @@
 -- What a value of a TOML document is, as a number, a text, a truth value or a list. One of another
 -- type, or none, counts as 0, empty or false: the checks refuse it.
-use Rattle.std.specs.Prelude.{ℕ, ℤ, pos, negsuc, Bool, false, List, [], ◌∷◌, unwrap_or}
+use Rattle.std.specs.Prelude.{ℕ, ℤ, pos, negsuc, Option, option_map, Bool, false, List, [], ◌∷◌, unwrap_or}
 use Rattle.std.specs.Option.{option_map_or}
 use Rattle.toml.specs.Data.{Data, Items, no_items, item, Members, no_members, as_integer, as_str, as_bool, as_array, as_table, get_member}
 use Rattle.fp_setup.specs.Vocabulary.{Text}
@@ -18,13 +18,16 @@ text d = unwrap_or (as_str d) []
 abbrev pub truth : Data → Bool
 truth d = unwrap_or (as_bool d) false
 
--- the elements of a list, and the values of a list's elements
+-- the elements of a list, where the value is one
 abbrev pub values : Items → List Data
 values no_items = []
 values (item d ds) = d ∷ values ds
 
+unfoldable pub as_list : Data → Option (List Data)
+as_list d = option_map values (as_array d)
+
 abbrev pub elements : Data → List Data
-elements d = option_map_or values (as_array d) []
+elements d = unwrap_or (as_list d) []
 
 abbrev pub members : Data → Members
 members d = unwrap_or (as_table d) no_members

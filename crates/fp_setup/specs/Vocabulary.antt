@@ -1,6 +1,8 @@
 -- The texts that stand for slots, owners of regions and modes, with their numbers.
-use Rattle.std.specs.Prelude.{ℕ, List, [], ◌∷◌, ◌++◌, Option, Some, None, if◌then◌else◌, codes}
+use Rattle.std.specs.Prelude.{ℕ, Bool, nat_lt, List, [], ◌∷◌, ◌++◌, Option, Some, None, if◌then◌else◌, codes}
 use Rattle.std.specs.Str.{bytes_eq}
+use Rattle.slot_table.specs.Frame.{is_slot}
+use Rattle.region_guard.specs.Regions.{is_owner}
 use Rattle.fp_setup.specs.declared.vocabulary.Words.{Words}
 use Rattle.fp_setup.specs.declared.vocabulary.Words.TheVariants.{Slots, Owners, Modes}
 use Rattle.fp_setup.specs.declared.refusal.SetupNo.{SetupNo}
@@ -33,3 +35,9 @@ number_in (e ∷ es) text = if bytes_eq text e.0 then Some e.1 else number_in es
 
 unfoldable pub number_of : Words → Text → Option ℕ
 number_of words text = number_in (entries words) text
+
+-- what the texts of a list stand for
+abbrev pub is_value : Words → ℕ → Bool
+is_value Slots n = is_slot n
+is_value Owners n = is_owner n
+is_value Modes n = nat_lt n 4

@@ -8,8 +8,10 @@ mod bounds;
 mod file_name;
 mod input_list;
 mod loop_list;
+mod nibble_list;
 mod refusal;
 mod thread_list;
+mod values;
 mod vocabulary;
 mod whole;
 

@@ -44,11 +44,92 @@ pub struct Place {
     pub item: u32,
 }
 
+impl Place {
+    ghost use Rattle.std.specs.Prelude.{◌≡◌, ◌+◌, ◌<◌, ◌^◌};
+    ghost use Rattle.fp_setup.specs.Faults.{no_place, top, thread_row, loop_row, key_of, element_of};
+
+    /// The file as a whole.
+    pub(crate) fn none() -> Place
+        ensures { result ≡ no_place }
+    {
+        Place::table(0, 0)
+    }
+
+    /// The top table.
+    pub(crate) fn top() -> Place
+        ensures { result ≡ top }
+    {
+        Place::table(1, 0)
+    }
+
+    /// A table of a thread.
+    pub(crate) fn thread(row: u32) -> Place
+        ensures { result ≡ thread_row row }
+    {
+        Place::table(2, row)
+    }
+
+    /// A table of a loop.
+    pub(crate) fn of_loop(row: u32) -> Place
+        ensures { result ≡ loop_row row }
+    {
+        Place::table(3, row)
+    }
+
+    fn table(table: u8, row: u32) -> Place
+        ensures { result ≡ record { table = table; row = row; key = 0; item = 0 } }
+    {
+        Place {
+            table,
+            row,
+            key: 0,
+            item: 0,
+        }
+    }
+
+    /// The value of a key of this table, by the key's number.
+    pub(crate) fn key(self, key: u8) -> Place
+        ensures { result ≡ key_of self key }
+    {
+        Place {
+            table: self.table,
+            row: self.row,
+            key,
+            item: 0,
+        }
+    }
+
+    /// An element of the list that stands here.
+    pub(crate) fn element(self, index: u32) -> Place
+        requires { index + 1 < 2 ^ 32 }
+        ensures { result ≡ element_of self index }
+    {
+        Place {
+            table: self.table,
+            row: self.row,
+            key: self.key,
+            item: index + 1,
+        }
+    }
+}
+
 /// A fault of a setup with its place.
 #[derive(Clone, Copy, Debug, PartialEq, Eq)]
 pub struct Fault {
     pub code: SetupNo,
     pub place: Place,
+}
+
+impl Fault {
+    ghost use Rattle.std.specs.Prelude.{◌≡◌};
+    ghost use Rattle.fp_setup.specs.Faults.{at_place};
+
+    /// A fault at a place.
+    pub(crate) fn new(code: SetupNo, place: Place) -> Fault
+        ensures { result ≡ at_place code place }
+    {
+        Fault { code, place }
+    }
 }
 
 /// Why no setup was read.
