@@ -1,0 +1,4 @@
+pub mod EdgeLaws
+pub mod GraphLaws
+pub mod ReachLaws
+pub mod LowestLaws

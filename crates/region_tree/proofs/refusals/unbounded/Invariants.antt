@@ -1,0 +1,8 @@
+use Rattle.std.proofs.Common.{ℕ, ◌<◌}
+use Rattle.region_tree.specs.Refusals.{UnboundedAt}
+use Rattle.region_tree.specs.Search.{address}
+use Rattle.region_tree.specs.Tree.{graph}
+use Rattle.region_tree.proofs.refusals.unbounded.Given as goal
+
+abbrev pub invariant-loop-place : goal.invariant-loop-place
+invariant-loop-place l = (k : ℕ) → k < l.place → UnboundedAt (graph l.draft) (address l.draft k) → ⊥

@@ -1,0 +1,6 @@
+pub mod Edges
+pub mod Graph
+pub mod Walk
+pub mod Refusals
+pub mod Tree
+pub mod Search

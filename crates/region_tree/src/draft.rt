@@ -1,0 +1,99 @@
+//! A section with its words and the loops that count in it.
+
+ghost use Rattle.std.specs.Prelude.{◌≡◌, ℕ, ◌+◌, ◌*◌, ◌<◌, ◌≤◌, ◌%◌, length};
+
+use crate::edges::{Edges, edges_of};
+use crate::section::Section;
+use fp_setup::LoopSetup;
+use std::marker::Model;
+
+/// A section, its words and the loops that count in it. Nothing is known yet of how they fit
+/// together.
+#[derive(Debug, Drop)]
+pub struct Draft {
+    section: Section,
+    words: Vec<u32>,
+    loops: Vec<LoopSetup>,
+}
+
+impl Model for Draft {
+    ghost use Rattle.region_tree.specs.Tree.{Tree, IsDraft};
+
+    ghost Value = { Tree };
+
+    ghost view = { λ t. record { section = t.section; words = t.words.items; loops = t.loops.items } };
+
+    ghost invariant = { λ t. IsDraft (record { section = t.section; words = t.words.items; loops = t.loops.items }) };
+}
+
+impl Draft {
+    ghost use Rattle.region_tree.specs.Edges.{edges_of};
+    ghost use Rattle.region_tree.specs.Search.{address, place_of};
+    ghost use Rattle.region_tree.specs.Tree.{IsDraft, word_at};
+
+    /// The section.
+    pub fn section(&self) -> Section
+        ensures value { result ≡ self.now.section }
+        ensures rules { IsDraft self.now }
+    {
+        self.section
+    }
+
+    /// How many words the section has.
+    pub fn len(&self) -> usize
+        ensures value { result ≡ length self.now.words }
+        ensures some { 0 < result }
+        ensures rules { IsDraft self.now }
+    {
+        self.words.len()
+    }
+
+    /// The word at `address`, a multiple of four in the section.
+    pub fn word(&self, address: u32) -> u32
+        requires aligned { address % 4 ≡ 0 }
+        requires low { self.now.section.from ≤ address }
+        requires high { address < self.now.section.to }
+        ensures { result ≡ word_at self.now address }
+    {
+        self.words[((address - self.section.from) / 4) as usize]
+    }
+
+    /// The loops that count.
+    pub fn loops(&self) -> &[LoopSetup]
+        ensures { result.now ≡ self.now.loops }
+    {
+        self.loops.as_slice()
+    }
+
+    /// The address of a word by its place.
+    pub fn address(&self, place: usize) -> u32
+        requires { place < length self.now.words }
+        ensures value { result ≡ address self.now place }
+        ensures aligned { result % 4 ≡ 0 }
+        ensures low { self.now.section.from ≤ result }
+        ensures high { result < self.now.section.to }
+    {
+        self.section.from + 4 * place as u32
+    }
+
+    /// The edges of a word by its place.
+    pub fn edges(&self, place: usize) -> Edges
+        requires { place < length self.now.words }
+        ensures { result ≡ edges_of (word_at self.now (address self.now place)) (address self.now place) }
+    {
+        let address = self.address(place);
+        edges_of(self.word(address), address)
+    }
+
+    /// The place of the word at a target, where it lies in the section.
+    pub fn place_of(&self, target: Option<u32>) -> Option<usize>
+        ensures { result ≡ place_of self.now.section target }
+    {
+        match target {
+            Some(to) if self.section.from <= to && to < self.section.to => {
+                Some(((to - self.section.from) / 4) as usize)
+            }
+            _ => None,
+        }
+    }
+}

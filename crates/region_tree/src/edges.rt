@@ -1,0 +1,99 @@
+//! Where a word of code leads.
+
+ghost use Rattle.std.specs.Prelude.{◌≡◌, ℤ};
+ghost use Rattle.region_tree.specs.Edges.{aligned, edges_from, edges_of, offset, onward, ended};
+
+use rv_decode::{Ins, decode};
+
+/// Why the way on from a word isn't known.
+#[derive(Clone, Copy, Debug, PartialEq, Eq)]
+pub enum Stop {
+    /// It is known, or there is none.
+    No,
+    /// The word jumps to an address out of a register.
+    Indirect,
+    /// The word waits for a moment.
+    Timed,
+}
+
+/// The edges of a word: to the next word, and to a jump's target. A jump has the lag [`JUMP_LAG`].
+#[derive(Clone, Copy, Debug, PartialEq, Eq)]
+pub struct Edges {
+    /// The address of the next word, where the word can lead on to it.
+    pub next: Option<u32>,
+    /// The least number of cycles until the next word issues; 0 where `next` is none.
+    pub next_lag: u64,
+    /// The target of a branch or a jump, where it is a multiple of four.
+    pub jump: Option<u32>,
+    /// Why nothing is known of the way on.
+    pub stop: Stop,
+}
+
+/// The least number of cycles until the target of a jump issues.
+pub const JUMP_LAG: u64 = 3;
+
+impl Edges {
+    ghost use Rattle.region_tree.specs.Edges.{onward, ended};
+
+    fn onward(address: u32, lag: u64) -> Edges
+        ensures { result ≡ onward address lag }
+    {
+        Edges {
+            next: Some(address.wrapping_add(4)),
+            next_lag: lag,
+            jump: None,
+            stop: Stop::No,
+        }
+    }
+
+    fn ended(stop: Stop) -> Edges
+        ensures { result ≡ ended stop }
+    {
+        Edges {
+            next: None,
+            next_lag: 0,
+            jump: None,
+            stop,
+        }
+    }
+}
+
+/// The target at this offset, where it is a multiple of four.
+fn target(address: u32, off: i32) -> Option<u32>
+    ensures { result ≡ aligned (offset address off) }
+{
+    let target = address.wrapping_add_signed(off);
+    if target % 4 == 0 { Some(target) } else { None }
+}
+
+#[tactic(auto, unfolding(crate::specs::Edges::edges_from))]
+fn edges_from(address: u32, instruction: Ins) -> Edges
+    ensures { result ≡ edges_from address instruction }
+{
+    match instruction {
+        Ins::Load { .. } | Ins::Muldiv { .. } => Edges::onward(address, 2),
+        Ins::Csr { .. } | Ins::Ee { .. } | Ins::De => Edges::onward(address, 3),
+        Ins::Branch { off, .. } => {
+            let mut edges = Edges::onward(address, 1);
+            edges.jump = target(address, off);
+            edges
+        }
+        Ins::Jal { off, .. } => {
+            let mut edges = Edges::ended(Stop::No);
+            edges.jump = target(address, off);
+            edges
+        }
+        Ins::Ecall | Ins::Ebreak | Ins::Illegal { .. } => Edges::ended(Stop::No),
+        Ins::Jalr { .. } | Ins::Mret => Edges::ended(Stop::Indirect),
+        Ins::Du { .. } | Ins::Wu { .. } => Edges::ended(Stop::Timed),
+        _ => Edges::onward(address, 1),
+    }
+}
+
+/// The edges of the word `word` that stands at `address`. Addresses wrap modulo 2^32.
+#[tactic(auto, unfolding(crate::specs::Edges::edges_of))]
+pub fn edges_of(word: u32, address: u32) -> Edges
+    ensures { result ≡ edges_of word address }
+{
+    edges_from(address, decode(word))
+}

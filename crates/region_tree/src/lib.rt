@@ -1,0 +1,14 @@
+//! The control graph of a section of code: the edges of its words, and the tree of its counting
+//! loops.
+#![tactic(auto)]
+
+mod draft;
+mod edges;
+mod reach;
+mod refusals;
+mod section;
+mod tree;
+
+pub use edges::{Edges, JUMP_LAG, Stop, edges_of};
+pub use section::Section;
+pub use tree::{LoopTree, TreeNo};

@@ -1,0 +1,258 @@
+//! Why a section with its loops has no bound.
+
+ghost use Rattle.std.specs.Prelude.{◌≡◌, ◌≢◌, ℕ, ◌+◌, ◌*◌, ◌<◌, ◌≤◌, ◌⊎◌, ◌↔◌, length, IsTrue, Contains, Option, MatchResult};
+ghost use Rattle.region_tree.specs.Graph.{Holds, Inside, Reachable};
+ghost use Rattle.region_tree.specs.Refusals.{Crosses, CrossedAt, DeepAt, EnteredAt, NestingAt, UnboundedAt, IsAllowed, IsRefused, depth, loop_at};
+ghost use Rattle.region_tree.specs.Search.{Before, CrossedHere, DeepHere, EntersOff, EnteredHere, EnteredBy, EnteredFrom, GoesBack, ReturnsBadly, IsMet, LowestOf, address, is_met, lower_of};
+ghost use Rattle.region_tree.specs.Tree.{graph};
+
+use crate::draft::Draft;
+use crate::edges::Stop;
+use crate::tree::TreeNo;
+use fp_setup::LoopSetup;
+
+/// The lower of two addresses, where there are any.
+#[tactic(auto, unfolding(crate::specs::Search::lower_of))]
+fn lower(a: Option<u32>, b: Option<u32>) -> Option<u32>
+    ensures { result ≡ lower_of a b }
+{
+    match (a, b) {
+        (None, _) => b,
+        (_, None) => a,
+        (Some(x), Some(y)) => Some(x.min(y)),
+    }
+}
+
+fn holds(j: &LoopSetup, address: u32) -> bool
+    ensures { IsTrue result ↔ Holds j.now address }
+{
+    j.head <= address && address <= j.last
+}
+
+/// Whether the second loop lies in the first, and its head above the first one's.
+fn is_inside(outer: &LoopSetup, inner: &LoopSetup) -> bool
+    ensures { IsTrue result ↔ Inside outer.now inner.now }
+{
+    outer.head < inner.head && inner.last <= outer.last
+}
+
+/// Whether two loops overlap, and neither lies in the other.
+fn crosses(j: &LoopSetup, i: &LoopSetup) -> bool
+    ensures { IsTrue result ↔ Crosses j.now i.now }
+{
+    j.head <= i.last && i.head <= j.last && !is_inside(j, i) && !is_inside(i, j)
+}
+
+/// The head of the loop at a place, where an earlier one crosses it.
+fn crossed_here(loops: &[LoopSetup], later: usize) -> Option<u32>
+    requires { later < length loops.now }
+    ensures { LowestOf (CrossedHere loops.now later) result }
+{
+    for earlier in 0..later {
+        if crosses(&loops[earlier], &loops[later]) {
+            return Some(loops[later].head);
+        }
+    }
+    None
+}
+
+/// The lowest head of a loop that an earlier one crosses.
+fn crossed(loops: &[LoopSetup]) -> Option<u32>
+    ensures { LowestOf (CrossedAt loops.now) result }
+{
+    let mut found = None;
+    for later in 0..loops.len() {
+        found = lower(found, crossed_here(loops, later));
+    }
+    found
+}
+
+/// How many of the loops hold all of a loop.
+fn depth(loops: &[LoopSetup], j: LoopSetup) -> usize
+    ensures { result ≡ depth loops.now j }
+{
+    loops
+        .iter()
+        .filter(|i| i.head <= j.head && j.last <= i.last)
+        .count()
+}
+
+/// The head of the loop at a place, where it lies in more than three others.
+fn deep_here(loops: &[LoopSetup], place: usize) -> Option<u32>
+    requires { place < length loops.now }
+    ensures { LowestOf (DeepHere loops.now place) result }
+{
+    let j = loops[place];
+    if depth(loops, j) > 4 {
+        Some(j.head)
+    } else {
+        None
+    }
+}
+
+/// The lowest head of a loop that lies in more than three others.
+fn deep(loops: &[LoopSetup]) -> Option<u32>
+    ensures { LowestOf (DeepAt loops.now) result }
+{
+    let mut found = None;
+    for place in 0..loops.len() {
+        found = lower(found, deep_here(loops, place));
+    }
+    found
+}
+
+/// Whether an edge enters a loop, but not at its head.
+fn enters_off(j: &LoopSetup, from: u32, to: u32) -> bool
+    ensures { IsTrue result ↔ EntersOff j.now from to }
+{
+    holds(j, to) && !holds(j, from) && to != j.head
+}
+
+/// The head of the loop at a place, where an edge enters it, but not there.
+fn entered_here(loops: &[LoopSetup], from: u32, to: u32, place: usize) -> Option<u32>
+    requires { place < length loops.now }
+    ensures { LowestOf (EnteredHere loops.now from to place) result }
+{
+    let j = loops[place];
+    if enters_off(&j, from, to) {
+        Some(j.head)
+    } else {
+        None
+    }
+}
+
+/// The lowest head of a loop that the edge to a target enters, but not there.
+fn entered_by(loops: &[LoopSetup], from: u32, target: Option<u32>) -> Option<u32>
+    ensures { LowestOf (EnteredBy loops.now from target) result }
+{
+    let to = target?;
+    let mut found = None;
+    for place in 0..loops.len() {
+        found = lower(found, entered_here(loops, from, to, place));
+    }
+    found
+}
+
+/// The lowest head of a loop that an edge of the word at a place enters, but not there.
+fn entered_from(draft: &Draft, met: &[bool], place: usize) -> Option<u32>
+    requires met { IsMet draft.now met.now }
+    requires within { place < length draft.now.words }
+    ensures { LowestOf (EnteredFrom draft.now place) result }
+{
+    if !met[place] {
+        return None;
+    }
+    let address = draft.address(place);
+    let edges = draft.edges(place);
+    let next = entered_by(draft.loops(), address, edges.next);
+    lower(next, entered_by(draft.loops(), address, edges.jump))
+}
+
+/// The lowest head of a loop that a reachable edge enters, but not there.
+fn entered(draft: &Draft, met: &[bool]) -> Option<u32>
+    requires { IsMet draft.now met.now }
+    ensures { LowestOf (EnteredAt (graph draft.now)) result }
+{
+    let mut found = None;
+    for place in 0..draft.len() {
+        found = lower(found, entered_from(draft, met, place));
+    }
+    found
+}
+
+/// The lowest head of a loop that is nested badly.
+fn nesting(draft: &Draft, met: &[bool]) -> Option<u32>
+    requires { IsMet draft.now met.now }
+    ensures { LowestOf (NestingAt (graph draft.now)) result }
+{
+    let loops = draft.loops();
+    lower(crossed(loops), lower(deep(loops), entered(draft, met)))
+}
+
+/// The lowest address of a reachable word with this stop.
+fn stopped(draft: &Draft, met: &[bool], stop: Stop) -> Option<u32>
+    requires { IsMet draft.now met.now }
+    ensures { LowestOf (λ u. Reachable (graph draft.now) u × ((graph draft.now).stop u ≡ stop)) result }
+{
+    for place in 0..draft.len() {
+        if met[place] && draft.edges(place).stop == stop {
+            return Some(draft.address(place));
+        }
+    }
+    None
+}
+
+/// Whether an edge leads back to the head of a loop that holds the word that it leaves.
+fn goes_back(loops: &[LoopSetup], from: u32, to: u32) -> bool
+    ensures { IsTrue result ↔ GoesBack loops.now from to }
+{
+    for j in loops {
+        if j.head == to && holds(j, from) {
+            return true;
+        }
+    }
+    false
+}
+
+/// Whether a target lies in the section, at or below a word, and is no head of a loop around it.
+fn returns_badly(draft: &Draft, from: u32, target: Option<u32>) -> bool
+    ensures { IsTrue result ↔ ReturnsBadly draft.now from target }
+{
+    let section = draft.section();
+    match target {
+        Some(to) => {
+            section.from <= to
+                && to < section.to
+                && to <= from
+                && !goes_back(draft.loops(), from, to)
+        }
+        None => false,
+    }
+}
+
+/// Whether the word at a place is reachable and leads back without a bound.
+fn is_unbounded(draft: &Draft, met: &[bool], place: usize) -> bool
+    requires met { IsMet draft.now met.now }
+    requires within { place < length draft.now.words }
+    ensures { IsTrue result ↔ UnboundedAt (graph draft.now) (address draft.now place) }
+{
+    if !met[place] {
+        return false;
+    }
+    let address = draft.address(place);
+    let edges = draft.edges(place);
+    returns_badly(draft, address, edges.next) || returns_badly(draft, address, edges.jump)
+}
+
+/// The lowest address of a reachable word that leads back without a bound.
+fn unbounded(draft: &Draft, met: &[bool]) -> Option<u32>
+    requires { IsMet draft.now met.now }
+    ensures { LowestOf (UnboundedAt (graph draft.now)) result }
+{
+    for place in 0..draft.len() {
+        if is_unbounded(draft, met, place) {
+            return Some(draft.address(place));
+        }
+    }
+    None
+}
+
+/// Refuses a section that has no bound: nesting first, then jumps, waits and ways back.
+pub fn check(draft: &Draft, met: &[bool]) -> Result<(), TreeNo>
+    requires { IsMet draft.now met.now }
+    ensures { MatchResult result (λ _. IsAllowed (graph draft.now)) (IsRefused (graph draft.now)) }
+{
+    if let Some(address) = nesting(draft, met) {
+        return Err(TreeNo::Nesting { address });
+    }
+    if let Some(address) = stopped(draft, met, Stop::Indirect) {
+        return Err(TreeNo::IndirectJump { address });
+    }
+    if let Some(address) = stopped(draft, met, Stop::Timed) {
+        return Err(TreeNo::TimedWait { address });
+    }
+    if let Some(address) = unbounded(draft, met) {
+        return Err(TreeNo::UnboundedBackEdge { address });
+    }
+    Ok(())
+}
