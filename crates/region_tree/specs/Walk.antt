@@ -15,7 +15,7 @@ pub record IsOwn (s : Positions) (p : ℕ) : Type 0 where
 
 -- After an issue at position p the thread's first turn that is at least `lag` cycles later comes d cycles later, at
 -- position q.
-pub record IsTurn (s : Positions) (lag p d q : ℕ) : Type 0 where
+pub record IsNextTurn (s : Positions) (lag p d q : ℕ) : Type 0 where
   pub start : IsOwn s p
   pub late : lag ≤ d
   pub lands : q ≡ (p + d) % length s.frame
@@ -39,7 +39,7 @@ pub record Step : Type 0 where
 
 pub record IsStep (x : Course) (t : Step) : Type 0 where
   pub edge : Contains (x.graph.edges t.from) (record { to = t.to; lag = t.lag })
-  pub turn : IsTurn x.positions t.lag t.at t.cost t.place
+  pub turn : IsNextTurn x.positions t.lag t.at t.cost t.place
 
 -- Steps inside the section, the newest first, each from where the one before it ended: from word u at position p to
 -- word v at position q.

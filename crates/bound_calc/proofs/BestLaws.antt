@@ -1,0 +1,79 @@
+-- Matrices of largest costs: one after the other, either, and powers.
+use Rattle.std.proofs.Common.{◌≡◌, ℕ, zero, suc, ◌+◌, ◌≤◌, refl, arith, inl, inr, subst, Some}
+use Rattle.bound_calc.specs.Best.{Among, Costs, Covers, Either, Entries, In, IsBest, Power, Stays, Then}
+
+-- sets that have the same elements
+abbrev pub Within : Costs → Costs → Type 0
+Within f g = (p c q : ℕ) → f p c q → g p c q
+
+pub best-same : {m : Entries} {f g : Costs} → Within f g → Within g f → IsBest m f → IsBest m g
+best-same fg gf b = ((λ p c q x. b.0 p c q (gf p c q x)), (λ p c q e. fg p c q (b.1 p c q e)))
+
+pub best-then : {a b c : Entries} {f g : Costs} → IsBest a f → IsBest b g → IsBest c (Then (In a) (In b)) → IsBest c (Then f g)
+best-then {a} {b} {c} {f} {g} x y z = (covers, among)
+  where
+    covers : Covers c (Then f g)
+    covers p n q t =
+        let one = x.0 p t.one t.at t.first in
+        let two = y.0 t.at t.two q t.second in
+        let sum = z.0 p (one.0 + two.0) q (record { at = t.at; one = one.0; two = two.0; first = one.1; second = two.1; cost = refl }) in
+        (sum.0, sum.1, omega (arith, one.2, two.2, sum.2, t.cost))
+
+    among : Among c (Then f g)
+    among p n q e =
+        let t = z.1 p n q e in
+        record { at = t.at; one = t.one; two = t.two; first = x.1 p t.one t.at t.first; second = y.1 t.at t.two q t.second; cost = t.cost }
+
+pub best-either : {a b c : Entries} {f g : Costs} → IsBest a f → IsBest b g → IsBest c (Either (In a) (In b)) → IsBest c (Either f g)
+best-either {a} {b} {c} {f} {g} x y z = (covers, among)
+  where
+    over : (p n q : ℕ) → (e : ℕ) → n ≤ e → (s : ℕ) × (c p q ≡ Some s) × (e ≤ s) → (s : ℕ) × (c p q ≡ Some s) × (n ≤ s)
+    over p n q e h s = (s.0, s.1, omega (arith, s.2))
+
+    covers : Covers c (Either f g)
+    covers p n q (inl t) = let one = x.0 p n q t in over p n q one.0 one.2 (z.0 p one.0 q (inl one.1))
+    covers p n q (inr t) = let two = y.0 p n q t in over p n q two.0 two.2 (z.0 p two.0 q (inr two.1))
+
+    among : Among c (Either f g)
+    among p n q e = elim (z.1 p n q e) [ inl t ↦ inl (x.1 p n q t) | inr t ↦ inr (y.1 p n q t) ]
+
+-- a set that ends at own positions
+abbrev pub Lands : (ℕ → Type 0) → Costs → Type 0
+Lands own f = (p c q : ℕ) → f p c q → own q
+
+pub either-lands : {own : ℕ → Type 0} {f : Costs} → Lands own f → Lands own (Either (Stays own) f)
+either-lands {own} l p c q (inl x) = subst own x.1 x.0
+either-lands l p c q (inr x) = l p c q x
+
+pub power-lands : {own : ℕ → Type 0} {f : Costs} (n : ℕ) → Lands own f → Lands own (Power own f n)
+power-lands {own} zero l p c q x = subst own x.1 x.0
+power-lands (suc n) l p c q x = l x.at x.two q x.second
+
+pub same : (f : Costs) {p c c' q q' : ℕ} → q ≡ q' → c ≡ c' → f p c q → f p c' q'
+same f {p} {c} {c'} {q} {q'} a b x = subst (λ c. f p c q') b (subst (λ q. f p c q) a x)
+
+-- a power of a sum is one power after the other
+pub power-join : (own : ℕ → Type 0) (f : Costs) (m n : ℕ) {p c q : ℕ} → Then (Power own f m) (Power own f n) p c q → Power own f (m + n) p c q
+power-join own f m zero {p} {c} {q} x = subst (λ k. Power own f k p c q) (let e : m ≡ m + 0 = omega arith in e) (same (Power own f m) x.second.1 (omega (arith, x.cost, x.second.2)) x.first)
+power-join own f m (suc n) {p} {c} {q} x = subst (λ k. Power own f k p c q) (let e : suc (m + n) ≡ m + suc n = omega arith in e)
+    (record { at = x.second.at; one = x.one + x.second.one; two = x.second.two; first = power-join own f m n (record { at = x.at; one = x.one; two = x.second.one; first = x.first; second = x.second.first; cost = refl }); second = x.second.second; cost = omega (arith, x.cost, x.second.cost) })
+
+pub power-cut : (own : ℕ → Type 0) (f : Costs) (m n : ℕ) {p c q : ℕ} → Lands own f → Power own f (m + n) p c q → Then (Power own f m) (Power own f n) p c q
+power-cut own f m zero {p} {c} {q} l x =
+    let e : m + 0 ≡ m = omega arith in let y = subst (λ k. Power own f k p c q) e x in
+    record { at = q; one = c; two = 0; first = y; second = (power-lands m l p c q y, refl, refl); cost = omega arith }
+power-cut own f m (suc n) {p} {c} {q} l x = go (λ y. power-cut own f m n l y.first) (subst (λ k. Power own f k p c q) (let e : m + suc n ≡ suc (m + n) = omega arith in e) x)
+  where
+    cut : (y : Then (Power own f (m + n)) f p c q) → Then (Power own f m) (Power own f n) p y.one y.at → Then (Power own f m) (Power own f (suc n)) p c q
+    cut y z = record { at = z.at; one = z.one; two = z.two + y.two; first = z.first; second = record { at = y.at; one = z.two; two = y.two; first = z.second; second = y.second; cost = refl }; cost = omega (arith, y.cost, z.cost) }
+
+    go : ((y : Then (Power own f (m + n)) f p c q) → Then (Power own f m) (Power own f n) p y.one y.at) → Then (Power own f (m + n)) f p c q → Then (Power own f m) (Power own f (suc n)) p c q
+    go before y = cut y (before y)
+
+-- a step that may stay: a lower power is within a higher one
+pub power-up : (own : ℕ → Type 0) (f : Costs) (m n p c q : ℕ) → Lands own f → Power own (Either (Stays own) f) m p c q → Power own (Either (Stays own) f) (m + n) p c q
+power-up own f m zero p c q l x = subst (λ k. Power own (Either (Stays own) f) k p c q) (let e : m ≡ m + 0 = omega arith in e) x
+power-up own f m (suc n) p c q l x =
+    let y = power-up own f m n p c q l x in
+    subst (λ k. Power own (Either (Stays own) f) k p c q) (let e : suc (m + n) ≡ m + suc n = omega arith in e)
+    (record { at = q; one = c; two = 0; first = y; second = inl (power-lands (m + n) (either-lands l) p c q y, refl, refl); cost = omega arith })

@@ -1,0 +1,110 @@
+-- From cells to the best of a set.
+use Rattle.std.proofs.Common.{◌≡◌, ℕ, zero, suc, ◌+◌, ◌<◌, ◌≤◌, ◌⊎◌, max, Option, Some, None, nat_lt, ◌&&◌, if◌then◌else◌, refl, inl, inr, ap, sym, ◌∙◌, arith, Bool, true, false}
+use Rattle.std.proofs.lemmas.Bool.Decides.{nat_tests}
+use Rattle.bound_calc.proofs.BestLaws.{same}
+use Rattle.bound_calc.specs.Best.{Among, Covers, Either, In, IsBest, Then}
+use Rattle.bound_calc.specs.Matrices.{IsJoin, IsProduct, cell, entry, larger_of, over, sum_of}
+use Rattle.bound_calc.specs.declared.matrix.Matrix.{Matrix}
+
+-- an entry is a cell in range
+pub entry-in : (m : Matrix) (p q : ℕ) → p < 8 → q < 8 → entry m p q ≡ cell m p q
+unfolding entry
+entry-in m p q a b = let x : nat_lt p 8 ≡ true = grind (arith, nat_tests) in let y : nat_lt q 8 ≡ true = grind (arith, nat_tests) in rw (x, y) refl
+
+pub entry-range : (m : Matrix) (p q c : ℕ) → entry m p q ≡ Some c → (p < 8) × (q < 8)
+unfolding entry
+entry-range m p q c e = go (nat_lt p 8) (nat_lt q 8) refl refl e
+  where
+    go : (a b : Bool) → nat_lt p 8 ≡ a → nat_lt q 8 ≡ b → (if a && b then cell m p q else None) ≡ Some c → (p < 8) × (q < 8)
+    go true true x y e = (grind (arith, nat_tests), grind (arith, nat_tests))
+    go true false x y e = cc
+    go false b x y e = cc
+
+-- the larger of two
+pub larger-left : (x y : Option ℕ) (c : ℕ) → x ≡ Some c → (e : ℕ) × (larger_of x y ≡ Some e) × (c ≤ e)
+unfolding larger_of
+larger-left None y c h = cc
+larger-left (Some x) None c h = (x, refl, (let e : x ≡ c = cc in omega arith))
+larger-left (Some x) (Some y) c h = (max x y, refl, (let e : x ≡ c = cc in omega arith))
+
+pub larger-right : (x y : Option ℕ) (c : ℕ) → y ≡ Some c → (e : ℕ) × (larger_of x y ≡ Some e) × (c ≤ e)
+unfolding larger_of
+larger-right None None c h = cc
+larger-right None (Some y) c h = (y, refl, (let e : y ≡ c = cc in omega arith))
+larger-right (Some x) None c h = cc
+larger-right (Some x) (Some y) c h = (max x y, refl, (let e : y ≡ c = cc in omega arith))
+
+pub larger-from : (x y : Option ℕ) (c : ℕ) → larger_of x y ≡ Some c → (x ≡ Some c) ⊎ (y ≡ Some c)
+unfolding larger_of
+larger-from None y c h = inr h
+larger-from (Some x) None c h = inl h
+larger-from (Some x) (Some y) c h = go (let z : (max x y ≡ x) ⊎ (max x y ≡ y) = grind arith in z)
+  where
+    go : (max x y ≡ x) ⊎ (max x y ≡ y) → (Some x ≡ Some c) ⊎ (Some y ≡ Some c)
+    go (inl a) = inl (ap Some (sym a) ∙ h)
+    go (inr b) = inr (ap Some (sym b) ∙ h)
+
+pub best-join : (a b m : Matrix) → IsJoin a b m → IsBest (entry m) (Either (In (entry a)) (In (entry b)))
+best-join a b m cells = (covers, among)
+  where
+    at : (p q : ℕ) → p < 8 → q < 8 → entry m p q ≡ larger_of (entry a p q) (entry b p q)
+    at p q h k = rw (entry-in m p q h k, entry-in a p q h k, entry-in b p q h k) (cells p q h k)
+
+    covers : Covers (entry m) (Either (In (entry a)) (In (entry b)))
+    covers p c q (inl e) = let r = entry-range a p q c e in rw (at p q r.0 r.1) (larger-left (entry a p q) (entry b p q) c e)
+    covers p c q (inr e) = let r = entry-range b p q c e in rw (at p q r.0 r.1) (larger-right (entry a p q) (entry b p q) c e)
+
+    among : Among (entry m) (Either (In (entry a)) (In (entry b)))
+    among p c q e = let r = entry-range m p q c e in larger-from (entry a p q) (entry b p q) c (sym (at p q r.0 r.1) ∙ e)
+
+-- the largest sum over the places between
+sum-from : (x y : Option ℕ) (c : ℕ) → sum_of x y ≡ Some c → (a : ℕ) × (b : ℕ) × (x ≡ Some a) × (y ≡ Some b) × (c ≡ a + b)
+unfolding sum_of
+sum-from None y c h = cc
+sum-from (Some x) None c h = cc
+sum-from (Some x) (Some y) c h = (x, y, refl, refl, (let e : x + y ≡ c = cc in sym e))
+
+sum-is : (x y : Option ℕ) (a b : ℕ) → x ≡ Some a → y ≡ Some b → sum_of x y ≡ Some (a + b)
+unfolding sum_of
+sum-is None y a b h k = cc
+sum-is (Some x) None a b h k = cc
+sum-is (Some x) (Some y) a b h k = (let e : x ≡ a = cc in let f : y ≡ b = cc in ap Some (ap (λ n. n + y) e ∙ ap (λ n. a + n) f))
+
+over-covers : (n : ℕ) (f g : ℕ → Option ℕ) (r c : ℕ) → r < n → sum_of (f r) (g r) ≡ Some c → (e : ℕ) × (over n f g ≡ Some e) × (c ≤ e)
+unfolding over
+over-covers zero f g r c h e = absurd (omega arith)
+over-covers (suc n) f g r c h e = go (over-covers n f g r c) (let x : (r ≡ n) ⊎ (r < n) = grind arith in x)
+  where
+    go : (r < n → sum_of (f r) (g r) ≡ Some c → (e : ℕ) × (over n f g ≡ Some e) × (c ≤ e)) → (r ≡ n) ⊎ (r < n) → (e : ℕ) × (larger_of (over n f g) (sum_of (f n) (g n)) ≡ Some e) × (c ≤ e)
+    go before (inl same) = larger-right (over n f g) (sum_of (f n) (g n)) c (ap (λ k. sum_of (f k) (g k)) (sym same) ∙ e)
+    go before (inr below) =
+        let x = before below e in
+        let y = larger-left (over n f g) (sum_of (f n) (g n)) x.0 x.1 in
+        (y.0, y.1, omega (arith, x.2, y.2))
+
+over-among : (n : ℕ) (f g : ℕ → Option ℕ) (c : ℕ) → over n f g ≡ Some c → (r : ℕ) × (r < n) × (sum_of (f r) (g r) ≡ Some c)
+unfolding over
+over-among zero f g c e = cc
+over-among (suc n) f g c e = go (over-among n f g c) (larger-from (over n f g) (sum_of (f n) (g n)) c e)
+  where
+    go : (over n f g ≡ Some c → (r : ℕ) × (r < n) × (sum_of (f r) (g r) ≡ Some c)) → (over n f g ≡ Some c) ⊎ (sum_of (f n) (g n) ≡ Some c) → (r : ℕ) × (r < suc n) × (sum_of (f r) (g r) ≡ Some c)
+    go before (inl x) = let y = before x in (y.0, omega (arith, y.1), y.2)
+    go before (inr x) = (n, omega arith, x)
+
+pub best-chain : (a b m : Matrix) → IsProduct a b m → IsBest (entry m) (Then (In (entry a)) (In (entry b)))
+best-chain a b m cells = (covers, among)
+  where
+    covers : Covers (entry m) (Then (In (entry a)) (In (entry b)))
+    covers p c q t =
+        let r = entry-range a p t.at t.one t.first in
+        let k = entry-range b t.at q t.two t.second in
+        let x = sum-is (cell a p t.at) (cell b t.at q) t.one t.two (sym (entry-in a p t.at r.0 r.1) ∙ t.first) (sym (entry-in b t.at q k.0 k.1) ∙ t.second) in
+        let y = over-covers 8 (λ r. cell a p r) (λ r. cell b r q) t.at (t.one + t.two) r.1 x in
+        (y.0, (entry-in m p q r.0 k.1 ∙ cells p q r.0 k.1) ∙ y.1, omega (arith, t.cost, y.2))
+
+    among : Among (entry m) (Then (In (entry a)) (In (entry b)))
+    among p c q e =
+        let r = entry-range m p q c e in
+        let y = over-among 8 (λ r. cell a p r) (λ r. cell b r q) c (sym (entry-in m p q r.0 r.1 ∙ cells p q r.0 r.1) ∙ e) in
+        let z = sum-from (cell a p y.0) (cell b y.0 q) c y.2 in
+        record { at = y.0; one = z.0; two = z.1; first = entry-in a p y.0 r.0 y.1 ∙ z.2; second = entry-in b y.0 q y.1 r.1 ∙ z.3; cost = z.4 }

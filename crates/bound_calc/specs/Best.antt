@@ -1,0 +1,45 @@
+-- Costs between positions: sets of (start, cost, end), and matrices that hold the best of a set.
+use Rattle.std.specs.Prelude.{◌≡◌, ℕ, zero, suc, ◌+◌, ◌≤◌, ◌⊎◌, Option, Some}
+
+-- a set of (position at the start, cost, position at the end)
+abbrev pub Costs : Type 1
+Costs = ℕ → ℕ → ℕ → Type 0
+
+-- nothing done
+abbrev pub Stays : (ℕ → Type 0) → Costs
+Stays own p c q = own p × (p ≡ q) × (c ≡ 0)
+
+abbrev pub Either : Costs → Costs → Costs
+Either f g p c q = f p c q ⊎ g p c q
+
+-- one of the first, and then one of the second
+pub record Then (f g : Costs) (p c q : ℕ) : Type 0 where
+  pub at : ℕ
+  pub one : ℕ
+  pub two : ℕ
+  pub first : f p one at
+  pub second : g at two q
+  pub cost : c ≡ one + two
+
+abbrev pub Power : (ℕ → Type 0) → Costs → ℕ → Costs
+Power own f zero = Stays own
+Power own f (suc n) = Then (Power own f n) f
+
+-- a matrix, none where there is no way
+abbrev pub Entries : Type 0
+Entries = ℕ → ℕ → Option ℕ
+
+abbrev pub In : Entries → Costs
+In m p c q = m p q ≡ Some c
+
+-- no cost of the set is above its entry
+abbrev pub Covers : Entries → Costs → Type 0
+Covers m f = (p c q : ℕ) → f p c q → (e : ℕ) × (m p q ≡ Some e) × (c ≤ e)
+
+-- each entry is a cost of the set
+abbrev pub Among : Entries → Costs → Type 0
+Among m f = (p c q : ℕ) → m p q ≡ Some c → f p c q
+
+-- each entry is the largest cost, and none where there is no cost
+abbrev pub IsBest : Entries → Costs → Type 0
+IsBest m f = Covers m f × Among m f

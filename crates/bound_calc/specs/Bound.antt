@@ -1,0 +1,18 @@
+-- The bound of a section.
+use Rattle.std.specs.Prelude.{ℕ, ◌≤◌}
+use Rattle.slot_table.specs.Frame.{frame}
+use Rattle.region_tree.specs.Tree.{Tree, graph}
+use Rattle.region_tree.specs.Walk.{CostsOf, Course, Positions}
+
+-- The largest cost of a walk that keeps the bounds: some walk costs it, and none costs more.
+pub record IsBound (x : Course) (b : ℕ) : Type 0 where
+  pub met : CostsOf x b
+  pub kept : (c : ℕ) → CostsOf x c → c ≤ b
+
+-- the positions of a thread in the frame of a word of the slots register
+abbrev pub positions : ℕ → ℕ → Positions
+positions slots thread = record { frame = frame slots; thread = thread }
+
+-- what walks through a tree's section go over, by the turns of a thread
+abbrev pub course : Tree → ℕ → ℕ → Course
+course t slots thread = record { graph = graph t; positions = positions slots thread }

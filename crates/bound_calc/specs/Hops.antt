@@ -1,0 +1,57 @@
+-- The steps from one turn of a thread to another, as a table.
+use Rattle.std.specs.Prelude.{◌≡◌, ℕ, ◌+◌, ◌<◌, ◌≤◌, ◌⊎◌, List, [], length, Option, Some, None, slice_index_or, slice_set}
+use Rattle.region_tree.specs.Walk.{Positions, IsOwn, IsNextTurn}
+use Rattle.bound_calc.specs.Best.{Costs, Stays, Then, In, IsBest}
+use Rattle.bound_calc.specs.Matrices.{entry, larger_of}
+use Rattle.bound_calc.specs.declared.matrix.Matrix.{Matrix}
+use Rattle.bound_calc.specs.declared.hop.Hop.{Hop}
+use Rattle.bound_calc.specs.declared.hop.HopRow.{HopRow}
+
+-- the steps of a table, by the position at the start
+abbrev pub Hops : List (Option Hop) → Costs
+Hops hops p d q = slice_index_or hops p None ≡ Some (record { cost = d; place = q })
+
+-- they are those to the next turn after a lag
+pub record IsHops (s : Positions) (lag : ℕ) (hops : List (Option Hop)) : Type 0 where
+  pub found : (p d q : ℕ) → Hops hops p d q → IsNextTurn s lag p d q
+  pub all : (p d q : ℕ) → IsNextTurn s lag p d q → Hops hops p d q
+
+-- a row of a matrix after one of its sums was made a step longer
+abbrev pub raised : Option ℕ → Option Hop → List (Option ℕ) → List (Option ℕ)
+raised None hop row = row
+raised (Some x) None row = row
+raised (Some x) (Some h) row = slice_set row h.place (larger_of (slice_index_or row h.place None) (Some (x + h.cost)))
+
+-- A row has taken in the sums of the first n positions of another, each a step longer.
+pub record IsAdvanced (row : List (Option ℕ)) (hops : List (Option Hop)) (n : ℕ) (old new : List (Option ℕ)) : Type 0 where
+  pub count : length new ≡ length old
+  pub kept : (q c : ℕ) → slice_index_or old q None ≡ Some c → (e : ℕ) × (slice_index_or new q None ≡ Some e) × (c ≤ e)
+  pub there : (r x d q : ℕ) → r < n → slice_index_or row r None ≡ Some x → Hops hops r d q → (e : ℕ) × (slice_index_or new q None ≡ Some e) × (x + d ≤ e)
+  pub from : (q e : ℕ) → slice_index_or new q None ≡ Some e → (slice_index_or old q None ≡ Some e) ⊎ ((r : ℕ) × (x : ℕ) × (d : ℕ) × (r < n) × (slice_index_or row r None ≡ Some x) × Hops hops r d q × (e ≡ x + d))
+
+-- the largest of these and of the sums of the first n positions of a row, each a step longer
+pub record IsFarthest (row : List (Option ℕ)) (hops : List (Option Hop)) (n old new : ℕ) : Type 0 where
+  pub stays : old ≤ new
+  pub upper : (r x d q : ℕ) → r < n → slice_index_or row r None ≡ Some x → Hops hops r d q → x + d ≤ new
+  pub met : (new ≡ old) ⊎ ((r : ℕ) × (x : ℕ) × (d : ℕ) × (q : ℕ) × (r < n) × (slice_index_or row r None ≡ Some x) × Hops hops r d q × (new ≡ x + d))
+
+-- the same over all rows of a matrix
+pub record IsLeft (here : Matrix) (hops : List (Option Hop)) (old new : ℕ) : Type 0 where
+  pub stays : old ≤ new
+  pub upper : (p c q : ℕ) → Then (In (entry here)) (Hops hops) p c q → c ≤ new
+  pub met : (new ≡ old) ⊎ ((p : ℕ) × (q : ℕ) × Then (In (entry here)) (Hops hops) p new q)
+
+-- the largest of an old number and a matrix's entries
+pub record IsLargest (m : Matrix) (old new : ℕ) : Type 0 where
+  pub stays : old ≤ new
+  pub upper : (p c q : ℕ) → entry m p q ≡ Some c → c ≤ new
+  pub met : (new ≡ old) ⊎ ((p : ℕ) × (q : ℕ) × (entry m p q ≡ Some new))
+
+abbrev pub no_hops : HopRow
+no_hops = record { hops = [] }
+
+-- The matrix of standing still at the thread's own positions, and the steps by lag.
+pub record IsTable (s : Positions) (still : Matrix) (rows : List HopRow) : Type 0 where
+  pub one : IsBest (entry still) (Stays (IsOwn s))
+  pub hops : (lag : ℕ) → lag ≤ 3 → IsHops s lag (slice_index_or rows lag no_hops).hops
+  pub frame : length s.frame ≤ 8

@@ -1,0 +1,10 @@
+pub mod Bound
+pub mod Best
+pub mod Context
+pub mod Section
+pub mod Ways
+pub mod Pass
+pub mod Limit
+pub mod Climb
+pub mod Matrices
+pub mod Hops

@@ -1,0 +1,39 @@
+-- A course as a net, and what is known of one whose tree was accepted.
+use Rattle.std.specs.Prelude.{◌≡◌, ℕ, ◌-◌, ◌<◌, ◌≤◌, ◌⊎◌, length, Contains}
+use Rattle.bound_calc.specs.Context.{Net, Part}
+use Rattle.fp_setup.specs.declared.loop_list.LoopSetup.{LoopSetup}
+use Rattle.region_tree.specs.Graph.{Edge, Graph, Holds, Inside, Lies, Reachable}
+use Rattle.region_tree.specs.Refusals.{depth}
+use Rattle.region_tree.specs.Walk.{Course, IsOwn, IsNextTurn}
+
+-- Loops are properly nested and entered at their heads alone, and every reachable edge down is to the head of a loop
+-- that holds its word.
+pub record IsAccepted (g : Graph) : Type 0 where
+  pub ordered : (j : LoopSetup) → Contains g.loops j → (g.from ≤ j.head) × (j.head ≤ j.last) × (j.last < g.to)
+  pub nested : (j i : LoopSetup) → Contains g.loops j → Contains g.loops i → j.head ≤ i.last → i.head ≤ j.last → (j ≡ i) ⊎ (Inside j i ⊎ Inside i j)
+  pub entered : (u : ℕ) (e : Edge) (j : LoopSetup) → Reachable g u → Contains (g.edges u) e → Contains g.loops j → Holds j e.to → (Holds j u) ⊎ (e.to ≡ j.head)
+  pub back : (u : ℕ) (e : Edge) → Reachable g u → Contains (g.edges u) e → Lies g e.to → e.to ≤ u → (j : LoopSetup) × Contains g.loops j × (e.to ≡ j.head) × Holds j u
+
+-- The frame has at most eight slots, lags are at most 3, bounds at most 2 ^ 20, and no loop lies in more than three
+-- others.
+pub record IsModest (x : Course) : Type 0 where
+  pub frame : length x.positions.frame ≤ 8
+  pub lags : (u : ℕ) (e : Edge) → Contains (x.graph.edges u) e → e.lag ≤ 3
+  pub bounds : (j : LoopSetup) → Contains x.graph.loops j → j.limit ≤ 1048576
+  pub depths : (j : LoopSetup) → Contains x.graph.loops j → depth x.graph.loops j ≤ 4
+  pub end : x.graph.to ≤ 65536
+  pub order : x.graph.from < x.graph.to
+
+-- an edge of a reachable word, taken by the turns
+pub record Arc (x : Course) (u p d v q : ℕ) : Type 0 where
+  pub lag : ℕ
+  pub edge : Contains (x.graph.edges u) (record { to = v; lag = lag })
+  pub move : IsNextTurn x.positions lag p d q
+  pub reached : Reachable x.graph u
+  pub lies : Lies x.graph v
+
+abbrev pub net : Course → Net
+net x = record { own = IsOwn x.positions; arc = Arc x; loop = Contains x.graph.loops }
+
+abbrev pub whole : Course → Part
+whole x = record { low = x.graph.from; high = x.graph.to - 1; loops = Contains x.graph.loops }
