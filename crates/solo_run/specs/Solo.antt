@@ -1,7 +1,5 @@
 -- The code's view and run as those of the definitions.
-use Rattle.std.specs.Prelude.{◌≡◌, ◌≤◌, ◌/◌, ◌==◌, ◌||◌, ℕ, Bool, List, [], take, length, IsTrue, Option, Some, None}
-use Rattle.rv_exec.specs.Line.{IsPrintable}
-use Rattle.rv_exec.specs.declared.outcome.Event.{Event}
+use Rattle.std.specs.Prelude.{◌≡◌, ◌≤◌, ◌/◌, ◌==◌, ◌||◌, ℕ, Bool, List, [], take, length, IsTrue}
 use Rattle.core_model.specs.Thread.{fresh}
 use Rattle.core_model.specs.View.{Setting, View}
 use Rattle.core_model.specs.Solo.{Alone}
@@ -50,7 +48,6 @@ setting_of r =
 abbrev pub alone_of : SoloRun → Alone
 alone_of r = record { thread = thread_of r.hart; words = r.d }
 
--- the event can be shown in a line
-abbrev pub IsEventShowable : Option Event → Type 0
-IsEventShowable (Some e) = IsPrintable e.effect
-IsEventShowable None = Unit {0}
+-- the view of a run at its start, with the words of its port
+abbrev pub view_of : SoloRun → List ℕ → View
+view_of r shown = record { setting = setting_of r; first = thread_of r.hart; d_words = r.d; shown = shown }
