@@ -133,22 +133,22 @@ act a pc t expired word x y =
     else if a.fetch pc then run a pc t word x y (ins word)
     else trapped pc t 0 1
 
--- the instruction executed at the hart's pc
-abbrev pub acts : Around → Contents → Thread → Did
-acts a m t =
-    let word = m.code t.pc in
+-- a word executed at the hart's pc, with the hart's own sources
+unfoldable pub acts_on : Around → ℕ → Thread → Did
+acts_on a word t =
     act a t.pc t.own (is_due t.own.timer.armed a.now) word (reg_in t.regs (source_1 (ins word))) (reg_in t.regs (source_2 (ins word)))
 
 -- the late value, by the registers and the words that the instruction finds
 abbrev pub value_in : Contents → List ℕ → Did → ℕ
 value_in m regs d = let i = ins d.word in late_value i (m.at d.address) d.address (reg_in regs (source_1 i)) (reg_in regs (source_2 i))
 
-abbrev pub effect_of : Contents → List ℕ → Did → Option Effect
+unfoldable pub effect_of : Contents → List ℕ → Did → Option Effect
 effect_of m regs d = filled (late_rd (ins d.word)) (value_in m regs d) d.effect
+
+-- what the hart is once the instruction is done
+abbrev pub done_by : ℕ → List ℕ → Did → Option Effect → Done
+done_by c regs d e = record { thread = record { pc = d.pc; ready = c + d.lag; own = d.own; regs = regs_after e regs }; word = d.word; effect = e }
 
 -- one whole instruction, in cycle c
 unfoldable pub issue : Around → Contents → ℕ → Thread → Done
-issue a m c t =
-    let d = acts a m t in
-    let e = effect_of m t.regs d in
-    record { thread = record { pc = d.pc; ready = c + d.lag; own = d.own; regs = regs_after e t.regs }; word = d.word; effect = e }
+issue a m c t = let d = acts_on a (m.code t.pc) t in done_by c t.regs d (effect_of m t.regs d)

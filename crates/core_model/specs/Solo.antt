@@ -3,7 +3,7 @@ use Rattle.std.specs.Prelude.{ℕ, zero, suc, ◌-◌, ◌%◌, nat_le, Bool, fa
 use Rattle.rv_exec.specs.declared.outcome.Effect.{Effect}
 use Rattle.rv_exec.specs.declared.outcome.Effect.TheVariants.{Store}
 use Rattle.rv_exec.specs.declared.outcome.Event.{Event}
-use Rattle.region_guard.specs.Regions.{is_mine, in_d}
+use Rattle.region_guard.specs.Regions.{Standing, is_mine, in_d}
 use Rattle.timer_unit.specs.Time.{time}
 use Rattle.core_model.specs.Thread.{Thread, Contents, Done}
 use Rattle.core_model.specs.Issue.{issue}
@@ -26,14 +26,20 @@ pub record Past : Type 0 where
   pub events : List (Option Event)
 
 -- the words that an instruction finds, with the word of the port
+abbrev pub contents_by : ℕ → List ℕ → List ℕ → ℕ → Contents
+contents_by size i_words d_words port = record { code = code_at size i_words; at = data_at size i_words d_words port }
+
 abbrev pub contents_alone : Setting → ℕ → List ℕ → Contents
-contents_alone s port words = record { code = code_at s.size s.i_words; at = data_at s.size s.i_words words port }
+contents_alone s port words = contents_by s.size s.i_words words port
 
 -- a store into a region of its own changes its words; every other one is an event alone
+abbrev pub own_by : ℕ → List Standing → Option Effect → List ℕ → List ℕ
+own_by size d_kinds (Some (Store address width value)) words =
+    if in_d size address && is_mine (kind_at size d_kinds address) then stored size words address width value else words
+own_by size d_kinds _ words = words
+
 abbrev pub own_after : Setting → Option Effect → List ℕ → List ℕ
-own_after s (Some (Store address width value)) words =
-    if in_d s.size address && is_mine (kind_at s.size s.d_kinds address) then stored s.size words address width value else words
-own_after s _ words = words
+own_after s effect words = own_by s.size s.d_kinds effect words
 
 -- the event of an issue in cycle c at a pc, if it has one
 abbrev pub own_event : Setting → ℕ → ℕ → ℕ → Option Effect → Option Event

@@ -1,2 +1,4 @@
 pub mod Causes
 pub mod Content
+pub mod Listed
+pub mod Memory

@@ -6,7 +6,11 @@
 #![tactic(auto)]
 
 mod files;
+mod memory_files;
+mod memory_sink;
 mod sink;
 
 pub use files::{FetchFault, Files};
+pub use memory_files::MemFiles;
+pub use memory_sink::MemSink;
 pub use sink::{PutFailed, Sink};

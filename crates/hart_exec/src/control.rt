@@ -154,6 +154,7 @@ pub fn access_csr(own: &mut Own, at: Place, thread: u8, rd: u8, csr: u16, wanted
     ensures did { did own.new result ≡ csr_access thread at.pc own.old at.word rd csr wanted.op wanted.operand wanted.writes shared }
     ensures showable { IsShowable result.effect }
     ensures store { IsAlignedStore result.effect }
+    ensures word { result.word ≡ at.word }
     ensures address { result.address ≡ 0 }
 {
     let Some(old) = value_of(own, thread, csr, shared) else {

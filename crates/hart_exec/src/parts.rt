@@ -25,6 +25,7 @@ pub fn trap(own: &mut Own, at: Place, cause: u8) -> Executed
     ensures did { did own.new result ≡ trapped at.pc own.old at.word cause }
     ensures showable { IsShowable result.effect }
     ensures store { IsAlignedStore result.effect }
+    ensures word { result.word ≡ at.word }
     ensures address { result.address ≡ 0 }
 {
     own.trap.mepc = at.pc;
@@ -51,6 +52,7 @@ pub fn branch_to(own: &Own, at: Place, taken: bool, target: u32) -> Executed
     ensures did { did own.now result ≡ branch at.pc own.now at.word taken target }
     ensures showable { IsShowable result.effect }
     ensures store { IsAlignedStore result.effect }
+    ensures word { result.word ≡ at.word }
     ensures address { result.address ≡ 0 }
 {
     if taken { go_to(at, target, Effect::Nothing) } else { go_on(at, 1, Effect::Nothing) }
@@ -61,6 +63,7 @@ pub fn load_from(own: &mut Own, at: Place, address: u32, allowed: bool) -> Execu
     ensures did { did own.new result ≡ load at.pc own.old at.word address allowed }
     ensures showable { IsShowable result.effect }
     ensures store { IsAlignedStore result.effect }
+    ensures word { result.word ≡ at.word }
     ensures address { result.address ≡ (if allowed then address else 0) }
 {
     if !allowed {
@@ -77,6 +80,7 @@ pub fn store_to(own: &mut Own, at: Place, address: u32, width: u8, value: u32, a
     ensures did { did own.new result ≡ store at.pc own.old at.word address width value allowed }
     ensures showable { IsShowable result.effect }
     ensures store { IsAlignedStore result.effect }
+    ensures word { result.word ≡ at.word }
     ensures address { result.address ≡ (if allowed then address else 0) }
 {
     if !allowed {
@@ -91,6 +95,7 @@ pub fn delay_until(own: &Own, at: Place, now: u64, until: u64) -> Executed
     ensures did { did own.now result ≡ delay now at.pc own.now at.word until }
     ensures showable { IsShowable result.effect }
     ensures store { IsAlignedStore result.effect }
+    ensures word { result.word ≡ at.word }
     ensures address { result.address ≡ 0 }
 {
     if until <= now {
@@ -105,6 +110,7 @@ pub fn wait_until(own: &mut Own, at: Place, now: u64, until: u64) -> Executed
     ensures did { did own.new result ≡ wait now at.pc own.old at.word until }
     ensures showable { IsShowable result.effect }
     ensures store { IsAlignedStore result.effect }
+    ensures word { result.word ≡ at.word }
     ensures address { result.address ≡ 0 }
 {
     if until <= now {

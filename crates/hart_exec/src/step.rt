@@ -62,6 +62,7 @@ fn go<S: Surroundings>(own: &mut Own, around: &S, at: Place, s: Sources, o: &Out
     ensures did { did own.new result ≡ goes (S.asks around.now) at.pc own.old at.word s.a s.b o.now i.now }
     ensures showable { IsShowable result.effect }
     ensures store { IsAlignedStore result.effect }
+    ensures word { result.word ≡ at.word }
     ensures address { IsAligned i.now result.address }
 {
     match *i {
@@ -111,6 +112,7 @@ fn run_at<S: Surroundings>(own: &mut Own, around: &S, at: Place, s: Sources, i: 
     ensures did { did own.new result ≡ run (S.asks around.now) at.pc own.old at.word s.a s.b i.now }
     ensures showable { IsShowable result.effect }
     ensures store { IsAlignedStore result.effect }
+    ensures word { result.word ≡ at.word }
     ensures address { IsAligned i.now result.address }
 {
     let o = execute(i, at.pc, s.a, s.b);
@@ -127,7 +129,7 @@ pub fn execute_in<S: Surroundings>(own: &mut Own, around: &S, at: Place, expired
     ensures did { did own.new result ≡ act (S.asks around.now) at.pc own.old expired at.word s.a s.b }
     ensures showable { IsShowable result.effect }
     ensures store { IsAlignedStore result.effect }
-    ensures address { IsAligned (ins at.word) result.address }
+    ensures address { IsAligned (ins result.word) result.address }
 {
     if expired {
         own.timer.armed = None;

@@ -1,1 +1,2 @@
+pub mod ModeWord
 pub mod Picking

@@ -1,16 +1,12 @@
 -- The thread that is picked in a cycle.
-use Rattle.std.specs.Prelude.{ℕ, ◌+◌, ◌/◌, ◌%◌, ◌^◌, ◌==◌, nat_le, Bool, ◌&&◌, ◌||◌, if◌then◌else◌, List, [], ◌∷◌, slice_index_or, map, find, Option, Some, None}
+use Rattle.std.specs.Prelude.{ℕ, ◌+◌, ◌<◌, ◌%◌, ◌==◌, nat_le, Bool, ◌&&◌, ◌||◌, if◌then◌else◌, List, [], ◌∷◌, slice_index_or, map, find, Option, Some, None}
 use Rattle.slot_table.specs.Frame.{turn}
 use Rattle.slot_table.specs.declared.frame.Turn.{Turn}
 use Rattle.slot_table.specs.declared.frame.Turn.TheVariants.{Thread, Soft, Nobody}
+use Rattle.slot_scheduler.specs.ModeWord.{mode_of}
 use Rattle.slot_scheduler.specs.declared.picking.Pick.{Pick}
 use Rattle.slot_scheduler.specs.declared.picking.Pick.TheVariants.{Issue, Bubble}
 use Rattle.slot_scheduler.specs.declared.picking.Sched.{Sched}
-
--- the mode of a thread: two bits of the modes register. 0 is hard active, 1 hard asleep, 2 soft
--- active, 3 soft asleep
-abbrev pub mode_of : ℕ → ℕ → ℕ
-mode_of modes thread = modes / 4 ^ thread % 4
 
 -- a thread is awake where it is active and the time has reached its sleep moment
 unfoldable pub is_awake : Sched → ℕ → ℕ → Bool
@@ -22,7 +18,7 @@ abbrev pub takes_donated : Sched → ℕ → ℕ → Bool
 takes_donated s now thread = mode_of s.modes thread == 2 && is_awake s now thread
 
 -- the threads in the order of the search: those after the last one, and that one at the end
-abbrev pub after_last : ℕ → List ℕ
+unfoldable pub after_last : ℕ → List ℕ
 after_last last = map (λ d. (last + d) % 8) (1 ∷ 2 ∷ 3 ∷ 4 ∷ 5 ∷ 6 ∷ 7 ∷ 8 ∷ [])
 
 -- who is picked, and the new place of the search
@@ -48,3 +44,8 @@ pick_in s now last (Thread thread) =
 -- the pick of a cycle, by slots, modes and sleep moments, the time, and the place of the search
 unfoldable pub pick : Sched → ℕ → ℕ → ℕ → Picked
 pick s cycle now last = pick_in s now last (turn s.slots cycle)
+
+-- a pick of a thread is that of one of the eight
+abbrev pub IsPick : Pick → Type 0
+IsPick (Issue thread) = thread < 8
+IsPick Bubble = Unit {0}

@@ -4,5 +4,5 @@
 mod mode_word;
 mod picking;
 
-pub use mode_word::Modes;
-pub use picking::{Pick, Sched};
+pub use mode_word::{BadMode, Modes};
+pub use picking::{Pick, Sched, Scheduler};

@@ -1,15 +1,20 @@
 //! The modes register as a type that holds only accepted words.
 
-ghost use Rattle.std.specs.Prelude.{◌≡◌};
+ghost use Rattle.std.specs.Prelude.{◌≡◌, ◌<◌};
+ghost use Rattle.slot_scheduler.specs.ModeWord.{mode_of, modes_of};
 
 use std::marker::Model;
 
-/// A word of the modes register: two bits for each thread. 0 is hard active, 1 hard asleep, 2 soft
-/// active, 3 soft asleep. The bits above 15 are 0.
-#[derive(Clone, Copy, Debug)]
+/// A word of the modes register: two bits for each thread, of which thread i has bits 2i and
+/// 2i + 1. 0 is hard active, 1 hard asleep, 2 soft active, 3 soft asleep. The bits above 15 are 0.
+#[derive(Clone, Copy, Debug, PartialEq, Eq)]
 pub struct Modes {
     word: u32,
 }
+
+/// A word with a bit above 15 set, which the modes register doesn't take.
+#[derive(Clone, Copy, Debug, PartialEq, Eq)]
+pub struct BadMode;
 
 impl Model for Modes {
     ghost use Rattle.std.specs.Prelude.{ℕ, ◌<◌};
@@ -24,10 +29,53 @@ impl Model for Modes {
 }
 
 impl Modes {
+    /// The modes of a word of the register.
+    ///
+    /// # Errors
+    ///
+    /// [`BadMode`] exactly where a bit above 15 is set.
+    pub fn from_word(word: u32) -> Result<Modes, BadMode>
+        ensures { result ≡ modes_of word }
+    {
+        if word < 0x1_0000 {
+            Ok(Modes { word })
+        } else {
+            Err(BadMode)
+        }
+    }
+
     /// The word of the register.
     pub fn word(&self) -> u32
-        ensures { result ≡ self.now }
+        ensures word { result ≡ self.now }
+        ensures accepted { result < 65536 }
     {
         self.word
+    }
+
+    /// The mode of a thread, which is 0 to 7.
+    #[tactic(auto, using(crate::proofs::Shift::shifted))]
+    pub fn mode(&self, thread: u8) -> u8
+        requires { thread < 8 }
+        ensures mode { result ≡ mode_of self.now thread }
+        ensures small { result < 4 }
+    {
+        ((self.word >> (2 * u32::from(thread))) % 4) as u8
+    }
+}
+
+#[cfg(test)]
+mod tests {
+    use super::{BadMode, Modes};
+    use std::test::Fail;
+
+    #[test]
+    fn modes_of_a_word(rt: HostRuntime) -> Result<(), Fail> {
+        let modes = Modes::from_word(0xffe4)?;
+        assert_eq!(rt; modes.word(), 0xffe4);
+        for (thread, mode) in [(0, 0), (1, 1), (2, 2), (3, 3), (7, 3)] {
+            assert_eq!(rt; modes.mode(thread), mode);
+        }
+        assert_eq!(rt; Modes::from_word(0x1_0000).err(), Some(BadMode));
+        Ok(())
     }
 }

@@ -1,10 +1,14 @@
 //! The pick of a cycle.
 
+ghost use Rattle.std.specs.Prelude.{◌≡◌, ◌<◌, IfSome, find};
+ghost use Rattle.slot_scheduler.specs.Picking.{IsPick, after_last, donated, is_awake, pick, takes_donated};
+
 use crate::mode_word::Modes;
-use slot_table::SlotTable;
+use slot_table::{SlotTable, Turn};
+use std::marker::Model;
 
 /// What picking goes by.
-#[derive(Clone, Copy, Debug)]
+#[derive(Clone, Copy, Debug, PartialEq, Eq)]
 pub struct Sched {
     pub slots: SlotTable,
     pub modes: Modes,
@@ -19,4 +23,147 @@ pub enum Pick {
     Issue { thread: u8 },
     /// Nobody.
     Bubble,
+}
+
+/// The place of the search for a soft thread: the one that such a search picked last, at first 7.
+#[derive(Clone, Copy, Debug, PartialEq, Eq)]
+pub struct Scheduler {
+    last: u8,
+}
+
+impl Model for Scheduler {
+    ghost use Rattle.std.specs.Prelude.{ℕ, ◌<◌};
+
+    ghost Value = { ℕ };
+
+    ghost view = { λ s. s.last };
+
+    ghost invariant = { λ s. s.last < 8 };
+
+    ghost inverse = { λ n. record { last = n } };
+}
+
+const HARD: u8 = 0;
+
+const SOFT: u8 = 2;
+
+impl Sched {
+    // Whether a thread is active and the time, in nanoseconds, has reached its sleep moment.
+    #[tactic(auto, unfolding(crate::specs::Picking::is_awake))]
+    fn is_awake(&self, thread: u8, now: u64) -> bool
+        requires { thread < 8 }
+        ensures { result ≡ is_awake self.now now thread }
+    {
+        let mode = self.modes.mode(thread);
+        (mode == HARD || mode == SOFT) && self.sleep[thread as usize] <= now
+    }
+
+    // Whether a thread is soft and awake.
+    fn takes_donated(&self, thread: u8, now: u64) -> bool
+        requires { thread < 8 }
+        ensures { result ≡ takes_donated self.now now thread }
+    {
+        self.modes.mode(thread) == SOFT && self.is_awake(thread, now)
+    }
+
+    // The first soft thread that is awake, of those after the last one and that one at the end.
+    fn next_soft(&self, now: u64, last: u8) -> Option<u8>
+        requires { last < 8 }
+        ensures first { result ≡ find (takes_donated self.now now) (after_last last) }
+        ensures thread { IfSome result (λ thread. thread < 8) }
+    {
+        for step in 1..9 {
+            let thread = (last + step) % 8;
+            if self.takes_donated(thread, now) {
+                return Some(thread);
+            }
+        }
+        None
+    }
+}
+
+impl Scheduler {
+    /// The place from which the first search starts with thread 0.
+    pub fn new() -> Scheduler
+        ensures { result ≡ 7 }
+    {
+        Scheduler { last: 7 }
+    }
+
+    /// The pick of a cycle, at a time in nanoseconds: the thread of the cycle's slot if it is
+    /// awake; else, if the frame isn't empty, the next soft thread that is awake, from which the
+    /// next search goes on.
+    #[tactic(auto, unfolding(crate::specs::Picking::pick))]
+    pub fn pick(&mut self, s: &Sched, cycle: u64, now: u64) -> Pick
+        ensures pick { result ≡ (pick s.now cycle now self.old).pick }
+        ensures place { self.new ≡ (pick s.now cycle now self.old).last }
+        ensures thread { IsPick result }
+    {
+        match s.slots.turn(cycle) {
+            Turn::Nobody => Pick::Bubble,
+            Turn::Thread(thread) if s.is_awake(thread, now) => Pick::Issue { thread },
+            _ => self.donate(s, now),
+        }
+    }
+
+    // The pick of a slot that a soft thread may take.
+    #[tactic(auto, unfolding(crate::specs::Picking::donated))]
+    fn donate(&mut self, s: &Sched, now: u64) -> Pick
+        ensures pick { result ≡ (donated s.now now self.old).pick }
+        ensures place { self.new ≡ (donated s.now now self.old).last }
+        ensures thread { IsPick result }
+    {
+        match s.next_soft(now, self.last) {
+            Some(thread) => {
+                self.last = thread;
+                Pick::Issue { thread }
+            }
+            None => Pick::Bubble,
+        }
+    }
+}
+
+#[cfg(test)]
+mod tests {
+    use super::{Pick, Sched, Scheduler};
+    use crate::mode_word::Modes;
+    use slot_table::SlotTable;
+    use std::test::Fail;
+
+    // Eight cycles of 10 nanoseconds, from the first one on. `b` is a bubble.
+    #[test]
+    fn picks_by_slots_modes_and_sleep(rt: HostRuntime) -> Result<(), Fail> {
+        for (slots, modes, sleep, picks) in [
+            (0xffff_fffe, 0xffeb, 0, b"12121212"),
+            (0xffff_ffe0, 0xfff8, 0, b"01010101"),
+            (0xffff_ffe0, 0xfff8, 60, b"11111101"),
+            (0xffff_ffe0, 0xfff8, 75, b"11111111"),
+            (0xffff_ffe0, 0xfffc, 60, b"bbbbbb0b"),
+            (0xffff_ffe1, 0xffeb, 0, b"11121112"),
+            (0xffff_ffff, 0xaaaa, 0, b"bbbbbbbb"),
+            (0xffff_fffe, 0xaaaa, 0, b"01234567"),
+            (0xffff_3210, 0x0000, 0, b"01230123"),
+        ] {
+            let mut s = Sched {
+                slots: SlotTable::from_word(slots)?,
+                modes: Modes::from_word(modes)?,
+                sleep: [0; 8],
+            };
+            s.sleep[0] = sleep;
+            let mut scheduler = Scheduler::new();
+            for (cycle, pick) in picks.iter().enumerate() {
+                let now = cycle as u64 * 10;
+                let shown = match scheduler.pick(&s, cycle as u64, now) {
+                    Pick::Issue { thread } => b'0' + thread,
+                    Pick::Bubble => b'b',
+                };
+                assert_eq!(rt;
+                    shown,
+                    *pick,
+                    "slots {slots:x}, modes {modes:x}, cycle {cycle}"
+                );
+            }
+        }
+        Ok(())
+    }
 }

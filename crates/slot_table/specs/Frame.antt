@@ -1,5 +1,5 @@
 -- The slots register: eight slots, of which those that aren't disabled take turns.
-use Rattle.std.specs.Prelude.{ℕ, ◌%◌, ◌==◌, nat_lt, Bool, not, ◌||◌, if◌then◌else◌, List, [], ◌∷◌, slice_index_or, filter, length}
+use Rattle.std.specs.Prelude.{ℕ, ◌<◌, ◌%◌, ◌==◌, nat_lt, Bool, not, ◌||◌, if◌then◌else◌, List, [], ◌∷◌, slice_index_or, filter, length}
 use Rattle.nibble_word.specs.Nibbles.{nibbles}
 use Rattle.slot_table.specs.declared.frame.Turn.{Turn}
 use Rattle.slot_table.specs.declared.frame.Turn.TheVariants.{Thread, Soft, Nobody}
@@ -28,3 +28,9 @@ turn_in (slot ∷ slots) c = turn_of_slot (slice_index_or (slot ∷ slots) (c % 
 -- whose turn cycle c is, by the word of the register
 unfoldable pub turn : ℕ → ℕ → Turn
 turn slots c = turn_in (frame slots) c
+
+-- a turn of a thread is that of one of the eight
+abbrev pub IsTurn : Turn → Type 0
+IsTurn (Thread thread) = thread < 8
+IsTurn Soft = Unit {0}
+IsTurn Nobody = Unit {0}

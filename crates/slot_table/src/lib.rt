@@ -4,5 +4,5 @@
 mod frame;
 mod table;
 
-pub use frame::Turn;
+pub use frame::{BadSlot, Turn};
 pub use table::SlotTable;

@@ -1,31 +1,110 @@
 //! The slots register as a type that holds only accepted words.
 
-ghost use Rattle.std.specs.Prelude.{◌≡◌};
+ghost use Rattle.std.specs.Prelude.{◌≡◌, IsTrue, is_ok, length};
+ghost use Rattle.slot_table.specs.Frame.{IsTurn, frame, turn};
+ghost use Rattle.slot_table.specs.Table.{is_table, table_of};
 
+use crate::frame::{BadSlot, Frame, Turn, bad_slot};
+use nibble_word::nibbles_of;
 use std::marker::Model;
 
 /// A word of the slots register: a nibble for each of eight slots, which names a thread (0 to 7),
 /// the soft threads (14) or nobody (15, disabled).
-#[derive(Clone, Copy, Debug)]
+#[derive(Clone, Copy, Debug, PartialEq, Eq)]
 pub struct SlotTable {
     word: u32,
+    layout: Frame,
 }
 
 impl Model for SlotTable {
-    ghost use Rattle.std.specs.Prelude.{ℕ};
+    ghost use Rattle.std.specs.Prelude.{◌≡◌, ℕ, true};
+    ghost use Rattle.slot_table.specs.Frame.{frame};
+    ghost use Rattle.slot_table.specs.Table.{is_table, laid_out};
 
     ghost Value = { ℕ };
 
     ghost view = { λ t. t.word };
 
-    ghost inverse = { λ w. record { word = w } };
+    ghost invariant = { λ t. (is_table t.word ≡ true) × (t.layout ≡ laid_out (frame t.word)) };
+
+    ghost inverse = { λ w. record { word = w; layout = laid_out (frame w) } };
 }
 
 impl SlotTable {
+    /// The table of a word of the register.
+    ///
+    /// # Errors
+    ///
+    /// [`BadSlot`] exactly where a nibble is 8 to 13.
+    #[tactic(auto, unfolding(crate::specs::Table::table_of, crate::specs::Frame::frame))]
+    pub fn from_word(word: u32) -> Result<SlotTable, BadSlot>
+        ensures table { result ≡ table_of word }
+        ensures accepts { is_ok result ≡ is_table word }
+    {
+        let slots = nibbles_of(word);
+        match bad_slot(&slots) {
+            Some(index) => Err(BadSlot { index: index as u8 }),
+            None => Ok(SlotTable {
+                word,
+                layout: Frame::of_slots(&slots),
+            }),
+        }
+    }
+
     /// The word of the register.
     pub fn word(&self) -> u32
-        ensures { result ≡ self.now }
+        ensures word { result ≡ self.now }
+        ensures accepted { IsTrue (is_table result) }
     {
         self.word
+    }
+
+    /// How many slots share the cycles: those that aren't disabled.
+    pub fn frame_len(&self) -> u8
+        ensures { result ≡ length (frame self.now) }
+    {
+        self.layout.len
+    }
+
+    /// Whose turn a cycle is: that of the frame's entry which has the cycle's number modulo the
+    /// frame's length, and nobody's exactly where the frame is empty.
+    pub fn turn(&self, cycle: u64) -> Turn
+        ensures turn { result ≡ turn self.now cycle }
+        ensures thread { IsTurn result }
+    {
+        self.layout.turns[self.layout.place(cycle) as usize]
+    }
+}
+
+#[cfg(test)]
+mod tests {
+    use super::SlotTable;
+    use crate::frame::{BadSlot, Turn};
+    use std::test::Fail;
+
+    #[test]
+    fn cycles_go_round_the_frame(rt: HostRuntime) -> Result<(), Fail> {
+        for (word, len, cycle, turn) in [
+            (0xffff_fff0, 1, 5, Turn::Thread(0)),
+            (0xffff_3210, 4, 6, Turn::Thread(2)),
+            (0xfffe_e0e0, 5, 4, Turn::Soft),
+            (0xfffe_e0e0, 5, 7, Turn::Thread(0)),
+            (0xf2f1_f0ff, 3, 5, Turn::Thread(2)),
+            (0x7654_3210, 8, 4_000_000_007, Turn::Thread(7)),
+            (0xffff_ffff, 0, 9, Turn::Nobody),
+        ] {
+            let table = SlotTable::from_word(word)?;
+            assert_eq!(rt; table.word(), word);
+            assert_eq!(rt; table.frame_len(), len, "at {word:x}");
+            assert_eq!(rt; table.turn(cycle), turn, "at {word:x}");
+        }
+        Ok(())
+    }
+
+    #[test]
+    fn the_lowest_bad_slot_is_named(rt: HostRuntime) {
+        for (word, index) in [(0xffff_fff8, 0), (0xdfff_f9f0, 2), (0x8fff_ffff, 7)] {
+            assert_eq!(rt; SlotTable::from_word(word).err(), Some(BadSlot { index }));
+        }
     }
 }

@@ -1,2 +1,4 @@
 pub mod Registers
 pub mod View
+pub mod Hart
+pub mod Solo

@@ -2,6 +2,8 @@
 //! machine can have a part in what it answers.
 #![tactic(auto)]
 
+mod hart;
+mod memory;
 mod registers;
 mod rights;
 mod shown;

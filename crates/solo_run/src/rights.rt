@@ -1,6 +1,6 @@
 //! What the hart's instructions may do.
 
-ghost use Rattle.std.specs.Prelude.{◌≡◌, ◌<◌, ◌==◌, ◌||◌, IsTrue, slice_index_or};
+ghost use Rattle.std.specs.Prelude.{◌≡◌, ◌<◌, ◌/◌, ◌==◌, ◌||◌, IsTrue};
 ghost use Rattle.region_guard.specs.Regions.{region_of, index_of, in_i, in_d, is_mine};
 
 use hart_exec::Surroundings;
@@ -14,7 +14,7 @@ pub struct Rights {
     pub size: u32,
     pub i_kind: [Kind; 8],
     pub d_kind: [Kind; 8],
-    pub now: u64,
+    pub time: u64,
     ghost size_is: { IsTrue (size == 16384 || size == 65536) },
 }
 
@@ -73,7 +73,7 @@ impl Surroundings for Rights {
     ghost use Rattle.core_model.specs.View.{around_by};
     ghost use Rattle.solo_run.specs.View.{kinds_of};
 
-    ghost asks = { λ r. around_by r.thread r.size (kinds_of r.i_kind) (kinds_of r.d_kind) r.now };
+    ghost asks = { λ r. around_by r.thread r.size (kinds_of r.i_kind) (kinds_of r.d_kind) r.time };
 
     #[tactic(auto, unfolding(core_model::specs::View::around_by))]
     fn thread(&self) -> u8 {
@@ -82,7 +82,7 @@ impl Surroundings for Rights {
 
     #[tactic(auto, unfolding(core_model::specs::View::around_by))]
     fn now(&self) -> u64 {
-        self.now
+        self.time
     }
 
     #[tactic(auto, unfolding(core_model::specs::View::around_by))]

@@ -1,0 +1,2 @@
+pub mod ListedCalls
+pub mod NamedBytes

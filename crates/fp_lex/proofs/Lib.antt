@@ -1,0 +1,4 @@
+pub mod Runs
+pub mod Along
+pub mod Found
+pub mod Laws

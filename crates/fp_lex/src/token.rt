@@ -1,0 +1,96 @@
+//! Tokens, and why a line has none.
+ghost use Rattle.std.specs.Prelude.{◌≡◌};
+
+use std::alloc::AllocFailed;
+use std::error::Error;
+use std::fmt;
+use std::marker::Model;
+
+/// What a token is.
+#[derive(Clone, Copy, Debug, PartialEq, Eq)]
+pub enum Kind {
+    /// A letter, `_` or `.`, and then letters, digits, `_` and `.`.
+    Name,
+    /// Decimal digits, or `0x` and hexadecimal digits of either case.
+    Number,
+    /// One of `,` `:` `(` `)` `+` `-`.
+    Mark,
+}
+
+/// A token, whose text is the slice of its line from `start` to before `end`, in bytes.
+#[derive(Clone, Copy, Debug, PartialEq, Eq)]
+pub struct Token {
+    pub kind: Kind,
+    pub start: u32,
+    pub end: u32,
+    /// A number's value, a mark's byte, and 0 for a name.
+    pub value: u32,
+}
+
+/// Why a line was refused. A column is the index of a byte in the line, from 0.
+#[derive(Clone, Copy, Debug, PartialEq, Eq)]
+pub enum LexNo {
+    /// A byte that stands outside comments and begins no token.
+    BadChar { column: u32 },
+    /// A number that begins at the column and passes 2^32 - 1, has no digit after `0x`, or has a
+    /// letter, `_` or `.` directly after it.
+    BadNumber { column: u32 },
+    /// More than 64 tokens.
+    TooMany,
+    /// Memory was refused.
+    NoMemory,
+}
+
+impl fmt::Display for LexNo {
+    fn fmt<W: fmt::Write>(&self, f: &mut fmt::Formatter<W>) -> fmt::Result {
+        match self {
+            LexNo::BadChar { column } => write!(f, "byte {column} begins no token"),
+            LexNo::BadNumber { column } => write!(f, "byte {column} begins a bad number"),
+            LexNo::TooMany => write!(f, "more than 64 tokens"),
+            LexNo::NoMemory => write!(f, "out of memory"),
+        }
+    }
+}
+
+impl Error for LexNo {}
+
+impl From<AllocFailed<Token>> for LexNo {
+    ghost use Rattle.fp_lex.specs.declared.token.LexNo.{LexNo};
+
+    ghost from_gives = { λ _ refused. refused ≡ LexNo.NoMemory };
+
+    fn from(_failed: AllocFailed<Token>) -> LexNo {
+        LexNo::NoMemory
+    }
+}
+
+/// The tokens of a line, from left to right.
+#[derive(Drop)]
+pub struct Tokens {
+    list: Vec<Token>,
+}
+
+impl Model for Tokens {
+    ghost use Rattle.std.specs.Prelude.{List};
+    ghost use Rattle.fp_lex.specs.declared.token.Token.{Token};
+
+    ghost Value = { List Token };
+
+    ghost view = { λ tokens. tokens.list.items };
+}
+
+impl Tokens {
+    /// The tokens of a list.
+    pub(crate) fn new(list: Vec<Token>) -> Tokens
+        ensures { result ≡ list.items }
+    {
+        Tokens { list }
+    }
+
+    /// The tokens as a slice.
+    pub fn as_slice(&self) -> &[Token]
+        ensures { result.now ≡ self.now }
+    {
+        self.list.as_slice()
+    }
+}

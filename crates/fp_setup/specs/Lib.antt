@@ -1,0 +1,14 @@
+pub mod Inputs
+pub mod Loops
+pub mod Threads
+pub mod Settings
+pub mod Rules
+pub mod Faults
+pub mod Vocabulary
+pub mod Keys
+pub mod Values
+pub mod Checks
+pub mod Tables
+pub mod Meaning
+pub mod Setup
+pub mod Reading

@@ -1,0 +1,14 @@
+-- The rules of loops, for scratchpads of any size.
+use Rattle.std.specs.Prelude.{◌≡◌, ◌%◌, ◌≤◌, List, length}
+use Rattle.std.specs.List.{All}
+use Rattle.fp_setup.specs.declared.loop_list.LoopSetup.{LoopSetup}
+
+pub record IsLoop (l : LoopSetup) : Type 0 where
+  pub head_aligned : l.head % 4 ≡ 0
+  pub last_aligned : l.last % 4 ≡ 0
+  pub ordered : l.head ≤ l.last
+  pub limited : l.limit ≤ 1048576
+
+pub record AreLoops (loops : List LoopSetup) : Type 0 where
+  pub few : length loops ≤ 256
+  pub each : All IsLoop loops

@@ -1,0 +1,24 @@
+-- A setup as plain values.
+use Rattle.std.specs.Prelude.{ℕ, List, if◌then◌else◌, ◌==◌}
+use Rattle.fp_setup.specs.declared.thread_list.ThreadSetup.{ThreadSetup}
+use Rattle.fp_setup.specs.declared.loop_list.LoopSetup.{LoopSetup}
+
+-- what a setup says
+pub record Settings : Type 0 where
+  pub version : ℕ
+  -- nanoseconds of a cycle
+  pub period : ℕ
+  -- the words of the registers of slots, modes and regions
+  pub slots : ℕ
+  pub modes : ℕ
+  pub iregions : ℕ
+  pub dregions : ℕ
+  -- the bytes of the image file's name
+  pub image : List ℕ
+  -- the eight threads, and the loops
+  pub threads : List ThreadSetup
+  pub loops : List LoopSetup
+
+-- the bytes of each scratchpad, by the version
+abbrev pub size_of : ℕ → ℕ
+size_of version = if version == 2 then 65536 else 16384

@@ -1,0 +1,39 @@
+-- The setup that the bytes of a file mean, or its first fault.
+use Rattle.std.specs.Prelude.{◌≡◌, ℕ, List, length, nat_lt, Option, Some, None, Result, Ok, Err, if◌then◌else◌}
+use Rattle.std.specs.Str.{is_utf8}
+use Rattle.toml.specs.Data.{Members}
+use Rattle.toml.specs.Parse.{parse_document}
+use Rattle.fp_setup.specs.declared.refusal.Fault.{Fault}
+use Rattle.fp_setup.specs.declared.refusal.SetupNo.TheVariants as no
+use Rattle.fp_setup.specs.declared.refusal.SetupRefused.{SetupRefused}
+use Rattle.fp_setup.specs.declared.refusal.SetupRefused.TheVariants as refused
+use Rattle.fp_setup.specs.Settings.{Settings, size_of}
+use Rattle.fp_setup.specs.Faults.{at_place, no_place}
+use Rattle.fp_setup.specs.Tables.{top_fault}
+use Rattle.fp_setup.specs.Meaning.{settings, version_at}
+
+-- the fault where there is one, else the value
+abbrev pub unless : {A : Type 0} → Option Fault → A → Result A Fault
+unless None value = Ok value
+unless (Some found) value = Err found
+
+-- the table that the text is, where it is one: the text is UTF-8
+abbrev pub document : List ℕ → Option Members
+document bytes = if is_utf8 bytes then parse_document bytes else None
+
+-- the setup of a table, or its first fault
+unfoldable pub setup_of : Members → Result Settings Fault
+setup_of ms = unless (top_fault (size_of (version_at ms)) ms) (settings ms)
+
+abbrev pub setup_in : Option Members → Result Settings Fault
+setup_in None = Err (at_place no.Toml no_place)
+setup_in (Some ms) = setup_of ms
+
+-- the setup that the bytes mean, or its first fault
+unfoldable pub setup : List ℕ → Result Settings Fault
+setup bytes = if nat_lt 262144 (length bytes) then Err (at_place no.TooLong no_place) else setup_in (document bytes)
+
+-- a refusal for another cause than memory is that fault
+abbrev pub IsFaultOf : {A : Type 0} → Result A Fault → SetupRefused → Type 0
+IsFaultOf defined (refused.Fault code place) = defined ≡ Err (at_place code place)
+IsFaultOf defined refused.NoMemory = Unit {0}

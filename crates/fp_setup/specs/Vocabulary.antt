@@ -1,0 +1,43 @@
+-- The texts that stand for slots, owners of regions and modes, with their numbers.
+use Rattle.std.specs.Prelude.{ℕ, Bool, nat_lt, List, [], ◌∷◌, ◌++◌, Option, Some, None, if◌then◌else◌, codes}
+use Rattle.std.specs.Str.{bytes_eq}
+use Rattle.slot_table.specs.Frame.{is_slot}
+use Rattle.region_guard.specs.Regions.{is_owner}
+use Rattle.fp_setup.specs.declared.vocabulary.Words.{Words}
+use Rattle.fp_setup.specs.declared.vocabulary.Words.TheVariants.{Slots, Owners, Modes}
+use Rattle.fp_setup.specs.declared.refusal.SetupNo.{SetupNo}
+use Rattle.fp_setup.specs.declared.refusal.SetupNo.TheVariants as no
+
+abbrev pub Text : Type 0
+Text = List ℕ
+
+abbrev pub threads : List (Text × ℕ)
+threads =
+    (codes "T0", 0) ∷ (codes "T1", 1) ∷ (codes "T2", 2) ∷ (codes "T3", 3)
+    ∷ (codes "T4", 4) ∷ (codes "T5", 5) ∷ (codes "T6", 6) ∷ (codes "T7", 7) ∷ []
+
+-- a slot is a thread's, the soft threads', or disabled; a region is a thread's, shared or read only
+abbrev pub entries : Words → List (Text × ℕ)
+entries Slots = threads ++ (codes "S", 14) ∷ (codes "D", 15) ∷ []
+entries Owners = threads ++ (codes "shared", 8) ∷ (codes "readonly", 12) ∷ []
+entries Modes = (codes "hard", 0) ∷ (codes "hard-asleep", 1) ∷ (codes "soft", 2) ∷ (codes "soft-asleep", 3) ∷ []
+
+-- the refusal of a text that isn't among them
+abbrev pub refusal : Words → SetupNo
+refusal Slots = no.BadSlot
+refusal Owners = no.BadRegion
+refusal Modes = no.BadMode
+
+-- the number of a text in a list, none where it isn't there
+abbrev pub number_in : List (Text × ℕ) → Text → Option ℕ
+number_in [] text = None
+number_in (e ∷ es) text = if bytes_eq text e.0 then Some e.1 else number_in es text
+
+unfoldable pub number_of : Words → Text → Option ℕ
+number_of words text = number_in (entries words) text
+
+-- what the texts of a list stand for
+abbrev pub is_value : Words → ℕ → Bool
+is_value Slots n = is_slot n
+is_value Owners n = is_owner n
+is_value Modes n = nat_lt n 4

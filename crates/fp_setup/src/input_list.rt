@@ -1,0 +1,44 @@
+//! What is fed to a thread's port.
+
+ghost use Rattle.std.specs.Prelude.{◌≡◌};
+
+use std::marker::Model;
+
+/// A word that is fed to a thread's port.
+#[derive(Clone, Copy, Debug, PartialEq, Eq)]
+pub struct Input {
+    /// The cycle from which the port shows the word.
+    pub at: u64,
+    pub word: u32,
+}
+
+/// The words that are fed to a thread's port: at most 4,096, their cycles strictly rising and at
+/// most 4,000,000,000. Contracts see the list.
+#[derive(Debug, Drop)]
+pub struct Inputs {
+    items: Vec<Input>,
+}
+
+impl Model for Inputs {
+    ghost use Rattle.std.specs.Prelude.{List};
+    ghost use Rattle.fp_setup.specs.declared.input_list.Input.{Input};
+    ghost use Rattle.fp_setup.specs.Inputs.{AreInputs};
+
+    ghost Value = { List Input };
+
+    ghost view = { λ i. i.items.items };
+
+    ghost invariant = { λ i. AreInputs i.items.items };
+}
+
+impl Inputs {
+    ghost use Rattle.fp_setup.specs.Inputs.{AreInputs};
+
+    /// The words, in the order of their cycles.
+    pub fn as_slice(&self) -> &[Input]
+        ensures value { result.now ≡ self.now }
+        ensures rules { AreInputs result.now }
+    {
+        self.items.as_slice()
+    }
+}

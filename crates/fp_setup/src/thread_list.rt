@@ -1,0 +1,55 @@
+//! The eight threads of a setup.
+
+ghost use Rattle.std.specs.Prelude.{◌≡◌, ◌<◌, Some, slice_get, length};
+
+use crate::input_list::Inputs;
+use std::marker::Model;
+
+/// What a setup says of a thread. Its mode stands in the setup's word of modes.
+#[derive(Debug, Drop)]
+pub struct ThreadSetup {
+    /// The address of the first instruction, a multiple of 4.
+    pub entry: u32,
+    /// Whether the thread may load and fetch in its own and in read only regions alone.
+    pub confined: bool,
+    /// Whether the thread may read and write the registers of scheduling and regions. A confined
+    /// thread may not.
+    pub permit: bool,
+    /// The cycle at which the thread's port is taken away, if it is.
+    pub unplug: Option<u64>,
+    /// What is fed to the thread's port.
+    pub inputs: Inputs,
+}
+
+/// The threads of a setup, eight of them. Contracts see the list.
+#[derive(Debug, Drop)]
+pub struct Threads {
+    items: [ThreadSetup; 8],
+}
+
+impl Model for Threads {
+    ghost use Rattle.std.specs.Prelude.{List, ◌≡◌, length};
+    ghost use Rattle.std.specs.List.{All};
+    ghost use Rattle.fp_setup.specs.declared.thread_list.ThreadSetup.{ThreadSetup};
+    ghost use Rattle.fp_setup.specs.Threads.{AreThreads};
+
+    ghost Value = { List ThreadSetup };
+
+    ghost view = { λ t. t.items };
+
+    ghost invariant = { λ t. AreThreads t.items };
+}
+
+impl Threads {
+    ghost use Rattle.fp_setup.specs.Threads.{IsThread};
+
+    /// The thread of a number below 8.
+    pub fn get(&self, thread: u8) -> &ThreadSetup
+        requires { thread < 8 }
+        ensures value { slice_get self.now thread ≡ Some result.now }
+        ensures rules { IsThread result.now }
+        ensures eight { length self.now ≡ 8 }
+    {
+        &self.items[thread as usize]
+    }
+}

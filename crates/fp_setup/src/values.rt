@@ -1,0 +1,68 @@
+//! One value of a document, checked at its place.
+
+ghost use Rattle.std.specs.Prelude.{◌≡◌, ◌<◌, IfOk, true, map, option_map};
+ghost use Rattle.toml.specs.Data.{as_integer, as_str, as_bool};
+ghost use Rattle.toml.specs.View.{view};
+ghost use Rattle.fp_setup.specs.Checks.{integer_fault, word_fault, truth_fault, is_in};
+ghost use Rattle.fp_setup.specs.Values.{as_list, number, text, truth};
+ghost use Rattle.fp_setup.specs.Meaning.{named};
+ghost use Rattle.fp_setup.specs.Vocabulary.{is_value};
+ghost use Rattle.fp_setup.specs.Reading.{IsRead};
+
+use crate::bounds::Range;
+use crate::refusal::{Fault, Place, SetupNo};
+use crate::vocabulary::Words;
+use toml::Value;
+
+/// The elements of a list.
+#[tactic(auto, using(crate::proofs::Lists::values_of), unfolding(crate::specs::Values::as_list))]
+pub(crate) fn list(value: &Value) -> Option<&[Value]>
+    ensures { option_map (λ items. map view items.now) result ≡ as_list (view value.now) }
+{
+    match value.as_array() {
+        Some(items) => Some(items.as_slice()),
+        None => None,
+    }
+}
+
+/// An integer of a range.
+#[tactic(auto, unfolding(crate::specs::Checks::integer_fault))]
+pub(crate) fn integer(value: &Value, range: Range, place: Place) -> Result<u32, Fault>
+    requires { 0 < range.step }
+    ensures read { IsRead result (integer_fault range place (as_integer (view value.now))) (number (view value.now)) }
+    ensures within { IfOk result (λ n. is_in range n ≡ true) }
+{
+    let Some(n) = value.as_integer() else {
+        return Err(Fault::new(SetupNo::WrongType, place));
+    };
+    match u32::try_from(n) {
+        Ok(n) if range.contains(n) => Ok(n),
+        _ => Err(Fault::new(SetupNo::OutOfRange, place)),
+    }
+}
+
+/// The number of a text of a list.
+#[tactic(auto, unfolding(crate::specs::Checks::word_fault, crate::specs::Meaning::named))]
+pub(crate) fn word(value: &Value, words: Words, place: Place) -> Result<u8, Fault>
+    ensures read { IsRead result (word_fault words place (as_str (view value.now))) (named words (text (view value.now))) }
+    ensures value { IfOk result (λ n. is_value words n ≡ true) }
+{
+    let Some(text) = value.as_str() else {
+        return Err(Fault::new(SetupNo::WrongType, place));
+    };
+    match words.number(text) {
+        Some(n) => Ok(n),
+        None => Err(Fault::new(words.refusal(), place)),
+    }
+}
+
+/// A truth value.
+#[tactic(auto, unfolding(crate::specs::Checks::truth_fault))]
+pub(crate) fn truth_value(value: &Value, place: Place) -> Result<bool, Fault>
+    ensures { IsRead result (truth_fault place (as_bool (view value.now))) (truth (view value.now)) }
+{
+    match value.as_bool() {
+        Some(flag) => Ok(flag),
+        None => Err(Fault::new(SetupNo::WrongType, place)),
+    }
+}

@@ -1,0 +1,39 @@
+//! A setup as a whole.
+
+use crate::file_name::Name;
+use crate::loop_list::Loops;
+use crate::thread_list::Threads;
+use std::marker::Model;
+
+/// An accepted setup. Contracts see its fields under their names.
+#[derive(Debug, Drop)]
+pub struct Setup {
+    /// 1 or 2. Both scratchpads have 16,384 bytes in version 1 and 65,536 bytes in version 2.
+    pub version: u32,
+    /// The length of a cycle, 1 to 1,000 nanoseconds.
+    pub period: u32,
+    /// The slots register at the start: a nibble for each slot.
+    pub slots: u32,
+    /// The modes register at the start: two bits for each thread.
+    pub modes: u32,
+    /// The register of the regions of the instruction scratchpad at the start: a nibble for each.
+    pub iregions: u32,
+    /// The register of the regions of the data scratchpad at the start: a nibble for each.
+    pub dregions: u32,
+    /// The name of the image file, 1 to 255 bytes.
+    pub image: Name,
+    pub threads: Threads,
+    pub loops: Loops,
+}
+
+impl Model for Setup {
+    ghost use Rattle.fp_setup.specs.Settings.{Settings};
+
+    ghost Value = { Settings };
+
+    ghost use Rattle.fp_setup.specs.Rules.{KeepsRules};
+
+    ghost view = { λ s. record { version = s.version; period = s.period; slots = s.slots; modes = s.modes; iregions = s.iregions; dregions = s.dregions; image = s.image; threads = s.threads; loops = s.loops } };
+
+    ghost invariant = { λ s. KeepsRules (record { version = s.version; period = s.period; slots = s.slots; modes = s.modes; iregions = s.iregions; dregions = s.dregions; image = s.image; threads = s.threads; loops = s.loops }) };
+}

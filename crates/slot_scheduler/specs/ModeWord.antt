@@ -1,0 +1,15 @@
+-- The modes register: two bits for each thread.
+use Rattle.std.specs.Prelude.{ℕ, ◌/◌, ◌%◌, ◌^◌, nat_lt, Bool, if◌then◌else◌, Result, Ok, Err}
+use Rattle.slot_scheduler.specs.declared.mode_word.BadMode.{BadMode}
+
+-- whether a word may stand in the register: its bits above 15 are 0
+abbrev pub is_modes : ℕ → Bool
+is_modes word = nat_lt word 65536
+
+-- the word is accepted as it is, or refused
+abbrev pub modes_of : ℕ → Result ℕ BadMode
+modes_of word = if is_modes word then Ok word else Err (record {})
+
+-- the mode of a thread: 0 is hard active, 1 hard asleep, 2 soft active, 3 soft asleep
+abbrev pub mode_of : ℕ → ℕ → ℕ
+mode_of modes thread = modes / 4 ^ thread % 4

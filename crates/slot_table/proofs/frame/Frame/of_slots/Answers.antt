@@ -1,0 +1,23 @@
+use Rattle.std.proofs.Common.{◌<◌, [], ◌∷◌, filter, length, take, get_or, arith, length-append}
+use Rattle.slot_table.specs.Frame.{is_used}
+use Rattle.slot_table.proofs.Turns.{used-kept, used-left, turns_of-push}
+use Rattle.slot_table.proofs.frame.Frame.of_slots.Goals as goal
+use Rattle.slot_table.proofs.frame.Frame.of_slots.Goals.{then-slot-ne-DISABLED, else-slot-ne-DISABLED}
+
+pub loop-slot-preserved : goal.loop-slot-preserved
+loop-slot-preserved c =
+    let i = c.loop-slot.slot-index in
+    let slots = c.args.slots.now in
+    let before = filter is_used (take i slots) in
+    let inside : i < length slots = omega arith in
+    let few : length before < 8 = omega arith in
+    elim c.if-slot-ne-DISABLED.branch [
+      | then-slot-ne-DISABLED w ↦
+          let more = used-kept slots i inside w.if-slot-ne-DISABLED.true in
+          let turns = turns_of-push before (get_or slots i 0) few in
+          let len = length-append before (get_or slots i 0 ∷ []) in
+          record { turns = cc; len = rw more (omega arith); few = omega arith }
+      | else-slot-ne-DISABLED w ↦
+          let same = used-left slots i inside w.if-slot-ne-DISABLED.false in
+          record { turns = cc; len = cc; few = omega arith }
+    ]

@@ -1,0 +1,104 @@
+//! The run of one hart from its view.
+
+ghost use Rattle.std.specs.Prelude.{◌≡◌, ◌+◌, ◌/◌, ◌<◌, ◌≤◌, length, IsTrue, ◌||◌, ◌==◌};
+
+use rv_exec::Event;
+use scratchpad::Spm;
+
+use crate::hart::Hart;
+use crate::memory::store_own;
+use crate::rights::Rights;
+use crate::shown::Shown;
+use crate::view::SoloView;
+
+/// The run of one hart from its view, cycle by cycle.
+#[derive(Debug, Drop)]
+pub struct SoloRun {
+    rights: Rights,
+    period: u32,
+    frame_len: u8,
+    slots: [bool; 8],
+    i: Spm,
+    d: Spm,
+    hart: Hart,
+    cycle: u64,
+    ghost frame: { frame_len ≤ 8 },
+    ghost i_len: { length i ≡ rights.size / 4 },
+    ghost d_len: { length d ≡ rights.size / 4 },
+}
+
+impl SoloRun {
+    ghost use Rattle.core_model.specs.Solo.{solo_turn, may_go, has_position};
+    ghost use Rattle.timer_unit.specs.Time.{time};
+    ghost use Rattle.hart_exec.specs.Meaning.{IsShowable};
+    ghost use Rattle.solo_run.specs.Solo.{IsView, setting_of, alone_of, setting_in, alone_in, IsEventShowable, positions_of};
+    ghost use Rattle.solo_run.specs.Hart.{thread_of};
+
+    /// The run at its start. It takes no memory.
+    pub fn new(view: SoloView) -> SoloRun
+        requires { IsView view }
+        ensures setting { setting_of result ≡ setting_in view }
+        ensures alone { alone_of result ≡ alone_in view }
+        ensures cycle { result.cycle ≡ 0 }
+    {
+        let SoloView { period, thread, entry, size, frame_len, own, i_kind, d_kind, i, d } = view;
+        SoloRun {
+            rights: Rights { thread, size, i_kind, d_kind, time: 0 },
+            period,
+            frame_len,
+            slots: own,
+            i,
+            d,
+            hart: Hart::new(entry),
+            cycle: 0,
+        }
+    }
+
+    /// How many cycles have passed.
+    pub fn cycle(&self) -> u64
+        ensures { result ≡ self.now.cycle }
+    {
+        self.cycle
+    }
+
+    /// Whether a cycle has a position of the frame that is the hart's.
+    fn has_slot(&self, cycle: u64) -> bool
+        ensures { result ≡ has_position (positions_of self.now) cycle }
+    {
+        self.frame_len > 0 && self.slots[(cycle % u64::from(self.frame_len)) as usize]
+    }
+
+    /// Whether the hart issues in a cycle, whose time is `now`.
+    #[tactic(auto, unfolding(core_model::specs::Solo::may_go))]
+    fn may_go(&self, cycle: u64, now: u64) -> bool
+        requires { now ≡ time self.now.period cycle }
+        ensures { result ≡ may_go (setting_of self.now) cycle (thread_of self.now.hart) }
+    {
+        self.has_slot(cycle) && self.hart.ready <= cycle && self.hart.own.sleep <= now
+    }
+
+    /// One cycle. The event is that of the cycle's issue, if there is one.
+    #[tactic(auto, unfolding(core_model::specs::Solo::solo_turn))]
+    pub fn tick<W: Shown>(&mut self, shown: &mut W) -> Option<Event>
+        requires { self.old.cycle < 4000000000 }
+        ensures alone { alone_of self.new ≡ (solo_turn (setting_of self.old) self.old.cycle (W.word_at shown.old self.old.cycle) (alone_of self.old)).alone }
+        ensures event { result ≡ (solo_turn (setting_of self.old) self.old.cycle (W.word_at shown.old self.old.cycle) (alone_of self.old)).event }
+        ensures setting { setting_of self.new ≡ setting_of self.old }
+        ensures cycle { self.new.cycle ≡ self.old.cycle + 1 }
+        ensures shown { W.word_at shown.new ≡ W.word_at shown.old }
+        ensures showable { IsEventShowable result }
+    {
+        let cycle = self.cycle;
+        let now = u64::from(self.period) * cycle;
+        self.cycle += 1;
+        if !self.may_go(cycle, now) {
+            return None;
+        }
+        self.rights.time = now;
+        let pc = self.hart.pc;
+        let issued = self.hart.issue(&self.rights, &self.i, &self.d, shown, cycle);
+        store_own(&self.rights, &mut self.d, issued.effect);
+        let effect = issued.effect?;
+        Some(Event { cycle, thread: self.rights.thread, pc, word: issued.word, effect })
+    }
+}
