@@ -1,7 +1,7 @@
 use Rattle.std.proofs.Common.{◌≡◌, ℕ, ◌+◌, ◌-◌, ◌<◌, ◌≤◌, List, ◌++◌, arith, ap, sym, subst, ◌∙◌, refl}
 use Rattle.std.proofs.lemmas.Result.{err_from_is_err_and}
 use Rattle.std.specs.Io.KnownBytes.{Appends}
-use Rattle.core_model.specs.Solo.{solo_at, solo_turn, port_at}
+use Rattle.core_model.specs.Solo.{solo_at}
 use Rattle.solo_run.specs.Solo.{setting_of, alone_of, view_of}
 use Rattle.solo_run.specs.Text.{shown_in, event_text}
 use Rattle.solo_run.proofs.Appends.{appends_nothing, appends_more, appends_front}
