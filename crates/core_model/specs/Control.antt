@@ -1,12 +1,11 @@
 -- Control and status registers: a hart's own, and those of the machine.
 use Rattle.std.specs.Prelude.{ℕ, ◌-◌, ◌*◌, ◌/◌, ◌^◌, ◌==◌, nat_lt, nat_le, Bool, true, false, ◌&&◌, ◌||◌, if◌then◌else◌, Option, Some, None}
-use Rattle.std.specs.List.{list_all}
 use Rattle.rv_decode.specs.declared.instruction.AluOp.TheVariants.{Or, And}
 use Rattle.rv_exec.specs.Alu.{computed}
 use Rattle.rv_exec.specs.declared.outcome.Effect.TheVariants.{Csr}
-use Rattle.region_guard.specs.Regions.{is_owner}
-use Rattle.slot_table.specs.Frame.{is_slot}
-use Rattle.nibble_word.specs.Nibbles.{nibbles}
+use Rattle.region_guard.specs.Register.{is_regions}
+use Rattle.slot_table.specs.Table.{is_table}
+use Rattle.slot_scheduler.specs.ModeWord.{is_modes}
 use Rattle.core_model.specs.declared.own.Own.{Own}
 use Rattle.core_model.specs.declared.own.CsrOp.{CsrOp}
 use Rattle.core_model.specs.declared.own.CsrOp.TheVariants.{Swap, Set, Clear}
@@ -39,9 +38,9 @@ changed Clear old operand = computed And old (2 ^ 32 - 1 - operand)
 unfoldable pub may_hold : ℕ → ℕ → Bool
 may_hold csr value =
     if csr == 0xF14 then false
-    else if csr == 0x7C0 then list_all is_slot (nibbles value)
-    else if csr == 0x7C1 then nat_lt value 65536
-    else if csr == 0x7C2 || csr == 0x7C3 then list_all is_owner (nibbles value)
+    else if csr == 0x7C0 then is_table value
+    else if csr == 0x7C1 then is_modes value
+    else if csr == 0x7C2 || csr == 0x7C3 then is_regions value
     else true
 
 -- the value as kept: mtvec and mepc keep their two low bits 0

@@ -1,2 +1,3 @@
 pub mod ListedCalls
 pub mod NamedBytes
+pub mod Pieces

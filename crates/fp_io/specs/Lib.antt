@@ -2,3 +2,4 @@ pub mod Causes
 pub mod Content
 pub mod Listed
 pub mod Memory
+pub mod Real

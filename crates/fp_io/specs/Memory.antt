@@ -1,11 +1,11 @@
 -- What files and a sink in memory hold, and what a call leaves of it.
-use Rattle.std.specs.Prelude.{ℕ, ◌-◌, ◌≤◌, ◌<◌, ◌||◌, Bool, List, [], ◌++◌, length, take, min, nat_lt, Option, Some, None, refl, if◌then◌else◌}
+use Rattle.std.specs.Prelude.{ℕ, ◌-◌, ◌≤◌, ◌<◌, ◌||◌, Bool, List, [], ◌++◌, length, take, min, nat_lt, Option, Some, None, refl}
 use Rattle.std.specs.Ordering.{nat_cmp}
 use Rattle.std.specs.Cmp.Lexicographic.{slice_cmp}
 use Rattle.std.specs.FinMap as map
 use Rattle.std.specs.Coded.{Coded, code_by, coded×, coded_ℕ, coded_list}
 use Rattle.fp_io.specs.declared.memory_sink.Cut.{Cut}
-use Rattle.fp_io.specs.Causes.{risen}
+use Rattle.fp_io.specs.Causes.{risen, risen_if}
 use Rattle.fp_io.specs.Listed.{is_listed, cut_of, is_cut, listed_before, AreBelowLast}
 
 -- the bytes of each name
@@ -35,7 +35,7 @@ next_fails m = is_listed m.failing m.calls
 
 -- after a call of `fetch`
 abbrev pub fetched_from : MemoryFiles → MemoryFiles
-fetched_from m = record m { calls = risen m.calls; faults = if next_fails m then risen m.faults else m.faults }
+fetched_from m = record m { calls = risen m.calls; faults = risen_if (next_fails m) m.faults }
 
 -- no more faults than listed calls that were made
 abbrev pub FaultsAreListed : MemoryFiles → Type 0
@@ -77,7 +77,7 @@ abbrev pub put_into : MemorySink → List ℕ → MemorySink
 put_into s bytes = record s {
   bytes = s.bytes ++ take (taken_by (cut_of s.cuts s.calls) (fitting s bytes)) bytes;
   calls = risen s.calls;
-  faults = if put_fails s bytes then risen s.faults else s.faults;
+  faults = risen_if (put_fails s bytes) s.faults;
 }
 
 -- while there is room, no more faults than listed calls that were made

@@ -8,9 +8,11 @@
 mod files;
 mod memory_files;
 mod memory_sink;
+mod real;
 mod sink;
 
 pub use files::{FetchFault, Files};
 pub use memory_files::MemFiles;
 pub use memory_sink::MemSink;
+pub use real::{OutSink, RealFiles};
 pub use sink::{PutFailed, Sink};

@@ -1,17 +1,16 @@
 //! Access to control and status registers.
 
 ghost use Rattle.std.specs.Prelude.{◌≡◌, ◌<◌, Some, None};
-ghost use Rattle.std.specs.List.{list_all};
-ghost use Rattle.nibble_word.specs.Nibbles.{nibbles};
-ghost use Rattle.slot_table.specs.Frame.{is_slot};
-ghost use Rattle.region_guard.specs.Regions.{is_owner};
 ghost use Rattle.core_model.specs.Control.{csr_value, changed, may_hold, kept, with_csr, csr_access};
 ghost use Rattle.core_model.specs.Issue.{csr_op, csr_operand, csr_writes};
 ghost use Rattle.hart_exec.specs.Meaning.{did, IsShowable, IsAlignedStore};
 
 use core_model::{CsrOp, Own};
+use region_guard::Regions;
 use rv_decode::{AluOp, CsrKind};
 use rv_exec::{Effect, compute};
+use slot_scheduler::Modes;
+use slot_table::SlotTable;
 
 use crate::outcome::{Executed, Place};
 use crate::parts::{go_on, trap, write_to};
@@ -72,46 +71,6 @@ fn change(op: CsrOp, old: u32, operand: u32) -> u32
     }
 }
 
-fn is_slot_nibble(n: u32) -> bool
-    ensures { result ≡ is_slot n }
-{
-    n < 8 || n == 14 || n == 15
-}
-
-fn is_owner_nibble(n: u32) -> bool
-    ensures { result ≡ is_owner n }
-{
-    n <= 8 || n == 12
-}
-
-#[tactic(auto, unfolding(nibble_word::specs::Nibbles::nibbles))]
-fn all_nibbles_pass_slots(w: u32) -> bool
-    ensures { result ≡ list_all is_slot (nibbles w) }
-{
-    is_slot_nibble(w % 16)
-        && is_slot_nibble(w / 16 % 16)
-        && is_slot_nibble(w / 256 % 16)
-        && is_slot_nibble(w / 4096 % 16)
-        && is_slot_nibble(w / 65536 % 16)
-        && is_slot_nibble(w / 1048576 % 16)
-        && is_slot_nibble(w / 16777216 % 16)
-        && is_slot_nibble(w / 268435456 % 16)
-}
-
-#[tactic(auto, unfolding(nibble_word::specs::Nibbles::nibbles))]
-fn all_nibbles_pass_owners(w: u32) -> bool
-    ensures { result ≡ list_all is_owner (nibbles w) }
-{
-    is_owner_nibble(w % 16)
-        && is_owner_nibble(w / 16 % 16)
-        && is_owner_nibble(w / 256 % 16)
-        && is_owner_nibble(w / 4096 % 16)
-        && is_owner_nibble(w / 65536 % 16)
-        && is_owner_nibble(w / 1048576 % 16)
-        && is_owner_nibble(w / 16777216 % 16)
-        && is_owner_nibble(w / 268435456 % 16)
-}
-
 /// Whether a register may hold a word; mhartid takes none.
 #[tactic(auto, unfolding(core_model::specs::Control::may_hold))]
 fn can_hold(csr: u16, word: u32) -> bool
@@ -119,9 +78,9 @@ fn can_hold(csr: u16, word: u32) -> bool
 {
     match csr {
         0xF14 => false,
-        0x7C0 => all_nibbles_pass_slots(word),
-        0x7C1 => word < 0x1_0000,
-        0x7C2 | 0x7C3 => all_nibbles_pass_owners(word),
+        0x7C0 => SlotTable::from_word(word).is_ok(),
+        0x7C1 => Modes::from_word(word).is_ok(),
+        0x7C2 | 0x7C3 => Regions::from_word(word).is_ok(),
         _ => true,
     }
 }

@@ -3,7 +3,6 @@
 ghost use Rattle.std.specs.Prelude.{◌≡◌, ◌<◌, ◌%◌, ◌^◌};
 ghost use Rattle.rv_decode.specs.Table.{ins};
 ghost use Rattle.rv_exec.specs.Access.{IsAligned, store_size};
-ghost use Rattle.timer_unit.specs.Time.{moment as moment_of};
 ghost use Rattle.core_model.specs.Issue.{source_1, source_2, goes, run, act};
 ghost use Rattle.rv_decode.specs.Range.{InRange};
 ghost use Rattle.hart_exec.specs.Meaning.{did, IsShowable, IsAlignedStore};
@@ -11,6 +10,7 @@ ghost use Rattle.hart_exec.specs.Meaning.{did, IsShowable, IsAlignedStore};
 use core_model::Own;
 use rv_decode::{CsrKind, Ins, StoreOp, decode};
 use rv_exec::{Effect, Outcome, execute, size_of_load, size_of_store};
+use timer_unit::moment;
 
 use crate::control::{Access, access_csr};
 use crate::outcome::{Executed, Place, Sources};
@@ -34,12 +34,6 @@ pub fn sources_of(i: &Ins) -> (u8, u8)
         Ins::Csr { op: CsrKind::Rw | CsrKind::Rs | CsrKind::Rc, src, .. } => (src, 0),
         _ => (0, 0),
     }
-}
-
-fn moment(high: u32, low: u32) -> u64
-    ensures { result ≡ moment_of high low }
-{
-    u64::from(high) << 32 | u64::from(low)
 }
 
 /// The value that a store writes: as many low bytes as it takes.

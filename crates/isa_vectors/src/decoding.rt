@@ -6,16 +6,10 @@
 //! `rv64imafdh_zicsr_zifencei_zba_zbb_zbc_zbs_zicbom_zicboz`.
 
 use crate::mnemonics::{Said, said_of};
+use crate::tally::Tally;
 use rv_decode::{decode, encode};
 use std::alloc::{AllocError, Global};
 use std::collections::BTreeMap;
-
-/// How many words of a kind there are, and how many of them differ from their text.
-#[derive(Clone, Copy, Debug)]
-pub struct Tally {
-    pub words: u32,
-    pub differ: u32,
-}
 
 /// The tally of each kind. A line that isn't of the form counts as a word that differs.
 pub fn tallies(alloc: Global, table: &str) -> Result<BTreeMap<&str, Tally>, AllocError> {
@@ -23,14 +17,8 @@ pub fn tallies(alloc: Global, table: &str) -> Result<BTreeMap<&str, Tally>, Allo
     for line in table.lines() {
         let row = row_of(line);
         let kind = row.as_ref().map_or("unreadable", |row| row.said.kind);
-        let tally = tallies.entry(kind)?.or_insert(Tally {
-            words: 0,
-            differ: 0,
-        });
-        tally.words = tally.words.saturating_add(1);
-        if !row.is_some_and(|row| row.agrees()) {
-            tally.differ = tally.differ.saturating_add(1);
-        }
+        let agrees = row.is_some_and(|row| row.agrees());
+        tallies.entry(kind)?.or_insert(Tally::EMPTY).count(agrees);
     }
     Ok(tallies)
 }

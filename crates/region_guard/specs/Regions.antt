@@ -1,11 +1,20 @@
 -- The regions of the two scratchpads, and who may fetch, load and store where. `size` is that of
 -- each scratchpad, in bytes; each has eight regions of a size / 8 bytes.
 use Rattle.std.specs.Prelude.{◌≡◌, ◌⊎◌, ℕ, ◌+◌, ◌/◌, ◌%◌, ◌==◌, nat_lt, nat_le, Bool, true, false, not, ◌&&◌, ◌||◌, if◌then◌else◌}
+use Rattle.std.proofs.Common.{inl, inr, ap, arith}
+use Rattle.std.proofs.Math.Nat.{ℕ_set}
 use Rattle.nibble_word.specs.Nibbles.{nibble_at}
 
 -- the sizes that there are
 abbrev pub IsSize : ℕ → Type 0
 IsSize size = (size ≡ 16384) ⊎ (size ≡ 65536)
+
+-- a size is one of them in one way
+pub IsSize-prop : (size : ℕ) → IsProp (IsSize size)
+IsSize-prop size (inl a) (inl b) = ap inl (ℕ_set size 16384 a b)
+IsSize-prop size (inl a) (inr b) = absurd (omega arith)
+IsSize-prop size (inr a) (inl b) = absurd (omega arith)
+IsSize-prop size (inr a) (inr b) = ap inr (ℕ_set size 65536 a b)
 
 -- what may stand in a region register for a region: a thread, shared (8) or read only (12)
 abbrev pub is_owner : ℕ → Bool

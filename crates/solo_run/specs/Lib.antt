@@ -2,3 +2,4 @@ pub mod Registers
 pub mod View
 pub mod Hart
 pub mod Solo
+pub mod Text

@@ -1,7 +1,5 @@
 -- The code's view and run as those of the definitions.
-use Rattle.std.specs.Prelude.{◌≡◌, ◌≤◌, ◌/◌, ◌==◌, ◌||◌, ℕ, Bool, List, [], take, length, IsTrue, Option, Some, None}
-use Rattle.rv_exec.specs.Line.{IsPrintable}
-use Rattle.rv_exec.specs.declared.outcome.Event.{Event}
+use Rattle.std.specs.Prelude.{◌≡◌, ◌≤◌, ◌/◌, ◌==◌, ◌||◌, ℕ, Bool, List, take, length, IsTrue}
 use Rattle.core_model.specs.Thread.{fresh}
 use Rattle.core_model.specs.View.{Setting, View}
 use Rattle.core_model.specs.Solo.{Alone}
@@ -27,10 +25,6 @@ setting_in v =
       i_words = v.i;
     }
 
--- how it starts
-abbrev pub alone_in : SoloView → Alone
-alone_in v = record { thread = fresh v.entry; words = v.d }
-
 -- the view, with the words of its port
 abbrev pub view_with : SoloView → List ℕ → View
 view_with v shown = record { setting = setting_in v; first = fresh v.entry; d_words = v.d; shown = shown }
@@ -50,7 +44,10 @@ setting_of r =
 abbrev pub alone_of : SoloRun → Alone
 alone_of r = record { thread = thread_of r.hart; words = r.d }
 
--- the event can be shown in a line
-abbrev pub IsEventShowable : Option Event → Type 0
-IsEventShowable (Some e) = IsPrintable e.effect
-IsEventShowable None = Unit {0}
+-- the view of a run at its start, with the words of its port
+abbrev pub view_of : SoloRun → List ℕ → View
+view_of r shown = record { setting = setting_of r; first = thread_of r.hart; d_words = r.d; shown = shown }
+
+-- the cycles that have passed
+abbrev pub cycle_of : SoloRun → ℕ
+cycle_of r = r.cycle

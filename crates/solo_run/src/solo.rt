@@ -1,9 +1,15 @@
 //! The run of one hart from its view.
 
-ghost use Rattle.std.specs.Prelude.{◌≡◌, ◌+◌, ◌/◌, ◌<◌, ◌≤◌, length, IsTrue, ◌||◌, ◌==◌};
+ghost use Rattle.std.specs.Prelude.{◌≡◌, ◌+◌, ◌/◌, ◌<◌, ◌≤◌, [], length, OnOk, OnErr};
+ghost use Rattle.fp_io.specs.Causes.{Rose};
+ghost use Rattle.std.specs.Io.KnownBytes.{Appends};
+ghost use Rattle.fp_io.specs.Content.{AppendsFront};
+ghost use Rattle.solo_run.specs.Text.{IsEventShowable, event_text, shown_in, solo_text};
 
+use fp_io::{PutFailed, Sink};
 use rv_exec::Event;
 use scratchpad::Spm;
+use trace_print::line;
 
 use crate::hart::Hart;
 use crate::memory::store_own;
@@ -31,15 +37,14 @@ impl SoloRun {
     ghost use Rattle.core_model.specs.Solo.{solo_turn, may_go, has_position};
     ghost use Rattle.timer_unit.specs.Time.{time};
     ghost use Rattle.hart_exec.specs.Meaning.{IsShowable};
-    ghost use Rattle.solo_run.specs.Solo.{IsView, setting_of, alone_of, setting_in, alone_in, IsEventShowable, positions_of};
+    ghost use Rattle.solo_run.specs.Solo.{IsView, setting_of, alone_of, positions_of, view_of, view_with, cycle_of};
     ghost use Rattle.solo_run.specs.Hart.{thread_of};
 
     /// The run at its start. It takes no memory.
     pub fn new(view: SoloView) -> SoloRun
         requires { IsView view }
-        ensures setting { setting_of result ≡ setting_in view }
-        ensures alone { alone_of result ≡ alone_in view }
-        ensures cycle { result.cycle ≡ 0 }
+        ensures view { view_of result [] ≡ view_with view [] }
+        ensures cycle { cycle_of result ≡ 0 }
     {
         let SoloView { period, thread, entry, size, frame_len, own, i_kind, d_kind, i, d } = view;
         SoloRun {
@@ -56,7 +61,7 @@ impl SoloRun {
 
     /// How many cycles have passed.
     pub fn cycle(&self) -> u64
-        ensures { result ≡ self.now.cycle }
+        ensures { result ≡ cycle_of self.now }
     {
         self.cycle
     }
@@ -80,11 +85,11 @@ impl SoloRun {
     /// One cycle. The event is that of the cycle's issue, if there is one.
     #[tactic(auto, unfolding(core_model::specs::Solo::solo_turn))]
     pub fn tick<W: Shown>(&mut self, shown: &mut W) -> Option<Event>
-        requires { self.old.cycle < 4000000000 }
-        ensures alone { alone_of self.new ≡ (solo_turn (setting_of self.old) self.old.cycle (W.word_at shown.old self.old.cycle) (alone_of self.old)).alone }
-        ensures event { result ≡ (solo_turn (setting_of self.old) self.old.cycle (W.word_at shown.old self.old.cycle) (alone_of self.old)).event }
+        requires { cycle_of self.old < 4000000000 }
+        ensures alone { alone_of self.new ≡ (solo_turn (setting_of self.old) (cycle_of self.old) (W.word_at shown.old (cycle_of self.old)) (alone_of self.old)).alone }
+        ensures event { result ≡ (solo_turn (setting_of self.old) (cycle_of self.old) (W.word_at shown.old (cycle_of self.old)) (alone_of self.old)).event }
         ensures setting { setting_of self.new ≡ setting_of self.old }
-        ensures cycle { self.new.cycle ≡ self.old.cycle + 1 }
+        ensures cycle { cycle_of self.new ≡ cycle_of self.old + 1 }
         ensures shown { W.word_at shown.new ≡ W.word_at shown.old }
         ensures showable { IsEventShowable result }
     {
@@ -100,5 +105,39 @@ impl SoloRun {
         store_own(&self.rights, &mut self.d, issued.effect);
         let effect = issued.effect?;
         Some(Event { cycle, thread: self.rights.thread, pc, word: issued.word, effect })
+    }
+
+    /// Runs `n` cycles from the start, and puts a line for each event that has retired then, each
+    /// by one call. It takes no memory.
+    ///
+    /// # Errors
+    ///
+    /// Where the sink fails; a prefix of the text is then put.
+    pub fn run<W: Shown, K: Sink>(&mut self, n: u64, shown: &mut W, out: &mut K) -> Result<(), PutFailed>
+        requires start { cycle_of self.old ≡ 0 }
+        requires limit { n ≤ 4000000000 }
+        ensures counted { K.faults out.old ≤ K.faults out.new }
+        ensures ok { OnOk result (Appends (K.taken out.old) (K.taken out.new) (solo_text (view_of self.old (shown_in (W.word_at shown.old) n)) n)) }
+        ensures err { OnErr result (AppendsFront (K.taken out.old) (K.taken out.new) (solo_text (view_of self.old (shown_in (W.word_at shown.old) n)) n)) }
+        ensures failed { OnErr result (Rose (K.faults out.old) (K.faults out.new)) }
+    {
+        for _cycle in 0..n.saturating_sub(4) {
+            put_event(out, self.tick(shown))?;
+        }
+        Ok(())
+    }
+}
+
+/// Puts the line of an event, if there is one.
+fn put_event<K: Sink>(out: &mut K, event: Option<Event>) -> Result<(), PutFailed>
+    requires { IsEventShowable event }
+    ensures counted { K.faults out.old ≤ K.faults out.new }
+    ensures ok { OnOk result (Appends (K.taken out.old) (K.taken out.new) (event_text event)) }
+    ensures err { OnErr result (AppendsFront (K.taken out.old) (K.taken out.new) (event_text event)) }
+    ensures failed { OnErr result (Rose (K.faults out.old) (K.faults out.new)) }
+{
+    match event {
+        Some(event) => out.put(line(&event).as_bytes()),
+        None => Ok(()),
     }
 }

@@ -2,18 +2,13 @@
 use Rattle.std.specs.Prelude.{ℕ, ◌+◌, ◌*◌, ◌/◌, ◌%◌, nat_le, Bool, false, List, slice_index_or, Option, Some, None}
 use Rattle.timer_unit.specs.declared.row.Timer.{Timer}
 
--- the time of a cycle
+-- the time of a cycle, by the period of the cycles
 abbrev pub time : ℕ → ℕ → ℕ
 time period cycle = period * cycle
 
--- the moment of two register values
+-- the moment of two words
 abbrev pub moment : ℕ → ℕ → ℕ
 moment high low = high * 4294967296 + low
-
--- an armed moment that the time has reached
-abbrev pub is_due : Option ℕ → ℕ → Bool
-is_due None now = false
-is_due (Some moment) now = nat_le moment now
 
 -- the low and the high word of a time
 abbrev pub low_word : ℕ → ℕ
@@ -22,10 +17,27 @@ low_word now = now % 4294967296
 abbrev pub high_word : ℕ → ℕ
 high_word now = now / 4294967296 % 4294967296
 
--- a thread's timer at the start: nothing armed, and a high word of 0
+-- whether a moment is armed that the time has reached
+abbrev pub is_due : Option ℕ → ℕ → Bool
+is_due None now = false
+is_due (Some armed) now = nat_le armed now
+
+-- a thread's timer at the start: nothing is armed, and the latch is 0
 abbrev pub no_timer : Timer
 no_timer = record { armed = None; high = 0 }
 
--- the timer of a thread, of eight
+-- the timer of one of the threads
 abbrev pub timer_of : List Timer → ℕ → Timer
 timer_of timers thread = slice_index_or timers thread no_timer
+
+-- a timer once the low word of a time is read: the high word is latched
+abbrev pub latched : Timer → ℕ → Timer
+latched timer now = record timer { high = high_word now }
+
+-- a timer once a moment is armed, in place of one that was armed before
+abbrev pub armed_at : Timer → ℕ → Timer
+armed_at timer armed = record timer { armed = Some armed }
+
+-- a timer once nothing is armed
+abbrev pub disarmed : Timer → Timer
+disarmed timer = record timer { armed = None }

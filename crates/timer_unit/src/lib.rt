@@ -2,5 +2,9 @@
 #![tactic(auto)]
 
 mod row;
+mod time;
+mod unit;
 
 pub use row::Timer;
+pub use time::{Clock, moment};
+pub use unit::Timers;

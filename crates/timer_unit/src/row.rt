@@ -3,9 +3,9 @@
 /// What one hardware thread has in the timers.
 #[derive(Clone, Copy, Debug, PartialEq, Eq)]
 pub struct Timer {
-    /// The moment, in nanoseconds, at which the thread's next instruction gives way to an expiry
-    /// trap.
+    /// The armed moment, in nanoseconds: from then on, an expiry trap takes the place of the
+    /// thread's next instruction.
     pub armed: Option<u64>,
-    /// The high word of the time that was read last, latched when its low word was read.
+    /// The high word of the time whose low word was read last, and 0 before any such reading.
     pub high: u32,
 }

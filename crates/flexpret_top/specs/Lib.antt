@@ -1,0 +1,4 @@
+pub mod Words
+pub mod Bare
+pub mod Answer
+pub mod Status

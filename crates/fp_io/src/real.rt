@@ -1,0 +1,264 @@
+//! The adapters over the runtime's files and standard output.
+ghost use Rattle.std.specs.Prelude.{◌≡◌, ◌≢◌, ℕ, ◌+◌, ◌-◌, ◌^◌, ◌<◌, ◌≤◌, None, take, is_err, IfOk, IfSome, OnOk, OnErr, vec_len};
+ghost use Rattle.std.specs.Io.KnownBytes.{Appends};
+ghost use Rattle.fp_io.specs.Causes.{risen_if};
+ghost use Rattle.fp_io.specs.Content.{AppendsFront};
+ghost use Rattle.fp_io.specs.Real.{has_failed};
+
+use crate::files::{FetchFault, Files};
+use crate::sink::{PutFailed, Sink};
+use std::alloc::Global;
+use std::io::{Read, Write};
+use std::marker::Model;
+use std::{fs, io, rt};
+
+/// How many bytes one read asks for at most.
+const PIECE: usize = 4096;
+
+/// The runtime's files. They tell no map: nothing is claimed of what a real file holds.
+///
+/// A file that is not there is `Failed`, never `Missing`.
+#[derive(Drop)]
+pub struct RealFiles<R> {
+    rt: R,
+    faults: u64,
+}
+
+impl<R> Model for RealFiles<R> {
+    ghost use Rattle.std.specs.Prelude.{ℕ};
+    ghost use Rattle.std.specs.Coded.{coded×, coded_ℕ};
+
+    ghost Value = { R × ℕ };
+
+    ghost coded = { coded× R.code coded_ℕ };
+
+    ghost view = { λ files. (files.rt, files.faults) };
+}
+
+impl<R: rt::Files + Drop> RealFiles<R> {
+    /// The files of a runtime, with no fault so far.
+    pub fn new(rt: R) -> RealFiles<R>
+        ensures { result ≡ (rt, 0) }
+    {
+        RealFiles { rt, faults: 0 }
+    }
+}
+
+impl<R: rt::Files + Drop> Files for RealFiles<R> {
+    ghost told = { λ _. None };
+
+    ghost faults = { λ files. files.1 };
+
+    fn fetch(&mut self, alloc: Global, name: &str, most: usize) -> Result<Vec<u8>, FetchFault>
+        requires { most < 2 ^ 64 - 1 }
+        ensures after { self.new ≡ (self.old.0, risen_if (has_failed result) self.old.1) }
+        ensures counted { self.old.1 ≤ self.new.1 }
+        ensures within { IfOk result (λ bytes. vec_len bytes ≤ most + 1) }
+        ensures found { result ≢ Err FetchFault.Missing }
+    {
+        let result = read_file(&self.rt, alloc, name, most);
+        if matches!(&result, Err(FetchFault::Failed)) {
+            self.faults = self.faults.saturating_add(1);
+        }
+        result
+    }
+}
+
+/// The runtime's standard output. It tells no bytes: nothing is claimed of what a terminal or a pipe
+/// takes.
+#[derive(Drop)]
+pub struct OutSink<R> {
+    rt: R,
+    faults: u64,
+}
+
+impl<R> Model for OutSink<R> {
+    ghost use Rattle.std.specs.Prelude.{ℕ};
+    ghost use Rattle.std.specs.Coded.{coded×, coded_ℕ};
+
+    ghost Value = { R × ℕ };
+
+    ghost coded = { coded× R.code coded_ℕ };
+
+    ghost view = { λ sink. (sink.rt, sink.faults) };
+}
+
+impl<R: Print + Drop> OutSink<R> {
+    /// The standard output of a runtime, with no fault so far.
+    pub fn new(rt: R) -> OutSink<R>
+        ensures { result ≡ (rt, 0) }
+    {
+        OutSink { rt, faults: 0 }
+    }
+}
+
+impl<R: Print + Drop> Sink for OutSink<R> {
+    ghost taken = { λ _. None };
+
+    ghost faults = { λ sink. sink.1 };
+
+    fn put(&mut self, bytes: &[u8]) -> Result<(), PutFailed>
+        ensures after { self.new ≡ (self.old.0, risen_if (is_err result) self.old.1) }
+        ensures counted { self.old.1 ≤ self.new.1 }
+    {
+        let result = write_whole(&mut io::writer(&self.rt), bytes);
+        if result.is_err() {
+            self.faults = self.faults.saturating_add(1);
+        }
+        result
+    }
+}
+
+/// The first `most + 1` bytes of a file of the runtime, or the whole file where it is shorter.
+fn read_file<R: rt::Files>(
+    rt: &R,
+    alloc: Global,
+    name: &str,
+    most: usize,
+) -> Result<Vec<u8>, FetchFault>
+    requires { most < 2 ^ 64 - 1 }
+    ensures within { IfOk result (λ bytes. vec_len bytes ≤ most + 1) }
+    ensures found { result ≢ Err FetchFault.Missing }
+{
+    let mut file = fs::open(rt, name).map_err(|_| FetchFault::Failed)?;
+    read_up_to(alloc, &mut file, most)
+}
+
+/// The first `most + 1` bytes that a reader gives, or all where it gives fewer. A read that gives
+/// nothing is the end.
+fn read_up_to<F: Read>(alloc: Global, file: &mut F, most: usize) -> Result<Vec<u8>, FetchFault>
+    requires { most < 2 ^ 64 - 1 }
+    ensures within { IfOk result (λ bytes. vec_len bytes ≤ most + 1) }
+    ensures bytes { IfOk result (λ bytes.
+        IfSome (F.remaining file.old) (λ all. bytes.items ≡ take (most + 1) all)) }
+    ensures found { result ≢ Err FetchFault.Missing }
+{
+    let mut bytes = Vec::new(alloc);
+    let mut piece = [0; PIECE];
+    while bytes.len() <= most {
+        let room = PIECE.min(most + 1 - bytes.len());
+        let count = file
+            .read(&mut piece[..room])
+            .map_err(|_| FetchFault::Failed)?;
+        if count == 0 {
+            break;
+        }
+        bytes
+            .extend_from_slice(&piece[..count])
+            .map_err(|_| FetchFault::NoMemory)?;
+    }
+    Ok(bytes)
+}
+
+/// Writes all bytes. A write that takes nothing of a piece is an error, since no piece is empty.
+fn write_whole<W: Write>(to: &mut W, bytes: &[u8]) -> Result<(), PutFailed>
+    ensures ok { OnOk result (Appends (W.contents to.old) (W.contents to.new) bytes.now) }
+    ensures err { OnErr result (AppendsFront (W.contents to.old) (W.contents to.new) bytes.now) }
+{
+    let mut at = 0;
+    while at < bytes.len() {
+        match to.write(&bytes[at..]) {
+            Ok(count) if count > 0 => at += count,
+            _ => return Err(PutFailed),
+        }
+    }
+    Ok(())
+}
+
+#[cfg(test)]
+mod tests {
+    use super::*;
+    use std::test::Fail;
+
+    /// Gives or takes two bytes a call at most, and fails at one call.
+    #[derive(Drop)]
+    struct Slow<T> {
+        bytes: T,
+        calls: u32,
+        failing: u32,
+    }
+
+    impl<T> Slow<T> {
+        fn count_call(&mut self) -> io::Result<()> {
+            let fails = self.calls == self.failing;
+            self.calls = self.calls.saturating_add(1);
+            if fails {
+                return Err(io::Error::from(io::ErrorKind::Other));
+            }
+            Ok(())
+        }
+    }
+
+    impl Read for Slow<&[u8]> {
+        fn read(&mut self, buf: &mut [u8]) -> io::Result<usize> {
+            self.count_call()?;
+            let count = self.bytes.len().min(buf.len()).min(2);
+            buf[..count].copy_from_slice(&self.bytes[..count]);
+            self.bytes = &self.bytes[count..];
+            Ok(count)
+        }
+    }
+
+    impl Write for Slow<Vec<u8>> {
+        fn write(&mut self, buf: &[u8]) -> io::Result<usize> {
+            self.count_call()?;
+            let count = buf.len().min(2);
+            self.bytes.extend_from_slice(&buf[..count])?;
+            Ok(count)
+        }
+
+        fn flush(&mut self) -> io::Result<()> {
+            Ok(())
+        }
+    }
+
+    #[test]
+    fn pieces_are_joined(rt: HostRuntime) -> Result<(), Fail> {
+        let rows: [(u32, usize, Option<FetchFault>, &[u8]); 5] = [
+            (9, 9, None, b"abcde"),
+            (9, 4, None, b"abcde"),
+            (9, 3, None, b"abcd"),
+            (2, 3, None, b"abcd"),
+            (2, 4, Some(FetchFault::Failed), b""),
+        ];
+        for (failing, most, fault, want) in rows {
+            let mut file = Slow {
+                bytes: b"abcde".as_slice(),
+                calls: 0,
+                failing,
+            };
+            match read_up_to(rt.alloc(), &mut file, most) {
+                Ok(bytes) => assert!(rt; fault.is_none() && bytes.as_slice() == want),
+                Err(error) => assert_eq!(rt; Some(error), fault),
+            }
+        }
+        for (failing, fails, want) in [(3, false, b"abcde".as_slice()), (2, true, b"abcd")] {
+            let mut to = Slow {
+                bytes: Vec::new(rt.alloc()),
+                calls: 0,
+                failing,
+            };
+            assert_eq!(rt; write_whole(&mut to, b"abcde").is_err(), fails);
+            assert!(rt; to.bytes.as_slice() == want);
+        }
+        Ok(())
+    }
+
+    #[test]
+    fn real_files_are_read(rt: HostRuntime) -> Result<(), Fail> {
+        let mut files = RealFiles::new(rt);
+        let zeros = files.fetch(rt.alloc(), "/dev/zero", 9_999);
+        let zeros = zeros.map_or(0, |bytes| bytes.iter().filter(|byte| **byte == 0).count());
+        assert_eq!(rt; zeros, 10_000);
+        let rows = [
+            ("/dev/null", Ok(0)),
+            ("/no/such/file", Err(FetchFault::Failed)),
+            ("/dev", Err(FetchFault::Failed)),
+        ];
+        for (name, want) in rows {
+            let got = files.fetch(rt.alloc(), name, 9);
+            assert_eq!(rt; got.map(|bytes| bytes.len()), want, "{name}");
+        }
+        Ok(())
+    }
+}

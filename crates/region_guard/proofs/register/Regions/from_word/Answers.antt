@@ -1,0 +1,12 @@
+use Rattle.std.proofs.Common.{Some, None, sym}
+use Rattle.region_guard.proofs.Accepted.{accepted_at}
+use Rattle.region_guard.proofs.register.Regions.from_word.Goals as goal
+
+pub invariant_of-result : goal.invariant_of-result
+invariant_of-result c = sym (accepted_at c.args.word None (rw c.nibbles_of.ensures at c.in-None.ensures.first))
+
+pub returns-in-Some-clause-accepts : goal.returns-in-Some-clause-accepts
+returns-in-Some-clause-accepts c = accepted_at c.args.word (Some c.in-Some.index) (rw c.nibbles_of.ensures at c.in-Some.ensures.first)
+
+pub returns-in-None-clause-accepts : goal.returns-in-None-clause-accepts
+returns-in-None-clause-accepts c = accepted_at c.args.word None (rw c.nibbles_of.ensures at c.in-None.ensures.first)

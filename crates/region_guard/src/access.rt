@@ -1,0 +1,183 @@
+//! Who may fetch, load and store where.
+
+ghost use Rattle.std.specs.Prelude.{◌≡◌, ◌<◌, not, ◌||◌};
+ghost use Rattle.region_guard.specs.Regions.{IsSize, IsSize-prop, at_port, in_d, is_readable, is_writable, may_fetch, may_load, may_read, may_store, region_of, standing, standing_at};
+
+use crate::register::{READ_ONLY, Regions, SHARED};
+
+/// The owners of the regions of both scratchpads.
+///
+/// The instruction scratchpad begins at address 0, the data scratchpad at 0x2000_0000, and the word
+/// of a thread's port stands at 0x4000_0000. Each scratchpad has eight regions of `size / 8` bytes.
+#[derive(Clone, Copy, Debug, PartialEq, Eq)]
+pub struct Guard {
+    /// The regions of the instruction scratchpad.
+    pub i: Regions,
+    /// The regions of the data scratchpad.
+    pub d: Regions,
+    /// The size of each scratchpad in bytes, 16,384 or 65,536.
+    pub size: u32,
+    ghost sized: { IsSize size } by { IsSize-prop size },
+}
+
+const DATA: u32 = 0x2000_0000;
+
+const PORT: u32 = 0x4000_0000;
+
+// The region of an address in its scratchpad.
+#[tactic(auto, unfolding(crate::specs::Regions::region_of))]
+fn region_at(size: u32, address: u32) -> u8
+    requires { IsSize size }
+    ensures region { result ≡ region_of size address }
+    ensures small { result < 8 }
+{
+    let region = if size == 0x4000 {
+        address % 0x4000 / 0x800
+    } else {
+        address % 0x1_0000 / 0x2000
+    };
+    region as u8
+}
+
+// Whether an address is in the data scratchpad.
+fn is_data(size: u32, address: u32) -> bool
+    requires { IsSize size }
+    ensures { result ≡ in_d size address }
+{
+    address >= DATA && address < DATA + size
+}
+
+// Whether an access is one of the whole word of the port.
+fn is_port(address: u32, size: u8) -> bool
+    ensures { result ≡ at_port address size }
+{
+    address == PORT && size == 4
+}
+
+// Whether a nibble names a region where a confined thread may load and fetch.
+#[tactic(auto, unfolding(crate::specs::Regions::standing))]
+fn lets_read(nibble: u8, thread: u8) -> bool
+    ensures { result ≡ is_readable (standing thread nibble) }
+{
+    nibble == thread || nibble == READ_ONLY
+}
+
+// Whether a nibble names a region where a thread may store.
+#[tactic(auto, unfolding(crate::specs::Regions::standing))]
+fn lets_write(nibble: u8, thread: u8) -> bool
+    ensures { result ≡ is_writable (standing thread nibble) }
+{
+    nibble == thread || nibble == SHARED
+}
+
+impl Guard {
+    // Whether a thread may load or fetch at an address of the scratchpad with these regions.
+    fn may_read(&self, regions: &Regions, thread: u8, confined: bool, address: u32) -> bool
+        ensures { result ≡ may_read thread self.now.size confined regions.now address }
+    {
+        !confined || lets_read(regions.owner(region_at(self.size, address)), thread)
+    }
+
+    /// Whether a thread may fetch at an address: in the instruction scratchpad, and if it is
+    /// confined only where it owns the region or the region is read only.
+    #[tactic(auto, unfolding(crate::specs::Regions::may_fetch))]
+    pub fn may_fetch(&self, thread: u8, confined: bool, address: u32) -> bool
+        ensures { result ≡ may_fetch thread self.now.size confined self.now.i address }
+    {
+        address < self.size && self.may_read(&self.i, thread, confined, address)
+    }
+
+    /// Whether a thread may load `size` bytes at an address that is aligned for them: in both
+    /// scratchpads, and if it is confined only where it owns the region or the region is read only;
+    /// and four bytes at the port.
+    #[tactic(auto, unfolding(crate::specs::Regions::may_load))]
+    pub fn may_load(&self, thread: u8, confined: bool, address: u32, size: u8) -> bool
+        ensures { result ≡ may_load thread self.now.size confined self.now.i self.now.d address size }
+    {
+        if address < self.size {
+            self.may_read(&self.i, thread, confined, address)
+        } else if is_data(self.size, address) {
+            self.may_read(&self.d, thread, confined, address)
+        } else {
+            is_port(address, size)
+        }
+    }
+
+    /// Whether a thread may store `size` bytes at an address that is aligned for them: in the data
+    /// scratchpad where it owns the region or the region is shared, and four bytes at the port.
+    #[tactic(auto, unfolding(crate::specs::Regions::may_store))]
+    pub fn may_store(&self, thread: u8, address: u32, size: u8) -> bool
+        ensures { result ≡ may_store thread self.now.size self.now.d address size }
+    {
+        if !is_data(self.size, address) {
+            return is_port(address, size);
+        }
+        lets_write(self.d.owner(region_at(self.size, address)), thread)
+    }
+}
+
+#[cfg(test)]
+mod tests {
+    use super::Guard;
+    use crate::register::Regions;
+    use std::test::Fail;
+
+    const PRIVATE: u32 = 0x2000_0000;
+
+    const SHARED: u32 = 0x2000_1000;
+
+    const READ_ONLY: u32 = 0x2000_1800;
+
+    const PORT: u32 = 0x4000_0000;
+
+    // Data regions of thread 0 and of thread 1, a shared one, then read only ones.
+    fn guard(size: u32) -> Result<Guard, Fail> {
+        Ok(Guard {
+            i: Regions::from_word(0xcccc_cccc)?,
+            d: Regions::from_word(0xcccc_c810)?,
+            size,
+        })
+    }
+
+    #[test]
+    fn loads_and_stores_by_owner_and_confinement(rt: HostRuntime) -> Result<(), Fail> {
+        let guard = guard(16_384)?;
+        for (thread, confined, address, size, load, store) in [
+            (0, true, PRIVATE, 4, true, true),
+            (1, true, PRIVATE, 4, false, false),
+            (1, false, PRIVATE, 4, true, false),
+            (0, true, SHARED, 4, false, true),
+            (0, false, SHARED, 1, true, true),
+            (0, true, READ_ONLY, 2, true, false),
+            (0, true, 0x0000_3ffc, 4, true, false),
+            (0, false, 0x0000_4000, 4, false, false),
+            (0, false, 0x2000_4000, 4, false, false),
+            (0, true, PORT, 4, true, true),
+            (0, false, PORT, 1, false, false),
+            (0, false, PORT + 4, 4, false, false),
+        ] {
+            assert_eq!(rt;
+                guard.may_load(thread, confined, address, size),
+                load,
+                "{address:x}"
+            );
+            assert_eq!(rt;
+                guard.may_store(thread, address, size),
+                store,
+                "{address:x}"
+            );
+        }
+        Ok(())
+    }
+
+    #[test]
+    fn regions_grow_with_the_scratchpad(rt: HostRuntime) -> Result<(), Fail> {
+        let small = guard(16_384)?;
+        let large = guard(65_536)?;
+        assert_eq!(rt; small.may_store(0, 0x2000_0ffc, 4), false);
+        assert_eq!(rt; large.may_store(0, 0x2000_1ffc, 4), true);
+        assert_eq!(rt; small.may_fetch(0, true, 0x8000), false);
+        assert_eq!(rt; large.may_fetch(0, true, 0x8000), true);
+        Ok(())
+    }
+}

@@ -1,0 +1,62 @@
+//! Cycles and words as moments.
+
+ghost use Rattle.std.specs.Prelude.{◌≡◌, ◌≤◌};
+ghost use Rattle.timer_unit.specs.Time.{moment, time};
+
+use std::marker::Model;
+
+/// The clock of the core, whose cycles have a period of 1 to 1,000 nanoseconds.
+#[derive(Clone, Copy, Debug, PartialEq, Eq)]
+pub struct Clock {
+    period: u32,
+}
+
+impl Model for Clock {
+    ghost use Rattle.std.specs.Prelude.{ℕ, ◌≤◌};
+
+    ghost Value = { ℕ };
+
+    ghost view = { λ c. c.period };
+
+    ghost invariant = { λ c. (1 ≤ c.period) × (c.period ≤ 1000) };
+
+    ghost inverse = { λ n. record { period = n } };
+}
+
+impl Clock {
+    /// The clock whose cycles have this many nanoseconds.
+    pub fn new(period: u32) -> Clock
+        requires some { 1 ≤ period }
+        requires few { period ≤ 1000 }
+        ensures { result ≡ period }
+    {
+        Clock { period }
+    }
+
+    /// The time of a cycle, in nanoseconds from the first cycle's.
+    pub fn now(&self, cycle: u64) -> u64
+        requires { cycle ≤ 4000000010 }
+        ensures { result ≡ time self.now cycle }
+    {
+        u64::from(self.period) * cycle
+    }
+}
+
+/// The moment, in nanoseconds, of a high and a low word.
+pub fn moment(hi: u32, lo: u32) -> u64
+    ensures { result ≡ moment hi lo }
+{
+    (u64::from(hi) << 32) + u64::from(lo)
+}
+
+#[cfg(test)]
+mod tests {
+    use super::{Clock, moment};
+
+    #[test]
+    fn times_and_moments(rt: HostRuntime) {
+        assert_eq!(rt; Clock::new(10).now(8), 80);
+        assert_eq!(rt; Clock::new(1_000).now(4_000_000_010), 4_000_000_010_000);
+        assert_eq!(rt; moment(1, 0xffff_ffff), 0x1_ffff_ffff);
+    }
+}

@@ -1,0 +1,122 @@
+//! The timers of the eight threads.
+
+ghost use Rattle.std.specs.Prelude.{◌≡◌, ◌<◌, length, replicate, slice_set};
+ghost use Rattle.timer_unit.specs.Time.{armed_at, disarmed, is_due, latched, low_word, no_timer, timer_of};
+
+use crate::row::Timer;
+use std::marker::Model;
+
+/// The timers of the eight hardware threads. Times and moments are in nanoseconds, and a thread is
+/// 0 to 7.
+#[derive(Clone, Copy, Debug, PartialEq, Eq)]
+pub struct Timers {
+    rows: [Timer; 8],
+}
+
+impl Model for Timers {
+    ghost use Rattle.std.specs.Prelude.{List};
+    ghost use Rattle.timer_unit.specs.declared.row.Timer.{Timer};
+
+    ghost Value = { List Timer };
+
+    ghost view = { λ t. t.rows };
+
+    ghost inverse = { λ rows. record { rows = rows } };
+}
+
+impl Timers {
+    /// Timers of which none is armed, and whose latches are 0.
+    pub fn new() -> Timers
+        ensures { result ≡ replicate 8 no_timer }
+    {
+        Timers {
+            rows: [Timer {
+                armed: None,
+                high: 0,
+            }; 8],
+        }
+    }
+
+    /// The low word of the time. The high word is latched for the thread.
+    pub fn get_low(&mut self, thread: u8, now: u64) -> u32
+        requires { thread < 8 }
+        ensures low { result ≡ low_word now }
+        ensures latch { self.new ≡ slice_set self.old thread (latched (timer_of self.old thread) now) }
+        ensures eight { length self.new ≡ 8 }
+    {
+        self.rows[thread as usize].high = (now >> 32) as u32;
+        (now % 0x1_0000_0000) as u32
+    }
+
+    /// The high word that is latched for the thread.
+    pub fn get_high(&self, thread: u8) -> u32
+        requires { thread < 8 }
+        ensures { result ≡ (timer_of self.now thread).high }
+    {
+        self.rows[thread as usize].high
+    }
+
+    /// Arms a moment for the thread, in place of one that was armed before.
+    pub fn arm(&mut self, thread: u8, moment: u64)
+        requires { thread < 8 }
+        ensures armed { self.new ≡ slice_set self.old thread (armed_at (timer_of self.old thread) moment) }
+        ensures eight { length self.new ≡ 8 }
+    {
+        self.rows[thread as usize].armed = Some(moment);
+    }
+
+    /// Leaves nothing armed for the thread.
+    pub fn disarm(&mut self, thread: u8)
+        requires { thread < 8 }
+        ensures disarmed { self.new ≡ slice_set self.old thread (disarmed (timer_of self.old thread)) }
+        ensures eight { length self.new ≡ 8 }
+    {
+        self.rows[thread as usize].armed = None;
+    }
+
+    /// The moment that is armed for the thread.
+    pub fn armed(&self, thread: u8) -> Option<u64>
+        requires { thread < 8 }
+        ensures { result ≡ (timer_of self.now thread).armed }
+    {
+        self.rows[thread as usize].armed
+    }
+
+    /// Whether a moment is armed for the thread that the time has reached.
+    pub fn due(&self, thread: u8, now: u64) -> bool
+        requires { thread < 8 }
+        ensures { result ≡ is_due (timer_of self.now thread).armed now }
+    {
+        match self.rows[thread as usize].armed {
+            Some(moment) => moment <= now,
+            None => false,
+        }
+    }
+}
+
+#[cfg(test)]
+mod tests {
+    use super::Timers;
+
+    #[test]
+    fn each_thread_has_its_own_moment_and_latch(rt: HostRuntime) {
+        let mut timers = Timers::new();
+        timers.arm(3, 200);
+        timers.arm(4, 0x7_0000_0000);
+        assert_eq!(rt; timers.get_low(3, 0x5_0000_0064), 0x64);
+        assert_eq!(rt; timers.get_high(3), 5);
+        assert_eq!(rt; timers.get_high(4), 0);
+        for (thread, now, due) in [
+            (3, 199, false),
+            (3, 200, true),
+            (4, 200, false),
+            (5, 200, false),
+        ] {
+            assert_eq!(rt; timers.due(thread, now), due, "thread {thread} at {now}");
+        }
+        timers.disarm(3);
+        assert_eq!(rt; timers.armed(3), None);
+        assert_eq!(rt; timers.armed(4), Some(0x7_0000_0000));
+        assert_eq!(rt; timers.get_high(3), 5);
+    }
+}
