@@ -21,8 +21,9 @@ placed_where size address len h false e = inr (grind (arith, nat_tests), grind (
 
 pub placed_facts : (size address len : ℕ) → IsTrue (is_placed size address len) → Placed size address len
 placed_facts size address len h = record {
-    some = grind (arith, nat_tests);
-    where_it_is = placed_where size address len h (nat_le (address + len) size) refl; }
+  some = grind (arith, nat_tests);
+  where_it_is = placed_where size address len h (nat_le (address + len) size) refl;
+}
 
 pub placed-wider : (size address len : ℕ) → IsSize size → IsTrue (is_placed size address len) → IsTrue (is_placed 65536 address len)
 placed-wider size address len s h = grind (arith, nat_tests)
@@ -43,11 +44,12 @@ ends-append from (x ∷ xs) s = ends-append (end_of x) xs s
 pub IsImage-append : (size : ℕ) (xs : List Segment) (s : Segment) → IsImage size xs → length xs < 16 → IsTrue (is_placed size s.address (length s.bytes)) → ends 0 xs ≤ s.address
     → IsImage size (xs ++ s ∷ [])
 IsImage-append size xs s h few placed after = record {
-    few = simp length-append (omega arith);
-    rising = Rises-append size 0 xs s h.rising placed after; }
+  few = simp length-append (omega arith);
+  rising = Rises-append size 0 xs s h.rising placed after;
+}
 
 pub IsImage-wider : (size : ℕ) (xs : List Segment) → IsSize size → IsImage size xs → IsImage 65536 xs
-IsImage-wider size xs s h = record { few = h.few; rising = Rises-wider size 0 xs s h.rising; }
+IsImage-wider size xs s h = record { few = h.few; rising = Rises-wider size 0 xs s h.rising }
 
 -- the number of bytes that segments hold
 abbrev pub total_len : List Segment → ℕ

@@ -3,12 +3,10 @@
 ghost use Rattle.std.specs.Prelude.{◌≡◌, ◌<◌, ◌%◌, List, [], ◌∷◌, ◌++◌, is_ok, if◌then◌else◌};
 ghost use Rattle.fp_image.specs.Rules.{IsImage, word, word_in};
 
+use crate::parts::{Bytes, Segment};
+use byteorder::{ByteOrder, LittleEndian};
 use std::alloc::{AllocError, Global};
 use std::marker::Model;
-
-use byteorder::{ByteOrder, LittleEndian};
-
-use crate::parts::{Bytes, Segment};
 
 /// At most 16 segments, which rise without overlap, each of whole words and inside one scratchpad
 /// of 65,536 bytes.
@@ -34,7 +32,9 @@ impl Image {
     pub fn new(alloc: Global) -> Image
         ensures { result ≡ [] }
     {
-        Image { segments: Vec::new(alloc) }
+        Image {
+            segments: Vec::new(alloc),
+        }
     }
 
     /// Puts a segment at the end. The image with this segment keeps the rules.

@@ -12,3 +12,6 @@ pub use parts::{Bytes, Segment};
 pub use reader::read_image;
 pub use refusals::{ImageNo, ImageRefused};
 pub use writer::write_image;
+
+#[cfg(test)]
+mod tests;

@@ -4,13 +4,11 @@ ghost use Rattle.std.specs.Prelude.{◌≡◌, ◌⊎◌, ◌≤◌, ◌+◌, le
 ghost use Rattle.fp_image.specs.Format.{count_of, longest, segment_of, segments_of, image_of, IsUnlessMemory};
 ghost use Rattle.fp_image.specs.Rules.{IsImage, IsSize, is_placed};
 
-use std::alloc::Global;
-
-use byteorder::{ByteOrder, LittleEndian};
-
 use crate::images::Image;
 use crate::parts::{Bytes, Segment};
 use crate::refusals::{ImageNo, ImageRefused};
+use byteorder::{ByteOrder, LittleEndian};
+use std::alloc::Global;
 
 /// The image in a file, for scratchpads of `size` bytes, 16,384 or 65,536.
 ///
@@ -38,17 +36,29 @@ fn count_of(bytes: &[u8], size: u32) -> Result<u32, ImageRefused>
     ensures short { IfOk result (λ count. length bytes.now ≤ 139264) }
 {
     if bytes.len() > longest(size) {
-        return Err(ImageRefused::Fault { code: ImageNo::TooLong, offset: 0 });
+        return Err(ImageRefused::Fault {
+            code: ImageNo::TooLong,
+            offset: 0,
+        });
     }
     if !bytes.starts_with(b"FPX1") {
-        return Err(ImageRefused::Fault { code: ImageNo::Magic, offset: 0 });
+        return Err(ImageRefused::Fault {
+            code: ImageNo::Magic,
+            offset: 0,
+        });
     }
     if bytes.len() < 8 {
-        return Err(ImageRefused::Fault { code: ImageNo::Truncated, offset: bytes.len() as u32 });
+        return Err(ImageRefused::Fault {
+            code: ImageNo::Truncated,
+            offset: bytes.len() as u32,
+        });
     }
     let count = LittleEndian::read_u32(&bytes[4..]);
     if count > 16 {
-        return Err(ImageRefused::Fault { code: ImageNo::BadSegment, offset: 4 });
+        return Err(ImageRefused::Fault {
+            code: ImageNo::BadSegment,
+            offset: 4,
+        });
     }
     Ok(count)
 }
@@ -62,7 +72,13 @@ fn longest(size: u32) -> usize
 }
 
 /// The image of `count` segments that `bytes`, the end of a file of `total` bytes, holds.
-fn read_segments(alloc: Global, bytes: &[u8], count: u32, size: u32, total: u32) -> Result<Image, ImageRefused>
+fn read_segments(
+    alloc: Global,
+    bytes: &[u8],
+    count: u32,
+    size: u32,
+    total: u32,
+) -> Result<Image, ImageRefused>
     requires size { IsSize size }
     requires few { count ≤ 16 }
     requires total { length bytes.now ≤ total }
@@ -83,7 +99,10 @@ fn read_segments(alloc: Global, bytes: &[u8], count: u32, size: u32, total: u32)
     }
     if !rest.is_empty() {
         let offset = total - rest.len() as u32;
-        return Err(ImageRefused::Fault { code: ImageNo::Trailing, offset });
+        return Err(ImageRefused::Fault {
+            code: ImageNo::Trailing,
+            offset,
+        });
     }
     Ok(image)
 }
@@ -91,7 +110,13 @@ fn read_segments(alloc: Global, bytes: &[u8], count: u32, size: u32, total: u32)
 /// The segment at the front of `rest`, the end of a file of `total` bytes, where the one before it
 /// ends at the address `from`.
 #[tactic(auto, unfolding(crate::specs::Format::segment_of))]
-fn read_segment(alloc: Global, rest: &[u8], from: u32, size: u32, total: u32) -> Result<Segment, ImageRefused>
+fn read_segment(
+    alloc: Global,
+    rest: &[u8],
+    from: u32,
+    size: u32,
+    total: u32,
+) -> Result<Segment, ImageRefused>
     requires size { IsSize size }
     requires total { length rest.now ≤ total }
     ensures value { IsUnlessMemory result (segment_of size total from rest.now) }
@@ -100,23 +125,38 @@ fn read_segment(alloc: Global, rest: &[u8], from: u32, size: u32, total: u32) ->
     ensures whole { IfOk result (λ s. 8 + length s.bytes ≤ length rest.now) }
 {
     if rest.len() < 8 {
-        return Err(ImageRefused::Fault { code: ImageNo::Truncated, offset: total });
+        return Err(ImageRefused::Fault {
+            code: ImageNo::Truncated,
+            offset: total,
+        });
     }
     let address = LittleEndian::read_u32(rest);
     let len = LittleEndian::read_u32(&rest[4..]);
     let offset = total - rest.len() as u32;
     if !is_placed(address, len, size) {
-        return Err(ImageRefused::Fault { code: ImageNo::BadSegment, offset });
+        return Err(ImageRefused::Fault {
+            code: ImageNo::BadSegment,
+            offset,
+        });
     }
     if address < from {
-        return Err(ImageRefused::Fault { code: ImageNo::Overlap, offset });
+        return Err(ImageRefused::Fault {
+            code: ImageNo::Overlap,
+            offset,
+        });
     }
     let end = 8 + len as usize;
     if rest.len() < end {
-        return Err(ImageRefused::Fault { code: ImageNo::Truncated, offset: total });
+        return Err(ImageRefused::Fault {
+            code: ImageNo::Truncated,
+            offset: total,
+        });
     }
     match Vec::from_slice(alloc, &rest[8..end]) {
-        Ok(bytes) => Ok(Segment { address, bytes: Bytes::from_vec(bytes) }),
+        Ok(bytes) => Ok(Segment {
+            address,
+            bytes: Bytes::from_vec(bytes),
+        }),
         Err(_) => Err(ImageRefused::NoMemory),
     }
 }

@@ -5,12 +5,10 @@ ghost use Rattle.byteorder.specs.Endian.{little_bytes};
 ghost use Rattle.fp_image.specs.Format.{image_of, segment_written, written};
 ghost use Rattle.fp_image.specs.Rules.{IsImage, IsSize};
 
-use std::alloc::{AllocError, Global};
-
-use byteorder::{ByteOrder, LittleEndian};
-
 use crate::images::Image;
 use crate::parts::Segment;
+use byteorder::{ByteOrder, LittleEndian};
+use std::alloc::{AllocError, Global};
 
 /// The file of an image. [`crate::read_image`] gives the image back, for each size of which the
 /// scratchpads hold its segments.

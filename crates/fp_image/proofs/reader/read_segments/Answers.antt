@@ -28,12 +28,13 @@ loop-done-preserved c =
     let after : ends 0 xs ≤ s.address = omega (arith, c.in_ok-segment.ensures.rises) in
     let next : c.args.count - c.loop-done._done ≡ suc (c.args.count - (c.loop-done._done + 1)) = omega arith in
     record {
-        whole = rw (added, c.split_at.ensures.back, c.as_slice-len.ensures)
-            (c.loop-done.invariant.whole ∙ segments_of-next _ _ _ _ _ _ xs s next (is_defined s _ c.in_ok-segment.ensures.value));
-        rules = rw added (IsImage-append c.args.size xs s c.loop-done.invariant.rules few c.in_ok-segment.ensures.placed after);
-        count = rw added (simp length-append (omega arith));
-        end = rw (added, c.as_slice-len.ensures) (ends-append 0 xs s);
-        inside = rw c.split_at.ensures.back (simp length-drop (omega arith)); }
+      whole = rw (added, c.split_at.ensures.back, c.as_slice-len.ensures)
+          (c.loop-done.invariant.whole ∙ segments_of-next _ _ _ _ _ _ xs s next (is_defined s _ c.in_ok-segment.ensures.value));
+      rules = rw added (IsImage-append c.args.size xs s c.loop-done.invariant.rules few c.in_ok-segment.ensures.placed after);
+      count = rw added (simp length-append (omega arith));
+      end = rw (added, c.as_slice-len.ensures) (ends-append 0 xs s);
+      inside = rw c.split_at.ensures.back (simp length-drop (omega arith));
+    }
 
 pub returns-then-not-is_empty-clause-value : goal.returns-then-not-is_empty-clause-value
 returns-then-not-is_empty-clause-value c =

@@ -12,4 +12,5 @@ invariant-loop-done l = record {
   rules : IsImage l.size l.image;
   count : length l.image ≡ l._done;
   end : ends 0 l.image ≡ l.from;
-  inside : length l.rest ≤ l.total; }
+  inside : length l.rest ≤ l.total;
+}
