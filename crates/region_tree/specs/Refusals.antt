@@ -84,13 +84,13 @@ pub record IsLowest (P : ℕ → Type 0) (a : ℕ) : Type 0 where
   pub holds : P a
   pub lowest : (b : ℕ) → P b → a ≤ b
 
--- The first of the four that holds anywhere, with the lowest address.
+-- The first of the four that holds anywhere, with the lowest address. Memory may be refused whatever holds.
 abbrev pub IsRefused : Graph → TreeNo → Type 0
 IsRefused g (Nesting a) = IsLowest (NestingAt g) a
 IsRefused g (IndirectJump a) = Nowhere (NestingAt g) × IsLowest (IndirectAt g) a
 IsRefused g (TimedWait a) = Nowhere (NestingAt g) × Nowhere (IndirectAt g) × IsLowest (TimedAt g) a
 IsRefused g (UnboundedBackEdge a) = Nowhere (NestingAt g) × Nowhere (IndirectAt g) × Nowhere (TimedAt g) × IsLowest (UnboundedAt g) a
-IsRefused g NoMemory = ⊥
+IsRefused g NoMemory = Unit {0}
 
 -- None of the four holds anywhere.
 pub record IsAllowed (g : Graph) : Type 0 where

@@ -1,10 +1,14 @@
 //! A section with its words and the loops that count in it.
 
-ghost use Rattle.std.specs.Prelude.{◌≡◌, ℕ, ◌+◌, ◌*◌, ◌<◌, ◌≤◌, ◌%◌, length};
+ghost use Rattle.std.specs.Prelude.{◌≡◌, ℕ, ◌+◌, ◌*◌, ◌<◌, ◌≤◌, ◌%◌, length, filter, IfOk};
+ghost use Rattle.fp_image.specs.Rules.{word};
+ghost use Rattle.region_tree.specs.Tree.{IsSection, counts, words_of};
 
 use crate::edges::{Edges, edges_of};
 use crate::section::Section;
-use fp_setup::LoopSetup;
+use fp_image::Image;
+use fp_setup::{LoopSetup, Loops};
+use std::alloc::{AllocError, Global};
 use std::marker::Model;
 
 /// A section, its words and the loops that count in it. Nothing is known yet of how they fit
@@ -26,10 +30,66 @@ impl Model for Draft {
     ghost invariant = { λ t. IsDraft (record { section = t.section; words = t.words.items; loops = t.loops.items }) };
 }
 
+/// The words of an image in a section.
+#[tactic(auto, unfolding(crate::specs::Tree::words_of))]
+fn words(alloc: Global, image: &Image, section: Section) -> Result<Vec<u32>, AllocError>
+    requires { IsSection section }
+    ensures { IfOk result (λ words. words.items ≡ words_of (word image.now) section) }
+{
+    let mut words = Vec::new(alloc);
+    for place in 0..(section.to - section.from) / 4 {
+        words.push(image.code_word(section.from + 4 * place))?;
+    }
+    Ok(words)
+}
+
+/// Whether a loop has its head and its last word in a section.
+fn counts(section: Section, j: LoopSetup) -> bool
+    ensures { result ≡ counts section j }
+{
+    (section.from <= j.head && j.head < section.to)
+        && (section.from <= j.last && j.last < section.to)
+}
+
+/// The loops that count in a section.
+fn counting(
+    alloc: Global,
+    section: Section,
+    loops: &[LoopSetup],
+) -> Result<Vec<LoopSetup>, AllocError>
+    ensures { IfOk result (λ counting. counting.items ≡ filter (counts section) loops.now) }
+{
+    loops
+        .iter()
+        .copied()
+        .filter(|j| counts(section, *j))
+        .collect(alloc)
+}
+
 impl Draft {
+    ghost use Rattle.fp_image.specs.Rules.{word};
     ghost use Rattle.region_tree.specs.Edges.{edges_of};
     ghost use Rattle.region_tree.specs.Search.{address, place_of};
-    ghost use Rattle.region_tree.specs.Tree.{IsDraft, word_at};
+    ghost use Rattle.region_tree.specs.Tree.{IsDraft, IsSection, tree_of, word_at};
+
+    /// A section of an image, with those of the loops that count in it.
+    pub fn new(
+        alloc: Global,
+        image: &Image,
+        section: Section,
+        loops: &Loops,
+    ) -> Result<Draft, AllocError>
+        requires { IsSection section }
+        ensures { IfOk result (λ draft. draft ≡ tree_of (word image.now) section loops.now) }
+    {
+        let words = words(alloc, image, section)?;
+        let loops = counting(alloc, section, loops.as_slice())?;
+        Ok(Draft {
+            section,
+            words,
+            loops,
+        })
+    }
 
     /// The section.
     pub fn section(&self) -> Section

@@ -1,26 +1,47 @@
 //! A section with its words and the loops that count in it.
 
-ghost use Rattle.std.specs.Prelude.{◌≡◌, ◌≤◌, ◌<◌, ◌%◌};
+ghost use Rattle.std.specs.Prelude.{◌≡◌};
 
 use crate::draft::Draft;
+use crate::reach::reachable;
+use crate::refusals::check;
 use crate::section::Section;
-use fp_setup::LoopSetup;
+use fp_image::Image;
+use fp_setup::{LoopSetup, Loops};
+use std::alloc::{AllocError, Global};
 use std::marker::Model;
+use thiserror::Error;
 
 /// Why a section with loops has no bound. The numbers are those that a refusal line shows.
-#[derive(Clone, Copy, Debug, PartialEq, Eq)]
+#[derive(Clone, Copy, Debug, PartialEq, Eq, Error)]
 pub enum TreeNo {
     /// Loops overlap, lie too deep or are entered not at their head; the head of such a loop.
+    #[error("loops are nested badly at {address:#010x}")]
     Nesting { address: u32 },
     /// A reachable word jumps to an address out of a register; the word's address.
+    #[error("an indirect jump at {address:#010x}")]
     IndirectJump { address: u32 },
     /// A reachable word waits for a moment; the word's address.
+    #[error("a timed wait at {address:#010x}")]
     TimedWait { address: u32 },
     /// A reachable word leads back to a word that is no head of a counting loop around it; the
     /// word's address.
+    #[error("a way back without a bound at {address:#010x}")]
     UnboundedBackEdge { address: u32 },
     /// Memory was refused.
+    #[error("out of memory")]
     NoMemory,
+}
+
+impl From<AllocError> for TreeNo {
+    ghost use Rattle.std.specs.Prelude.{◌≡◌};
+    ghost use Rattle.region_tree.specs.declared.tree.TreeNo.TheVariants.{NoMemory};
+
+    ghost from_gives = { λ _ no. no ≡ NoMemory };
+
+    fn from(_error: AllocError) -> TreeNo {
+        TreeNo::NoMemory
+    }
 }
 
 /// A section of code that has a bound: its words, and the loops of a setup that count in it.
@@ -40,7 +61,35 @@ impl Model for LoopTree {
 }
 
 impl LoopTree {
-    ghost use Rattle.region_tree.specs.Tree.{IsTree, word_at};
+    ghost use Rattle.std.specs.Prelude.{◌≡◌, ◌≤◌, ◌<◌, ◌%◌, IfOk, IfErr, OnOk};
+    ghost use Rattle.fp_image.specs.Rules.{word};
+    ghost use Rattle.region_tree.specs.Refusals.{IsAllowed, IsRefused};
+    ghost use Rattle.region_tree.specs.Tree.{IsSection, IsTree, graph, tree_of, word_at};
+
+    /// The tree of a section of an image and of the loops that count in it: those of the listed
+    /// loops whose head and last word lie in the section. The section isn't empty, its ends are
+    /// multiples of four, and it ends at most at 65,536.
+    ///
+    /// # Errors
+    ///
+    /// [`TreeNo`] exactly where the section has no bound: the first of its causes that holds
+    /// anywhere, with the lowest address at which it holds. Besides, memory may be refused.
+    pub fn build(
+        alloc: Global,
+        image: &Image,
+        section: Section,
+        loops: &Loops,
+    ) -> Result<LoopTree, TreeNo>
+        requires { IsSection section }
+        ensures tree { IfOk result (λ tree. tree ≡ tree_of (word image.now) section loops.now) }
+        ensures allowed { OnOk result (IsAllowed (graph (tree_of (word image.now) section loops.now))) }
+        ensures refused { IfErr result (IsRefused (graph (tree_of (word image.now) section loops.now))) }
+    {
+        let draft = Draft::new(alloc, image, section, loops)?;
+        let met = reachable(alloc, &draft)?;
+        check(&draft, met.as_slice())?;
+        Ok(LoopTree { draft })
+    }
 
     /// The section.
     pub fn section(&self) -> Section
