@@ -3,7 +3,6 @@ pub mod Counters
 pub mod Split
 pub mod Embed
 pub mod Heads
-pub mod Reach
 pub mod Passes
 pub mod Limits
 pub mod Outermost
@@ -13,3 +12,4 @@ pub mod Accepted
 pub mod Entries
 pub mod StepLaws
 pub mod AdvanceLaws
+pub mod PassLaws

@@ -57,9 +57,9 @@ reach-head {x} {s} {a} {b} {m} j t part r h best rounds both = best-same there b
         record { at = z.at; one = z.one; two = z.two; first = z.first; second = subst (λ n. Rounds (net x) j n z.at z.two q) sums up; cost = z.cost }
 
 -- one edge more
-pub comes-more : {x : Course} {s : Part} {f : Edges} {a b c : Entries} (v : ℕ) (e : Edge) → v < e.to → e.to ≤ s.high →
-    IsBest a (Comes x s f e.to) → IsBest b (Then (Reaches (net x) s v) (Steps x.positions e.lag)) → IsBest c (Either (In a) (In b)) → IsBest c (Comes x s (And f v e) e.to)
-comes-more {x} {s} {f} v e up high old new both = best-same there back (best-either old new both)
+pub comes-more : {x : Course} {s : Part} {f : Edges} {c : Entries} (v : ℕ) (e : Edge) → v < e.to → e.to ≤ s.high →
+    IsBest c (Either (Comes x s f e.to) (Then (Reaches (net x) s v) (Steps x.positions e.lag))) → IsBest c (Comes x s (And f v e) e.to)
+comes-more {x} {s} {f} v e up high both = best-same there back both
   where
     there : Within (Either (Comes x s f e.to) (Then (Reaches (net x) s v) (Steps x.positions e.lag))) (Comes x s (And f v e) e.to)
     there p c q (inl (inl stays)) = inl stays
@@ -74,22 +74,16 @@ comes-more {x} {s} {f} v e up high old new both = best-same there back (best-eit
     back p c q (inl stays) = inl (inl stays)
     back p c q (inr b) = last b b.edge
 
--- two sets that have the same edges up to w
-pub comes-same : {x : Course} {s : Part} {f g : Edges} {m : Entries} {w : ℕ} → ((u : ℕ) (e : Edge) → e.to ≡ w → u < w → s.low ≤ u → f u e → g u e) → ((u : ℕ) (e : Edge) → e.to ≡ w → u < w → s.low ≤ u → g u e → f u e) →
-    IsPart (net x) s → IsBest m (Comes x s f w) → IsBest m (Comes x s g w)
-comes-same {x} {s} {f} {g} {m} {w} there back part = best-same (along f g there) (along g f back)
+-- two sets that have the same edges from reachable words up to w
+pub comes-same : {x : Course} {s : Part} {f g : Edges} {m : Entries} {w : ℕ} → Reachable x.graph s.low → ((u : ℕ) (e : Edge) → e.to ≡ w → Reachable x.graph u → f u e → g u e) → ((u : ℕ) (e : Edge) → e.to ≡ w → Reachable x.graph u → g u e → f u e) →
+    IsBest m (Comes x s f w) → IsBest m (Comes x s g w)
+comes-same {x} {s} {f} {g} {m} {w} r there back = best-same (along f g there) (along g f back)
   where
-    along : (f g : Edges) → ((u : ℕ) (e : Edge) → e.to ≡ w → u < w → s.low ≤ u → f u e → g u e) → Within (Comes x s f w) (Comes x s g w)
+    along : (f g : Edges) → ((u : ℕ) (e : Edge) → e.to ≡ w → Reachable x.graph u → f u e → g u e) → Within (Comes x s f w) (Comes x s g w)
     along f g h p c q (inl stays) = inl stays
-    along f g h p c q (inr b) = inr (record { from = b.from; at = b.at; one = b.one; two = b.two; lag = b.lag; walk = b.walk; edge = h b.from (record { to = w; lag = b.lag }) refl b.up (above part b.walk.walk) b.edge; move = b.move; up = b.up; high = b.high; cost = b.cost })
+    along f g h p c q (inr b) = inr (record { from = b.from; at = b.at; one = b.one; two = b.two; lag = b.lag; walk = b.walk; edge = h b.from (record { to = w; lag = b.lag }) refl (walk-reachable r b.walk.walk) b.edge; move = b.move; up = b.up; high = b.high; cost = b.cost })
 
 -- rounds, from the edges that lead back
-pub turns-rounds : {x : Course} (j : LoopSetup) → IsAccepted x.graph → Reachable x.graph j.head → Contains x.graph.loops j → (f : Edges) → ((u : ℕ) (e : Edge) → e.to ≡ j.head → f u e → Holds j u × Contains (x.graph.edges u) e) → Within (Turns x j f) (Round (net x) j)
-turns-rounds {x} j a r h f is p c q t =
-    let e = is t.from (record { to = j.head; lag = t.lag }) refl t.edge in
-    let o = a.ordered j h in
-    record { from = t.from; at = t.at; one = t.one; two = t.two; walk = t.walk; arc = record { lag = t.lag; edge = e.1; move = t.move; reached = walk-reachable r t.walk.walk; lies = record { low = o.0; high = omega arith } }; held = e.0; cost = t.cost }
-
 pub rounds-turns : {x : Course} (j : LoopSetup) (f : Edges) → ((u : ℕ) (e : Edge) → e.to ≡ j.head → Holds j u → Contains (x.graph.edges u) e → f u e) → Within (Round (net x) j) (Turns x j f)
 rounds-turns j f is p c q b = record { from = b.from; at = b.at; one = b.one; two = b.two; lag = b.arc.lag; walk = b.walk; edge = is b.from (record { to = j.head; lag = b.arc.lag }) refl b.held b.arc.edge; move = b.arc.move; cost = b.cost }
 

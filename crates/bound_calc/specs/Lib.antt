@@ -5,6 +5,6 @@ pub mod Section
 pub mod Ways
 pub mod Pass
 pub mod Limit
-pub mod Climb
 pub mod Matrices
 pub mod Hops
+pub mod Passing

@@ -1,11 +1,11 @@
 -- What a forward pass holds between two words.
-use Rattle.std.specs.Prelude.{◌≡◌, ℕ, ◌+◌, ◌<◌, ◌≤◌, ◌⊎◌, Contains}
+use Rattle.std.specs.Prelude.{◌≡◌, ℕ, ◌+◌, ◌<◌, ◌≤◌, ◌⊎◌, Option, Contains}
 use Rattle.bound_calc.specs.Best.{Costs, Stays}
 use Rattle.bound_calc.specs.Context.{Part, body}
 use Rattle.bound_calc.specs.Section.{net}
 use Rattle.bound_calc.specs.Ways.{Reaches}
 use Rattle.fp_setup.specs.declared.loop_list.LoopSetup.{LoopSetup}
-use Rattle.region_tree.specs.Graph.{Edge}
+use Rattle.region_tree.specs.Graph.{Edge, edge_to}
 use Rattle.region_tree.specs.Walk.{Course, IsOwn, IsNextTurn, Positions}
 
 -- a set of edges, each with the word that it leaves
@@ -19,6 +19,10 @@ Below x v u e = (u < v) × Contains (x.graph.edges u) e
 -- these edges and one more
 abbrev pub And : Edges → ℕ → Edge → Edges
 And f v e u e' = f u e' ⊎ ((u ≡ v) × (e' ≡ e))
+
+-- these edges and that of a word to a target, if there is one
+abbrev pub AndTo : Edges → ℕ → Option ℕ → ℕ → Edges
+AndTo f v target lag u e = f u e ⊎ ((u ≡ v) × Contains (edge_to target lag) e)
 
 abbrev pub Steps : Positions → ℕ → Costs
 Steps s lag p d q = IsNextTurn s lag p d q

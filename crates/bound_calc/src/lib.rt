@@ -4,6 +4,7 @@
 mod advance;
 mod hop;
 mod matrix;
+mod pass;
 mod steps;
 
 pub use matrix::Matrix;

@@ -48,21 +48,24 @@ impl From<AllocError> for TreeNo {
 #[derive(Debug, Drop)]
 pub struct LoopTree {
     draft: Draft,
+    met: Vec<bool>,
 }
 
 impl Model for LoopTree {
+    ghost use Rattle.region_tree.specs.Search.{IsMet};
     ghost use Rattle.region_tree.specs.Tree.{Tree, IsTree};
 
     ghost Value = { Tree };
 
     ghost view = { λ t. t.draft };
 
-    ghost invariant = { λ t. IsTree t.draft };
+    ghost invariant = { λ t. IsTree t.draft × IsMet t.draft t.met.items };
 }
 
 impl LoopTree {
-    ghost use Rattle.std.specs.Prelude.{◌≡◌, ◌≤◌, ◌<◌, ◌%◌, IfOk, IfErr, OnOk};
+    ghost use Rattle.std.specs.Prelude.{◌≡◌, ◌≤◌, ◌<◌, ◌%◌, ◌↔◌, IfOk, IfErr, OnOk, IsTrue};
     ghost use Rattle.fp_image.specs.Rules.{word};
+    ghost use Rattle.region_tree.specs.Graph.{Reachable};
     ghost use Rattle.region_tree.specs.Refusals.{IsAllowed, IsRefused};
     ghost use Rattle.region_tree.specs.Tree.{IsSection, IsTree, graph, tree_of, word_at};
 
@@ -88,7 +91,7 @@ impl LoopTree {
         let draft = Draft::new(alloc, image, section, loops)?;
         let met = reachable(alloc, &draft)?;
         check(&draft, met.as_slice())?;
-        Ok(LoopTree { draft })
+        Ok(LoopTree { draft, met })
     }
 
     /// The section.
@@ -114,5 +117,17 @@ impl LoopTree {
         ensures { result.now ≡ self.now.loops }
     {
         self.draft.loops()
+    }
+
+    /// Whether edges inside the section lead to the word at `address`, a multiple of four in the
+    /// section, from its first word.
+    pub fn is_reachable(&self, address: u32) -> bool
+        requires aligned { address % 4 ≡ 0 }
+        requires low { self.now.section.from ≤ address }
+        requires high { address < self.now.section.to }
+        ensures { IsTrue result ↔ Reachable (graph self.now) address }
+    {
+        let section = self.draft.section();
+        self.met[((address - section.from) / 4) as usize]
     }
 }

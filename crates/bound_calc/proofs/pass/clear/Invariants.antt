@@ -1,0 +1,6 @@
+use Rattle.std.proofs.Common.{◌≡◌, ℕ, ◌<◌, ◌≤◌, Some}
+use Rattle.bound_calc.specs.Passing.{matrix_at}
+use Rattle.bound_calc.proofs.pass.clear.Given as goal
+
+abbrev pub invariant-loop-place : goal.invariant-loop-place
+invariant-loop-place l = (k : ℕ) → l.fn.span.first ≤ k → k < l.place → (p q c : ℕ) → matrix_at l.at k p q ≡ Some c → ⊥

@@ -1,0 +1,131 @@
+//! What reaches each word of a loop, or of a whole section.
+
+ghost use Rattle.std.specs.Prelude.{◌≡◌, ℕ, ◌+◌, ◌*◌, ◌<◌, ◌≤◌, ◌^◌, length, Option, Some, None, slice_index_or, MatchOption, Contains, IfSome};
+ghost use Rattle.std.specs.Option.{option_map};
+ghost use Rattle.region_tree.specs.Search.{address};
+ghost use Rattle.region_tree.specs.Tree.{IsTree};
+ghost use Rattle.bound_calc.specs.Best.{In, IsBest, Then};
+ghost use Rattle.bound_calc.specs.Section.{net};
+ghost use Rattle.bound_calc.specs.Ways.{Reaches};
+ghost use Rattle.bound_calc.specs.Pass.{Steps as StepsAfter};
+ghost use Rattle.bound_calc.specs.Matrices.{HasSums, entry};
+ghost use Rattle.bound_calc.specs.Passing.{IsBrought, IsReady, IsSpan, edges_at, matrix_at, over, part_of, up_of};
+
+use crate::advance::advance;
+use crate::matrix::Matrix;
+use crate::steps::Steps;
+use fp_setup::LoopSetup;
+use region_tree::{Edges, JUMP_LAG, LoopTree, edges_of};
+
+/// The places of a part's first and last word.
+#[derive(Clone, Copy)]
+pub struct Span {
+    pub first: usize,
+    pub last: usize,
+}
+
+/// The places of a loop, or of the whole section.
+pub fn places_of(tree: &LoopTree, around: Option<LoopSetup>) -> Span
+    requires { IfSome around (λ j. Contains tree.now.loops j) }
+    ensures span { (s : _) → IsSpan tree.now (part_of (over tree.now s) around) result.first result.last }
+    ensures rules { IsTree tree.now }
+{
+    let section = tree.section();
+    match around {
+        None => Span {
+            first: 0,
+            last: ((section.to - section.from) / 4 - 1) as usize,
+        },
+        Some(j) => Span {
+            first: ((j.head - section.from) / 4) as usize,
+            last: ((j.last - section.from) / 4) as usize,
+        },
+    }
+}
+
+/// The edges of the word at a place.
+pub fn edges_at(tree: &LoopTree, place: usize) -> Edges
+    requires { place < length tree.now.words }
+    ensures { result ≡ edges_at tree.now place }
+{
+    let address = tree.section().from + 4 * place as u32;
+    edges_of(tree.word(address), address)
+}
+
+/// The place of an edge's target, where it is above a place and at most at another.
+fn up_to(tree: &LoopTree, place: usize, last: usize, target: Option<u32>) -> Option<usize>
+    requires order { place ≤ last }
+    requires within { last < length tree.now.words }
+    ensures { result ≡ up_of tree.now place last target }
+{
+    let from = tree.section().from;
+    match target {
+        Some(to) if from + 4 * (place as u32) < to && to <= from + 4 * (last as u32) => {
+            Some(((to - from) / 4) as usize)
+        }
+        _ => None,
+    }
+}
+
+/// What holds at a word, from what comes to it and the power of the loop whose head it is.
+fn with_rounds(here: &Matrix, power: &Option<Box<Matrix>>) -> Matrix
+    requires { (m : _) → option_map (λ b. b.value) power.now ≡ Some m → HasSums here.now m }
+    ensures { MatchOption (option_map (λ b. b.value) power.now) (result ≡ here.now) (λ m. IsBest (entry result) (Then (In (entry here.now)) (In (entry m)))) }
+{
+    match power {
+        None => *here,
+        Some(power) => here.chain(power),
+    }
+}
+
+/// Takes a matrix along an edge to a place.
+fn bring(steps: &Steps, to: Option<usize>, here: &Matrix, lag: u64, at: &mut [Matrix])
+    requires lag { lag ≤ 3 }
+    requires within { IfSome to (λ k. k < length at.old) }
+    requires fits { IfSome to (λ _. (p c q : ℕ) → Then (In (entry here.now)) (StepsAfter steps.now lag) p c q → c < 2 ^ 127) }
+    ensures { IsBrought steps.now to here.now lag at.old at.new }
+{
+    let Some(to) = to else {
+        return;
+    };
+    let joined = advance(here, steps.hops(lag), &at[to]);
+    at[to] = joined;
+}
+
+/// Takes every sum out of the matrices of a span.
+fn clear(at: &mut [Matrix], span: Span)
+    requires { span.last < length at.old }
+    ensures { (k : ℕ) → span.first ≤ k → k ≤ span.last → (p q c : ℕ) → matrix_at at.new k p q ≡ Some c → ⊥ }
+{
+    for place in span.first..span.last + 1 {
+        at[place] = Matrix::NONE;
+    }
+}
+
+/// Works out what reaches each word of a loop, or of the whole section, from its first word. The
+/// powers are those of the loops inside.
+pub fn pass(
+    tree: &LoopTree,
+    steps: &Steps,
+    powers: &[Option<Box<Matrix>>],
+    around: Option<LoopSetup>,
+    at: &mut [Matrix],
+)
+    requires known { IfSome around (λ j. Contains tree.now.loops j) }
+    requires ready { IsReady (over tree.now steps.now) tree.now (part_of (over tree.now steps.now) around) powers.now }
+    requires room { length at.old ≡ length tree.now.words }
+    ensures { let s = part_of (over tree.now steps.now) around in (k : ℕ) → s.low ≤ address tree.now k → address tree.now k ≤ s.high → IsBest (matrix_at at.new k) (Reaches (net (over tree.now steps.now)) s (address tree.now k)) }
+{
+    let span = places_of(tree, around);
+    clear(at, span);
+    at[span.first] = *steps.one();
+    for place in span.first..span.last + 1 {
+        let here = with_rounds(&at[place], &powers[place]);
+        at[place] = here;
+        let edges = edges_at(tree, place);
+        let next = up_to(tree, place, span.last, edges.next);
+        bring(steps, next, &here, edges.next_lag, at);
+        let jump = up_to(tree, place, span.last, edges.jump);
+        bring(steps, jump, &here, JUMP_LAG, at);
+    }
+}
