@@ -13,3 +13,7 @@ pub mod Entries
 pub mod StepLaws
 pub mod AdvanceLaws
 pub mod PassLaws
+mod PowerLaws
+mod TurnLaws
+mod FillLaws
+mod MostLaws

@@ -1,5 +1,7 @@
 -- The bound of a section.
-use Rattle.std.specs.Prelude.{ℕ, ◌≤◌}
+use Rattle.std.specs.Prelude.{ℕ, ◌≤◌, ◌^◌}
+use Rattle.bound_calc.specs.declared.cycle_bound.BoundNo.{BoundNo}
+use Rattle.bound_calc.specs.declared.cycle_bound.BoundNo.TheVariants.{Overflow, NoMemory}
 use Rattle.slot_table.specs.Frame.{frame}
 use Rattle.region_tree.specs.Tree.{Tree, graph}
 use Rattle.region_tree.specs.Walk.{CostsOf, Course, Positions}
@@ -8,6 +10,11 @@ use Rattle.region_tree.specs.Walk.{CostsOf, Course, Positions}
 pub record IsBound (x : Course) (b : ℕ) : Type 0 where
   pub met : CostsOf x b
   pub kept : (c : ℕ) → CostsOf x c → c ≤ b
+
+-- Why none is answered: the bound has more than 64 bits, or memory was refused.
+abbrev pub IsTooLarge : Course → BoundNo → Type 0
+IsTooLarge x (Overflow value) = IsBound x value × (2 ^ 64 ≤ value)
+IsTooLarge x NoMemory = Unit {0}
 
 -- the positions of a thread in the frame of a word of the slots register
 abbrev pub positions : ℕ → ℕ → Positions

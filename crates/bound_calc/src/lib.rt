@@ -2,9 +2,14 @@
 #![tactic(auto)]
 
 mod advance;
+mod cycle_bound;
+mod fill;
 mod hop;
 mod matrix;
 mod pass;
+mod powers;
+mod rounds;
 mod steps;
 
+pub use cycle_bound::{BoundNo, bound};
 pub use matrix::Matrix;

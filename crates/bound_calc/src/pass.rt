@@ -28,6 +28,8 @@ pub struct Span {
 pub fn places_of(tree: &LoopTree, around: Option<LoopSetup>) -> Span
     requires { IfSome around (λ j. Contains tree.now.loops j) }
     ensures span { (s : _) → IsSpan tree.now (part_of (over tree.now s) around) result.first result.last }
+    ensures order { result.first ≤ result.last }
+    ensures inside { result.last < length tree.now.words }
     ensures rules { IsTree tree.now }
 {
     let section = tree.section();

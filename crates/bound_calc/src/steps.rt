@@ -98,6 +98,7 @@ fn one(slots: &SlotTable, thread: u8) -> Matrix
 }
 
 /// The turns of a thread, with the steps between them. Contracts see the frame and the thread.
+#[derive(Drop)]
 pub struct Steps {
     slots: SlotTable,
     thread: u8,

@@ -1,0 +1,9 @@
+use Rattle.bound_calc.specs.Best.{IsBest}
+use Rattle.bound_calc.specs.Matrices.{entry}
+use Rattle.bound_calc.specs.Pass.{Below, Turns}
+use Rattle.bound_calc.specs.Passing.{over}
+use Rattle.region_tree.specs.Search.{address}
+use Rattle.bound_calc.proofs.rounds.rounds.Given as goal
+
+abbrev pub invariant-loop-place : goal.invariant-loop-place
+invariant-loop-place l = IsBest (entry l.back) (Turns (over l.tree l.steps) l.j (Below (over l.tree l.steps) (address l.tree l.place)))

@@ -1,0 +1,82 @@
+//! The powers of all loops, from the last head to the first.
+
+ghost use Rattle.std.specs.Prelude.{◌≡◌, ◌≢◌, ℕ, ◌+◌, ◌<◌, ◌≤◌, length, MatchOption, Contains, OnOk, IfOk};
+ghost use Rattle.bound_calc.specs.Passing.{IsFilled, Powers, over, power_at};
+
+use crate::matrix::Matrix;
+use crate::rounds::rounds;
+use crate::steps::Steps;
+use fp_setup::LoopSetup;
+use region_tree::LoopTree;
+use std::alloc::{AllocError, Global};
+
+/// No powers.
+pub fn empty(alloc: Global, count: usize) -> Result<Vec<Option<Box<Matrix>>>, AllocError>
+    ensures { IfOk result (λ powers. (length powers.items ≡ count) × ((k : ℕ) → power_at powers.items k ≡ None)) }
+{
+    let mut powers = Vec::new(alloc);
+    for _place in 0..count {
+        powers.push(None)?;
+    }
+    Ok(powers)
+}
+
+/// The first of the loops with this head.
+fn loop_at(loops: &[LoopSetup], head: u32) -> Option<LoopSetup>
+    ensures { MatchOption result ((j : _) → Contains loops.now j → head ≢ j.head) (λ j. Contains loops.now j × (head ≡ j.head)) }
+{
+    for j in loops {
+        if j.head == head {
+            return Some(*j);
+        }
+    }
+    None
+}
+
+/// The power of the loop whose head is the word at a place, if it is one that is reachable.
+fn fill_word(
+    alloc: Global,
+    tree: &LoopTree,
+    steps: &Steps,
+    place: usize,
+    powers: &mut [Option<Box<Matrix>>],
+    at: &mut [Matrix],
+) -> Result<(), AllocError>
+    requires frame { length steps.now.frame ≤ 8 }
+    requires place { place < length tree.now.words }
+    requires filled { IsFilled (over tree.now steps.now) tree.now (place + 1) powers.old }
+    requires room { length at.old ≡ length tree.now.words }
+    ensures { OnOk result (IsFilled (over tree.now steps.now) tree.now place powers.new) }
+{
+    let address = tree.section().from + 4 * place as u32;
+    if !tree.is_reachable(address) {
+        return Ok(());
+    }
+    let Some(j) = loop_at(tree.loops(), address) else {
+        return Ok(());
+    };
+    let power = rounds(tree, steps, powers, j, at);
+    powers[place] = Some(Box::new(alloc, power)?);
+    Ok(())
+}
+
+/// The powers of all loops whose heads are reachable, inner loops first.
+pub fn fill(
+    alloc: Global,
+    tree: &LoopTree,
+    steps: &Steps,
+    powers: &mut [Option<Box<Matrix>>],
+    at: &mut [Matrix],
+) -> Result<(), AllocError>
+    requires frame { length steps.now.frame ≤ 8 }
+    requires filled { IsFilled (over tree.now steps.now) tree.now (length tree.now.words) powers.old }
+    requires room { length at.old ≡ length tree.now.words }
+    ensures { OnOk result (IsFilled (over tree.now steps.now) tree.now 0 powers.new) }
+{
+    let mut place = at.len();
+    while place > 0 {
+        place -= 1;
+        fill_word(alloc, tree, steps, place, powers, at)?;
+    }
+    Ok(())
+}
