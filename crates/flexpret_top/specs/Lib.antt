@@ -1,4 +1,5 @@
 pub mod Words
+pub mod Asked
 pub mod Bare
 pub mod Answer
 pub mod Status

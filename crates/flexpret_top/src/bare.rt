@@ -1,8 +1,8 @@
 //! The machine that runs a bare image.
 
-ghost use Rattle.std.specs.Prelude.{◌≡◌, ◌<◌, ◌≤◌, ◌%◌, IfOk, length};
-ghost use Rattle.solo_run.specs.Solo.{view_of};
-ghost use Rattle.flexpret_top.specs.Bare.{bare_view, fault_of, no_port};
+ghost use Rattle.std.specs.Prelude.{◌≡◌, ◌≤◌, ◌%◌, [], IfOk, length};
+ghost use Rattle.solo_run.specs.Solo.{IsView, view_of, view_with, cycle_of};
+ghost use Rattle.flexpret_top.specs.Bare.{bare_view, fault_of};
 
 use scratchpad::Spm;
 use solo_run::{Kind, SoloRun, SoloView};

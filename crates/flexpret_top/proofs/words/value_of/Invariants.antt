@@ -1,6 +1,6 @@
 use Rattle.std.proofs.Common.{◌≡◌, ◌+◌, ◌≤◌, ◌^◌, drop}
 use Rattle.flexpret_top.specs.Words.{value_after}
-use Rattle.flexpret_top.proofs.words.number.Given as goal
+use Rattle.flexpret_top.proofs.words.value_of.Given as goal
 
 abbrev pub invariant-loop-digit : goal.invariant-loop-digit
 invariant-loop-digit l = record {
