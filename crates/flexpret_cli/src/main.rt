@@ -1,11 +1,10 @@
 //! The program: `flexpret run IMAGE --thread i --cycles n`.
 #![tactic(auto)]
 
-use std::{env, io};
-use std::process::ExitCode;
-
 use flexpret_top::flexpret;
 use fp_io::{OutSink, RealFiles};
+use std::process::ExitCode;
+use std::{env, io};
 
 /// The status where the words ask no command.
 const USAGE: u8 = 2;
@@ -40,7 +39,12 @@ fn run(rt: HostRuntime) -> u8 {
         Ok(words) => words,
         Err(status) => return status,
     };
-    flexpret(rt.alloc(), &words, &mut RealFiles::new(rt), &mut OutSink::new(rt))
+    flexpret(
+        rt.alloc(),
+        &words,
+        &mut RealFiles::new(rt),
+        &mut OutSink::new(rt),
+    )
 }
 
 fn main(rt: HostRuntime) -> ExitCode {

@@ -23,14 +23,14 @@ over-long a image other long also = ap (over_fault a image) (fault-long image lo
 pub over-take : (a : Asked) (whole : List ℕ) (most : ℕ) → most ≡ 4096 → over_image a (take (most + 1) whole) ≡ over_image a whole
 over-take a whole most is =
     elim (cases_lt most (length whole)) [
-      inl long ↦
-        let more : length (take (most + 1) whole) ≡ min (most + 1) (length whole) = length-take (most + 1) whole in
-        let cut_long : 4096 < length (take (most + 1) whole) = omega (arith, more, is, long) in
-        let whole_long : 4096 < length whole = omega (arith, is, long) in
-        over-long a (take (most + 1) whole) whole cut_long whole_long
-    | inr short ↦
-        let all : length whole ≤ most + 1 = omega (arith, short) in
-        ap (over_image a) (take_all (most + 1) whole all)
+      | inl long ↦
+          let more : length (take (most + 1) whole) ≡ min (most + 1) (length whole) = length-take (most + 1) whole in
+          let cut_long : 4096 < length (take (most + 1) whole) = omega (arith, more, is, long) in
+          let whole_long : 4096 < length whole = omega (arith, is, long) in
+          over-long a (take (most + 1) whole) whole cut_long whole_long
+      | inr short ↦
+          let all : length whole ≤ most + 1 = omega (arith, short) in
+          ap (over_image a) (take_all (most + 1) whole all)
     ]
 
 said_over : (a : Asked) (bytes : List ℕ) (most s : ℕ) (before after : Option (List ℕ)) → most ≡ 4096 → (o : Option (List ℕ)) →

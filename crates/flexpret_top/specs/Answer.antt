@@ -9,8 +9,8 @@ use Rattle.flexpret_top.specs.Words.{Asked, ask}
 use Rattle.flexpret_top.specs.Bare.{bare_view, fault_of}
 
 pub data Answer : Type 0 where
-  Says : ℕ → List ℕ → Answer            -- a status and a text
-  Missing : Answer                      -- a file that the command reads isn't there
+  Says : ℕ → List ℕ → Answer  -- a status and a text
+  Missing : Answer  -- a file that the command reads isn't there
 
 abbrev pub over_fault : Asked → List ℕ → Option Refusal → Answer
 over_fault a image (Some refusal) = Says 4 (refusal_text refusal)

@@ -9,14 +9,29 @@ use crate::words::{cycles_of, names_file, thread_of};
 
 /// The six words of a command.
 #[tactic(auto, unfolding(crate::specs::Words::ask_six))]
-fn read_six<'a>(command: &str, image: &'a str, thread_option: &str, thread: &str, cycles_option: &str, cycles: &str) -> Option<Run<'a>>
+fn read_six<'a>(
+    command: &str,
+    image: &'a str,
+    thread_option: &str,
+    thread: &str,
+    cycles_option: &str,
+    cycles: &str,
+) -> Option<Run<'a>>
     ensures { asks result ≡ ask_six command.now image.now thread_option.now thread.now cycles_option.now cycles.now }
 {
-    if command != "run" || !names_file(image) || thread_option != "--thread" || cycles_option != "--cycles" {
+    if command != "run"
+        || !names_file(image)
+        || thread_option != "--thread"
+        || cycles_option != "--cycles"
+    {
         return None;
     }
     match (thread_of(thread), cycles_of(cycles)) {
-        (Some(thread), Some(cycles)) => Some(Run { image, thread, cycles }),
+        (Some(thread), Some(cycles)) => Some(Run {
+            image,
+            thread,
+            cycles,
+        }),
         _ => None,
     }
 }
@@ -28,5 +43,12 @@ pub fn read_words(words: &[String]) -> Option<Run<'_>>
     if words.len() != 6 {
         return None;
     }
-    read_six(words[0].as_str(), words[1].as_str(), words[2].as_str(), words[3].as_str(), words[4].as_str(), words[5].as_str())
+    read_six(
+        words[0].as_str(),
+        words[1].as_str(),
+        words[2].as_str(),
+        words[3].as_str(),
+        words[4].as_str(),
+        words[5].as_str(),
+    )
 }

@@ -12,15 +12,14 @@ ghost use Rattle.flexpret_top.specs.Bare.{bare_view};
 ghost use Rattle.flexpret_top.specs.Status.{number_of, IsStatus, IsAfterFetch};
 ghost use Rattle.flexpret_top.specs.Words.{ask};
 
-use fp_io::{FetchFault, Files, PutFailed, Sink};
-use solo_run::NoPort;
-use std::alloc::Global;
-use trace_print::{Refusal, refusal_line};
-
 use crate::asked::read_words;
 use crate::bare::{MOST, bare_run, fault_of};
 use crate::run::Run;
 use crate::status::Status;
+use fp_io::{FetchFault, Files, PutFailed, Sink};
+use solo_run::NoPort;
+use std::alloc::Global;
+use trace_print::{Refusal, refusal_line};
 
 /// Puts the line of a refusal.
 fn refuse<K: Sink>(refusal: &Refusal, out: &mut K) -> Status
@@ -102,7 +101,12 @@ fn run_asked<F: Files, K: Sink>(alloc: Global, run: &Run, files: &mut F, out: &m
 /// - 7: the image isn't there, or it could not be read; nothing was written;
 /// - 8: the sink failed; a prefix of the text or refusal line was written;
 /// - 9: memory was refused; nothing was written.
-pub fn flexpret<F: Files, K: Sink>(alloc: Global, words: &[String], files: &mut F, out: &mut K) -> u8
+pub fn flexpret<F: Files, K: Sink>(
+    alloc: Global,
+    words: &[String],
+    files: &mut F,
+    out: &mut K,
+) -> u8
     ensures usage { (result ≡ 2) ↔ (ask (map string_bytes words.now) ≡ None) }
     ensures untouched { result ≡ 2 → files.new ≡ files.old }
     ensures said { result < 7 → IfSome (F.told files.old) (λ told. IsSaid result (K.taken out.old) (K.taken out.new) (answer (map string_bytes words.now) told)) }
