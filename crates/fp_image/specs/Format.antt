@@ -1,0 +1,101 @@
+-- The image file FPX1: the four bytes of its name, the number of segments, and for each segment its
+-- address, its length and its bytes. Numbers are four bytes, the lowest first. Source: this
+-- project's profile.
+use Rattle.std.specs.Prelude.{◌≡◌, ◌⊎◌, ℕ, zero, suc, ◌+◌, ◌-◌, ◌==◌, nat_lt, nat_eq, Bool, not, if◌then◌else◌, List, [], ◌∷◌, ◌++◌, length, take, drop, codes, Option, Some, None, Result, Ok, Err}
+use Rattle.std.specs.List.{starts_with, flat_map}
+use Rattle.byteorder.specs.Endian.{little_number, little_bytes}
+use Rattle.fp_image.specs.Rules.{IsSize, IsImage, is_placed}
+use Rattle.fp_image.specs.declared.parts.Segment.{Segment}
+use Rattle.fp_image.specs.declared.refusals.ImageNo.{ImageNo}
+use Rattle.fp_image.specs.declared.refusals.ImageNo.TheVariants.{TooLong, Magic, Truncated, BadSegment, Overlap, Trailing}
+use Rattle.fp_image.specs.declared.refusals.ImageRefused.{ImageRefused}
+use Rattle.fp_image.specs.declared.refusals.ImageRefused.TheVariants.{Fault, NoMemory}
+
+-- the longest file, by the size of a scratchpad
+abbrev pub longest : ℕ → ℕ
+longest size = if size == 16384 then 34816 else 139264
+
+-- a number of the file
+abbrev pub number_at : ℕ → List ℕ → ℕ
+number_at place bytes = little_number 4 (drop place bytes)
+
+-- A check of the file: whether it fails, and the fault and the place in the file that it then gives.
+pub record Check : Type 0 where
+  pub fails : Bool
+  pub code : ImageNo
+  pub offset : ℕ
+
+abbrev pub check : Bool → ImageNo → ℕ → Check
+check fails code offset = record { fails = fails; code = code; offset = offset }
+
+-- the fault of the first check that fails
+abbrev pub first_fault : List Check → Option ImageRefused
+first_fault [] = None
+first_fault (c ∷ more) = if c.fails then Some (Fault c.code c.offset) else first_fault more
+
+-- the checks before the segments, in their order
+abbrev pub header_checks : ℕ → List ℕ → List Check
+header_checks size file = check (nat_lt (longest size) (length file)) TooLong 0
+    ∷ check (not (starts_with nat_eq file (codes "FPX1"))) Magic 0
+    ∷ check (nat_lt (length file) 8) Truncated (length file)
+    ∷ check (nat_lt 16 (number_at 4 file)) BadSegment 4
+    ∷ []
+
+-- the checks of a segment, in their order: of a file of so many bytes in all, `rest` is what stands
+-- from the segment's address field on, and the segment before ends at `from`
+abbrev pub segment_checks : ℕ → ℕ → ℕ → List ℕ → List Check
+segment_checks size total from rest = check (nat_lt (length rest) 8) Truncated total
+    ∷ check (not (is_placed size (number_at 0 rest) (number_at 4 rest))) BadSegment (total - length rest)
+    ∷ check (nat_lt (number_at 0 rest) from) Overlap (total - length rest)
+    ∷ check (nat_lt (length rest) (8 + number_at 4 rest)) Truncated total
+    ∷ []
+
+-- the check after the segments
+abbrev pub end_checks : ℕ → List ℕ → List Check
+end_checks total rest = check (nat_lt 0 (length rest)) Trailing (total - length rest) ∷ []
+
+-- a result where no check fails
+abbrev pub unless : {A : Type 0} → Option ImageRefused → A → Result A ImageRefused
+unless (Some fault) value = Err fault
+unless None value = Ok value
+
+-- a result that goes on from another
+abbrev pub and_then : {A B : Type 0} → Result A ImageRefused → (A → Result B ImageRefused) → Result B ImageRefused
+and_then (Ok value) next = next value
+and_then (Err fault) next = Err fault
+
+-- a result that is the defined one, unless memory was refused
+abbrev pub IsUnlessMemory : {A : Type 0} → Result A ImageRefused → Result A ImageRefused → Type 0
+IsUnlessMemory result defined = (result ≡ Err NoMemory) ⊎ (result ≡ defined)
+
+-- the number of segments
+unfoldable pub count_of : ℕ → List ℕ → Result ℕ ImageRefused
+count_of size file = unless (first_fault (header_checks size file)) (number_at 4 file)
+
+-- a segment, which stands at the front of the rest
+unfoldable pub segment_of : ℕ → ℕ → ℕ → List ℕ → Result Segment ImageRefused
+segment_of size total from rest = unless (first_fault (segment_checks size total from rest))
+    (record { address = number_at 0 rest; bytes = take (number_at 4 rest) (drop 8 rest) })
+
+-- the segments in the rest of the file, so many of them
+unfoldable pub segments_of : ℕ → ℕ → ℕ → ℕ → List ℕ → Result (List Segment) ImageRefused
+segments_of size total zero from rest = unless (first_fault (end_checks total rest)) []
+segments_of size total (suc n) from rest =
+    and_then (segment_of size total from rest) (λ s.
+    and_then (segments_of size total n (s.address + length s.bytes) (drop (8 + length s.bytes) rest)) (λ more.
+    Ok (s ∷ more)))
+
+-- The segments of an image file for scratchpads of this size, or its first fault.
+unfoldable pub image_of : ℕ → List ℕ → Result (List Segment) ImageRefused
+image_of size file = and_then (count_of size file) (λ count. segments_of size (length file) count 0 (drop 8 file))
+
+-- The file of an image.
+abbrev pub segment_written : Segment → List ℕ
+segment_written s = little_bytes 4 s.address ++ (little_bytes 4 (length s.bytes) ++ s.bytes)
+
+unfoldable pub written : List Segment → List ℕ
+written segments = codes "FPX1" ++ (little_bytes 4 (length segments) ++ flat_map segment_written segments)
+
+-- The file is read as these segments, for each size whose scratchpads they lie inside.
+abbrev pub IsReadBack : List ℕ → List Segment → Type 0
+IsReadBack file segments = (size : ℕ) → IsSize size → IsImage size segments → image_of size file ≡ Ok segments

@@ -1,0 +1,17 @@
+//! The image of a program: the segments of its two scratchpads, and the file that they come in.
+#![tactic(auto)]
+
+mod images;
+mod parts;
+mod reader;
+mod refusals;
+mod writer;
+
+pub use images::Image;
+pub use parts::{Bytes, Segment};
+pub use reader::read_image;
+pub use refusals::{ImageNo, ImageRefused};
+pub use writer::write_image;
+
+#[cfg(test)]
+mod tests;
