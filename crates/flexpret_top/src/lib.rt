@@ -11,3 +11,6 @@ mod words;
 pub use asked::read_words;
 pub use command::flexpret;
 pub use run::Run;
+
+#[cfg(test)]
+mod tests;
