@@ -1,11 +1,10 @@
 -- The first bytes of an image, one more than it may have, answer as the whole image does.
-use Rattle.std.proofs.Common.{refl, ◌≡◌, ℕ, ◌+◌, ◌<◌, ◌≤◌, ◌⊎◌, nat_lt, true, List, length, take, min, Option, Some, None, arith, ap, sym, subst, ◌∙◌, inl, inr}
+use Rattle.std.proofs.Common.{refl, ◌≡◌, ℕ, ◌+◌, ◌<◌, ◌≤◌, nat_lt, true, List, length, take, min, Option, Some, None, arith, ap, sym, subst, ◌∙◌, inl, inr}
 use Rattle.std.specs.Prelude.{IfSome, IsSomeAnd}
 use Rattle.std.proofs.lemmas.Bool.{cases_lt}
 use Rattle.std.proofs.lemmas.Bool.Decides.{nat_tests}
 use Rattle.std.proofs.lemmas.List.{length-take, take_all}
 use Rattle.fp_io.specs.Content.{FileMap, Fetched}
-use Rattle.trace_print.specs.declared.refusals.Refusal.{Refusal}
 use Rattle.trace_print.specs.declared.refusals.Refusal.TheVariants.{Image}
 use Rattle.flexpret_top.specs.Words.{Asked}
 use Rattle.flexpret_top.specs.Bare.{fault_of}

@@ -44,3 +44,8 @@ WritesFront before after Missing = ⊥
 abbrev pub IsMissing : Answer → Type 0
 IsMissing (Says s text) = ⊥
 IsMissing Missing = Unit {0}
+
+-- a status is the answer's
+abbrev pub IsAnswered : ℕ → Answer → Type 0
+IsAnswered status (Says s text) = status ≡ s
+IsAnswered status Missing = status ≡ 7

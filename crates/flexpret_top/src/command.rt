@@ -5,7 +5,7 @@ ghost use Rattle.fp_io.specs.Causes.{Rose};
 ghost use Rattle.fp_io.specs.Content.{Lacks};
 ghost use Rattle.trace_print.specs.Refusals.{refusal_text};
 ghost use Rattle.solo_run.specs.Text.{solo_text};
-ghost use Rattle.flexpret_top.specs.Answer.{Answer, IsSaid, WritesFront, IsMissing, over_image, over_file, answer};
+ghost use Rattle.flexpret_top.specs.Answer.{Answer, IsSaid, WritesFront, IsMissing, IsAnswered, over_image, over_file, answer};
 ghost use Rattle.flexpret_top.specs.Answer.Answer.{Says};
 ghost use Rattle.flexpret_top.specs.Asked.{asked_of};
 ghost use Rattle.flexpret_top.specs.Bare.{bare_view};
@@ -83,6 +83,7 @@ fn run_asked<F: Files, K: Sink>(alloc: Global, run: &Run, files: &mut F, out: &m
     ensures write { result ≡ Status.Write → Rose (K.faults out.old) (K.faults out.new) }
     ensures front { result ≡ Status.Write → IfSome (F.told files.old) (λ told. WritesFront (K.taken out.old) (K.taken out.new) (over_file (asked_of run.now) (told run.now.image.now))) }
     ensures asked { result ≢ Status.Usage }
+    ensures complete { ¬ Rose (F.faults files.old) (F.faults files.new) → ¬ Rose (K.faults out.old) (K.faults out.new) → IfSome (F.told files.old) (λ told. (result ≡ Status.NoMemory) ⊎ IsAnswered (number_of result) (over_file (asked_of run.now) (told run.now.image.now))) }
     ensures nothing { (result ≡ Status.Read) ⊎ (result ≡ Status.NoMemory) → out.new ≡ out.old }
 {
     match files.fetch(alloc, run.image, MOST) {
@@ -114,6 +115,7 @@ pub fn flexpret<F: Files, K: Sink>(
     ensures write { result ≡ 8 → Rose (K.faults out.old) (K.faults out.new) }
     ensures front { result ≡ 8 → IfSome (F.told files.old) (λ told. WritesFront (K.taken out.old) (K.taken out.new) (answer (map string_bytes words.now) told)) }
     ensures statuses { IsStatus result }
+    ensures complete { ¬ Rose (F.faults files.old) (F.faults files.new) → ¬ Rose (K.faults out.old) (K.faults out.new) → IfSome (F.told files.old) (λ told. (result ≡ 9) ⊎ IsAnswered result (answer (map string_bytes words.now) told)) }
     ensures nothing { (result ≡ 2) ⊎ ((result ≡ 7) ⊎ (result ≡ 9)) → out.new ≡ out.old }
     ensures counted_files { F.faults files.old ≤ F.faults files.new }
     ensures counted_out { K.faults out.old ≤ K.faults out.new }

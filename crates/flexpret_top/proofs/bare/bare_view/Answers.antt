@@ -1,4 +1,4 @@
-use Rattle.std.proofs.Common.{◌≡◌, ℕ, List, ap, ap₂, ◌∙◌}
+use Rattle.std.proofs.Common.{ℕ, List, ap, ap₂, ◌∙◌}
 use Rattle.scratchpad.specs.Words.{words_of, written_at}
 use Rattle.core_model.specs.View.{View}
 use Rattle.flexpret_top.specs.Bare.{bare_view}

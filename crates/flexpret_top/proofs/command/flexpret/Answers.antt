@@ -1,4 +1,4 @@
-use Rattle.std.proofs.Common.{◌≡◌, ◌⊎◌, ℕ, Some, None, subst, sym, ◌∙◌, inl, inr}
+use Rattle.std.proofs.Common.{◌≡◌, ◌⊎◌, ℕ, subst, sym, ◌∙◌}
 use Rattle.flexpret_top.proofs.Numbers.{usage_of, nothing_of}
 use Rattle.flexpret_top.proofs.command.flexpret.Goals as goal
 
