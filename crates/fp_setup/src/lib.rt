@@ -7,6 +7,7 @@
 mod bounds;
 mod file_name;
 mod input_list;
+mod keys;
 mod loop_list;
 mod nibble_list;
 mod refusal;

@@ -1,9 +1,9 @@
 //! One value of a document, checked at its place.
 
-ghost use Rattle.std.specs.Prelude.{◌≡◌, ◌<◌, IfOk, true, map, option_map};
+ghost use Rattle.std.specs.Prelude.{◌≡◌, ◌<◌, ◌&&◌, false, IfOk, true, map, option_map};
 ghost use Rattle.toml.specs.Data.{as_integer, as_str, as_bool};
 ghost use Rattle.toml.specs.View.{view};
-ghost use Rattle.fp_setup.specs.Checks.{integer_fault, word_fault, truth_fault, is_in};
+ghost use Rattle.fp_setup.specs.Checks.{integer_fault, word_fault, truth_fault, permit_fault, is_in};
 ghost use Rattle.fp_setup.specs.Values.{as_list, number, text, truth};
 ghost use Rattle.fp_setup.specs.Meaning.{named};
 ghost use Rattle.fp_setup.specs.Vocabulary.{is_value};
@@ -62,6 +62,19 @@ pub(crate) fn truth_value(value: &Value, place: Place) -> Result<bool, Fault>
     ensures { IsRead result (truth_fault place (as_bool (view value.now))) (truth (view value.now)) }
 {
     match value.as_bool() {
+        Some(flag) => Ok(flag),
+        None => Err(Fault::new(SetupNo::WrongType, place)),
+    }
+}
+
+/// A truth value that isn't true beside another.
+#[tactic(auto, unfolding(crate::specs::Checks::permit_fault))]
+pub(crate) fn permit(value: &Value, confined: bool, place: Place) -> Result<bool, Fault>
+    ensures read { IsRead result (permit_fault confined place (as_bool (view value.now))) (truth (view value.now)) }
+    ensures one_of_both { IfOk result (λ permit. (confined && permit) ≡ false) }
+{
+    match value.as_bool() {
+        Some(true) if confined => Err(Fault::new(SetupNo::ConfinedPermit, place)),
         Some(flag) => Ok(flag),
         None => Err(Fault::new(SetupNo::WrongType, place)),
     }
