@@ -1,7 +1,6 @@
 -- The checks of one value, at its place: the first fault, or none.
-use Rattle.std.specs.Prelude.{ℕ, ℤ, pos, negsuc, ◌+◌, ◌%◌, ◌==◌, ◌&&◌, Bool, true, false, nat_le, nat_lt, List, [], ◌∷◌, length, Option, Some, None, is_some, option_and_then, if◌then◌else◌}
+use Rattle.std.specs.Prelude.{ℕ, ℤ, pos, negsuc, ◌+◌, ◌%◌, ◌==◌, ◌&&◌, Bool, true, false, nat_le, nat_lt, List, [], ◌∷◌, length, Option, Some, None, is_some, if◌then◌else◌}
 use Rattle.std.specs.List.{list_any}
-use Rattle.std.specs.Option.{option_map_or}
 use Rattle.toml.specs.Data.{Data, as_integer, as_str}
 use Rattle.fp_setup.specs.declared.refusal.Place.{Place}
 use Rattle.fp_setup.specs.declared.refusal.Fault.{Fault}
@@ -10,7 +9,7 @@ use Rattle.fp_setup.specs.declared.bounds.Range.{Range}
 use Rattle.fp_setup.specs.declared.vocabulary.Words.{Words}
 use Rattle.fp_setup.specs.Faults.{fault, first, element_of}
 use Rattle.fp_setup.specs.Vocabulary.{Text, number_of, refusal}
-use Rattle.fp_setup.specs.Values.{natural, number, as_list}
+use Rattle.fp_setup.specs.Values.{number, pair, input_of}
 
 -- an integer in a range
 abbrev pub is_in : Range → ℕ → Bool
@@ -65,22 +64,6 @@ unfoldable pub eight_fault : Words → Place → Option (List Data) → Option F
 eight_fault words place None = fault no.WrongType place
 eight_fault words place (Some ds) = eight_in_fault words place ds
 
--- exactly two integers
-abbrev pub both : Option ℤ → Option ℤ → Option (ℤ × ℤ)
-both (Some x) (Some y) = Some (x, y)
-both _ _ = None
-
-abbrev pub pair_of : List Data → Option (ℤ × ℤ)
-pair_of (a ∷ b ∷ []) = both (as_integer a) (as_integer b)
-pair_of _ = None
-
-unfoldable pub pair : Data → Option (ℤ × ℤ)
-pair d = option_and_then pair_of (as_list d)
-
--- the cycle of an input
-abbrev pub cycle_of : Data → ℕ
-cycle_of d = option_map_or (λ (p : ℤ × ℤ). natural p.0) (pair d) 0
-
 -- an input, of which the one before has that cycle: a later cycle and a word
 abbrev pub is_after : Option ℕ → ℕ → Bool
 is_after None at = true
@@ -98,7 +81,7 @@ input_fault before place (Some p) = if is_input before p.0 p.1 then None else fa
 abbrev pub inputs_from : Place → ℕ → Option ℕ → List Data → Option Fault
 inputs_from place index before [] = None
 inputs_from place index before (d ∷ ds) =
-    first (input_fault before (element_of place index) (pair d)) (inputs_from place (index + 1) (Some (cycle_of d)) ds)
+    first (input_fault before (element_of place index) (pair d)) (inputs_from place (index + 1) (Some (input_of d).at) ds)
 
 -- a list of at most so many elements
 abbrev pub few_fault : ℕ → (List Data → Option Fault) → Place → List Data → Option Fault

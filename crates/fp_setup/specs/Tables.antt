@@ -65,14 +65,21 @@ unknown_fault known table ms = if has_other_key known ms then fault no.UnknownKe
 abbrev pub table_fault : (Kind → Place → Data → Option Fault) → List Key → Place → Members → Option Fault
 table_fault check keys table ms = first (unknown_fault (names keys) table ms) (keys_fault check table 1 keys ms)
 
--- the table of a thread, after those with these ids, and the table of a loop
-unfoldable pub thread_fault : ℕ → List ℕ → Place → Option Members → Option Fault
-thread_fault size ids row None = fault no.WrongType row
-thread_fault size ids row (Some ms) = table_fault (value_fault (record { size = size; table = ms; ids = ids })) thread_keys row ms
+-- the table of a thread, after those with these ids
+unfoldable pub thread_table_fault : ℕ → List ℕ → Place → Members → Option Fault
+thread_table_fault size ids row ms = table_fault (value_fault (record { size = size; table = ms; ids = ids })) thread_keys row ms
 
-unfoldable pub loop_fault : ℕ → Place → Option Members → Option Fault
+abbrev pub thread_fault : ℕ → List ℕ → Place → Option Members → Option Fault
+thread_fault size ids row None = fault no.WrongType row
+thread_fault size ids row (Some ms) = thread_table_fault size ids row ms
+
+-- the table of a loop
+unfoldable pub loop_table_fault : ℕ → Place → Members → Option Fault
+loop_table_fault size row ms = table_fault (value_fault (record { size = size; table = ms; ids = [] })) loop_keys row ms
+
+abbrev pub loop_fault : ℕ → Place → Option Members → Option Fault
 loop_fault size row None = fault no.WrongType row
-loop_fault size row (Some ms) = table_fault (value_fault (record { size = size; table = ms; ids = [] })) loop_keys row ms
+loop_fault size row (Some ms) = loop_table_fault size row ms
 
 -- the id that a thread's table names
 abbrev pub id_of : Data → ℕ

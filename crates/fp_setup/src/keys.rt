@@ -1,6 +1,6 @@
 //! The values of a table's keys, each checked at its place.
 
-ghost use Rattle.std.specs.Prelude.{◌≡◌, ◌<◌, ◌&&◌, ℕ, List, true, false, map, option_map, unwrap_or, Option, Some, None, IfOk, IfSome, MatchResult, length};
+ghost use Rattle.std.specs.Prelude.{◌≡◌, ◌<◌, ◌≤◌, ◌==◌, ◌&&◌, ℕ, List, true, false, map, option_map, unwrap_or, Option, Some, None, IfOk, IfSome, MatchResult, length};
 ghost use Rattle.std.specs.Option.{option_map_or};
 ghost use Rattle.std.specs.Str.{bytes_eq};
 ghost use Rattle.toml.specs.Data.{Data, as_integer, as_str, as_bool, get_member};
@@ -12,16 +12,18 @@ ghost use Rattle.fp_setup.specs.declared.refusal.SetupNo.TheVariants as no;
 ghost use Rattle.fp_setup.specs.Faults.{at_place};
 ghost use Rattle.fp_setup.specs.Vocabulary.{is_value};
 ghost use Rattle.fp_setup.specs.Values.{as_list, elements_at, number, number_at, text_at, truth_at};
-ghost use Rattle.fp_setup.specs.Checks.{eight_fault, integer_fault, is_in, permit_fault, truth_fault, word_fault};
+ghost use Rattle.fp_setup.specs.Checks.{bytes_fault, fresh_fault, eight_fault, integer_fault, is_in, permit_fault, truth_fault, word_fault};
 ghost use Rattle.fp_setup.specs.Tables.{has_other_key, key_fault, unknown_fault};
 ghost use Rattle.fp_setup.specs.Meaning.{named, nibble_word};
-ghost use Rattle.fp_setup.specs.Reading.{IsRead};
+ghost use Rattle.fp_setup.specs.Reading.{IsRead, IsReadInMemory};
 
 use crate::bounds::Range;
+use crate::file_name::Name;
 use crate::nibble_list::eight;
-use crate::refusal::{Fault, Place, SetupNo};
-use crate::values::{integer, permit, truth_value, word};
+use crate::refusal::{Fault, Place, SetupNo, SetupRefused};
+use crate::values::{integer, name, permit, truth_value, word};
 use crate::vocabulary::Words;
+use std::alloc::Global;
 use toml::{Table, Value};
 
 fn is_known(keys: &[&str], key: &str) -> bool
@@ -167,4 +169,46 @@ pub(crate) fn permit_or_false(
         Some(value) => permit(value, confined, place),
         None => Ok(false),
     }
+}
+
+/// A name of so many bytes, which is needed.
+#[tactic(auto, unfolding(crate::specs::Tables::key_fault))]
+pub(crate) fn needed_name(
+    alloc: Global,
+    table: &Table,
+    key: &str,
+    low: usize,
+    high: usize,
+    place: Place,
+) -> Result<Name, SetupRefused>
+    ensures read { IsReadInMemory result
+        (key_fault (λ (p : Place) (d : Data). bytes_fault low high p (as_str d)) true place (get_member key.now (table_view table.now)))
+        (text_at key.now (table_view table.now)) }
+    ensures lengths { IfOk result (λ n. (low ≤ length n) × (length n ≤ high)) }
+{
+    name(alloc, needed(table, key, place)?, low, high, place)
+}
+
+/// An integer that is needed, and isn't among those that are taken.
+#[tactic(auto, unfolding(crate::specs::Tables::key_fault))]
+pub(crate) fn needed_fresh(
+    table: &Table,
+    key: &str,
+    range: Range,
+    taken: &[u8],
+    place: Place,
+) -> Result<u8, Fault>
+    requires step { 0 < range.step }
+    requires small { range.high < 256 }
+    ensures read { IsRead result
+        (key_fault (λ (p : Place) (d : Data). fresh_fault range taken.now p d) true place (get_member key.now (table_view table.now)))
+        (number_at key.now (table_view table.now)) }
+    ensures within { IfOk result (λ n. is_in range n ≡ true) }
+    ensures fresh { IfOk result (λ n. list_any (λ k. k == n) taken.now ≡ false) }
+{
+    let number = integer(needed(table, key, place)?, range, place)? as u8;
+    if taken.contains(&number) {
+        return Err(Fault::new(SetupNo::DoubleThread, place));
+    }
+    Ok(number)
 }

@@ -1,17 +1,19 @@
 //! One value of a document, checked at its place.
 
-ghost use Rattle.std.specs.Prelude.{◌≡◌, ◌<◌, ◌&&◌, false, IfOk, true, map, option_map};
+ghost use Rattle.std.specs.Prelude.{◌≡◌, ◌<◌, ◌≤◌, length, ◌&&◌, false, IfOk, true, map, option_map};
 ghost use Rattle.toml.specs.Data.{as_integer, as_str, as_bool};
 ghost use Rattle.toml.specs.View.{view};
-ghost use Rattle.fp_setup.specs.Checks.{integer_fault, word_fault, truth_fault, permit_fault, is_in};
+ghost use Rattle.fp_setup.specs.Checks.{bytes_fault, integer_fault, word_fault, truth_fault, permit_fault, is_in};
 ghost use Rattle.fp_setup.specs.Values.{as_list, number, text, truth};
 ghost use Rattle.fp_setup.specs.Meaning.{named};
 ghost use Rattle.fp_setup.specs.Vocabulary.{is_value};
-ghost use Rattle.fp_setup.specs.Reading.{IsRead};
+ghost use Rattle.fp_setup.specs.Reading.{IsRead, IsReadInMemory};
 
 use crate::bounds::Range;
-use crate::refusal::{Fault, Place, SetupNo};
+use crate::file_name::Name;
+use crate::refusal::{Fault, Place, SetupNo, SetupRefused};
 use crate::vocabulary::Words;
+use std::alloc::Global;
 use toml::Value;
 
 /// The elements of a list.
@@ -78,4 +80,31 @@ pub(crate) fn permit(value: &Value, confined: bool, place: Place) -> Result<bool
         Some(flag) => Ok(flag),
         None => Err(Fault::new(SetupNo::WrongType, place)),
     }
+}
+
+/// A text of so many bytes, as a name.
+#[tactic(auto, unfolding(crate::specs::Checks::bytes_fault))]
+pub(crate) fn name(
+    alloc: Global,
+    value: &Value,
+    low: usize,
+    high: usize,
+    place: Place,
+) -> Result<Name, SetupRefused>
+    ensures read { IsReadInMemory result (bytes_fault low high place (as_str (view value.now))) (text (view value.now)) }
+    ensures lengths { IfOk result (λ n. (low ≤ length n) × (length n ≤ high)) }
+{
+    let Some(text) = value.as_str() else {
+        return Err(SetupRefused::Fault {
+            code: SetupNo::WrongType,
+            place,
+        });
+    };
+    if text.len() < low || high < text.len() {
+        return Err(SetupRefused::Fault {
+            code: SetupNo::OutOfRange,
+            place,
+        });
+    }
+    Ok(Name::from_str(alloc, text)?)
 }
