@@ -1,5 +1,5 @@
 -- The elements of a list of a document.
-use Rattle.std.proofs.Common.{◌≡◌, ℕ, Bool, false, not, ◌||◌, List, [], ◌∷◌, map, String, Global, string_bytes, refl, ap}
+use Rattle.std.proofs.Common.{◌≡◌, ◌≤◌, ℕ, Option, Some, None, Bool, false, not, ◌||◌, List, [], ◌∷◌, map, String, Global, string_bytes, refl, ap}
 use Rattle.std.specs.List.{list_any}
 use Rattle.std.specs.Str.{bytes_eq}
 use Rattle.std.specs.Map.{keys_of}
@@ -26,3 +26,8 @@ other_keys keys (e ∷ es) = ap (λ b. not (list_any (λ known. bytes_eq known (
 pub list_any_map : {X Y : Type 0} (p : Y → Bool) (f : X → Y) (xs : List X) → list_any (λ x. p (f x)) xs ≡ list_any p (map f xs)
 list_any_map p f [] = refl
 list_any_map p f (x ∷ xs) = ap (λ b. p (f x) || b) (list_any_map p f xs)
+
+-- the cycle was reached by the one before
+abbrev pub IsReached : Option ℕ → ℕ → Type 0
+IsReached None at = ⊥
+IsReached (Some before) at = at ≤ before

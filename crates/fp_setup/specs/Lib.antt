@@ -12,3 +12,4 @@ pub mod Tables
 pub mod Meaning
 pub mod Setup
 pub mod Reading
+pub mod Rows

@@ -61,11 +61,14 @@ table_of rows thread = find (λ row. id_at row == thread) rows
 abbrev pub the_threads : List ℕ
 the_threads = 0 ∷ 1 ∷ 2 ∷ 3 ∷ 4 ∷ 5 ∷ 6 ∷ 7 ∷ []
 
+abbrev pub said_of : {X : Type 0} → (Members → X) → X → List Members → ℕ → X
+said_of say other rows thread = option_map_or say (table_of rows thread) other
+
 unfoldable pub threads_of : List Members → List ThreadSetup
-threads_of rows = map (λ thread. option_map_or thread_of (table_of rows thread) unnamed) the_threads
+threads_of rows = map (said_of thread_of unnamed rows) the_threads
 
 unfoldable pub modes_of : List Members → List ℕ
-modes_of rows = map (λ thread. option_map_or mode_at (table_of rows thread) unnamed_mode) the_threads
+modes_of rows = map (said_of mode_at unnamed_mode rows) the_threads
 
 -- the tables in a list
 abbrev pub rows_at : Text → Members → List Members

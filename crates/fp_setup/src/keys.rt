@@ -3,16 +3,15 @@
 ghost use Rattle.std.specs.Prelude.{◌≡◌, ◌<◌, ◌≤◌, ◌==◌, ◌&&◌, ℕ, List, true, false, map, option_map, unwrap_or, Option, Some, None, IfOk, IfSome, MatchResult, length};
 ghost use Rattle.std.specs.Option.{option_map_or};
 ghost use Rattle.std.specs.Str.{bytes_eq};
-ghost use Rattle.toml.specs.Data.{Data, as_integer, as_str, as_bool, get_member};
+ghost use Rattle.toml.specs.Data.{get_member};
 ghost use Rattle.toml.specs.View.{view, table_view};
 ghost use Rattle.nibble_word.specs.Nibbles.{nibbles};
 ghost use Rattle.std.specs.List.{list_all, list_any};
-ghost use Rattle.fp_setup.specs.declared.refusal.Place.{Place};
 ghost use Rattle.fp_setup.specs.declared.refusal.SetupNo.TheVariants as no;
 ghost use Rattle.fp_setup.specs.Faults.{at_place};
 ghost use Rattle.fp_setup.specs.Vocabulary.{is_value};
-ghost use Rattle.fp_setup.specs.Values.{as_list, elements_at, number, number_at, text_at, truth_at};
-ghost use Rattle.fp_setup.specs.Checks.{bytes_fault, fresh_fault, eight_fault, integer_fault, is_in, permit_fault, truth_fault, word_fault};
+ghost use Rattle.fp_setup.specs.Values.{elements_at, number, number_at, text_at, truth_at};
+ghost use Rattle.fp_setup.specs.Checks.{bytes_check, eight_check, fresh_check, integer_check, is_in, permit_check, truth_check, word_check};
 ghost use Rattle.fp_setup.specs.Tables.{has_other_key, key_fault, unknown_fault};
 ghost use Rattle.fp_setup.specs.Meaning.{named, nibble_word};
 ghost use Rattle.fp_setup.specs.Reading.{IsRead, IsReadInMemory};
@@ -85,7 +84,7 @@ pub(crate) fn needed_integer(
 ) -> Result<u32, Fault>
     requires { 0 < range.step }
     ensures read { IsRead result
-        (key_fault (λ (p : Place) (d : Data). integer_fault range p (as_integer d)) true place (get_member key.now (table_view table.now)))
+        (key_fault (integer_check range) true place (get_member key.now (table_view table.now)))
         (number_at key.now (table_view table.now)) }
     ensures within { IfOk result (λ n. is_in range n ≡ true) }
 {
@@ -102,7 +101,7 @@ pub(crate) fn optional_integer(
 ) -> Result<Option<u32>, Fault>
     requires { 0 < range.step }
     ensures read { IsRead result
-        (key_fault (λ (p : Place) (d : Data). integer_fault range p (as_integer d)) false place (get_member key.now (table_view table.now)))
+        (key_fault (integer_check range) false place (get_member key.now (table_view table.now)))
         (option_map number (get_member key.now (table_view table.now))) }
     ensures within { IfOk result (λ o. IfSome o (λ n. is_in range n ≡ true)) }
 {
@@ -121,7 +120,7 @@ pub(crate) fn needed_eight(
     place: Place,
 ) -> Result<u32, Fault>
     ensures read { IsRead result
-        (key_fault (λ (p : Place) (d : Data). eight_fault words p (as_list d)) true place (get_member key.now (table_view table.now)))
+        (key_fault (eight_check words) true place (get_member key.now (table_view table.now)))
         (nibble_word words (elements_at key.now (table_view table.now))) }
     ensures values { IfOk result (λ word. list_all (is_value words) (nibbles word) ≡ true) }
 {
@@ -132,7 +131,7 @@ pub(crate) fn needed_eight(
 #[tactic(auto, unfolding(crate::specs::Tables::key_fault))]
 pub(crate) fn needed_word(table: &Table, key: &str, words: Words, place: Place) -> Result<u8, Fault>
     ensures read { IsRead result
-        (key_fault (λ (p : Place) (d : Data). word_fault words p (as_str d)) true place (get_member key.now (table_view table.now)))
+        (key_fault (word_check words) true place (get_member key.now (table_view table.now)))
         (named words (text_at key.now (table_view table.now))) }
     ensures value { IfOk result (λ n. is_value words n ≡ true) }
 {
@@ -143,7 +142,7 @@ pub(crate) fn needed_word(table: &Table, key: &str, words: Words, place: Place) 
 #[tactic(auto, unfolding(crate::specs::Tables::key_fault))]
 pub(crate) fn truth_or_false(table: &Table, key: &str, place: Place) -> Result<bool, Fault>
     ensures { IsRead result
-        (key_fault (λ (p : Place) (d : Data). truth_fault p (as_bool d)) false place (get_member key.now (table_view table.now)))
+        (key_fault truth_check false place (get_member key.now (table_view table.now)))
         (truth_at key.now (table_view table.now)) }
 {
     match member(table, key) {
@@ -161,7 +160,7 @@ pub(crate) fn permit_or_false(
     place: Place,
 ) -> Result<bool, Fault>
     ensures read { IsRead result
-        (key_fault (λ (p : Place) (d : Data). permit_fault confined p (as_bool d)) false place (get_member key.now (table_view table.now)))
+        (key_fault (permit_check confined) false place (get_member key.now (table_view table.now)))
         (truth_at key.now (table_view table.now)) }
     ensures one_of_both { IfOk result (λ permit. (confined && permit) ≡ false) }
 {
@@ -182,7 +181,7 @@ pub(crate) fn needed_name(
     place: Place,
 ) -> Result<Name, SetupRefused>
     ensures read { IsReadInMemory result
-        (key_fault (λ (p : Place) (d : Data). bytes_fault low high p (as_str d)) true place (get_member key.now (table_view table.now)))
+        (key_fault (bytes_check low high) true place (get_member key.now (table_view table.now)))
         (text_at key.now (table_view table.now)) }
     ensures lengths { IfOk result (λ n. (low ≤ length n) × (length n ≤ high)) }
 {
@@ -190,7 +189,7 @@ pub(crate) fn needed_name(
 }
 
 /// An integer that is needed, and isn't among those that are taken.
-#[tactic(auto, unfolding(crate::specs::Tables::key_fault))]
+#[tactic(auto, unfolding(crate::specs::Tables::key_fault, crate::specs::Checks::fresh_check))]
 pub(crate) fn needed_fresh(
     table: &Table,
     key: &str,
@@ -201,7 +200,7 @@ pub(crate) fn needed_fresh(
     requires step { 0 < range.step }
     requires small { range.high < 256 }
     ensures read { IsRead result
-        (key_fault (λ (p : Place) (d : Data). fresh_fault range taken.now p d) true place (get_member key.now (table_view table.now)))
+        (key_fault (fresh_check range taken.now) true place (get_member key.now (table_view table.now)))
         (number_at key.now (table_view table.now)) }
     ensures within { IfOk result (λ n. is_in range n ≡ true) }
     ensures fresh { IfOk result (λ n. list_any (λ k. k == n) taken.now ≡ false) }

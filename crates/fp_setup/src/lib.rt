@@ -7,11 +7,14 @@
 mod bounds;
 mod file_name;
 mod input_list;
+mod input_rows;
 mod keys;
 mod loop_list;
+mod loop_rows;
 mod nibble_list;
 mod refusal;
 mod thread_list;
+mod thread_rows;
 mod values;
 mod vocabulary;
 mod whole;
