@@ -1,7 +1,8 @@
 -- The elements of a list of a document.
-use Rattle.std.proofs.Common.{◌≡◌, ◌≤◌, ℕ, Option, Some, None, Bool, false, not, ◌||◌, List, [], ◌∷◌, map, String, Global, string_bytes, refl, ap}
+use Rattle.std.proofs.Common.{true, true≢false, ◌⊎◌, inl, inr, sym, ◌∙◌, ◌≡◌, ◌≤◌, ℕ, Option, Some, None, Bool, false, not, ◌||◌, List, [], ◌∷◌, map, String, Global, string_bytes, refl, ap}
 use Rattle.std.specs.List.{list_any}
-use Rattle.std.specs.Str.{bytes_eq}
+use Rattle.std.specs.Str.{bytes_eq, is_utf8, IsUtf8}
+use Rattle.std.proofs.lemmas.Str.{IsUtf8-from_is_utf8, is_utf8-from_IsUtf8}
 use Rattle.std.specs.Map.{keys_of}
 use Rattle.toml.specs.declared.value.Value.{Value}
 use Rattle.toml.specs.View.{members_view}
@@ -31,3 +32,11 @@ list_any_map p f (x ∷ xs) = ap (λ b. p (f x) || b) (list_any_map p f xs)
 abbrev pub IsReached : Option ℕ → ℕ → Type 0
 IsReached None at = ⊥
 IsReached (Some before) at = at ≤ before
+
+-- the test of UTF-8 and what it tells
+pub utf8_test : (bs : List ℕ) → ((is_utf8 bs ≡ true) × IsUtf8 bs) ⊎ ((is_utf8 bs ≡ false) × (¬ (IsUtf8 bs)))
+utf8_test bs = go (is_utf8 bs) refl
+  where
+    go : (b : Bool) → is_utf8 bs ≡ b → ((b ≡ true) × IsUtf8 bs) ⊎ ((b ≡ false) × (¬ (IsUtf8 bs)))
+    go true e = inl (refl, IsUtf8-from_is_utf8 bs e)
+    go false e = inr (refl, λ u. true≢false (sym (is_utf8-from_IsUtf8 bs u) ∙ e))

@@ -94,10 +94,10 @@ abbrev pub loops_from : ℕ → ℕ → List Data → Option Fault
 loops_from size index [] = None
 loops_from size index (d ∷ ds) = first (loop_fault size (loop_row index) (as_table d)) (loops_from size (index + 1) ds)
 
-abbrev pub threads_fault : ℕ → Place → List Data → Option Fault
+unfoldable pub threads_fault : ℕ → Place → List Data → Option Fault
 threads_fault size place ds = threads_from size 0 [] ds
 
-abbrev pub loops_fault : ℕ → Place → List Data → Option Fault
+unfoldable pub loops_fault : ℕ → Place → List Data → Option Fault
 loops_fault size place ds = loops_from size 0 ds
 
 -- the check of a value of the top table

@@ -74,7 +74,7 @@ fn loops_of(alloc: Global, items: &[Value], size: u32) -> Result<Loops, SetupRef
 }
 
 /// The loops that a value lists.
-#[tactic(auto, unfolding(crate::specs::Checks::list_check))]
+#[tactic(auto, unfolding(crate::specs::Checks::list_check, crate::specs::Tables::loops_fault))]
 fn loops(alloc: Global, value: &Value, size: u32, place: Place) -> Result<Loops, SetupRefused>
     requires low { 4 ≤ size }
     ensures read { IsReadInMemory result (list_check 256 (loops_fault size) place (view value.now)) (map loop_of (map members (elements (view value.now)))) }

@@ -63,6 +63,13 @@ impl Place {
         Place::table(1, 0)
     }
 
+    /// The value of a key of the top table, by the key's number.
+    pub(crate) fn top_key(key: u8) -> Place
+        ensures { result ≡ key_of top key }
+    {
+        Place::top().key(key)
+    }
+
     /// A table of a thread.
     pub(crate) fn thread(row: u32) -> Place
         ensures { result ≡ thread_row row }

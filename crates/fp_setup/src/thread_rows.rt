@@ -27,6 +27,9 @@ use crate::vocabulary::Words;
 use std::alloc::Global;
 use toml::{Table, Value};
 
+/// The most tables of threads that a setup may have.
+const MOST_ROWS: usize = 8;
+
 /// The last cycle at which a port may be taken away.
 const LAST_CYCLE: u32 = 4_000_000_000;
 
@@ -177,4 +180,69 @@ fn threads_in(alloc: Global, items: &[Value], size: u32) -> Result<ThreadRows, S
         rows.put(row);
     }
     Ok(rows)
+}
+
+/// What the rows that a value lists say of the threads.
+#[tactic(auto, unfolding(crate::specs::Checks::list_check, crate::specs::Tables::threads_fault))]
+fn threads(
+    alloc: Global,
+    value: &Value,
+    size: u32,
+    place: Place,
+) -> Result<ThreadRows, SetupRefused>
+    requires low { 4 ≤ size }
+    requires high { size ≤ 65536 }
+    ensures read { IsReadInMemory result (list_check 8 (threads_fault size) place (view value.now)) (rows_of (map members (elements (view value.now)))) }
+    ensures modes { IfOk result (λ r. list_all (λ n. nat_lt n 4) r.modes ≡ true) }
+    ensures rules { IfOk result (λ r. AreThreads r.threads) }
+    ensures inside { IfOk result (λ r. All (λ (t : ThreadSetup). t.entry < size) r.threads) }
+{
+    let Some(items) = list(value) else {
+        return Err(SetupRefused::Fault {
+            code: SetupNo::WrongType,
+            place,
+        });
+    };
+    if items.len() > MOST_ROWS {
+        return Err(SetupRefused::Fault {
+            code: SetupNo::TooMany,
+            place,
+        });
+    }
+    threads_in(alloc, items, size)
+}
+
+/// No table names a thread.
+#[tactic(auto, unfolding(crate::specs::Meaning::threads_of, crate::specs::Meaning::modes_of))]
+fn no_threads(alloc: Global) -> ThreadRows
+    ensures read { result ≡ rows_of [] }
+    ensures modes { list_all (λ n. nat_lt n 4) result.modes ≡ true }
+    ensures rules { AreThreads result.threads }
+    ensures entries { All (λ (t : ThreadSetup). t.entry ≡ 0) result.threads }
+{
+    ThreadRows::unnamed(alloc)
+}
+
+/// What the rows under a key of a table say of the threads.
+#[tactic(auto, unfolding(crate::specs::Tables::key_fault))]
+pub(crate) fn threads_or_none(
+    alloc: Global,
+    table: &Table,
+    key: &str,
+    size: u32,
+    place: Place,
+) -> Result<ThreadRows, SetupRefused>
+    requires low { 4 ≤ size }
+    requires high { size ≤ 65536 }
+    ensures read { IsReadInMemory result
+        (key_fault (list_check 8 (threads_fault size)) false place (get_member key.now (table_view table.now)))
+        (rows_of (map members (elements_at key.now (table_view table.now)))) }
+    ensures modes { IfOk result (λ r. list_all (λ n. nat_lt n 4) r.modes ≡ true) }
+    ensures rules { IfOk result (λ r. AreThreads r.threads) }
+    ensures inside { IfOk result (λ r. All (λ (t : ThreadSetup). t.entry < size) r.threads) }
+{
+    match member(table, key) {
+        Some(value) => threads(alloc, value, size, place),
+        None => Ok(no_threads(alloc)),
+    }
 }
