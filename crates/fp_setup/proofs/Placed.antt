@@ -32,7 +32,7 @@ table_of-own (r ∷ rows) row k own fresh =
     let (here, more) = or_parts (id_at r == k) (list_any (λ n. n == k) (map id_at rows)) fresh in
     rw here (table_of-own rows row k own more)
 
-thread_at : (k : ℕ) → k < 8 → get_or the_threads k 0 ≡ k
+pub thread_at : (k : ℕ) → k < 8 → get_or the_threads k 0 ≡ k
 thread_at zero h = refl
 thread_at (suc zero) h = refl
 thread_at (suc (suc zero)) h = refl

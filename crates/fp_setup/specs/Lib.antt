@@ -13,3 +13,4 @@ pub mod Meaning
 pub mod Setup
 pub mod Reading
 pub mod Rows
+pub mod Plain

@@ -24,18 +24,26 @@ pub struct ThreadSetup {
 
 impl ThreadSetup {
     ghost use Rattle.fp_setup.specs.Meaning.{unnamed};
+    ghost use Rattle.fp_setup.specs.Plain.{plain_thread};
 
-    /// A thread that no table names: entry 0, no flags, no unplug and no inputs.
-    pub(crate) fn unnamed(alloc: Global) -> ThreadSetup
-        ensures { result ≡ unnamed }
+    /// A thread with no permit, no unplug and no inputs.
+    pub(crate) fn plain(alloc: Global, entry: u32, confined: bool) -> ThreadSetup
+        ensures { result ≡ plain_thread entry confined }
     {
         ThreadSetup {
-            entry: 0,
-            confined: false,
+            entry,
+            confined,
             permit: false,
             unplug: None,
             inputs: Inputs::from_vec(Vec::new(alloc)),
         }
+    }
+
+    /// A thread that no table names.
+    pub(crate) fn unnamed(alloc: Global) -> ThreadSetup
+        ensures { result ≡ unnamed }
+    {
+        ThreadSetup::plain(alloc, 0, false)
     }
 }
 
@@ -60,8 +68,10 @@ impl Model for Threads {
 
 impl Threads {
     ghost use Rattle.std.specs.Prelude.{replicate, slice_set};
+    ghost use Rattle.std.specs.List.{All};
     ghost use Rattle.fp_setup.specs.Threads.{IsThread};
     ghost use Rattle.fp_setup.specs.Meaning.{unnamed};
+    ghost use Rattle.fp_setup.specs.Plain.{plain_threads};
 
     /// Eight threads that no table names.
     pub(crate) fn unnamed(alloc: Global) -> Threads
@@ -79,6 +89,20 @@ impl Threads {
                 ThreadSetup::unnamed(alloc),
             ],
         }
+    }
+
+    /// Eight threads with these entries and flags, with no permit, no unplug and no inputs.
+    pub(crate) fn plain(alloc: Global, entries: [u32; 8], confined: [bool; 8]) -> Threads
+        requires { All IsThread (plain_threads entries confined) }
+        ensures { result ≡ plain_threads entries confined }
+    {
+        let mut threads = Threads::unnamed(alloc);
+        for thread in 0..8 {
+            let entry = entries[thread as usize];
+            let confined = confined[thread as usize];
+            threads.set(thread, ThreadSetup::plain(alloc, entry, confined));
+        }
+        threads
     }
 
     /// Puts what a setup says of a thread in its place.
