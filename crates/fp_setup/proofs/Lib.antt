@@ -1,2 +1,5 @@
 pub mod Digits
 pub mod Lists
+pub mod Placed
+pub mod TopTable
+pub mod PlainThreads

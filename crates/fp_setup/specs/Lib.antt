@@ -12,3 +12,5 @@ pub mod Tables
 pub mod Meaning
 pub mod Setup
 pub mod Reading
+pub mod Rows
+pub mod Plain

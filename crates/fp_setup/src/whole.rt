@@ -3,6 +3,7 @@
 use crate::file_name::Name;
 use crate::loop_list::Loops;
 use crate::thread_list::Threads;
+use std::alloc::{AllocError, Global};
 use std::marker::Model;
 
 /// An accepted setup. Contracts see its fields under their names.
@@ -36,4 +37,44 @@ impl Model for Setup {
     ghost view = { λ s. record { version = s.version; period = s.period; slots = s.slots; modes = s.modes; iregions = s.iregions; dregions = s.dregions; image = s.image; threads = s.threads; loops = s.loops } };
 
     ghost invariant = { λ s. KeepsRules (record { version = s.version; period = s.period; slots = s.slots; modes = s.modes; iregions = s.iregions; dregions = s.dregions; image = s.image; threads = s.threads; loops = s.loops }) };
+}
+
+impl Setup {
+    ghost use Rattle.std.specs.Prelude.{◌≡◌, IfOk};
+    ghost use Rattle.fp_setup.specs.Rules.{KeepsRules};
+    ghost use Rattle.fp_setup.specs.Plain.{plain_setup};
+
+    /// The setup of version 1 with these values, the image name `-`, no permit, no unplug, no inputs
+    /// and no loops. The values keep the rules of a setup.
+    ///
+    /// # Errors
+    ///
+    /// Memory was refused.
+    #[expect(clippy::too_many_arguments)]
+    pub fn of_words(
+        alloc: Global,
+        period: u32,
+        slots: u32,
+        modes: u32,
+        iregions: u32,
+        dregions: u32,
+        entries: [u32; 8],
+        confined: [bool; 8],
+    ) -> Result<Setup, AllocError>
+        requires { KeepsRules (plain_setup period slots modes iregions dregions entries confined) }
+        ensures { IfOk result (λ s. s ≡ plain_setup period slots modes iregions dregions entries confined) }
+    {
+        let image = Name::from_str(alloc, "-")?;
+        Ok(Setup {
+            version: 1,
+            period,
+            slots,
+            modes,
+            iregions,
+            dregions,
+            image,
+            threads: Threads::plain(alloc, entries, confined),
+            loops: Loops::from_vec(Vec::new(alloc)),
+        })
+    }
 }
