@@ -5,7 +5,11 @@ use Rattle.fp_setup.specs.declared.refusal.Place.{Place}
 
 -- the keys of a table by its number
 abbrev pub keys_of : ℕ → List Key
-keys_of table = if table == 1 then top_keys else if table == 2 then thread_keys else if table == 3 then loop_keys else []
+keys_of table =
+    if table == 1 then top_keys
+    else if table == 2 then thread_keys
+    else if table == 3 then loop_keys
+    else []
 
 -- an entry of a list by its number, from 1; none where the list has no such entry
 abbrev pub entry_of : List (List ℕ) → ℕ → List ℕ
@@ -33,4 +37,5 @@ unfoldable pub place_text : Place → List ℕ
 place_text p =
     if p.table == 0 then codes "-"
     else if p.table == 1 then (if p.key == 0 then codes "top" else value_text 1 p.key p.item)
-    else (if p.key == 0 then row_text p.table p.row else row_text p.table p.row ++ (codes "." ++ value_text p.table p.key p.item))
+    else if p.key == 0 then row_text p.table p.row
+    else row_text p.table p.row ++ (codes "." ++ value_text p.table p.key p.item)

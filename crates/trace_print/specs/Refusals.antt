@@ -118,9 +118,14 @@ unfoldable pub bound_value : ℕ → ℕ → List ℕ
 bound_value code value = if code == 6 then decimal value else hex 8 (value % 2 ^ 32)
 
 unfoldable pub refusal_text : Refusal → List ℕ
-refusal_text (Setup code place) = codes "refused setup " ++ (code_text setup_names code ++ (codes " " ++ (place_text place ++ codes "\n")))
+refusal_text (Setup code place) =
+    codes "refused setup " ++ (code_text setup_names code ++ (codes " " ++ (place_text place ++ codes "\n")))
 refusal_text (Section code) = codes "refused section " ++ (code_text section_names code ++ codes "\n")
-refusal_text (Image code offset) = codes "refused image " ++ (code_text image_names code ++ (codes " " ++ (decimal offset ++ codes "\n")))
-refusal_text (Source line code) = codes "refused source " ++ (decimal line ++ (codes " " ++ (code_text source_names code ++ codes "\n")))
-refusal_text (Bound code value) = codes "refused bound " ++ (code_text bound_names code ++ (codes " " ++ (bound_value code value ++ codes "\n")))
-refusal_text (Routines line code) = codes "refused routines " ++ (decimal line ++ (codes " " ++ (code_text routine_names code ++ codes "\n")))
+refusal_text (Image code offset) =
+    codes "refused image " ++ (code_text image_names code ++ (codes " " ++ (decimal offset ++ codes "\n")))
+refusal_text (Source line code) =
+    codes "refused source " ++ (decimal line ++ (codes " " ++ (code_text source_names code ++ codes "\n")))
+refusal_text (Bound code value) =
+    codes "refused bound " ++ (code_text bound_names code ++ (codes " " ++ (bound_value code value ++ codes "\n")))
+refusal_text (Routines line code) =
+    codes "refused routines " ++ (decimal line ++ (codes " " ++ (code_text routine_names code ++ codes "\n")))

@@ -51,9 +51,7 @@ pub fn refusal_line(r: &Refusal) -> ArrayString<96>
         }
         Refusal::Source { line, code } => {
             text.push_str("refused source ");
-            push_decimal(&mut text, line);
-            text.push_str(" ");
-            push_code(&mut text, code, source_name(code));
+            push_line_code(&mut text, line, code, source_name(code));
         }
         Refusal::Bound { code, value } => {
             text.push_str("refused bound ");
@@ -63,9 +61,7 @@ pub fn refusal_line(r: &Refusal) -> ArrayString<96>
         }
         Refusal::Routines { line, code } => {
             text.push_str("refused routines ");
-            push_decimal(&mut text, line);
-            text.push_str(" ");
-            push_code(&mut text, code, routine_name(code));
+            push_line_code(&mut text, line, code, routine_name(code));
         }
     }
     text.push_str("\n");
@@ -82,6 +78,19 @@ fn push_code(text: &mut ArrayString<96>, code: u8, name: &str)
     push_decimal(text, code);
     text.push_str(" ");
     text.push_str(name);
+}
+
+/// Appends the number of a line, and a code with its name.
+fn push_line_code(text: &mut ArrayString<96>, line: u32, code: u8, name: &str)
+    requires short { length name.now ≤ 17 }
+    requires room { array_string_len text.old + 32 ≤ 96 }
+    ensures text { text.new.bytes ≡
+        text.old.bytes ++ (decimal line ++ (codes " " ++ (decimal code ++ (codes " " ++ name.now)))) }
+    ensures len { array_string_len text.new ≤ array_string_len text.old + 32 }
+{
+    push_decimal(text, line);
+    text.push_str(" ");
+    push_code(text, code, name);
 }
 
 /// Appends the number that a bound's refusal tells.
