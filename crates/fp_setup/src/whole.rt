@@ -1,5 +1,6 @@
 //! A setup as a whole.
 
+use crate::bounds::size_of_version;
 use crate::file_name::Name;
 use crate::loop_list::Loops;
 use crate::thread_list::Threads;
@@ -41,8 +42,18 @@ impl Model for Setup {
 
 impl Setup {
     ghost use Rattle.std.specs.Prelude.{◌≡◌, IfOk};
+    ghost use Rattle.region_guard.specs.Regions.{IsSize};
+    ghost use Rattle.fp_setup.specs.Settings.{size_of};
     ghost use Rattle.fp_setup.specs.Rules.{KeepsRules};
     ghost use Rattle.fp_setup.specs.Plain.{plain_setup};
+
+    /// The size of each scratchpad in bytes, 16,384 or 65,536, by the version.
+    pub fn size(&self) -> u32
+        ensures size { result ≡ size_of self.now.version }
+        ensures one_of { IsSize result }
+    {
+        size_of_version(self.version)
+    }
 
     /// The setup of version 1 with these values, the image name `-`, no permit, no unplug, no inputs
     /// and no loops. The values keep the rules of a setup.
