@@ -1,14 +1,16 @@
 -- A word as its nibbles.
-use Rattle.std.proofs.Common.{subst, ◌∙◌, ◌^◌, ◌≤◌, ◌≡◌, ℕ, zero, suc, ◌+◌, ◌*◌, ◌/◌, ◌%◌, ◌^◌, ◌-◌, ◌<◌, ◌≤◌, Bool, true, nat_lt, List, [], ◌∷◌, length, get_or, drop, drop-cons, lit<, refl, ap, arith}
+use Rattle.std.proofs.Common.{IsTrue, subst, ◌∙◌, ◌^◌, ◌≤◌, ◌≡◌, ℕ, zero, suc, ◌+◌, ◌*◌, ◌/◌, ◌%◌, ◌^◌, ◌-◌, ◌<◌, ◌≤◌, Bool, true, nat_lt, List, [], ◌∷◌, length, get_or, drop, drop-cons, lit<, refl, ap, arith}
 use Rattle.std.specs.List.{list_all}
 use Rattle.std.proofs.lemmas.List.Sums.{AllPass-from_list_all}
 use Rattle.std.proofs.lemmas.Bool.{and_parts, lt-ltb, ltb-true}
 use Rattle.std.proofs.lemmas.Bool.Decides.{nat_tests}
 use Rattle.std.proofs.Math.Nat.{pow-zero, pow-le-pow_left, pow-succ', mul-le-mul_left, mul-le-mul_right}
 use Rattle.nibble_word.specs.Nibbles.{nibbles}
+use Rattle.slot_table.specs.Table.{is_table}
+use Rattle.region_guard.specs.Register.{is_regions}
 use Rattle.fp_setup.specs.declared.vocabulary.Words.{Words}
 use Rattle.fp_setup.specs.declared.vocabulary.Words.TheVariants.{Slots, Owners, Modes}
-use Rattle.fp_setup.specs.Vocabulary.{is_value}
+use Rattle.fp_setup.specs.Vocabulary.{is_value, is_word}
 use Rattle.fp_setup.specs.Meaning.{word_of}
 
 -- each is a digit of the base; of base 16, a nibble
@@ -120,3 +122,10 @@ small_values words (n ∷ ns) h =
 
 pub nibbles_of_word : (ns : List ℕ) (word : ℕ) → word ≡ word_of 16 ns → are_nibbles ns ≡ true → length ns ≡ 8 → nibbles word ≡ ns
 nibbles_of_word ns word is digits eight = ap nibbles is ∙ nibbles-word_of ns digits eight
+
+-- a word of eight that the texts of a list stand for is one of the register
+pub accepted : (words : Words) (ns : List ℕ) (word : ℕ) → nibbles word ≡ ns → list_all (is_value words) ns ≡ true → IsTrue (is_word words word)
+unfolding is_table is_regions
+accepted Slots ns word is values = rw (is, values) refl
+accepted Owners ns word is values = rw (is, values) refl
+accepted Modes ns word is values = refl

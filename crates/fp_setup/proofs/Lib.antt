@@ -3,3 +3,4 @@ pub mod Lists
 pub mod Placed
 pub mod TopTable
 pub mod PlainThreads
+pub mod PlaceLaws

@@ -14,3 +14,4 @@ pub mod Setup
 pub mod Reading
 pub mod Rows
 pub mod Plain
+pub mod Places

@@ -2,6 +2,8 @@
 
 ghost use Rattle.std.specs.Prelude.{◌≡◌, ◌<◌, ◌≤◌};
 ghost use Rattle.fp_setup.specs.Tables.{addresses, integers};
+ghost use Rattle.region_guard.specs.Regions.{IsSize};
+ghost use Rattle.fp_setup.specs.Settings.{size_of};
 ghost use Rattle.fp_setup.specs.Checks.{is_in};
 
 /// The multiples of `step` from `low` to `high`. The step isn't 0.
@@ -39,4 +41,12 @@ impl Range {
     {
         self.low <= n && n <= self.high && n % self.step == 0
     }
+}
+
+/// The size of each scratchpad in bytes, by a version.
+pub(crate) fn size_of_version(version: u32) -> u32
+    ensures size { result ≡ size_of version }
+    ensures one_of { IsSize result }
+{
+    if version == 2 { 65_536 } else { 16_384 }
 }

@@ -1,6 +1,6 @@
 //! The values of a table's keys, each checked at its place.
 
-ghost use Rattle.std.specs.Prelude.{◌≡◌, ◌<◌, ◌≤◌, ◌==◌, ◌&&◌, ℕ, List, true, false, map, option_map, unwrap_or, Option, Some, None, IfOk, IfSome, MatchResult, length};
+ghost use Rattle.std.specs.Prelude.{◌≡◌, ◌<◌, ◌≤◌, ◌==◌, ◌&&◌, ℕ, List, true, false, map, option_map, unwrap_or, Option, Some, None, IfOk, IfSome, MatchResult, IsTrue, length};
 ghost use Rattle.std.specs.Option.{option_map_or};
 ghost use Rattle.std.specs.Str.{bytes_eq};
 ghost use Rattle.toml.specs.Data.{get_member};
@@ -9,7 +9,7 @@ ghost use Rattle.nibble_word.specs.Nibbles.{nibbles};
 ghost use Rattle.std.specs.List.{list_all, list_any};
 ghost use Rattle.fp_setup.specs.declared.refusal.SetupNo.TheVariants as no;
 ghost use Rattle.fp_setup.specs.Faults.{at_place};
-ghost use Rattle.fp_setup.specs.Vocabulary.{is_value};
+ghost use Rattle.fp_setup.specs.Vocabulary.{is_value, is_word};
 ghost use Rattle.fp_setup.specs.Values.{elements_at, number, number_at, text_at, truth_at};
 ghost use Rattle.fp_setup.specs.Checks.{bytes_check, eight_check, fresh_check, integer_check, is_in, permit_check, truth_check, word_check};
 ghost use Rattle.fp_setup.specs.Tables.{has_other_key, key_fault, unknown_fault};
@@ -122,7 +122,7 @@ pub(crate) fn needed_eight(
     ensures read { IsRead result
         (key_fault (eight_check words) true place (get_member key.now (table_view table.now)))
         (nibble_word words (elements_at key.now (table_view table.now))) }
-    ensures values { IfOk result (λ word. list_all (is_value words) (nibbles word) ≡ true) }
+    ensures values { IfOk result (λ word. IsTrue (is_word words word)) }
 {
     eight(needed(table, key, place)?, words, place)
 }

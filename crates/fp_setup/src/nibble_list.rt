@@ -1,13 +1,13 @@
 //! Words of eight digits, and the texts that stand for them.
 
-ghost use Rattle.std.specs.Prelude.{◌≡◌, ◌<◌, ◌≤◌, ◌^◌, IfOk, length, map, true, nat_lt};
+ghost use Rattle.std.specs.Prelude.{◌≡◌, ◌<◌, ◌≤◌, ◌^◌, IfOk, length, map, true, nat_lt, IsTrue};
 ghost use Rattle.std.specs.List.{list_all};
 ghost use Rattle.nibble_word.specs.Nibbles.{nibbles};
 ghost use Rattle.toml.specs.View.{view};
 ghost use Rattle.fp_setup.specs.Checks.{each_fault, eight_check, word_check};
 ghost use Rattle.fp_setup.specs.Values.{elements, text};
 ghost use Rattle.fp_setup.specs.Meaning.{named, nibble_word, word_of};
-ghost use Rattle.fp_setup.specs.Vocabulary.{is_value};
+ghost use Rattle.fp_setup.specs.Vocabulary.{is_value, is_word};
 ghost use Rattle.fp_setup.specs.Reading.{IsRead};
 
 use crate::refusal::{Fault, Place, SetupNo};
@@ -62,10 +62,10 @@ pub(crate) fn word_of_modes(modes: &[u8; 8]) -> u32
 }
 
 /// The word that eight texts of a list stand for.
-#[tactic(auto, using(crate::proofs::Digits::small_values), unfolding(crate::specs::Checks::eight_check, crate::specs::Meaning::nibble_word))]
+#[tactic(auto, using(crate::proofs::Digits::small_values, crate::proofs::Digits::accepted), unfolding(crate::specs::Checks::eight_check, crate::specs::Meaning::nibble_word))]
 pub(crate) fn eight(value: &Value, words: Words, place: Place) -> Result<u32, Fault>
     ensures read { IsRead result (eight_check words place (view value.now)) (nibble_word words (elements (view value.now))) }
-    ensures values { IfOk result (λ word. list_all (is_value words) (nibbles word) ≡ true) }
+    ensures values { IfOk result (λ word. IsTrue (is_word words word)) }
 {
     let Some(items) = list(value) else {
         return Err(Fault::new(SetupNo::WrongType, place));

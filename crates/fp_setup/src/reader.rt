@@ -1,6 +1,6 @@
 //! The setup that the bytes of a file mean.
 
-ghost use Rattle.std.specs.Prelude.{◌≡◌, ◌≤◌, ◌⊎◌, false, IfOk, IfErr, Ok, Some, codes};
+ghost use Rattle.std.specs.Prelude.{◌≡◌, ◌⊎◌, false, IfOk, IfErr, Ok, Some, codes};
 ghost use Rattle.toml.specs.Data.{get_member};
 ghost use Rattle.toml.specs.View.{table_view};
 ghost use Rattle.fp_setup.specs.Settings.{size_of};
@@ -8,10 +8,11 @@ ghost use Rattle.fp_setup.specs.Faults.{key_of, top};
 ghost use Rattle.fp_setup.specs.Checks.{integer_check};
 ghost use Rattle.fp_setup.specs.Tables.{integers, key_fault, top_fault};
 ghost use Rattle.fp_setup.specs.Meaning.{settings, version_at};
+ghost use Rattle.fp_setup.specs.Places.{IsPlaced};
 ghost use Rattle.fp_setup.specs.Reading.{IsRead, IsReadInMemory};
 ghost use Rattle.fp_setup.specs.Setup.{IsFaultOf, document, setup, setup_in, setup_of};
 
-use crate::bounds::Range;
+use crate::bounds::{Range, size_of_version};
 use crate::keys::{needed_eight, needed_integer, needed_name, no_other_key, optional_integer};
 use crate::loop_rows::loops_or_none;
 use crate::nibble_list::word_of_modes;
@@ -50,15 +51,6 @@ fn version(table: &Table) -> Result<u32, Fault>
     }
 }
 
-/// The bytes of each scratchpad.
-fn scratchpad_size(version: u32) -> u32
-    ensures size { result ≡ size_of version }
-    ensures low { 4 ≤ result }
-    ensures high { result ≤ 65536 }
-{
-    if version == 2 { 65_536 } else { 16_384 }
-}
-
 /// The table of a document.
 #[tactic(auto, using(crate::proofs::Lists::utf8_test))]
 fn document_of(alloc: Global, bytes: &[u8]) -> Result<Table, SetupRefused>
@@ -90,7 +82,7 @@ fn top_table(alloc: Global, table: &Table) -> Result<Setup, SetupRefused>
 {
     no_other_key(table, &KEYS, Place::top())?;
     let version = version(table)?;
-    let size = scratchpad_size(version);
+    let size = size_of_version(version);
     let period = needed_integer(table, "period", Range::integers(1, 1000), Place::top_key(2))?;
     let image = needed_name(alloc, table, "image", 1, 255, Place::top_key(3))?;
     let slots = needed_eight(table, "slots", Words::Slots, Place::top_key(4))?;
@@ -126,8 +118,20 @@ fn setup_in_table(alloc: Global, table: &Table) -> Result<Setup, SetupRefused>
 ///
 /// [`SetupRefused::Fault`] exactly where the file has a fault, with the first one in the order of
 /// the checks and its place. [`SetupRefused::NoMemory`] where memory was refused.
-#[tactic(auto, unfolding(crate::specs::Setup::setup))]
+#[tactic(auto, using(crate::proofs::PlaceLaws::fault_of_setup_placed))]
 pub fn read_setup(alloc: Global, bytes: &[u8]) -> Result<Setup, SetupRefused>
+    ensures ok { IfOk result (λ s. setup bytes.now ≡ Ok s) }
+    ensures refused { IfErr result (IsFaultOf (setup bytes.now)) }
+
+    // The table and the key of the place are there.
+    ensures place { IfErr result IsPlaced }
+{
+    setup_in_bytes(alloc, bytes)
+}
+
+/// The setup of the bytes of a file.
+#[tactic(auto, unfolding(crate::specs::Setup::setup))]
+fn setup_in_bytes(alloc: Global, bytes: &[u8]) -> Result<Setup, SetupRefused>
     ensures ok { IfOk result (λ s. setup bytes.now ≡ Ok s) }
     ensures refused { IfErr result (IsFaultOf (setup bytes.now)) }
 {

@@ -67,11 +67,12 @@ impl Model for Threads {
 }
 
 impl Threads {
-    ghost use Rattle.std.specs.Prelude.{replicate, slice_set};
-    ghost use Rattle.std.specs.List.{All};
-    ghost use Rattle.fp_setup.specs.Threads.{IsThread};
+    ghost use Rattle.std.specs.Prelude.{IsTrue, replicate, slice_set};
+    ghost use Rattle.std.specs.List.{All, list_all};
+    ghost use Rattle.fp_setup.specs.declared.thread_list.ThreadSetup.{ThreadSetup};
+    ghost use Rattle.fp_setup.specs.Threads.{AreThreads, IsThread};
     ghost use Rattle.fp_setup.specs.Meaning.{unnamed};
-    ghost use Rattle.fp_setup.specs.Plain.{plain_threads};
+    ghost use Rattle.fp_setup.specs.Plain.{is_entry, plain_threads};
 
     /// Eight threads that no table names.
     pub(crate) fn unnamed(alloc: Global) -> Threads
@@ -93,8 +94,10 @@ impl Threads {
 
     /// Eight threads with these entries and flags, with no permit, no unplug and no inputs.
     pub(crate) fn plain(alloc: Global, entries: [u32; 8], confined: [bool; 8]) -> Threads
-        requires { All IsThread (plain_threads entries confined) }
-        ensures { result ≡ plain_threads entries confined }
+        requires { IsTrue (list_all is_entry entries) }
+        ensures threads { result ≡ plain_threads entries confined }
+        ensures rules { AreThreads result }
+        ensures inside { All (λ (t : ThreadSetup). t.entry < 16384) result }
     {
         let mut threads = Threads::unnamed(alloc);
         for thread in 0..8 {

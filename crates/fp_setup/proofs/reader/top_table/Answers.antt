@@ -11,7 +11,7 @@ use Rattle.fp_setup.proofs.reader.top_table.Goals as goal
 pub returns-in_err-loops : goal.returns-in_err-loops
 returns-in_err-loops c =
     let ms : Members = table_view c.args.table.now in
-    let size : c.scratchpad_size-size.result ≡ size_of (version_at ms) = c.scratchpad_size-size.ensures.size ∙ ap size_of c.in_ok-version.ensures.read.1 in
+    let size : c.size_of_version-size.result ≡ size_of (version_at ms) = c.size_of_version-size.ensures.size ∙ ap size_of c.in_ok-version.ensures.read.1 in
     let good : IsGoodSoFar (size_of (version_at ms)) ms = record {
       known = rw c.top.ensures at c.in_ok-no_other_key.ensures.0;
       version = c.in_ok-version.ensures.read.0;
@@ -28,7 +28,7 @@ returns-in_err-loops c =
 pub returns : goal.returns
 returns c =
     let ms : Members = table_view c.args.table.now in
-    let size : c.scratchpad_size-size.result ≡ size_of (version_at ms) = c.scratchpad_size-size.ensures.size ∙ ap size_of c.in_ok-version.ensures.read.1 in
+    let size : c.size_of_version-size.result ≡ size_of (version_at ms) = c.size_of_version-size.ensures.size ∙ ap size_of c.in_ok-version.ensures.read.1 in
     let good : IsGoodSoFar (size_of (version_at ms)) ms = record {
       known = rw c.top.ensures at c.in_ok-no_other_key.ensures.0;
       version = c.in_ok-version.ensures.read.0;
