@@ -1,2 +1,11 @@
 pub mod Rows
-mod Worked
+pub mod Between
+pub mod LineByLine
+pub mod CommaByComma
+pub mod Filling
+pub mod Checks
+pub mod Ways
+pub mod LabelByLabel
+pub mod WordByWord
+pub mod TargetByTarget
+pub mod PassByPass

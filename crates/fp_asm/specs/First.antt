@@ -1,5 +1,5 @@
 -- The first pass: labels and places.
-use Rattle.std.specs.Prelude.{ℕ, zero, suc, ◌+◌, ◌*◌, ◌^◌, ◌%◌, ◌&&◌, ◌||◌, not, Bool, List, [], ◌∷◌, Option, Some, None, is_some, Result, Ok, Err, if◌then◌else◌, nat_lt, nat_le, option_map}
+use Rattle.std.specs.Prelude.{ℕ, zero, suc, ◌+◌, ◌*◌, ◌^◌, ◌%◌, ◌&&◌, ◌||◌, not, Bool, true, false, List, [], ◌∷◌, Option, Some, None, is_some, Result, Ok, Err, if◌then◌else◌, nat_lt, nat_le, option_map}
 use Rattle.std.specs.List.{list_any, list_all}
 use Rattle.std.specs.Ordering.{nat_cmp}
 use Rattle.std.specs.Cmp.Lexicographic.{slice_cmp}
@@ -23,6 +23,11 @@ place_of labels x = lookup (is_at (slice_cmp nat_cmp x)) labels
 -- with one more label at a place, which must be new
 unfoldable pub with_label : ℕ → Labels → Text → Result Labels AsmNo
 with_label place labels x = if is_some (place_of labels x) then Err no.DoubleLabel else Ok (insert_entry (slice_cmp nat_cmp) labels x place)
+
+-- the pieces begin with a label
+unfoldable pub has_label : List Piece → Bool
+has_label (name x ∷ colon ∷ ps) = true
+has_label _ = false
 
 -- with the labels at the head of the pieces, and the pieces after them
 unfoldable pub labelled : ℕ → Labels → List Piece → Result (Labels × List Piece) AsmNo

@@ -1,5 +1,5 @@
 -- The operands of a mnemonic.
-use Rattle.std.specs.Prelude.{ℕ, ℤ, pos, neg_ℤ, List, [], ◌∷◌, Option, Some, None, option_map, option_and_then}
+use Rattle.std.specs.Prelude.{ℕ, ◌<◌, ℤ, pos, neg_ℤ, List, [], ◌∷◌, Option, Some, None, option_map, option_and_then}
 use Rattle.fp_asm.specs.Pieces.{Text, Piece, name, number, opening, closing, plus, minus}
 use Rattle.fp_asm.specs.Names.{register, csr}
 use Rattle.fp_asm.specs.declared.table.Slot.{Slot}
@@ -21,6 +21,10 @@ pub record Operands : Type 0 where
 
 abbrev pub nothing_given : Operands
 nothing_given = record { rd = 0; rs1 = 0; rs2 = 0; csr_number = 0; given = pos 0; target = plain (pos 0) }
+
+-- registers are numbers below 32
+abbrev pub HasRegisters : Operands → Type 0
+HasRegisters o = (o.rd < 32) × (o.rs1 < 32) × (o.rs2 < 32)
 
 unfoldable pub register_in : List Piece → Option ℕ
 register_in (name x ∷ []) = register x

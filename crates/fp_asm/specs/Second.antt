@@ -8,10 +8,12 @@ use Rattle.rv_decode.specs.Encoding.{low_bits, encoded}
 use Rattle.rv_decode.specs.declared.instruction.Ins.TheVariants.{Branch, Jal}
 use Rattle.fp_asm.specs.Pieces.{Text, Piece, name, colon, pieces_of}
 use Rattle.fp_asm.specs.Operands.{Target, plain, label, Operands}
-use Rattle.fp_asm.specs.Statements.{Statement, statement_of, place_after}
+use Rattle.fp_asm.specs.Statements.{Statement, statement_of, size_of, place_after}
 use Rattle.fp_asm.specs.Words.{is_within, instruction, halves, load_instructions}
 use Rattle.fp_asm.specs.First.{Labels, place_of}
 use Rattle.fp_asm.specs.Faults.{next, holds, present, in_line}
+use Rattle.rv_decode.specs.declared.instruction.BranchOp.{BranchOp}
+use Rattle.fp_asm.specs.declared.table.Plain.{Plain}
 use Rattle.fp_asm.specs.declared.table.Makes.{Makes}
 use Rattle.fp_asm.specs.declared.table.Makes.TheVariants as makes
 use Rattle.fp_asm.specs.declared.refusal.AsmNo.{AsmNo}
@@ -45,21 +47,42 @@ way place to = sign_extended 32 ((to + (2 ^ 32 - place)) % 2 ^ 32)
 unfoldable pub jump : ℤ → ℤ → ℕ → ℕ → Result ℤ AsmNo
 jump low high place to = holds (is_within low high (way place to)) no.OutOfRange (holds (to % 4 == 0) no.Misaligned (Ok (way place to)))
 
--- the words that a statement makes at a place
-abbrev pub words_as : Makes → Labels → ℕ → Operands → List Target → Result (List ℕ) AsmNo
-words_as (makes.Plain p) labels place o values = next (present no.OutOfRange (instruction p o)) (λ i. Ok (encoded i ∷ []))
-words_as (makes.Branch op) labels place o values =
-    next (resolved labels o.target) (λ to. next (jump (neg_ℤ (pos 4096)) (pos 4094) place to) (λ off. Ok (encoded (Branch op o.rs1 o.rs2 off) ∷ [])))
-words_as makes.Jal labels place o values =
-    next (resolved labels o.target) (λ to. next (jump (neg_ℤ (pos 1048576)) (pos 1048574) place to) (λ off. Ok (encoded (Jal o.rd off) ∷ [])))
-words_as makes.Li labels place o values = Ok (map encoded (load_instructions o.rd (low_bits 32 o.given)))
-words_as makes.La labels place o values = next (resolved labels o.target) (λ a. holds (fits_word o.target) no.OutOfRange (Ok (map encoded (halves o.rd a))))
-words_as makes.Words labels place o values = next (all_resolved labels values) (λ words. holds (list_all fits_word values) no.OutOfRange (Ok words))
-words_as makes.Org labels place o values = Ok []
-words_as makes.Space labels place o values = Ok (replicate (nat_abs o.given / 4) 0)
+unfoldable pub plain_word : Plain → Operands → Result ℕ AsmNo
+plain_word p o = next (present no.OutOfRange (instruction p o)) (λ i. Ok (encoded i))
 
+-- a branch, to addresses from 4,096 bytes before to 4,094 after
+unfoldable pub branch_word : BranchOp → Labels → ℕ → Operands → Result ℕ AsmNo
+branch_word op labels place o =
+    next (resolved labels o.target) (λ to. next (jump (neg_ℤ (pos 4096)) (pos 4094) place to) (λ off. Ok (encoded (Branch op o.rs1 o.rs2 off))))
+
+-- a jump, to addresses from 1,048,576 bytes before to 1,048,574 after
+unfoldable pub jal_word : Labels → ℕ → Operands → Result ℕ AsmNo
+jal_word labels place o =
+    next (resolved labels o.target) (λ to. next (jump (neg_ℤ (pos 1048576)) (pos 1048574) place to) (λ off. Ok (encoded (Jal o.rd off))))
+
+-- the words that give a register an address
+unfoldable pub address_words : Labels → Operands → Result (List ℕ) AsmNo
+address_words labels o = next (resolved labels o.target) (λ a. holds (fits_word o.target) no.OutOfRange (Ok (map encoded (halves o.rd a))))
+
+unfoldable pub value_words : Labels → List Target → Result (List ℕ) AsmNo
+value_words labels values = next (all_resolved labels values) (λ words. holds (list_all fits_word values) no.OutOfRange (Ok words))
+
+abbrev pub one_word : Result ℕ AsmNo → Result (List ℕ) AsmNo
+one_word r = next r (λ w. Ok (w ∷ []))
+
+abbrev pub words_as : Makes → Labels → ℕ → Statement → Result (List ℕ) AsmNo
+words_as (makes.Plain p) labels place s = one_word (plain_word p s.operands)
+words_as (makes.Branch op) labels place s = one_word (branch_word op labels place s.operands)
+words_as makes.Jal labels place s = one_word (jal_word labels place s.operands)
+words_as makes.Li labels place s = Ok (map encoded (load_instructions s.operands.rd (low_bits 32 s.operands.given)))
+words_as makes.La labels place s = address_words labels s.operands
+words_as makes.Words labels place s = value_words labels s.values
+words_as makes.Org labels place s = Ok []
+words_as makes.Space labels place s = Ok (replicate (size_of s) 0)
+
+-- the words that a statement makes at a place
 unfoldable pub words_of : Labels → ℕ → Statement → Result (List ℕ) AsmNo
-words_of labels place s = words_as s.makes labels place s.operands s.values
+words_of labels place s = words_as s.makes labels place s
 
 -- the words in memory, by rising address
 abbrev pub Memory : Type 0

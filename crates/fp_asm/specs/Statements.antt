@@ -2,7 +2,7 @@
 use Rattle.std.specs.Prelude.{ℕ, ◌==◌, ◌+◌, ◌*◌, ◌^◌, ◌/◌, ◌%◌, ◌-◌, ◌&&◌, ◌||◌, ℤ, pos, neg_ℤ, nat_abs, Bool, true, false, List, [], ◌∷◌, Option, Some, None, Result, Ok, Err, if◌then◌else◌, option_map, length}
 use Rattle.std.specs.Int.Signed.{le_z}
 use Rattle.rv_decode.specs.Encoding.{low_bits}
-use Rattle.fp_asm.specs.Pieces.{Piece, name, operands_of}
+use Rattle.fp_asm.specs.Pieces.{Text, Piece, name, operands_of}
 use Rattle.fp_asm.specs.Mnemonics.{Mnemonic, mnemonic}
 use Rattle.fp_asm.specs.Operands.{Target, Operands, nothing_given, all_filled, all_targets}
 use Rattle.fp_asm.specs.Words.{is_within, load_instructions}
@@ -34,24 +34,28 @@ statement_in m operands =
     else option_map (λ o. record { makes = m.makes; operands = o; values = [] }) (all_filled m.form operands nothing_given)
 
 -- a number from 0 to a limit that must be a multiple of four
-abbrev pub aligned_to : {A : Type 0} → ℕ → ℤ → A → Result A AsmNo
-aligned_to most n x = holds (is_within (pos 0) (pos most) n) no.OutOfRange (holds (nat_abs n % 4 == 0) no.Misaligned (Ok x))
+unfoldable pub aligned_to : ℕ → ℤ → Result (Unit {0}) AsmNo
+aligned_to most n = holds (is_within (pos 0) (pos most) n) no.OutOfRange (holds (nat_abs n % 4 == 0) no.Misaligned (Ok tt))
 
-abbrev pub checked_as : Makes → ℤ → Statement → Result Statement AsmNo
-checked_as Org n s = aligned_to (2 ^ 32 - 4) n s
-checked_as Space n s = aligned_to 16384 n s
-checked_as Li n s = holds (is_within (neg_ℤ (pos (2 ^ 31))) (pos (2 ^ 32 - 1)) n) no.OutOfRange (Ok s)
-checked_as _ n s = Ok s
+abbrev pub checked_as : Makes → ℤ → Result (Unit {0}) AsmNo
+checked_as Org n = aligned_to (2 ^ 32 - 4) n
+checked_as Space n = aligned_to 16384 n
+checked_as Li n = holds (is_within (neg_ℤ (pos (2 ^ 31))) (pos (2 ^ 32 - 1)) n) no.OutOfRange (Ok tt)
+checked_as _ n = Ok tt
 
--- the statement, where its number passes the checks that come before any label is known
-unfoldable pub checked : Statement → Result Statement AsmNo
-checked s = checked_as s.makes s.operands.given s
+-- the checks of a statement's number that come before any label is known
+unfoldable pub checked : Statement → Result (Unit {0}) AsmNo
+checked s = checked_as s.makes s.operands.given
+
+-- the statement of a name and what follows it
+unfoldable pub statement_named : Text → List Piece → Result Statement AsmNo
+statement_named x ps =
+    next (present no.UnknownName (mnemonic x)) (λ m. next (present no.Operands (statement_in m (operands_of ps))) (λ s. next (checked s) (λ _. Ok s)))
 
 -- The statement that follows the labels, where there is one. What follows them begins with a name.
 unfoldable pub statement_of : List Piece → Result (Option Statement) AsmNo
 statement_of [] = Ok None
-statement_of (name x ∷ ps) =
-    next (present no.UnknownName (mnemonic x)) (λ m. next (present no.Operands (statement_in m (operands_of ps))) (λ s. next (checked s) (λ s. Ok (Some s))))
+statement_of (name x ∷ ps) = next (statement_named x ps) (λ s. Ok (Some s))
 statement_of _ = Err no.Operands
 
 abbrev pub size_as : Makes → ℤ → List Target → ℕ
