@@ -1,9 +1,8 @@
 -- What a statement that passed its checks is.
-use Rattle.std.proofs.Common.{◌≡◌, ℕ, ◌<◌, ◌≤◌, ◌+◌, ◌-◌, ◌*◌, ◌%◌, ◌^◌, ◌&&◌, ◌==◌, Bool, true, false, cond, Result, Ok, Err, refl, arith, pos, negsuc, ℤ, nat_abs, List, map, length}
+use Rattle.std.proofs.Common.{◌≡◌, ℕ, ◌<◌, ◌≤◌, ◌+◌, ◌-◌, ◌*◌, ◌%◌, ◌^◌, ◌==◌, Bool, true, false, Result, Ok, refl, arith, pos, negsuc, ℤ, nat_abs, List, map, length}
 use Rattle.std.proofs.lemmas.List.{length-map}
 use Rattle.fp_asm.specs.Seen.{target_seen}
 use Rattle.fp_asm.specs.declared.operands.Target.TheVariants as target
-use Rattle.std.specs.Int.Signed.{le_z}
 use Rattle.std.proofs.lemmas.Bool.Decides.{nat_tests}
 use Rattle.std.proofs.lemmas.Int.{ints}
 use Rattle.fp_asm.specs.Statements.{Statement, aligned_to, checked, checked_as, place_after, place_as, size_of}
@@ -33,6 +32,7 @@ is_aligned most n h = by_range (is_within (pos 0) (pos most) n) refl h
     by_rest : (even : Bool) → (nat_abs n % 4 == 0) ≡ even → nat_abs n ≤ most → holds even no.Misaligned passed ≡ passed → IsAligned most n
     by_rest true e k h = record { small = k; multiple = grind (arith, nat_tests, e) }
     by_rest false e k h = absurd (cc)
+
     by_range : (inside : Bool) → is_within (pos 0) (pos most) n ≡ inside → holds inside no.OutOfRange (holds (nat_abs n % 4 == 0) no.Misaligned passed) ≡ passed → IsAligned most n
     by_range true e h = by_rest (nat_abs n % 4 == 0) refl (abs_within most n e) h
     by_range false e h = absurd (cc)

@@ -1,7 +1,7 @@
 -- Operands, comma by comma.
 use Rattle.std.proofs.Common.{◌≡◌, ℕ, ◌<◌, ◌≤◌, ◌+◌, ◌-◌, ◌∙◌, List, [], ◌∷◌, ◌++◌, length, take, drop, get_or, refl, sym, ap, arith, append_assoc, map, Bor, Bool, true, false, cond, length-drop}
 use Rattle.std.proofs.lemmas.List.{map-append, take_all}
-use Rattle.fp_asm.specs.Between.{between_from, between}
+use Rattle.fp_asm.specs.Between.{between_from}
 use Rattle.fp_asm.specs.Pieces.{Piece, is_comma, commas}
 use Rattle.fp_asm.specs.Views.{piece_seen, operand_seen}
 use Rattle.fp_asm.specs.declared.pieces.Piece.TheVariants as piece
@@ -14,10 +14,10 @@ between_seen h p e g item [] = refl
 between_seen h p e g item (x ∷ xs) = go (p (h x)) (between_seen h p e g [] xs) (ap (λ l. between_from p e g l (map h xs)) (map-append h item (x ∷ [])) ∙ refl) (between_seen h p e g (item ++ x ∷ []) xs)
   where
     go : (b : Bool)
-      → between_from p e g [] (map h xs) ≡ between_from (λ x. p (h x)) (λ l. e (map h l)) (λ l. g (map h l)) [] xs
-      → between_from p e g (map h (item ++ x ∷ [])) (map h xs) ≡ between_from p e g (map h item ++ h x ∷ []) (map h xs)
-      → between_from p e g (map h (item ++ x ∷ [])) (map h xs) ≡ between_from (λ x. p (h x)) (λ l. e (map h l)) (λ l. g (map h l)) (item ++ x ∷ []) xs
-      → cond b (e (map h item) ∷ between_from p e g [] (map h xs)) (between_from p e g (map h item ++ h x ∷ []) (map h xs))
+        → between_from p e g [] (map h xs) ≡ between_from (λ x. p (h x)) (λ l. e (map h l)) (λ l. g (map h l)) [] xs
+        → between_from p e g (map h (item ++ x ∷ [])) (map h xs) ≡ between_from p e g (map h item ++ h x ∷ []) (map h xs)
+        → between_from p e g (map h (item ++ x ∷ [])) (map h xs) ≡ between_from (λ x. p (h x)) (λ l. e (map h l)) (λ l. g (map h l)) (item ++ x ∷ []) xs
+        → cond b (e (map h item) ∷ between_from p e g [] (map h xs)) (between_from p e g (map h item ++ h x ∷ []) (map h xs))
         ≡ cond b (e (map h item) ∷ between_from (λ x. p (h x)) (λ l. e (map h l)) (λ l. g (map h l)) [] xs) (between_from (λ x. p (h x)) (λ l. e (map h l)) (λ l. g (map h l)) (item ++ x ∷ []) xs)
     go true none same more = ap (λ l. e (map h item) ∷ l) none
     go false none same more = sym same ∙ more

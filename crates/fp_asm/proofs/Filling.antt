@@ -1,12 +1,11 @@
 -- Operands, slot by slot.
-use Rattle.std.proofs.Common.{◌≡◌, ℕ, ◌<◌, ◌≤◌, ◌+◌, ◌∙◌, List, [], ◌∷◌, ◌++◌, length, drop, take, get_or, refl, sym, ap, arith, add-one, append_assoc, append-nil, map, Bor, Option, Some, None, option_map, option_and_then}
+use Rattle.std.proofs.Common.{◌≡◌, ℕ, ◌<◌, ◌≤◌, ◌+◌, ◌∙◌, List, [], ◌∷◌, ◌++◌, length, drop, get_or, refl, sym, ap, arith, add-one, append_assoc, append-nil, map, Bor, Option, Some, None, option_map}
 use Rattle.std.proofs.Math.Seq.{drop-cons}
 use Rattle.std.proofs.Math.ListN.{drop_of_length-le}
 use Rattle.std.proofs.lemmas.List.{map-append}
-use Rattle.fp_asm.specs.Pieces.{Piece}
-use Rattle.fp_asm.specs.Operands.{Target, Operands, filled, all_filled, target_in, all_targets}
+use Rattle.fp_asm.specs.Operands.{Target, Operands, all_filled, target_in, all_targets}
 use Rattle.fp_asm.specs.Views.{piece_seen, operand_seen}
-use Rattle.fp_asm.specs.Seen.{target_seen, operands_seen}
+use Rattle.fp_asm.specs.Seen.{target_seen}
 use Rattle.fp_asm.specs.declared.table.Slot.{Slot}
 use Rattle.fp_asm.specs.declared.pieces.Piece.TheVariants as piece
 use Rattle.fp_asm.specs.declared.operands.Target.TheVariants as target

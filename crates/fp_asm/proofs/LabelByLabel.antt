@@ -1,5 +1,5 @@
 -- Labels, label by label.
-use Rattle.std.proofs.Common.{◌≡◌, ℕ, List, [], ◌∷◌, Result, Ok, Err, Bor, Ordering, Bool, true, false, refl, ap, ◌∙◌, map, is_some, take, drop, length, length-drop, drop-drop, ◌-◌, ◌+◌, arith, true≢false}
+use Rattle.std.proofs.Common.{◌≡◌, ℕ, List, [], ◌∷◌, Result, Ok, Err, Bor, Ordering, true, false, refl, ap, ◌∙◌, map, is_some, take, drop, length, length-drop, drop-drop, ◌-◌, ◌+◌, arith, true≢false}
 use Rattle.std.specs.declared.cmp.Ordering.TheVariants.{Less, Equal, Greater}
 use Rattle.std.specs.Ordering.{nat_cmp, match_ordering}
 use Rattle.std.specs.Cmp.Lexicographic.{slice_cmp}

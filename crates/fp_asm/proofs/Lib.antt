@@ -9,3 +9,6 @@ pub mod LabelByLabel
 pub mod WordByWord
 pub mod TargetByTarget
 pub mod PassByPass
+pub mod RunByRun
+pub mod Segments
+pub mod Soundness

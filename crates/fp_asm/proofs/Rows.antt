@@ -1,5 +1,5 @@
 -- Rows of tables, by their names.
-use Rattle.std.proofs.Common.{◌≡◌, ℕ, ◌<◌, ◌&&◌, List, [], ◌∷◌, Option, Some, None, Bool, true, false, option_map, map, find, refl, cond, Bor, nat_lt, arith, rules}
+use Rattle.std.proofs.Common.{◌≡◌, ℕ, ◌<◌, ◌&&◌, List, [], ◌∷◌, Some, Bool, true, false, option_map, map, find, refl, cond, Bor, nat_lt, arith}
 use Rattle.std.specs.Str.{bytes_eq}
 use Rattle.std.specs.List.{list_all}
 use Rattle.std.proofs.lemmas.Bool.Decides.{nat_tests}
@@ -32,6 +32,7 @@ named_small limit (r ∷ rs) text n all found = go (bytes_eq r.0 text) (nat_lt r
     more : (small : Bool) → (small && list_all (λ row. nat_lt row.1 limit) rs) ≡ true → list_all (λ row. nat_lt row.1 limit) rs ≡ true
     more true h = h
     more false h = absurd (cc)
+
     go : (here small : Bool) → nat_lt r.1 limit ≡ small → (list_all (λ row. nat_lt row.1 limit) rs ≡ true → named rs text ≡ Some n → n < limit) → (small && list_all (λ row. nat_lt row.1 limit) rs) ≡ true → option_map (λ row. row.1) (cond here (Some r) (find (λ row. bytes_eq row.0 text) rs)) ≡ Some n → n < limit
     go true true e others h k = let same : r.1 ≡ n = cc in grind (arith, nat_tests, e, same)
     go true false e others h k = absurd (cc)

@@ -3,7 +3,7 @@
 --
 -- Source: RISC-V unprivileged manual, "RISC-V Assembly Programmer's Handbook", for the names, forms and pseudo-instructions of
 -- the instruction set; `gt`, `gth`, `du`, `wu`, `ee`, `de`, and which of the manual's there are, are this project's own.
-use Rattle.std.specs.Prelude.{List, [], ◌∷◌, ◌++◌, Option, codes, find}
+use Rattle.std.specs.Prelude.{List, [], ◌∷◌, Option, codes, find}
 use Rattle.std.specs.Str.{bytes_eq}
 use Rattle.fp_asm.specs.Pieces.{Text}
 use Rattle.fp_asm.specs.declared.table.Slot.{Slot}

@@ -1,5 +1,5 @@
 -- The second pass: words.
-use Rattle.std.specs.Prelude.{ℕ, ◌==◌, ◌+◌, ◌^◌, ◌/◌, ◌%◌, ◌-◌, ◌&&◌, ◌||◌, ℤ, pos, neg_ℤ, nat_abs, Bool, true, List, [], ◌∷◌, Option, Some, None, Result, Ok, Err, if◌then◌else◌, map, replicate}
+use Rattle.std.specs.Prelude.{ℕ, ◌==◌, ◌+◌, ◌^◌, ◌%◌, ◌-◌, ℤ, pos, neg_ℤ, Bool, true, List, [], ◌∷◌, Option, Some, None, Result, Ok, map, replicate}
 use Rattle.std.specs.List.{list_all}
 use Rattle.std.specs.Ordering.{nat_cmp}
 use Rattle.std.specs.BTreeMap.{insert_entry}

@@ -1,5 +1,5 @@
 -- The code's operands as the definitions see them.
-use Rattle.std.specs.Prelude.{ℕ, List, map}
+use Rattle.std.specs.Prelude.{map}
 use Rattle.fp_asm.specs.Operands.{Target, plain, label, Operands}
 use Rattle.fp_asm.specs.declared.operands.Target.TheVariants as target
 use Rattle.fp_asm.specs.declared.operands.Operands.{Operands as Given}

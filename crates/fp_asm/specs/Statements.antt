@@ -1,6 +1,5 @@
 -- The statement of a line, and what it places.
-use Rattle.std.specs.Prelude.{ℕ, ◌==◌, ◌+◌, ◌*◌, ◌^◌, ◌/◌, ◌%◌, ◌-◌, ◌&&◌, ◌||◌, ℤ, pos, neg_ℤ, nat_abs, Bool, true, false, List, [], ◌∷◌, Option, Some, None, Result, Ok, Err, if◌then◌else◌, option_map, length}
-use Rattle.std.specs.Int.Signed.{le_z}
+use Rattle.std.specs.Prelude.{ℕ, ◌==◌, ◌+◌, ◌*◌, ◌^◌, ◌/◌, ◌%◌, ◌-◌, ℤ, pos, neg_ℤ, nat_abs, Bool, true, false, List, [], ◌∷◌, Option, Some, None, Result, Ok, Err, if◌then◌else◌, option_map, length}
 use Rattle.rv_decode.specs.Encoding.{low_bits}
 use Rattle.fp_asm.specs.Pieces.{Text, Piece, name, operands_of}
 use Rattle.fp_asm.specs.Mnemonics.{Mnemonic, mnemonic}
@@ -8,7 +7,7 @@ use Rattle.fp_asm.specs.Operands.{Target, Operands, nothing_given, all_filled, a
 use Rattle.fp_asm.specs.Words.{is_within, load_instructions}
 use Rattle.fp_asm.specs.Faults.{next, holds, present}
 use Rattle.fp_asm.specs.declared.table.Makes.{Makes}
-use Rattle.fp_asm.specs.declared.table.Makes.TheVariants.{Plain, Branch, Jal, Li, La, Words, Org, Space}
+use Rattle.fp_asm.specs.declared.table.Makes.TheVariants.{Li, La, Words, Org, Space}
 use Rattle.fp_asm.specs.declared.refusal.AsmNo.{AsmNo}
 use Rattle.fp_asm.specs.declared.refusal.AsmNo.TheVariants as no
 

@@ -1,5 +1,5 @@
 -- The instructions that mnemonics make.
-use Rattle.std.specs.Prelude.{ℕ, ◌==◌, ◌+◌, ◌^◌, ◌/◌, ◌%◌, ◌&&◌, ℤ, pos, negsuc, neg_ℤ, nat_abs, Bool, List, [], ◌∷◌, Option, Some, None, if◌then◌else◌, nat_le}
+use Rattle.std.specs.Prelude.{ℕ, ◌==◌, ◌+◌, ◌^◌, ◌/◌, ◌%◌, ◌&&◌, ℤ, pos, negsuc, neg_ℤ, nat_abs, Bool, List, [], ◌∷◌, Option, Some, None, if◌then◌else◌}
 use Rattle.std.specs.Int.Signed.{le_z}
 use Rattle.rv_decode.specs.Fields.{sign_extended}
 use Rattle.rv_decode.specs.declared.instruction.Ins.{Ins}

@@ -17,8 +17,8 @@ use std::collections::{BTreeMap, BTreeSet};
 #[derive(Drop)]
 pub(crate) struct First<'a> {
     place: u32,
-    labels: Labels<'a>,
-    taken: BTreeSet<u32>,
+    pub(crate) labels: Labels<'a>,
+    pub(crate) taken: BTreeSet<u32>,
 }
 
 // How many words the statement that follows the labels places, and the place after it.

@@ -132,7 +132,10 @@ fn fill<'a>(slot: Slot, pieces: &[Piece<'a>], operands: &Operands<'a>) -> Option
         }
         Slot::Csr => {
             let csr_number = csr_in(pieces)?;
-            Some(Operands { csr_number, ..*operands })
+            Some(Operands {
+                csr_number,
+                ..*operands
+            })
         }
         Slot::Number => {
             let given = number_in(pieces)?;
@@ -140,11 +143,18 @@ fn fill<'a>(slot: Slot, pieces: &[Piece<'a>], operands: &Operands<'a>) -> Option
         }
         Slot::Memory => {
             let (given, rs1) = memory_in(pieces)?;
-            Some(Operands { given, rs1, ..*operands })
+            Some(Operands {
+                given,
+                rs1,
+                ..*operands
+            })
         }
         Slot::Value => {
             let target = target_in(pieces)?;
-            Some(Operands { target, ..*operands })
+            Some(Operands {
+                target,
+                ..*operands
+            })
         }
     }
 }

@@ -57,7 +57,12 @@ pub(crate) fn instruction(plain: Plain, operands: &Operands) -> Option<Ins>
         }
         Plain::Shift(op) => {
             let amount = up_to(31, number)? as u8;
-            Some(Ins::Shift { op, rd, rs1, amount })
+            Some(Ins::Shift {
+                op,
+                rd,
+                rs1,
+                amount,
+            })
         }
         Plain::Load(op) => {
             let imm = signed_12(number)?;
@@ -81,7 +86,12 @@ pub(crate) fn instruction(plain: Plain, operands: &Operands) -> Option<Ins>
         }
         Plain::Csr(op) => {
             let csr = up_to(4095, i64::from(operands.csr_number))? as u16;
-            Some(Ins::Csr { op, rd, csr, src: rs1 })
+            Some(Ins::Csr {
+                op,
+                rd,
+                csr,
+                src: rs1,
+            })
         }
         Plain::CsrImm(op) => {
             let csr = up_to(4095, i64::from(operands.csr_number))? as u16;
@@ -99,8 +109,17 @@ pub(crate) fn instruction(plain: Plain, operands: &Operands) -> Option<Ins>
         Plain::Mret => Some(Ins::Mret),
         Plain::Fence => Some(Ins::Fence { word: 0x0ff0_000f }),
         Plain::FenceI => Some(Ins::Fence { word: 0x0000_100f }),
-        Plain::Not => Some(Ins::OpImm { op: ImmOp::Xori, rd, rs1, imm: -1 }),
-        Plain::Ret => Some(Ins::Jalr { rd: 0, rs1: 1, imm: 0 }),
+        Plain::Not => Some(Ins::OpImm {
+            op: ImmOp::Xori,
+            rd,
+            rs1,
+            imm: -1,
+        }),
+        Plain::Ret => Some(Ins::Jalr {
+            rd: 0,
+            rs1: 1,
+            imm: 0,
+        }),
     }
 }
 
@@ -135,7 +154,12 @@ pub(crate) fn halves(alloc: Global, rd: u8, v: u32) -> Result<Vec<u32>, AllocErr
     ensures { IfOk result (λ words. words.items ≡ map encoded (halves_of rd v)) }
 {
     let lui = encode(&Ins::Lui { rd, imm: upper(v) });
-    let addi = encode(&Ins::OpImm { op: ImmOp::Addi, rd, rs1: rd, imm: rest(v) });
+    let addi = encode(&Ins::OpImm {
+        op: ImmOp::Addi,
+        rd,
+        rs1: rd,
+        imm: rest(v),
+    });
     Ok(vec![in alloc; lui, addi]?)
 }
 
@@ -147,7 +171,12 @@ pub(crate) fn load_words(alloc: Global, rd: u8, v: u32) -> Result<Vec<u32>, Allo
 {
     let signed = v.cast_signed();
     if signed >= -2048 && signed <= 2047 {
-        let addi = encode(&Ins::OpImm { op: ImmOp::Addi, rd, rs1: 0, imm: signed });
+        let addi = encode(&Ins::OpImm {
+            op: ImmOp::Addi,
+            rd,
+            rs1: 0,
+            imm: signed,
+        });
         return Ok(vec![in alloc; addi]?);
     }
     if v % 4096 == 0 {

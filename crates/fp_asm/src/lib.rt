@@ -1,8 +1,12 @@
 //! The assembler: from a source text to an image, or to the first fault with its line.
+//!
+//! [`assemble`] makes two passes over the lines. The first knows the places of labels and of what
+//! each line places, and the second makes the words. The mnemonics are one table of rows, and the
+//! words are those of `rv_decode`.
 #![tactic(auto)]
 
-mod places;
-mod refusal;
+mod assembler;
+mod build;
 mod first;
 mod forms;
 mod instruction;
@@ -12,6 +16,9 @@ mod memory;
 mod names;
 mod operands;
 mod pieces;
+mod places;
+mod refusal;
+mod runs;
 mod second;
 mod size;
 mod statement;
@@ -19,4 +26,5 @@ mod table;
 mod targets;
 mod words;
 
+pub use assembler::assemble;
 pub use refusal::{AsmNo, AsmRefused};

@@ -65,7 +65,11 @@ fn lexed(alloc: Global, line: &[u8]) -> Result<Tokens, Stop>
     }
 }
 
-fn pieces_at<'a>(alloc: Global, line: &'a [u8], tokens: &[Token]) -> Result<Vec<Piece<'a>>, AllocError>
+fn pieces_at<'a>(
+    alloc: Global,
+    line: &'a [u8],
+    tokens: &[Token],
+) -> Result<Vec<Piece<'a>>, AllocError>
     requires { All (λ t. (t.start ≤ t.end) × (t.end ≤ length line.now)) tokens.now }
     ensures { IfOk result (λ ps. map piece_seen ps.items ≡ map (piece_of line.now) tokens.now) }
 {

@@ -89,3 +89,13 @@ impl From<AllocError> for Stop {
         Stop::NoMemory
     }
 }
+
+impl From<AllocError> for AsmRefused {
+    ghost use Rattle.fp_asm.specs.declared.refusal.AsmRefused.{AsmRefused};
+
+    ghost from_gives = { λ _ refused. refused ≡ AsmRefused.NoMemory };
+
+    fn from(_failed: AllocError) -> AsmRefused {
+        AsmRefused::NoMemory
+    }
+}

@@ -21,7 +21,7 @@ use std::collections::BTreeMap;
 #[derive(Drop)]
 pub(crate) struct Second {
     place: u32,
-    memory: BTreeMap<u32, u32>,
+    pub(crate) memory: BTreeMap<u32, u32>,
 }
 
 impl Second {
