@@ -1,4 +1,4 @@
--- The first bytes of an image, one more than it may have, answer as the whole image does.
+-- The first bytes of a file, one more than it may have, answer as the whole file does.
 use Rattle.std.proofs.Common.{refl, ◌≡◌, ℕ, ◌+◌, ◌<◌, ◌≤◌, nat_lt, true, List, length, take, min, Option, Some, None, arith, ap, sym, subst, ◌∙◌, inl, inr}
 use Rattle.std.specs.Prelude.{IfSome, IsSomeAnd}
 use Rattle.std.proofs.lemmas.Bool.{cases_lt}
@@ -8,7 +8,11 @@ use Rattle.fp_io.specs.Content.{FileMap, Fetched}
 use Rattle.trace_print.specs.declared.refusals.Refusal.TheVariants.{Image}
 use Rattle.flexpret_top.specs.Words.{Asked}
 use Rattle.flexpret_top.specs.Bare.{fault_of}
-use Rattle.flexpret_top.specs.Answer.{Answer, IsSaid, WritesFront, over_fault, over_image, over_file}
+use Rattle.fp_asm.specs.Source.{assembled}
+use Rattle.fp_asm.specs.declared.refusal.AsmRefused.TheVariants.{Fault}
+use Rattle.fp_asm.specs.declared.refusal.AsmNo.TheVariants.{TooLong}
+use Rattle.flexpret_top.specs.Answer.{Answer, IsSaid, WritesFront, source_text, over_fault, over_image, over_source, over_file}
+use Rattle.flexpret_top.specs.Answer.Answer.{Says}
 
 -- an image that is too long answers so, whatever it holds
 pub fault-long : (image : List ℕ) → 4096 < length image → fault_of image ≡ Some (Image 1 0)
@@ -32,25 +36,51 @@ over-take a whole most is =
           ap (over_image a) (take_all (most + 1) whole all)
     ]
 
-said_over : (a : Asked) (bytes : List ℕ) (most s : ℕ) (before after : Option (List ℕ)) → most ≡ 4096 → (o : Option (List ℕ)) →
-    IsSomeAnd o (λ whole. bytes ≡ take (most + 1) whole) → IsSaid s before after (over_image a bytes) → IsSaid s before after (over_file a o)
-said_over a bytes most s before after is None found said = absurd found
-said_over a bytes most s before after is (Some whole) found said =
-    let Says : Answer → Type 0 = IsSaid s before after in subst Says (ap (over_image a) found ∙ over-take a whole most is) said
+-- the same of a source
+pub source-long : (source : List ℕ) → 1048576 < length source → over_source source ≡ Says 5 (source_text (Fault 0 TooLong))
+unfolding over_source assembled
+source-long source long =
+    let is_long : nat_lt 1048576 (length source) ≡ true = grind (arith, nat_tests) in rw is_long refl
 
-front_over : (a : Asked) (bytes : List ℕ) (most : ℕ) (before after : Option (List ℕ)) → most ≡ 4096 → (o : Option (List ℕ)) →
-    IsSomeAnd o (λ whole. bytes ≡ take (most + 1) whole) → WritesFront before after (over_image a bytes) → WritesFront before after (over_file a o)
-front_over a bytes most before after is None found said = absurd found
-front_over a bytes most before after is (Some whole) found said =
-    let Writes : Answer → Type 0 = WritesFront before after in subst Writes (ap (over_image a) found ∙ over-take a whole most is) said
+-- an answer over the first bytes, one more than the most, is that over the whole
+abbrev pub IsCut : (List ℕ → Answer) → ℕ → Type 0
+IsCut over most = (whole : List ℕ) → over (take (most + 1) whole) ≡ over whole
+
+pub cut_image : (a : Asked) (most : ℕ) → most ≡ 4096 → IsCut (over_image a) most
+cut_image a most is whole = over-take a whole most is
+
+pub cut_source : (most : ℕ) → most ≡ 1048576 → IsCut over_source most
+cut_source most is whole =
+    elim (cases_lt most (length whole)) [
+      | inl long ↦
+          let more : length (take (most + 1) whole) ≡ min (most + 1) (length whole) = length-take (most + 1) whole in
+          let cut_long : 1048576 < length (take (most + 1) whole) = omega (arith, more, is, long) in
+          let whole_long : 1048576 < length whole = omega (arith, is, long) in
+          source-long (take (most + 1) whole) cut_long ∙ sym (source-long whole whole_long)
+      | inr short ↦
+          let all : length whole ≤ most + 1 = omega (arith, short) in
+          ap over_source (take_all (most + 1) whole all)
+    ]
+
+said_over : (over : List ℕ → Answer) (bytes : List ℕ) (most s : ℕ) (before after : Option (List ℕ)) → IsCut over most → (o : Option (List ℕ)) →
+    IsSomeAnd o (λ whole. bytes ≡ take (most + 1) whole) → IsSaid s before after (over bytes) → IsSaid s before after (over_file over o)
+said_over over bytes most s before after cut None found said = absurd found
+said_over over bytes most s before after cut (Some whole) found said =
+    let Said : Answer → Type 0 = IsSaid s before after in subst Said (ap over found ∙ cut whole) said
+
+front_over : (over : List ℕ → Answer) (bytes : List ℕ) (most : ℕ) (before after : Option (List ℕ)) → IsCut over most → (o : Option (List ℕ)) →
+    IsSomeAnd o (λ whole. bytes ≡ take (most + 1) whole) → WritesFront before after (over bytes) → WritesFront before after (over_file over o)
+front_over over bytes most before after cut None found said = absurd found
+front_over over bytes most before after cut (Some whole) found said =
+    let Writes : Answer → Type 0 = WritesFront before after in subst Writes (ap over found ∙ cut whole) said
 
 -- what was said over the bytes that were fetched was said over the file
-pub said_of : (told : Option FileMap) (name : List ℕ) (a : Asked) (bytes : List ℕ) (most s : ℕ) (before after : Option (List ℕ)) → most ≡ 4096 →
-    Fetched told name most bytes → IsSaid s before after (over_image a bytes) → IfSome told (λ files. IsSaid s before after (over_file a (files name)))
-said_of None name a bytes most s before after is fetched said = tt
-said_of (Some files) name a bytes most s before after is fetched said = said_over a bytes most s before after is (files name) fetched said
+pub said_of : (told : Option FileMap) (name : List ℕ) (over : List ℕ → Answer) (bytes : List ℕ) (most s : ℕ) (before after : Option (List ℕ)) → IsCut over most →
+    Fetched told name most bytes → IsSaid s before after (over bytes) → IfSome told (λ files. IsSaid s before after (over_file over (files name)))
+said_of None name over bytes most s before after cut fetched said = tt
+said_of (Some files) name over bytes most s before after cut fetched said = said_over over bytes most s before after cut (files name) fetched said
 
-pub front_of : (told : Option FileMap) (name : List ℕ) (a : Asked) (bytes : List ℕ) (most : ℕ) (before after : Option (List ℕ)) → most ≡ 4096 →
-    Fetched told name most bytes → WritesFront before after (over_image a bytes) → IfSome told (λ files. WritesFront before after (over_file a (files name)))
-front_of None name a bytes most before after is fetched said = tt
-front_of (Some files) name a bytes most before after is fetched said = front_over a bytes most before after is (files name) fetched said
+pub front_of : (told : Option FileMap) (name : List ℕ) (over : List ℕ → Answer) (bytes : List ℕ) (most : ℕ) (before after : Option (List ℕ)) → IsCut over most →
+    Fetched told name most bytes → WritesFront before after (over bytes) → IfSome told (λ files. WritesFront before after (over_file over (files name)))
+front_of None name over bytes most before after cut fetched said = tt
+front_of (Some files) name over bytes most before after cut fetched said = front_over over bytes most before after cut (files name) fetched said

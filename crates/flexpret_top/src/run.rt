@@ -13,3 +13,12 @@ pub struct Run<'a> {
     pub cycles: u64,
     ghost limit: { cycles ≤ 4000000000 },
 }
+
+/// What the words ask.
+#[derive(Clone, Copy, Debug)]
+pub enum Command<'a> {
+    /// The trace of a thread.
+    Trace(Run<'a>),
+    /// `asm SOURCE`: the image of a source, by the name of its file.
+    Assemble(&'a str),
+}

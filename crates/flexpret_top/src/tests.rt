@@ -39,6 +39,9 @@ fn words_that_ask_nothing(rt: HostRuntime) -> Result<(), Fail> {
         "run -image --thread 0 --cycles 5",
         "help image --thread 0 --cycles 5",
         "run image --thread 0 --cycles 5 6",
+        "asm",
+        "asm -source",
+        "asm source --cycles 5",
     ];
     let mut files = files(rt.alloc())?;
     let mut out = MemSink::new(rt.alloc(), 100)?;
@@ -76,5 +79,31 @@ fn calls_that_fail(rt: HostRuntime) -> Result<(), Fail> {
     );
     assert_eq!(rt; whole.bytes().len(), FIRST.len() + SECOND.len());
     assert!(rt; whole.bytes().ends_with(SECOND.as_bytes()));
+    Ok(())
+}
+
+#[test]
+fn sources_and_their_answers(rt: HostRuntime) -> Result<(), Fail> {
+    let faults = [
+        ("j far", "refused source 1 7 NoLabel\n"),
+        ("x: add x1, x2", "refused source 1 4 Operands\n"),
+        ("nop\naddi x1, x0, 2048", "refused source 2 5 OutOfRange\n"),
+        ("a:\na:", "refused source 2 6 DoubleLabel\n"),
+        ("@", "refused source 1 2 Lex\n"),
+    ];
+    let asked = words(rt.alloc(), "asm source")?;
+    for (source, line) in &faults {
+        let mut files = MemFiles::new(rt.alloc());
+        files.add("source", source.as_bytes())?;
+        let mut out = MemSink::new(rt.alloc(), 100)?;
+        assert_eq!(rt; flexpret(rt.alloc(), &asked, &mut files, &mut out), 5);
+        assert!(rt; out.bytes() == line.as_bytes(), "{source}");
+    }
+    let mut empty = MemFiles::new(rt.alloc());
+    let mut out = MemSink::new(rt.alloc(), 8)?;
+    assert_eq!(rt; flexpret(rt.alloc(), &asked, &mut empty, &mut out), 7);
+    empty.add("source", b"")?;
+    assert_eq!(rt; flexpret(rt.alloc(), &asked, &mut empty, &mut out), 0);
+    assert!(rt; out.bytes() == b"FPX1\0\0\0\0".as_slice());
     Ok(())
 }
