@@ -63,7 +63,7 @@ fn key_name(table: u8, key: u8) -> &'static str {
     }
 }
 
-fn of_accepted(alloc: Global, setup: &Setup) -> Result<String, AllocError> {
+pub fn of_accepted(alloc: Global, setup: &Setup) -> Result<String, AllocError> {
     let mut text = String::new(alloc);
     writeln!(text, "version {} period {}", setup.version, setup.period)?;
     writeln!(text, "slots {:08x} modes {:08x}", setup.slots, setup.modes)?;

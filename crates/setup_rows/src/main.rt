@@ -8,6 +8,8 @@
 
 mod answer;
 mod table;
+#[cfg(test)]
+mod tests;
 
 use std::{fs, io};
 
