@@ -23,9 +23,12 @@ bare : List ℕ → ℕ → View
 bare words thread =
     record {
       setting = record {
-        period = 10; size = 16384; thread = thread;
+        period = 10;
+        size = 16384;
+        thread = thread;
         own = map (λ k. k == thread) (0 ∷ 1 ∷ 2 ∷ 3 ∷ []);
-        i_kinds = replicate 8 ReadOnly; d_kinds = replicate 8 ReadOnly;
+        i_kinds = replicate 8 ReadOnly;
+        d_kinds = replicate 8 ReadOnly;
         i_words = words;
       };
       first = fresh 0;

@@ -8,23 +8,23 @@ use Rattle.core_model.specs.declared.own.Own.{Own}
 -- a hart between two of its instructions
 pub record Thread : Type 0 where
   pub pc : ℕ
-  pub ready : ℕ                         -- the first cycle in which its next instruction may issue
+  pub ready : ℕ  -- the first cycle in which its next instruction may issue
   pub own : Own
-  pub regs : List ℕ                     -- x1 to x31
+  pub regs : List ℕ  -- x1 to x31
 
 -- what an instruction asks while it is executed
 pub record Around : Type 0 where
   pub thread : ℕ
-  pub now : ℕ                           -- the time of its cycle, in nanoseconds
-  pub fetch : ℕ → Bool                  -- whether the word at a pc may be fetched
-  pub load : ℕ → ℕ → Bool               -- whether a load at an address, of a width, is allowed
-  pub store : ℕ → ℕ → Bool              -- whether a store at an address, of a width, is allowed
-  pub shared : ℕ → Option ℕ             -- a register of the machine, 0x7C0 to 0x7C3, or a refusal
+  pub now : ℕ  -- the time of its cycle, in nanoseconds
+  pub fetch : ℕ → Bool  -- whether the word at a pc may be fetched
+  pub load : ℕ → ℕ → Bool  -- whether a load at an address, of a width, is allowed
+  pub store : ℕ → ℕ → Bool  -- whether a store at an address, of a width, is allowed
+  pub shared : ℕ → Option ℕ  -- a register of the machine, 0x7C0 to 0x7C3, or a refusal
 
 -- the words that it finds
 pub record Contents : Type 0 where
-  pub code : ℕ → ℕ                      -- at a pc
-  pub at : ℕ → ℕ                        -- the aligned word of the address of a load
+  pub code : ℕ → ℕ  -- at a pc
+  pub at : ℕ → ℕ  -- the aligned word of the address of a load
 
 -- what is known once it is executed: all but a late value, for which Nothing stands
 pub record Did : Type 0 where
@@ -32,8 +32,8 @@ pub record Did : Type 0 where
   pub own : Own
   pub lag : ℕ
   pub word : ℕ
-  pub address : ℕ                       -- of a load or store that is allowed, else 0
-  pub effect : Option Effect            -- none for a turn without an event
+  pub address : ℕ  -- of a load or store that is allowed, else 0
+  pub effect : Option Effect  -- none for a turn without an event
 
 -- what an issue leaves: the hart, the word, and the effect if there is an event
 pub record Done : Type 0 where

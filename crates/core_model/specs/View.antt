@@ -7,19 +7,19 @@ use Rattle.core_model.specs.Thread.{Thread, Around}
 
 -- what stays through a run
 pub record Setting : Type 0 where
-  pub period : ℕ                       -- of a cycle, in nanoseconds
-  pub size : ℕ                         -- of each scratchpad, in bytes
+  pub period : ℕ  -- of a cycle, in nanoseconds
+  pub size : ℕ  -- of each scratchpad, in bytes
   pub thread : ℕ
-  pub own : List Bool                  -- of each position of the frame, whether it is the hart's
-  pub i_kinds : List Standing          -- what each region of a scratchpad is to the hart
+  pub own : List Bool  -- of each position of the frame, whether it is the hart's
+  pub i_kinds : List Standing  -- what each region of a scratchpad is to the hart
   pub d_kinds : List Standing
-  pub i_words : List ℕ                 -- 0 in the regions that it may not read
+  pub i_words : List ℕ  -- 0 in the regions that it may not read
 
 -- a hart's view: besides that, how it starts, and the word of its port in each cycle
 pub record View : Type 0 where
   pub setting : Setting
   pub first : Thread
-  pub d_words : List ℕ                 -- 0 in the regions that it may not read
+  pub d_words : List ℕ  -- 0 in the regions that it may not read
   pub shown : List ℕ
 
 -- what the region of an address is to the hart
@@ -36,12 +36,12 @@ around_by thread size i_kinds d_kinds now =
       now = now;
       fetch = λ pc. in_i size pc && is_readable (kind_at size i_kinds pc);
       load = λ address width.
-        if in_i size address then is_readable (kind_at size i_kinds address)
-        else if in_d size address then is_readable (kind_at size d_kinds address)
-        else at_port address width;
+          if in_i size address then is_readable (kind_at size i_kinds address)
+          else if in_d size address then is_readable (kind_at size d_kinds address)
+          else at_port address width;
       store = λ address width.
-        if in_d size address then is_writable (kind_at size d_kinds address)
-        else at_port address width;
+          if in_d size address then is_writable (kind_at size d_kinds address)
+          else at_port address width;
       shared = λ csr. None;
     }
 

@@ -30,8 +30,16 @@ impl Own {
         ensures { result ≡ no_own }
     {
         Own {
-            timer: Timer { armed: None, high: 0 },
-            trap: Trapping { mtvec: 0, mscratch: 0, mepc: 0, mcause: 0 },
+            timer: Timer {
+                armed: None,
+                high: 0,
+            },
+            trap: Trapping {
+                mtvec: 0,
+                mscratch: 0,
+                mepc: 0,
+                mcause: 0,
+            },
             sleep: 0,
         }
     }

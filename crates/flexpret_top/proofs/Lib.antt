@@ -1,0 +1,3 @@
+mod Complete
+mod Cut
+mod Numbers

@@ -18,9 +18,12 @@ abbrev pub bare_view : List ℕ → ℕ → ℕ → View
 bare_view image thread n =
     record {
       setting = record {
-        period = 10; size = 16384; thread = thread;
+        period = 10;
+        size = 16384;
+        thread = thread;
         own = map (λ k. thread == k) (0 ∷ 1 ∷ 2 ∷ 3 ∷ []);
-        i_kinds = replicate 8 ReadOnly; d_kinds = replicate 8 ReadOnly;
+        i_kinds = replicate 8 ReadOnly;
+        d_kinds = replicate 8 ReadOnly;
         i_words = written_at (replicate 4096 0) 0 (words_of image);
       };
       first = fresh 0;

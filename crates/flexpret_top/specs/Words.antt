@@ -1,5 +1,5 @@
 -- What the words of the command line ask.
-use Rattle.std.specs.Prelude.{ℕ, ◌+◌, ◌-◌, ◌*◌, ◌==◌, nat_le, Bool, true, false, not, ◌&&◌, if◌then◌else◌, List, [], ◌∷◌, length, codes, Option, Some, None}
+use Rattle.std.specs.Prelude.{ℕ, ◌+◌, ◌-◌, ◌*◌, ◌==◌, nat_le, Bool, false, not, ◌&&◌, if◌then◌else◌, List, [], ◌∷◌, length, codes, Option, Some, None}
 use Rattle.std.specs.Str.{bytes_eq}
 
 -- `run IMAGE --thread i --cycles n`
@@ -48,6 +48,19 @@ ask_six command image thread_option thread cycles_option cycles =
     then asked image (thread_in thread) (cycles_in cycles)
     else None
 
-abbrev pub ask : List (List ℕ) → Option Asked
-ask (a ∷ b ∷ c ∷ d ∷ e ∷ f ∷ []) = ask_six a b c d e f
+-- a trace, or the image of a source: `asm SOURCE`
+pub data Command : Type 0 where
+  Trace : Asked → Command
+  Assemble : List ℕ → Command
+
+abbrev pub traced : Option Asked → Option Command
+traced None = None
+traced (Some a) = Some (Trace a)
+
+unfoldable pub ask_two : List ℕ → List ℕ → Option Command
+ask_two command source = if bytes_eq command (codes "asm") && is_name source then Some (Assemble source) else None
+
+abbrev pub ask : List (List ℕ) → Option Command
+ask (a ∷ b ∷ []) = ask_two a b
+ask (a ∷ b ∷ c ∷ d ∷ e ∷ f ∷ []) = traced (ask_six a b c d e f)
 ask _ = None

@@ -1,8 +1,8 @@
 //! The machine that runs a bare image.
 
-ghost use Rattle.std.specs.Prelude.{◌≡◌, ◌<◌, ◌≤◌, ◌%◌, IfOk, length};
-ghost use Rattle.solo_run.specs.Solo.{view_of};
-ghost use Rattle.flexpret_top.specs.Bare.{bare_view, fault_of, no_port};
+ghost use Rattle.std.specs.Prelude.{◌≡◌, ◌≤◌, ◌%◌, [], IfOk, length};
+ghost use Rattle.solo_run.specs.Solo.{IsView, view_of, view_with, cycle_of};
+ghost use Rattle.flexpret_top.specs.Bare.{bare_view, fault_of};
 
 use scratchpad::Spm;
 use solo_run::{Kind, SoloRun, SoloView};
@@ -24,7 +24,10 @@ pub fn fault_of(image: &[u8]) -> Option<Refusal>
         return Some(Refusal::Image { code: 1, offset: 0 });
     }
     if image.len() % 4 != 0 {
-        return Some(Refusal::Image { code: 3, offset: image.len() as u32 });
+        return Some(Refusal::Image {
+            code: 3,
+            offset: image.len() as u32,
+        });
     }
     None
 }
@@ -45,7 +48,16 @@ fn bare_view(alloc: Global, image: &[u8], thread: u8) -> Result<SoloView, AllocE
         entry: 0,
         size: SIZE,
         frame_len: 4,
-        own: [thread == 0, thread == 1, thread == 2, thread == 3, false, false, false, false],
+        own: [
+            thread == 0,
+            thread == 1,
+            thread == 2,
+            thread == 3,
+            false,
+            false,
+            false,
+            false,
+        ],
         i_kind: [Kind::ReadOnly; 8],
         d_kind: [Kind::ReadOnly; 8],
         i,

@@ -11,6 +11,8 @@ pub enum Status {
     Usage = 2,
     /// The image has a fault; its line was written.
     Image = 4,
+    /// The source has a fault; its line was written.
+    Source = 5,
     /// A file could not be read, or isn't there.
     Read = 7,
     /// The text could not be written whole.

@@ -1,23 +1,10 @@
 //! The words of the command line.
 
-ghost use Rattle.std.specs.Prelude.{◌≡◌, ◌<◌, ◌≤◌, map, string_bytes};
-ghost use Rattle.flexpret_top.specs.Words.{is_name, thread_in, number_in, cycles_in, ask_six, ask};
-
-/// `run IMAGE --thread i --cycles n`.
-#[derive(Clone, Copy, Debug)]
-pub struct Run<'a> {
-    /// The name of the image's file.
-    pub image: &'a str,
-    /// The thread whose trace is asked for.
-    pub thread: u8,
-    /// The number of cycles.
-    pub cycles: u64,
-    ghost thread_small: { thread < 8 },
-    ghost cycles_small: { cycles ≤ 4000000000 },
-}
+ghost use Rattle.std.specs.Prelude.{◌≡◌, ◌≤◌, IfSome, length};
+ghost use Rattle.flexpret_top.specs.Words.{is_name, thread_in, number_in, cycles_in, value_after};
 
 /// Whether a word may name a file: it isn't empty and doesn't begin with a minus.
-fn names_file(word: &str) -> bool
+pub fn names_file(word: &str) -> bool
     ensures { result ≡ is_name word.now }
 {
     match word.as_bytes().first() {
@@ -27,8 +14,8 @@ fn names_file(word: &str) -> bool
 }
 
 /// A thread: one digit 0 to 7.
-fn thread(word: &str) -> Option<u8>
-    ensures thread { result ≡ thread_in word.now }
+pub fn thread_of(word: &str) -> Option<u8>
+    ensures { result ≡ thread_in word.now }
 {
     let digits = word.as_bytes();
     if digits.len() != 1 {
@@ -41,13 +28,21 @@ fn thread(word: &str) -> Option<u8>
 }
 
 /// A number of one to ten digits.
-fn number(word: &str) -> Option<u64>
+fn number_of(word: &str) -> Option<u64>
     ensures { result ≡ number_in word.now }
 {
     let digits = word.as_bytes();
     if digits.is_empty() || digits.len() > 10 {
         return None;
     }
+    value_of(digits)
+}
+
+/// The decimal value of at most ten digits; None where a byte is no digit.
+fn value_of(digits: &[u8]) -> Option<u64>
+    requires { length digits.now ≤ 10 }
+    ensures { result ≡ value_after 0 digits.now }
+{
     let mut value: u64 = 0;
     for digit in digits {
         if !digit.is_ascii_digit() {
@@ -60,10 +55,11 @@ fn number(word: &str) -> Option<u64>
 
 /// A number of cycles, at most 4,000,000,000.
 #[tactic(auto, unfolding(crate::specs::Words::cycles_in))]
-fn cycles(word: &str) -> Option<u64>
-    ensures { result ≡ cycles_in word.now }
+pub fn cycles_of(word: &str) -> Option<u64>
+    ensures value { result ≡ cycles_in word.now }
+    ensures limit { IfSome result (λ n. n ≤ 4000000000) }
 {
-    match number(word) {
+    match number_of(word) {
         Some(value) if value <= 4_000_000_000 => Some(value),
         _ => None,
     }

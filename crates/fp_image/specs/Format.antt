@@ -4,7 +4,7 @@
 use Rattle.std.specs.Prelude.{◌≡◌, ◌⊎◌, ℕ, zero, suc, ◌+◌, ◌-◌, ◌==◌, nat_lt, nat_eq, Bool, not, if◌then◌else◌, List, [], ◌∷◌, ◌++◌, length, take, drop, codes, Option, Some, None, Result, Ok, Err}
 use Rattle.std.specs.List.{starts_with, flat_map}
 use Rattle.byteorder.specs.Endian.{little_number, little_bytes}
-use Rattle.fp_image.specs.Rules.{is_placed}
+use Rattle.fp_image.specs.Rules.{IsSize, IsImage, is_placed}
 use Rattle.fp_image.specs.declared.parts.Segment.{Segment}
 use Rattle.fp_image.specs.declared.refusals.ImageNo.{ImageNo}
 use Rattle.fp_image.specs.declared.refusals.ImageNo.TheVariants.{TooLong, Magic, Truncated, BadSegment, Overlap, Trailing}
@@ -95,3 +95,7 @@ segment_written s = little_bytes 4 s.address ++ (little_bytes 4 (length s.bytes)
 
 unfoldable pub written : List Segment → List ℕ
 written segments = codes "FPX1" ++ (little_bytes 4 (length segments) ++ flat_map segment_written segments)
+
+-- The file is read as these segments, for each size whose scratchpads they lie inside.
+abbrev pub IsReadBack : List ℕ → List Segment → Type 0
+IsReadBack file segments = (size : ℕ) → IsSize size → IsImage size segments → image_of size file ≡ Ok segments

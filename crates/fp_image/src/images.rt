@@ -76,7 +76,6 @@ impl Image {
 
 /// The word of a segment at an address, where the segment has all its bytes.
 fn word_in(segment: &Segment, address: u32) -> Option<u32>
-    requires { address < 65536 }
     ensures { result ≡ word_in segment.now address }
 {
     let offset = address.checked_sub(segment.address)? as usize;

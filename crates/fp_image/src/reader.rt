@@ -6,7 +6,7 @@ ghost use Rattle.fp_image.specs.Rules.{IsImage, IsSize, is_placed};
 
 use crate::images::Image;
 use crate::parts::{Bytes, Segment};
-use crate::refusals::{ImageNo, ImageRefused};
+use crate::refusals::{ImageNo, ImageRefused, fault};
 use byteorder::{ByteOrder, LittleEndian};
 use std::alloc::Global;
 
@@ -36,29 +36,17 @@ fn count_of(bytes: &[u8], size: u32) -> Result<u32, ImageRefused>
     ensures short { IfOk result (λ count. length bytes.now ≤ 139264) }
 {
     if bytes.len() > longest(size) {
-        return Err(ImageRefused::Fault {
-            code: ImageNo::TooLong,
-            offset: 0,
-        });
+        return Err(fault(ImageNo::TooLong, 0));
     }
     if !bytes.starts_with(b"FPX1") {
-        return Err(ImageRefused::Fault {
-            code: ImageNo::Magic,
-            offset: 0,
-        });
+        return Err(fault(ImageNo::Magic, 0));
     }
     if bytes.len() < 8 {
-        return Err(ImageRefused::Fault {
-            code: ImageNo::Truncated,
-            offset: bytes.len() as u32,
-        });
+        return Err(fault(ImageNo::Truncated, bytes.len() as u32));
     }
     let count = LittleEndian::read_u32(&bytes[4..]);
     if count > 16 {
-        return Err(ImageRefused::Fault {
-            code: ImageNo::BadSegment,
-            offset: 4,
-        });
+        return Err(fault(ImageNo::BadSegment, 4));
     }
     Ok(count)
 }
@@ -98,11 +86,7 @@ fn read_segments(
         }
     }
     if !rest.is_empty() {
-        let offset = total - rest.len() as u32;
-        return Err(ImageRefused::Fault {
-            code: ImageNo::Trailing,
-            offset,
-        });
+        return Err(fault(ImageNo::Trailing, total - rest.len() as u32));
     }
     Ok(image)
 }
@@ -125,32 +109,20 @@ fn read_segment(
     ensures whole { IfOk result (λ s. 8 + length s.bytes ≤ length rest.now) }
 {
     if rest.len() < 8 {
-        return Err(ImageRefused::Fault {
-            code: ImageNo::Truncated,
-            offset: total,
-        });
+        return Err(fault(ImageNo::Truncated, total));
     }
     let address = LittleEndian::read_u32(rest);
     let len = LittleEndian::read_u32(&rest[4..]);
     let offset = total - rest.len() as u32;
     if !is_placed(address, len, size) {
-        return Err(ImageRefused::Fault {
-            code: ImageNo::BadSegment,
-            offset,
-        });
+        return Err(fault(ImageNo::BadSegment, offset));
     }
     if address < from {
-        return Err(ImageRefused::Fault {
-            code: ImageNo::Overlap,
-            offset,
-        });
+        return Err(fault(ImageNo::Overlap, offset));
     }
     let end = 8 + len as usize;
     if rest.len() < end {
-        return Err(ImageRefused::Fault {
-            code: ImageNo::Truncated,
-            offset: total,
-        });
+        return Err(fault(ImageNo::Truncated, total));
     }
     match Vec::from_slice(alloc, &rest[8..end]) {
         Ok(bytes) => Ok(Segment {

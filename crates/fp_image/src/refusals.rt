@@ -1,5 +1,7 @@
 //! Why an image file is refused.
 
+ghost use Rattle.std.specs.Prelude.{◌≡◌};
+
 use thiserror::Error;
 
 /// What is wrong with an image file, by its number in a refusal line.
@@ -37,4 +39,10 @@ pub enum ImageRefused {
     /// Memory was refused.
     #[error("out of memory")]
     NoMemory,
+}
+
+pub(crate) fn fault(code: ImageNo, offset: u32) -> ImageRefused
+    ensures { result ≡ ImageRefused.Fault code offset }
+{
+    ImageRefused::Fault { code, offset }
 }

@@ -12,7 +12,7 @@ const DRIVE: [u8; 92] = [
     0x08, 0x00, 0x00, 0x00, 0x93, 0x80, 0x10, 0x00, 0x6f, 0xf0, 0xdf, 0xff,
 ];
 
-fn fault(code: ImageNo, offset: u32) -> Option<ImageRefused> {
+fn refused(code: ImageNo, offset: u32) -> Option<ImageRefused> {
     Some(ImageRefused::Fault { code, offset })
 }
 
@@ -20,79 +20,79 @@ fn fault(code: ImageNo, offset: u32) -> Option<ImageRefused> {
 #[test]
 fn refuses_files(rt: HostRuntime) {
     let rows: [(&[u8], Option<ImageRefused>); 30] = [
-        (b"", fault(ImageNo::Magic, 0)),
-        (b"FPX2\0\0\0\0", fault(ImageNo::Magic, 0)),
-        (b"FPX1\x01\0\0", fault(ImageNo::Truncated, 7)),
+        (b"", refused(ImageNo::Magic, 0)),
+        (b"FPX2\0\0\0\0", refused(ImageNo::Magic, 0)),
+        (b"FPX1\x01\0\0", refused(ImageNo::Truncated, 7)),
         (b"FPX1\0\0\0\0", None),
-        (b"FPX1\0\0\0\0\0", fault(ImageNo::Trailing, 8)),
-        (b"FPX1\x11\0\0\0", fault(ImageNo::BadSegment, 4)),
-        (b"FPX1\xff\xff\xff\xff", fault(ImageNo::BadSegment, 4)),
+        (b"FPX1\0\0\0\0\0", refused(ImageNo::Trailing, 8)),
+        (b"FPX1\x11\0\0\0", refused(ImageNo::BadSegment, 4)),
+        (b"FPX1\xff\xff\xff\xff", refused(ImageNo::BadSegment, 4)),
         (
             b"FPX1\x01\0\0\0\0\0\0\0\x04\0\0",
-            fault(ImageNo::Truncated, 15),
+            refused(ImageNo::Truncated, 15),
         ),
         (
             b"FPX1\x01\0\0\0\0\0\0\0\x04\0\0\0\x93\x02",
-            fault(ImageNo::Truncated, 18),
+            refused(ImageNo::Truncated, 18),
         ),
         (b"FPX1\x01\0\0\0\0\0\0\0\x04\0\0\0\x93\x02\x10\0", None),
         (
             b"FPX1\x01\0\0\0\0\0\0\0\x04\0\0\0\x93\x02\x10\0\0",
-            fault(ImageNo::Trailing, 20),
+            refused(ImageNo::Trailing, 20),
         ),
         (
             b"FPX1\x01\0\0\0\0\0\0\0\0\0\0\0",
-            fault(ImageNo::BadSegment, 8),
+            refused(ImageNo::BadSegment, 8),
         ),
         (
             b"FPX1\x01\0\0\0\0\0\0\0\x06\0\0\0",
-            fault(ImageNo::BadSegment, 8),
+            refused(ImageNo::BadSegment, 8),
         ),
         (
             b"FPX1\x01\0\0\0\x02\0\0\0\x04\0\0\0\x93\x02\x10\0",
-            fault(ImageNo::BadSegment, 8),
+            refused(ImageNo::BadSegment, 8),
         ),
         (
             b"FPX1\x01\0\0\0\xfc?\0\0\x08\0\0\0",
-            fault(ImageNo::BadSegment, 8),
+            refused(ImageNo::BadSegment, 8),
         ),
         (
             b"FPX1\x01\0\0\0\0@\0\0\x04\0\0\0\x93\x02\x10\0",
-            fault(ImageNo::BadSegment, 8),
+            refused(ImageNo::BadSegment, 8),
         ),
         (
             b"FPX1\x01\0\0\0\xfc\xff\xff\x1f\x04\0\0\0\x93\x02\x10\0",
-            fault(ImageNo::BadSegment, 8),
+            refused(ImageNo::BadSegment, 8),
         ),
         (
             b"FPX1\x01\0\0\0\xfc?\0\x20\x08\0\0\0",
-            fault(ImageNo::BadSegment, 8),
+            refused(ImageNo::BadSegment, 8),
         ),
         (
             b"FPX1\x01\0\0\0\0\0\0@\x04\0\0\0\x93\x02\x10\0",
-            fault(ImageNo::BadSegment, 8),
+            refused(ImageNo::BadSegment, 8),
         ),
         (
             b"FPX1\x01\0\0\0\xfc\xff\xff\xff\x08\0\0\0",
-            fault(ImageNo::BadSegment, 8),
+            refused(ImageNo::BadSegment, 8),
         ),
         (
             b"FPX1\x01\0\0\0\0\0\0\0\xfc\xff\xff\xff",
-            fault(ImageNo::BadSegment, 8),
+            refused(ImageNo::BadSegment, 8),
         ),
         (b"FPX1\x01\0\0\0\xfc?\0\0\x04\0\0\0\x93\x02\x10\0", None),
         (b"FPX1\x01\0\0\0\xfc?\0\x20\x04\0\0\0\x93\x02\x10\0", None),
         (
             b"FPX1\x02\0\0\0\0\0\0\0\x04\0\0\0\x93\x02\x10\0\0\0\0\0\x04\0\0\0",
-            fault(ImageNo::Overlap, 20),
+            refused(ImageNo::Overlap, 20),
         ),
         (
             b"FPX1\x02\0\0\0\0\0\0\0\x08\0\0\0\x93\x02\x10\0\x93\x02\x10\0\x04\0\0\0\x04\0\0\0\x93\x02\x10\0",
-            fault(ImageNo::Overlap, 24),
+            refused(ImageNo::Overlap, 24),
         ),
         (
             b"FPX1\x02\0\0\0\0\x01\0\0\x04\0\0\0\x93\x02\x10\0\0\0\0\0\x04\0\0\0\x93\x02\x10\0",
-            fault(ImageNo::Overlap, 20),
+            refused(ImageNo::Overlap, 20),
         ),
         (
             b"FPX1\x02\0\0\0\0\0\0\0\x04\0\0\0\x93\x02\x10\0\x04\0\0\0\x04\0\0\0\x93\x02\x10\0",
@@ -100,11 +100,11 @@ fn refuses_files(rt: HostRuntime) {
         ),
         (
             b"FPX1\x02\0\0\0\x04\0\0\0\x04\0\0\0\x93\x02\x10\0\x01\0\0\0\x04\0\0\0\x93\x02\x10\0",
-            fault(ImageNo::BadSegment, 20),
+            refused(ImageNo::BadSegment, 20),
         ),
         (
             b"FPX1\x02\0\0\0\x04\0\0\0\x04\0\0\0\x93\x02\x10\0\0\0\0\0\x08\0\0\0",
-            fault(ImageNo::Overlap, 20),
+            refused(ImageNo::Overlap, 20),
         ),
         (
             b"FPX1\x02\0\0\0\0\x01\0\0\x04\0\0\0\x93\x02\x10\0\0\0\0\x20\x08\0\0\0\x93\x02\x10\0\x93\x02\x10\0",
@@ -133,7 +133,7 @@ fn refuses_each_front(rt: HostRuntime) {
         let offset = if len < 4 { 0 } else { len as u32 };
         assert_eq!(rt;
             read_image(rt.alloc(), front, 16_384).err(),
-            fault(code, offset),
+            refused(code, offset),
             "{len}"
         );
     }
@@ -141,7 +141,7 @@ fn refuses_each_front(rt: HostRuntime) {
 
 #[test]
 fn refuses_long_files(rt: HostRuntime) -> Result<(), AllocError> {
-    let (magic, too_long) = (fault(ImageNo::Magic, 0), fault(ImageNo::TooLong, 0));
+    let (magic, too_long) = (refused(ImageNo::Magic, 0), refused(ImageNo::TooLong, 0));
     for (len, refused) in [(34_816, magic), (34_817, too_long)] {
         let file = vec![in rt.alloc(); 0; len]?;
         assert_eq!(rt;
@@ -197,7 +197,7 @@ fn reads_larger_images(rt: HostRuntime) -> Result<(), Fail> {
     let file = b"FPX1\x01\0\0\0\0\x80\0\0\x04\0\0\0\x93\x02\x10\0";
     assert_eq!(rt;
         read_image(rt.alloc(), file, 16_384).err(),
-        fault(ImageNo::BadSegment, 8)
+        refused(ImageNo::BadSegment, 8)
     );
     let image = read_image(rt.alloc(), file, 65_536)?;
     assert_eq!(rt; image.code_word(0x8000), 0x0010_0293);

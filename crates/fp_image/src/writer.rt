@@ -2,7 +2,7 @@
 
 ghost use Rattle.std.specs.Prelude.{◌≡◌, ◌<◌, ◌^◌, ◌++◌, ℕ, length, Ok, OnOk, IfOk, is_ok, if◌then◌else◌};
 ghost use Rattle.byteorder.specs.Endian.{little_bytes};
-ghost use Rattle.fp_image.specs.Format.{image_of, segment_written, written};
+ghost use Rattle.fp_image.specs.Format.{IsReadBack, segment_written, written};
 ghost use Rattle.fp_image.specs.Rules.{IsImage, IsSize};
 
 use crate::images::Image;
@@ -18,7 +18,7 @@ use std::alloc::{AllocError, Global};
 /// `AllocError` where memory was refused.
 pub fn write_image(alloc: Global, image: &Image) -> Result<Vec<u8>, AllocError>
     ensures bytes { IfOk result (λ v. v.items ≡ written image.now) }
-    ensures read_back { IfOk result (λ v. (size : ℕ) → IsSize size → IsImage size image.now → image_of size v.items ≡ Ok image.now) }
+    ensures read_back { IfOk result (λ v. IsReadBack v.items image.now) }
 {
     let segments = image.segments();
     let mut bytes = Vec::new(alloc);

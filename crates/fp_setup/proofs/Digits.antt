@@ -1,50 +1,42 @@
 -- A word as its nibbles.
-use Rattle.std.proofs.Common.{◌≡◌, ℕ, zero, suc, ◌+◌, ◌*◌, ◌/◌, ◌%◌, ◌^◌, ◌-◌, ◌<◌, ◌≤◌, Bool, true, nat_lt, List, [], ◌∷◌, length, get_or, drop, drop-cons, lit<, refl, ap, arith}
+use Rattle.std.proofs.Common.{IsTrue, subst, ◌∙◌, ◌^◌, ◌≤◌, ◌≡◌, ℕ, zero, suc, ◌+◌, ◌*◌, ◌/◌, ◌%◌, ◌^◌, ◌-◌, ◌<◌, ◌≤◌, Bool, true, nat_lt, List, [], ◌∷◌, length, get_or, drop, drop-cons, lit<, refl, ap, arith}
 use Rattle.std.specs.List.{list_all}
-use Rattle.std.proofs.lemmas.List.{drop_more}
 use Rattle.std.proofs.lemmas.List.Sums.{AllPass-from_list_all}
-use Rattle.std.proofs.lemmas.Bool.{and_parts, lt-ltb}
+use Rattle.std.proofs.lemmas.Bool.{and_parts, lt-ltb, ltb-true}
 use Rattle.std.proofs.lemmas.Bool.Decides.{nat_tests}
-use Rattle.std.proofs.Math.Nat.{pow-suc}
+use Rattle.std.proofs.Math.Nat.{pow-zero, pow-le-pow_left, pow-succ', mul-le-mul_left, mul-le-mul_right}
 use Rattle.nibble_word.specs.Nibbles.{nibbles}
+use Rattle.slot_table.specs.Table.{is_table}
+use Rattle.region_guard.specs.Register.{is_regions}
 use Rattle.fp_setup.specs.declared.vocabulary.Words.{Words}
 use Rattle.fp_setup.specs.declared.vocabulary.Words.TheVariants.{Slots, Owners, Modes}
-use Rattle.fp_setup.specs.Vocabulary.{is_value}
+use Rattle.fp_setup.specs.Vocabulary.{is_value, is_word}
 use Rattle.fp_setup.specs.Meaning.{word_of}
 
--- each is a nibble
+-- each is a digit of the base; of base 16, a nibble
+abbrev pub are_digits : ℕ → List ℕ → Bool
+are_digits base ns = list_all (λ n. nat_lt n base) ns
+
 abbrev pub are_nibbles : List ℕ → Bool
-are_nibbles ns = list_all (λ n. nat_lt n 16) ns
+are_nibbles ns = are_digits 16 ns
 
--- one more nibble below those of the word
-pub word_of-drop : (ns : List ℕ) (i : ℕ) → i < length ns → word_of 16 (drop i ns) ≡ get_or ns i 0 + 16 * word_of 16 (drop (i + 1) ns)
-word_of-drop ns i h = ap (word_of 16) (drop_more ns i 0 h)
+pub word_of-below : (base : ℕ) (ns : List ℕ) → are_digits base ns ≡ true → word_of base ns < base ^ length ns
+word_of-below base [] h = rw pow-zero (lit< tt)
+word_of-below base (n ∷ ns) h =
+    let (here, more) = and_parts (nat_lt n base) (are_digits base ns) h in
+    let below : word_of base ns + 1 ≤ base ^ length ns = omega (arith, word_of-below base ns more) in
+    let small : n < base = ltb-true n base here in
+    let times : base * (word_of base ns + 1) ≤ base * base ^ length ns = mul-le-mul_left base below in
+    rw (pow-succ' base (length ns)) (omega (arith, times))
 
-pub word_of-below : (ns : List ℕ) → are_nibbles ns ≡ true → word_of 16 ns < 16 ^ length ns
-word_of-below [] h = omega arith
-word_of-below (n ∷ ns) h =
-    let (here, more) = and_parts (nat_lt n 16) (are_nibbles ns) h in
-    let below : word_of 16 ns < 16 ^ length ns = word_of-below ns more in
-    let small : n < 16 = grind (arith, nat_tests, here) in
-    rw (pow-suc 16 (length ns)) (omega arith)
-
-pub word_of-drop-below : (i : ℕ) (ns : List ℕ) → are_nibbles ns ≡ true → word_of 16 (drop i ns) < 16 ^ length ns
-word_of-drop-below zero ns h = word_of-below ns h
-word_of-drop-below (suc i) [] h = omega arith
-word_of-drop-below (suc i) (n ∷ ns) h =
-    let (here, more) = and_parts (nat_lt n 16) (are_nibbles ns) h in
-    let below : word_of 16 (drop i ns) < 16 ^ length ns = word_of-drop-below i ns more in
-    rw (pow-suc 16 (length ns)) (omega arith)
-
--- eight of them fit a word
-pub word_of-fits : (ns : List ℕ) (i : ℕ) → are_nibbles ns ≡ true → length ns ≡ 8 → word_of 16 (drop i ns) < 2 ^ 32
-word_of-fits ns i h eight =
-    let below : word_of 16 (drop i ns) < 16 ^ length ns = word_of-drop-below i ns h in
-    let power : 16 ^ length ns ≡ 2 ^ 32 = ap (λ n. 16 ^ n) eight in
-    omega arith
-
-pub low_nibble : (n w : ℕ) → n < 16 → (n + 16 * w) % 16 ≡ n
-low_nibble n w h = omega arith
+pub word_of-drop-below : (base : ℕ) (i : ℕ) (ns : List ℕ) → 0 < base → are_digits base ns ≡ true → word_of base (drop i ns) < base ^ length ns
+word_of-drop-below base zero ns some h = word_of-below base ns h
+word_of-drop-below base (suc i) [] some h = rw pow-zero (lit< tt)
+word_of-drop-below base (suc i) (n ∷ ns) some h =
+    let (here, more) = and_parts (nat_lt n base) (are_digits base ns) h in
+    let below : word_of base (drop i ns) < base ^ length ns = word_of-drop-below base i ns some more in
+    let times : 1 * base ^ length ns ≤ base * base ^ length ns = mul-le-mul_right (base ^ length ns) some in
+    rw (pow-succ' base (length ns)) (omega (arith, below, times))
 
 nibbles_of_eight : (a b c d e f g h : ℕ) → a < 16 → b < 16 → c < 16 → d < 16 → e < 16 → f < 16 → g < 16 → h < 16
     → nibbles (word_of 16 (a ∷ b ∷ c ∷ d ∷ e ∷ f ∷ g ∷ h ∷ [])) ≡ a ∷ b ∷ c ∷ d ∷ e ∷ f ∷ g ∷ h ∷ []
@@ -67,18 +59,39 @@ nibble_at-below ns h k within =
     let here : nat_lt (get_or ns k 0) 16 ≡ true = AllPass-from_list_all (λ n. nat_lt n 16) ns h k 0 within in
     grind (arith, nat_tests, here)
 
--- going back from one nibble to the one below it
-pub word_of-back : (ns : List ℕ) (i : ℕ) → 0 < i → i ≤ length ns → word_of 16 (drop (i - 1) ns) ≡ get_or ns (i - 1) 0 + 16 * word_of 16 (drop i ns)
-word_of-back ns zero some within = absurd (omega arith)
-word_of-back ns (suc k) some within =
+-- going back from one digit to the one below it
+pub word_of-back : (base : ℕ) (ns : List ℕ) (i : ℕ) → 0 < i → i ≤ length ns → word_of base (drop (i - 1) ns) ≡ get_or ns (i - 1) 0 + base * word_of base (drop i ns)
+word_of-back base ns zero some within = absurd (omega arith)
+word_of-back base ns (suc k) some within =
     let before : suc k - 1 ≡ k = omega arith in
     let inside : k < length ns = omega arith in
-    rw before (ap (word_of 16) (drop-cons ns k 0 inside))
+    rw before (ap (word_of base) (drop-cons ns k 0 inside))
 
 -- a step of the loop that goes back
-pub word_step : (ns : List ℕ) (i word n : ℕ) → 0 < i → i ≤ length ns → word ≡ word_of 16 (drop i ns) → n ≡ get_or ns (i - 1) 0
-    → 16 * word + n ≡ word_of 16 (drop (i - 1) ns)
-word_step ns i word n some within e f = rw (e, f, word_of-back ns i some within) (omega arith)
+pub word_step : (base : ℕ) (ns : List ℕ) (i word n : ℕ) → 0 < i → i ≤ length ns → word ≡ word_of base (drop i ns) → n ≡ get_or ns (i - 1) 0
+    → base * word + n ≡ word_of base (drop (i - 1) ns)
+word_step base ns i word n some within e f = rw (e, f, word_of-back base ns i some within) (omega arith)
+
+-- a base with a digit isn't 0
+base-some : (base : ℕ) (ns : List ℕ) → 0 < length ns → are_digits base ns ≡ true → 0 < base
+base-some base [] some h = absurd (omega arith)
+base-some base (n ∷ ns) some h =
+    let (here, more) = and_parts (nat_lt n base) (are_digits base ns) h in
+    let small : n < base = ltb-true n base here in
+    omega arith
+
+-- eight digits of a base up to 16 fit a word
+pub word_step-fits : (base : ℕ) (ns : List ℕ) (i word n : ℕ) → base ≤ 16 → length ns ≡ 8 → are_digits base ns ≡ true → 0 < i → i ≤ length ns
+    → word ≡ word_of base (drop i ns) → n ≡ get_or ns (i - 1) 0 → base * word + n < 2 ^ 32
+word_step-fits base ns i word n few eight digits some within e f =
+    let value : base * word + n ≡ word_of base (drop (i - 1) ns) = word_step base ns i word n some within e f in
+    let below : word_of base (drop (i - 1) ns) < base ^ length ns = word_of-drop-below base (i - 1) ns (base-some base ns (omega arith) digits) digits in
+    let power : base ^ length ns ≤ 16 ^ length ns = pow-le-pow_left few (length ns) in
+    let most : 16 ^ length ns ≡ 2 ^ 32 = ap (λ k. 16 ^ k) eight in
+    omega arith
+
+pub word_of-small : (base : ℕ) (ns : List ℕ) → length ns ≡ 8 → are_digits base ns ≡ true → word_of base ns < base ^ 8
+word_of-small base ns eight digits = subst (λ k. word_of base ns < base ^ k) eight (word_of-below base ns digits)
 
 pub nibbles-word_of : (ns : List ℕ) → are_nibbles ns ≡ true → length ns ≡ 8 → nibbles (word_of 16 ns) ≡ ns
 nibbles-word_of [] h eight = absurd (omega arith)
@@ -106,3 +119,13 @@ small_values words (n ∷ ns) h =
     let (here, more) = and_parts (is_value words n) (list_all (is_value words) ns) h in
     let small : nat_lt n 16 ≡ true = lt-ltb n 16 (small_value words n here) in
     rw (small, small_values words ns more)
+
+pub nibbles_of_word : (ns : List ℕ) (word : ℕ) → word ≡ word_of 16 ns → are_nibbles ns ≡ true → length ns ≡ 8 → nibbles word ≡ ns
+nibbles_of_word ns word is digits eight = ap nibbles is ∙ nibbles-word_of ns digits eight
+
+-- a word of eight that the texts of a list stand for is one of the register
+pub accepted : (words : Words) (ns : List ℕ) (word : ℕ) → nibbles word ≡ ns → list_all (is_value words) ns ≡ true → IsTrue (is_word words word)
+unfolding is_table is_regions
+accepted Slots ns word is values = rw (is, values) refl
+accepted Owners ns word is values = rw (is, values) refl
+accepted Modes ns word is values = refl

@@ -1,8 +1,7 @@
 -- The checks of one value, at its place: the first fault, or none.
-use Rattle.std.specs.Prelude.{ℕ, ℤ, pos, negsuc, ◌+◌, ◌%◌, ◌==◌, ◌&&◌, Bool, true, false, nat_le, nat_lt, List, [], ◌∷◌, length, Option, Some, None, is_some, option_and_then, if◌then◌else◌}
+use Rattle.std.specs.Prelude.{ℕ, ℤ, pos, negsuc, ◌+◌, ◌%◌, ◌==◌, ◌&&◌, Bool, true, false, nat_le, nat_lt, List, [], ◌∷◌, length, Option, Some, None, is_some, if◌then◌else◌}
 use Rattle.std.specs.List.{list_any}
-use Rattle.std.specs.Option.{option_map_or}
-use Rattle.toml.specs.Data.{Data, as_integer, as_str}
+use Rattle.toml.specs.Data.{Data, as_integer, as_str, as_bool}
 use Rattle.fp_setup.specs.declared.refusal.Place.{Place}
 use Rattle.fp_setup.specs.declared.refusal.Fault.{Fault}
 use Rattle.fp_setup.specs.declared.refusal.SetupNo.TheVariants as no
@@ -10,76 +9,70 @@ use Rattle.fp_setup.specs.declared.bounds.Range.{Range}
 use Rattle.fp_setup.specs.declared.vocabulary.Words.{Words}
 use Rattle.fp_setup.specs.Faults.{fault, first, element_of}
 use Rattle.fp_setup.specs.Vocabulary.{Text, number_of, refusal}
-use Rattle.fp_setup.specs.Values.{natural, number, as_list}
+use Rattle.fp_setup.specs.Values.{number, as_list, pair, input_of}
+
+-- a value at its place
+abbrev pub Check : Type 0
+Check = Place → Data → Option Fault
+
+-- the type comes first, and then what else is asked of the value
+abbrev pub typed : {A : Type 0} → Place → Option A → (A → Option Fault) → Option Fault
+typed place None check = fault no.WrongType place
+typed place (Some x) check = check x
 
 -- an integer in a range
 abbrev pub is_in : Range → ℕ → Bool
 is_in range n = (nat_le range.low n && nat_le n range.high) && n % range.step == 0
 
-unfoldable pub integer_fault : Range → Place → Option ℤ → Option Fault
-integer_fault range place None = fault no.WrongType place
-integer_fault range place (Some (negsuc n)) = fault no.OutOfRange place
-integer_fault range place (Some (pos n)) = if is_in range n then None else fault no.OutOfRange place
+abbrev pub integer_fault : Range → Place → ℤ → Option Fault
+integer_fault range place (pos n) = if is_in range n then None else fault no.OutOfRange place
+integer_fault range place (negsuc n) = fault no.OutOfRange place
 
--- an integer that isn't taken yet
+unfoldable pub integer_check : Range → Check
+integer_check range place d = typed place (as_integer d) (integer_fault range place)
+
+-- an integer in a range that isn't taken yet
 abbrev pub taken_fault : List ℕ → Place → ℕ → Option Fault
 taken_fault taken place n = if list_any (λ k. k == n) taken then fault no.DoubleThread place else None
 
-abbrev pub fresh_fault : Range → List ℕ → Place → Data → Option Fault
-fresh_fault range taken place d = first (integer_fault range place (as_integer d)) (taken_fault taken place (number d))
+unfoldable pub fresh_check : Range → List ℕ → Check
+fresh_check range taken place d = first (integer_check range place d) (taken_fault taken place (number d))
 
 -- a text of so many bytes
-unfoldable pub bytes_fault : ℕ → ℕ → Place → Option Text → Option Fault
-bytes_fault low high place None = fault no.WrongType place
-bytes_fault low high place (Some t) =
+abbrev pub bytes_fault : ℕ → ℕ → Place → Text → Option Fault
+bytes_fault low high place t =
     if nat_le low (length t) && nat_le (length t) high then None else fault no.OutOfRange place
 
+unfoldable pub bytes_check : ℕ → ℕ → Check
+bytes_check low high place d = typed place (as_str d) (bytes_fault low high place)
+
 -- a text of a list
-unfoldable pub word_fault : Words → Place → Option Text → Option Fault
-word_fault words place None = fault no.WrongType place
-word_fault words place (Some t) = if is_some (number_of words t) then None else fault (refusal words) place
+abbrev pub word_fault : Words → Place → Text → Option Fault
+word_fault words place t = if is_some (number_of words t) then None else fault (refusal words) place
 
--- a truth value, and one that isn't true beside another
-unfoldable pub truth_fault : Place → Option Bool → Option Fault
-truth_fault place None = fault no.WrongType place
-truth_fault place (Some b) = None
+unfoldable pub word_check : Words → Check
+word_check words place d = typed place (as_str d) (word_fault words place)
 
-unfoldable pub permit_fault : Bool → Place → Option Bool → Option Fault
-permit_fault confined place None = fault no.WrongType place
-permit_fault confined place (Some b) = if confined && b then fault no.ConfinedPermit place else None
+-- a truth value, and one that isn't true where the other is
+unfoldable pub truth_check : Check
+truth_check place d = typed place (as_bool d) (λ (b : Bool). None)
+
+unfoldable pub permit_check : Bool → Check
+permit_check confined place d =
+    typed place (as_bool d) (λ (b : Bool). if confined && b then fault no.ConfinedPermit place else None)
 
 -- the elements of a list in their order, the first of them with that index
-abbrev pub each_fault : (ℕ → Data → Option Fault) → ℕ → List Data → Option Fault
-each_fault check index [] = None
-each_fault check index (d ∷ ds) = first (check index d) (each_fault check (index + 1) ds)
+abbrev pub each_fault : Check → Place → ℕ → List Data → Option Fault
+each_fault check place index [] = None
+each_fault check place index (d ∷ ds) = first (check (element_of place index) d) (each_fault check place (index + 1) ds)
 
 -- eight texts of a list
-abbrev pub element_fault : Words → Place → ℕ → Data → Option Fault
-element_fault words place index d = word_fault words (element_of place index) (as_str d)
+abbrev pub eight_fault : Words → Place → List Data → Option Fault
+eight_fault words place ds =
+    if length ds == 8 then each_fault (word_check words) place 0 ds else fault no.OutOfRange place
 
-abbrev pub eight_in_fault : Words → Place → List Data → Option Fault
-eight_in_fault words place ds =
-    if length ds == 8 then each_fault (element_fault words place) 0 ds else fault no.OutOfRange place
-
-unfoldable pub eight_fault : Words → Place → Option (List Data) → Option Fault
-eight_fault words place None = fault no.WrongType place
-eight_fault words place (Some ds) = eight_in_fault words place ds
-
--- exactly two integers
-abbrev pub both : Option ℤ → Option ℤ → Option (ℤ × ℤ)
-both (Some x) (Some y) = Some (x, y)
-both _ _ = None
-
-abbrev pub pair_of : List Data → Option (ℤ × ℤ)
-pair_of (a ∷ b ∷ []) = both (as_integer a) (as_integer b)
-pair_of _ = None
-
-unfoldable pub pair : Data → Option (ℤ × ℤ)
-pair d = option_and_then pair_of (as_list d)
-
--- the cycle of an input
-abbrev pub cycle_of : Data → ℕ
-cycle_of d = option_map_or (λ (p : ℤ × ℤ). natural p.0) (pair d) 0
+unfoldable pub eight_check : Words → Check
+eight_check words place d = typed place (as_list d) (eight_fault words place)
 
 -- an input, of which the one before has that cycle: a later cycle and a word
 abbrev pub is_after : Option ℕ → ℕ → Bool
@@ -90,20 +83,22 @@ abbrev pub is_input : Option ℕ → ℤ → ℤ → Bool
 is_input before (pos at) (pos word) = (nat_le at 4000000000 && is_after before at) && nat_le word 4294967295
 is_input before _ _ = false
 
-unfoldable pub input_fault : Option ℕ → Place → Option (ℤ × ℤ) → Option Fault
-input_fault before place None = fault no.WrongType place
-input_fault before place (Some p) = if is_input before p.0 p.1 then None else fault no.OutOfRange place
+unfoldable pub input_check : Option ℕ → Check
+input_check before place d =
+    typed place (pair d) (λ (p : ℤ × ℤ). if is_input before p.0 p.1 then None else fault no.OutOfRange place)
 
 -- inputs in their order, the first of them with that index
 abbrev pub inputs_from : Place → ℕ → Option ℕ → List Data → Option Fault
 inputs_from place index before [] = None
 inputs_from place index before (d ∷ ds) =
-    first (input_fault before (element_of place index) (pair d)) (inputs_from place (index + 1) (Some (cycle_of d)) ds)
+    first (input_check before (element_of place index) d) (inputs_from place (index + 1) (Some (input_of d).at) ds)
 
--- a list of at most so many elements
-abbrev pub few_fault : ℕ → (List Data → Option Fault) → Place → List Data → Option Fault
-few_fault most check place ds = if nat_lt most (length ds) then fault no.TooMany place else check ds
+abbrev pub inputs_fault : Place → List Data → Option Fault
+inputs_fault place ds = inputs_from place 0 None ds
 
-unfoldable pub list_fault : ℕ → (List Data → Option Fault) → Place → Option (List Data) → Option Fault
-list_fault most check place None = fault no.WrongType place
-list_fault most check place (Some ds) = few_fault most check place ds
+-- a list of at most so many elements, and the check of the elements
+abbrev pub few_fault : ℕ → (Place → List Data → Option Fault) → Place → List Data → Option Fault
+few_fault most check place ds = if nat_lt most (length ds) then fault no.TooMany place else check place ds
+
+unfoldable pub list_check : ℕ → (Place → List Data → Option Fault) → Check
+list_check most check place d = typed place (as_list d) (few_fault most check place)

@@ -12,3 +12,6 @@ pub mod Tables
 pub mod Meaning
 pub mod Setup
 pub mod Reading
+pub mod Rows
+pub mod Plain
+pub mod Places

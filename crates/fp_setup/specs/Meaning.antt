@@ -1,16 +1,14 @@
 -- What the tables of an accepted setup say.
-use Rattle.std.specs.Prelude.{ℕ, ℤ, ◌+◌, ◌*◌, ◌==◌, false, List, [], ◌∷◌, Option, Some, None, map, find, unwrap_or, option_map, codes}
+use Rattle.std.specs.Prelude.{ℕ, ◌+◌, ◌*◌, ◌==◌, false, List, [], ◌∷◌, Option, None, map, find, unwrap_or, option_map, codes}
 use Rattle.std.specs.Option.{option_map_or}
 use Rattle.toml.specs.Data.{Data, Members, get_member}
-use Rattle.fp_setup.specs.declared.input_list.Input.{Input}
 use Rattle.fp_setup.specs.declared.thread_list.ThreadSetup.{ThreadSetup}
 use Rattle.fp_setup.specs.declared.loop_list.LoopSetup.{LoopSetup}
 use Rattle.fp_setup.specs.declared.vocabulary.Words.{Words}
 use Rattle.fp_setup.specs.declared.vocabulary.Words.TheVariants.{Slots, Owners, Modes}
 use Rattle.fp_setup.specs.Settings.{Settings}
 use Rattle.fp_setup.specs.Vocabulary.{Text, number_of}
-use Rattle.fp_setup.specs.Values.{natural, number, text, members, number_at, text_at, truth_at, elements_at}
-use Rattle.fp_setup.specs.Checks.{pair}
+use Rattle.fp_setup.specs.Values.{number, text, members, number_at, text_at, truth_at, elements_at, input_of}
 
 -- the number of digits in a base, the lowest first
 abbrev pub word_of : ℕ → List ℕ → ℕ
@@ -24,14 +22,6 @@ named words t = unwrap_or (number_of words t) 0
 -- a word of eight nibbles, the lowest first, each by its text
 unfoldable pub nibble_word : Words → List Data → ℕ
 nibble_word words ds = word_of 16 (map (λ d. named words (text d)) ds)
-
--- an input
-abbrev pub input_in : Option (ℤ × ℤ) → Input
-input_in None = record { at = 0; word = 0 }
-input_in (Some p) = record { at = natural p.0; word = natural p.1 }
-
-abbrev pub input_of : Data → Input
-input_of d = input_in (pair d)
 
 -- the table of a loop
 unfoldable pub loop_of : Members → LoopSetup
@@ -71,11 +61,14 @@ table_of rows thread = find (λ row. id_at row == thread) rows
 abbrev pub the_threads : List ℕ
 the_threads = 0 ∷ 1 ∷ 2 ∷ 3 ∷ 4 ∷ 5 ∷ 6 ∷ 7 ∷ []
 
+abbrev pub said_of : {X : Type 0} → (Members → X) → X → List Members → ℕ → X
+said_of say other rows thread = option_map_or say (table_of rows thread) other
+
 unfoldable pub threads_of : List Members → List ThreadSetup
-threads_of rows = map (λ thread. option_map_or thread_of (table_of rows thread) unnamed) the_threads
+threads_of rows = map (said_of thread_of unnamed rows) the_threads
 
 unfoldable pub modes_of : List Members → List ℕ
-modes_of rows = map (λ thread. option_map_or mode_at (table_of rows thread) unnamed_mode) the_threads
+modes_of rows = map (said_of mode_at unnamed_mode rows) the_threads
 
 -- the tables in a list
 abbrev pub rows_at : Text → Members → List Members

@@ -1,8 +1,9 @@
 -- What a value of a TOML document is, as a number, a text, a truth value or a list. One of another
 -- type, or none, counts as 0, empty or false: the checks refuse it.
-use Rattle.std.specs.Prelude.{ℕ, ℤ, pos, negsuc, Option, option_map, Bool, false, List, [], ◌∷◌, unwrap_or}
+use Rattle.std.specs.Prelude.{ℕ, ℤ, pos, negsuc, Option, option_map, Bool, false, List, [], ◌∷◌, unwrap_or, Some, None, option_and_then}
 use Rattle.std.specs.Option.{option_map_or}
 use Rattle.toml.specs.Data.{Data, Items, no_items, item, Members, no_members, as_integer, as_str, as_bool, as_array, as_table, get_member}
+use Rattle.fp_setup.specs.declared.input_list.Input.{Input}
 use Rattle.fp_setup.specs.Vocabulary.{Text}
 
 abbrev pub natural : ℤ → ℕ
@@ -31,6 +32,26 @@ elements d = unwrap_or (as_list d) []
 
 abbrev pub members : Data → Members
 members d = unwrap_or (as_table d) no_members
+
+-- exactly two integers
+abbrev pub both : Option ℤ → Option ℤ → Option (ℤ × ℤ)
+both (Some x) (Some y) = Some (x, y)
+both _ _ = None
+
+abbrev pub pair_of : List Data → Option (ℤ × ℤ)
+pair_of (a ∷ b ∷ []) = both (as_integer a) (as_integer b)
+pair_of _ = None
+
+unfoldable pub pair : Data → Option (ℤ × ℤ)
+pair d = option_and_then pair_of (as_list d)
+
+-- the input of such a pair
+abbrev pub input_in : Option (ℤ × ℤ) → Input
+input_in None = record { at = 0; word = 0 }
+input_in (Some p) = record { at = natural p.0; word = natural p.1 }
+
+unfoldable pub input_of : Data → Input
+input_of d = input_in (pair d)
 
 -- the same under a key of a table
 abbrev pub number_at : Text → Members → ℕ

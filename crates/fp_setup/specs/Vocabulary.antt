@@ -1,8 +1,10 @@
 -- The texts that stand for slots, owners of regions and modes, with their numbers.
-use Rattle.std.specs.Prelude.{ℕ, Bool, nat_lt, List, [], ◌∷◌, ◌++◌, Option, Some, None, if◌then◌else◌, codes}
+use Rattle.std.specs.Prelude.{ℕ, Bool, true, nat_lt, List, [], ◌∷◌, ◌++◌, Option, Some, None, if◌then◌else◌, codes}
 use Rattle.std.specs.Str.{bytes_eq}
 use Rattle.slot_table.specs.Frame.{is_slot}
+use Rattle.slot_table.specs.Table.{is_table}
 use Rattle.region_guard.specs.Regions.{is_owner}
+use Rattle.region_guard.specs.Register.{is_regions}
 use Rattle.fp_setup.specs.declared.vocabulary.Words.{Words}
 use Rattle.fp_setup.specs.declared.vocabulary.Words.TheVariants.{Slots, Owners, Modes}
 use Rattle.fp_setup.specs.declared.refusal.SetupNo.{SetupNo}
@@ -41,3 +43,9 @@ abbrev pub is_value : Words → ℕ → Bool
 is_value Slots n = is_slot n
 is_value Owners n = is_owner n
 is_value Modes n = nat_lt n 4
+
+-- a word of eight of these, in the register that holds them; modes stand there in two bits each
+abbrev pub is_word : Words → ℕ → Bool
+is_word Slots word = is_table word
+is_word Owners word = is_regions word
+is_word Modes word = true

@@ -1,6 +1,9 @@
 //! What an integer of a setup may be.
 
-ghost use Rattle.std.specs.Prelude.{◌≡◌, ◌<◌};
+ghost use Rattle.std.specs.Prelude.{◌≡◌, ◌<◌, ◌≤◌};
+ghost use Rattle.fp_setup.specs.Tables.{addresses, integers};
+ghost use Rattle.region_guard.specs.Regions.{IsSize};
+ghost use Rattle.fp_setup.specs.Settings.{size_of};
 ghost use Rattle.fp_setup.specs.Checks.{is_in};
 
 /// The multiples of `step` from `low` to `high`. The step isn't 0.
@@ -12,6 +15,25 @@ pub(crate) struct Range {
 }
 
 impl Range {
+    /// The integers from one to another.
+    pub(crate) fn integers(low: u32, high: u32) -> Range
+        ensures { result ≡ integers low high }
+    {
+        Range { low, high, step: 1 }
+    }
+
+    /// The addresses of words, from one to the last of a scratchpad of `size` bytes, at least 4.
+    pub(crate) fn addresses(low: u32, size: u32) -> Range
+        requires { 4 ≤ size }
+        ensures { result ≡ addresses low size }
+    {
+        Range {
+            low,
+            high: size - 4,
+            step: 4,
+        }
+    }
+
     /// Whether a number is in the range.
     pub(crate) fn contains(&self, n: u32) -> bool
         requires { 0 < self.now.step }
@@ -19,4 +41,12 @@ impl Range {
     {
         self.low <= n && n <= self.high && n % self.step == 0
     }
+}
+
+/// The size of each scratchpad in bytes, by a version.
+pub(crate) fn size_of_version(version: u32) -> u32
+    ensures size { result ≡ size_of version }
+    ensures one_of { IsSize result }
+{
+    if version == 2 { 65_536 } else { 16_384 }
 }

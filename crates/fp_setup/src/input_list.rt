@@ -34,6 +34,14 @@ impl Model for Inputs {
 impl Inputs {
     ghost use Rattle.fp_setup.specs.Inputs.{AreInputs};
 
+    /// The words of a list.
+    pub fn from_vec(items: Vec<Input>) -> Inputs
+        requires { AreInputs items.items }
+        ensures { result ≡ items.items }
+    {
+        Inputs { items }
+    }
+
     /// The words, in the order of their cycles.
     pub fn as_slice(&self) -> &[Input]
         ensures value { result.now ≡ self.now }

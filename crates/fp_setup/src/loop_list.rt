@@ -37,6 +37,14 @@ impl Model for Loops {
 impl Loops {
     ghost use Rattle.fp_setup.specs.Loops.{AreLoops};
 
+    /// The loops of a list.
+    pub fn from_vec(items: Vec<LoopSetup>) -> Loops
+        requires { AreLoops items.items }
+        ensures { result ≡ items.items }
+    {
+        Loops { items }
+    }
+
     /// The loops, in the order of the file.
     pub fn as_slice(&self) -> &[LoopSetup]
         ensures value { result.now ≡ self.now }

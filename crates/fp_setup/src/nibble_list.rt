@@ -1,13 +1,13 @@
-//! Eight texts that stand for the nibbles of a word.
+//! Words of eight digits, and the texts that stand for them.
 
-ghost use Rattle.std.specs.Prelude.{◌≡◌, IfOk, length, map, true, nat_lt};
+ghost use Rattle.std.specs.Prelude.{◌≡◌, ◌<◌, ◌≤◌, ◌^◌, IfOk, length, map, true, nat_lt, IsTrue};
 ghost use Rattle.std.specs.List.{list_all};
 ghost use Rattle.nibble_word.specs.Nibbles.{nibbles};
 ghost use Rattle.toml.specs.View.{view};
-ghost use Rattle.fp_setup.specs.Checks.{each_fault, eight_fault, element_fault};
-ghost use Rattle.fp_setup.specs.Values.{as_list, elements, text};
+ghost use Rattle.fp_setup.specs.Checks.{each_fault, eight_check, word_check};
+ghost use Rattle.fp_setup.specs.Values.{elements, text};
 ghost use Rattle.fp_setup.specs.Meaning.{named, nibble_word, word_of};
-ghost use Rattle.fp_setup.specs.Vocabulary.{is_value};
+ghost use Rattle.fp_setup.specs.Vocabulary.{is_value, is_word};
 ghost use Rattle.fp_setup.specs.Reading.{IsRead};
 
 use crate::refusal::{Fault, Place, SetupNo};
@@ -18,7 +18,7 @@ use toml::Value;
 /// The numbers of eight texts of a list.
 fn eight_numbers(items: &[Value], words: Words, place: Place) -> Result<[u8; 8], Fault>
     requires { length items.now ≡ 8 }
-    ensures read { IsRead result (each_fault (element_fault words place) 0 (map view items.now)) (map (λ d. named words (text d)) (map view items.now)) }
+    ensures read { IsRead result (each_fault (word_check words) place 0 (map view items.now)) (map (λ d. named words (text d)) (map view items.now)) }
     ensures values { IfOk result (λ ns. list_all (is_value words) ns ≡ true) }
 {
     let mut numbers = [0; 8];
@@ -28,24 +28,44 @@ fn eight_numbers(items: &[Value], words: Words, place: Place) -> Result<[u8; 8],
     Ok(numbers)
 }
 
+/// The number of eight digits in a base, the lowest first.
+fn word_of_digits(base: u32, digits: &[u8; 8]) -> u32
+    requires base { base ≤ 16 }
+    requires digits { list_all (λ n. nat_lt n base) digits.now ≡ true }
+    ensures word { result ≡ word_of base digits.now }
+    ensures small { result < base ^ 8 }
+{
+    let mut word = 0;
+    for i in (0..8).rev() {
+        word = base * word + u32::from(digits[i]);
+    }
+    word
+}
+
 /// The word of eight nibbles, the lowest first.
+#[tactic(auto, using(crate::proofs::Digits::nibbles_of_word))]
 fn word_of_nibbles(numbers: &[u8; 8]) -> u32
     requires { list_all (λ n. nat_lt n 16) numbers.now ≡ true }
     ensures word { result ≡ word_of 16 numbers.now }
     ensures nibbles { nibbles result ≡ numbers.now }
 {
-    let mut word = 0;
-    for i in (0..8).rev() {
-        word = 16 * word + u32::from(numbers[i]);
-    }
-    word
+    word_of_digits(16, numbers)
+}
+
+/// The word of the modes of eight threads, two bits for each.
+pub(crate) fn word_of_modes(modes: &[u8; 8]) -> u32
+    requires { list_all (λ n. nat_lt n 4) modes.now ≡ true }
+    ensures word { result ≡ word_of 4 modes.now }
+    ensures small { result < 65536 }
+{
+    word_of_digits(4, modes)
 }
 
 /// The word that eight texts of a list stand for.
-#[tactic(auto, using(crate::proofs::Digits::small_values), unfolding(crate::specs::Checks::eight_fault, crate::specs::Meaning::nibble_word))]
+#[tactic(auto, using(crate::proofs::Digits::small_values, crate::proofs::Digits::accepted), unfolding(crate::specs::Checks::eight_check, crate::specs::Meaning::nibble_word))]
 pub(crate) fn eight(value: &Value, words: Words, place: Place) -> Result<u32, Fault>
-    ensures read { IsRead result (eight_fault words place (as_list (view value.now))) (nibble_word words (elements (view value.now))) }
-    ensures values { IfOk result (λ word. list_all (is_value words) (nibbles word) ≡ true) }
+    ensures read { IsRead result (eight_check words place (view value.now)) (nibble_word words (elements (view value.now))) }
+    ensures values { IfOk result (λ word. IsTrue (is_word words word)) }
 {
     let Some(items) = list(value) else {
         return Err(Fault::new(SetupNo::WrongType, place));

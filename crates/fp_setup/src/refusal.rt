@@ -1,5 +1,6 @@
 //! Why a setup is refused, and where its fault stands.
 
+use std::alloc::{AllocError, AllocFailed};
 use thiserror::Error;
 
 /// What is wrong with a setup. The numbers are those that a refusal line shows.
@@ -60,6 +61,13 @@ impl Place {
         ensures { result ≡ top }
     {
         Place::table(1, 0)
+    }
+
+    /// The value of a key of the top table, by the key's number.
+    pub(crate) fn top_key(key: u8) -> Place
+        ensures { result ≡ key_of top key }
+    {
+        Place::top().key(key)
     }
 
     /// A table of a thread.
@@ -141,4 +149,40 @@ pub enum SetupRefused {
     /// Memory was refused. Among the numbers of refusals this is 13.
     #[error("out of memory")]
     NoMemory,
+}
+
+impl From<Fault> for SetupRefused {
+    ghost use Rattle.std.specs.Prelude.{◌≡◌};
+    ghost use Rattle.fp_setup.specs.declared.refusal.SetupRefused.{SetupRefused};
+
+    ghost from_gives = { λ f r. r ≡ SetupRefused.Fault f.code f.place };
+
+    fn from(fault: Fault) -> SetupRefused {
+        SetupRefused::Fault {
+            code: fault.code,
+            place: fault.place,
+        }
+    }
+}
+
+impl From<AllocError> for SetupRefused {
+    ghost use Rattle.std.specs.Prelude.{◌≡◌};
+    ghost use Rattle.fp_setup.specs.declared.refusal.SetupRefused.{SetupRefused};
+
+    ghost from_gives = { λ _ r. r ≡ SetupRefused.NoMemory };
+
+    fn from(_refused: AllocError) -> SetupRefused {
+        SetupRefused::NoMemory
+    }
+}
+
+impl<T: Drop> From<AllocFailed<T>> for SetupRefused {
+    ghost use Rattle.std.specs.Prelude.{◌≡◌};
+    ghost use Rattle.fp_setup.specs.declared.refusal.SetupRefused.{SetupRefused};
+
+    ghost from_gives = { λ _ r. r ≡ SetupRefused.NoMemory };
+
+    fn from(_refused: AllocFailed<T>) -> SetupRefused {
+        SetupRefused::NoMemory
+    }
 }

@@ -3,6 +3,7 @@
 ghost use Rattle.std.specs.Prelude.{◌≡◌, ◌<◌, Some, slice_get, length};
 
 use crate::input_list::Inputs;
+use std::alloc::Global;
 use std::marker::Model;
 
 /// What a setup says of a thread. Its mode stands in the setup's word of modes.
@@ -19,6 +20,31 @@ pub struct ThreadSetup {
     pub unplug: Option<u64>,
     /// What is fed to the thread's port.
     pub inputs: Inputs,
+}
+
+impl ThreadSetup {
+    ghost use Rattle.fp_setup.specs.Meaning.{unnamed};
+    ghost use Rattle.fp_setup.specs.Plain.{plain_thread};
+
+    /// A thread with no permit, no unplug and no inputs.
+    pub(crate) fn plain(alloc: Global, entry: u32, confined: bool) -> ThreadSetup
+        ensures { result ≡ plain_thread entry confined }
+    {
+        ThreadSetup {
+            entry,
+            confined,
+            permit: false,
+            unplug: None,
+            inputs: Inputs::from_vec(Vec::new(alloc)),
+        }
+    }
+
+    /// A thread that no table names.
+    pub(crate) fn unnamed(alloc: Global) -> ThreadSetup
+        ensures { result ≡ unnamed }
+    {
+        ThreadSetup::plain(alloc, 0, false)
+    }
 }
 
 /// The threads of a setup, eight of them. Contracts see the list.
@@ -41,7 +67,55 @@ impl Model for Threads {
 }
 
 impl Threads {
-    ghost use Rattle.fp_setup.specs.Threads.{IsThread};
+    ghost use Rattle.std.specs.Prelude.{IsTrue, replicate, slice_set};
+    ghost use Rattle.std.specs.List.{All, list_all};
+    ghost use Rattle.fp_setup.specs.declared.thread_list.ThreadSetup.{ThreadSetup};
+    ghost use Rattle.fp_setup.specs.Threads.{AreThreads, IsThread};
+    ghost use Rattle.fp_setup.specs.Meaning.{unnamed};
+    ghost use Rattle.fp_setup.specs.Plain.{is_entry, plain_threads};
+
+    /// Eight threads that no table names.
+    pub(crate) fn unnamed(alloc: Global) -> Threads
+        ensures { result ≡ replicate 8 unnamed }
+    {
+        Threads {
+            items: [
+                ThreadSetup::unnamed(alloc),
+                ThreadSetup::unnamed(alloc),
+                ThreadSetup::unnamed(alloc),
+                ThreadSetup::unnamed(alloc),
+                ThreadSetup::unnamed(alloc),
+                ThreadSetup::unnamed(alloc),
+                ThreadSetup::unnamed(alloc),
+                ThreadSetup::unnamed(alloc),
+            ],
+        }
+    }
+
+    /// Eight threads with these entries and flags, with no permit, no unplug and no inputs.
+    pub(crate) fn plain(alloc: Global, entries: [u32; 8], confined: [bool; 8]) -> Threads
+        requires { IsTrue (list_all is_entry entries) }
+        ensures threads { result ≡ plain_threads entries confined }
+        ensures rules { AreThreads result }
+        ensures inside { All (λ (t : ThreadSetup). t.entry < 16384) result }
+    {
+        let mut threads = Threads::unnamed(alloc);
+        for thread in 0..8 {
+            let entry = entries[thread as usize];
+            let confined = confined[thread as usize];
+            threads.set(thread, ThreadSetup::plain(alloc, entry, confined));
+        }
+        threads
+    }
+
+    /// Puts what a setup says of a thread in its place.
+    pub(crate) fn set(&mut self, thread: u8, setup: ThreadSetup)
+        requires thread { thread < 8 }
+        requires rules { IsThread setup }
+        ensures { self.new ≡ slice_set self.old thread setup }
+    {
+        self.items[thread as usize] = setup;
+    }
 
     /// The thread of a number below 8.
     pub fn get(&self, thread: u8) -> &ThreadSetup

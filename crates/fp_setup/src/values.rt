@@ -1,17 +1,18 @@
 //! One value of a document, checked at its place.
 
-ghost use Rattle.std.specs.Prelude.{◌≡◌, ◌<◌, IfOk, true, map, option_map};
-ghost use Rattle.toml.specs.Data.{as_integer, as_str, as_bool};
+ghost use Rattle.std.specs.Prelude.{◌≡◌, ◌<◌, ◌≤◌, length, ◌&&◌, false, IfOk, true, map, option_map};
 ghost use Rattle.toml.specs.View.{view};
-ghost use Rattle.fp_setup.specs.Checks.{integer_fault, word_fault, truth_fault, is_in};
+ghost use Rattle.fp_setup.specs.Checks.{bytes_check, integer_check, word_check, truth_check, permit_check, is_in};
 ghost use Rattle.fp_setup.specs.Values.{as_list, number, text, truth};
 ghost use Rattle.fp_setup.specs.Meaning.{named};
 ghost use Rattle.fp_setup.specs.Vocabulary.{is_value};
-ghost use Rattle.fp_setup.specs.Reading.{IsRead};
+ghost use Rattle.fp_setup.specs.Reading.{IsRead, IsReadInMemory};
 
 use crate::bounds::Range;
-use crate::refusal::{Fault, Place, SetupNo};
+use crate::file_name::Name;
+use crate::refusal::{Fault, Place, SetupNo, SetupRefused};
 use crate::vocabulary::Words;
+use std::alloc::Global;
 use toml::Value;
 
 /// The elements of a list.
@@ -26,10 +27,10 @@ pub(crate) fn list(value: &Value) -> Option<&[Value]>
 }
 
 /// An integer of a range.
-#[tactic(auto, unfolding(crate::specs::Checks::integer_fault))]
+#[tactic(auto, unfolding(crate::specs::Checks::integer_check))]
 pub(crate) fn integer(value: &Value, range: Range, place: Place) -> Result<u32, Fault>
     requires { 0 < range.step }
-    ensures read { IsRead result (integer_fault range place (as_integer (view value.now))) (number (view value.now)) }
+    ensures read { IsRead result (integer_check range place (view value.now)) (number (view value.now)) }
     ensures within { IfOk result (λ n. is_in range n ≡ true) }
 {
     let Some(n) = value.as_integer() else {
@@ -42,9 +43,9 @@ pub(crate) fn integer(value: &Value, range: Range, place: Place) -> Result<u32, 
 }
 
 /// The number of a text of a list.
-#[tactic(auto, unfolding(crate::specs::Checks::word_fault, crate::specs::Meaning::named))]
+#[tactic(auto, unfolding(crate::specs::Checks::word_check, crate::specs::Meaning::named))]
 pub(crate) fn word(value: &Value, words: Words, place: Place) -> Result<u8, Fault>
-    ensures read { IsRead result (word_fault words place (as_str (view value.now))) (named words (text (view value.now))) }
+    ensures read { IsRead result (word_check words place (view value.now)) (named words (text (view value.now))) }
     ensures value { IfOk result (λ n. is_value words n ≡ true) }
 {
     let Some(text) = value.as_str() else {
@@ -57,12 +58,52 @@ pub(crate) fn word(value: &Value, words: Words, place: Place) -> Result<u8, Faul
 }
 
 /// A truth value.
-#[tactic(auto, unfolding(crate::specs::Checks::truth_fault))]
+#[tactic(auto, unfolding(crate::specs::Checks::truth_check))]
 pub(crate) fn truth_value(value: &Value, place: Place) -> Result<bool, Fault>
-    ensures { IsRead result (truth_fault place (as_bool (view value.now))) (truth (view value.now)) }
+    ensures { IsRead result (truth_check place (view value.now)) (truth (view value.now)) }
 {
     match value.as_bool() {
         Some(flag) => Ok(flag),
         None => Err(Fault::new(SetupNo::WrongType, place)),
     }
+}
+
+/// A truth value that isn't true beside another.
+#[tactic(auto, unfolding(crate::specs::Checks::permit_check))]
+pub(crate) fn permit(value: &Value, confined: bool, place: Place) -> Result<bool, Fault>
+    ensures read { IsRead result (permit_check confined place (view value.now)) (truth (view value.now)) }
+    ensures one_of_both { IfOk result (λ permit. (confined && permit) ≡ false) }
+{
+    match value.as_bool() {
+        Some(true) if confined => Err(Fault::new(SetupNo::ConfinedPermit, place)),
+        Some(flag) => Ok(flag),
+        None => Err(Fault::new(SetupNo::WrongType, place)),
+    }
+}
+
+/// A text of so many bytes, as a name.
+#[tactic(auto, unfolding(crate::specs::Checks::bytes_check))]
+pub(crate) fn name(
+    alloc: Global,
+    value: &Value,
+    low: usize,
+    high: usize,
+    place: Place,
+) -> Result<Name, SetupRefused>
+    ensures read { IsReadInMemory result (bytes_check low high place (view value.now)) (text (view value.now)) }
+    ensures lengths { IfOk result (λ n. (low ≤ length n) × (length n ≤ high)) }
+{
+    let Some(text) = value.as_str() else {
+        return Err(SetupRefused::Fault {
+            code: SetupNo::WrongType,
+            place,
+        });
+    };
+    if text.len() < low || high < text.len() {
+        return Err(SetupRefused::Fault {
+            code: SetupNo::OutOfRange,
+            place,
+        });
+    }
+    Ok(Name::from_str(alloc, text)?)
 }

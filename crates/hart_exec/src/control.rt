@@ -5,15 +5,14 @@ ghost use Rattle.core_model.specs.Control.{csr_value, changed, may_hold, kept, w
 ghost use Rattle.core_model.specs.Issue.{csr_op, csr_operand, csr_writes};
 ghost use Rattle.hart_exec.specs.Meaning.{did, IsShowable, IsAlignedStore};
 
+use crate::outcome::{Executed, Place};
+use crate::parts::{go_on, trap, write_to};
 use core_model::{CsrOp, Own};
 use region_guard::Regions;
 use rv_decode::{AluOp, CsrKind};
 use rv_exec::{Effect, compute};
 use slot_scheduler::Modes;
 use slot_table::SlotTable;
-
-use crate::outcome::{Executed, Place};
-use crate::parts::{go_on, trap, write_to};
 
 /// What a CSR instruction wants of a register.
 #[derive(Clone, Copy, Debug, PartialEq, Eq)]
@@ -40,7 +39,11 @@ impl Access {
             CsrKind::Rwi | CsrKind::Rsi | CsrKind::Rci => u32::from(src),
         };
         let writes = matches!(kind, CsrKind::Rw | CsrKind::Rwi) || src != 0;
-        Access { op, operand, writes }
+        Access {
+            op,
+            operand,
+            writes,
+        }
     }
 }
 
@@ -89,7 +92,11 @@ fn can_hold(csr: u16, word: u32) -> bool
 fn keep(csr: u16, word: u32) -> u32
     ensures { result ≡ kept csr word }
 {
-    if csr == 0x305 || csr == 0x341 { word / 4 * 4 } else { word }
+    if csr == 0x305 || csr == 0x341 {
+        word / 4 * 4
+    } else {
+        word
+    }
 }
 
 /// Puts a value into one of the hart's own registers; other numbers change nothing of it.
@@ -107,7 +114,15 @@ fn put(own: &mut Own, csr: u16, value: u32)
 
 /// A CSR instruction. A refused access is an illegal instruction, cause 2, and changes nothing.
 #[tactic(auto, unfolding(core_model::specs::Control::csr_access))]
-pub fn access_csr(own: &mut Own, at: Place, thread: u8, rd: u8, csr: u16, wanted: Access, shared: Option<u32>) -> Executed
+pub fn access_csr(
+    own: &mut Own,
+    at: Place,
+    thread: u8,
+    rd: u8,
+    csr: u16,
+    wanted: Access,
+    shared: Option<u32>,
+) -> Executed
     requires rd { rd < 32 }
     requires csr { csr < 4096 }
     ensures did { did own.new result ≡ csr_access thread at.pc own.old at.word rd csr wanted.op wanted.operand wanted.writes shared }
@@ -128,5 +143,14 @@ pub fn access_csr(own: &mut Own, at: Place, thread: u8, rd: u8, csr: u16, wanted
     }
     let value = keep(csr, word);
     put(own, csr, value);
-    go_on(at, 3, Effect::Csr { csr, value, rd, old })
+    go_on(
+        at,
+        3,
+        Effect::Csr {
+            csr,
+            value,
+            rd,
+            old,
+        },
+    )
 }

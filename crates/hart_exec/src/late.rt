@@ -7,11 +7,10 @@ ghost use Rattle.core_model.specs.Thread.{filled};
 ghost use Rattle.hart_exec.specs.Meaning.{IsShowable, IsAlignedStore};
 ghost use Rattle.core_model.specs.Issue.{late_rd, late_value};
 
-use rv_decode::Ins;
-use rv_exec::{Effect, load_value, multiply};
-
 use crate::outcome::Sources;
 use crate::parts::write_to;
+use rv_decode::Ins;
+use rv_exec::{Effect, load_value, multiply};
 
 /// The register's write takes the place of `Nothing`.
 fn fill(effect: Option<Effect>, rd: u8, value: u32) -> Option<Effect>
@@ -30,7 +29,13 @@ fn fill(effect: Option<Effect>, rd: u8, value: u32) -> Option<Effect>
 
 /// The effect with its late value, if it has one: that of a load by the aligned word at its
 /// address, that of a multiplication or division by its sources.
-pub fn finish(effect: Option<Effect>, i: &Ins, loaded: u32, address: u32, s: Sources) -> Option<Effect>
+pub fn finish(
+    effect: Option<Effect>,
+    i: &Ins,
+    loaded: u32,
+    address: u32,
+    s: Sources,
+) -> Option<Effect>
     requires range { InRange i.now }
     requires aligned { IsAligned i.now address }
     requires showable { IsShowable effect }

@@ -4,13 +4,13 @@
 #![tactic(auto)]
 
 mod control;
-mod outcome;
 mod late;
+mod outcome;
 mod parts;
 mod step;
 mod surroundings;
 
-pub use outcome::{Executed, Place, Sources};
 pub use late::finish;
+pub use outcome::{Executed, Place, Sources};
 pub use step::{execute_in, sources_of};
 pub use surroundings::Surroundings;

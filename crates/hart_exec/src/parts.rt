@@ -6,10 +6,9 @@ ghost use Rattle.core_model.specs.Parts.{plus, trapped, load, store, branch, del
 ghost use Rattle.rv_exec.specs.Line.{IsPrintable, IsWidth};
 ghost use Rattle.hart_exec.specs.Meaning.{did, IsShowable, IsAlignedStore};
 
+use crate::outcome::{Executed, Place};
 use core_model::Own;
 use rv_exec::Effect;
-
-use crate::outcome::{Executed, Place};
 
 /// The effect of a register's write: none on x0.
 pub fn write_to(rd: u8, value: u32) -> Effect
@@ -17,7 +16,11 @@ pub fn write_to(rd: u8, value: u32) -> Effect
     ensures effect { result ≡ reg_effect rd value }
     ensures showable { IsPrintable result }
 {
-    if rd == 0 { Effect::Nothing } else { Effect::Reg { rd, value } }
+    if rd == 0 {
+        Effect::Nothing
+    } else {
+        Effect::Reg { rd, value }
+    }
 }
 
 /// A trap: it saves pc and cause, and goes to mtvec.
@@ -30,21 +33,40 @@ pub fn trap(own: &mut Own, at: Place, cause: u8) -> Executed
 {
     own.trap.mepc = at.pc;
     own.trap.mcause = u32::from(cause);
-    go_to(at, own.trap.mtvec, Effect::Trap { cause, target: own.trap.mtvec })
+    go_to(
+        at,
+        own.trap.mtvec,
+        Effect::Trap {
+            cause,
+            target: own.trap.mtvec,
+        },
+    )
 }
 
 /// The hart goes on to the next word.
 pub fn go_on(at: Place, lag: u8, effect: Effect) -> Executed
     ensures { result ≡ record { pc = plus at.pc 4; lag = lag; word = at.word; address = 0; effect = Some effect } }
 {
-    Executed { pc: at.pc.wrapping_add(4), lag, word: at.word, address: 0, effect: Some(effect) }
+    Executed {
+        pc: at.pc.wrapping_add(4),
+        lag,
+        word: at.word,
+        address: 0,
+        effect: Some(effect),
+    }
 }
 
 /// The hart goes elsewhere.
 pub fn go_to(at: Place, target: u32, effect: Effect) -> Executed
     ensures { result ≡ record { pc = target; lag = 3; word = at.word; address = 0; effect = Some effect } }
 {
-    Executed { pc: target, lag: 3, word: at.word, address: 0, effect: Some(effect) }
+    Executed {
+        pc: target,
+        lag: 3,
+        word: at.word,
+        address: 0,
+        effect: Some(effect),
+    }
 }
 
 #[tactic(auto, unfolding(core_model::specs::Parts::branch))]
@@ -55,7 +77,11 @@ pub fn branch_to(own: &Own, at: Place, taken: bool, target: u32) -> Executed
     ensures word { result.word ≡ at.word }
     ensures address { result.address ≡ 0 }
 {
-    if taken { go_to(at, target, Effect::Nothing) } else { go_on(at, 1, Effect::Nothing) }
+    if taken {
+        go_to(at, target, Effect::Nothing)
+    } else {
+        go_on(at, 1, Effect::Nothing)
+    }
 }
 
 #[tactic(auto, unfolding(core_model::specs::Parts::load))]
@@ -69,11 +95,21 @@ pub fn load_from(own: &mut Own, at: Place, address: u32, allowed: bool) -> Execu
     if !allowed {
         return trap(own, at, 5);
     }
-    Executed { address, ..go_on(at, 2, Effect::Nothing) }
+    Executed {
+        address,
+        ..go_on(at, 2, Effect::Nothing)
+    }
 }
 
 #[tactic(auto, unfolding(core_model::specs::Parts::store))]
-pub fn store_to(own: &mut Own, at: Place, address: u32, width: u8, value: u32, allowed: bool) -> Executed
+pub fn store_to(
+    own: &mut Own,
+    at: Place,
+    address: u32,
+    width: u8,
+    value: u32,
+    allowed: bool,
+) -> Executed
     requires width { IsWidth width }
     requires aligned { address % width ≡ 0 }
     requires cut { value < 256 ^ width }
@@ -86,7 +122,18 @@ pub fn store_to(own: &mut Own, at: Place, address: u32, width: u8, value: u32, a
     if !allowed {
         return trap(own, at, 7);
     }
-    Executed { address, ..go_on(at, 1, Effect::Store { address, size: width, value }) }
+    Executed {
+        address,
+        ..go_on(
+            at,
+            1,
+            Effect::Store {
+                address,
+                size: width,
+                value,
+            },
+        )
+    }
 }
 
 /// DU: the hart stays at its word until the moment.
@@ -101,7 +148,13 @@ pub fn delay_until(own: &Own, at: Place, now: u64, until: u64) -> Executed
     if until <= now {
         return go_on(at, 3, Effect::Nothing);
     }
-    Executed { pc: at.pc, lag: 3, word: at.word, address: 0, effect: None }
+    Executed {
+        pc: at.pc,
+        lag: 3,
+        word: at.word,
+        address: 0,
+        effect: None,
+    }
 }
 
 /// WU: the hart sleeps until the moment, or until its armed one where that is earlier.

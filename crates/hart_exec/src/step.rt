@@ -7,15 +7,16 @@ ghost use Rattle.core_model.specs.Issue.{source_1, source_2, goes, run, act};
 ghost use Rattle.rv_decode.specs.Range.{InRange};
 ghost use Rattle.hart_exec.specs.Meaning.{did, IsShowable, IsAlignedStore};
 
+use crate::control::{Access, access_csr};
+use crate::outcome::{Executed, Place, Sources};
+use crate::parts::{
+    branch_to, delay_until, go_on, go_to, load_from, store_to, trap, wait_until, write_to,
+};
+use crate::surroundings::Surroundings;
 use core_model::Own;
 use rv_decode::{CsrKind, Ins, StoreOp, decode};
 use rv_exec::{Effect, Outcome, execute, size_of_load, size_of_store};
 use timer_unit::moment;
-
-use crate::control::{Access, access_csr};
-use crate::outcome::{Executed, Place, Sources};
-use crate::parts::{branch_to, delay_until, go_on, go_to, load_from, store_to, trap, wait_until, write_to};
-use crate::surroundings::Surroundings;
 
 /// The numbers of the registers that an instruction reads, x0 where it reads none.
 pub fn sources_of(i: &Ins) -> (u8, u8)
@@ -30,8 +31,15 @@ pub fn sources_of(i: &Ins) -> (u8, u8)
         | Ins::Du { rs1, rs2 }
         | Ins::Wu { rs1, rs2 }
         | Ins::Ee { rs1, rs2 } => (rs1, rs2),
-        Ins::Jalr { rs1, .. } | Ins::Load { rs1, .. } | Ins::OpImm { rs1, .. } | Ins::Shift { rs1, .. } => (rs1, 0),
-        Ins::Csr { op: CsrKind::Rw | CsrKind::Rs | CsrKind::Rc, src, .. } => (src, 0),
+        Ins::Jalr { rs1, .. }
+        | Ins::Load { rs1, .. }
+        | Ins::OpImm { rs1, .. }
+        | Ins::Shift { rs1, .. } => (rs1, 0),
+        Ins::Csr {
+            op: CsrKind::Rw | CsrKind::Rs | CsrKind::Rc,
+            src,
+            ..
+        } => (src, 0),
         _ => (0, 0),
     }
 }
@@ -50,7 +58,14 @@ fn cut(op: StoreOp, value: u32) -> u32
 
 /// An instruction whose result has no trap.
 #[tactic(auto, unfolding(core_model::specs::Issue::goes), using(crate::proofs::Zero::aligned_zero, crate::proofs::Zero::aligned_if))]
-fn go<S: Surroundings>(own: &mut Own, around: &S, at: Place, s: Sources, o: &Outcome, i: &Ins) -> Executed
+fn go<S: Surroundings>(
+    own: &mut Own,
+    around: &S,
+    at: Place,
+    s: Sources,
+    o: &Outcome,
+    i: &Ins,
+) -> Executed
     requires range { InRange i.now }
     requires aligned { IsAligned i.now o.now.address }
     ensures did { did own.new result ≡ goes (S.asks around.now) at.pc own.old at.word s.a s.b o.now i.now }
@@ -79,7 +94,15 @@ fn go<S: Surroundings>(own: &mut Own, around: &S, at: Place, s: Sources, o: &Out
         Ins::Muldiv { .. } => go_on(at, 2, Effect::Nothing),
         Ins::Fence { .. } => go_on(at, 1, Effect::Nothing),
         Ins::Mret => go_to(at, own.trap.mepc, Effect::Nothing),
-        Ins::Csr { op, rd, csr, src } => access_csr(own, at, around.thread(), rd, csr, Access::of(op, src, s.a), around.shared(csr)),
+        Ins::Csr { op, rd, csr, src } => access_csr(
+            own,
+            at,
+            around.thread(),
+            rd,
+            csr,
+            Access::of(op, src, s.a),
+            around.shared(csr),
+        ),
         Ins::Gt { rd } => {
             own.timer.high = (around.now() / 0x1_0000_0000) as u32;
             go_on(at, 1, write_to(rd, (around.now() % 0x1_0000_0000) as u32))
@@ -119,7 +142,13 @@ fn run_at<S: Surroundings>(own: &mut Own, around: &S, at: Place, s: Sources, i: 
 /// Executes the instruction at a place, but for a late value. An expiry comes before all else and
 /// disarms; then a fetch that is refused. Neither shows a word.
 #[tactic(auto, unfolding(core_model::specs::Issue::act), using(crate::proofs::Zero::aligned_zero))]
-pub fn execute_in<S: Surroundings>(own: &mut Own, around: &S, at: Place, expired: bool, s: Sources) -> Executed
+pub fn execute_in<S: Surroundings>(
+    own: &mut Own,
+    around: &S,
+    at: Place,
+    expired: bool,
+    s: Sources,
+) -> Executed
     ensures did { did own.new result ≡ act (S.asks around.now) at.pc own.old expired at.word s.a s.b }
     ensures showable { IsShowable result.effect }
     ensures store { IsAlignedStore result.effect }

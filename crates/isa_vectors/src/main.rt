@@ -1,8 +1,8 @@
 //! Compares the library with other programs: what it reads out of words with what an assembler was
 //! told to write, and what it makes of instructions with what an emulator left.
 //!
-//! The tables stand in the folder where it runs. A line of standard output tells, for each kind, how
-//! many rows there are and at how many of them the two differ.
+//! The tables stand in the folder where it runs. A line of standard output tells, for each kind,
+//! how many rows there are and at how many of them the two differ.
 #![tactic(auto)]
 
 mod decoding;

@@ -131,7 +131,9 @@ mod tests {
     const PORT: u32 = 0x4000_0000;
 
     // Data regions of thread 0 and of thread 1, a shared one, then read only ones.
-    fn guard(size: u32) -> Result<Guard, Fail> {
+    fn guard(size: u32) -> Result<Guard, Fail>
+        requires { IsSize size }
+    {
         Ok(Guard {
             i: Regions::from_word(0xcccc_cccc)?,
             d: Regions::from_word(0xcccc_c810)?,

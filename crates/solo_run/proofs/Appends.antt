@@ -25,6 +25,8 @@ appends_front (Some told) (Some more) (Some most) xs ys rest whole is first (n, 
     let is_right : whole ≡ xs ++ (ys ++ rest) = is ∙ append_assoc xs ys rest in
     let long : length whole ≡ length xs + (length ys + length rest) = ap length is_right ∙ length-append xs (ys ++ rest) ∙ ap (λ k. length xs + k) (length-append ys rest) in
     let front : take (length xs + n) whole ≡ xs ++ take n ys =
-        ap (λ zs. take (length xs + n) zs) is_right ∙ take-append-add xs (ys ++ rest) n ∙ ap (λ zs. xs ++ zs) (take-append-le n ys rest within) in
-    (length xs + n, omega (arith, long, within),
-     taken ∙ ap (λ zs. zs ++ take n ys) first ∙ append_assoc told xs (take n ys) ∙ ap (λ zs. told ++ zs) (sym front))
+    ap (λ zs. take (length xs + n) zs) is_right ∙ take-append-add xs (ys ++ rest) n ∙ ap (λ zs. xs ++ zs) (take-append-le n ys rest within) in (
+      length xs + n,
+      omega (arith, long, within),
+      taken ∙ ap (λ zs. zs ++ take n ys) first ∙ append_assoc told xs (take n ys) ∙ ap (λ zs. told ++ zs) (sym front),
+    )

@@ -10,16 +10,15 @@ ghost use Rattle.hart_exec.specs.Meaning.{IsShowable, IsAlignedStore, did};
 ghost use Rattle.rv_decode.specs.Table.{ins};
 ghost use Rattle.rv_exec.specs.Access.{IsAligned};
 
+use crate::memory::{code_word, data_word};
+use crate::registers::Registers;
+use crate::rights::Rights;
+use crate::shown::Shown;
 use core_model::Own;
 use hart_exec::{Executed, Place, execute_in, finish};
 use rv_decode::decode;
 use rv_exec::Effect;
 use scratchpad::Spm;
-
-use crate::memory::{code_word, data_word};
-use crate::registers::Registers;
-use crate::rights::Rights;
-use crate::shown::Shown;
 
 /// A hart between two of its instructions.
 #[derive(Clone, Copy, Debug)]
@@ -55,7 +54,12 @@ impl Hart {
     pub fn new(entry: u32) -> Hart
         ensures { thread_of result ≡ fresh entry }
     {
-        Hart { pc: entry, ready: 0, own: Own::new(), registers: Registers::new() }
+        Hart {
+            pc: entry,
+            ready: 0,
+            own: Own::new(),
+            registers: Registers::new(),
+        }
     }
 
     /// Executes the word at the pc, but for a late value.
@@ -68,7 +72,10 @@ impl Hart {
         ensures showable { IsShowable result.effect }
         ensures store { IsAlignedStore result.effect }
     {
-        let at = Place { pc: self.pc, word: code_word(rights, i, self.pc) };
+        let at = Place {
+            pc: self.pc,
+            word: code_word(rights, i, self.pc),
+        };
         let sources = self.registers.sources(&decode(at.word));
         let expired = is_reached(self.own.timer.armed, rights.time);
         execute_in(&mut self.own, rights, at, expired, sources)
@@ -76,7 +83,15 @@ impl Hart {
 
     /// The effect of an executed instruction, with its late value.
     #[tactic(auto, unfolding(core_model::specs::Issue::effect_of))]
-    fn late<W: Shown>(&self, rights: &Rights, i: &Spm, d: &Spm, shown: &mut W, cycle: u64, x: &Executed) -> Option<Effect>
+    fn late<W: Shown>(
+        &self,
+        rights: &Rights,
+        i: &Spm,
+        d: &Spm,
+        shown: &mut W,
+        cycle: u64,
+        x: &Executed,
+    ) -> Option<Effect>
         requires i { length i.now ≡ rights.now.size / 4 }
         requires d { length d.now ≡ rights.now.size / 4 }
         requires address { IsAligned (ins x.now.word) x.now.address }
@@ -89,12 +104,25 @@ impl Hart {
     {
         let instruction = decode(x.word);
         let loaded = data_word(rights, i, d, shown, cycle, x.address);
-        finish(x.effect, &instruction, loaded, x.address, self.registers.sources(&instruction))
+        finish(
+            x.effect,
+            &instruction,
+            loaded,
+            x.address,
+            self.registers.sources(&instruction),
+        )
     }
 
     /// One whole instruction, in a cycle.
     #[tactic(auto, unfolding(core_model::specs::Issue::issue))]
-    pub fn issue<W: Shown>(&mut self, rights: &Rights, i: &Spm, d: &Spm, shown: &mut W, cycle: u64) -> Issued
+    pub fn issue<W: Shown>(
+        &mut self,
+        rights: &Rights,
+        i: &Spm,
+        d: &Spm,
+        shown: &mut W,
+        cycle: u64,
+    ) -> Issued
         requires cycle { cycle < 2 ^ 63 }
         requires i { length i.now ≡ rights.now.size / 4 }
         requires d { length d.now ≡ rights.now.size / 4 }
@@ -108,6 +136,9 @@ impl Hart {
         self.pc = x.pc;
         self.ready = cycle + u64::from(x.lag);
         self.registers.apply(effect);
-        Issued { word: x.word, effect }
+        Issued {
+            word: x.word,
+            effect,
+        }
     }
 }

@@ -59,7 +59,10 @@ impl Registers {
         ensures { result ≡ sources_in self.now i.now }
     {
         let (rs1, rs2) = sources_of(i);
-        Sources { a: self.read(rs1), b: self.read(rs2) }
+        Sources {
+            a: self.read(rs1),
+            b: self.read(rs2),
+        }
     }
 
     /// Does what an effect does to the registers.

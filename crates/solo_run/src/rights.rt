@@ -3,9 +3,8 @@
 ghost use Rattle.std.specs.Prelude.{◌≡◌, ◌<◌, ◌/◌, ◌==◌, ◌||◌, IsTrue};
 ghost use Rattle.region_guard.specs.Regions.{region_of, index_of, in_i, in_d, is_mine};
 
-use hart_exec::Surroundings;
-
 use crate::view::Kind;
+use hart_exec::Surroundings;
 
 /// The hart's number, what each region is to it, and the time of the cycle.
 #[derive(Clone, Copy, Debug)]
@@ -28,7 +27,11 @@ impl Rights {
         ensures region { result ≡ region_of self.now.size address }
         ensures small { result < 8 }
     {
-        if self.size == 16384 { address % 16384 / 2048 } else { address % 65536 / 8192 }
+        if self.size == 16384 {
+            address % 16384 / 2048
+        } else {
+            address % 65536 / 8192
+        }
     }
 
     /// The index of an address's word in its scratchpad.
@@ -37,7 +40,11 @@ impl Rights {
         ensures index { result ≡ index_of self.now.size address }
         ensures small { result < self.now.size / 4 }
     {
-        if self.size == 16384 { address % 16384 / 4 } else { address % 65536 / 4 }
+        if self.size == 16384 {
+            address % 16384 / 4
+        } else {
+            address % 65536 / 4
+        }
     }
 
     /// Whether an address lies in the instruction scratchpad.

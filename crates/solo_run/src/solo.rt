@@ -6,16 +6,15 @@ ghost use Rattle.std.specs.Io.KnownBytes.{Appends};
 ghost use Rattle.fp_io.specs.Content.{AppendsFront};
 ghost use Rattle.solo_run.specs.Text.{IsEventShowable, event_text, shown_in, solo_text};
 
-use fp_io::{PutFailed, Sink};
-use rv_exec::Event;
-use scratchpad::Spm;
-use trace_print::line;
-
 use crate::hart::Hart;
 use crate::memory::store_own;
 use crate::rights::Rights;
 use crate::shown::Shown;
 use crate::view::SoloView;
+use fp_io::{PutFailed, Sink};
+use rv_exec::Event;
+use scratchpad::Spm;
+use trace_print::line;
 
 /// The run of one hart from its view, cycle by cycle.
 #[derive(Debug, Drop)]
@@ -46,9 +45,26 @@ impl SoloRun {
         ensures view { view_of result [] ≡ view_with view [] }
         ensures cycle { cycle_of result ≡ 0 }
     {
-        let SoloView { period, thread, entry, size, frame_len, own, i_kind, d_kind, i, d } = view;
+        let SoloView {
+            period,
+            thread,
+            entry,
+            size,
+            frame_len,
+            own,
+            i_kind,
+            d_kind,
+            i,
+            d,
+        } = view;
         SoloRun {
-            rights: Rights { thread, size, i_kind, d_kind, time: 0 },
+            rights: Rights {
+                thread,
+                size,
+                i_kind,
+                d_kind,
+                time: 0,
+            },
             period,
             frame_len,
             slots: own,
@@ -101,10 +117,18 @@ impl SoloRun {
         }
         self.rights.time = now;
         let pc = self.hart.pc;
-        let issued = self.hart.issue(&self.rights, &self.i, &self.d, shown, cycle);
+        let issued = self
+            .hart
+            .issue(&self.rights, &self.i, &self.d, shown, cycle);
         store_own(&self.rights, &mut self.d, issued.effect);
         let effect = issued.effect?;
-        Some(Event { cycle, thread: self.rights.thread, pc, word: issued.word, effect })
+        Some(Event {
+            cycle,
+            thread: self.rights.thread,
+            pc,
+            word: issued.word,
+            effect,
+        })
     }
 
     /// Runs `n` cycles from the start, and puts a line for each event that has retired then, each
@@ -113,7 +137,12 @@ impl SoloRun {
     /// # Errors
     ///
     /// Where the sink fails; a prefix of the text is then put.
-    pub fn run<W: Shown, K: Sink>(&mut self, n: u64, shown: &mut W, out: &mut K) -> Result<(), PutFailed>
+    pub fn run<W: Shown, K: Sink>(
+        &mut self,
+        n: u64,
+        shown: &mut W,
+        out: &mut K,
+    ) -> Result<(), PutFailed>
         requires start { cycle_of self.old ≡ 0 }
         requires limit { n ≤ 4000000000 }
         ensures counted { K.faults out.old ≤ K.faults out.new }

@@ -28,7 +28,8 @@ length-register rd value = simp length-hex
 length-store : (address size value : ℕ) → IsWidth size → length (store_text address size value) ≤ 21
 unfolding store_text
 length-store address size value h =
-    let small : size < 10 = elim h [ inl e ↦ omega arith | inr r ↦ elim r [ inl e ↦ omega arith | inr e ↦ omega arith ] ] in
+    let small : size < 10 =
+    elim h [ inl e ↦ omega arith | inr r ↦ elim r [ inl e ↦ omega arith | inr e ↦ omega arith ] ] in
     let digit = length-decimal-le 1 size (omega arith) (omega arith) (omega arith) in
     simp (length-append, length-hex) (omega arith)
 
@@ -48,7 +49,8 @@ length-effect Nothing h = lit≤ tt
 length-effect (Reg rd value) h = omega (arith, length-register rd value)
 length-effect (Store address size value) h = omega (arith, length-store address size value h.0)
 length-effect (Csr csr value rd old) h =
-    elim (rd == 0) as (λ b. length (if b then csr_text csr value else register_text rd old ++ (codes " " ++ csr_text csr value)) ≤ 29) [
+    elim (rd == 0) as (λ b.
+    length (if b then csr_text csr value else register_text rd old ++ (codes " " ++ csr_text csr value)) ≤ 29) [
       | true ↦ omega (arith, length-csr csr value)
       | false ↦ simp length-append (omega (arith, length-csr csr value, length-register rd old))
     ]

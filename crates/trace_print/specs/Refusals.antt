@@ -1,8 +1,9 @@
 -- The lines that say why something is refused, by this project's format of refusals.
 use Rattle.std.specs.Prelude.{ℕ, ◌==◌, ◌%◌, ◌^◌, List, [], ◌∷◌, ◌++◌, decimal, codes, if◌then◌else◌}
 use Rattle.trace_print.specs.declared.refusals.Refusal.{Refusal}
-use Rattle.trace_print.specs.declared.refusals.Refusal.TheVariants.{Section, Image, Source, Bound, Routines}
+use Rattle.trace_print.specs.declared.refusals.Refusal.TheVariants.{Setup, Section, Image, Source, Bound, Routines}
 use Rattle.trace_print.specs.Digits.{hex}
+use Rattle.trace_print.specs.Places.{place_text}
 
 -- a code and its name
 pub record Named : Type 0 where
@@ -17,7 +18,25 @@ abbrev pub name_of : List Named → ℕ → List ℕ
 name_of [] code = []
 name_of (entry ∷ table) code = if code == entry.code then entry.name else name_of table code
 
--- what is wrong with the section that a bound is asked for
+-- what is wrong with a setup
+unfoldable pub setup_names : List Named
+setup_names =
+    named 1 (codes "TooLong")
+    ∷ named 2 (codes "Toml")
+    ∷ named 3 (codes "UnknownKey")
+    ∷ named 4 (codes "MissingKey")
+    ∷ named 5 (codes "WrongType")
+    ∷ named 6 (codes "OutOfRange")
+    ∷ named 7 (codes "BadSlot")
+    ∷ named 8 (codes "BadMode")
+    ∷ named 9 (codes "BadRegion")
+    ∷ named 10 (codes "ConfinedPermit")
+    ∷ named 11 (codes "DoubleThread")
+    ∷ named 12 (codes "TooMany")
+    ∷ named 20 (codes "NotBuilt")
+    ∷ []
+
+-- with the section that a bound is asked for
 unfoldable pub section_names : List Named
 section_names =
     named 1 (codes "NotHard")
@@ -99,8 +118,14 @@ unfoldable pub bound_value : ℕ → ℕ → List ℕ
 bound_value code value = if code == 6 then decimal value else hex 8 (value % 2 ^ 32)
 
 unfoldable pub refusal_text : Refusal → List ℕ
+refusal_text (Setup code place) =
+    codes "refused setup " ++ (code_text setup_names code ++ (codes " " ++ (place_text place ++ codes "\n")))
 refusal_text (Section code) = codes "refused section " ++ (code_text section_names code ++ codes "\n")
-refusal_text (Image code offset) = codes "refused image " ++ (code_text image_names code ++ (codes " " ++ (decimal offset ++ codes "\n")))
-refusal_text (Source line code) = codes "refused source " ++ (decimal line ++ (codes " " ++ (code_text source_names code ++ codes "\n")))
-refusal_text (Bound code value) = codes "refused bound " ++ (code_text bound_names code ++ (codes " " ++ (bound_value code value ++ codes "\n")))
-refusal_text (Routines line code) = codes "refused routines " ++ (decimal line ++ (codes " " ++ (code_text routine_names code ++ codes "\n")))
+refusal_text (Image code offset) =
+    codes "refused image " ++ (code_text image_names code ++ (codes " " ++ (decimal offset ++ codes "\n")))
+refusal_text (Source line code) =
+    codes "refused source " ++ (decimal line ++ (codes " " ++ (code_text source_names code ++ codes "\n")))
+refusal_text (Bound code value) =
+    codes "refused bound " ++ (code_text bound_names code ++ (codes " " ++ (bound_value code value ++ codes "\n")))
+refusal_text (Routines line code) =
+    codes "refused routines " ++ (decimal line ++ (codes " " ++ (code_text routine_names code ++ codes "\n")))

@@ -11,7 +11,8 @@ register_text rd value = codes "x" ++ (two_digits rd ++ (codes "=" ++ hex 8 valu
 
 -- an address, how many bytes are stored there, and the value
 unfoldable pub store_text : ℕ → ℕ → ℕ → List ℕ
-store_text address size value = codes "[" ++ (hex 8 address ++ (codes "]/" ++ (decimal size ++ (codes "=" ++ hex 8 value))))
+store_text address size value =
+    codes "[" ++ (hex 8 address ++ (codes "]/" ++ (decimal size ++ (codes "=" ++ hex 8 value))))
 
 -- a CSR and the value that it keeps
 unfoldable pub csr_text : ℕ → ℕ → List ℕ
@@ -26,13 +27,16 @@ unfoldable pub effect_text : Effect → List ℕ
 effect_text Nothing = codes "-"
 effect_text (Reg rd value) = register_text rd value
 effect_text (Store address size value) = store_text address size value
-effect_text (Csr csr value rd old) = if rd == 0 then csr_text csr value else register_text rd old ++ (codes " " ++ csr_text csr value)
+effect_text (Csr csr value rd old) =
+    if rd == 0 then csr_text csr value else register_text rd old ++ (codes " " ++ csr_text csr value)
 effect_text (Trap cause target) = trap_text cause target
 effect_text Wait = codes "wait"
 
 -- the cycle right in 10 places, the pc, the word, the effect and a line feed
 unfoldable pub line_text : Event → List ℕ
-line_text e = right 10 e.cycle ++ (codes " " ++ (hex 8 e.pc ++ (codes " " ++ (hex 8 e.word ++ (codes " " ++ (effect_text e.effect ++ codes "\n"))))))
+line_text e =
+    right 10 e.cycle ++ (codes " " ++ (hex 8 e.pc ++ (codes " " ++ (hex 8 e.word ++ (codes " " ++
+    (effect_text e.effect ++ codes "\n"))))))
 
 -- the lines of events, in order
 abbrev pub text : List Event → List ℕ

@@ -4,6 +4,7 @@
 
 mod digits;
 mod events;
+mod places;
 mod refusals;
 
 pub use digits::{push_decimal, push_hex, push_right};

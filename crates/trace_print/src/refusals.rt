@@ -2,14 +2,18 @@
 
 ghost use Rattle.std.specs.Prelude.{◌≡◌, ◌+◌, ◌≤◌, ◌++◌, length, codes, decimal};
 ghost use Rattle.arrayvec.specs.ArrayString.{array_string_len};
-ghost use Rattle.trace_print.specs.Refusals.{name_of, section_names, image_names, source_names, bound_names, routine_names, bound_value, refusal_text};
+ghost use Rattle.trace_print.specs.Refusals.{name_of, setup_names, section_names, image_names, source_names, bound_names, routine_names, bound_value, refusal_text};
 
 use crate::digits::{push_decimal, push_hex};
+use crate::places::push_place;
 use arrayvec::ArrayString;
+use fp_setup::Place;
 
 /// Why something is refused, by the code of its fault. A code without a name prints none.
 #[derive(Clone, Copy, Debug, PartialEq, Eq)]
 pub enum Refusal {
+    /// A setup, with the place of the fault.
+    Setup { code: u8, place: Place },
     /// The section that a bound is asked for.
     Section { code: u8 },
     /// An image or an ELF file, with the offset of the fault in bytes.
@@ -29,6 +33,12 @@ pub fn refusal_line(r: &Refusal) -> ArrayString<96>
 {
     let mut text = ArrayString::new();
     match *r {
+        Refusal::Setup { code, place } => {
+            text.push_str("refused setup ");
+            push_code(&mut text, code, setup_name(code));
+            text.push_str(" ");
+            push_place(&mut text, &place);
+        }
         Refusal::Section { code } => {
             text.push_str("refused section ");
             push_code(&mut text, code, section_name(code));
@@ -41,9 +51,7 @@ pub fn refusal_line(r: &Refusal) -> ArrayString<96>
         }
         Refusal::Source { line, code } => {
             text.push_str("refused source ");
-            push_decimal(&mut text, line);
-            text.push_str(" ");
-            push_code(&mut text, code, source_name(code));
+            push_line_code(&mut text, line, code, source_name(code));
         }
         Refusal::Bound { code, value } => {
             text.push_str("refused bound ");
@@ -53,9 +61,7 @@ pub fn refusal_line(r: &Refusal) -> ArrayString<96>
         }
         Refusal::Routines { line, code } => {
             text.push_str("refused routines ");
-            push_decimal(&mut text, line);
-            text.push_str(" ");
-            push_code(&mut text, code, routine_name(code));
+            push_line_code(&mut text, line, code, routine_name(code));
         }
     }
     text.push_str("\n");
@@ -74,6 +80,19 @@ fn push_code(text: &mut ArrayString<96>, code: u8, name: &str)
     text.push_str(name);
 }
 
+/// Appends the number of a line, and a code with its name.
+fn push_line_code(text: &mut ArrayString<96>, line: u32, code: u8, name: &str)
+    requires short { length name.now ≤ 17 }
+    requires room { array_string_len text.old + 32 ≤ 96 }
+    ensures text { text.new.bytes ≡
+        text.old.bytes ++ (decimal line ++ (codes " " ++ (decimal code ++ (codes " " ++ name.now)))) }
+    ensures len { array_string_len text.new ≤ array_string_len text.old + 32 }
+{
+    push_decimal(text, line);
+    text.push_str(" ");
+    push_code(text, code, name);
+}
+
 /// Appends the number that a bound's refusal tells.
 #[tactic(auto, unfolding(crate::specs::Refusals::bound_value))]
 fn push_bound_value(text: &mut ArrayString<96>, code: u8, value: u128)
@@ -85,6 +104,30 @@ fn push_bound_value(text: &mut ArrayString<96>, code: u8, value: u128)
         push_decimal(text, value);
     } else {
         push_hex(text, (value % 0x1_0000_0000) as u64, 8);
+    }
+}
+
+/// The name of a setup's code.
+#[tactic(auto, unfolding(crate::specs::Refusals::setup_names))]
+fn setup_name(code: u8) -> &'static str
+    ensures name { result.now ≡ name_of setup_names code }
+    ensures short { length result.now ≤ 17 }
+{
+    match code {
+        1 => "TooLong",
+        2 => "Toml",
+        3 => "UnknownKey",
+        4 => "MissingKey",
+        5 => "WrongType",
+        6 => "OutOfRange",
+        7 => "BadSlot",
+        8 => "BadMode",
+        9 => "BadRegion",
+        10 => "ConfinedPermit",
+        11 => "DoubleThread",
+        12 => "TooMany",
+        20 => "NotBuilt",
+        _ => "",
     }
 }
 

@@ -2,6 +2,7 @@
 ghost use Rattle.std.specs.Prelude.{◌≡◌};
 
 use crate::{Refusal, line, refusal_line};
+use fp_setup::Place;
 use rv_exec::{Effect, Event};
 
 fn event(cycle: u64, pc: u32, word: u32, effect: Effect) -> Event
@@ -80,9 +81,41 @@ fn prints_each_effect(rt: HostRuntime) {
     assert_eq!(rt; line(&wait).as_str(), "        40 00000028 00a5b00b wait\n");
 }
 
+fn setup(code: u8, table: u8, row: u32, key: u8, item: u32) -> Refusal {
+    Refusal::Setup {
+        code,
+        place: Place {
+            table,
+            row,
+            key,
+            item,
+        },
+    }
+}
+
 #[test]
 fn prints_refusals(rt: HostRuntime) {
     let rows = [
+        (setup(6, 1, 0, 2, 0), "refused setup 6 OutOfRange period\n"),
+        (setup(7, 1, 0, 4, 4), "refused setup 7 BadSlot slots[3]\n"),
+        (setup(2, 0, 0, 0, 0), "refused setup 2 Toml -\n"),
+        (setup(3, 1, 0, 0, 0), "refused setup 3 UnknownKey top\n"),
+        (
+            setup(3, 2, 0, 0, 0),
+            "refused setup 3 UnknownKey thread[0]\n",
+        ),
+        (
+            setup(11, 2, 1, 1, 0),
+            "refused setup 11 DoubleThread thread[1].id\n",
+        ),
+        (
+            setup(6, 2, 0, 7, 2),
+            "refused setup 6 OutOfRange thread[0].inputs[1]\n",
+        ),
+        (
+            setup(6, 3, 255, 3, 0),
+            "refused setup 6 OutOfRange loop[255].bound\n",
+        ),
         (Refusal::Section { code: 1 }, "refused section 1 NotHard\n"),
         (
             Refusal::Section { code: 6 },

@@ -39,7 +39,7 @@ loop-done-preserved c =
 pub returns-then-not-is_empty-clause-value : goal.returns-then-not-is_empty-clause-value
 returns-then-not-is_empty-clause-value c =
     let some : 0 < length c.loop-done.rest.now = grind arith in
-    trails _ _ _ _ _ _ _ (omega arith) c.loop-done.invariant.whole some
+    rw c.fault.ensures (trails _ _ _ _ _ _ _ (omega arith) c.loop-done.invariant.whole some)
 
 pub returns-clause-value : goal.returns-clause-value
 returns-clause-value c =

@@ -1,0 +1,31 @@
+//! The answers of the assembler as texts.
+
+use fp_asm::{AsmRefused, assemble};
+use fp_image::Image;
+use std::alloc::{AllocError, Global};
+use std::fmt::Write;
+
+/// The segments of the source's image, each as its address and its bytes in hexadecimal digits;
+/// or its fault, with the line, the number and the name.
+pub fn answer_text(alloc: Global, source: &[u8]) -> Result<String, AllocError> {
+    match assemble(alloc, source) {
+        Ok(image) => image_text(alloc, &image),
+        Err(AsmRefused::Fault { line, code }) => {
+            let number = code as u8;
+            format!(in alloc; "fault {line} {number} {code:?}")
+        }
+        Err(AsmRefused::NoMemory) => Err(AllocError),
+    }
+}
+
+fn image_text(alloc: Global, image: &Image) -> Result<String, AllocError> {
+    let mut text = String::from_str(alloc, "image")?;
+    for segment in image.segments() {
+        let address = segment.address;
+        write!(text, " {address:08x} ")?;
+        for byte in segment.bytes.as_slice() {
+            write!(text, "{byte:02x}")?;
+        }
+    }
+    Ok(text)
+}

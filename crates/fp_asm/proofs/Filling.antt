@@ -1,0 +1,56 @@
+-- Operands, slot by slot.
+use Rattle.std.proofs.Common.{◌≡◌, ℕ, ◌<◌, ◌≤◌, ◌+◌, ◌∙◌, List, [], ◌∷◌, ◌++◌, length, drop, get_or, refl, sym, ap, arith, add-one, append_assoc, append-nil, map, Bor, Option, Some, None, option_map}
+use Rattle.std.proofs.Math.Seq.{drop-cons}
+use Rattle.std.proofs.Math.ListN.{drop_of_length-le}
+use Rattle.std.proofs.lemmas.List.{map-append}
+use Rattle.fp_asm.specs.Operands.{Target, Operands, all_filled, target_in, all_targets}
+use Rattle.fp_asm.specs.Views.{piece_seen, operand_seen}
+use Rattle.fp_asm.specs.Seen.{target_seen}
+use Rattle.fp_asm.specs.declared.table.Slot.{Slot}
+use Rattle.fp_asm.specs.declared.pieces.Piece.TheVariants as piece
+use Rattle.fp_asm.specs.declared.operands.Target.TheVariants as target
+
+abbrev Given : Type 0
+Given = Bor (List piece.the_data)
+
+here : {A : Type 0} (xs : List A) (i : ℕ) (d : A) → i < length xs → drop i xs ≡ get_or xs i d ∷ drop (i + 1) xs
+here xs i d h = rw (add-one i) (drop-cons xs i d h)
+
+-- the targets from place i on, after those of a list
+pub targets_from : List Target → List Given → ℕ → Option (List Target)
+targets_from found operands i = option_map (λ vs. found ++ vs) (all_targets (map operand_seen (drop i operands)))
+
+pub targets_start : (operands : List Given) → all_targets (map operand_seen operands) ≡ targets_from [] operands 0
+unfolding targets_from
+targets_start operands = go (all_targets (map operand_seen operands))
+  where
+    go : (r : Option (List Target)) → r ≡ option_map (λ vs. [] ++ vs) r
+    go None = refl
+    go (Some vs) = refl
+
+target_more : (v : Target) (found : List Target) (r : Option (List Target)) → option_map (λ vs. found ++ vs) (option_map (λ vs. v ∷ vs) r) ≡ option_map (λ vs. (found ++ v ∷ []) ++ vs) r
+target_more v found None = refl
+target_more v found (Some vs) = ap Some (sym (append_assoc found (v ∷ []) vs))
+
+module _ (found : List Target) (operands : List Given) (i : ℕ) (d : Given) where
+  more : (v : Target) → i < length operands → target_in (map piece_seen (get_or operands i d).now) ≡ Some v → targets_from found operands i ≡ targets_from (found ++ v ∷ []) operands (i + 1)
+  unfolding targets_from all_targets
+  more v h e = rw (here operands i d h, e) (target_more v found (all_targets (map operand_seen (drop (i + 1) operands))))
+
+  pub targets_none : i < length operands → target_in (map piece_seen (get_or operands i d).now) ≡ None → targets_from found operands i ≡ None
+  unfolding targets_from all_targets
+  targets_none h e = rw (here operands i d h, e) refl
+
+pub targets_end : (found : List Target) (operands : List Given) (i : ℕ) → length operands ≤ i → targets_from found operands i ≡ Some found
+unfolding targets_from all_targets
+targets_end found operands i h = rw (drop_of_length-le operands h) (ap Some (append-nil found))
+
+pub targets_more : (xs : List target.the_data) (operands : List Given) (i : ℕ) (d : Given) (x : target.the_data) → i < length operands → target_in (map piece_seen (get_or operands i d).now) ≡ Some (target_seen x) → targets_from (map target_seen xs) operands i ≡ targets_from (map target_seen (xs ++ x ∷ [])) operands (i + 1)
+targets_more xs operands i d x h e = more (map target_seen xs) operands i d (target_seen x) h e ∙ ap (λ l. targets_from l operands (i + 1)) (sym (map-append target_seen xs (x ∷ [])))
+
+-- a slot with no operand
+pub fill_short : (form : List Slot) (operands : List Given) (o : Operands) → 0 < length form → length operands ≡ 0 → all_filled form (map operand_seen operands) o ≡ None
+unfolding all_filled
+fill_short [] operands o h e = absurd (omega (arith, h))
+fill_short (s ∷ form) [] o h e = refl
+fill_short (s ∷ form) (p ∷ ps) o h e = absurd (omega (arith, e))

@@ -1,0 +1,14 @@
+pub mod Rows
+pub mod Between
+pub mod LineByLine
+pub mod CommaByComma
+pub mod Filling
+pub mod Checks
+pub mod Ways
+pub mod LabelByLabel
+pub mod WordByWord
+pub mod TargetByTarget
+pub mod PassByPass
+pub mod RunByRun
+pub mod Segments
+pub mod Soundness

@@ -1,0 +1,43 @@
+-- Rows of tables, by their names.
+use Rattle.std.proofs.Common.{◌≡◌, ℕ, ◌<◌, ◌&&◌, List, [], ◌∷◌, Some, Bool, true, false, option_map, map, find, refl, cond, Bor, nat_lt, arith}
+use Rattle.std.specs.Str.{bytes_eq}
+use Rattle.std.specs.List.{list_all}
+use Rattle.std.proofs.lemmas.Bool.Decides.{nat_tests}
+use Rattle.fp_asm.specs.Mnemonics.{row_named}
+use Rattle.fp_asm.specs.Names.{named, registers, register}
+use Rattle.fp_asm.specs.Views.{mnemonic_seen, name_seen}
+use Rattle.fp_asm.specs.declared.table.Row.{Row}
+
+pub found_row : (rows : List Row) (text : List ℕ) → row_named (map mnemonic_seen rows) text ≡ option_map mnemonic_seen (find (λ row. bytes_eq row.name.now text) rows)
+found_row [] text = refl
+found_row (r ∷ rs) text = go (bytes_eq r.name.now text) (found_row rs text)
+  where
+    go : (b : Bool) → row_named (map mnemonic_seen rs) text ≡ option_map mnemonic_seen (find (λ row. bytes_eq row.name.now text) rs) → cond b (Some (mnemonic_seen r)) (row_named (map mnemonic_seen rs) text) ≡ option_map mnemonic_seen (cond b (Some r) (find (λ row. bytes_eq row.name.now text) rs))
+    go true h = refl
+    go false h = h
+
+pub found_number : (rows : List (Bor (List ℕ) × ℕ)) (text : List ℕ) → named (map name_seen rows) text ≡ option_map (λ row. row.1) (find (λ row. bytes_eq row.0.now text) rows)
+found_number [] text = refl
+found_number (r ∷ rs) text = go (bytes_eq r.0.now text) (found_number rs text)
+  where
+    go : (b : Bool) → named (map name_seen rs) text ≡ option_map (λ row. row.1) (find (λ row. bytes_eq row.0.now text) rs) → option_map (λ row. row.1) (cond b (Some (name_seen r)) (find (λ row. bytes_eq row.0 text) (map name_seen rs))) ≡ option_map (λ row. row.1) (cond b (Some r) (find (λ row. bytes_eq row.0.now text) rs))
+    go true h = refl
+    go false h = h
+
+-- a table of small numbers gives small numbers
+named_small : (limit : ℕ) (rows : List (List ℕ × ℕ)) (text : List ℕ) (n : ℕ) → list_all (λ row. nat_lt row.1 limit) rows ≡ true → named rows text ≡ Some n → n < limit
+named_small limit [] text n all found = absurd (cc)
+named_small limit (r ∷ rs) text n all found = go (bytes_eq r.0 text) (nat_lt r.1 limit) refl (named_small limit rs text n) all found
+  where
+    more : (small : Bool) → (small && list_all (λ row. nat_lt row.1 limit) rs) ≡ true → list_all (λ row. nat_lt row.1 limit) rs ≡ true
+    more true h = h
+    more false h = absurd (cc)
+
+    go : (here small : Bool) → nat_lt r.1 limit ≡ small → (list_all (λ row. nat_lt row.1 limit) rs ≡ true → named rs text ≡ Some n → n < limit) → (small && list_all (λ row. nat_lt row.1 limit) rs) ≡ true → option_map (λ row. row.1) (cond here (Some r) (find (λ row. bytes_eq row.0 text) rs)) ≡ Some n → n < limit
+    go true true e others h k = let same : r.1 ≡ n = cc in grind (arith, nat_tests, e, same)
+    go true false e others h k = absurd (cc)
+    go false small e others h k = others (more small h) k
+
+pub register_small : (text : List ℕ) (n : ℕ) → register text ≡ Some n → n < 32
+unfolding register registers
+register_small text n h = named_small 32 registers text n refl h

@@ -1,0 +1,17 @@
+-- Ways between multiples of four.
+use Rattle.std.proofs.Common.{◌≡◌, ℕ, ◌<◌, ◌+◌, ◌-◌, ◌/◌, ◌%◌, ◌^◌, pos, ◌-ℤ◌, arith, Bool, true, false, cond, nat_lt}
+use Rattle.std.proofs.lemmas.Int.{ints}
+use Rattle.rv_decode.specs.Fields.{sign_extended}
+use Rattle.rv_decode.specs.Range.{IsEven}
+use Rattle.fp_asm.specs.Second.{way}
+
+even_signed : (w : ℕ) → w % 2 ≡ 0 → IsEven (sign_extended 32 w)
+even_signed w h = go (nat_lt w (2 ^ 31))
+  where
+    go : (b : Bool) → IsEven (cond b (pos w) (pos w -ℤ pos (2 ^ 32)))
+    go true = (pos (w / 2), omega (arith, ints, h))
+    go false = (pos (w / 2) -ℤ pos (2 ^ 31), omega (arith, ints, h))
+
+-- the way from one multiple of four to another is even
+pub way_even : (place to : ℕ) → place < 2 ^ 32 → to < 2 ^ 32 → place % 4 ≡ 0 → to % 4 ≡ 0 → IsEven (way place to)
+way_even place to a b h k = even_signed ((to + (2 ^ 32 - place)) % 2 ^ 32) (omega (arith, a, b, h, k))

@@ -1,0 +1,16 @@
+pub mod Between
+pub mod Lines
+pub mod Faults
+pub mod Pieces
+pub mod Mnemonics
+pub mod Names
+pub mod Operands
+pub mod Statements
+pub mod Words
+pub mod First
+pub mod Second
+pub mod Runs
+pub mod Source
+pub mod Views
+pub mod Seen
+pub mod Passed

@@ -1,0 +1,12 @@
+-- The code's passes as the definitions see them.
+use Rattle.fp_asm.specs.First.{Placed}
+use Rattle.fp_asm.specs.Second.{Written}
+use Rattle.fp_asm.specs.Views.{labels_seen}
+use Rattle.fp_asm.specs.declared.first.First.{First}
+use Rattle.fp_asm.specs.declared.second.Second.{Second}
+
+abbrev pub placed_seen : First → Placed
+placed_seen f = record { place = f.place; labels = labels_seen f.labels; taken = f.taken.keys }
+
+abbrev pub written_seen : Second → Written
+written_seen s = record { place = s.place; memory = s.memory.entries }

@@ -1,0 +1,115 @@
+-- The second pass: words.
+use Rattle.std.specs.Prelude.{ℕ, ◌==◌, ◌+◌, ◌^◌, ◌%◌, ◌-◌, ℤ, pos, neg_ℤ, Bool, true, List, [], ◌∷◌, Option, Some, None, Result, Ok, map, replicate}
+use Rattle.std.specs.List.{list_all}
+use Rattle.std.specs.Ordering.{nat_cmp}
+use Rattle.std.specs.BTreeMap.{insert_entry}
+use Rattle.rv_decode.specs.Fields.{sign_extended}
+use Rattle.rv_decode.specs.Encoding.{low_bits, encoded}
+use Rattle.rv_decode.specs.declared.instruction.Ins.TheVariants.{Branch, Jal}
+use Rattle.fp_asm.specs.Pieces.{Text, Piece, name, colon, pieces_of}
+use Rattle.fp_asm.specs.Operands.{Target, plain, label, Operands}
+use Rattle.fp_asm.specs.Statements.{Statement, statement_of, size_of, place_after}
+use Rattle.fp_asm.specs.Words.{is_within, instruction, halves, load_instructions}
+use Rattle.fp_asm.specs.First.{Labels, place_of}
+use Rattle.fp_asm.specs.Faults.{next, holds, present, in_line}
+use Rattle.rv_decode.specs.declared.instruction.BranchOp.{BranchOp}
+use Rattle.fp_asm.specs.declared.table.Plain.{Plain}
+use Rattle.fp_asm.specs.declared.table.Makes.{Makes}
+use Rattle.fp_asm.specs.declared.table.Makes.TheVariants as makes
+use Rattle.fp_asm.specs.declared.refusal.AsmNo.{AsmNo}
+use Rattle.fp_asm.specs.declared.refusal.AsmNo.TheVariants as no
+use Rattle.fp_asm.specs.declared.refusal.AsmRefused.{AsmRefused}
+
+-- what follows the labels at the head of the pieces
+unfoldable pub after_labels : List Piece → List Piece
+after_labels (name x ∷ colon ∷ ps) = after_labels ps
+after_labels ps = ps
+
+-- a target as a word, modulo 2^32
+unfoldable pub resolved : Labels → Target → Result ℕ AsmNo
+resolved labels (plain n) = Ok (low_bits 32 n)
+resolved labels (label x n) = next (present no.NoLabel (place_of labels x)) (λ a. Ok ((a + low_bits 32 n) % 2 ^ 32))
+
+unfoldable pub all_resolved : Labels → List Target → Result (List ℕ) AsmNo
+all_resolved labels [] = Ok []
+all_resolved labels (v ∷ vs) = next (resolved labels v) (λ a. next (all_resolved labels vs) (λ places. Ok (a ∷ places)))
+
+-- a number that a word holds, with or without sign; a label is one always
+abbrev pub fits_word : Target → Bool
+fits_word (plain n) = is_within (neg_ℤ (pos (2 ^ 31))) (pos (2 ^ 32 - 1)) n
+fits_word (label x n) = true
+
+-- the way from a place to an address, modulo 2^32 and read with sign
+abbrev pub way : ℕ → ℕ → ℤ
+way place to = sign_extended 32 ((to + (2 ^ 32 - place)) % 2 ^ 32)
+
+-- the way that a branch or a jump takes, which has a range, to an address that must be a multiple of four
+unfoldable pub jump : ℤ → ℤ → ℕ → ℕ → Result ℤ AsmNo
+jump low high place to = holds (is_within low high (way place to)) no.OutOfRange (holds (to % 4 == 0) no.Misaligned (Ok (way place to)))
+
+unfoldable pub plain_word : Plain → Operands → Result ℕ AsmNo
+plain_word p o = next (present no.OutOfRange (instruction p o)) (λ i. Ok (encoded i))
+
+-- a branch, to addresses from 4,096 bytes before to 4,094 after
+unfoldable pub branch_word : BranchOp → Labels → ℕ → Operands → Result ℕ AsmNo
+branch_word op labels place o =
+    next (resolved labels o.target) (λ to. next (jump (neg_ℤ (pos 4096)) (pos 4094) place to) (λ off. Ok (encoded (Branch op o.rs1 o.rs2 off))))
+
+-- a jump, to addresses from 1,048,576 bytes before to 1,048,574 after
+unfoldable pub jal_word : Labels → ℕ → Operands → Result ℕ AsmNo
+jal_word labels place o =
+    next (resolved labels o.target) (λ to. next (jump (neg_ℤ (pos 1048576)) (pos 1048574) place to) (λ off. Ok (encoded (Jal o.rd off))))
+
+-- the words that give a register an address
+unfoldable pub address_words : Labels → Operands → Result (List ℕ) AsmNo
+address_words labels o = next (resolved labels o.target) (λ a. holds (fits_word o.target) no.OutOfRange (Ok (map encoded (halves o.rd a))))
+
+unfoldable pub value_words : Labels → List Target → Result (List ℕ) AsmNo
+value_words labels values = next (all_resolved labels values) (λ words. holds (list_all fits_word values) no.OutOfRange (Ok words))
+
+abbrev pub one_word : Result ℕ AsmNo → Result (List ℕ) AsmNo
+one_word r = next r (λ w. Ok (w ∷ []))
+
+abbrev pub words_as : Makes → Labels → ℕ → Statement → Result (List ℕ) AsmNo
+words_as (makes.Plain p) labels place s = one_word (plain_word p s.operands)
+words_as (makes.Branch op) labels place s = one_word (branch_word op labels place s.operands)
+words_as makes.Jal labels place s = one_word (jal_word labels place s.operands)
+words_as makes.Li labels place s = Ok (map encoded (load_instructions s.operands.rd (low_bits 32 s.operands.given)))
+words_as makes.La labels place s = address_words labels s.operands
+words_as makes.Words labels place s = value_words labels s.values
+words_as makes.Org labels place s = Ok []
+words_as makes.Space labels place s = Ok (replicate (size_of s) 0)
+
+-- the words that a statement makes at a place
+unfoldable pub words_of : Labels → ℕ → Statement → Result (List ℕ) AsmNo
+words_of labels place s = words_as s.makes labels place s
+
+-- the words in memory, by rising address
+abbrev pub Memory : Type 0
+Memory = List (ℕ × ℕ)
+
+-- with words from a place on
+unfoldable pub with_words : Memory → ℕ → List ℕ → Memory
+with_words memory place [] = memory
+with_words memory place (w ∷ ws) = with_words (insert_entry nat_cmp memory place w) ((place + 4) % 2 ^ 32) ws
+
+-- What the second pass knows: the place, and the words so far.
+pub record Written : Type 0 where
+  pub place : ℕ
+  pub memory : Memory
+
+abbrev pub nothing_written : Written
+nothing_written = record { place = 0; memory = [] }
+
+unfoldable pub written_by : Labels → Written → Option Statement → Result Written AsmNo
+written_by labels w None = Ok w
+written_by labels w (Some s) = next (words_of labels w.place s) (λ ws. Ok (record { place = place_after w.place s; memory = with_words w.memory w.place ws }))
+
+-- the second pass over a line
+unfoldable pub second_line : Labels → Written → Text → Result Written AsmNo
+second_line labels w line = next (pieces_of line) (λ ps. next (statement_of (after_labels ps)) (written_by labels w))
+
+-- the second pass from line number n on
+unfoldable pub second_pass : ℕ → Labels → Written → List Text → Result Written AsmRefused
+second_pass n labels w [] = Ok w
+second_pass n labels w (line ∷ lines) = next (in_line n (second_line labels w line)) (λ w. second_pass (n + 1) labels w lines)

@@ -1,0 +1,78 @@
+-- The statement of a line, and what it places.
+use Rattle.std.specs.Prelude.{ℕ, ◌==◌, ◌+◌, ◌*◌, ◌^◌, ◌/◌, ◌%◌, ◌-◌, ℤ, pos, neg_ℤ, nat_abs, Bool, true, false, List, [], ◌∷◌, Option, Some, None, Result, Ok, Err, if◌then◌else◌, option_map, length}
+use Rattle.rv_decode.specs.Encoding.{low_bits}
+use Rattle.fp_asm.specs.Pieces.{Text, Piece, name, operands_of}
+use Rattle.fp_asm.specs.Mnemonics.{Mnemonic, mnemonic}
+use Rattle.fp_asm.specs.Operands.{Target, Operands, nothing_given, all_filled, all_targets}
+use Rattle.fp_asm.specs.Words.{is_within, load_instructions}
+use Rattle.fp_asm.specs.Faults.{next, holds, present}
+use Rattle.fp_asm.specs.declared.table.Makes.{Makes}
+use Rattle.fp_asm.specs.declared.table.Makes.TheVariants.{Li, La, Words, Org, Space}
+use Rattle.fp_asm.specs.declared.refusal.AsmNo.{AsmNo}
+use Rattle.fp_asm.specs.declared.refusal.AsmNo.TheVariants as no
+
+-- What a mnemonic makes, with its operands. The values are those of `.word`, which has no others.
+pub record Statement : Type 0 where
+  pub makes : Makes
+  pub operands : Operands
+  pub values : List Target
+
+abbrev pub is_words : Makes → Bool
+is_words Words = true
+is_words _ = false
+
+-- one operand or more, each as a target
+unfoldable pub some_targets : List (List Piece) → Option (List Target)
+some_targets [] = None
+some_targets (ps ∷ rest) = all_targets (ps ∷ rest)
+
+-- the statement of a mnemonic with its operands; None where their number or form is wrong
+unfoldable pub statement_in : Mnemonic → List (List Piece) → Option Statement
+statement_in m operands =
+    if is_words m.makes then option_map (λ vs. record { makes = m.makes; operands = nothing_given; values = vs }) (some_targets operands)
+    else option_map (λ o. record { makes = m.makes; operands = o; values = [] }) (all_filled m.form operands nothing_given)
+
+-- a number from 0 to a limit that must be a multiple of four
+unfoldable pub aligned_to : ℕ → ℤ → Result (Unit {0}) AsmNo
+aligned_to most n = holds (is_within (pos 0) (pos most) n) no.OutOfRange (holds (nat_abs n % 4 == 0) no.Misaligned (Ok tt))
+
+abbrev pub checked_as : Makes → ℤ → Result (Unit {0}) AsmNo
+checked_as Org n = aligned_to (2 ^ 32 - 4) n
+checked_as Space n = aligned_to 16384 n
+checked_as Li n = holds (is_within (neg_ℤ (pos (2 ^ 31))) (pos (2 ^ 32 - 1)) n) no.OutOfRange (Ok tt)
+checked_as _ n = Ok tt
+
+-- the checks of a statement's number that come before any label is known
+unfoldable pub checked : Statement → Result (Unit {0}) AsmNo
+checked s = checked_as s.makes s.operands.given
+
+-- the statement of a name and what follows it
+unfoldable pub statement_named : Text → List Piece → Result Statement AsmNo
+statement_named x ps =
+    next (present no.UnknownName (mnemonic x)) (λ m. next (present no.Operands (statement_in m (operands_of ps))) (λ s. next (checked s) (λ _. Ok s)))
+
+-- The statement that follows the labels, where there is one. What follows them begins with a name.
+unfoldable pub statement_of : List Piece → Result (Option Statement) AsmNo
+statement_of [] = Ok None
+statement_of (name x ∷ ps) = next (statement_named x ps) (λ s. Ok (Some s))
+statement_of _ = Err no.Operands
+
+abbrev pub size_as : Makes → ℤ → List Target → ℕ
+size_as Li n values = length (load_instructions 0 (low_bits 32 n))
+size_as La n values = 2
+size_as Words n values = length values
+size_as Org n values = 0
+size_as Space n values = nat_abs n / 4
+size_as _ n values = 1
+
+-- how many words the statement places
+unfoldable pub size_of : Statement → ℕ
+size_of s = size_as s.makes s.operands.given s.values
+
+abbrev pub place_as : Makes → ℕ → Statement → ℕ
+place_as Org place s = nat_abs s.operands.given
+place_as _ place s = (place + 4 * size_of s) % 2 ^ 32
+
+-- the place after the statement
+unfoldable pub place_after : ℕ → Statement → ℕ
+place_after place s = place_as s.makes place s

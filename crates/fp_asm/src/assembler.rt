@@ -1,0 +1,58 @@
+//! From a source to an image.
+ghost use Rattle.std.specs.Prelude.{◌≡◌, ◌≤◌, ◌<◌, ◌^◌, IfOk, IfErr, Ok, map, length, All};
+ghost use Rattle.fp_asm.specs.Source.{assembled, assembled_lines};
+ghost use Rattle.fp_asm.specs.Faults.{IsFaultOf};
+
+use super::build::{image_of, rising};
+use super::first::First;
+use super::lines::lines;
+use super::refusal::{AsmNo, AsmRefused};
+use super::runs::runs_of;
+use super::second::Second;
+use fp_image::Image;
+use std::alloc::Global;
+
+// The image of the lines.
+#[tactic(auto, unfolding(crate::specs::Source::assembled_lines))]
+fn assemble_lines(alloc: Global, lines: &[&[u8]]) -> Result<Image, AsmRefused>
+    requires short { All (λ l. length l.now < 2 ^ 32) lines.now }
+    requires few { length lines.now < 2 ^ 31 }
+    ensures image { IfOk result (λ image. assembled_lines (map (λ l. l.now) lines.now) ≡ Ok image) }
+    ensures refused { IfErr result (IsFaultOf (assembled_lines (map (λ l. l.now) lines.now))) }
+{
+    let mut first = First::new(alloc);
+    first.pass(alloc, lines)?;
+    let mut second = Second::new(alloc);
+    second.pass(alloc, &first.labels, lines)?;
+    let addresses = rising(alloc, &first.taken)?;
+    let runs = runs_of(alloc, addresses.as_slice())?;
+    if runs.len() > 16 {
+        return Err(AsmRefused::Fault {
+            line: 0,
+            code: AsmNo::TooManySegments,
+        });
+    }
+    Ok(image_of(alloc, &second.memory, runs.as_slice())?)
+}
+
+/// The image of a source text.
+///
+/// # Errors
+///
+/// The first fault of the source, in this order: a source that is too long; the faults of a first
+/// pass over the lines, which knows places and labels; those of a second pass, which knows all
+/// labels; more than 16 segments. `NoMemory` where memory was refused.
+#[tactic(auto, unfolding(crate::specs::Source::assembled))]
+pub fn assemble(alloc: Global, source: &[u8]) -> Result<Image, AsmRefused>
+    ensures image { IfOk result (λ image. assembled source.now ≡ Ok image) }
+    ensures refused { IfErr result (IsFaultOf (assembled source.now)) }
+{
+    if source.len() > 1_048_576 {
+        return Err(AsmRefused::Fault {
+            line: 0,
+            code: AsmNo::TooLong,
+        });
+    }
+    let lines = lines(alloc, source)?;
+    assemble_lines(alloc, lines.as_slice())
+}

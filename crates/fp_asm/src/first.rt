@@ -1,0 +1,88 @@
+//! The first pass: labels and places.
+ghost use Rattle.std.specs.Prelude.{◌≡◌, ◌≤◌, ◌<◌, ◌^◌, IfOk, IfErr, OnOk, Ok, option_map, map, length, All};
+ghost use Rattle.fp_asm.specs.First.{sized as sized_of, first_line, first_pass as first_pass_of};
+ghost use Rattle.fp_asm.specs.Faults.{IsStopOf, IsFaultOf};
+ghost use Rattle.fp_asm.specs.Views.{piece_seen};
+
+use super::labels::{Labels, add_labels};
+use super::pieces::{Piece, pieces};
+use super::places::take_places;
+use super::refusal::{AsmRefused, Stop};
+use super::size::{place_after, size};
+use super::statement::statement_after;
+use std::alloc::Global;
+use std::collections::{BTreeMap, BTreeSet};
+
+/// What the first pass knows after some lines.
+#[derive(Drop)]
+pub(crate) struct First<'a> {
+    place: u32,
+    pub(crate) labels: Labels<'a>,
+    pub(crate) taken: BTreeSet<u32>,
+}
+
+// How many words the statement that follows the labels places, and the place after it.
+#[tactic(auto, unfolding(crate::specs::First::sized))]
+fn sized(alloc: Global, place: u32, pieces: &[Piece]) -> Result<Option<(u32, u32)>, Stop>
+    requires { length pieces.now ≤ 64 }
+    ensures ok { IfOk result (λ s. sized_of place (map piece_seen pieces.now) ≡ Ok s) }
+    ensures refused { IfErr result (IsStopOf (sized_of place (map piece_seen pieces.now))) }
+{
+    match statement_after(alloc, pieces)? {
+        Some(statement) => Ok(Some((size(&statement), place_after(place, &statement)))),
+        None => Ok(None),
+    }
+}
+
+impl<'a> First<'a> {
+    ghost use Rattle.fp_asm.specs.First.{start};
+    ghost use Rattle.fp_asm.specs.Passed.{placed_seen};
+
+    pub(crate) fn new(alloc: Global) -> First<'a>
+        ensures { placed_seen result ≡ start }
+    {
+        First {
+            place: 0,
+            labels: BTreeMap::new(alloc),
+            taken: BTreeSet::new(alloc),
+        }
+    }
+
+    #[tactic(auto, unfolding(crate::specs::First::first_line, crate::specs::First::placed_by))]
+    fn line(&mut self, alloc: Global, line: &'a [u8]) -> Result<(), Stop>
+        requires { length line.now < 2 ^ 32 }
+        ensures ok { OnOk result (first_line (placed_seen self.old) line.now ≡ Ok (placed_seen self.new)) }
+        ensures refused { IfErr result (IsStopOf (first_line (placed_seen self.old) line.now)) }
+    {
+        let pieces = pieces(alloc, line)?;
+        let n = add_labels(&mut self.labels, self.place, &pieces)?;
+        if let Some((size, after)) = sized(alloc, self.place, &pieces[n..])? {
+            take_places(&mut self.taken, self.place, size)?;
+            self.place = after;
+        }
+        Ok(())
+    }
+
+    /// The first pass over the lines.
+    #[tactic(auto, using(crate::proofs::PassByPass::first_here, crate::proofs::PassByPass::first_end, crate::proofs::PassByPass::first_fault))]
+    pub(crate) fn pass(&mut self, alloc: Global, lines: &[&'a [u8]]) -> Result<(), AsmRefused>
+        requires short { All (λ l. length l.now < 2 ^ 32) lines.now }
+        requires few { length lines.now < 2 ^ 31 }
+        ensures ok { OnOk result (first_pass_of 1 (placed_seen self.old) (map (λ l. l.now) lines.now) ≡ Ok (placed_seen self.new)) }
+        ensures refused { IfErr result (IsFaultOf (first_pass_of 1 (placed_seen self.old) (map (λ l. l.now) lines.now))) }
+    {
+        for (i, line) in lines.iter().enumerate() {
+            match self.line(alloc, *line) {
+                Ok(()) => {}
+                Err(Stop::NoMemory) => return Err(AsmRefused::NoMemory),
+                Err(Stop::Fault { code }) => {
+                    return Err(AsmRefused::Fault {
+                        line: i as u32 + 1,
+                        code,
+                    });
+                }
+            }
+        }
+        Ok(())
+    }
+}

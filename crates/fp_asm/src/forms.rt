@@ -1,0 +1,201 @@
+//! The forms of operands.
+ghost use Rattle.std.specs.Prelude.{◌≡◌, ◌<◌, ◌^◌, IfOk, IfSome, Some, None, option_map, map, length};
+ghost use Rattle.fp_asm.specs.Operands.{register_in as register_in_of, number_in as number_in_of, target_in as target_in_of, csr_in as csr_in_of, memory_in as memory_in_of, filled, all_filled, all_targets, nothing_given as nothing_given_of, HasRegisters};
+ghost use Rattle.fp_asm.specs.Views.{piece_seen, operand_seen};
+ghost use Rattle.fp_asm.specs.Seen.{target_seen, operands_seen};
+
+use super::names::{csr, register};
+use super::operands::{Operands, Target};
+use super::pieces::Piece;
+use super::table::Slot;
+use std::alloc::{AllocError, Global};
+
+/// The operands before any is read.
+pub(crate) fn nothing_given<'a>() -> Operands<'a>
+    ensures { operands_seen result ≡ nothing_given_of }
+{
+    Operands {
+        rd: 0,
+        rs1: 0,
+        rs2: 0,
+        csr_number: 0,
+        given: 0,
+        target: Target::Plain { number: 0 },
+    }
+}
+
+#[tactic(auto, unfolding(crate::specs::Operands::register_in))]
+fn register_in(pieces: &[Piece]) -> Option<u8>
+    ensures number { result ≡ register_in_of (map piece_seen pieces.now) }
+    ensures small { IfSome result (λ n. n < 32) }
+{
+    match pieces {
+        [Piece::Name { text }] => register(*text),
+        _ => None,
+    }
+}
+
+#[tactic(auto, unfolding(crate::specs::Operands::number_in))]
+fn number_in(pieces: &[Piece]) -> Option<i64>
+    ensures { result ≡ number_in_of (map piece_seen pieces.now) }
+{
+    match pieces {
+        [Piece::Number { value }] => Some(i64::from(*value)),
+        [Piece::Minus, Piece::Number { value }] => Some(-i64::from(*value)),
+        _ => None,
+    }
+}
+
+#[tactic(auto, unfolding(crate::specs::Operands::target_in))]
+fn target_in<'a>(pieces: &[Piece<'a>]) -> Option<Target<'a>>
+    ensures { option_map target_seen result ≡ target_in_of (map piece_seen pieces.now) }
+{
+    match pieces {
+        [Piece::Name { text }] => Some(Target::Label {
+            name: *text,
+            plus: 0,
+        }),
+        [Piece::Name { text }, Piece::Plus, Piece::Number { value }] => Some(Target::Label {
+            name: *text,
+            plus: i64::from(*value),
+        }),
+        [Piece::Name { text }, Piece::Minus, Piece::Number { value }] => Some(Target::Label {
+            name: *text,
+            plus: -i64::from(*value),
+        }),
+        _ => match number_in(pieces) {
+            Some(number) => Some(Target::Plain { number }),
+            None => None,
+        },
+    }
+}
+
+#[tactic(auto, unfolding(crate::specs::Operands::csr_in))]
+fn csr_in(pieces: &[Piece]) -> Option<u32>
+    ensures { result ≡ csr_in_of (map piece_seen pieces.now) }
+{
+    match pieces {
+        [Piece::Number { value }] => Some(*value),
+        [Piece::Name { text }] => csr(*text),
+        _ => None,
+    }
+}
+
+#[tactic(auto, unfolding(crate::specs::Operands::memory_in))]
+fn memory_in(pieces: &[Piece]) -> Option<(i64, u8)>
+    ensures memory { result ≡ memory_in_of (map piece_seen pieces.now) }
+    ensures small { IfSome result (λ m. m.1 < 32) }
+{
+    match pieces {
+        [
+            Piece::Number { value },
+            Piece::Opening,
+            Piece::Name { text },
+            Piece::Closing,
+        ] => {
+            let base = register(*text)?;
+            Some((i64::from(*value), base))
+        }
+        [
+            Piece::Minus,
+            Piece::Number { value },
+            Piece::Opening,
+            Piece::Name { text },
+            Piece::Closing,
+        ] => {
+            let base = register(*text)?;
+            Some((-i64::from(*value), base))
+        }
+        _ => None,
+    }
+}
+
+/// The operands with one more.
+#[tactic(auto, unfolding(crate::specs::Operands::filled))]
+fn fill<'a>(slot: Slot, pieces: &[Piece<'a>], operands: &Operands<'a>) -> Option<Operands<'a>>
+    requires { HasRegisters (operands_seen operands.now) }
+    ensures filled { option_map operands_seen result ≡ filled slot (map piece_seen pieces.now) (operands_seen operands.now) }
+    ensures registers { IfSome result (λ o. HasRegisters (operands_seen o)) }
+{
+    match slot {
+        Slot::Rd => {
+            let rd = register_in(pieces)?;
+            Some(Operands { rd, ..*operands })
+        }
+        Slot::Rs1 => {
+            let rs1 = register_in(pieces)?;
+            Some(Operands { rs1, ..*operands })
+        }
+        Slot::Rs2 => {
+            let rs2 = register_in(pieces)?;
+            Some(Operands { rs2, ..*operands })
+        }
+        Slot::Csr => {
+            let csr_number = csr_in(pieces)?;
+            Some(Operands {
+                csr_number,
+                ..*operands
+            })
+        }
+        Slot::Number => {
+            let given = number_in(pieces)?;
+            Some(Operands { given, ..*operands })
+        }
+        Slot::Memory => {
+            let (given, rs1) = memory_in(pieces)?;
+            Some(Operands {
+                given,
+                rs1,
+                ..*operands
+            })
+        }
+        Slot::Value => {
+            let target = target_in(pieces)?;
+            Some(Operands {
+                target,
+                ..*operands
+            })
+        }
+    }
+}
+
+/// The operands with one more for each slot of a form.
+#[tactic(auto, using(crate::proofs::Filling::fill_short), unfolding(crate::specs::Operands::all_filled))]
+pub(crate) fn fill_all<'a>(
+    form: &[Slot],
+    operands: &[&[Piece<'a>]],
+    given: &Operands<'a>,
+) -> Option<Operands<'a>>
+    requires { HasRegisters (operands_seen given.now) }
+    ensures filled { option_map operands_seen result ≡ all_filled form.now (map operand_seen operands.now) (operands_seen given.now) }
+    ensures registers { IfSome result (λ o. HasRegisters (operands_seen o)) }
+{
+    match (form, operands) {
+        ([], []) => Some(*given),
+        ([slot, slots @ ..], [pieces, others @ ..]) => {
+            let filled = fill(*slot, *pieces, given)?;
+            fill_all(slots, others, &filled)
+        }
+        ([], [_, ..]) => None,
+        ([_, ..], []) => None,
+    }
+}
+
+/// Each operand as a target.
+#[tactic(auto, using(crate::proofs::Filling::targets_start, crate::proofs::Filling::targets_more, crate::proofs::Filling::targets_none, crate::proofs::Filling::targets_end))]
+pub(crate) fn targets<'a>(
+    alloc: Global,
+    operands: &[&[Piece<'a>]],
+) -> Result<Option<Vec<Target<'a>>>, AllocError>
+    ensures targets { IfOk result (λ found. option_map (λ v. map target_seen v.items) found ≡ all_targets (map operand_seen operands.now)) }
+    ensures few { IfOk result (λ found. IfSome found (λ v. length v.items ≡ length operands.now)) }
+{
+    let mut list = Vec::with_capacity(alloc, operands.len())?;
+    for operand in operands {
+        let Some(target) = target_in(*operand) else {
+            return Ok(None);
+        };
+        list.push(target)?;
+    }
+    Ok(Some(list))
+}

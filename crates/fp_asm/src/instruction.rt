@@ -1,0 +1,201 @@
+//! The instructions that mnemonics make.
+ghost use Rattle.std.specs.Prelude.{◌≡◌, ◌≤◌, ◌<◌, ◌^◌, IfOk, IfSome, map, length, pos, neg_ℤ};
+ghost use Rattle.rv_decode.specs.Encoding.{low_bits, encoded};
+ghost use Rattle.rv_decode.specs.Range.{InRange, IsSigned};
+ghost use Rattle.fp_asm.specs.Operands.{HasRegisters};
+ghost use Rattle.fp_asm.specs.Words.{signed_12 as signed_12_of, up_to as up_to_of, instruction as instruction_of, upper as upper_of, rest as rest_of, halves as halves_of, load_instructions};
+ghost use Rattle.fp_asm.specs.Seen.{operands_seen};
+
+use super::operands::Operands;
+use super::table::Plain;
+use rv_decode::{ImmOp, Ins, encode};
+use std::alloc::{AllocError, Global};
+
+// A number of twelve bits with a sign.
+#[tactic(auto, unfolding(crate::specs::Words::signed_12))]
+fn signed_12(number: i64) -> Option<i32>
+    ensures number { result ≡ signed_12_of number }
+    ensures in_range { IfSome result (IsSigned 12) }
+{
+    if number < -2048 || number > 2047 {
+        None
+    } else {
+        Some(number as i32)
+    }
+}
+
+// A number from 0 to a limit.
+#[tactic(auto, unfolding(crate::specs::Words::up_to))]
+fn up_to(most: u32, number: i64) -> Option<u32>
+    ensures number { result ≡ up_to_of most number }
+    ensures in_range { IfSome result (λ n. n ≤ most) }
+{
+    if number < 0 || number > i64::from(most) {
+        None
+    } else {
+        Some(number as u32)
+    }
+}
+
+/// The instruction of a row that names no address, where each number is in its range.
+#[tactic(auto, unfolding(crate::specs::Words::instruction))]
+pub(crate) fn instruction(plain: Plain, operands: &Operands) -> Option<Ins>
+    requires { HasRegisters (operands_seen operands.now) }
+    ensures instruction { result ≡ instruction_of plain (operands_seen operands.now) }
+    ensures in_range { IfSome result InRange }
+{
+    let rd = operands.rd;
+    let rs1 = operands.rs1;
+    let rs2 = operands.rs2;
+    let number = operands.given;
+    match plain {
+        Plain::Op(op) => Some(Ins::Op { op, rd, rs1, rs2 }),
+        Plain::Muldiv(op) => Some(Ins::Muldiv { op, rd, rs1, rs2 }),
+        Plain::OpImm(op) => {
+            let imm = signed_12(number)?;
+            Some(Ins::OpImm { op, rd, rs1, imm })
+        }
+        Plain::Shift(op) => {
+            let amount = up_to(31, number)? as u8;
+            Some(Ins::Shift {
+                op,
+                rd,
+                rs1,
+                amount,
+            })
+        }
+        Plain::Load(op) => {
+            let imm = signed_12(number)?;
+            Some(Ins::Load { op, rd, rs1, imm })
+        }
+        Plain::Store(op) => {
+            let imm = signed_12(number)?;
+            Some(Ins::Store { op, rs1, rs2, imm })
+        }
+        Plain::Jalr => {
+            let imm = signed_12(number)?;
+            Some(Ins::Jalr { rd, rs1, imm })
+        }
+        Plain::Lui => {
+            let imm = up_to(1_048_575, number)?;
+            Some(Ins::Lui { rd, imm })
+        }
+        Plain::Auipc => {
+            let imm = up_to(1_048_575, number)?;
+            Some(Ins::Auipc { rd, imm })
+        }
+        Plain::Csr(op) => {
+            let csr = up_to(4095, i64::from(operands.csr_number))? as u16;
+            Some(Ins::Csr {
+                op,
+                rd,
+                csr,
+                src: rs1,
+            })
+        }
+        Plain::CsrImm(op) => {
+            let csr = up_to(4095, i64::from(operands.csr_number))? as u16;
+            let src = up_to(31, number)? as u8;
+            Some(Ins::Csr { op, rd, csr, src })
+        }
+        Plain::Gt => Some(Ins::Gt { rd }),
+        Plain::Gth => Some(Ins::Gth { rd }),
+        Plain::Du => Some(Ins::Du { rs1, rs2 }),
+        Plain::Wu => Some(Ins::Wu { rs1, rs2 }),
+        Plain::Ee => Some(Ins::Ee { rs1, rs2 }),
+        Plain::De => Some(Ins::De),
+        Plain::Ecall => Some(Ins::Ecall),
+        Plain::Ebreak => Some(Ins::Ebreak),
+        Plain::Mret => Some(Ins::Mret),
+        Plain::Fence => Some(Ins::Fence { word: 0x0ff0_000f }),
+        Plain::FenceI => Some(Ins::Fence { word: 0x0000_100f }),
+        Plain::Not => Some(Ins::OpImm {
+            op: ImmOp::Xori,
+            rd,
+            rs1,
+            imm: -1,
+        }),
+        Plain::Ret => Some(Ins::Jalr {
+            rd: 0,
+            rs1: 1,
+            imm: 0,
+        }),
+    }
+}
+
+/// A number modulo 2^32.
+pub(crate) fn low_word(number: i64) -> u32
+    ensures { result ≡ low_bits 32 number }
+{
+    (number.cast_unsigned() & 0xffff_ffff) as u32
+}
+
+// The upper twenty bits of a word, rounded so that the rest is added to them with its sign.
+fn upper(v: u32) -> u32
+    ensures part { result ≡ upper_of v }
+    ensures small { result < 2 ^ 20 }
+{
+    v.wrapping_add(2048) >> 12
+}
+
+// The low twelve bits of a word, with their sign.
+fn rest(v: u32) -> i32
+    ensures part { result ≡ rest_of v }
+    ensures small { IsSigned 12 result }
+{
+    let low = (v & 0xfff) as i32;
+    if low < 2048 { low } else { low - 4096 }
+}
+
+/// The words of the two instructions that give a register the word `v`.
+#[tactic(auto, unfolding(crate::specs::Words::halves))]
+pub(crate) fn halves(alloc: Global, rd: u8, v: u32) -> Result<Vec<u32>, AllocError>
+    requires { rd < 32 }
+    ensures { IfOk result (λ words. words.items ≡ map encoded (halves_of rd v)) }
+{
+    let lui = encode(&Ins::Lui { rd, imm: upper(v) });
+    let addi = encode(&Ins::OpImm {
+        op: ImmOp::Addi,
+        rd,
+        rs1: rd,
+        imm: rest(v),
+    });
+    Ok(vec![in alloc; lui, addi]?)
+}
+
+/// The words of the instructions that give a register the word `v`, as few as serve.
+#[tactic(auto, unfolding(crate::specs::Words::load_instructions))]
+pub(crate) fn load_words(alloc: Global, rd: u8, v: u32) -> Result<Vec<u32>, AllocError>
+    requires { rd < 32 }
+    ensures { IfOk result (λ words. words.items ≡ map encoded (load_instructions rd v)) }
+{
+    let signed = v.cast_signed();
+    if signed >= -2048 && signed <= 2047 {
+        let addi = encode(&Ins::OpImm {
+            op: ImmOp::Addi,
+            rd,
+            rs1: 0,
+            imm: signed,
+        });
+        return Ok(vec![in alloc; addi]?);
+    }
+    if v % 4096 == 0 {
+        let lui = encode(&Ins::Lui { rd, imm: upper(v) });
+        return Ok(vec![in alloc; lui]?);
+    }
+    halves(alloc, rd, v)
+}
+
+/// How many instructions give a register the word `v`.
+#[tactic(auto, unfolding(crate::specs::Words::load_instructions, crate::specs::Words::halves))]
+pub(crate) fn load_size(v: u32) -> u32
+    ensures size { result ≡ length (load_instructions 0 v) }
+    ensures small { result ≤ 2 }
+{
+    let signed = v.cast_signed();
+    if (signed >= -2048 && signed <= 2047) || v % 4096 == 0 {
+        1
+    } else {
+        2
+    }
+}

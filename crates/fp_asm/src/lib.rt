@@ -1,0 +1,30 @@
+//! The assembler: from a source text to an image, or to the first fault with its line.
+//!
+//! [`assemble`] makes two passes over the lines. The first knows the places of labels and of what
+//! each line places, and the second makes the words. The mnemonics are one table of rows, and the
+//! words are those of `rv_decode`.
+#![tactic(auto)]
+
+mod assembler;
+mod build;
+mod first;
+mod forms;
+mod instruction;
+mod labels;
+mod lines;
+mod memory;
+mod names;
+mod operands;
+mod pieces;
+mod places;
+mod refusal;
+mod runs;
+mod second;
+mod size;
+mod statement;
+mod table;
+mod targets;
+mod words;
+
+pub use assembler::assemble;
+pub use refusal::{AsmNo, AsmRefused};

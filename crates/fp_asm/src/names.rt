@@ -1,0 +1,135 @@
+//! The names of registers and of control and status registers.
+ghost use Rattle.std.specs.Prelude.{◌≡◌, ◌<◌, ◌^◌, IfSome, map, option_map, find};
+ghost use Rattle.std.specs.Option.{option_copied};
+ghost use Rattle.std.specs.Str.{bytes_eq};
+ghost use Rattle.fp_asm.specs.Names.{registers, register as register_of, csrs, csr as csr_of, named};
+ghost use Rattle.fp_asm.specs.Views.{name_seen};
+
+/// A name and its number.
+type Name = (&'static [u8], u32);
+
+static REGISTERS: [Name; 65] = [
+    (b"x0", 0),
+    (b"x1", 1),
+    (b"x2", 2),
+    (b"x3", 3),
+    (b"x4", 4),
+    (b"x5", 5),
+    (b"x6", 6),
+    (b"x7", 7),
+    (b"x8", 8),
+    (b"x9", 9),
+    (b"x10", 10),
+    (b"x11", 11),
+    (b"x12", 12),
+    (b"x13", 13),
+    (b"x14", 14),
+    (b"x15", 15),
+    (b"x16", 16),
+    (b"x17", 17),
+    (b"x18", 18),
+    (b"x19", 19),
+    (b"x20", 20),
+    (b"x21", 21),
+    (b"x22", 22),
+    (b"x23", 23),
+    (b"x24", 24),
+    (b"x25", 25),
+    (b"x26", 26),
+    (b"x27", 27),
+    (b"x28", 28),
+    (b"x29", 29),
+    (b"x30", 30),
+    (b"x31", 31),
+    (b"zero", 0),
+    (b"ra", 1),
+    (b"sp", 2),
+    (b"gp", 3),
+    (b"tp", 4),
+    (b"t0", 5),
+    (b"t1", 6),
+    (b"t2", 7),
+    (b"s0", 8),
+    (b"fp", 8),
+    (b"s1", 9),
+    (b"a0", 10),
+    (b"a1", 11),
+    (b"a2", 12),
+    (b"a3", 13),
+    (b"a4", 14),
+    (b"a5", 15),
+    (b"a6", 16),
+    (b"a7", 17),
+    (b"s2", 18),
+    (b"s3", 19),
+    (b"s4", 20),
+    (b"s5", 21),
+    (b"s6", 22),
+    (b"s7", 23),
+    (b"s8", 24),
+    (b"s9", 25),
+    (b"s10", 26),
+    (b"s11", 27),
+    (b"t3", 28),
+    (b"t4", 29),
+    (b"t5", 30),
+    (b"t6", 31),
+];
+
+static CSRS: [Name; 9] = [
+    (b"mtvec", 0x305),
+    (b"mscratch", 0x340),
+    (b"mepc", 0x341),
+    (b"mcause", 0x342),
+    (b"mhartid", 0xf14),
+    (b"slots", 0x7c0),
+    (b"modes", 0x7c1),
+    (b"dregions", 0x7c2),
+    (b"iregions", 0x7c3),
+];
+
+#[tactic(auto, unfolding(crate::specs::Names::registers))]
+fn register_names() -> &'static [Name]
+    ensures { map name_seen result.now ≡ registers }
+{
+    &REGISTERS
+}
+
+#[tactic(auto, unfolding(crate::specs::Names::csrs))]
+fn csr_names() -> &'static [Name]
+    ensures { map name_seen result.now ≡ csrs }
+{
+    &CSRS
+}
+
+fn row_of(names: &'static [Name], text: &[u8]) -> Option<&'static Name>
+    ensures { option_copied result ≡ find (λ row. bytes_eq row.0.now text.now) names.now }
+{
+    names.iter().find(|row| row.0 == text)
+}
+
+#[tactic(auto, using(crate::proofs::Rows::found_number))]
+fn number_of(names: &'static [Name], text: &[u8]) -> Option<u32>
+    ensures { result ≡ named (map name_seen names.now) text.now }
+{
+    let row = row_of(names, text)?;
+    Some(row.1)
+}
+
+/// The number of a register, by its name.
+#[tactic(auto, using(crate::proofs::Rows::register_small), unfolding(crate::specs::Names::register))]
+pub(crate) fn register(text: &[u8]) -> Option<u8>
+    ensures number { result ≡ register_of text.now }
+    ensures small { IfSome result (λ n. n < 32) }
+{
+    let number = number_of(register_names(), text)?;
+    Some(number as u8)
+}
+
+/// The number of a control and status register, by its name.
+#[tactic(auto, unfolding(crate::specs::Names::csr))]
+pub(crate) fn csr(text: &[u8]) -> Option<u32>
+    ensures { result ≡ csr_of text.now }
+{
+    number_of(csr_names(), text)
+}

@@ -1,0 +1,134 @@
+//! The tokens of a line with their texts, and what stands between commas.
+ghost use Rattle.std.specs.Prelude.{◌≡◌, ◌<◌, ◌≤◌, ◌+◌, ◌^◌, IfOk, IfErr, Ok, map, length, All};
+ghost use Rattle.fp_lex.specs.Tokens.{tokens_of};
+ghost use Rattle.fp_asm.specs.Pieces.{mark as mark_of, piece as piece_of, pieces_of, pieces_or_fault, is_comma as is_comma_of, commas, operands_of};
+ghost use Rattle.fp_asm.specs.Faults.{IsStopOf};
+ghost use Rattle.fp_asm.specs.Views.{piece_seen, operand_seen};
+
+use super::refusal::{AsmNo, Stop};
+use fp_lex::{Kind, LexNo, Token, Tokens, tokens};
+use std::alloc::{AllocError, Global};
+
+/// A token, without its span.
+#[derive(Clone, Copy)]
+pub(crate) enum Piece<'a> {
+    Name { text: &'a [u8] },
+    Number { value: u32 },
+    Comma,
+    Colon,
+    Opening,
+    Closing,
+    Plus,
+    Minus,
+}
+
+fn mark<'a>(byte: u32) -> Piece<'a>
+    ensures { piece_seen result ≡ mark_of byte }
+{
+    match byte {
+        44 => Piece::Comma,
+        58 => Piece::Colon,
+        40 => Piece::Opening,
+        41 => Piece::Closing,
+        43 => Piece::Plus,
+        _ => Piece::Minus,
+    }
+}
+
+#[tactic(auto, unfolding(crate::specs::Pieces::piece))]
+fn piece_at<'a>(line: &'a [u8], token: &Token) -> Piece<'a>
+    requires order { token.now.start ≤ token.now.end }
+    requires inside { token.now.end ≤ length line.now }
+    ensures { piece_seen result ≡ piece_of line.now token.now }
+{
+    match token.kind {
+        Kind::Name => Piece::Name {
+            text: &line[token.start as usize..token.end as usize],
+        },
+        Kind::Number => Piece::Number { value: token.value },
+        Kind::Mark => mark(token.value),
+    }
+}
+
+#[tactic(auto, unfolding(crate::specs::Pieces::pieces_of))]
+fn lexed(alloc: Global, line: &[u8]) -> Result<Tokens, Stop>
+    requires { length line.now < 2 ^ 32 }
+    ensures pieces { IfOk result (λ ts. pieces_of line.now ≡ Ok (map (piece_of line.now) ts)) }
+    ensures spans { IfOk result (All (λ t. (t.start ≤ t.end) × (t.end ≤ length line.now))) }
+    ensures few { IfOk result (λ ts. length ts ≤ 64) }
+    ensures refused { IfErr result (IsStopOf (pieces_of line.now)) }
+{
+    match tokens(alloc, line) {
+        Ok(tokens) => Ok(tokens),
+        Err(LexNo::NoMemory) => Err(Stop::NoMemory),
+        Err(_) => Err(Stop::Fault { code: AsmNo::Lex }),
+    }
+}
+
+fn pieces_at<'a>(
+    alloc: Global,
+    line: &'a [u8],
+    tokens: &[Token],
+) -> Result<Vec<Piece<'a>>, AllocError>
+    requires { All (λ t. (t.start ≤ t.end) × (t.end ≤ length line.now)) tokens.now }
+    ensures { IfOk result (λ ps. map piece_seen ps.items ≡ map (piece_of line.now) tokens.now) }
+{
+    let mut list = Vec::with_capacity(alloc, tokens.len())?;
+    for token in tokens {
+        list.push(piece_at(line, token))?;
+    }
+    Ok(list)
+}
+
+/// The pieces of a line.
+pub(crate) fn pieces<'a>(alloc: Global, line: &'a [u8]) -> Result<Vec<Piece<'a>>, Stop>
+    requires { length line.now < 2 ^ 32 }
+    ensures pieces { IfOk result (λ ps. pieces_of line.now ≡ Ok (map piece_seen ps.items)) }
+    ensures few { IfOk result (λ ps. length ps.items ≤ 64) }
+    ensures refused { IfErr result (IsStopOf (pieces_of line.now)) }
+{
+    let tokens = lexed(alloc, line)?;
+    Ok(pieces_at(alloc, line, tokens.as_slice())?)
+}
+
+fn is_comma(piece: &Piece) -> bool
+    ensures { result ≡ is_comma_of (piece_seen piece.now) }
+{
+    matches!(piece, Piece::Comma)
+}
+
+#[tactic(auto, using(crate::proofs::CommaByComma::commas_start, crate::proofs::CommaByComma::commas_on, crate::proofs::CommaByComma::commas_push, crate::proofs::CommaByComma::commas_last))]
+fn between_commas<'p, 'a>(
+    alloc: Global,
+    pieces: &'p [Piece<'a>],
+) -> Result<Vec<&'p [Piece<'a>]>, AllocError>
+    ensures operands { IfOk result (λ os. map operand_seen os.items ≡ commas (map piece_seen pieces.now)) }
+    ensures few { IfOk result (λ os. length os.items ≤ length pieces.now + 1) }
+{
+    let mut list = Vec::new(alloc);
+    let mut start = 0;
+    for i in 0..pieces.len() {
+        if !is_comma(&pieces[i]) {
+            continue;
+        }
+        list.push(&pieces[start..i])?;
+        start = i + 1;
+    }
+    list.push(&pieces[start..])?;
+    Ok(list)
+}
+
+/// The operands: what stands between commas, and none where there is nothing.
+#[tactic(auto, unfolding(crate::specs::Pieces::operands_of))]
+pub(crate) fn operands<'p, 'a>(
+    alloc: Global,
+    pieces: &'p [Piece<'a>],
+) -> Result<Vec<&'p [Piece<'a>]>, AllocError>
+    ensures operands { IfOk result (λ os. map operand_seen os.items ≡ operands_of (map piece_seen pieces.now)) }
+    ensures few { IfOk result (λ os. length os.items ≤ length pieces.now + 1) }
+{
+    match pieces {
+        [] => Ok(Vec::new(alloc)),
+        [_, ..] => between_commas(alloc, pieces),
+    }
+}

@@ -1,0 +1,83 @@
+//! The addresses that are placed.
+ghost use Rattle.std.specs.Prelude.{◌≡◌, ◌≤◌, IfErr, OnOk, Ok, not};
+ghost use Rattle.std.specs.List.{list_all};
+ghost use Rattle.fp_asm.specs.First.{is_inside as is_inside_of, addresses, is_taken, with_taken, take_places as take_places_of};
+ghost use Rattle.fp_asm.specs.Faults.{IsStopOf};
+
+use super::refusal::{AsmNo, Stop};
+use std::alloc::AllocError;
+use std::collections::BTreeSet;
+
+fn is_inside(a: u32) -> bool
+    ensures { result ≡ is_inside_of a }
+{
+    a < 16_384 || (0x2000_0000 <= a && a < 0x2000_4000)
+}
+
+// Whether the scratchpads have n words from a place on.
+#[tactic(auto, using(crate::proofs::WordByWord::addresses_here, crate::proofs::WordByWord::addresses_end))]
+fn are_inside(place: u32, n: u32) -> bool
+    ensures { result ≡ list_all is_inside_of (addresses place n) }
+{
+    let mut a = place;
+    let mut left = n;
+    while left != 0 {
+        if !is_inside(a) {
+            return false;
+        }
+        a = a.wrapping_add(4);
+        left -= 1;
+    }
+    true
+}
+
+// Whether none of n words from a place on was placed.
+#[tactic(auto, using(crate::proofs::WordByWord::addresses_here, crate::proofs::WordByWord::addresses_end))]
+fn are_free(taken: &BTreeSet<u32>, place: u32, n: u32) -> bool
+    ensures { result ≡ list_all (λ a. not (is_taken taken.now.keys a)) (addresses place n) }
+{
+    let mut a = place;
+    let mut left = n;
+    while left != 0 {
+        if taken.contains(&a) {
+            return false;
+        }
+        a = a.wrapping_add(4);
+        left -= 1;
+    }
+    true
+}
+
+#[tactic(auto, using(crate::proofs::WordByWord::addresses_here, crate::proofs::WordByWord::addresses_end))]
+fn take(taken: &mut BTreeSet<u32>, place: u32, n: u32) -> Result<(), AllocError>
+    ensures { OnOk result (taken.new.keys ≡ with_taken taken.old.keys (addresses place n)) }
+{
+    let mut a = place;
+    let mut left = n;
+    while left != 0 {
+        taken.insert(a)?;
+        a = a.wrapping_add(4);
+        left -= 1;
+    }
+    Ok(())
+}
+
+/// Places n words from a place on.
+#[tactic(auto, unfolding(crate::specs::First::take_places))]
+pub(crate) fn take_places(taken: &mut BTreeSet<u32>, place: u32, n: u32) -> Result<(), Stop>
+    ensures ok { OnOk result (take_places_of taken.old.keys (addresses place n) ≡ Ok taken.new.keys) }
+    ensures refused { IfErr result (IsStopOf (take_places_of taken.old.keys (addresses place n))) }
+{
+    if !are_inside(place, n) {
+        return Err(Stop::Fault {
+            code: AsmNo::OutsideMemory,
+        });
+    }
+    if !are_free(taken, place, n) {
+        return Err(Stop::Fault {
+            code: AsmNo::Overlap,
+        });
+    }
+    take(taken, place, n)?;
+    Ok(())
+}

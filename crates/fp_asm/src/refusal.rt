@@ -1,0 +1,101 @@
+//! Why a source was refused.
+ghost use Rattle.std.specs.Prelude.{◌≡◌};
+
+use std::alloc::{AllocError, AllocFailed};
+use thiserror::Error;
+
+/// What is wrong with a source. The numbers are shown to the user.
+#[derive(Clone, Copy, Debug, PartialEq, Eq, Error)]
+pub enum AsmNo {
+    /// More than 1,048,576 bytes.
+    #[error("the source is too long")]
+    TooLong = 1,
+    /// The line has no tokens: a bad byte, a bad number, or more than 64 tokens.
+    #[error("a bad byte, a bad number or too many tokens")]
+    Lex = 2,
+    /// The name before the operands is no mnemonic.
+    #[error("an unknown name")]
+    UnknownName = 3,
+    /// The operands' number or form is wrong, or what follows the labels begins with no name.
+    #[error("wrong operands")]
+    Operands = 4,
+    /// A number or a way is outside its range.
+    #[error("a number out of range")]
+    OutOfRange = 5,
+    /// A label that was there before.
+    #[error("a label that is there already")]
+    DoubleLabel = 6,
+    /// A label that is nowhere.
+    #[error("an unknown label")]
+    NoLabel = 7,
+    /// A place, a size or a branch's address that is no multiple of four.
+    #[error("no multiple of four")]
+    Misaligned = 8,
+    /// A word outside the scratchpads.
+    #[error("a word outside the scratchpads")]
+    OutsideMemory = 9,
+    /// A word where one was placed before.
+    #[error("a word where there is one already")]
+    Overlap = 10,
+    /// More than 16 runs of placed words.
+    #[error("more than 16 segments")]
+    TooManySegments = 11,
+}
+
+/// Why a source has no image.
+#[derive(Clone, Copy, Debug, PartialEq, Eq, Error)]
+pub enum AsmRefused {
+    /// The first fault. Lines count from 1; a fault of the whole source has line 0.
+    #[error("line {line}: {code}")]
+    Fault { line: u32, code: AsmNo },
+    /// Memory was refused.
+    #[error("out of memory")]
+    NoMemory,
+}
+
+/// What stops the work on a line.
+#[derive(Clone, Copy, Debug, PartialEq, Eq)]
+pub(crate) enum Stop {
+    Fault { code: AsmNo },
+    NoMemory,
+}
+
+impl From<AsmNo> for Stop {
+    ghost use Rattle.fp_asm.specs.declared.refusal.Stop.{Stop};
+
+    ghost from_gives = { λ code stop. stop ≡ Stop.Fault code };
+
+    fn from(code: AsmNo) -> Stop {
+        Stop::Fault { code }
+    }
+}
+
+impl<T: Drop> From<AllocFailed<T>> for Stop {
+    ghost use Rattle.fp_asm.specs.declared.refusal.Stop.{Stop};
+
+    ghost from_gives = { λ _ stop. stop ≡ Stop.NoMemory };
+
+    fn from(_failed: AllocFailed<T>) -> Stop {
+        Stop::NoMemory
+    }
+}
+
+impl From<AllocError> for Stop {
+    ghost use Rattle.fp_asm.specs.declared.refusal.Stop.{Stop};
+
+    ghost from_gives = { λ _ stop. stop ≡ Stop.NoMemory };
+
+    fn from(_failed: AllocError) -> Stop {
+        Stop::NoMemory
+    }
+}
+
+impl From<AllocError> for AsmRefused {
+    ghost use Rattle.fp_asm.specs.declared.refusal.AsmRefused.{AsmRefused};
+
+    ghost from_gives = { λ _ refused. refused ≡ AsmRefused.NoMemory };
+
+    fn from(_failed: AllocError) -> AsmRefused {
+        AsmRefused::NoMemory
+    }
+}

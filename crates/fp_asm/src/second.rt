@@ -1,0 +1,106 @@
+//! The second pass: words.
+ghost use Rattle.std.specs.Prelude.{◌≡◌, ◌≤◌, ◌<◌, ◌^◌, ◌%◌, IfOk, IfErr, IfSome, OnOk, Ok, option_map, map, length, All};
+ghost use Rattle.fp_asm.specs.Second.{second_line, second_pass as second_pass_of, written_by, after_labels};
+ghost use Rattle.fp_asm.specs.Statements.{statement_of, checked};
+ghost use Rattle.fp_asm.specs.Operands.{HasRegisters};
+ghost use Rattle.fp_asm.specs.Faults.{IsStopOf, IsFaultOf};
+ghost use Rattle.fp_asm.specs.Views.{piece_seen, labels_seen};
+ghost use Rattle.fp_asm.specs.Seen.{statement_seen, operands_seen};
+
+use super::labels::{Labels, skip_labels};
+use super::memory::write_words;
+use super::pieces::pieces;
+use super::refusal::{AsmRefused, Stop};
+use super::size::place_after;
+use super::statement::{Statement, statement_after};
+use super::words::words_of;
+use std::alloc::Global;
+use std::collections::BTreeMap;
+
+/// What the second pass knows after some lines: the place, and the words by address.
+#[derive(Drop)]
+pub(crate) struct Second {
+    place: u32,
+    pub(crate) memory: BTreeMap<u32, u32>,
+}
+
+impl Second {
+    ghost use Rattle.fp_asm.specs.Second.{nothing_written};
+    ghost use Rattle.fp_asm.specs.Passed.{written_seen};
+
+    pub(crate) fn new(alloc: Global) -> Second
+        ensures { written_seen result ≡ nothing_written }
+    {
+        Second {
+            place: 0,
+            memory: BTreeMap::new(alloc),
+        }
+    }
+
+    // Writes the words of a statement.
+    #[tactic(auto, using(crate::proofs::Checks::after_aligned), unfolding(crate::specs::Second::written_by))]
+    fn write(
+        &mut self,
+        alloc: Global,
+        labels: &Labels,
+        statement: &Option<Statement>,
+    ) -> Result<(), Stop>
+        requires registers { IfSome statement.now (λ s. HasRegisters (operands_seen s.operands)) }
+        requires checked { IfSome statement.now (λ s. checked (statement_seen s) ≡ Ok tt) }
+        requires few { IfSome statement.now (λ s. length s.values.items ≤ 64) }
+        requires aligned { self.old.place % 4 ≡ 0 }
+        ensures ok { OnOk result (written_by (labels_seen labels.now) (written_seen self.old) (option_map statement_seen statement.now) ≡ Ok (written_seen self.new)) }
+        ensures aligned { OnOk result (self.new.place % 4 ≡ 0) }
+        ensures refused { IfErr result (IsStopOf (written_by (labels_seen labels.now) (written_seen self.old) (option_map statement_seen statement.now))) }
+    {
+        if let Some(statement) = statement {
+            let words = words_of(alloc, labels, self.place, statement)?;
+            write_words(&mut self.memory, self.place, words.as_slice())?;
+            self.place = place_after(self.place, statement);
+        }
+        Ok(())
+    }
+
+    #[tactic(auto, unfolding(crate::specs::Second::second_line))]
+    fn line(&mut self, alloc: Global, labels: &Labels, line: &[u8]) -> Result<(), Stop>
+        requires short { length line.now < 2 ^ 32 }
+        requires aligned { self.old.place % 4 ≡ 0 }
+        ensures ok { OnOk result (second_line (labels_seen labels.now) (written_seen self.old) line.now ≡ Ok (written_seen self.new)) }
+        ensures aligned { OnOk result (self.new.place % 4 ≡ 0) }
+        ensures refused { IfErr result (IsStopOf (second_line (labels_seen labels.now) (written_seen self.old) line.now)) }
+    {
+        let pieces = pieces(alloc, line)?;
+        let n = skip_labels(&pieces);
+        let statement = statement_after(alloc, &pieces[n..])?;
+        self.write(alloc, labels, &statement)
+    }
+
+    /// The second pass over the lines.
+    #[tactic(auto, using(crate::proofs::PassByPass::second_here, crate::proofs::PassByPass::second_end, crate::proofs::PassByPass::second_fault))]
+    pub(crate) fn pass(
+        &mut self,
+        alloc: Global,
+        labels: &Labels,
+        lines: &[&[u8]],
+    ) -> Result<(), AsmRefused>
+        requires short { All (λ l. length l.now < 2 ^ 32) lines.now }
+        requires few { length lines.now < 2 ^ 31 }
+        requires aligned { self.old.place % 4 ≡ 0 }
+        ensures ok { OnOk result (second_pass_of 1 (labels_seen labels.now) (written_seen self.old) (map (λ l. l.now) lines.now) ≡ Ok (written_seen self.new)) }
+        ensures refused { IfErr result (IsFaultOf (second_pass_of 1 (labels_seen labels.now) (written_seen self.old) (map (λ l. l.now) lines.now))) }
+    {
+        for (i, line) in lines.iter().enumerate() {
+            match self.line(alloc, labels, *line) {
+                Ok(()) => {}
+                Err(Stop::NoMemory) => return Err(AsmRefused::NoMemory),
+                Err(Stop::Fault { code }) => {
+                    return Err(AsmRefused::Fault {
+                        line: i as u32 + 1,
+                        code,
+                    });
+                }
+            }
+        }
+        Ok(())
+    }
+}

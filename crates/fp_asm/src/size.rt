@@ -1,0 +1,46 @@
+//! How many words a statement places, and the place after it.
+ghost use Rattle.std.specs.Prelude.{◌≡◌, ◌≤◌, ◌<◌, ◌%◌, ◌^◌, Ok, length, nat_abs};
+ghost use Rattle.fp_asm.specs.Statements.{checked, size_of, place_after as place_after_of};
+ghost use Rattle.fp_asm.specs.Seen.{statement_seen};
+
+use super::instruction::{load_size, low_word};
+use super::operands::Operands;
+use super::statement::Statement;
+use super::table::Makes;
+
+fn magnitude(operands: &Operands) -> u64
+    ensures { result ≡ nat_abs operands.now.given }
+{
+    operands.given.unsigned_abs()
+}
+
+/// How many words the statement places.
+#[tactic(auto, using(crate::proofs::Checks::values_count), unfolding(crate::specs::Statements::size_of))]
+pub(crate) fn size(statement: &Statement) -> u32
+    requires checked { checked (statement_seen statement.now) ≡ Ok tt }
+    requires few { length statement.now.values.items ≤ 64 }
+    ensures size { result ≡ size_of (statement_seen statement.now) }
+    ensures small { result ≤ 4096 }
+{
+    match statement.makes {
+        Makes::Li => load_size(low_word(statement.operands.given)),
+        Makes::La => 2,
+        Makes::Words => statement.values.len() as u32,
+        Makes::Org => 0,
+        Makes::Space => (magnitude(&statement.operands) / 4) as u32,
+        _ => 1,
+    }
+}
+
+/// The place after the statement.
+#[tactic(auto, unfolding(crate::specs::Statements::place_after))]
+pub(crate) fn place_after(place: u32, statement: &Statement) -> u32
+    requires checked { checked (statement_seen statement.now) ≡ Ok tt }
+    requires few { length statement.now.values.items ≤ 64 }
+    ensures place { result ≡ place_after_of place (statement_seen statement.now) }
+{
+    match statement.makes {
+        Makes::Org => magnitude(&statement.operands) as u32,
+        _ => place.wrapping_add(4 * size(statement)),
+    }
+}

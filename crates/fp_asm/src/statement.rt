@@ -1,0 +1,157 @@
+//! The statement of a line.
+ghost use Rattle.std.specs.Prelude.{◌≡◌, ◌+◌, ◌≤◌, IfOk, IfErr, IfSome, Ok, option_map, map, length};
+ghost use Rattle.fp_asm.specs.Operands.{HasRegisters};
+ghost use Rattle.fp_asm.specs.Statements.{is_words as is_words_of, some_targets as some_targets_of, statement_in as statement_in_of, aligned_to as aligned_to_of, checked, statement_named, statement_of};
+ghost use Rattle.fp_asm.specs.Faults.{IsStopOf};
+ghost use Rattle.fp_asm.specs.Views.{piece_seen, operand_seen, mnemonic_seen};
+ghost use Rattle.fp_asm.specs.Seen.{target_seen, operands_seen, statement_seen};
+
+use super::forms::{fill_all, nothing_given, targets};
+use super::operands::{Operands, Target};
+use super::pieces::{Piece, operands};
+use super::refusal::{AsmNo, Stop};
+use super::table::{Makes, Row, mnemonic};
+use std::alloc::{AllocError, Global};
+
+/// What a mnemonic makes, with its operands. The values are those of `.word`.
+#[derive(Drop)]
+pub(crate) struct Statement<'a> {
+    pub(crate) makes: Makes,
+    pub(crate) operands: Operands<'a>,
+    pub(crate) values: Vec<Target<'a>>,
+}
+
+fn is_words(makes: Makes) -> bool
+    ensures { result ≡ is_words_of makes }
+{
+    matches!(makes, Makes::Words)
+}
+
+// One operand or more, each as a target.
+#[tactic(auto, unfolding(crate::specs::Statements::some_targets))]
+fn some_targets<'a>(
+    alloc: Global,
+    operands: &[&[Piece<'a>]],
+) -> Result<Option<Vec<Target<'a>>>, AllocError>
+    ensures targets { IfOk result (λ found. option_map (λ v. map target_seen v.items) found ≡ some_targets_of (map operand_seen operands.now)) }
+    ensures few { IfOk result (λ found. IfSome found (λ v. length v.items ≡ length operands.now)) }
+{
+    match operands {
+        [] => Ok(None),
+        [_, ..] => targets(alloc, operands),
+    }
+}
+
+// The statement of a row with its operands, where their number and form are right.
+#[tactic(auto, unfolding(crate::specs::Statements::statement_in))]
+fn statement_in<'a>(
+    alloc: Global,
+    row: &Row,
+    operands: &[&[Piece<'a>]],
+) -> Result<Option<Statement<'a>>, AllocError>
+    ensures statement { IfOk result (λ s. option_map statement_seen s ≡ statement_in_of (mnemonic_seen row.now) (map operand_seen operands.now)) }
+    ensures registers { IfOk result (λ s. IfSome s (λ s. HasRegisters (operands_seen s.operands))) }
+    ensures few { IfOk result (λ s. IfSome s (λ s. length s.values.items ≤ length operands.now)) }
+{
+    let makes = row.makes;
+    if is_words(makes) {
+        let Some(values) = some_targets(alloc, operands)? else {
+            return Ok(None);
+        };
+        return Ok(Some(Statement {
+            makes,
+            operands: nothing_given(),
+            values,
+        }));
+    }
+    let Some(operands) = fill_all(row.form, operands, &nothing_given()) else {
+        return Ok(None);
+    };
+    Ok(Some(Statement {
+        makes,
+        operands,
+        values: Vec::new(alloc),
+    }))
+}
+
+// A number from 0 to a limit that must be a multiple of four.
+#[tactic(auto, unfolding(crate::specs::Statements::aligned_to))]
+fn aligned_to(most: u32, number: i64) -> Result<(), AsmNo>
+    ensures { result ≡ aligned_to_of most number }
+{
+    if number < 0 || number > i64::from(most) {
+        return Err(AsmNo::OutOfRange);
+    }
+    if number.unsigned_abs() % 4 != 0 {
+        return Err(AsmNo::Misaligned);
+    }
+    Ok(())
+}
+
+// The checks of a number that come before any label is known.
+#[tactic(auto, unfolding(crate::specs::Statements::checked))]
+fn check(statement: &Statement) -> Result<(), AsmNo>
+    ensures { result ≡ checked (statement_seen statement.now) }
+{
+    let number = statement.operands.given;
+    match statement.makes {
+        Makes::Org => aligned_to(4_294_967_292, number),
+        Makes::Space => aligned_to(16_384, number),
+        Makes::Li => {
+            if number < -2_147_483_648 || number > 4_294_967_295 {
+                Err(AsmNo::OutOfRange)
+            } else {
+                Ok(())
+            }
+        }
+        _ => Ok(()),
+    }
+}
+
+// The statement of a name and what follows it.
+#[tactic(auto, unfolding(crate::specs::Statements::statement_named))]
+fn named<'a>(alloc: Global, text: &[u8], pieces: &[Piece<'a>]) -> Result<Statement<'a>, Stop>
+    ensures statement { IfOk result (λ s. statement_named text.now (map piece_seen pieces.now) ≡ Ok (statement_seen s)) }
+    ensures registers { IfOk result (λ s. HasRegisters (operands_seen s.operands)) }
+    ensures checked { IfOk result (λ s. checked (statement_seen s) ≡ Ok tt) }
+    ensures few { IfOk result (λ s. length s.values.items ≤ length pieces.now + 1) }
+    ensures refused { IfErr result (IsStopOf (statement_named text.now (map piece_seen pieces.now))) }
+{
+    let Some(row) = mnemonic(text) else {
+        return Err(Stop::Fault {
+            code: AsmNo::UnknownName,
+        });
+    };
+    let operands = operands(alloc, pieces)?;
+    let Some(statement) = statement_in(alloc, row, operands.as_slice())? else {
+        return Err(Stop::Fault {
+            code: AsmNo::Operands,
+        });
+    };
+    check(&statement)?;
+    Ok(statement)
+}
+
+/// The statement that follows the labels, where there is one.
+#[tactic(auto, unfolding(crate::specs::Statements::statement_of))]
+pub(crate) fn statement_after<'a>(
+    alloc: Global,
+    pieces: &[Piece<'a>],
+) -> Result<Option<Statement<'a>>, Stop>
+    ensures statement { IfOk result (λ s. statement_of (map piece_seen pieces.now) ≡ Ok (option_map statement_seen s)) }
+    ensures registers { IfOk result (λ s. IfSome s (λ s. HasRegisters (operands_seen s.operands))) }
+    ensures checked { IfOk result (λ s. IfSome s (λ s. checked (statement_seen s) ≡ Ok tt)) }
+    ensures few { IfOk result (λ s. IfSome s (λ s. length s.values.items ≤ length pieces.now)) }
+    ensures refused { IfErr result (IsStopOf (statement_of (map piece_seen pieces.now))) }
+{
+    match pieces {
+        [] => Ok(None),
+        [Piece::Name { text }, others @ ..] => {
+            let statement = named(alloc, *text, others)?;
+            Ok(Some(statement))
+        }
+        _ => Err(Stop::Fault {
+            code: AsmNo::Operands,
+        }),
+    }
+}

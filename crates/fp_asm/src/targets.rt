@@ -1,0 +1,78 @@
+//! Targets as words.
+ghost use Rattle.std.specs.Prelude.{◌≡◌, IfOk, IfErr, Ok, map, pos, neg_ℤ};
+ghost use Rattle.fp_asm.specs.First.{place_of as place_of_label};
+ghost use Rattle.fp_asm.specs.Second.{resolved, all_resolved, fits_word as fits_word_of};
+ghost use Rattle.std.specs.List.{list_all};
+ghost use Rattle.fp_asm.specs.Faults.{IsStopOf};
+ghost use Rattle.fp_asm.specs.Views.{labels_seen};
+ghost use Rattle.fp_asm.specs.Seen.{target_seen};
+
+use super::instruction::low_word;
+use super::labels::Labels;
+use super::operands::Target;
+use super::refusal::{AsmNo, Stop};
+use std::alloc::Global;
+
+// The place of a label.
+#[tactic(auto, using(crate::proofs::LabelByLabel::place_seen))]
+fn place_of(labels: &Labels, name: &[u8]) -> Option<u32>
+    ensures { result ≡ place_of_label (labels_seen labels.now) name.now }
+{
+    labels.get(name).copied()
+}
+
+/// A target as a word, modulo 2^32.
+#[tactic(auto, unfolding(crate::specs::Second::resolved))]
+pub(crate) fn resolve(labels: &Labels, target: &Target) -> Result<u32, AsmNo>
+    ensures { result ≡ resolved (labels_seen labels.now) (target_seen target.now) }
+{
+    match target {
+        Target::Plain { number } => Ok(low_word(*number)),
+        Target::Label { name, plus } => match place_of(labels, *name) {
+            Some(place) => Ok(place.wrapping_add(low_word(*plus))),
+            None => Err(AsmNo::NoLabel),
+        },
+    }
+}
+
+/// Each target as a word.
+#[tactic(auto, using(crate::proofs::TargetByTarget::resolved_start, crate::proofs::TargetByTarget::resolved_more, crate::proofs::TargetByTarget::resolved_fault, crate::proofs::TargetByTarget::resolved_end))]
+pub(crate) fn resolve_all(
+    alloc: Global,
+    labels: &Labels,
+    targets: &[Target],
+) -> Result<Vec<u32>, Stop>
+    ensures words { IfOk result (λ words. all_resolved (labels_seen labels.now) (map target_seen targets.now) ≡ Ok words.items) }
+    ensures refused { IfErr result (IsStopOf (all_resolved (labels_seen labels.now) (map target_seen targets.now))) }
+{
+    let mut list = Vec::with_capacity(alloc, targets.len())?;
+    for target in targets {
+        let word = resolve(labels, target)?;
+        list.push(word)?;
+    }
+    Ok(list)
+}
+
+/// Whether a word holds the target.
+pub(crate) fn fits_word(target: &Target) -> bool
+    ensures { result ≡ fits_word_of (target_seen target.now) }
+{
+    match target {
+        Target::Plain { number } => -2_147_483_648 <= *number && *number <= 4_294_967_295,
+        Target::Label { .. } => true,
+    }
+}
+
+fn each_fits(targets: &[Target]) -> bool
+    ensures { result ≡ list_all (λ target. fits_word_of (target_seen target)) targets.now }
+{
+    targets.iter().all(|target| fits_word(target))
+}
+
+/// Whether a word holds each target.
+#[tactic(auto, using(crate::proofs::TargetByTarget::all_fit))]
+pub(crate) fn all_fit(targets: &[Target]) -> bool
+    ensures { result ≡ list_all fits_word_of (map target_seen targets.now) }
+{
+    each_fits(targets)
+}

@@ -1,0 +1,153 @@
+//! The words that a statement makes.
+ghost use Rattle.std.specs.Prelude.{◌≡◌, ◌≤◌, ◌<◌, ◌%◌, ◌^◌, IfOk, IfErr, Ok, Err, map, length, pos, neg_ℤ, ◌∷◌, [], replicate, ◌/◌, nat_abs, ◌≤ℤ◌};
+ghost use Rattle.rv_decode.specs.Encoding.{encoded};
+ghost use Rattle.rv_decode.specs.Range.{IsEven};
+ghost use Rattle.rv_decode.specs.declared.instruction.Ins.TheVariants as made;
+ghost use Rattle.fp_asm.specs.Operands.{HasRegisters};
+ghost use Rattle.fp_asm.specs.Statements.{checked};
+ghost use Rattle.fp_asm.specs.Second.{way as way_of, jump as jump_of, words_of as words_of_statement, plain_word, branch_word, jal_word, address_words, value_words};
+ghost use Rattle.fp_asm.specs.Faults.{IsStopOf};
+ghost use Rattle.fp_asm.specs.Views.{labels_seen};
+ghost use Rattle.fp_asm.specs.Seen.{target_seen, operands_seen, statement_seen};
+
+use super::instruction::{halves, instruction, load_words, low_word};
+use super::labels::Labels;
+use super::operands::{Operands, Target};
+use super::refusal::{AsmNo, Stop};
+use super::size::size;
+use super::statement::Statement;
+use super::table::{Makes, Plain};
+use super::targets::{all_fit, fits_word, resolve, resolve_all};
+use rv_decode::{BranchOp, Ins, encode};
+use std::alloc::Global;
+
+fn way(place: u32, to: u32) -> i32
+    ensures { result ≡ way_of place to }
+{
+    to.wrapping_sub(place).cast_signed()
+}
+
+// The way from a place to an address, which must be in a range and lead to a multiple of four.
+#[tactic(auto, using(crate::proofs::Ways::way_even), unfolding(crate::specs::Second::jump))]
+fn jump(low: i32, high: i32, place: u32, to: u32) -> Result<i32, AsmNo>
+    requires { place % 4 ≡ 0 }
+    ensures way { result ≡ jump_of low high place to }
+    ensures within { IfOk result (λ off. (low ≤ℤ off) × (off ≤ℤ high)) }
+    ensures even { IfOk result IsEven }
+{
+    let off = way(place, to);
+    if off < low || off > high {
+        return Err(AsmNo::OutOfRange);
+    }
+    if to % 4 != 0 {
+        return Err(AsmNo::Misaligned);
+    }
+    Ok(off)
+}
+
+#[tactic(auto, unfolding(crate::specs::Second::plain_word))]
+fn plain(plain: Plain, operands: &Operands) -> Result<u32, AsmNo>
+    requires { HasRegisters (operands_seen operands.now) }
+    ensures { result ≡ plain_word plain (operands_seen operands.now) }
+{
+    match instruction(plain, operands) {
+        Some(ins) => Ok(encode(&ins)),
+        None => Err(AsmNo::OutOfRange),
+    }
+}
+
+#[tactic(auto, unfolding(crate::specs::Second::branch_word))]
+fn branch(op: BranchOp, labels: &Labels, place: u32, operands: &Operands) -> Result<u32, AsmNo>
+    requires registers { HasRegisters (operands_seen operands.now) }
+    requires aligned { place % 4 ≡ 0 }
+    ensures { result ≡ branch_word op (labels_seen labels.now) place (operands_seen operands.now) }
+{
+    let to = resolve(labels, &operands.target)?;
+    let off = jump(-4096, 4094, place, to)?;
+    Ok(encode(&Ins::Branch {
+        op,
+        rs1: operands.rs1,
+        rs2: operands.rs2,
+        off,
+    }))
+}
+
+#[tactic(auto, unfolding(crate::specs::Second::jal_word))]
+fn jal(labels: &Labels, place: u32, operands: &Operands) -> Result<u32, AsmNo>
+    requires registers { HasRegisters (operands_seen operands.now) }
+    requires aligned { place % 4 ≡ 0 }
+    ensures { result ≡ jal_word (labels_seen labels.now) place (operands_seen operands.now) }
+{
+    let to = resolve(labels, &operands.target)?;
+    let off = jump(-1_048_576, 1_048_574, place, to)?;
+    Ok(encode(&Ins::Jal {
+        rd: operands.rd,
+        off,
+    }))
+}
+
+#[tactic(auto, unfolding(crate::specs::Second::address_words))]
+fn address(alloc: Global, labels: &Labels, operands: &Operands) -> Result<Vec<u32>, Stop>
+    requires { HasRegisters (operands_seen operands.now) }
+    ensures words { IfOk result (λ words. address_words (labels_seen labels.now) (operands_seen operands.now) ≡ Ok words.items) }
+    ensures refused { IfErr result (IsStopOf (address_words (labels_seen labels.now) (operands_seen operands.now))) }
+{
+    let v = resolve(labels, &operands.target)?;
+    if !fits_word(&operands.target) {
+        return Err(Stop::Fault {
+            code: AsmNo::OutOfRange,
+        });
+    }
+    Ok(halves(alloc, operands.rd, v)?)
+}
+
+#[tactic(auto, unfolding(crate::specs::Second::value_words))]
+fn values(alloc: Global, labels: &Labels, targets: &[Target]) -> Result<Vec<u32>, Stop>
+    ensures words { IfOk result (λ words. value_words (labels_seen labels.now) (map target_seen targets.now) ≡ Ok words.items) }
+    ensures refused { IfErr result (IsStopOf (value_words (labels_seen labels.now) (map target_seen targets.now))) }
+{
+    let words = resolve_all(alloc, labels, targets)?;
+    if !all_fit(targets) {
+        return Err(Stop::Fault {
+            code: AsmNo::OutOfRange,
+        });
+    }
+    Ok(words)
+}
+
+/// The words that a statement makes at a place.
+#[tactic(auto, unfolding(crate::specs::Second::words_of))]
+pub(crate) fn words_of(
+    alloc: Global,
+    labels: &Labels,
+    place: u32,
+    statement: &Statement,
+) -> Result<Vec<u32>, Stop>
+    requires registers { HasRegisters (operands_seen statement.now.operands) }
+    requires checked { checked (statement_seen statement.now) ≡ Ok tt }
+    requires few { length statement.now.values.items ≤ 64 }
+    requires aligned { place % 4 ≡ 0 }
+    ensures words { IfOk result (λ words. words_of_statement (labels_seen labels.now) place (statement_seen statement.now) ≡ Ok words.items) }
+    ensures refused { IfErr result (IsStopOf (words_of_statement (labels_seen labels.now) place (statement_seen statement.now))) }
+{
+    let operands = &statement.operands;
+    match statement.makes {
+        Makes::Plain(makes) => {
+            let word = plain(makes, operands)?;
+            Ok(vec![in alloc; word]?)
+        }
+        Makes::Branch(op) => {
+            let word = branch(op, labels, place, operands)?;
+            Ok(vec![in alloc; word]?)
+        }
+        Makes::Jal => {
+            let word = jal(labels, place, operands)?;
+            Ok(vec![in alloc; word]?)
+        }
+        Makes::Li => Ok(load_words(alloc, operands.rd, low_word(operands.given))?),
+        Makes::La => address(alloc, labels, operands),
+        Makes::Words => values(alloc, labels, statement.values.as_slice()),
+        Makes::Org => Ok(Vec::new(alloc)),
+        Makes::Space => Ok(vec![in alloc; 0; size(statement) as usize]?),
+    }
+}

@@ -1,0 +1,33 @@
+-- The words of the kinds of port that this crate has.
+use Rattle.std.specs.Prelude.{ℕ, ◌/◌, ◌%◌, List, [], Option, option_map, unwrap_or, find, nat_le}
+use Rattle.fp_ports.specs.declared.feeds.Feed.{Feed}
+
+-- the word that was fed for a cycle, if one was. Of the feeds, the newest first, the first one at or before the cycle counts
+abbrev pub fed_word : List Feed → ℕ → Option ℕ
+fed_word feeds c = option_map (λ feed. feed.word) (find (λ feed. nat_le feed.at c) feeds)
+
+-- a port that holds the fed word
+pub record Held : Type 0 where
+  pub feeds : List Feed
+  pub latch : ℕ
+
+-- nothing was fed
+abbrev pub new_held : Held
+new_held = record { feeds = []; latch = 0 }
+
+-- 0 until the first fed cycle
+abbrev pub held_word : Held → ℕ → ℕ
+held_word port c = unwrap_or (fed_word port.feeds c) 0
+
+-- a port that shows a square wave until it is fed
+pub record Wave : Type 0 where
+  pub half : ℕ
+  pub feeds : List Feed
+  pub latch : ℕ
+
+abbrev pub new_wave : ℕ → Wave
+new_wave half = record { half = half; feeds = []; latch = 0 }
+
+-- 0 for half a period, then 1 for half a period, and so on
+abbrev pub wave_word : Wave → ℕ → ℕ
+wave_word port c = unwrap_or (fed_word port.feeds c) (c / port.half % 2)

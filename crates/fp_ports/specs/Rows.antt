@@ -1,0 +1,45 @@
+-- Eight ports, seen as eight rows: a row is none where no port is plugged in, or what the port means.
+use Rattle.std.specs.Prelude.{ℕ, ◌^◌, List, map, Option, Some, None, option_map, fold, nat_lt, if◌then◌else◌, slice_index_or}
+use Rattle.std.specs.Option.{option_map_or}
+use Rattle.fp_ports.specs.Meaning.{fed_words}
+
+-- what a port means: its latch, and its word for each cycle
+pub record Row : Type 0 where
+  pub latch : ℕ
+  pub words : ℕ → ℕ
+
+-- the words of the cycles that fit 64 bits, of which alone a port claims something, and 0 past them
+abbrev pub claimed : (ℕ → ℕ) → ℕ → ℕ
+claimed words c = if nat_lt c (2 ^ 64) then words c else 0
+
+-- the row of a port, or of none. B is the type of the ports, which have these latches and words
+abbrev pub row_of : {B : Type 0} → (B → ℕ) → (B → ℕ → ℕ) → Option B → Option Row
+row_of latched word_at (Some port) = Some (record { latch = latched port; words = claimed (word_at port) })
+row_of latched word_at None = None
+
+abbrev pub rows_of : {B : Type 0} → (B → ℕ) → (B → ℕ → ℕ) → List (Option B) → List (Option Row)
+rows_of latched word_at ports = map (row_of latched word_at) ports
+
+-- the row of a thread
+abbrev pub row_at : List (Option Row) → ℕ → Option Row
+row_at rows thread = slice_index_or rows thread None
+
+-- the word that is read in a cycle: all ones where no port is plugged in
+abbrev pub word_seen : Option Row → ℕ → ℕ
+word_seen row c = option_map_or (λ r. r.words c) row 0xffffffff
+
+-- the latch, where a port is plugged in
+abbrev pub latch_seen : Option Row → Option ℕ
+latch_seen row = option_map (λ r. r.latch) row
+
+-- after a word was written: it is the latch. Where no port is plugged in nothing changes
+abbrev pub written : Option Row → ℕ → Option Row
+written row word = option_map {T = Row} (λ r. record r { latch = word }) row
+
+-- after a word was fed at a cycle. Where no port is plugged in nothing changes
+abbrev pub fed : Option Row → ℕ → ℕ → Option Row
+fed row at word = option_map {T = Row} (λ r. record r { words = claimed (fed_words r.words at word) }) row
+
+-- after pairs of a cycle and a word were fed in order
+abbrev pub fed_all : Option Row → List (ℕ × ℕ) → Option Row
+fed_all row inputs = fold (λ before input. fed before input.0 input.1) row inputs

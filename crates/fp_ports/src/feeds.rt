@@ -1,0 +1,59 @@
+//! The words that were fed to a device.
+ghost use Rattle.std.specs.Prelude.{◌≡◌, [], ◌∷◌, is_ok, reverse, find, nat_le, option_copied, if◌then◌else◌};
+ghost use Rattle.fp_ports.specs.Kinds.{fed_word};
+
+use std::alloc::{AllocError, Global};
+use std::marker::Model;
+
+/// A word that a device shows from a cycle on.
+#[derive(Clone, Copy)]
+pub struct Feed {
+    pub at: u64,
+    pub word: u32,
+}
+
+/// The words that were fed, seen as a list with the newest first.
+#[derive(Drop)]
+pub struct Feeds {
+    fed: Vec<Feed>,
+}
+
+impl Model for Feeds {
+    ghost use Rattle.std.specs.Prelude.{List, reverse};
+    ghost use Rattle.fp_ports.specs.declared.feeds.Feed.{Feed};
+
+    ghost Value = { List Feed };
+
+    ghost view = { λ feeds. reverse feeds.fed.items };
+}
+
+impl Feeds {
+    pub fn new(alloc: Global) -> Feeds
+        ensures { result ≡ [] }
+    {
+        Feeds {
+            fed: Vec::new(alloc),
+        }
+    }
+
+    pub fn push(&mut self, at: u64, word: u32) -> Result<(), AllocError>
+        ensures { self.new ≡ (if is_ok result then record { at = at; word = word } ∷ self.old else self.old) }
+    {
+        self.fed.push(Feed { at, word })?;
+        Ok(())
+    }
+
+    /// The word that was fed for a cycle, if one was.
+    pub fn word_at(&self, at: u64) -> Option<u32>
+        ensures { result ≡ fed_word self.now at }
+    {
+        newest(&self.fed, at).map(|feed| feed.word)
+    }
+}
+
+/// The last feed that is at or before a cycle.
+fn newest(fed: &[Feed], at: u64) -> Option<&Feed>
+    ensures { option_copied result ≡ find (λ feed. nat_le feed.at at) (reverse fed.entry.now) }
+{
+    fed.iter().rev().find(|feed| feed.at <= at)
+}

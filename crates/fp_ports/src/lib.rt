@@ -1,0 +1,13 @@
+//! The ports of the eight hardware threads: boxed devices of any kind, known by what they mean.
+#![tactic(auto)]
+
+mod feeds;
+mod held;
+mod port;
+mod ports;
+mod wave;
+
+pub use held::HeldPort;
+pub use port::Port;
+pub use ports::{Ports, feed_port, latch_of, read_port, unplug, write_port};
+pub use wave::WavePort;

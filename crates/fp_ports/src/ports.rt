@@ -1,0 +1,121 @@
+//! The ports of the eight threads, each a boxed device or none.
+//!
+//! A contract sees them as eight rows, one for each thread. Each call states the new row of its
+//! thread, and keeps the other seven.
+ghost use Rattle.std.specs.Prelude.{◌≡◌, ◌<◌, None, is_ok, if◌then◌else◌, slice_set, vec_len, OnOk, OnErr};
+ghost use Rattle.fp_ports.specs.Rows.{row_of, rows_of, row_at, word_seen, latch_seen, written, fed};
+ghost use Rattle.fp_ports.specs.Meaning.{SameWords, fed_words};
+
+use crate::port::Port;
+use std::alloc::AllocError;
+
+/// The devices at the ports of the eight threads, in the threads' order. A port may be empty.
+pub type Ports = Vec<Option<Box<dyn Port>>>;
+
+/// The word that a thread's device shows in the cycle `at`. An empty port shows 0xFFFFFFFF.
+pub fn read_port(ports: &mut Ports, thread: u8, at: u64) -> u32
+    requires eight { vec_len ports.old ≡ 8 }
+    requires thread { thread < 8 }
+    ensures value { result ≡ word_seen (row_at (rows_of latched word_at ports.old.items) thread) at }
+    ensures rows { rows_of latched word_at ports.new.items ≡ rows_of latched word_at ports.old.items }
+    ensures eight { vec_len ports.new ≡ 8 }
+{
+    read_entry(&mut ports[thread as usize], at)
+}
+
+/// Puts a word into the latch of a thread's device. An empty port takes it without effect.
+pub fn write_port(ports: &mut Ports, thread: u8, word: u32)
+    requires eight { vec_len ports.old ≡ 8 }
+    requires thread { thread < 8 }
+    ensures rows { let rows = rows_of latched word_at ports.old.items in
+        rows_of latched word_at ports.new.items
+        ≡ slice_set rows thread (written (row_at rows thread) word) }
+    ensures eight { vec_len ports.new ≡ 8 }
+{
+    write_entry(&mut ports[thread as usize], word);
+}
+
+/// Lets a thread's device show the word from the cycle `at` on. At an empty port nothing happens.
+///
+/// # Errors
+///
+/// Where memory was refused; nothing changes then.
+pub fn feed_port(ports: &mut Ports, thread: u8, at: u64, word: u32) -> Result<(), AllocError>
+    requires eight { vec_len ports.old ≡ 8 }
+    requires thread { thread < 8 }
+    ensures rows { let rows = rows_of latched word_at ports.old.items in
+        let row = row_at rows thread in
+        rows_of latched word_at ports.new.items
+        ≡ slice_set rows thread (if is_ok result then fed row at word else row) }
+    ensures eight { vec_len ports.new ≡ 8 }
+{
+    feed_entry(&mut ports[thread as usize], at, word)
+}
+
+/// The last word that was written to a thread's device, or none where the port is empty.
+pub fn latch_of(ports: &Ports, thread: u8) -> Option<u32>
+    requires eight { vec_len ports.now ≡ 8 }
+    requires thread { thread < 8 }
+    ensures { result ≡ latch_seen (row_at (rows_of latched word_at ports.now.items) thread) }
+{
+    latch_entry(&ports[thread as usize])
+}
+
+/// Takes a thread's device away and drops it. The port is then empty.
+pub fn unplug(ports: &mut Ports, thread: u8)
+    requires eight { vec_len ports.old ≡ 8 }
+    requires thread { thread < 8 }
+    ensures rows { rows_of latched word_at ports.new.items
+        ≡ slice_set (rows_of latched word_at ports.old.items) thread None }
+    ensures eight { vec_len ports.new ≡ 8 }
+{
+    ports[thread as usize] = None;
+}
+
+fn read_entry(entry: &mut Option<Box<dyn Port>>, at: u64) -> u32
+    ensures value { result ≡ word_seen (row_of latched word_at entry.old) at }
+    ensures row { row_of latched word_at entry.new ≡ row_of latched word_at entry.old }
+{
+    match entry {
+        Some(port) => port.read(at),
+        None => u32::MAX,
+    }
+}
+
+fn write_entry(entry: &mut Option<Box<dyn Port>>, word: u32)
+    ensures { row_of latched word_at entry.new ≡ written (row_of latched word_at entry.old) word }
+{
+    if let Some(port) = entry {
+        port.write(word);
+    }
+}
+
+fn feed_entry(entry: &mut Option<Box<dyn Port>>, at: u64, word: u32) -> Result<(), AllocError>
+    ensures { let row = row_of latched word_at entry.old in
+        row_of latched word_at entry.new ≡ (if is_ok result then fed row at word else row) }
+{
+    match entry {
+        Some(port) => feed_box(port, at, word),
+        None => Ok(()),
+    }
+}
+
+fn feed_box(port: &mut Box<dyn Port>, at: u64, word: u32) -> Result<(), AllocError>
+    ensures ok { OnOk result (SameWords (fed_words (word_at port.old) at word) (word_at port.new)) }
+    ensures err { OnErr result (SameWords (word_at port.old) (word_at port.new)) }
+    ensures latch { latched port.new ≡ latched port.old }
+{
+    port.feed(at, word)
+}
+
+fn latch_entry(entry: &Option<Box<dyn Port>>) -> Option<u32>
+    ensures { result ≡ latch_seen (row_of latched word_at entry.now) }
+{
+    match entry {
+        Some(port) => Some(port.latch()),
+        None => None,
+    }
+}
+
+#[cfg(test)]
+mod tests;

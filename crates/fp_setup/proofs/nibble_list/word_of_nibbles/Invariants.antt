@@ -1,6 +1,0 @@
-use Rattle.std.proofs.Common.{◌≡◌, drop}
-use Rattle.fp_setup.specs.Meaning.{word_of}
-use Rattle.fp_setup.proofs.nibble_list.word_of_nibbles.Given as goal
-
-abbrev pub invariant-loop-i : goal.invariant-loop-i
-invariant-loop-i l = l.word ≡ word_of 16 (drop l.i l.numbers)

@@ -1,0 +1,213 @@
+//! The values of a table's keys, each checked at its place.
+
+ghost use Rattle.std.specs.Prelude.{◌≡◌, ◌<◌, ◌≤◌, ◌==◌, ◌&&◌, ℕ, List, true, false, map, option_map, unwrap_or, Option, Some, None, IfOk, IfSome, MatchResult, IsTrue, length};
+ghost use Rattle.std.specs.Option.{option_map_or};
+ghost use Rattle.std.specs.Str.{bytes_eq};
+ghost use Rattle.toml.specs.Data.{get_member};
+ghost use Rattle.toml.specs.View.{view, table_view};
+ghost use Rattle.nibble_word.specs.Nibbles.{nibbles};
+ghost use Rattle.std.specs.List.{list_all, list_any};
+ghost use Rattle.fp_setup.specs.declared.refusal.SetupNo.TheVariants as no;
+ghost use Rattle.fp_setup.specs.Faults.{at_place};
+ghost use Rattle.fp_setup.specs.Vocabulary.{is_value, is_word};
+ghost use Rattle.fp_setup.specs.Values.{elements_at, number, number_at, text_at, truth_at};
+ghost use Rattle.fp_setup.specs.Checks.{bytes_check, eight_check, fresh_check, integer_check, is_in, permit_check, truth_check, word_check};
+ghost use Rattle.fp_setup.specs.Tables.{has_other_key, key_fault, unknown_fault};
+ghost use Rattle.fp_setup.specs.Meaning.{named, nibble_word};
+ghost use Rattle.fp_setup.specs.Reading.{IsRead, IsReadInMemory};
+
+use crate::bounds::Range;
+use crate::file_name::Name;
+use crate::nibble_list::eight;
+use crate::refusal::{Fault, Place, SetupNo, SetupRefused};
+use crate::values::{integer, name, permit, truth_value, word};
+use crate::vocabulary::Words;
+use std::alloc::Global;
+use toml::{Table, Value};
+
+fn is_known(keys: &[&str], key: &str) -> bool
+    ensures { result ≡ list_any (λ known. bytes_eq known key.now) (map (λ k. k.now) keys.now) }
+{
+    keys.contains(&key)
+}
+
+/// Whether a table has a key outside a list.
+#[tactic(auto, using(crate::proofs::Lists::other_keys))]
+fn has_other(table: &Table, keys: &[&str]) -> bool
+    ensures { result ≡ has_other_key (map (λ k. k.now) keys.now) (table_view table.now) }
+{
+    for key in table.keys() {
+        if !is_known(keys, key.as_str()) {
+            return true;
+        }
+    }
+    false
+}
+
+/// Refuses a table with a key outside a list.
+#[tactic(auto, unfolding(crate::specs::Tables::unknown_fault))]
+pub(crate) fn no_other_key(table: &Table, keys: &[&str], place: Place) -> Result<(), Fault>
+    ensures { IsRead result (unknown_fault (map (λ k. k.now) keys.now) place (table_view table.now)) tt }
+{
+    if has_other(table, keys) {
+        return Err(Fault::new(SetupNo::UnknownKey, place));
+    }
+    Ok(())
+}
+
+/// What stands under a key of a table.
+pub(crate) fn member<'a>(table: &'a Table, key: &str) -> Option<&'a Value>
+    ensures { option_map (λ v. view v.now) result ≡ get_member key.now (table_view table.now) }
+{
+    table.get(key)
+}
+
+/// What stands under a key that is needed.
+pub(crate) fn needed<'a>(table: &'a Table, key: &str, place: Place) -> Result<&'a Value, Fault>
+    ensures { MatchResult result
+        (λ v. get_member key.now (table_view table.now) ≡ Some (view v.now))
+        (λ e. (get_member key.now (table_view table.now) ≡ None) × (e ≡ at_place no.MissingKey place)) }
+{
+    match member(table, key) {
+        Some(value) => Ok(value),
+        None => Err(Fault::new(SetupNo::MissingKey, place)),
+    }
+}
+
+/// An integer that is needed.
+#[tactic(auto, unfolding(crate::specs::Tables::key_fault))]
+pub(crate) fn needed_integer(
+    table: &Table,
+    key: &str,
+    range: Range,
+    place: Place,
+) -> Result<u32, Fault>
+    requires { 0 < range.step }
+    ensures read { IsRead result
+        (key_fault (integer_check range) true place (get_member key.now (table_view table.now)))
+        (number_at key.now (table_view table.now)) }
+    ensures within { IfOk result (λ n. is_in range n ≡ true) }
+{
+    integer(needed(table, key, place)?, range, place)
+}
+
+/// An integer that may be absent.
+#[tactic(auto, unfolding(crate::specs::Tables::key_fault))]
+pub(crate) fn optional_integer(
+    table: &Table,
+    key: &str,
+    range: Range,
+    place: Place,
+) -> Result<Option<u32>, Fault>
+    requires { 0 < range.step }
+    ensures read { IsRead result
+        (key_fault (integer_check range) false place (get_member key.now (table_view table.now)))
+        (option_map number (get_member key.now (table_view table.now))) }
+    ensures within { IfOk result (λ o. IfSome o (λ n. is_in range n ≡ true)) }
+{
+    match member(table, key) {
+        Some(value) => Ok(Some(integer(value, range, place)?)),
+        None => Ok(None),
+    }
+}
+
+/// The word of eight texts of a list, which are needed.
+#[tactic(auto, unfolding(crate::specs::Tables::key_fault))]
+pub(crate) fn needed_eight(
+    table: &Table,
+    key: &str,
+    words: Words,
+    place: Place,
+) -> Result<u32, Fault>
+    ensures read { IsRead result
+        (key_fault (eight_check words) true place (get_member key.now (table_view table.now)))
+        (nibble_word words (elements_at key.now (table_view table.now))) }
+    ensures values { IfOk result (λ word. IsTrue (is_word words word)) }
+{
+    eight(needed(table, key, place)?, words, place)
+}
+
+/// The number of a text of a list, which is needed.
+#[tactic(auto, unfolding(crate::specs::Tables::key_fault))]
+pub(crate) fn needed_word(table: &Table, key: &str, words: Words, place: Place) -> Result<u8, Fault>
+    ensures read { IsRead result
+        (key_fault (word_check words) true place (get_member key.now (table_view table.now)))
+        (named words (text_at key.now (table_view table.now))) }
+    ensures value { IfOk result (λ n. is_value words n ≡ true) }
+{
+    word(needed(table, key, place)?, words, place)
+}
+
+/// A truth value, false where it is absent.
+#[tactic(auto, unfolding(crate::specs::Tables::key_fault))]
+pub(crate) fn truth_or_false(table: &Table, key: &str, place: Place) -> Result<bool, Fault>
+    ensures { IsRead result
+        (key_fault truth_check false place (get_member key.now (table_view table.now)))
+        (truth_at key.now (table_view table.now)) }
+{
+    match member(table, key) {
+        Some(value) => truth_value(value, place),
+        None => Ok(false),
+    }
+}
+
+/// A truth value, false where it is absent, that isn't true beside another.
+#[tactic(auto, unfolding(crate::specs::Tables::key_fault))]
+pub(crate) fn permit_or_false(
+    table: &Table,
+    key: &str,
+    confined: bool,
+    place: Place,
+) -> Result<bool, Fault>
+    ensures read { IsRead result
+        (key_fault (permit_check confined) false place (get_member key.now (table_view table.now)))
+        (truth_at key.now (table_view table.now)) }
+    ensures one_of_both { IfOk result (λ permit. (confined && permit) ≡ false) }
+{
+    match member(table, key) {
+        Some(value) => permit(value, confined, place),
+        None => Ok(false),
+    }
+}
+
+/// A name of so many bytes, which is needed.
+#[tactic(auto, unfolding(crate::specs::Tables::key_fault))]
+pub(crate) fn needed_name(
+    alloc: Global,
+    table: &Table,
+    key: &str,
+    low: usize,
+    high: usize,
+    place: Place,
+) -> Result<Name, SetupRefused>
+    ensures read { IsReadInMemory result
+        (key_fault (bytes_check low high) true place (get_member key.now (table_view table.now)))
+        (text_at key.now (table_view table.now)) }
+    ensures lengths { IfOk result (λ n. (low ≤ length n) × (length n ≤ high)) }
+{
+    name(alloc, needed(table, key, place)?, low, high, place)
+}
+
+/// An integer that is needed, and isn't among those that are taken.
+#[tactic(auto, unfolding(crate::specs::Tables::key_fault, crate::specs::Checks::fresh_check))]
+pub(crate) fn needed_fresh(
+    table: &Table,
+    key: &str,
+    range: Range,
+    taken: &[u8],
+    place: Place,
+) -> Result<u8, Fault>
+    requires step { 0 < range.step }
+    requires small { range.high < 256 }
+    ensures read { IsRead result
+        (key_fault (fresh_check range taken.now) true place (get_member key.now (table_view table.now)))
+        (number_at key.now (table_view table.now)) }
+    ensures within { IfOk result (λ n. is_in range n ≡ true) }
+    ensures fresh { IfOk result (λ n. list_any (λ k. k == n) taken.now ≡ false) }
+{
+    let number = integer(needed(table, key, place)?, range, place)? as u8;
+    if taken.contains(&number) {
+        return Err(Fault::new(SetupNo::DoubleThread, place));
+    }
+    Ok(number)
+}
