@@ -1,0 +1,6 @@
+pub mod Built
+pub mod WalkSteps
+pub mod Simulation
+pub mod Takes
+pub mod Counts
+pub mod Powers

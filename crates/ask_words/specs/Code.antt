@@ -1,0 +1,53 @@
+-- What the code's values are.
+use Rattle.std.specs.Prelude.{ℕ, ◌==◌, List, Option, Some, None, option_map, Bool, true, false, unwrap_or, []}
+use Rattle.std.specs.Option.{option_map_or}
+use Rattle.std.specs.Str.{bytes_eq}
+use Rattle.ask_words.specs.Forms.{Text, Pairs, Form, gives, opens, bad, pairs, each_once, count_of}
+use Rattle.ask_words.specs.Commands.{CommandRow, run_row, dump_row, asm_row, bound_row}
+use Rattle.ask_words.specs.declared.command.Command.{Command}
+use Rattle.ask_words.specs.declared.command.Command.TheVariants.{Run, Dump, Asm, Bound}
+use Rattle.ask_words.specs.declared.form.Form.{Form as CodeForm}
+use Rattle.ask_words.specs.declared.form.Form.TheVariants as code
+
+-- the command's row of the table
+abbrev pub row_of : Command → CommandRow
+row_of Run = run_row
+row_of Dump = dump_row
+row_of Asm = asm_row
+row_of Bound = bound_row
+
+-- the form that the code found
+abbrev pub form_value : CodeForm → Form
+form_value (code.Gives name value) = gives name.now value.now
+form_value (code.Opens name) = opens name.now
+form_value code.Bad = bad
+
+abbrev pub is_bad_form : Form → Bool
+is_bad_form bad = true
+is_bad_form _ = false
+
+-- the word gives a value to this name
+abbrev pub gives_to : Form → Text → Bool
+gives_to (gives name value) wanted = bytes_eq name wanted
+gives_to _ wanted = false
+
+-- the option whose value is the next word
+abbrev pub opened_by : Form → Option Text
+opened_by (opens name) = Some name
+opened_by _ = None
+
+-- how often the name is given a value in the words, where each word has a place
+abbrev pub count_in : List Text → Text → Option Text → List Text → Option ℕ
+count_in names name waiting words = option_map (count_of name) (pairs names waiting words)
+
+abbrev pub is_one : Option ℕ → Bool
+is_one None = false
+is_one (Some n) = n == 1
+
+-- the words give the file name and each option exactly once, and nothing else
+abbrev pub has_forms : List Text → List Text → Bool
+has_forms names words = option_map_or (each_once names) (pairs names None words) false
+
+-- all that the words give
+abbrev pub pairs_in : List Text → List Text → Pairs
+pairs_in names words = unwrap_or (pairs names None words) []

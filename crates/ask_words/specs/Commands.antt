@@ -1,0 +1,74 @@
+-- The commands, and what words ask.
+use Rattle.std.specs.Prelude.{ℕ, List, [], ◌∷◌, Option, Some, None, option_map, option_and_then, codes, find}
+use Rattle.std.specs.Str.{bytes_eq}
+use Rattle.ask_words.specs.Forms.{Text, texts_in}
+use Rattle.ask_words.specs.Numbers.{thread_in, number_in, address_in}
+use Rattle.ask_words.specs.declared.asked.Ask.{Ask}
+use Rattle.ask_words.specs.declared.asked.Ask.TheVariants.{Run, Dump, Asm, Bound}
+
+-- a command: its name, its options in order, and what it asks by the file name and the options' values
+-- in that order
+pub record CommandRow : Type 0 where
+  pub name : Text
+  pub options : List Text
+  pub asks : List Text → Option Ask
+
+-- what two or three values make, where each is one
+abbrev pub of_two : {A : Type 0} → {B : Type 0} → (A → B → Ask) → Option A → Option B → Option Ask
+of_two make (Some a) (Some b) = Some (make a b)
+of_two make _ _ = None
+
+abbrev pub of_three : {A : Type 0} → {B : Type 0} → {C : Type 0} → (A → B → C → Ask) → Option A → Option B → Option C → Option Ask
+of_three make (Some a) (Some b) (Some c) = Some (make a b c)
+of_three make _ _ _ = None
+
+-- a number of cycles, at most 4,000,000,000
+abbrev pub cycles_in : Text → Option ℕ
+cycles_in = number_in 4000000000
+
+abbrev pub run_asks : List Text → Option Ask
+run_asks (setup ∷ thread ∷ cycles ∷ []) = of_two (Run setup) (thread_in thread) (cycles_in cycles)
+run_asks _ = None
+
+abbrev pub dump_asks : List Text → Option Ask
+dump_asks (setup ∷ cycles ∷ []) = option_map (Dump setup) (cycles_in cycles)
+dump_asks _ = None
+
+abbrev pub asm_asks : List Text → Option Ask
+asm_asks (source ∷ []) = Some (Asm source)
+asm_asks _ = None
+
+abbrev pub bound_of : Text → ℕ → ℕ → ℕ → Ask
+bound_of setup thread from to = Bound setup thread (record { from = from; to = to })
+
+abbrev pub bound_asks : List Text → Option Ask
+bound_asks (setup ∷ thread ∷ from ∷ to ∷ []) = of_three (bound_of setup) (thread_in thread) (address_in from) (address_in to)
+bound_asks _ = None
+
+abbrev pub run_row : CommandRow
+run_row = record { name = codes "run"; options = codes "thread" ∷ codes "cycles" ∷ []; asks = run_asks }
+
+abbrev pub dump_row : CommandRow
+dump_row = record { name = codes "dump"; options = codes "cycles" ∷ []; asks = dump_asks }
+
+abbrev pub asm_row : CommandRow
+asm_row = record { name = codes "asm"; options = []; asks = asm_asks }
+
+abbrev pub bound_row : CommandRow
+bound_row = record { name = codes "bound"; options = codes "thread" ∷ codes "from" ∷ codes "to" ∷ []; asks = bound_asks }
+
+abbrev pub commands : List CommandRow
+commands = run_row ∷ dump_row ∷ asm_row ∷ bound_row ∷ []
+
+-- what the words after a command's name ask
+unfoldable pub asked : CommandRow → List Text → Option Ask
+asked row words = option_and_then row.asks (texts_in row.options words)
+
+abbrev pub asked_by : Option CommandRow → List Text → Option Ask
+asked_by None words = None
+asked_by (Some row) words = asked row words
+
+-- what the words of the command line ask, or none: the first word is a command's name
+abbrev pub ask : List Text → Option Ask
+ask [] = None
+ask (name ∷ words) = asked_by (find (λ row. bytes_eq name row.name) commands) words

@@ -1,0 +1,7 @@
+pub mod Forms
+pub mod Numbers
+pub mod Commands
+pub mod Code
+pub mod Rules
+pub mod Causes
+pub mod Limits

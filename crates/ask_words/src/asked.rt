@@ -1,0 +1,60 @@
+//! What the words of the command line may ask.
+
+ghost use Rattle.std.specs.Prelude.{◌≡◌};
+
+use crate::file_name::Name;
+use std::alloc::AllocError;
+
+/// Why words are no command.
+#[derive(Clone, Copy, Debug, PartialEq, Eq, Drop)]
+pub enum WordsNo {
+    /// The words ask nothing.
+    Usage = 1,
+    /// Memory was refused.
+    NoMemory = 2,
+}
+
+/// The words of a program from an address to below another.
+#[derive(Clone, Copy, Debug, PartialEq, Eq)]
+pub struct Section {
+    /// The address of the first byte.
+    pub from: u32,
+    /// The address after the last byte.
+    pub to: u32,
+}
+
+/// A command with its values.
+#[derive(Debug, Drop)]
+pub enum Ask {
+    /// `run SETUP --thread i --cycles n`: the trace of a thread.
+    Run {
+        setup: Name,
+        thread: u8,
+        cycles: u64,
+    },
+    /// `dump SETUP --cycles n`: what each cycle shows.
+    Dump {
+        setup: Name,
+        cycles: u64,
+    },
+    /// `asm SOURCE`: the image of a source.
+    Asm {
+        source: Name,
+    },
+    /// `bound SETUP --thread i --from a --to b`: the bound of a section.
+    Bound {
+        setup: Name,
+        thread: u8,
+        section: Section,
+    },
+}
+
+impl From<AllocError> for WordsNo {
+    ghost use Rattle.ask_words.specs.declared.asked.WordsNo.TheVariants.{NoMemory};
+
+    ghost from_gives = { λ e no. no ≡ NoMemory };
+
+    fn from(_error: AllocError) -> WordsNo {
+        WordsNo::NoMemory
+    }
+}

@@ -1,0 +1,10 @@
+//! The commands by name.
+
+/// A command.
+#[derive(Clone, Copy)]
+pub enum Command {
+    Run,
+    Dump,
+    Asm,
+    Bound,
+}

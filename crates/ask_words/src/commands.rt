@@ -1,0 +1,167 @@
+//! The commands.
+
+ghost use Rattle.std.specs.Prelude.{◌≡◌, map, string_bytes, IfOk, IfErr, Some, option_map, find};
+ghost use Rattle.std.specs.Str.{bytes_eq};
+ghost use Rattle.ask_words.specs.Forms.{texts_in};
+ghost use Rattle.ask_words.specs.Commands.{ask, asked, commands, run_asks, dump_asks, asm_asks, bound_asks};
+ghost use Rattle.ask_words.specs.Code.{row_of};
+ghost use Rattle.ask_words.specs.Causes.{IsCauseOf};
+ghost use Rattle.ask_words.specs.Limits.{IsWithinLimits};
+
+use crate::asked::{Ask, Section, WordsNo};
+use crate::command::Command;
+use crate::file_name::Name;
+use crate::numbers::{address_of, number_of, thread_of};
+use crate::parse::texts_of;
+use std::alloc::Global;
+
+/// The most cycles of a run.
+const MOST_CYCLES: u64 = 4_000_000_000;
+
+/// The command of this name.
+fn command_named(name: &str) -> Option<Command>
+    ensures { option_map row_of result ≡ find (λ row. bytes_eq name.now row.name) commands }
+{
+    match name {
+        "run" => Some(Command::Run),
+        "dump" => Some(Command::Dump),
+        "asm" => Some(Command::Asm),
+        "bound" => Some(Command::Bound),
+        _ => None,
+    }
+}
+
+/// The texts that the words after a command's name give it.
+fn texts_for<'a>(
+    alloc: Global,
+    command: Command,
+    words: &'a [String],
+) -> Result<Vec<&'a str>, WordsNo>
+    ensures given { IfOk result (λ v. texts_in (row_of command).options (map string_bytes words.entry.now) ≡ Some (map (λ t. t.now) v.items)) }
+    ensures refused { IfErr result (IsCauseOf (texts_in (row_of command).options (map string_bytes words.entry.now))) }
+{
+    match command {
+        Command::Run => texts_of(alloc, "run", &["thread", "cycles"], words),
+        Command::Dump => texts_of(alloc, "dump", &["cycles"], words),
+        Command::Asm => texts_of(alloc, "asm", &[], words),
+        Command::Bound => texts_of(alloc, "bound", &["thread", "from", "to"], words),
+    }
+}
+
+/// `run SETUP --thread i --cycles n`
+fn run(alloc: Global, texts: &[&str]) -> Result<Ask, WordsNo>
+    ensures asked { IfOk result (λ a. run_asks (map (λ t. t.now) texts.now) ≡ Some a) }
+    ensures refused { IfErr result (IsCauseOf (run_asks (map (λ t. t.now) texts.now))) }
+    ensures limits { IfOk result IsWithinLimits }
+{
+    if texts.len() != 3 {
+        return Err(WordsNo::Usage);
+    }
+    match (thread_of(texts[1]), number_of(MOST_CYCLES, texts[2])) {
+        (Some(thread), Some(cycles)) => Ok(Ask::Run {
+            setup: Name::from_str(alloc, texts[0])?,
+            thread,
+            cycles,
+        }),
+        _ => Err(WordsNo::Usage),
+    }
+}
+
+/// `dump SETUP --cycles n`
+fn dump(alloc: Global, texts: &[&str]) -> Result<Ask, WordsNo>
+    ensures asked { IfOk result (λ a. dump_asks (map (λ t. t.now) texts.now) ≡ Some a) }
+    ensures refused { IfErr result (IsCauseOf (dump_asks (map (λ t. t.now) texts.now))) }
+    ensures limits { IfOk result IsWithinLimits }
+{
+    if texts.len() != 2 {
+        return Err(WordsNo::Usage);
+    }
+    match number_of(MOST_CYCLES, texts[1]) {
+        Some(cycles) => Ok(Ask::Dump {
+            setup: Name::from_str(alloc, texts[0])?,
+            cycles,
+        }),
+        None => Err(WordsNo::Usage),
+    }
+}
+
+/// `asm SOURCE`
+fn asm(alloc: Global, texts: &[&str]) -> Result<Ask, WordsNo>
+    ensures asked { IfOk result (λ a. asm_asks (map (λ t. t.now) texts.now) ≡ Some a) }
+    ensures refused { IfErr result (IsCauseOf (asm_asks (map (λ t. t.now) texts.now))) }
+    ensures limits { IfOk result IsWithinLimits }
+{
+    if texts.len() != 1 {
+        return Err(WordsNo::Usage);
+    }
+    Ok(Ask::Asm {
+        source: Name::from_str(alloc, texts[0])?,
+    })
+}
+
+/// `bound SETUP --thread i --from a --to b`
+fn bound(alloc: Global, texts: &[&str]) -> Result<Ask, WordsNo>
+    ensures asked { IfOk result (λ a. bound_asks (map (λ t. t.now) texts.now) ≡ Some a) }
+    ensures refused { IfErr result (IsCauseOf (bound_asks (map (λ t. t.now) texts.now))) }
+    ensures limits { IfOk result IsWithinLimits }
+{
+    if texts.len() != 4 {
+        return Err(WordsNo::Usage);
+    }
+    match (
+        thread_of(texts[1]),
+        address_of(texts[2]),
+        address_of(texts[3]),
+    ) {
+        (Some(thread), Some(from), Some(to)) => Ok(Ask::Bound {
+            setup: Name::from_str(alloc, texts[0])?,
+            thread,
+            section: Section { from, to },
+        }),
+        _ => Err(WordsNo::Usage),
+    }
+}
+
+/// What a command asks by its texts: the file name, and the options' values in order.
+fn ask_by(alloc: Global, command: Command, texts: &[&str]) -> Result<Ask, WordsNo>
+    ensures asked { IfOk result (λ a. (row_of command).asks (map (λ t. t.now) texts.now) ≡ Some a) }
+    ensures refused { IfErr result (IsCauseOf ((row_of command).asks (map (λ t. t.now) texts.now))) }
+    ensures limits { IfOk result IsWithinLimits }
+{
+    match command {
+        Command::Run => run(alloc, texts),
+        Command::Dump => dump(alloc, texts),
+        Command::Asm => asm(alloc, texts),
+        Command::Bound => bound(alloc, texts),
+    }
+}
+
+/// What the words after a command's name ask.
+#[tactic(auto, unfolding(crate::specs::Commands::asked))]
+fn ask_of(alloc: Global, command: Command, words: &[String]) -> Result<Ask, WordsNo>
+    ensures asked { IfOk result (λ a. asked (row_of command) (map string_bytes words.now) ≡ Some a) }
+    ensures refused { IfErr result (IsCauseOf (asked (row_of command) (map string_bytes words.now))) }
+    ensures limits { IfOk result IsWithinLimits }
+{
+    let texts = texts_for(alloc, command, words)?;
+    ask_by(alloc, command, texts.as_slice())
+}
+
+/// What the words of the command line, after the program's name, ask.
+///
+/// # Errors
+///
+/// Usage exactly where they ask nothing, but for want of memory; NoMemory where memory was refused.
+pub fn read_words(alloc: Global, words: &[String]) -> Result<Ask, WordsNo>
+    ensures asked { IfOk result (λ a. ask (map string_bytes words.now) ≡ Some a) }
+    ensures refused { IfErr result (IsCauseOf (ask (map string_bytes words.now))) }
+    ensures limits { IfOk result IsWithinLimits }
+{
+    let Some((name, words)) = words.split_first() else {
+        return Err(WordsNo::Usage);
+    };
+    match command_named(name.as_str()) {
+        Some(command) => ask_of(alloc, command, words),
+        None => Err(WordsNo::Usage),
+    }
+}

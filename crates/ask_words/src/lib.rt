@@ -1,0 +1,18 @@
+//! What the words of the command line ask.
+#![tactic(auto)]
+
+mod asked;
+mod command;
+mod commands;
+mod file_name;
+mod form;
+mod given;
+mod numbers;
+mod parse;
+
+pub use asked::{Ask, Section, WordsNo};
+pub use commands::read_words;
+pub use file_name::Name;
+
+#[cfg(test)]
+mod tests;
