@@ -47,8 +47,8 @@ best-either-then {a} {h} {c} {f} {g} {k} x y z = (covers, among)
     covers : Covers c (Either f (Then g k))
     covers p n q (inl t) = let one = x.0 p n q t in over p n q one.0 one.2 (z.0 p one.0 q (inl one.1))
     covers p n q (inr t) =
-      let one = y.0 p t.one t.at t.first in
-      over p n q (one.0 + t.two) (omega (arith, one.2, t.cost)) (z.0 p (one.0 + t.two) q (inr (record { at = t.at; one = one.0; two = t.two; first = one.1; second = t.second; cost = refl })))
+        let one = y.0 p t.one t.at t.first in
+        over p n q (one.0 + t.two) (omega (arith, one.2, t.cost)) (z.0 p (one.0 + t.two) q (inr (record { at = t.at; one = one.0; two = t.two; first = one.1; second = t.second; cost = refl })))
 
     among : Among c (Either f (Then g k))
     among p n q e = elim (z.1 p n q e) [ inl t ↦ inl (x.1 p n q t) | inr t ↦ inr (record { at = t.at; one = t.one; two = t.two; first = y.1 p t.one t.at t.first; second = t.second; cost = t.cost }) ]

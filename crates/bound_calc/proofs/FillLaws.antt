@@ -36,9 +36,9 @@ head-place t is j h =
 -- for the part of the loop whose head is at place k
 powers-body : (t : Tree) (o : Positions) (j : LoopSetup) (k : ℕ) (powers : Powers) → IsTree t → Contains t.loops j → address t k ≡ j.head → IsFilled (over t o) t (k + 1) powers → IsPowers (over t o) t (body (net (over t o)) j) powers
 powers-body t o j k powers is known head f = record {
-    some = λ i inner r. f.some i inner.0 (let e = head-place t is i inner.0 in let y = inner.1.0 in omega arith) r;
-    only = λ w m lo hi e. let y = f.only w m e in lift w lo hi y.0 y.1;
-  }
+  some = λ i inner r. f.some i inner.0 (let e = head-place t is i inner.0 in let y = inner.1.0 in omega arith) r;
+  only = λ w m lo hi e. let y = f.only w m e in lift w lo hi y.0 y.1;
+}
   where
     lift : (w : ℕ) → j.head ≤ address t w → address t w ≤ j.last → k + 1 ≤ w → (i : LoopSetup) × Contains t.loops i × (address t w ≡ i.head) × Reachable (graph t) (address t w) → (i : LoopSetup) × (Contains t.loops i × Inside j i) × (address t w ≡ i.head) × Reachable (graph t) (address t w)
     lift w lo hi up (i, known_i, e, r) = go ((accepted t is).nested j i known known_i (let y = (accepted t is).ordered i known_i in omega (arith, y.1)) (omega arith))
@@ -50,18 +50,18 @@ powers-body t o j k powers is known head f = record {
 
 powers-whole : (t : Tree) (o : Positions) (powers : Powers) → IsFilled (over t o) t 0 powers → IsPowers (over t o) t (whole (over t o)) powers
 powers-whole t o powers f = record {
-    some = λ i known r. f.some i known (omega arith) r;
-    only = λ w m lo hi e. (f.only w m e).1;
-  }
+  some = λ i known r. f.some i known (omega arith) r;
+  only = λ w m lo hi e. (f.only w m e).1;
+}
 
 -- a loop's power put at its head
 pub filled-more : (t : Tree) (o : Positions) (j : LoopSetup) (k : ℕ) (powers : Powers) (b : Box Matrix Global) (m : Matrix) → IsTree t → Contains t.loops j → address t k ≡ j.head → Reachable (graph t) (address t k) → k < length t.words → IsFilled (over t o) t (k + 1) powers → b.value ≡ m → IsBest (entry m) (Rounds (net (over t o)) j j.limit) →
     IsFilled (over t o) t k (slice_set powers k (Some b))
 filled-more t o j k powers b m is known head r within f boxed best = record {
-    count = length-set powers k (Some b) ∙ f.count;
-    some = λ i known_i le ri. some i known_i le ri (is_or_not (place t i.head) k);
-    only = λ w n e. only w n e (is_or_not w k);
-  }
+  count = length-set powers k (Some b) ∙ f.count;
+  some = λ i known_i le ri. some i known_i le ri (is_or_not (place t i.head) k);
+  only = λ w n e. only w n e (is_or_not w k);
+}
   where
     put : power_at (slice_set powers k (Some b)) k ≡ Some m
     put = ap (λ y. option_map (λ (b : Box Matrix Global). b.value) y) (get_or-set_same powers k (Some b) None (omega (arith, f.count))) ∙ ap Some boxed
@@ -71,9 +71,9 @@ filled-more t o j k powers b m is known head r within f boxed best = record {
 
     some : (i : LoopSetup) → Contains t.loops i → k ≤ place t i.head → Reachable (graph t) i.head → (place t i.head ≡ k) ⊎ (place t i.head ≢ k) → (n : Matrix) × (power_at (slice_set powers k (Some b)) (place t i.head) ≡ Some n) × IsBest (entry n) (Rounds (net (over t o)) i i.limit)
     some i known_i le ri (inl e) =
-      let heads : j.head ≡ i.head = sym head ∙ (ap (address t) (sym e) ∙ head-place t is i known_i) in
-      let same : j ≡ i = same_head (net-nested (over t o) (accepted t is)) j i known known_i heads in
-      (m, ap (power_at (slice_set powers k (Some b))) e ∙ put, subst (λ (i : LoopSetup). IsBest (entry m) (Rounds (net (over t o)) i i.limit)) same best)
+        let heads : j.head ≡ i.head = sym head ∙ (ap (address t) (sym e) ∙ head-place t is i known_i) in
+        let same : j ≡ i = same_head (net-nested (over t o) (accepted t is)) j i known known_i heads in
+        (m, ap (power_at (slice_set powers k (Some b))) e ∙ put, subst (λ (i : LoopSetup). IsBest (entry m) (Rounds (net (over t o)) i i.limit)) same best)
     some i known_i le ri (inr ne) = let y = f.some i known_i (omega arith) ri in (y.0, other (place t i.head) ne ∙ y.1, y.2)
 
     only : (w : ℕ) (n : Matrix) → power_at (slice_set powers k (Some b)) w ≡ Some n → (w ≡ k) ⊎ (w ≢ k) → (k ≤ w) × ((i : LoopSetup) × Contains t.loops i × (address t w ≡ i.head) × Reachable (graph t) (address t w))
@@ -83,15 +83,15 @@ filled-more t o j k powers b m is known head r within f boxed best = record {
 -- no loop to be put
 pub filled-same : (t : Tree) (o : Positions) (k : ℕ) (powers : Powers) → IsTree t → ((j : LoopSetup) → Contains t.loops j → address t k ≡ j.head → Reachable (graph t) (address t k) → ⊥) → IsFilled (over t o) t (k + 1) powers → IsFilled (over t o) t k powers
 filled-same t o k powers is none f = record {
-    count = f.count;
-    some = λ i known le r. go i known le r (is_or_not (place t i.head) k);
-    only = λ w n e. let y = f.only w n e in (omega (arith, y.0), y.1);
-  }
+  count = f.count;
+  some = λ i known le r. go i known le r (is_or_not (place t i.head) k);
+  only = λ w n e. let y = f.only w n e in (omega (arith, y.0), y.1);
+}
   where
     go : (i : LoopSetup) → Contains t.loops i → k ≤ place t i.head → Reachable (graph t) i.head → (place t i.head ≡ k) ⊎ (place t i.head ≢ k) → (n : Matrix) × (power_at powers (place t i.head) ≡ Some n) × IsBest (entry n) (Rounds (net (over t o)) i i.limit)
     go i known le r (inl e) =
-      let head : address t k ≡ i.head = ap (address t) (sym e) ∙ head-place t is i known in
-      absurd (none i known head (subst (λ v. Reachable (graph t) v) (sym head) r))
+        let head : address t k ≡ i.head = ap (address t) (sym e) ∙ head-place t is i known in
+        absurd (none i known head (subst (λ v. Reachable (graph t) v) (sym head) r))
     go i known le r (inr ne) = f.some i known (omega arith) r
 
 -- a tree whose frame has at most eight slots
@@ -130,7 +130,7 @@ has-rounds t o j is frame known n le p c q r = let z : c < 2 ^ 110 = limit-round
 -- no loop's head is past the last word
 pub filled-none : (t : Tree) (o : Positions) (powers : Powers) → IsTree t → length powers ≡ length t.words → ((k : ℕ) → power_at powers k ≡ None) → IsFilled (over t o) t (length t.words) powers
 filled-none t o powers is count none = record {
-    count = count;
-    some = λ j known le r. let l = (accepted t is).ordered j known in let w = is.draft.words in let e = head-place t is j known in absurd (omega (arith, l.1, l.2));
-    only = λ k m e. let z : None ≡ Some m = sym (none k) ∙ e in cc;
-  }
+  count = count;
+  some = λ j known le r. let l = (accepted t is).ordered j known in let w = is.draft.words in let e = head-place t is j known in absurd (omega (arith, l.1, l.2));
+  only = λ k m e. let z : None ≡ Some m = sym (none k) ∙ e in cc;
+}

@@ -30,10 +30,10 @@ use Rattle.bound_calc.proofs.Sections.{is_bound, met-inside, met-out}
 -- what a table's steps out of the section cost
 pub out-left : (s : Positions) (here : Matrix) (hops : List (Option Hop)) (lag old new : ℕ) → IsHops s lag hops → IsLeft here hops old new → IsOut s here true lag old new
 out-left s here hops lag old new h l = record {
-    stays = l.stays;
-    upper = λ out p c q t. l.upper p c q (record { at = t.at; one = t.one; two = t.two; first = t.first; second = h.all t.at t.two q t.second; cost = t.cost });
-    met = elim l.met [ inl same ↦ inl same | inr y ↦ inr (refl, (y.0, y.1, (let t = y.2 in record { at = t.at; one = t.one; two = t.two; first = t.first; second = h.found t.at t.two y.1 t.second; cost = t.cost }))) ];
-  }
+  stays = l.stays;
+  upper = λ out p c q t. l.upper p c q (record { at = t.at; one = t.one; two = t.two; first = t.first; second = h.all t.at t.two q t.second; cost = t.cost });
+  met = elim l.met [ inl same ↦ inl same | inr y ↦ inr (refl, (y.0, y.1, (let t = y.2 in record { at = t.at; one = t.one; two = t.two; first = t.first; second = h.found t.at t.two y.1 t.second; cost = t.cost }))) ];
+}
 
 pub out-none : (s : Positions) (here : Matrix) (lag old : ℕ) → IsOut s here false lag old old
 out-none s here lag old = record { stays = omega arith; upper = λ out p c q t. cc; met = inl refl }
@@ -65,10 +65,10 @@ most-first x t at o = record { met = ends [] (record { own = o.1; leads = (refl,
 pub most-more : (t : Tree) (o : Positions) (k : ℕ) (at : List Matrix) (most inner next jump : ℕ) → IsBest (matrix_at at k) (Reaches (net (over t o)) (whole (over t o)) (address t k)) → IsMost (over t o) t k at most → IsLargest (slice_index_or at k no_matrix) most inner →
     let e = edges_at t k in IsOut o (slice_index_or at k no_matrix) (leaves t e.next) e.next_lag inner next → IsOut o (slice_index_or at k no_matrix) (leaves t e.jump) 3 next jump → IsMost (over t o) t (k + 1) at jump
 most-more t o k at most inner next jump best m l n j = record {
-    met = jump_met j.met;
-    inside = λ w p c q lt e. within w p c q e (let z : (w < k) ⊎ (w ≡ k) = grind arith in z);
-    out = λ w p c q b lt known far z. outside w p c q b known far z (let z : (w < k) ⊎ (w ≡ k) = grind arith in z);
-  }
+  met = jump_met j.met;
+  inside = λ w p c q lt e. within w p c q e (let z : (w < k) ⊎ (w ≡ k) = grind arith in z);
+  out = λ w p c q b lt known far z. outside w p c q b known far z (let z : (w < k) ⊎ (w ≡ k) = grind arith in z);
+}
   where
     x : Course
     x = over t o
@@ -79,8 +79,8 @@ most-more t o k at most inner next jump best m l n j = record {
     leaving : (target : Option ℕ) (lag c : ℕ) → ((b : Edge) → Contains (edge_to target lag) b → Contains (x.graph.edges (address t k)) b) → leaves t target ≡ true → ((p : ℕ) × (q : ℕ) × Then (In (matrix_at at k)) (Steps o lag) p c q) → CostsOf x c
     leaving None lag c known out y = absurd (let z : false ≡ true = out in let none : ⊥ = cc in none)
     leaving (Some v) lag c known out (p, q, z) =
-      let b : Edge = record { to = v; lag = lag } in
-      met-out x (address t k) p c q b (known b (is-edge (Some v) lag v refl)) (leaves-not t v out) (record { at = z.at; one = z.one; two = z.two; first = best.1 p z.one z.at z.first; second = z.second; cost = z.cost })
+        let b : Edge = record { to = v; lag = lag } in
+        met-out x (address t k) p c q b (known b (is-edge (Some v) lag v refl)) (leaves-not t v out) (record { at = z.at; one = z.one; two = z.two; first = best.1 p z.one z.at z.first; second = z.second; cost = z.cost })
 
     known_next : (b : Edge) → Contains (edge_to e.next e.next_lag) b → Contains (x.graph.edges (address t k)) b
     known_next b h = Contains-append_left (edge_to e.next e.next_lag) (edge_to e.jump 3) b h
@@ -127,20 +127,20 @@ most-all t o n at most is top best m = is_bound x most (accepted t is) m.met ins
     -- the word that a walk reaches has a place
     placed : {v p c q : ℕ} → Reaches (net x) (whole x) v p c q → (place t v < length t.words) × (address t (place t v) ≡ v)
     placed {v} r =
-      let reached : Reachable (graph t) v = walk-reachable first r.walk in
-      let lies : Lies (graph t) v = reachable-lies t is.draft v reached in
-      (place-within t is.draft v lies, place-address t is.draft v (reachable-aligned t is.draft v reached) lies)
+        let reached : Reachable (graph t) v = walk-reachable first r.walk in
+        let lies : Lies (graph t) v = reachable-lies t is.draft v reached in
+        (place-within t is.draft v lies, place-address t is.draft v (reachable-aligned t is.draft v reached) lies)
 
     inside : (p c q v : ℕ) → Reaches (net x) (whole x) v p c q → c ≤ most
     inside p c q v r =
-      let w = placed r in
-      let y = (best (place t v) w.0).0 p c q (subst (λ v. Reaches (net x) (whole x) v p c q) (sym w.1) r) in
-      let z = m.inside (place t v) p y.0 q (omega (arith, w.0)) y.1 in
-      omega (arith, y.2)
+        let w = placed r in
+        let y = (best (place t v) w.0).0 p c q (subst (λ v. Reaches (net x) (whole x) v p c q) (sym w.1) r) in
+        let z = m.inside (place t v) p y.0 q (omega (arith, w.0)) y.1 in
+        omega (arith, y.2)
 
     out : (v p c q : ℕ) (e : Edge) → Contains (x.graph.edges v) e → (Lies x.graph e.to → ⊥) → Then (Reaches (net x) (whole x) v) (Steps x.positions e.lag) p c q → c ≤ most
     out v p c q e known far r =
-      let w = placed r.first in
-      let y = (best (place t v) w.0).0 p r.one r.at (subst (λ v. Reaches (net x) (whole x) v p r.one r.at) (sym w.1) r.first) in
-      let z = m.out (place t v) p (y.0 + r.two) q e (omega (arith, w.0)) (subst (λ v. Contains (x.graph.edges v) e) (sym w.1) known) far (record { at = r.at; one = y.0; two = r.two; first = y.1; second = r.second; cost = refl }) in
-      omega (arith, r.cost, y.2)
+        let w = placed r.first in
+        let y = (best (place t v) w.0).0 p r.one r.at (subst (λ v. Reaches (net x) (whole x) v p r.one r.at) (sym w.1) r.first) in
+        let z = m.out (place t v) p (y.0 + r.two) q e (omega (arith, w.0)) (subst (λ v. Contains (x.graph.edges v) e) (sym w.1) known) far (record { at = r.at; one = y.0; two = r.two; first = y.1; second = r.second; cost = refl }) in
+        omega (arith, r.cost, y.2)

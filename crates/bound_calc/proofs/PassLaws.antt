@@ -50,13 +50,13 @@ hops-fits s lag most here hops h fits p c q t = fits p c q (record { at = t.at; 
 -- a matrix put where an edge leads
 pub is-brought : (s : Positions) (to : Option ℕ) (k : ℕ) (here joined : Matrix) (lag : ℕ) (hops : List (Option Hop)) (old : List Matrix) → to ≡ Some k → k < length old → IsHops s lag hops → IsBest (entry joined) (Either (In (matrix_at old k)) (Then (In (entry here)) (Hops hops))) → IsBrought s to here lag old (slice_set old k joined)
 is-brought s to k here joined lag hops old is lt h best = record {
-    others = λ w none. get_or-set_other old k w joined no_matrix (λ same. none (is ∙ ap Some (sym same)));
-    there = λ w is'.
+  others = λ w none. get_or-set_other old k w joined no_matrix (λ same. none (is ∙ ap Some (sym same)));
+  there = λ w is'.
       let both : Some k ≡ Some w = sym is ∙ is' in
       let same : k ≡ w = cc in
       subst (λ w. IsBest (matrix_at (slice_set old k joined) w) (Either (In (matrix_at old w)) (Then (In (entry here)) (Steps s lag)))) same
-        (subst (λ m. IsBest (entry m) (Either (In (matrix_at old k)) (Then (In (entry here)) (Steps s lag)))) (sym (get_or-set_same old k joined no_matrix lt)) (with-steps h best));
-  }
+      (subst (λ m. IsBest (entry m) (Either (In (matrix_at old k)) (Then (In (entry here)) (Steps s lag)))) (sym (get_or-set_same old k joined no_matrix lt)) (with-steps h best));
+}
 
 -- the place of a target above
 up-some : (t : Tree) (k last v : ℕ) → address t k < v → v ≤ address t last → up_of t k last (Some v) ≡ Some (place t v)
@@ -82,7 +82,7 @@ pub brought : {x : Course} (t : Tree) {s : Part} {f : Edges} (k last : ℕ) (her
 brought {x} t {s} {f} k last here None lag old new is r top inside same aligned best b w up le before =
     let stays : slice_index_or old w no_matrix ≡ slice_index_or new w no_matrix = sym (b.others w (λ e. cc)) in
     subst (λ m. IsBest (entry m) (Comes x s (AndTo f (address t k) None lag) (address t w))) stays
-      (comes-same r (λ u e a ru y. inl y) (λ u e a ru y. elim y [ inl z ↦ z | inr z ↦ absurd (let y = z.1 in omega (arith, y.1)) ]) before)
+    (comes-same r (λ u e a ru y. inl y) (λ u e a ru y. elim y [ inl z ↦ z | inr z ↦ absurd (let y = z.1 in omega (arith, y.1)) ]) before)
 brought {x} t {s} {f} k last here (Some v) lag old new is r top inside same aligned best b w up le before = go (is_or_not v (address t w))
   where
     edge : Edge
@@ -90,33 +90,33 @@ brought {x} t {s} {f} k last here (Some v) lag old new is r top inside same alig
 
     other : v ≢ address t w → IsBest (matrix_at new w) (Comes x s (AndTo f (address t k) (Some v) lag) (address t w))
     other ne =
-      let stays : slice_index_or old w no_matrix ≡ slice_index_or new w no_matrix = sym (b.others w never) in
-      subst (λ m. IsBest (entry m) (Comes x s (AndTo f (address t k) (Some v) lag) (address t w))) stays
+        let stays : slice_index_or old w no_matrix ≡ slice_index_or new w no_matrix = sym (b.others w never) in
+        subst (λ m. IsBest (entry m) (Comes x s (AndTo f (address t k) (Some v) lag) (address t w))) stays
         (comes-same r (λ u e a ru y. inl y) (λ u e a ru y. elim y [ inl z ↦ z | inr z ↦ absurd (ne (let i : Some v ≡ Some e.to = target-is (Some v) lag e z.1 in let j : v ≡ e.to = cc in j ∙ a)) ]) before)
       where
         never : up_of t k last (Some v) ≡ Some w → ⊥
         never e =
-          let z = up-is t k last (Some v) w e in
-          let i : Some v ≡ Some z.0 = z.1 in
-          let j : v ≡ z.0 = cc in
-          let l = address-lies t is.draft last inside in
-          let lies : Lies (graph t) v = (let high = l.high in record { low = omega (arith, z.2); high = omega (arith, z.3) }) in
-          let at : address t (place t v) ≡ v = place-address t is.draft v (aligned v refl) lies in
-          ne (sym at ∙ ap (address t) (ap (place t) j ∙ sym z.4))
+            let z = up-is t k last (Some v) w e in
+            let i : Some v ≡ Some z.0 = z.1 in
+            let j : v ≡ z.0 = cc in
+            let l = address-lies t is.draft last inside in
+            let lies : Lies (graph t) v = (let high = l.high in record { low = omega (arith, z.2); high = omega (arith, z.3) }) in
+            let at : address t (place t v) ≡ v = place-address t is.draft v (aligned v refl) lies in
+            ne (sym at ∙ ap (address t) (ap (place t) j ∙ sym z.4))
 
     this : v ≡ address t w → IsBest (matrix_at new w) (Comes x s (AndTo f (address t k) (Some v) lag) (address t w))
     this e =
-      let above : address t k < v = omega arith in
-      let below : v ≤ address t last = omega arith in
-      let at : place t v ≡ w = ap (place t) e ∙ address-place t w in
-      let joined = b.there w (up-some t k last v above below ∙ ap Some at) in
-      let all : IsBest (matrix_at new w) (Either (Comes x s f (address t w)) (Then (Reaches (net x) s (address t k)) (Steps x.positions lag))) = best-either-then before best joined in
-      let all_v : IsBest (matrix_at new w) (Either (Comes x s f v) (Then (Reaches (net x) s (address t k)) (Steps x.positions lag))) = subst (λ u. IsBest (matrix_at new w) (Either (Comes x s f u) (Then (Reaches (net x) s (address t k)) (Steps x.positions lag)))) (sym e) all in
-      let more : IsBest (matrix_at new w) (Comes x s (And f (address t k) edge) v) = comes-more (address t k) edge above (omega arith) all_v in
-      subst (λ u. IsBest (matrix_at new w) (Comes x s (AndTo f (address t k) (Some v) lag) u)) e
+        let above : address t k < v = omega arith in
+        let below : v ≤ address t last = omega arith in
+        let at : place t v ≡ w = ap (place t) e ∙ address-place t w in
+        let joined = b.there w (up-some t k last v above below ∙ ap Some at) in
+        let all : IsBest (matrix_at new w) (Either (Comes x s f (address t w)) (Then (Reaches (net x) s (address t k)) (Steps x.positions lag))) = best-either-then before best joined in
+        let all_v : IsBest (matrix_at new w) (Either (Comes x s f v) (Then (Reaches (net x) s (address t k)) (Steps x.positions lag))) = subst (λ u. IsBest (matrix_at new w) (Either (Comes x s f u) (Then (Reaches (net x) s (address t k)) (Steps x.positions lag)))) (sym e) all in
+        let more : IsBest (matrix_at new w) (Comes x s (And f (address t k) edge) v) = comes-more (address t k) edge above (omega arith) all_v in
+        subst (λ u. IsBest (matrix_at new w) (Comes x s (AndTo f (address t k) (Some v) lag) u)) e
         (comes-same r
-          (λ u e' a ru y. elim y [ inl z ↦ inl z | inr z ↦ inr (z.0, subst (λ y. Contains (edge_to (Some v) lag) y) (sym z.1) (is-edge (Some v) lag v refl)) ])
-          (λ u e' a ru y. elim y [ inl z ↦ inl z | inr z ↦ inr (z.0, one e' z.1) ]) more)
+        (λ u e' a ru y. elim y [ inl z ↦ inl z | inr z ↦ inr (z.0, subst (λ y. Contains (edge_to (Some v) lag) y) (sym z.1) (is-edge (Some v) lag v refl)) ])
+        (λ u e' a ru y. elim y [ inl z ↦ inl z | inr z ↦ inr (z.0, one e' z.1) ]) more)
       where
         one : (e' : Edge) → Contains (edge_to (Some v) lag) e' → e' ≡ edge
         one e' h = let i = edge-is (Some v) lag e' h in let j : v ≡ e'.to = (let k : Some v ≡ Some e'.to = i.0 in cc) in λ z. record { to = sym j z; lag = i.1 z }
@@ -184,28 +184,28 @@ reached t o s k at powers here is y p low high within = go (power_at powers k) r
 
     go : (power : Option Matrix) → power_at powers k ≡ power → MatchOption power (here ≡ slice_index_or at k no_matrix) (λ m. IsBest (entry here) (Then (In (matrix_at at k)) (In (entry m)))) → IsBest (entry here) (Reaches (net x) s (address t k))
     go None e same =
-      best-same
+        best-same
         (λ p c q en. let f : Fresh (net x) s (address t k) p c q = enter y.part en in record { steps = f.steps; counters = f.counters; walk = f.walk })
         (λ p c q z. from_below z.walk (λ j known head. no_head (walk-reachable y.reached z.walk) j known head))
         (subst (λ m. IsBest (entry m) (Enters (net x) s (address t k))) (sym same) entered)
       where
         no_head : Reachable (graph t) (address t k) → (j : LoopSetup) → s.loops j → address t k ≢ j.head
         no_head rv j known head =
-          let some = y.rounds.some j known (subst (λ v. Reachable (graph t) v) head rv) in
-          let z : power_at powers k ≡ Some some.0 = ap (power_at powers) (sym (head_place j head)) ∙ some.1 in
-          let w : None ≡ Some some.0 = sym e ∙ z in
-          let none : ⊥ = cc in none
+            let some = y.rounds.some j known (subst (λ v. Reachable (graph t) v) head rv) in
+            let z : power_at powers k ≡ Some some.0 = ap (power_at powers) (sym (head_place j head)) ∙ some.1 in
+            let w : None ≡ Some some.0 = sym e ∙ z in
+            let none : ⊥ = cc in none
     go (Some m) e best = found (y.rounds.only k m low high e)
       where
         found : (j : LoopSetup) × s.loops j × (address t k ≡ j.head) × Reachable (graph t) (address t k) → IsBest (entry here) (Reaches (net x) s (address t k))
         found (j, known, head, rv) =
-          let some = y.rounds.some j known (subst (λ v. Reachable (graph t) v) head rv) in
-          let z : power_at powers k ≡ Some some.0 = ap (power_at powers) (sym (head_place j head)) ∙ some.1 in
-          let w : Some some.0 ≡ Some m = sym z ∙ e in
-          let same : some.0 ≡ m = cc in
-          let rounds : IsBest (entry m) (Rounds (net x) j j.limit) = subst (λ m. IsBest (entry m) (Rounds (net x) j j.limit)) same some.2 in
-          let entered_j : IsBest (matrix_at at k) (Enters (net x) s j.head) = subst (λ u. IsBest (matrix_at at k) (Enters (net x) s u)) head entered in
-          subst (λ u. IsBest (entry here) (Reaches (net x) s u)) (sym head) (reach-head j y.nested y.part y.reached known entered_j (λ _. rounds) best)
+            let some = y.rounds.some j known (subst (λ v. Reachable (graph t) v) head rv) in
+            let z : power_at powers k ≡ Some some.0 = ap (power_at powers) (sym (head_place j head)) ∙ some.1 in
+            let w : Some some.0 ≡ Some m = sym z ∙ e in
+            let same : some.0 ≡ m = cc in
+            let rounds : IsBest (entry m) (Rounds (net x) j j.limit) = subst (λ m. IsBest (entry m) (Rounds (net x) j j.limit)) same some.2 in
+            let entered_j : IsBest (matrix_at at k) (Enters (net x) s j.head) = subst (λ u. IsBest (matrix_at at k) (Enters (net x) s u)) head entered in
+            subst (λ u. IsBest (entry here) (Reaches (net x) s u)) (sym head) (reach-head j y.nested y.part y.reached known entered_j (λ _. rounds) best)
 
 -- the sums at a head are costs of walks
 pub round-sums : (t : Tree) (o : Positions) (s : Part) (k : ℕ) (at : List Matrix) (powers : Powers) → IsTree t → IsReady (over t o) t s powers → IsPassed (over t o) t s k at → s.low ≤ address t k → address t k ≤ s.high → k < length t.words →
@@ -217,16 +217,16 @@ round-sums t o s k at powers is y ps low high within m e p c q z = go (y.rounds.
 
     go : (j : LoopSetup) × s.loops j × (address t k ≡ j.head) × Reachable (graph t) (address t k) → c < 2 ^ 127
     go (j, known, head, rv) =
-      let some = y.rounds.some j known (subst (λ v. Reachable (graph t) v) head rv) in
-      let at_head : power_at powers k ≡ Some some.0 = ap (power_at powers) (sym (ap (place t) (sym head) ∙ address-place t k)) ∙ some.1 in
-      let both : Some some.0 ≡ Some m = sym at_head ∙ e in
-      let same : some.0 ≡ m = cc in
-      let rounds : IsBest (entry m) (Rounds (net x) j j.limit) = subst (λ m. IsBest (entry m) (Rounds (net x) j j.limit)) same some.2 in
-      let entered : IsBest (matrix_at at k) (Enters (net x) s (address t k)) = best-same (comes-enters y.reached (address-lies t is.draft k within)) enters-comes (ps.ahead k (omega arith) high) in
-      let first : Enters (net x) s j.head p z.one z.at = subst (λ v. Enters (net x) s v p z.one z.at) head (entered.1 p z.one z.at z.first) in
-      let r : Rounded (net x) s j j.limit p c q = go_round j j.limit y.nested y.part known (omega arith) (record { at = z.at; one = z.one; two = z.two; first = first; second = rounds.1 z.at z.two q z.second; cost = z.cost }) in
-      let lim : c < 2 ^ 120 = y.limited j.head p c q (record { steps = r.steps; counters = r.counters; walk = r.walk }) in
-      omega arith
+        let some = y.rounds.some j known (subst (λ v. Reachable (graph t) v) head rv) in
+        let at_head : power_at powers k ≡ Some some.0 = ap (power_at powers) (sym (ap (place t) (sym head) ∙ address-place t k)) ∙ some.1 in
+        let both : Some some.0 ≡ Some m = sym at_head ∙ e in
+        let same : some.0 ≡ m = cc in
+        let rounds : IsBest (entry m) (Rounds (net x) j j.limit) = subst (λ m. IsBest (entry m) (Rounds (net x) j j.limit)) same some.2 in
+        let entered : IsBest (matrix_at at k) (Enters (net x) s (address t k)) = best-same (comes-enters y.reached (address-lies t is.draft k within)) enters-comes (ps.ahead k (omega arith) high) in
+        let first : Enters (net x) s j.head p z.one z.at = subst (λ v. Enters (net x) s v p z.one z.at) head (entered.1 p z.one z.at z.first) in
+        let r : Rounded (net x) s j j.limit p c q = go_round j j.limit y.nested y.part known (omega arith) (record { at = z.at; one = z.one; two = z.two; first = first; second = rounds.1 z.at z.two q z.second; cost = z.cost }) in
+        let lim : c < 2 ^ 120 = y.limited j.head p c q (record { steps = r.steps; counters = r.counters; walk = r.walk }) in
+        omega arith
 
 -- the sums of a step
 pub step-sums : (x : Course) (s : Part) (v : ℕ) (here : Matrix) (lag : ℕ) → ((v p c q : ℕ) → Reaches (net x) s v p c q → c < 2 ^ 120) → length x.positions.frame ≤ 8 → lag ≤ 3 → IsBest (entry here) (Reaches (net x) s v) → (p c q : ℕ) → Then (In (entry here)) (Steps x.positions lag) p c q → c < 2 ^ 127
@@ -240,12 +240,12 @@ pub pass-step : (t : Tree) (o : Positions) (s : Part) (first last k : ℕ) (a0 a
     IsPassed (over t o) t s k a0 → first ≤ k → k ≤ last → IsBest (entry here) (Reaches (net (over t o)) s (address t k)) → length a3 ≡ length t.words →
     a1 ≡ slice_set a0 k here → IsBrought o (up_of t k last (edges_at t k).next) here (edges_at t k).next_lag a1 a2 → IsBrought o (up_of t k last (edges_at t k).jump) here 3 a2 a3 → IsPassed (over t o) t s (k + 1) a3
 pass-step t o s first last k a0 a1 a2 a3 here is r sp p from le best count put n j = record {
-    count = count;
-    done = λ w low lt. finished w low (let z : (w < k) ⊎ (w ≡ k) = grind arith in z);
-    ahead = λ w up high. both_edges t k w is refl r
+  count = count;
+  done = λ w low lt. finished w low (let z : (w < k) ⊎ (w ≡ k) = grind arith in z);
+  ahead = λ w up high. both_edges t k w is refl r
       (brought t k last here e.jump 3 a2 a3 is r sp.within sp.inside refl (jump-aligned t is k) best j w (omega arith) (within w high)
-        (brought t k last here e.next e.next_lag a1 a2 is r sp.within sp.inside refl (next-aligned t is k) best n w (omega arith) (within w high) (old w up high)));
-  }
+      (brought t k last here e.next e.next_lag a1 a2 is r sp.within sp.inside refl (next-aligned t is k) best n w (omega arith) (within w high) (old w up high)));
+}
   where
     x : Course
     x = over t o
@@ -264,12 +264,12 @@ pass-step t o s first last k a0 a1 a2 a3 here is r sp p from le best count put n
 
     above_k : (target : Option ℕ) (w : ℕ) → ((v : ℕ) → target ≡ Some v → v % 4 ≡ 0) → w ≤ k → up_of t k last target ≡ Some w → ⊥
     above_k target w aligned down at =
-      let z = up-is t k last target w at in
-      let a : z.0 % 4 ≡ 0 = aligned z.0 z.1 in
-      let b = place-aligned t is k in
-      let lt : address t k < z.0 = z.2 in
-      let same : w ≡ place t z.0 = z.4 in
-      omega arith
+        let z = up-is t k last target w at in
+        let a : z.0 % 4 ≡ 0 = aligned z.0 z.1 in
+        let b = place-aligned t is k in
+        let lt : address t k < z.0 = z.2 in
+        let same : w ≡ place t z.0 = z.4 in
+        omega arith
 
     later : (w : ℕ) → w ≤ k → slice_index_or a3 w no_matrix ≡ slice_index_or a1 w no_matrix
     later w down = j.others w (above_k e.jump w (jump-aligned t is k) down) ∙ n.others w (above_k e.next w (next-aligned t is k) down)
@@ -277,17 +277,17 @@ pass-step t o s first last k a0 a1 a2 a3 here is r sp p from le best count put n
     finished : (w : ℕ) → s.low ≤ address t w → (w < k) ⊎ (w ≡ k) → IsBest (matrix_at a3 w) (Reaches (net x) s (address t w))
     finished w low (inl below) = subst (λ m. IsBest (entry m) (Reaches (net x) s (address t w))) (sym (later w (omega arith) ∙ keeps w (omega arith))) (p.done w low below)
     finished w low (inr same) =
-      let at : slice_index_or a3 k no_matrix ≡ here = (later k (omega arith) ∙ ap (λ l. slice_index_or l k no_matrix) put) ∙ get_or-set_same a0 k here no_matrix (let i = sp.inside in omega (arith, p.count)) in
-      subst (λ w. IsBest (matrix_at a3 w) (Reaches (net x) s (address t w))) (sym same) (subst (λ m. IsBest (entry m) (Reaches (net x) s (address t k))) (sym at) best)
+        let at : slice_index_or a3 k no_matrix ≡ here = (later k (omega arith) ∙ ap (λ l. slice_index_or l k no_matrix) put) ∙ get_or-set_same a0 k here no_matrix (let i = sp.inside in omega (arith, p.count)) in
+        subst (λ w. IsBest (matrix_at a3 w) (Reaches (net x) s (address t w))) (sym same) (subst (λ m. IsBest (entry m) (Reaches (net x) s (address t k))) (sym at) best)
 
 -- the pass begins
 pub pass-start : (t : Tree) (o : Positions) (s : Part) (first last : ℕ) (a : List Matrix) (one : Matrix) → IsTree t → IsPart (net (over t o)) s → IsSpan t s first last → length a ≡ length t.words →
     ((w : ℕ) → first ≤ w → w ≤ last → (p q c : ℕ) → matrix_at a w p q ≡ Some c → ⊥) → IsBest (entry one) (Stays (IsOwn o)) → IsPassed (over t o) t s first (slice_set a first one)
 pass-start t o s first last a one is part sp count none best = record {
-    count = length-set a first one ∙ count;
-    done = λ w low lt. absurd (let e = sp.low in omega arith);
-    ahead = λ w from high. go w from high (let y : (w ≡ first) ⊎ (first < w) = grind arith in y);
-  }
+  count = length-set a first one ∙ count;
+  done = λ w low lt. absurd (let e = sp.low in omega arith);
+  ahead = λ w from high. go w from high (let y : (w ≡ first) ⊎ (first < w) = grind arith in y);
+}
   where
     x : Course
     x = over t o
@@ -297,15 +297,16 @@ pass-start t o s first last a one is part sp count none best = record {
 
     go : (w : ℕ) → first ≤ w → address t w ≤ s.high → (w ≡ first) ⊎ (first < w) → IsBest (matrix_at (slice_set a first one) w) (Comes x s (Below x (address t first)) (address t w))
     go w from high (inl same) =
-      let low : address t w ≡ s.low = ap (address t) same ∙ sym sp.low in
-      let at : slice_index_or (slice_set a first one) w no_matrix ≡ one = ap (λ k. slice_index_or (slice_set a first one) k no_matrix) same ∙ get_or-set_same a first one no_matrix (let i = sp.inside in let j = sp.order in omega arith) in
-      subst (λ m. IsBest (entry m) (Comes x s (Below x (address t first)) (address t w))) (sym at)
+        let low : address t w ≡ s.low = ap (address t) same ∙ sym sp.low in
+        let at : slice_index_or (slice_set a first one) w no_matrix ≡ one = ap (λ k. slice_index_or (slice_set a first one) k no_matrix) same ∙ get_or-set_same a first one no_matrix (let i = sp.inside in let j = sp.order in omega arith) in
+        subst (λ m. IsBest (entry m) (Comes x s (Below x (address t first)) (address t w))) (sym at)
         (best-same (λ p c q z. inl (low, z)) (λ p c q z. elim z [ inl y ↦ y.1 | inr b ↦ absurd (nothing_yet (address t w) p c q b) ]) best)
     go w from high (inr up) =
-      let at : slice_index_or (slice_set a first one) w no_matrix ≡ slice_index_or a w no_matrix = get_or-set_other a first w one no_matrix (omega arith) in
-      let top : address t w ≤ address t last = sp.top (address t w) (place-aligned t is w) high in
-      ((λ p c q z. elim z [ inl y ↦ absurd (let e : address t w ≡ s.low = y.0 in let l = sp.low in omega arith) | inr b ↦ absurd (nothing_yet (address t w) p c q b) ]),
-       (λ p c q e. absurd (none w from (omega arith) p q c (ap (λ m. entry m p q) (sym at) ∙ e))))
+        let at : slice_index_or (slice_set a first one) w no_matrix ≡ slice_index_or a w no_matrix = get_or-set_other a first w one no_matrix (omega arith) in
+        let top : address t w ≤ address t last = sp.top (address t w) (place-aligned t is w) high in (
+          (λ p c q z. elim z [ inl y ↦ absurd (let e : address t w ≡ s.low = y.0 in let l = sp.low in omega arith) | inr b ↦ absurd (nothing_yet (address t w) p c q b) ]),
+          (λ p c q e. absurd (none w from (omega arith) p q c (ap (λ m. entry m p q) (sym at) ∙ e))),
+        )
 
 -- the matrix without sums
 get-row : (n p q : ℕ) → slice_index_or (slice_index_or (replicate n (replicate 8 nothing)) p []) q nothing ≡ nothing

@@ -51,8 +51,8 @@ turns-more {x} {f} j v target lag is both = best-same there back both
     last : {p c q : ℕ} → (t : Turns x j (AndTo f v target lag) p c q) → AndTo f v target lag t.from (record { to = j.head; lag = t.lag }) → Either (Turns x j f) (Then (Reaches (net x) (body (net x) j) v) (Steps x.positions lag)) p c q
     last t (inl h) = inl (record { from = t.from; at = t.at; one = t.one; two = t.two; lag = t.lag; walk = t.walk; edge = h; move = t.move; cost = t.cost })
     last {p} {c} {q} t (inr h) =
-      let lags : t.lag ≡ lag = (edge-is target lag (record { to = j.head; lag = t.lag }) h.1).1 in
-      inr (record { at = t.at; one = t.one; two = t.two; first = subst (λ u. Reaches (net x) (body (net x) j) u p t.one t.at) h.0 t.walk; second = subst (λ lag. Steps x.positions lag t.at t.two q) lags t.move; cost = t.cost })
+        let lags : t.lag ≡ lag = (edge-is target lag (record { to = j.head; lag = t.lag }) h.1).1 in
+        inr (record { at = t.at; one = t.one; two = t.two; first = subst (λ u. Reaches (net x) (body (net x) j) u p t.one t.at) h.0 t.walk; second = subst (λ lag. Steps x.positions lag t.at t.two q) lags t.move; cost = t.cost })
 
     back : Within (Turns x j (AndTo f v target lag)) (Either (Turns x j f) (Then (Reaches (net x) (body (net x) j) v) (Steps x.positions lag)))
     back p c q t = last t t.edge
@@ -65,7 +65,7 @@ turned {x} {f} {back} {here} {new} j v target lag r part best t before = go (opt
     go : (target ≡ Some j.head) ⊎ (target ≡ Some j.head → ⊥) → IsBest (entry new) (Turns x j (AndTo f v target lag))
     go (inl is) = turns-more j v target lag is (best-either-then before best (t.there is))
     go (inr other) =
-      subst (λ m. IsBest (entry m) (Turns x j (AndTo f v target lag))) (sym (t.other other))
+        subst (λ m. IsBest (entry m) (Turns x j (AndTo f v target lag))) (sym (t.other other))
         (turns-same j r part (λ u e a low ru y. inl y) (λ u e a low ru y. elim y [ inl z ↦ z | inr z ↦ absurd (other ((edge-is target lag e z.1).0 ∙ ap Some a)) ]) before)
 
 -- both edges of the word at a place
@@ -112,13 +112,13 @@ turns-all {m} t o j first last is r h part sp best = best-same turning (rounds-t
 
     turning : Within (Turns x j (Below x (address t (last + 1)))) (Round (net x) j)
     turning p c q z =
-      let a = accepted t is in
-      let l = a.ordered j h in
-      let ru : Reachable (graph t) z.from = walk-reachable r z.walk.walk in
-      let au : z.from % 4 ≡ 0 = reachable-aligned t is.draft z.from ru in
-      let av = place-aligned t is last in
-      let within : address t last ≤ j.last = sp.within in
-      record { from = z.from; at = z.at; one = z.one; two = z.two; walk = z.walk; arc = record { lag = z.lag; edge = z.edge.1; move = z.move; reached = ru; lies = record { low = l.0; high = omega arith } }; held = (above part z.walk.walk, (let y = z.edge.0 in omega arith)); cost = z.cost }
+        let a = accepted t is in
+        let l = a.ordered j h in
+        let ru : Reachable (graph t) z.from = walk-reachable r z.walk.walk in
+        let au : z.from % 4 ≡ 0 = reachable-aligned t is.draft z.from ru in
+        let av = place-aligned t is last in
+        let within : address t last ≤ j.last = sp.within in
+        record { from = z.from; at = z.at; one = z.one; two = z.two; walk = z.walk; arc = record { lag = z.lag; edge = z.edge.1; move = z.move; reached = ru; lies = record { low = l.0; high = omega arith } }; held = (above part z.walk.walk, (let y = z.edge.0 in omega arith)); cost = z.cost }
 
 -- a matrix taken along an edge that leads to the head
 pub is-turned : (s : Positions) (back here joined : Matrix) (target : Option ℕ) (lag head : ℕ) (hops : List (Option Hop)) → target ≡ Some head → IsHops s lag hops → IsBest (entry joined) (Either (In (entry back)) (Then (In (entry here)) (Hops hops))) → IsTurned s back here target lag head joined

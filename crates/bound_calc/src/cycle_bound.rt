@@ -62,7 +62,11 @@ fn most_out(steps: &Steps, here: &Matrix, out: bool, lag: u64, most: u128) -> u1
     requires fits { (p c q : ℕ) → Then (In (entry here.now)) (StepsAfter steps.now lag) p c q → c < 2 ^ 127 }
     ensures { IsOut steps.now here.now out lag most result }
 {
-    if out { leave(here, steps.hops(lag), most) } else { most }
+    if out {
+        leave(here, steps.hops(lag), most)
+    } else {
+        most
+    }
 }
 
 /// The largest cost of a walk, from what reaches each word of the section.
@@ -78,7 +82,13 @@ fn most(tree: &LoopTree, steps: &Steps, at: &[Matrix]) -> u128
     for place in 0..at.len() {
         let edges = edges_at(tree, place);
         let inside = largest(&at[place], most);
-        let next = most_out(steps, &at[place], is_out(tree, edges.next), edges.next_lag, inside);
+        let next = most_out(
+            steps,
+            &at[place],
+            is_out(tree, edges.next),
+            edges.next_lag,
+            inside,
+        );
         most = most_out(steps, &at[place], is_out(tree, edges.jump), JUMP_LAG, next);
     }
     most

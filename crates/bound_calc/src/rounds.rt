@@ -20,7 +20,14 @@ use fp_setup::LoopSetup;
 use region_tree::{JUMP_LAG, LoopTree};
 
 /// Joins what an edge brings back to a head.
-fn turn(steps: &Steps, back: &Matrix, here: &Matrix, target: Option<u32>, lag: u64, head: u32) -> Matrix
+fn turn(
+    steps: &Steps,
+    back: &Matrix,
+    here: &Matrix,
+    target: Option<u32>,
+    lag: u64,
+    head: u32,
+) -> Matrix
     requires lag { lag ≤ 3 }
     requires fits { (p c q : ℕ) → Then (In (entry here.now)) (StepsAfter steps.now lag) p c q → c < 2 ^ 127 }
     ensures { IsTurned steps.now back.now here.now target lag head result }

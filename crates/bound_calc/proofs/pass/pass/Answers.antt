@@ -25,7 +25,7 @@ with_rounds-here-requires c =
     let sp = c.places_of-span.ensures.span o in
     let low = sp.low in let high = sp.within in let inside = sp.inside in
     λ m e. round-sums t o (part_of (over t o) c.args.around) k c.loop-place.at c.args.powers.now c.places_of-span.ensures.rules c.requires.ready c.loop-place.invariant (omega arith) (omega arith) (omega arith) m
-      (read-power c.args.powers.now k c.index-powers-place.result c.index-powers-place.is (omega (arith, c.requires.ready.count)) ∙ e)
+    (read-power c.args.powers.now k c.index-powers-place.result c.index-powers-place.is (omega (arith, c.requires.ready.count)) ∙ e)
 
 -- what reaches the present word
 best : (c : After-with_rounds-here) → IsBest (entry c.with_rounds-here.result) (Reaches (net (over c.args.tree.now c.args.steps.now)) (part_of (over c.args.tree.now c.args.steps.now) c.args.around) (address c.args.tree.now c.loop-place.place))
@@ -36,8 +36,8 @@ best c =
     let sp = c.places_of-span.ensures.span o in
     let low = sp.low in let high = sp.within in let inside = sp.inside in
     reached t o (part_of (over t o) c.args.around) k c.loop-place.at c.args.powers.now c.with_rounds-here.result c.places_of-span.ensures.rules c.requires.ready c.loop-place.invariant (omega arith) (omega arith) (omega arith)
-      (subst (λ p. MatchOption p (c.with_rounds-here.result ≡ slice_index_or c.loop-place.at k no_matrix) (λ m. IsBest (entry c.with_rounds-here.result) (Then (In (matrix_at c.loop-place.at k)) (In (entry m)))))
-        (sym (read-power c.args.powers.now k c.index-powers-place.result c.index-powers-place.is (omega (arith, c.requires.ready.count)))) c.with_rounds-here.ensures)
+    (subst (λ p. MatchOption p (c.with_rounds-here.result ≡ slice_index_or c.loop-place.at k no_matrix) (λ m. IsBest (entry c.with_rounds-here.result) (Then (In (matrix_at c.loop-place.at k)) (In (entry m)))))
+    (sym (read-power c.args.powers.now k c.index-powers-place.result c.index-powers-place.is (omega (arith, c.requires.ready.count)))) c.with_rounds-here.ensures)
 
 -- a step from it costs little
 fits : (c : After-with_rounds-here) (lag : ℕ) → lag ≤ 3 → (p n q : ℕ) → Then (In (entry c.with_rounds-here.result)) (Steps c.args.steps.now lag) p n q → n < 2 ^ 127

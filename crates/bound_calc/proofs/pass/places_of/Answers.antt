@@ -23,8 +23,8 @@ returns-in-Some-clause-span c = λ s.
     let t = c.args.tree.now in
     let j = c.in-Some.j in
     subst (λ o. IsSpan t (part_of (over t s) o) ((j.head - c.section-section.result.from) / 4) ((j.last - c.section-section.result.from) / 4)) (sym c.in-Some.is)
-      (subst (λ r. IsSpan t (part_of (over t s) (Some j)) ((j.head - r.from) / 4) ((j.last - r.from) / 4)) (sym c.section-section.ensures.value)
-        (span-body t s j c.section-section.ensures.rules (known (goal.at.returns-in-Some-clause-span c).In-Some)))
+    (subst (λ r. IsSpan t (part_of (over t s) (Some j)) ((j.head - r.from) / 4) ((j.last - r.from) / 4)) (sym c.section-section.ensures.value)
+    (span-body t s j c.section-section.ensures.rules (known (goal.at.returns-in-Some-clause-span c).In-Some)))
 
 pub returns-in-Some-clause-inside : goal.returns-in-Some-clause-inside
 returns-in-Some-clause-inside c =

@@ -17,12 +17,14 @@ returns-then-times-eq0-2 t c = squared (IsOwn c.args.steps.now) (In (entry c.arg
 pub chain-requires : goal.chain-requires
 chain-requires t c =
     let twice : ℕ = (c.args.times / 2) + (c.args.times / 2) in
-    record { sums = more-sums (IsOwn c.args.steps.now) c.chain-square.result c.args.base.now twice c.args.times (omega arith) c.requires.sums
-      (squared (IsOwn c.args.steps.now) (In (entry c.args.base.now)) c.power-half.result c.chain-square.result (c.args.times / 2) twice (omega arith) c.requires.lands c.power-half.ensures c.chain-square.ensures.best) }
+    record {
+      sums = more-sums (IsOwn c.args.steps.now) c.chain-square.result c.args.base.now twice c.args.times (omega arith) c.requires.sums
+          (squared (IsOwn c.args.steps.now) (In (entry c.args.base.now)) c.power-half.result c.chain-square.result (c.args.times / 2) twice (omega arith) c.requires.lands c.power-half.ensures c.chain-square.ensures.best);
+    }
 
 pub returns : goal.returns
 returns t c =
     let twice : ℕ = (c.args.times / 2) + (c.args.times / 2) in
     once_more (IsOwn c.args.steps.now) c.chain-square.result c.args.base.now c.chain.result twice c.args.times (omega arith)
-      (squared (IsOwn c.args.steps.now) (In (entry c.args.base.now)) c.power-half.result c.chain-square.result (c.args.times / 2) twice (omega arith) c.requires.lands c.power-half.ensures c.chain-square.ensures.best)
-      c.chain.ensures.best
+    (squared (IsOwn c.args.steps.now) (In (entry c.args.base.now)) c.power-half.result c.chain-square.result (c.args.times / 2) twice (omega arith) c.requires.lands c.power-half.ensures c.chain-square.ensures.best)
+    c.chain.ensures.best

@@ -51,8 +51,8 @@ loop-place-preserved c =
     let next = subst (λ e. IsTurned o c.loop-place.back now e.next e.next_lag c.args.j.head c.turn-next.result) c.edges_at-edges.ensures c.turn-next.ensures in
     let jump = subst (λ e. IsTurned o c.turn-next.result now e.jump 3 c.args.j.head c.turn-back.result) c.edges_at-edges.ensures c.turn-back.ensures in
     turns-word t o c.args.j k c.places_of-span.ensures.rules c.requires.reached c.requires.ready.part
-      (turned c.args.j (address t k) (edges_at t k).jump 3 c.requires.reached c.requires.ready.part best jump
-        (turned c.args.j (address t k) (edges_at t k).next (edges_at t k).next_lag c.requires.reached c.requires.ready.part best next c.loop-place.invariant))
+    (turned c.args.j (address t k) (edges_at t k).jump 3 c.requires.reached c.requires.ready.part best jump
+    (turned c.args.j (address t k) (edges_at t k).next (edges_at t k).next_lag c.requires.reached c.requires.ready.part best next c.loop-place.invariant))
 
 -- at most one round
 base : (c : After-join-base) → IsBest (entry c.join-base.result) (Either (Stays (IsOwn c.args.steps.now)) (Round (net (over c.args.tree.now c.args.steps.now)) c.args.j))
