@@ -35,7 +35,7 @@ takes-pick s n w last (chosen.Issue k) = go (nat_lt n (thread_of w k).ready)
 picked-is : (s : Start) (c : ℕ) → pick_in (turn_at s (suc c) 0) ≡ (picked s c).pick
 picked-is s c = rw (next_takes s c) (takes-pick s c (world s c) (picked s c).last (picked s c).pick)
 
-write-is : (t : Took) → write_latch (in_memory t) ≡ in_write t
+pub write-is : (t : Took) → write_latch (in_memory t) ≡ in_write t
 unfolding write_latch
 write-is Idle = refl
 write-is (Lost k) = refl

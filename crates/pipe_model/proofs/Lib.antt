@@ -4,5 +4,6 @@ mod Front
 mod Young
 mod Ports
 mod Keeping
+mod Showing
 mod Starting
 mod Events
