@@ -5,7 +5,7 @@
 
 mod latches;
 
-ghost use Rattle.pipe_model.specs.Laws.{Keeps, Starts, LosesPort, EventsGrow};
+ghost use Rattle.pipe_model.specs.Laws.{EventsGrow, Keeps, LosesPort, ShowsTurns, Starts};
 
 pub use latches::{Decoded, Executed, Fetched, Held, Redirect, Stored, Written};
 
@@ -31,4 +31,10 @@ pub fn stands_without_port()
 /// event. The contract is the law; the call does nothing.
 pub fn events_grow()
     ensures { EventsGrow }
+{}
+
+/// The latches that stand for a cycle show the turns of the last five cycles, each with its hart, and
+/// from D on with its pc and word. The contract is the law; the call does nothing.
+pub fn shows_turns()
+    ensures { ShowsTurns }
 {}

@@ -1,0 +1,9 @@
+mod Moved
+mod Late
+mod Front
+mod Young
+mod Ports
+mod Keeping
+mod Showing
+mod Starting
+mod Events
