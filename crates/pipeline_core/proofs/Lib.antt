@@ -1,1 +1,4 @@
 pub mod Registers
+pub mod Pcs
+pub mod Acts
+pub mod Forwarding

@@ -1,5 +1,5 @@
 -- What holds of everything that stands in a latch.
-use Rattle.std.specs.Prelude.{◌≡◌, ℕ, ◌<◌, ◌%◌, Option, Some, None}
+use Rattle.std.specs.Prelude.{◌≡◌, ℕ, ◌<◌, ◌%◌, Option, Some, None, IsTrue}
 use Rattle.std.proofs.Common.{inl, inr, ap, arith}
 use Rattle.std.proofs.Math.Nat.{ℕ_set}
 use Rattle.std.proofs.Math.Bridge.{le_prop}
@@ -11,6 +11,7 @@ use Rattle.rv_exec.specs.Line.{IsWidth, IsPrintable}
 use Rattle.rv_exec.specs.declared.outcome.Effect.{Effect}
 use Rattle.rv_exec.specs.declared.outcome.Event.{Event}
 use Rattle.rv_exec.specs.declared.outcome.Effect.TheVariants as effect
+use Rattle.core_model.specs.Control.{may_hold}
 use Rattle.hart_exec.specs.Meaning.{IsShowable, IsAlignedStore}
 use Rattle.pipe_model.specs.declared.latches.Held.{Held}
 use Rattle.pipe_model.specs.declared.latches.Held.TheVariants.{Bubble, Flushed, Issue}
@@ -65,6 +66,11 @@ IsEventShowable None = Unit {0}
 abbrev pub RedirectFits : Option Redirect → Type 0
 RedirectFits (Some r) = (r.thread < 8) × IsPc r.pc
 RedirectFits None = Unit {0}
+
+-- a control and status register is given a word that it may hold
+abbrev pub IsAccepted : Option Effect → Type 0
+IsAccepted (Some (effect.Csr csr value rd old)) = IsTrue (may_hold csr value)
+IsAccepted _ = Unit {0}
 
 -- each of these holds in one way
 width-prop : (size : ℕ) → IsProp (IsWidth size)

@@ -3,6 +3,9 @@
 #![tactic(auto)]
 
 mod access;
+mod decode;
+mod execute;
+mod fetch;
 mod memory;
 mod pipe;
 mod rights;
