@@ -2,3 +2,4 @@ pub mod Registers
 pub mod Pcs
 pub mod Acts
 pub mod Forwarding
+pub mod Standing

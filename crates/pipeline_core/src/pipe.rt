@@ -12,7 +12,7 @@ use crate::fetch::{fetch, redirect_to};
 use crate::units::Units;
 use crate::write::{retire, write_back, written};
 use fp_ports::{Port, Ports};
-use pipe_model::{Decoded, Executed, Fetched, Held, Stored, Written};
+use pipe_model::{Decoded, Executed, Fetched, Held, Stored, Written, keeps_standing};
 use rv_exec::Event;
 
 /// What stands between the stages: the turns of the last five cycles. Before cycle c, `f` holds the
@@ -40,7 +40,9 @@ pub struct Pipe {
 impl Pipe {
     ghost use Rattle.std.specs.Prelude.{◌<◌, vec_len};
     ghost use Rattle.fp_ports.specs.Rows.{rows_of};
+    ghost use Rattle.world_model.specs.World.{Start};
     ghost use Rattle.pipe_model.specs.Stages.{step};
+    ghost use Rattle.pipe_model.specs.Relation.{Begins, Shows, Stands, Kept};
     ghost use Rattle.pipeline_core.specs.Fits.{IsEventShowable};
     ghost use Rattle.pipeline_core.specs.Meaning.{latches_by, state_by, ticked_by};
 
@@ -59,13 +61,29 @@ impl Pipe {
         }
     }
 
-    /// One cycle of the core. The older stages go first, so that the younger ones go by what they
+    /// One cycle of the core. Where pipeline, units and ports stand for the cycle of a world, they
+    /// stand for its next cycle afterwards, and the answer is the event of the issue of four cycles
+    /// ago, or None where that has none or there is no issue.
+    pub fn tick(&mut self, units: &mut Units, ports: &mut Ports, cycle: u64) -> Option<Event>
+        requires cycle { cycle < 4000000000 }
+        requires eight { vec_len ports.old ≡ 8 }
+        ensures relation { let before = rows_of latched word_at ports.old.items in let after = rows_of latched word_at ports.new.items in
+            (s : Start) → Begins s → Shows s cycle before → Stands s cycle (latches_by self.old) (state_by units.old before) →
+            Kept s cycle before (ticked_by self.new units.new after result) }
+        ensures step { ticked_by self.new units.new (rows_of latched word_at ports.new.items) result ≡ step (latches_by self.old) (state_by units.old (rows_of latched word_at ports.old.items)) cycle }
+        ensures eight { vec_len ports.new ≡ 8 }
+        ensures showable { IsEventShowable result }
+    {
+        keeps_standing();
+        self.step(units, ports, cycle)
+    }
+
+    /// One cycle, stage by stage. The older stages go first, so that the younger ones go by what they
     /// leave; the pick goes by slots, modes and sleep moments as they stand before. The turn in M was
     /// issued three cycles ago, and finds at its thread's port the word of that cycle; the turn in E
     /// was issued two cycles ago, that in D one cycle ago, and they go by the times of those cycles.
-    /// The answer is the event of the turn that was issued four cycles ago, if it has one.
     #[tactic(auto, unfolding(pipe_model::specs::Stages::step))]
-    pub fn tick(&mut self, units: &mut Units, ports: &mut Ports, cycle: u64) -> Option<Event>
+    fn step(&mut self, units: &mut Units, ports: &mut Ports, cycle: u64) -> Option<Event>
         requires cycle { cycle < 4000000000 }
         requires eight { vec_len ports.old ≡ 8 }
         ensures step { ticked_by self.new units.new (rows_of latched word_at ports.new.items) result ≡ step (latches_by self.old) (state_by units.old (rows_of latched word_at ports.old.items)) cycle }
