@@ -86,7 +86,7 @@ module _ (s : Start) (c : ℕ) (begins : Begins s) where
           let P : ℕ → Type 0 = λ x. Spared s c (c - 2) w2 w1 (Ran j pc word effect) x pcs ⊎ Killed s c (c - 2) w2 w1 (Ran j pc word effect) x pcs in
           subst P (equals j k m.0) (here s c (c - 2) w2 w1 j pc word effect pcs (eight s (c - 2) begins) l (omega arith) t)
 
-  fates : (pcs : List ℕ) → length pcs ≡ 8 → (k : ℕ) → k < 8 → Fate s c w3 w2 w1 t2 t1 pcs k
+  pub fates : (pcs : List ℕ) → length pcs ≡ 8 → (k : ℕ) → k < 8 → Fate s c w3 w2 w1 t2 t1 pcs k
   fates pcs l k h = record {
     fate = fate-at pcs k t1 h l (behind s c 1) (real s c 1);
     regs = λ below. forwarded-m s (c - 3) w3 w2 t2 k (eight s (c - 3) begins) (behind s c 2) (λ i. go i below (real s c 2));

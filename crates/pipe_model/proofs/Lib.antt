@@ -5,5 +5,6 @@ mod Young
 mod Ports
 mod Keeping
 mod Showing
+mod Fetching
 mod Starting
 mod Events

@@ -1,9 +1,12 @@
 -- What the latches show of the turns that they hold: whose they are, with pc and word.
-use Rattle.std.specs.Prelude.{◌≡◌, ℕ, Bool, true, if◌then◌else◌, List, slice_index_or}
+use Rattle.std.specs.Prelude.{◌≡◌, ℕ, Bool, true, if◌then◌else◌, List, slice_index_or, Option}
+use Rattle.rv_exec.specs.declared.outcome.Effect.{Effect}
 use Rattle.slot_scheduler.specs.declared.picking.Pick.{Pick}
 use Rattle.slot_scheduler.specs.declared.picking.Pick.TheVariants as chosen
 use Rattle.region_guard.specs.Regions.{may_fetch}
-use Rattle.world_model.specs.World.{Start}
+use Rattle.core_model.specs.Memory.{code_at}
+use Rattle.world_model.specs.World.{Start, Took}
+use Rattle.world_model.specs.World.Took.{Lost, Ran}
 use Rattle.pipe_model.specs.declared.latches.Held.{Held}
 use Rattle.pipe_model.specs.declared.latches.Held.TheVariants.{Bubble, Flushed, Issue}
 use Rattle.pipe_model.specs.declared.latches.Fetched.{Fetched}
@@ -36,6 +39,12 @@ unfoldable pub execute_shown : Held Executed → Held Written
 execute_shown Bubble = Bubble
 execute_shown (Flushed k) = Flushed k
 execute_shown (Issue k x) = Issue k (record { pc = x.pc; word = x.word })
+
+-- f before a turn is known to be flushed: it is Flushed only for a turn that is lost, and for an issue it holds
+-- the turn's pc and the word there
+pub record FetchHolds (s : Start) (f : Held Fetched) (turn : Took) : Type 0 where
+  pub flushed : (k : ℕ) → f ≡ Flushed k → turn ≡ Lost k
+  pub issue : (k pc word : ℕ) (effect : Option Effect) → turn ≡ Ran k pc word effect → f ≡ Issue k (record { pc = pc; word = code_at s.size s.i_words pc })
 
 -- the latches show the turns of the last five cycles
 pub record Shown (s : Start) (c : ℕ) (p : Latches) (u : State) : Type 0 where

@@ -5,7 +5,7 @@
 
 mod latches;
 
-ghost use Rattle.pipe_model.specs.Laws.{EventsGrow, Keeps, LosesPort, ShowsTurns, Starts};
+ghost use Rattle.pipe_model.specs.Laws.{EventsGrow, FetchesAhead, Keeps, LosesPort, ShowsTurns, Starts};
 
 pub use latches::{Decoded, Executed, Fetched, Held, Redirect, Stored, Written};
 
@@ -37,4 +37,11 @@ pub fn events_grow()
 /// from D on with its pc and word. The contract is the law; the call does nothing.
 pub fn shows_turns()
     ensures { ShowsTurns }
+{}
+
+/// The latch after F holds the turn of the last cycle: it says that the turn is flushed only where it is
+/// lost, and the pc and the word of an issue are the issue's. The contract is the law; the call does
+/// nothing.
+pub fn fetches_ahead()
+    ensures { FetchesAhead }
 {}

@@ -1,5 +1,5 @@
 -- What holds of everything that stands in a latch.
-use Rattle.std.specs.Prelude.{◌≡◌, ◌⊎◌, ℕ, ◌<◌, ◌%◌, Option, Some, None}
+use Rattle.std.specs.Prelude.{◌≡◌, ℕ, ◌<◌, ◌%◌, Option, Some, None, IsTrue}
 use Rattle.std.proofs.Common.{inl, inr, ap, arith}
 use Rattle.std.proofs.Math.Nat.{ℕ_set}
 use Rattle.std.proofs.Math.Bridge.{le_prop}
@@ -9,7 +9,9 @@ use Rattle.rv_decode.specs.declared.instruction.Ins.TheVariants.{Load, Store}
 use Rattle.rv_exec.specs.Access.{IsAligned}
 use Rattle.rv_exec.specs.Line.{IsWidth, IsPrintable}
 use Rattle.rv_exec.specs.declared.outcome.Effect.{Effect}
+use Rattle.rv_exec.specs.declared.outcome.Event.{Event}
 use Rattle.rv_exec.specs.declared.outcome.Effect.TheVariants as effect
+use Rattle.core_model.specs.Control.{may_hold}
 use Rattle.hart_exec.specs.Meaning.{IsShowable, IsAlignedStore}
 use Rattle.pipe_model.specs.declared.latches.Held.{Held}
 use Rattle.pipe_model.specs.declared.latches.Held.TheVariants.{Bubble, Flushed, Issue}
@@ -18,6 +20,7 @@ use Rattle.pipe_model.specs.declared.latches.Decoded.{Decoded}
 use Rattle.pipe_model.specs.declared.latches.Executed.{Executed}
 use Rattle.pipe_model.specs.declared.latches.Stored.{Stored}
 use Rattle.pipe_model.specs.declared.latches.Written.{Written}
+use Rattle.pipe_model.specs.declared.latches.Redirect.{Redirect}
 
 -- a pc is a multiple of four
 abbrev pub IsPc : ℕ → Type 0
@@ -53,6 +56,21 @@ abbrev pub WrittenFits : Held Written → Type 0
 WrittenFits Bubble = Unit {0}
 WrittenFits (Flushed k) = k < 8
 WrittenFits (Issue k x) = k < 8
+
+-- an event can be shown in a line of a trace
+abbrev pub IsEventShowable : Option Event → Type 0
+IsEventShowable (Some e) = IsPrintable e.effect
+IsEventShowable None = Unit {0}
+
+-- a redirect is of a thread, to a pc
+abbrev pub RedirectFits : Option Redirect → Type 0
+RedirectFits (Some r) = (r.thread < 8) × IsPc r.pc
+RedirectFits None = Unit {0}
+
+-- a control and status register is given a word that it may hold
+abbrev pub IsAccepted : Option Effect → Type 0
+IsAccepted (Some (effect.Csr csr value rd old)) = IsTrue (may_hold csr value)
+IsAccepted _ = Unit {0}
 
 -- each of these holds in one way
 width-prop : (size : ℕ) → IsProp (IsWidth size)

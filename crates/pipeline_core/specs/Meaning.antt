@@ -1,12 +1,13 @@
 -- The code's values as those of the definitions.
 use Rattle.std.specs.Prelude.{List, Option}
 use Rattle.fp_ports.specs.Rows.{Row}
+use Rattle.rv_exec.specs.declared.outcome.Event.{Event}
 use Rattle.region_guard.specs.declared.access.Guard.{Guard}
 use Rattle.slot_scheduler.specs.declared.picking.Sched.{Sched}
 use Rattle.timer_unit.specs.declared.row.Timer.{Timer}
 use Rattle.core_model.specs.declared.own.Trapping.{Trapping}
 use Rattle.world_model.specs.World.{Registers}
-use Rattle.pipe_model.specs.Stages.{Latches, Control, State}
+use Rattle.pipe_model.specs.Stages.{Latches, Control, State, Ticked}
 use Rattle.pipeline_core.specs.declared.pipe.Pipe.{Pipe}
 use Rattle.pipeline_core.specs.declared.units.Units.{Units}
 
@@ -37,3 +38,7 @@ state_by u ports =
       permit = u.permit;
       ports = ports;
     }
+
+-- what a cycle left, and the event that it answered
+abbrev pub ticked_by : Pipe → Units → List (Option Row) → Option Event → Ticked
+ticked_by p u ports event = record { latches = latches_by p; state = state_by u ports; event = event }

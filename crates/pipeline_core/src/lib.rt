@@ -2,8 +2,15 @@
 //! hardware threads go, one stage in each cycle.
 #![tactic(auto)]
 
+mod access;
+mod decode;
+mod execute;
+mod fetch;
+mod memory;
 mod pipe;
+mod rights;
 mod units;
+mod write;
 
 pub use pipe::Pipe;
 pub use pipe_model::{Decoded, Executed, Fetched, Held, Stored, Written};
