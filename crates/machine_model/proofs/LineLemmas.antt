@@ -67,11 +67,11 @@ did-word : (s : Start) (n : ℕ) (w : World) (k : ℕ) → let t = thread_of w k
 unfolding acts_on around
 did-word s n w k = act-shown (surroundings s n w k) (thread_of w k) (is_due (thread_of w k).own.timer.armed (time s.period n)) _ (code_at s.size s.i_words (thread_of w k).pc) _ _ refl
 
-held-d : (s : Start) (c n : ℕ) (w after : World) (took : Took) (ports : List (Option Row)) → world s (c - 2) ≡ w → Turned s n w took after → decoded_held (units_of s c ports) (in_decode s n w took) ≡ held_in took
+held-d : (s : Start) (c n : ℕ) (w after : World) (took : Took) (ports : List (Option Row)) → world s (c - 2) ≡ w → Turned s n w took after → decoded_held s.size s.confined (world s (c - 2)).registers.iregions (in_decode s n w took) ≡ held_in took
 held-d s c n w after Idle ports e t = refl
 held-d s c n w after (Lost k) ports e t = refl
 held-d s c n w after (Ran k pc word effect) ports e t =
-    let registers : (units_of s c ports).control.registers ≡ w.registers = ap (λ (x : World). x.registers) e in
+    let registers : (world s (c - 2)).registers ≡ w.registers = ap (λ (x : World). x.registers) e in
     ap₂ (λ a b. Issue k a b) (sym t.pc_is) (rw registers (sym (t.word_is ∙ issue-word s n w k ∙ did-word s n w k)))
 
 held-e : (s : Start) (n : ℕ) (w after : World) (took : Took) → Turned s n w took after → executed_held (in_execute s n w took) ≡ held_in took
@@ -93,7 +93,7 @@ held-w (Ran k pc word effect) = refl
 abbrev stages_of : Latches → State → List ℕ
 stages_of p u =
     stage_text (codes "F") (fetched_held p.f)
-    ++ (stage_text (codes "D") (decoded_held u p.d)
+    ++ (stage_text (codes "D") (decoded_held u.size u.confined u.control.registers.iregions p.d)
     ++ (stage_text (codes "E") (executed_held p.e)
     ++ (stage_text (codes "M") (stored_held p.m)
     ++ stage_text (codes "W") (written_held p.w))))
@@ -183,7 +183,7 @@ unfolding dump_line
 word-line p u at k = go (nat_lt (66 + k) 10) (nat_lt (66 + k) 66) refl refl
   where
     go : (b d : Bool) → nat_lt (66 + k) 10 ≡ b → nat_lt (66 + k) 66 ≡ d →
-        (if b then head_line p u at (66 + k) else if d then thread_line u ((66 + k - 10) / 7) ((66 + k - 10) % 7) else words_seen u.d_words (66 + k - 66)) ≡ words_seen u.d_words k
+        (if b then head_line p u.size u.confined u.control.registers at (66 + k) else if d then thread_line u ((66 + k - 10) / 7) ((66 + k - 10) % 7) else words_seen u.d_words (66 + k - 66)) ≡ words_seen u.d_words k
     go true d q r = absurd (grind (arith, nat_tests))
     go false true q r = absurd (grind (arith, nat_tests))
     go false false q r = let e : 66 + k - 66 ≡ k = omega arith in rw e refl

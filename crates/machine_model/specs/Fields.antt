@@ -1,5 +1,5 @@
 -- The lines of a dump by the machine's fields, each by its number.
-use Rattle.std.specs.Prelude.{ℕ, ◌+◌, ◌-◌, ◌/◌, ◌%◌, ◌==◌, nat_lt, not, ◌||◌, if◌then◌else◌, List, [], flat_map, slice_index_or, true, codes}
+use Rattle.std.specs.Prelude.{ℕ, ◌+◌, ◌-◌, ◌/◌, ◌%◌, ◌==◌, nat_lt, not, ◌||◌, if◌then◌else◌, List, [], flat_map, slice_index_or, Bool, true, codes}
 use Rattle.std.specs.List.{range_with_len}
 use Rattle.region_guard.specs.Regions.{may_fetch}
 use Rattle.core_model.specs.Thread.{no_own}
@@ -14,6 +14,7 @@ use Rattle.pipe_model.specs.declared.latches.Decoded.{Decoded}
 use Rattle.pipe_model.specs.declared.latches.Executed.{Executed}
 use Rattle.pipe_model.specs.declared.latches.Stored.{Stored}
 use Rattle.pipe_model.specs.declared.latches.Written.{Written}
+use Rattle.world_model.specs.World.{Registers}
 use Rattle.pipe_model.specs.Stages.{Latches, State}
 use Rattle.machine_model.specs.Seen.{eight_from, traps_seen, timer_seen, words_seen}
 use Rattle.core_model.specs.Thread.{reg_in}
@@ -25,14 +26,14 @@ fetched_held (latch.Flushed k) = Picked k
 fetched_held (latch.Issue k x) = Picked k
 
 -- the word isn't shown where an expiry or a refused fetch will take the turn
-abbrev pub shown_word : State → ℕ → Decoded → ℕ
-shown_word u k x =
-    if x.expired || not (may_fetch k u.size (slice_index_or u.confined k true) u.control.registers.iregions x.pc) then 0 else x.word
+abbrev pub shown_word : ℕ → List Bool → ℕ → ℕ → Decoded → ℕ
+shown_word size confined iregions k x =
+    if x.expired || not (may_fetch k size (slice_index_or confined k true) iregions x.pc) then 0 else x.word
 
-abbrev pub decoded_held : State → Latch Decoded → Held
-decoded_held u latch.Bubble = Nothing
-decoded_held u (latch.Flushed k) = Flushed k
-decoded_held u (latch.Issue k x) = Issue k x.pc (shown_word u k x)
+abbrev pub decoded_held : ℕ → List Bool → ℕ → Latch Decoded → Held
+decoded_held size confined iregions latch.Bubble = Nothing
+decoded_held size confined iregions (latch.Flushed k) = Flushed k
+decoded_held size confined iregions (latch.Issue k x) = Issue k x.pc (shown_word size confined iregions k x)
 
 abbrev pub executed_held : Latch Executed → Held
 executed_held latch.Bubble = Nothing
@@ -50,18 +51,18 @@ written_held (latch.Flushed k) = Flushed k
 written_held (latch.Issue k x) = Issue k x.pc x.word
 
 -- the ten lines of the machine
-unfoldable pub head_line : Latches → State → ℕ → ℕ → List ℕ
-head_line p u at k =
+unfoldable pub head_line : Latches → ℕ → List Bool → Registers → ℕ → ℕ → List ℕ
+head_line p size confined registers at k =
     if k == 0 then cycles_text at
     else if k == 1 then stage_text (codes "F") (fetched_held p.f)
-    else if k == 2 then stage_text (codes "D") (decoded_held u p.d)
+    else if k == 2 then stage_text (codes "D") (decoded_held size confined registers.iregions p.d)
     else if k == 3 then stage_text (codes "E") (executed_held p.e)
     else if k == 4 then stage_text (codes "M") (stored_held p.m)
     else if k == 5 then stage_text (codes "W") (written_held p.w)
-    else if k == 6 then word_text (codes "slots") u.control.registers.slots
-    else if k == 7 then word_text (codes "modes") u.control.registers.modes
-    else if k == 8 then word_text (codes "dregions") u.control.registers.dregions
-    else word_text (codes "iregions") u.control.registers.iregions
+    else if k == 6 then word_text (codes "slots") registers.slots
+    else if k == 7 then word_text (codes "modes") registers.modes
+    else if k == 8 then word_text (codes "dregions") registers.dregions
+    else word_text (codes "iregions") registers.iregions
 
 -- the seven lines of a thread
 unfoldable pub thread_line : State → ℕ → ℕ → List ℕ
@@ -77,7 +78,7 @@ thread_line u i k =
 -- any line; from number 66 on those of the data scratchpad
 unfoldable pub dump_line : Latches → State → ℕ → ℕ → List ℕ
 dump_line p u at k =
-    if nat_lt k 10 then head_line p u at k
+    if nat_lt k 10 then head_line p u.size u.confined u.control.registers at k
     else if nat_lt k 66 then thread_line u ((k - 10) / 7) ((k - 10) % 7)
     else words_seen u.d_words (k - 66)
 

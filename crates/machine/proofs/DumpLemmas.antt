@@ -1,0 +1,30 @@
+-- What a dump has put, by the world.
+use Rattle.std.proofs.Common.{◌≡◌, ℕ, List, Option, Ok, Err, subst}
+use Rattle.std.specs.Prelude.{Result, OnOk, OnErr}
+use Rattle.std.specs.Io.KnownBytes.{Appends}
+use Rattle.fp_io.specs.Content.{AppendsFront}
+use Rattle.fp_io.specs.declared.sink.PutFailed.{PutFailed}
+use Rattle.fp_ports.specs.Rows.{Row}
+use Rattle.world_model.specs.World.{Start}
+use Rattle.machine_model.specs.Seen.{seen}
+use Rattle.machine_model.specs.Fields.{dumped}
+use Rattle.machine_model.proofs.LineLemmas.{dumps}
+use Rattle.pipeline_core.specs.Meaning.{latches_by, state_by}
+use Rattle.machine.specs.declared.state.Machine.{Machine}
+use Rattle.machine.specs.Meaning.{StandsFor}
+
+pub dump_ok : (r : Result (Unit {0}) PutFailed) (before after : Option (List ℕ)) (m : Machine) (rows : List (Option Row)) → OnOk r (Appends before after (dumped (latches_by m.pipe) (state_by m.units rows) m.at)) →
+    OnOk r ((s : Start) (c n : ℕ) → StandsFor s c n m rows → Appends before after (seen s c))
+dump_ok (Ok x) before after m rows told =
+    λ s c n stands.
+    let Told : List ℕ → Type 0 = λ text. Appends before after text in
+    subst Told (dumps s c n (latches_by m.pipe) (state_by m.units rows) m.at m.unplugs stands) told
+dump_ok (Err e) before after m rows told = told
+
+pub dump_err : (r : Result (Unit {0}) PutFailed) (before after : Option (List ℕ)) (m : Machine) (rows : List (Option Row)) → OnErr r (AppendsFront before after (dumped (latches_by m.pipe) (state_by m.units rows) m.at)) →
+    OnErr r ((s : Start) (c n : ℕ) → StandsFor s c n m rows → AppendsFront before after (seen s c))
+dump_err (Ok x) before after m rows told = told
+dump_err (Err e) before after m rows told =
+    λ s c n stands.
+    let Told : List ℕ → Type 0 = λ text. AppendsFront before after text in
+    subst Told (dumps s c n (latches_by m.pipe) (state_by m.units rows) m.at m.unplugs stands) told

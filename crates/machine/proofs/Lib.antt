@@ -1,0 +1,4 @@
+pub mod FeedLemmas
+pub mod Putting
+pub mod DumpLemmas
+pub mod RunLemmas

@@ -1,0 +1,96 @@
+-- A cycle of the machine, and the text of a run.
+use Rattle.std.proofs.Common.{◌≡◌, ℕ, zero, suc, ◌+◌, ◌-◌, ◌<◌, ◌≤◌, List, [], ◌∷◌, ◌++◌, length, Option, Some, None, arith, refl, ap, sym, subst, ◌∙◌, add-one, add-zero, append_assoc}
+use Rattle.std.specs.Prelude.{flat_map}
+use Rattle.std.proofs.lemmas.List.{append-nil}
+use Rattle.std.proofs.lemmas.Grind.{flat_map-append}
+use Rattle.std.specs.Io.KnownBytes.{Appends}
+use Rattle.fp_io.specs.Content.{AppendsFront}
+use Rattle.fp_ports.specs.Rows.{Row}
+use Rattle.rv_exec.specs.declared.outcome.Event.{Event}
+use Rattle.trace_print.specs.Text.{line_text, text}
+use Rattle.world_model.specs.World.{Start, recent, world, events}
+use Rattle.pipe_model.specs.Stages.{Ticked}
+use Rattle.pipe_model.specs.Relation.{Begins, Shows, Stands, Kept, event_in, turn_at, of_hart}
+use Rattle.pipe_model.specs.Laws.{EventsGrow}
+use Rattle.pipeline_core.specs.Meaning.{latches_by, state_by, ticked_by}
+use Rattle.machine_model.specs.Relation.{Standing, kept_in}
+use Rattle.machine_model.specs.Laws.{Unplugged, with_kept}
+use Rattle.machine_model.proofs.PortLemmas.{unplugs, goes_on}
+use Rattle.machine.specs.declared.state.Machine.{Machine}
+use Rattle.machine.specs.Meaning.{StandsFor, Ticks, HasRun, Stopped}
+use Rattle.machine.proofs.Putting.{appends_nothing, appends_more, appends_front}
+
+-- a cycle, by the ports that are left in it
+pub ticks : (s : Start) (n : ℕ) (m after : Machine) (rows between new : List (Option Row)) (event : Option Event) → length rows ≡ 8 → between ≡ kept_in m.unplugs m.at rows 8 → m.at < n + 3 → StandsFor s m.at n m rows →
+    (Begins s → Shows s m.at between → Stands s m.at (latches_by m.pipe) (state_by m.units between) → Kept s m.at between (ticked_by after.pipe after.units new event)) →
+    after.at ≡ m.at + 1 → after.unplugs ≡ m.unplugs → Ticks s m.at n after new event
+ticks s n m after rows between new event eight is within st keeps at plan =
+    let t : Ticked = ticked_by after.pipe after.units new event in
+    let left : Unplugged s m.at (latches_by m.pipe) (with_kept (state_by m.units rows) m.at m.unplugs) = unplugs s m.at n (latches_by m.pipe) (state_by m.units rows) m.at m.unplugs st within eight in
+    let P : List (Option Row) → Type 0 = λ x. Shows s m.at x in
+    let Q : List (Option Row) → Type 0 = λ x. Stands s m.at (latches_by m.pipe) (state_by m.units x) in
+    let R : List (Option Row) → Type 0 = λ x. Kept s m.at x t in
+    let kept : Kept s m.at (kept_in m.unplugs m.at rows 8) t = subst R is (keeps st.begins (subst P (sym is) left.shows) (subst Q (sym is) left.stands)) in
+    let next : Standing s (suc m.at) n (latches_by after.pipe) (state_by after.units new) (suc m.at) m.unplugs = goes_on s m.at n (latches_by m.pipe) (state_by m.units rows) m.at m.unplugs t st eight kept in
+    let A : ℕ → Type 0 = λ k. Standing s (suc m.at) n (latches_by after.pipe) (state_by after.units new) k m.unplugs in
+    let B : List (Option ℕ) → Type 0 = λ xs. Standing s (suc m.at) n (latches_by after.pipe) (state_by after.units new) after.at xs in
+    record { stands = subst B (sym plan) (subst A (sym (add-one m.at) ∙ sym at) next); event_is = kept.event }
+
+no_events : (s : Start) (i : ℕ) → events s i 0 ≡ []
+unfolding world recent
+no_events s i = refl
+
+text-append : (xs ys : List Event) → text (xs ++ ys) ≡ text xs ++ text ys
+text-append xs ys = flat_map-append line_text xs ys
+
+text-next : EventsGrow → (s : Start) (i c : ℕ) (event : Option Event) → event ≡ event_in (c - 4) (turn_at s c 3) → text (events s i (suc c)) ≡ text (events s i c) ++ text (of_hart i event)
+text-next grows s i c event e =
+    ap text (grows s i c) ∙ text-append (events s i c) (of_hart i (event_in (c - 4) (turn_at s c 3))) ∙ ap (λ x. text (events s i c) ++ text (of_hart i x)) (sym e)
+
+-- later cycles leave the text of earlier ones
+text_goes_on : EventsGrow → (s : Start) (i c more : ℕ) → (rest : List ℕ) × (text (events s i (c + more)) ≡ text (events s i c) ++ rest)
+text_goes_on grows s i c zero = ([], rw (add-zero c) (sym (append-nil (text (events s i c)))))
+text_goes_on grows s i c (suc more) =
+    let (rest, is) = text_goes_on grows s i c more in
+    let e : Option Event = event_in (c + more - 4) (turn_at s (c + more) 3) in
+    let next : c + suc more ≡ suc (c + more) = omega arith in
+    (rest ++ text (of_hart i e), ap (λ k. text (events s i k)) next ∙ text-next grows s i (c + more) e refl ∙ ap (λ zs. zs ++ text (of_hart i e)) is ∙ append_assoc (text (events s i c)) rest (text (of_hart i e)))
+
+pub run_begins : (s : Start) (n thread : ℕ) (m : Machine) (rows : List (Option Row)) (told : Option (List ℕ)) → StandsFor s 0 n m rows → HasRun s 0 n thread m rows told told
+run_begins s n thread m rows told st =
+    let Told : List Event → Type 0 = λ es. Appends told told (text es) in
+    record { put = subst Told (sym (no_events s thread)) (appends_nothing told); stands = st }
+
+-- one more cycle of a run
+pub run_on : EventsGrow → (s : Start) (k n thread : ℕ) (m after : Machine) (rows new : List (Option Row)) (before between now : Option (List ℕ)) (event : Option Event) → HasRun s k n thread m rows before between → m.at ≡ k →
+    (StandsFor s m.at n m rows → Ticks s m.at n after new event) → Appends between now (text (of_hart thread event)) → HasRun s (k + 1) n thread after new before now
+run_on grows s k n thread m after rows new before between now event run at tick put =
+    let At : ℕ → Type 0 = λ c. StandsFor s c n m rows in
+    let After : ℕ → Type 0 = λ c. Ticks s c n after new event in
+    let ticked : Ticks s k n after new event = subst After at (tick (subst At (sym at) run.stands)) in
+    let Told : List ℕ → Type 0 = λ x. Appends before now x in
+    let done : HasRun s (suc k) n thread after new before now = record {
+      put = subst Told (sym (text-next grows s thread k event ticked.event_is)) (appends_more before between now (text (events s thread k)) (text (of_hart thread event)) run.put put);
+      stands = ticked.stands;
+    } in
+    let Run : ℕ → Type 0 = λ c. HasRun s c n thread after new before now in
+    subst Run (sym (add-one k)) done
+
+-- a run that stops in a cycle
+pub run_stops : EventsGrow → (s : Start) (k n thread : ℕ) (m after : Machine) (rows new : List (Option Row)) (before between now : Option (List ℕ)) (event : Option Event) → k < n → HasRun s k n thread m rows before between → m.at ≡ k →
+    (StandsFor s m.at n m rows → Ticks s m.at n after new event) → AppendsFront between now (text (of_hart thread event)) → Stopped s n thread after new before now
+run_stops grows s k n thread m after rows new before between now event within run at tick put =
+    let At : ℕ → Type 0 = λ c. StandsFor s c n m rows in
+    let After : ℕ → Type 0 = λ c. Ticks s c n after new event in
+    let ticked : Ticks s k n after new event = subst After at (tick (subst At (sym at) run.stands)) in
+    let here : after.at ≡ suc k = ticked.stands.cycle in
+    let (rest, goes) = text_goes_on grows s thread (suc k) (n - suc k) in
+    let end : n ≡ suc k + (n - suc k) = omega arith in
+    let whole : text (events s thread n) ≡ (text (events s thread k) ++ text (of_hart thread event)) ++ rest =
+    ap (λ c. text (events s thread c)) end ∙ goes ∙ ap (λ zs. zs ++ rest) (text-next grows s thread k event ticked.event_is) in
+    let Here : ℕ → Type 0 = λ c. StandsFor s c n after new in
+    record {
+      put = appends_front before between now (text (events s thread k)) (text (of_hart thread event)) rest (text (events s thread n)) whole run.put put;
+      within = omega (arith, here);
+      stands = subst Here (sym here) ticked.stands;
+    }

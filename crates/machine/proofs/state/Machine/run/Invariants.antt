@@ -1,0 +1,16 @@
+use Rattle.std.proofs.Common.{◌≡◌, ◌≤◌, vec_len}
+use Rattle.fp_ports.specs.Rows.{rows_of}
+use Rattle.world_model.specs.World.{Start}
+use Rattle.machine.specs.Meaning.{StandsFor, HasRun}
+use Rattle.machine.proofs.state.Machine.run.Given as goal
+
+abbrev pub invariant-loop-cycle : goal.invariant-loop-cycle
+invariant-loop-cycle g l =
+    let rows = rows_of (λ b. (goal.Port-dyn g (b.vtable, b.value)).latched b.value) (λ b. (goal.Port-dyn g (b.vtable, b.value)).word_at b.value) l.ports.items in
+    let first = rows_of (λ b. (goal.Port-dyn g (b.vtable, b.value)).latched b.value) (λ b. (goal.Port-dyn g (b.vtable, b.value)).word_at b.value) l.initial.ports.items in
+    record {
+      at : l.self.at ≡ l._cycle;
+      eight : vec_len l.ports ≡ 8;
+      counted : g.K.Sink.faults l.initial.out ≤ g.K.Sink.faults l.out;
+      runs : (s : Start) → StandsFor s 0 l.n l.initial.self first → HasRun s l._cycle l.n l.thread l.self rows (g.K.Sink.taken l.initial.out) (g.K.Sink.taken l.out);
+    }

@@ -1,0 +1,42 @@
+-- The machine and the ports as what stands for a cycle of a world.
+use Rattle.std.specs.Prelude.{◌≡◌, ℕ, suc, ◌-◌, ◌≤◌, List, [], map, Option}
+use Rattle.std.specs.Io.KnownBytes.{Appends}
+use Rattle.fp_io.specs.Content.{AppendsFront}
+use Rattle.trace_print.specs.Text.{text}
+use Rattle.rv_exec.specs.declared.outcome.Event.{Event}
+use Rattle.fp_image.specs.declared.parts.Segment.{Segment}
+use Rattle.fp_ports.specs.Rows.{Row, row_at}
+use Rattle.fp_ports.specs.Shown.{shown}
+use Rattle.fp_setup.specs.Meaning.{the_threads}
+use Rattle.fp_setup.specs.Settings.{Settings}
+use Rattle.world_model.specs.World.{Start, events}
+use Rattle.setup_model.specs.Start.{start, thread_of}
+use Rattle.pipe_model.specs.Relation.{event_in, turn_at}
+use Rattle.pipeline_core.specs.Meaning.{latches_by, state_by}
+use Rattle.machine_model.specs.Relation.{Standing}
+use Rattle.machine.specs.declared.state.Machine.{Machine}
+
+-- the machine and the ports stand for cycle c of the world; its lists of shown words have n entries
+abbrev pub StandsFor : Start → ℕ → ℕ → Machine → List (Option Row) → Type 0
+StandsFor s c n m ports = Standing s c n (latches_by m.pipe) (state_by m.units ports) m.at m.unplugs
+
+-- the start of a run of n cycles beside ports that were fed already
+abbrev pub start_beside : Settings → List Segment → List (Option Row) → ℕ → Start
+start_beside s image ports n = record (start s image ports n) { shown = map (λ i. shown (row_at ports i) [] (thread_of s i).unplug n) the_threads }
+
+-- what a cycle left stands for the next one, and its answer is the event of the issue of c - 4
+pub record Ticks (s : Start) (c n : ℕ) (m : Machine) (ports : List (Option Row)) (event : Option Event) : Type 0 where
+  pub stands : StandsFor s (suc c) n m ports
+  pub event_is : event ≡ event_in (c - 4) (turn_at s c 3)
+
+-- k cycles of a run of n have put the text of the thread's events so far, and machine and ports stand for
+-- cycle k
+pub record HasRun (s : Start) (k n thread : ℕ) (m : Machine) (ports : List (Option Row)) (before after : Option (List ℕ)) : Type 0 where
+  pub put : Appends before after (text (events s thread k))
+  pub stands : StandsFor s k n m ports
+
+-- a run that was stopped has put a front of the text of all, and machine and ports stand for the cycles done
+pub record Stopped (s : Start) (n thread : ℕ) (m : Machine) (ports : List (Option Row)) (before after : Option (List ℕ)) : Type 0 where
+  pub put : AppendsFront before after (text (events s thread n))
+  pub within : m.at ≤ n
+  pub stands : StandsFor s m.at n m ports

@@ -1,0 +1,256 @@
+//! The lines of a dump, each by its number.
+
+ghost use Rattle.std.specs.Prelude.{◌≡◌, ◌+◌, ◌/◌, ◌<◌, ◌≤◌, ◌*◌, ◌==◌, [], true, vec_len, slice_index_or, length};
+ghost use Rattle.std.specs.List.{list_all};
+ghost use Rattle.fp_ports.specs.Rows.{rows_of};
+ghost use Rattle.core_model.specs.Thread.{reg_in};
+ghost use Rattle.dump_text.specs.Lines.{thread_words_text};
+ghost use Rattle.machine_model.specs.Seen.{eight_from, traps_seen, timer_seen, words_seen};
+ghost use Rattle.machine_model.specs.Fields.{fetched_held, decoded_held, shown_word, executed_held, stored_held, written_held, head_line, thread_line, dump_line};
+ghost use Rattle.timer_unit.specs.Time.{timer_of};
+ghost use Rattle.trap_unit.specs.Rows.{trap_of};
+ghost use Rattle.pipeline_core.specs.Meaning.{latches_by, registers_by, state_by};
+
+use crate::state::Machine;
+use arrayvec::ArrayString;
+use dump_text::{
+    Held as Shown, cycles_line, latch_line, memory_line, stage_line, thread_words_line, timer_line,
+    word_line,
+};
+use fp_ports::{Ports, latch_of};
+use pipeline_core::{Decoded, Executed, Fetched, Held, Stored, Written};
+
+/// The number of the first line of the data scratchpad.
+pub const FIRST_OF_MEMORY: u32 = 66;
+
+/// What F shows: it isn't seen there whether the turn will be flushed.
+fn fetched_shown(held: &Held<Fetched>) -> Shown
+    ensures { result ≡ fetched_held held.now }
+{
+    match *held {
+        Held::Bubble => Shown::Nothing,
+        Held::Flushed { thread } | Held::Issue { thread, .. } => Shown::Picked { thread },
+    }
+}
+
+/// What E shows.
+fn executed_shown(held: &Held<Executed>) -> Shown
+    ensures { result ≡ executed_held held.now }
+{
+    match *held {
+        Held::Bubble => Shown::Nothing,
+        Held::Flushed { thread } => Shown::Flushed { thread },
+        Held::Issue { thread, what } => Shown::Issue {
+            thread,
+            pc: what.pc,
+            word: what.word,
+        },
+    }
+}
+
+/// What M shows.
+fn stored_shown(held: &Held<Stored>) -> Shown
+    ensures { result ≡ stored_held held.now }
+{
+    match *held {
+        Held::Bubble => Shown::Nothing,
+        Held::Flushed { thread } => Shown::Flushed { thread },
+        Held::Issue { thread, what } => Shown::Issue {
+            thread,
+            pc: what.pc,
+            word: what.word,
+        },
+    }
+}
+
+/// What W shows.
+fn written_shown(held: &Held<Written>) -> Shown
+    ensures { result ≡ written_held held.now }
+{
+    match *held {
+        Held::Bubble => Shown::Nothing,
+        Held::Flushed { thread } => Shown::Flushed { thread },
+        Held::Issue { thread, what } => Shown::Issue {
+            thread,
+            pc: what.pc,
+            word: what.word,
+        },
+    }
+}
+
+/// Whether all words are 0.
+fn is_zero(words: &[u32; 8]) -> bool
+    ensures { result ≡ list_all (λ word. word == 0) words.now }
+{
+    words.iter().all(|word| *word == 0)
+}
+
+impl Machine {
+    /// Whether a thread is confined.
+    fn is_confined(&self, thread: u8) -> bool
+        requires { thread < 8 }
+        ensures { result ≡ slice_index_or self.now.units.confined thread true }
+    {
+        self.units
+            .confined
+            .get(usize::from(thread))
+            .copied()
+            .unwrap_or(true)
+    }
+
+    /// The word that D shows: 0 where an expiry or a refused fetch will take the turn.
+    fn word_shown(&self, thread: u8, what: &Decoded) -> u32
+        requires { thread < 8 }
+        ensures { result ≡ shown_word self.now.units.guard.size self.now.units.confined self.now.units.guard.i thread what.now }
+    {
+        let confined = self.is_confined(thread);
+        if what.expired || !self.units.guard.may_fetch(thread, confined, what.pc) {
+            0
+        } else {
+            what.word
+        }
+    }
+
+    /// What D shows.
+    fn decoded_shown(&self) -> Shown
+        ensures { result ≡ decoded_held self.now.units.guard.size self.now.units.confined self.now.units.guard.i self.now.pipe.d }
+    {
+        match self.pipe.d {
+            Held::Bubble => Shown::Nothing,
+            Held::Flushed { thread } => Shown::Flushed { thread },
+            Held::Issue { thread, what } => Shown::Issue {
+                thread,
+                pc: what.pc,
+                word: self.word_shown(thread, &what),
+            },
+        }
+    }
+
+    /// One of the ten lines of the machine.
+    #[tactic(auto, unfolding(machine_model::specs::Fields::head_line))]
+    fn head_line(&self, k: u32) -> ArrayString<96>
+        requires { k < 10 }
+        ensures { result.bytes ≡ head_line (latches_by self.now.pipe) self.now.units.guard.size self.now.units.confined (registers_by self.now.units.sched self.now.units.guard) self.now.at k }
+    {
+        match k {
+            0 => cycles_line(self.at),
+            1 => stage_line("F", &fetched_shown(&self.pipe.f)),
+            2 => stage_line("D", &self.decoded_shown()),
+            3 => stage_line("E", &executed_shown(&self.pipe.e)),
+            4 => stage_line("M", &stored_shown(&self.pipe.m)),
+            5 => stage_line("W", &written_shown(&self.pipe.w)),
+            6 => word_line("slots", self.units.sched.slots.word()),
+            7 => word_line("modes", self.units.sched.modes.word()),
+            8 => word_line("dregions", self.units.guard.d.word()),
+            _ => word_line("iregions", self.units.guard.i.word()),
+        }
+    }
+
+    /// The line of eight registers of a thread, from `first` on.
+    fn registers_line(&self, thread: u8, name: &str, first: u8) -> ArrayString<96>
+        requires thread { thread < 8 }
+        requires name { length name.now ≤ 3 }
+        requires first { first ≤ 24 }
+        ensures { result.bytes ≡ thread_words_text thread name.now (eight_from (reg_in (slice_index_or self.now.units.bank thread [])) first) }
+    {
+        let bank = &self.units.bank;
+        let words = [
+            bank.read(thread, first),
+            bank.read(thread, first + 1),
+            bank.read(thread, first + 2),
+            bank.read(thread, first + 3),
+            bank.read(thread, first + 4),
+            bank.read(thread, first + 5),
+            bank.read(thread, first + 6),
+            bank.read(thread, first + 7),
+        ];
+        thread_words_line(thread, name, &words)
+    }
+
+    /// The line of a thread's trap registers.
+    fn traps_line(&self, thread: u8) -> ArrayString<96>
+        requires { thread < 8 }
+        ensures { result.bytes ≡ traps_seen thread (trap_of self.now.units.traps thread) }
+    {
+        let row = self.units.traps.row(thread);
+        let words = [row.mtvec, row.mscratch, row.mepc, row.mcause];
+        thread_words_line(thread, "csr", &words)
+    }
+
+    /// The line of a thread's timer and its sleep moment.
+    fn timer_line(&self, thread: u8) -> ArrayString<96>
+        requires { thread < 8 }
+        ensures { result.bytes ≡ timer_seen thread (timer_of self.now.units.timers thread) (slice_index_or self.now.units.sched.sleep thread 0) }
+    {
+        let row = self.units.timers.row(thread);
+        let sleep = self.units.sched.sleep[thread as usize];
+        timer_line(thread, row.armed, sleep, row.high)
+    }
+
+    /// One of the seven lines of a thread.
+    #[tactic(auto, unfolding(machine_model::specs::Fields::thread_line))]
+    fn thread_line(&self, ports: &Ports, thread: u8, k: u32) -> ArrayString<96>
+        requires eight { vec_len ports.now ≡ 8 }
+        requires thread { thread < 8 }
+        ensures { result.bytes ≡ thread_line (state_by self.now.units (rows_of latched word_at ports.now.items)) thread k }
+    {
+        match k {
+            0 => self.registers_line(thread, "x00", 0),
+            1 => self.registers_line(thread, "x08", 8),
+            2 => self.registers_line(thread, "x16", 16),
+            3 => self.registers_line(thread, "x24", 24),
+            4 => self.traps_line(thread),
+            5 => self.timer_line(thread),
+            _ => latch_line(thread, latch_of(ports, thread)),
+        }
+    }
+
+    /// Eight words of the data scratchpad, by the number of their line.
+    fn words_row(&self, k: u32) -> [u32; 8]
+        requires { k < self.now.units.guard.size / 32 }
+        ensures { result ≡ eight_from (λ j. slice_index_or self.now.units.dmem j 0) (8 * k) }
+    {
+        let dmem = &self.units.dmem;
+        let first = 8 * k;
+        [
+            dmem.word_at(first),
+            dmem.word_at(first + 1),
+            dmem.word_at(first + 2),
+            dmem.word_at(first + 3),
+            dmem.word_at(first + 4),
+            dmem.word_at(first + 5),
+            dmem.word_at(first + 6),
+            dmem.word_at(first + 7),
+        ]
+    }
+
+    /// The line of eight words of the data scratchpad, by its number; empty where all of them are 0.
+    #[tactic(auto, unfolding(machine_model::specs::Seen::words_seen))]
+    fn words_line(&self, k: u32) -> ArrayString<96>
+        requires { k < self.now.units.guard.size / 32 }
+        ensures { result.bytes ≡ words_seen self.now.units.dmem k }
+    {
+        let row = self.words_row(k);
+        if is_zero(&row) {
+            ArrayString::new()
+        } else {
+            memory_line(0x2000_0000 + 32 * k, &row)
+        }
+    }
+
+    /// The line of a number; empty where it isn't shown.
+    #[tactic(auto, unfolding(machine_model::specs::Fields::dump_line))]
+    pub fn line(&self, ports: &Ports, k: u32) -> ArrayString<96>
+        requires eight { vec_len ports.now ≡ 8 }
+        requires number { k < 66 + self.now.units.guard.size / 32 }
+        ensures { result.bytes ≡ dump_line (latches_by self.now.pipe) (state_by self.now.units (rows_of latched word_at ports.now.items)) self.now.at k }
+    {
+        if k < 10 {
+            self.head_line(k)
+        } else if k < FIRST_OF_MEMORY {
+            self.thread_line(ports, ((k - 10) / 7) as u8, (k - 10) % 7)
+        } else {
+            self.words_line(k - FIRST_OF_MEMORY)
+        }
+    }
+}
