@@ -1,0 +1,5 @@
+mod Drive
+mod Slots
+mod Time
+mod Traps
+mod Random
