@@ -8,3 +8,5 @@ mod Outside
 mod Steps
 mod Induction
 mod Equal
+mod Found
+mod Free
