@@ -3,3 +3,4 @@ mod Slots
 mod Time
 mod Traps
 mod Random
+mod Wide
