@@ -163,6 +163,10 @@ after_turn s c w q = let p = pick q c (time s.period c) w.last in takes s c w p.
 abbrev pub start_world : Start → World
 start_world s = record { threads = s.threads; d_words = s.d_words; registers = s.registers; latches = s.latches; last = 7; turns = [] }
 
+-- the turn of the last cycle
+abbrev pub newest : World → Took
+newest w = slice_index_or w.turns 0 Idle
+
 -- the worlds before the cycles c, c - 1 and c - 2; before cycle 0 stands the start
 pub record Recent : Type 0 where
   pub now : World

@@ -8,5 +8,4 @@ ghost use Rattle.world_model.specs.Laws.{NextWorld};
 /// two cycles earlier. The contract is the law; the call does nothing.
 pub fn goes_by_turns()
     ensures { NextWorld }
-{
-}
+{}
