@@ -1,0 +1,10 @@
+mod Issues
+mod Seen
+mod Standings
+mod Around
+mod Picks
+mod Unpermitted
+mod Outside
+mod Steps
+mod Induction
+mod Equal
