@@ -25,9 +25,11 @@ fn loops_of(alloc: Global, numbers: &str) -> Result<Option<Loops>, AllocError> {
     let mut loops = Vec::new(alloc);
     let mut words = numbers.split_ascii_whitespace();
     while let (Some(head), Some(last), Some(limit)) = (words.next(), words.next(), words.next()) {
-        let (Some(head), Some(last), Ok(limit)) =
-            (hexadecimal(head), hexadecimal(last), limit.parse())
-        else {
+        let (Some(head), Some(last), Ok(limit)) = (
+            hexadecimal(head),
+            hexadecimal(last),
+            limit.parse(),
+        ) else {
             return Ok(None);
         };
         loops.push(LoopSetup { head, last, limit })?;
@@ -72,9 +74,12 @@ fn turns_of(numbers: &str) -> Option<(SlotTable, u8, Section)> {
 /// Whether the analyser gives a row's answer.
 pub fn agrees(alloc: Global, row: &str) -> Result<bool, AllocError> {
     let mut parts = row.split('\t');
-    let (Some(wanted), Some(turns), Some(loops), Some(words)) =
-        (parts.next(), parts.next(), parts.next(), parts.next())
-    else {
+    let (Some(wanted), Some(turns), Some(loops), Some(words)) = (
+        parts.next(),
+        parts.next(),
+        parts.next(),
+        parts.next(),
+    ) else {
         return Ok(false);
     };
     let Some((slots, thread, section)) = turns_of(turns) else {

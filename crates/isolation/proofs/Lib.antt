@@ -2,9 +2,9 @@ mod Issues
 mod Seen
 mod Standings
 mod Around
-mod Picks
+pub mod Picks
 mod Unpermitted
-mod Outside
-mod Steps
-mod Induction
+pub mod Outside
+pub mod Steps
+pub mod Induction
 mod Equal
