@@ -48,7 +48,7 @@ impl Access {
 }
 
 /// A register's value; None where the number is none, or the access is refused.
-fn value_of(own: &Own, thread: u8, csr: u16, shared: Option<u32>) -> Option<u32>
+pub fn value_of(own: &Own, thread: u8, csr: u16, shared: Option<u32>) -> Option<u32>
     ensures { result ≡ csr_value thread own.now csr shared }
 {
     match csr {
@@ -64,7 +64,7 @@ fn value_of(own: &Own, thread: u8, csr: u16, shared: Option<u32>) -> Option<u32>
 
 /// The new word, from the old one and the operand.
 #[tactic(auto, unfolding(core_model::specs::Control::changed))]
-fn change(op: CsrOp, old: u32, operand: u32) -> u32
+pub fn change(op: CsrOp, old: u32, operand: u32) -> u32
     ensures { result ≡ changed op old operand }
 {
     match op {
@@ -76,7 +76,7 @@ fn change(op: CsrOp, old: u32, operand: u32) -> u32
 
 /// Whether a register may hold a word; mhartid takes none.
 #[tactic(auto, unfolding(core_model::specs::Control::may_hold))]
-fn can_hold(csr: u16, word: u32) -> bool
+pub fn can_hold(csr: u16, word: u32) -> bool
     ensures { result ≡ may_hold csr word }
 {
     match csr {
@@ -89,7 +89,7 @@ fn can_hold(csr: u16, word: u32) -> bool
 }
 
 /// The word as a register keeps it.
-fn keep(csr: u16, word: u32) -> u32
+pub fn keep(csr: u16, word: u32) -> u32
     ensures { result ≡ kept csr word }
 {
     if csr == 0x305 || csr == 0x341 {
@@ -100,7 +100,7 @@ fn keep(csr: u16, word: u32) -> u32
 }
 
 /// Puts a value into one of the hart's own registers; other numbers change nothing of it.
-fn put(own: &mut Own, csr: u16, value: u32)
+pub fn put(own: &mut Own, csr: u16, value: u32)
     ensures { own.new ≡ with_csr own.old csr value }
 {
     match csr {

@@ -10,6 +10,7 @@ mod parts;
 mod step;
 mod surroundings;
 
+pub use control::{can_hold, change, keep, put, value_of};
 pub use late::finish;
 pub use outcome::{Executed, Place, Sources};
 pub use step::{execute_in, sources_of};

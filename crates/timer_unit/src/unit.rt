@@ -37,6 +37,23 @@ impl Timers {
         }
     }
 
+    /// What a thread has in the timers.
+    pub fn row(&self, thread: u8) -> Timer
+        requires { thread < 8 }
+        ensures { result ≡ timer_of self.now thread }
+    {
+        self.rows[thread as usize]
+    }
+
+    /// Puts a timer in place of the thread's.
+    pub fn set_row(&mut self, thread: u8, row: Timer)
+        requires { thread < 8 }
+        ensures row { self.new ≡ slice_set self.old thread row }
+        ensures eight { length self.new ≡ 8 }
+    {
+        self.rows[thread as usize] = row;
+    }
+
     /// The low word of the time. The high word is latched for the thread.
     pub fn get_low(&mut self, thread: u8, now: u64) -> u32
         requires { thread < 8 }

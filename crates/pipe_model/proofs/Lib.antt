@@ -1,0 +1,10 @@
+mod Moved
+mod Late
+mod Front
+mod Young
+mod Ports
+mod Keeping
+mod Showing
+mod Fetching
+mod Starting
+mod Events

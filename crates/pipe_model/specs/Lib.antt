@@ -1,0 +1,4 @@
+pub mod Stages
+pub mod Relation
+pub mod Shown
+pub mod Laws

@@ -1,0 +1,242 @@
+-- One cycle of the pipeline, over plain values: what each stage makes of the latch before it, and what
+-- it does to the units. Harts, stages and registers are this project's profile of the core.
+use Rattle.std.specs.Prelude.{ℕ, ◌-◌, ◌==◌, nat_lt, Bool, false, not, ◌&&◌, if◌then◌else◌, List, [], slice_index_or, slice_set, Option, Some, None}
+use Rattle.rv_decode.specs.Table.{ins}
+use Rattle.rv_exec.specs.declared.outcome.Effect.{Effect}
+use Rattle.rv_exec.specs.declared.outcome.Effect.TheVariants.{Reg, Store}
+use Rattle.rv_exec.specs.declared.outcome.Event.{Event}
+use Rattle.slot_scheduler.specs.declared.picking.Pick.{Pick}
+use Rattle.slot_scheduler.specs.declared.picking.Pick.TheVariants as chosen
+use Rattle.slot_scheduler.specs.Picking.{Picked, pick}
+use Rattle.timer_unit.specs.declared.row.Timer.{Timer}
+use Rattle.timer_unit.specs.Time.{time, is_due, timer_of}
+use Rattle.fp_ports.specs.Rows.{Row, row_at, word_seen, written}
+use Rattle.core_model.specs.declared.own.Own.{Own}
+use Rattle.core_model.specs.declared.own.Trapping.{Trapping}
+use Rattle.core_model.specs.Thread.{Did, no_own, filled, regs_after, reg_in, reg_set}
+use Rattle.core_model.specs.Parts.{plus}
+use Rattle.core_model.specs.Issue.{act, late_rd, late_value, source_1, source_2}
+use Rattle.core_model.specs.Memory.{code_at, data_at}
+use Rattle.world_model.specs.World.{Registers, sched_by, around, words_after, registers_after}
+use Rattle.pipe_model.specs.declared.latches.Held.{Held}
+use Rattle.pipe_model.specs.declared.latches.Held.TheVariants.{Bubble, Flushed, Issue}
+use Rattle.pipe_model.specs.declared.latches.Fetched.{Fetched}
+use Rattle.pipe_model.specs.declared.latches.Decoded.{Decoded}
+use Rattle.pipe_model.specs.declared.latches.Executed.{Executed}
+use Rattle.pipe_model.specs.declared.latches.Stored.{Stored}
+use Rattle.pipe_model.specs.declared.latches.Written.{Written}
+use Rattle.pipe_model.specs.declared.latches.Redirect.{Redirect}
+
+-- the pc that each hart fetches next, and the latches
+pub record Latches : Type 0 where
+  pub next : List ℕ
+  pub f : Held Fetched
+  pub d : Held Decoded
+  pub e : Held Executed
+  pub m : Held Stored
+  pub w : Held Written
+
+-- what the execute stage reads and writes: the machine's own registers, and of each hart the timer, the
+-- trap registers and the moment until which it sleeps
+pub record Control : Type 0 where
+  pub registers : Registers
+  pub timers : List Timer
+  pub traps : List Trapping
+  pub sleeps : List ℕ
+
+-- what the units and the ports hold
+pub record State : Type 0 where
+  pub bank : List (List ℕ)  -- x1 to x31 of each hart
+  pub i_words : List ℕ  -- of the instruction scratchpad
+  pub d_words : List ℕ  -- of the data scratchpad
+  pub control : Control
+  pub last : ℕ  -- the place of the search for a soft hart
+  pub period : ℕ  -- of a cycle, in nanoseconds
+  pub size : ℕ  -- of each scratchpad, in bytes
+  pub confined : List Bool
+  pub permit : List Bool  -- who may access the machine's own registers
+  pub ports : List (Option Row)
+
+-- W: the turn writes its register
+unfoldable pub bank_after : Held Stored → List (List ℕ) → List (List ℕ)
+bank_after Bubble bank = bank
+bank_after (Flushed k) bank = bank
+bank_after (Issue k x) bank = slice_set bank k (regs_after x.effect (slice_index_or bank k []))
+
+unfoldable pub write_latch : Held Stored → Held Written
+write_latch Bubble = Bubble
+write_latch (Flushed k) = Flushed k
+write_latch (Issue k x) = Issue k (record { pc = x.pc; word = x.word })
+
+-- its event, by the cycle of its issue
+abbrev pub event_at : ℕ → ℕ → ℕ → ℕ → Option Effect → Option Event
+event_at cycle k pc word None = None
+event_at cycle k pc word (Some effect) = Some (record { cycle = cycle; thread = k; pc = pc; word = word; effect = effect })
+
+unfoldable pub retired : ℕ → Held Stored → Option Event
+retired cycle Bubble = None
+retired cycle (Flushed k) = None
+retired cycle (Issue k x) = event_at cycle k x.pc x.word x.effect
+
+-- M: the late value of a load, multiplication or division goes into its effect. A load finds its word in
+-- a scratchpad, or at the hart's port, which shows the word of a cycle
+unfoldable pub memory_latch : ℕ → List ℕ → List ℕ → List (Option Row) → ℕ → Held Executed → Held Stored
+memory_latch size i_words d_words ports cycle Bubble = Bubble
+memory_latch size i_words d_words ports cycle (Flushed k) = Flushed k
+memory_latch size i_words d_words ports cycle (Issue k x) =
+    let found = data_at size i_words d_words (word_seen (row_at ports k) cycle) x.address in
+    let value = late_value (ins x.word) found x.address x.a x.b in
+    Issue k (record { pc = x.pc; word = x.word; effect = filled (late_rd (ins x.word)) value x.effect })
+
+-- and a store changes the words of the data scratchpad, or goes to the hart's port
+unfoldable pub words_stored : ℕ → Held Stored → List ℕ → List ℕ
+words_stored size Bubble words = words
+words_stored size (Flushed k) words = words
+words_stored size (Issue k x) words = words_after size x.effect words
+
+abbrev pub put_at_port : ℕ → Option Effect → List (Option Row) → List (Option Row)
+put_at_port k (Some (Store address width value)) ports = if address == 0x40000000 then slice_set ports k (written (row_at ports k) value) else ports
+put_at_port k _ ports = ports
+
+unfoldable pub ports_stored : Held Stored → List (Option Row) → List (Option Row)
+ports_stored Bubble ports = ports
+ports_stored (Flushed k) ports = ports
+ports_stored (Issue k x) ports = put_at_port k x.effect ports
+
+-- E: what the instruction does at a time, by the hart's own state
+abbrev pub own_in : Control → ℕ → Own
+own_in u k = record { timer = slice_index_or u.timers k no_own.timer; trap = slice_index_or u.traps k no_own.trap; sleep = slice_index_or u.sleeps k no_own.sleep }
+
+abbrev pub execute : ℕ → List Bool → List Bool → ℕ → Control → ℕ → Decoded → Did
+execute size confined permit now u k x = act (around now size confined permit u.registers k) x.pc (own_in u k) x.expired x.word x.a x.b
+
+abbrev pub executed : Decoded → Did → Executed
+executed x d =
+    record {
+      pc = x.pc;
+      word = d.word;
+      a = if d.word == 0 then 0 else x.a;
+      b = if d.word == 0 then 0 else x.b;
+      address = d.address;
+      effect = d.effect;
+    }
+
+abbrev pub controlled : ℕ → Did → Control → Control
+controlled k d u =
+    record {
+      registers = registers_after d.effect u.registers;
+      timers = slice_set u.timers k d.own.timer;
+      traps = slice_set u.traps k d.own.trap;
+      sleeps = slice_set u.sleeps k d.own.sleep;
+    }
+
+-- a hart whose next instruction may not issue in the next cycle goes on at the pc that follows
+abbrev pub redirect_of : ℕ → Did → Option Redirect
+redirect_of k d = if d.lag == 1 then None else Some (record { thread = k; pc = d.pc; kills = d.lag - 1 })
+
+-- what E leaves
+pub record After : Type 0 where
+  pub e : Held Executed
+  pub control : Control
+  pub redirect : Option Redirect
+
+abbrev pub executes : ℕ → Decoded → Control → Did → After
+executes k x u d = record { e = Issue k (executed x d); control = controlled k d u; redirect = redirect_of k d }
+
+unfoldable pub execution : ℕ → List Bool → List Bool → ℕ → Control → Held Decoded → After
+execution size confined permit now u Bubble = record { e = Bubble; control = u; redirect = None }
+execution size confined permit now u (Flushed k) = record { e = Flushed k; control = u; redirect = None }
+execution size confined permit now u (Issue k x) = executes k x u (execute size confined permit now u k x)
+
+-- whether a redirect flushes the hart's turn that comes so many cycles behind it
+abbrev pub is_killed : ℕ → ℕ → Option Redirect → Bool
+is_killed behind k None = false
+is_killed behind k (Some r) = r.thread == k && not (nat_lt r.kills behind)
+
+-- forwarding: a value on its way to its register
+abbrev pub forward : Option Effect → List ℕ → List ℕ
+forward (Some (Reg rd value)) regs = reg_set regs rd value
+forward _ regs = regs
+
+abbrev pub from_e : ℕ → Held Executed → List ℕ → List ℕ
+from_e k Bubble regs = regs
+from_e k (Flushed j) regs = regs
+from_e k (Issue j x) regs = if j == k then forward x.effect regs else regs
+
+abbrev pub from_m : ℕ → Held Stored → List ℕ → List ℕ
+from_m k Bubble regs = regs
+from_m k (Flushed j) regs = regs
+from_m k (Issue j x) regs = if j == k then forward x.effect regs else regs
+
+-- a source register of hart k: the younger turns come after the bank
+abbrev pub operand : List (List ℕ) → Held Stored → Held Executed → ℕ → ℕ → ℕ
+operand bank m e k x = reg_in (from_e k e (from_m k m (slice_index_or bank k []))) x
+
+-- D: the turn is flushed, or it gets its sources, and knows whether its armed moment is reached
+unfoldable pub decode_latch : List (List ℕ) → Held Stored → Held Executed → List Timer → Option Redirect → ℕ → Held Fetched → Held Decoded
+decode_latch bank m e timers r now Bubble = Bubble
+decode_latch bank m e timers r now (Flushed k) = Flushed k
+decode_latch bank m e timers r now (Issue k x) =
+    if is_killed 1 k r then Flushed k
+    else Issue k (record {
+      pc = x.pc;
+      word = x.word;
+      expired = is_due (timer_of timers k).armed now;
+      a = operand bank m e k (source_1 (ins x.word));
+      b = operand bank m e k (source_2 (ins x.word));
+    })
+
+-- F: the redirected hart goes on where it is told to
+unfoldable pub redirected : Option Redirect → List ℕ → List ℕ
+redirected None next = next
+redirected (Some r) next = slice_set next r.thread r.pc
+
+-- the picked hart's turn is flushed, or it fetches its next word
+unfoldable pub fetch_latch : ℕ → List ℕ → Option Redirect → List ℕ → Pick → Held Fetched
+fetch_latch size i_words r next chosen.Bubble = Bubble
+fetch_latch size i_words r next (chosen.Issue k) =
+    if is_killed 2 k r then Flushed k
+    else (let pc = slice_index_or next k 0 in Issue k (record { pc = pc; word = code_at size i_words pc }))
+
+unfoldable pub advanced : Option Redirect → Pick → List ℕ → List ℕ
+advanced r chosen.Bubble next = next
+advanced r (chosen.Issue k) next = if is_killed 2 k r then next else slice_set next k (plus (slice_index_or next k 0) 4)
+
+-- what a cycle leaves, and the event that retires in it
+pub record Ticked : Type 0 where
+  pub latches : Latches
+  pub state : State
+  pub event : Option Event
+
+-- the younger stages go by what the older ones leave
+abbrev pub finish : Latches → State → ℕ → Picked → Held Stored → After → Ticked
+finish p u c picked m e =
+    let bank = bank_after p.m u.bank in
+    let next = redirected e.redirect p.next in
+    record {
+      latches = record {
+        next = advanced e.redirect picked.pick next;
+        f = fetch_latch u.size u.i_words e.redirect next picked.pick;
+        d = decode_latch bank m e.e e.control.timers e.redirect (time u.period (c - 1)) p.f;
+        e = e.e;
+        m = m;
+        w = write_latch p.m;
+      };
+      state = record u {
+        bank = bank;
+        d_words = words_stored u.size m u.d_words;
+        control = e.control;
+        last = picked.last;
+        ports = ports_stored m u.ports;
+      };
+      event = retired (c - 4) p.m;
+    }
+
+-- cycle c. The pick goes by the registers as they stand before E. The turn in M was issued three cycles
+-- ago and sees the port's word of that cycle, the turn in E two cycles ago, with the time of that cycle
+unfoldable pub step : Latches → State → ℕ → Ticked
+step p u c =
+    let picked = pick (sched_by u.control.registers u.control.sleeps) c (time u.period c) u.last in
+    let m = memory_latch u.size u.i_words u.d_words u.ports (c - 3) p.e in
+    let e = execution u.size u.confined u.permit (time u.period (c - 2)) u.control p.d in
+    finish p u c picked m e

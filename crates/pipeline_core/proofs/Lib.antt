@@ -1,0 +1,5 @@
+pub mod Registers
+pub mod Pcs
+pub mod Acts
+pub mod Forwarding
+pub mod Standing

@@ -1,0 +1,44 @@
+-- The code's values as those of the definitions.
+use Rattle.std.specs.Prelude.{List, Option}
+use Rattle.fp_ports.specs.Rows.{Row}
+use Rattle.rv_exec.specs.declared.outcome.Event.{Event}
+use Rattle.region_guard.specs.declared.access.Guard.{Guard}
+use Rattle.slot_scheduler.specs.declared.picking.Sched.{Sched}
+use Rattle.timer_unit.specs.declared.row.Timer.{Timer}
+use Rattle.core_model.specs.declared.own.Trapping.{Trapping}
+use Rattle.world_model.specs.World.{Registers}
+use Rattle.pipe_model.specs.Stages.{Latches, Control, State, Ticked}
+use Rattle.pipeline_core.specs.declared.pipe.Pipe.{Pipe}
+use Rattle.pipeline_core.specs.declared.units.Units.{Units}
+
+-- the latches, and the pc that each thread fetches next
+abbrev pub latches_by : Pipe → Latches
+latches_by p = record { next = p.next; f = p.f; d = p.d; e = p.e; m = p.m; w = p.w }
+
+-- the machine's own registers
+abbrev pub registers_by : Sched → Guard → Registers
+registers_by s g = record { slots = s.slots; modes = s.modes; dregions = g.d; iregions = g.i }
+
+-- what the execute stage reads and writes
+abbrev pub control_by : Sched → Guard → List Timer → List Trapping → Control
+control_by s g timers traps = record { registers = registers_by s g; timers = timers; traps = traps; sleeps = s.sleep }
+
+-- what the units hold, beside the ports
+abbrev pub state_by : Units → List (Option Row) → State
+state_by u ports =
+    record {
+      bank = u.bank;
+      i_words = u.imem;
+      d_words = u.dmem;
+      control = control_by u.sched u.guard u.timers u.traps;
+      last = u.scheduler;
+      period = u.clock;
+      size = u.guard.size;
+      confined = u.confined;
+      permit = u.permit;
+      ports = ports;
+    }
+
+-- what a cycle left, and the event that it answered
+abbrev pub ticked_by : Pipe → Units → List (Option Row) → Option Event → Ticked
+ticked_by p u ports event = record { latches = latches_by p; state = state_by u ports; event = event }

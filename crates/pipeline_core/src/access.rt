@@ -1,0 +1,120 @@
+//! M: loads and stores reach the scratchpads and the ports.
+
+ghost use Rattle.std.specs.Prelude.{◌≡◌, ◌<◌, ◌/◌, length, vec_len};
+ghost use Rattle.rv_decode.specs.Table.{ins};
+ghost use Rattle.rv_exec.specs.Access.{IsAligned};
+ghost use Rattle.core_model.specs.Thread.{filled};
+ghost use Rattle.core_model.specs.Issue.{late_rd, late_value};
+ghost use Rattle.core_model.specs.Memory.{data_at};
+ghost use Rattle.fp_ports.specs.Rows.{rows_of, row_at, word_seen};
+ghost use Rattle.pipe_model.specs.Stages.{memory_latch, words_stored, ports_stored, put_at_port};
+ghost use Rattle.pipeline_core.specs.Fits.{EffectFits, ExecutedFits, StoredFits};
+
+use crate::memory::{data_word, store_word};
+use fp_ports::{Port, Ports, write_port};
+use hart_exec::{Sources, finish};
+use pipe_model::{Executed, Held, Stored};
+use region_guard::Guard;
+use rv_decode::decode;
+use rv_exec::Effect;
+use scratchpad::Spm;
+
+const PORT: u32 = 0x4000_0000;
+
+/// A thread's effect, with its late value if it has one. A load at the port finds the word of a
+/// cycle.
+fn late_effect(
+    guard: &Guard,
+    imem: &Spm,
+    dmem: &Spm,
+    ports: &mut Ports,
+    thread: u8,
+    cycle: u64,
+    x: &Executed,
+) -> Option<Effect>
+    requires imem { length imem.now ≡ guard.now.size / 4 }
+    requires dmem { length dmem.now ≡ guard.now.size / 4 }
+    requires eight { vec_len ports.old ≡ 8 }
+    requires thread { thread < 8 }
+    requires fits { EffectFits x.now.effect }
+    requires aligned { IsAligned (ins x.now.word) x.now.address }
+    ensures effect { let found = data_at guard.now.size imem.now dmem.now (word_seen (row_at (rows_of latched word_at ports.old.items) thread) cycle) x.now.address in
+        result ≡ filled (late_rd (ins x.now.word)) (late_value (ins x.now.word) found x.now.address x.now.a x.now.b) x.now.effect }
+    ensures fits { EffectFits result }
+    ensures rows { rows_of latched word_at ports.new.items ≡ rows_of latched word_at ports.old.items }
+    ensures eight { vec_len ports.new ≡ 8 }
+{
+    let Some(Effect::Nothing) = x.effect else {
+        return x.effect;
+    };
+    let found = data_word(guard, imem, dmem, ports, thread, cycle, x.address);
+    let sources = Sources { a: x.a, b: x.b };
+    finish(x.effect, &decode(x.word), found, x.address, sources)
+}
+
+/// What M leaves of a turn that was issued in a cycle.
+#[tactic(auto, unfolding(pipe_model::specs::Stages::memory_latch))]
+pub fn access(
+    guard: &Guard,
+    imem: &Spm,
+    dmem: &Spm,
+    ports: &mut Ports,
+    cycle: u64,
+    held: &Held<Executed>,
+) -> Held<Stored>
+    requires imem { length imem.now ≡ guard.now.size / 4 }
+    requires dmem { length dmem.now ≡ guard.now.size / 4 }
+    requires eight { vec_len ports.old ≡ 8 }
+    requires fits { ExecutedFits held.now }
+    ensures latch { result ≡ memory_latch guard.now.size imem.now dmem.now (rows_of latched word_at ports.old.items) cycle held.now }
+    ensures fits { StoredFits result }
+    ensures rows { rows_of latched word_at ports.new.items ≡ rows_of latched word_at ports.old.items }
+    ensures eight { vec_len ports.new ≡ 8 }
+{
+    match held {
+        Held::Bubble => Held::Bubble,
+        Held::Flushed { thread } => Held::Flushed { thread: *thread },
+        Held::Issue { thread, what } => {
+            let effect = late_effect(guard, imem, dmem, ports, *thread, cycle, what);
+            Held::Issue {
+                thread: *thread,
+                what: Stored {
+                    pc: what.pc,
+                    word: what.word,
+                    effect,
+                },
+            }
+        }
+    }
+}
+
+/// Does what a thread's effect does at its port.
+fn put_word(ports: &mut Ports, thread: u8, effect: Option<Effect>)
+    requires eight { vec_len ports.old ≡ 8 }
+    requires thread { thread < 8 }
+    ensures rows { rows_of latched word_at ports.new.items ≡ put_at_port thread effect (rows_of latched word_at ports.old.items) }
+    ensures eight { vec_len ports.new ≡ 8 }
+{
+    if let Some(Effect::Store { address, value, .. }) = effect
+        && address == PORT
+    {
+        write_port(ports, thread, value);
+    }
+}
+
+/// Stores what the turn in M stores, in the data scratchpad or at its thread's port.
+#[tactic(auto, unfolding(pipe_model::specs::Stages::words_stored, pipe_model::specs::Stages::ports_stored))]
+pub fn store(guard: &Guard, dmem: &mut Spm, ports: &mut Ports, held: &Held<Stored>)
+    requires dmem { length dmem.old ≡ guard.now.size / 4 }
+    requires eight { vec_len ports.old ≡ 8 }
+    requires fits { StoredFits held.now }
+    ensures words { dmem.new ≡ words_stored guard.now.size held.now dmem.old }
+    ensures length { length dmem.new ≡ length dmem.old }
+    ensures rows { rows_of latched word_at ports.new.items ≡ ports_stored held.now (rows_of latched word_at ports.old.items) }
+    ensures eight { vec_len ports.new ≡ 8 }
+{
+    if let Held::Issue { thread, what } = held {
+        store_word(guard, dmem, what.effect);
+        put_word(ports, *thread, what.effect);
+    }
+}

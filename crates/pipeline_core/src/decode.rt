@@ -1,0 +1,111 @@
+//! D: registers are read, with what is on its way to them.
+
+ghost use Rattle.std.specs.Prelude.{◌≡◌, ◌<◌, ℕ, List, length};
+ghost use Rattle.core_model.specs.Thread.{reg_in};
+ghost use Rattle.regfile_bank.specs.Registers.{registers_of};
+ghost use Rattle.pipe_model.specs.Stages.{forward, from_m, from_e, operand, is_killed, decode_latch};
+ghost use Rattle.pipeline_core.specs.Fits.{EffectFits, FetchedFits, DecodedFits, ExecutedFits, StoredFits};
+
+use hart_exec::sources_of;
+use pipe_model::{Decoded, Executed, Fetched, Held, Redirect, Stored};
+use regfile_bank::Bank;
+use rv_decode::decode;
+use rv_exec::Effect;
+use timer_unit::Timers;
+
+/// Whether a redirect flushes a thread's turn that comes so many cycles behind it.
+pub fn is_flushed(behind: u8, thread: u8, redirect: Option<Redirect>) -> bool
+    ensures { result ≡ is_killed behind thread redirect }
+{
+    match redirect {
+        Some(redirect) => redirect.thread == thread && redirect.kills >= behind,
+        None => false,
+    }
+}
+
+/// The value of a register, where an effect is on its way to it, else the older value.
+fn newer(effect: Option<Effect>, x: u8, older: u32) -> u32
+    requires x { x < 32 }
+    requires fits { EffectFits effect }
+    ensures { (regs : List ℕ) → length regs ≡ 31 → older ≡ reg_in regs x → result ≡ reg_in (forward effect regs) x }
+{
+    match effect {
+        Some(Effect::Reg { rd, value }) if rd == x && x != 0 => value,
+        _ => older,
+    }
+}
+
+/// A thread's register by the bank and the turn in `m`.
+fn settled(bank: &Bank, m: &Held<Stored>, thread: u8, x: u8) -> u32
+    requires thread { thread < 8 }
+    requires x { x < 32 }
+    requires m { StoredFits m.now }
+    ensures value { result ≡ reg_in (from_m thread m.now (registers_of bank.now thread)) x }
+    ensures words { length (registers_of bank.now thread) ≡ 31 }
+{
+    let older = bank.read(thread, x);
+    match m {
+        Held::Issue {
+            thread: other,
+            what,
+        } if *other == thread => newer(what.effect, x, older),
+        _ => older,
+    }
+}
+
+/// A thread's register by the bank and the turns in `m` and `e`, of which the younger counts.
+fn source(bank: &Bank, m: &Held<Stored>, e: &Held<Executed>, thread: u8, x: u8) -> u32
+    requires thread { thread < 8 }
+    requires x { x < 32 }
+    requires m { StoredFits m.now }
+    requires e { ExecutedFits e.now }
+    ensures { result ≡ operand bank.now m.now e.now thread x }
+{
+    let older = settled(bank, m, thread, x);
+    match e {
+        Held::Issue {
+            thread: other,
+            what,
+        } if *other == thread => newer(what.effect, x, older),
+        _ => older,
+    }
+}
+
+/// Reads the sources of the turn, and whether its thread's armed moment is reached at a time, if the
+/// turn isn't flushed.
+#[tactic(auto, unfolding(pipe_model::specs::Stages::decode_latch))]
+pub fn read(
+    bank: &Bank,
+    m: &Held<Stored>,
+    e: &Held<Executed>,
+    timers: &Timers,
+    redirect: Option<Redirect>,
+    time: u64,
+    held: &Held<Fetched>,
+) -> Held<Decoded>
+    requires m { StoredFits m.now }
+    requires e { ExecutedFits e.now }
+    requires f { FetchedFits held.now }
+    ensures latch { result ≡ decode_latch bank.now m.now e.now timers.now redirect time held.now }
+    ensures fits { DecodedFits result }
+{
+    let (thread, x) = match held {
+        Held::Bubble => return Held::Bubble,
+        Held::Flushed { thread } => return Held::Flushed { thread: *thread },
+        Held::Issue { thread, what } => (*thread, what),
+    };
+    if is_flushed(1, thread, redirect) {
+        return Held::Flushed { thread };
+    }
+    let (rs1, rs2) = sources_of(&decode(x.word));
+    Held::Issue {
+        thread,
+        what: Decoded {
+            pc: x.pc,
+            word: x.word,
+            expired: timers.due(thread, time),
+            a: source(bank, m, e, thread, rs1),
+            b: source(bank, m, e, thread, rs2),
+        },
+    }
+}

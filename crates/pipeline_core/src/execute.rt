@@ -1,0 +1,166 @@
+//! E: instructions are executed, but for late values.
+
+ghost use Rattle.std.specs.Prelude.{◌≡◌, ◌<◌, length};
+ghost use Rattle.rv_decode.specs.Table.{ins};
+ghost use Rattle.rv_exec.specs.Access.{IsAligned};
+ghost use Rattle.core_model.specs.Issue.{act};
+ghost use Rattle.hart_exec.specs.Meaning.{did};
+ghost use Rattle.trap_unit.specs.Rows.{IsAlignedTrap};
+ghost use Rattle.pipe_model.specs.Stages.{own_in, executed, redirect_of, execution};
+ghost use Rattle.pipeline_core.specs.Fits.{IsPc, EffectFits, DecodedFits, ExecutedFits, RedirectFits, IsAccepted};
+ghost use Rattle.pipeline_core.specs.Meaning.{registers_by, control_by};
+ghost use Rattle.pipeline_core.specs.Asked.{asked};
+ghost use Rattle.world_model.specs.World.{registers_after};
+
+use crate::rights::Rights;
+use core_model::Own;
+use hart_exec::{Executed as Done, Place, Sources, execute_in};
+use pipe_model::{Decoded, Executed, Held, Redirect};
+use region_guard::Guard;
+use rv_exec::Effect;
+use slot_scheduler::Sched;
+use timer_unit::Timers;
+use trap_unit::{Traps, write_shared};
+
+/// What E leaves of a turn, and where its thread goes on if the next turns are flushed.
+#[derive(Clone, Copy, Debug)]
+pub struct Execution {
+    pub e: Held<Executed>,
+    pub redirect: Option<Redirect>,
+}
+
+/// What an instruction does, with what its thread has then.
+#[derive(Clone, Copy, Debug)]
+struct Step {
+    own: Own,
+    done: Done,
+}
+
+/// What a thread has, besides its pc and its registers.
+fn own_of(guard: &Guard, sched: &Sched, timers: &Timers, traps: &Traps, thread: u8) -> Own
+    requires { thread < 8 }
+    ensures own { result ≡ own_in (control_by sched.now guard.now timers.now traps.now) thread }
+    ensures trap { IsAlignedTrap result.trap }
+{
+    Own {
+        timer: timers.row(thread),
+        trap: traps.row(thread),
+        sleep: sched.sleep[thread as usize],
+    }
+}
+
+/// Executes an instruction of a thread.
+fn execute_at(mut own: Own, rights: &Rights, x: &Decoded) -> Step
+    requires pc { IsPc x.now.pc }
+    requires trap { IsAlignedTrap own.trap }
+    ensures did { did result.own result.done ≡ act (asked rights.now) x.now.pc own x.now.expired x.now.word x.now.a x.now.b }
+    ensures effect { EffectFits result.done.effect }
+    ensures address { IsAligned (ins result.done.word) result.done.address }
+    ensures pc { IsPc result.done.pc }
+    ensures trap { IsAlignedTrap result.own.trap }
+    ensures csr { IsAccepted result.done.effect }
+{
+    let at = Place {
+        pc: x.pc,
+        word: x.word,
+    };
+    let sources = Sources { a: x.a, b: x.b };
+    let done = execute_in(&mut own, rights, at, x.expired, sources);
+    Step { own, done }
+}
+
+/// What stands in the latch: an instruction whose word isn't shown has no sources.
+fn latch_of(x: &Decoded, own: &Own, done: &Done) -> Executed
+    ensures { result ≡ executed x.now (did own.now done.now) }
+{
+    let is_shown = done.word != 0;
+    Executed {
+        pc: x.pc,
+        word: done.word,
+        a: if is_shown { x.a } else { 0 },
+        b: if is_shown { x.b } else { 0 },
+        address: done.address,
+        effect: done.effect,
+    }
+}
+
+/// Where the thread goes on, if its next turns are flushed.
+fn redirect_by(thread: u8, own: &Own, done: &Done) -> Option<Redirect>
+    requires thread { thread < 8 }
+    requires pc { IsPc done.now.pc }
+    ensures redirect { result ≡ redirect_of thread (did own.now done.now) }
+    ensures fits { RedirectFits result }
+{
+    if done.lag == 1 {
+        return None;
+    }
+    Some(Redirect {
+        thread,
+        pc: done.pc,
+        kills: done.lag.saturating_sub(1),
+    })
+}
+
+/// Does what an effect does to the machine's own registers.
+fn write_registers(guard: &mut Guard, sched: &mut Sched, effect: Option<Effect>)
+    requires { IsAccepted effect }
+    ensures registers { registers_by sched.new guard.new ≡ registers_after effect (registers_by sched.old guard.old) }
+    ensures sleep { sched.new.sleep ≡ sched.old.sleep }
+    ensures size { guard.new.size ≡ guard.old.size }
+{
+    if let Some(Effect::Csr { csr, value, .. }) = effect {
+        write_shared(sched, guard, csr, value);
+    }
+}
+
+/// Executes the turn at a time, in nanoseconds. What it changes of its thread and of the machine's
+/// own registers is changed here.
+#[tactic(auto, unfolding(pipe_model::specs::Stages::execution))]
+pub fn execute(
+    guard: &mut Guard,
+    sched: &mut Sched,
+    timers: &mut Timers,
+    traps: &mut Traps,
+    confined: &[bool; 8],
+    permit: &[bool; 8],
+    time: u64,
+    held: &Held<Decoded>,
+) -> Execution
+    requires { DecodedFits held.now }
+    ensures e { result.e ≡ (execution guard.old.size confined.now permit.now time (control_by sched.old guard.old timers.old traps.old) held.now).e }
+    ensures redirect { result.redirect ≡ (execution guard.old.size confined.now permit.now time (control_by sched.old guard.old timers.old traps.old) held.now).redirect }
+    ensures control { control_by sched.new guard.new timers.new traps.new ≡ (execution guard.old.size confined.now permit.now time (control_by sched.old guard.old timers.old traps.old) held.now).control }
+    ensures size { guard.new.size ≡ guard.old.size }
+    ensures fits { ExecutedFits result.e }
+    ensures redirect_fits { RedirectFits result.redirect }
+{
+    let (thread, x) = match held {
+        Held::Bubble => {
+            return Execution {
+                e: Held::Bubble,
+                redirect: None,
+            };
+        }
+        Held::Flushed { thread } => {
+            return Execution {
+                e: Held::Flushed { thread: *thread },
+                redirect: None,
+            };
+        }
+        Held::Issue { thread, what } => (*thread, what),
+    };
+    let rights = Rights::of(thread, time, guard, sched, confined, permit);
+    let own = own_of(guard, sched, timers, traps, thread);
+    let step = execute_at(own, &rights, x);
+    timers.set_row(thread, step.own.timer);
+    traps.set_row(thread, step.own.trap);
+    sched.sleep[thread as usize] = step.own.sleep;
+    write_registers(guard, sched, step.done.effect);
+    Execution {
+        e: Held::Issue {
+            thread,
+            what: latch_of(x, &step.own, &step.done),
+        },
+        redirect: redirect_by(thread, &step.own, &step.done),
+    }
+}

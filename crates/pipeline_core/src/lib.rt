@@ -1,0 +1,17 @@
+//! The pipeline of the core: five stages, F, D, E, M and W, through which the turns of the eight
+//! hardware threads go, one stage in each cycle.
+#![tactic(auto)]
+
+mod access;
+mod decode;
+mod execute;
+mod fetch;
+mod memory;
+mod pipe;
+mod rights;
+mod units;
+mod write;
+
+pub use pipe::Pipe;
+pub use pipe_model::{Decoded, Executed, Fetched, Held, Stored, Written};
+pub use units::Units;

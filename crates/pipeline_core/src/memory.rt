@@ -1,0 +1,120 @@
+//! The words of the two scratchpads, as fetches, loads and stores reach them.
+
+ghost use Rattle.std.specs.Prelude.{◌≡◌, ◌<◌, ◌/◌, ◌%◌, length, vec_len};
+ghost use Rattle.region_guard.specs.Regions.{IsSize, in_i, in_d, index_of};
+ghost use Rattle.rv_exec.specs.Access.{lanes_at};
+ghost use Rattle.rv_exec.specs.Line.{IsWidth};
+ghost use Rattle.core_model.specs.Memory.{code_at, data_at};
+ghost use Rattle.world_model.specs.World.{words_after};
+ghost use Rattle.fp_ports.specs.Rows.{rows_of, row_at, word_seen};
+ghost use Rattle.pipeline_core.specs.Fits.{EffectFits};
+
+use fp_ports::{Port, Ports, read_port};
+use region_guard::Guard;
+use rv_decode::StoreOp;
+use rv_exec::{Effect, Lanes, store_lanes};
+use scratchpad::Spm;
+
+const DATA: u32 = 0x2000_0000;
+
+/// The index of an address's word in its scratchpad.
+#[tactic(auto, unfolding(region_guard::specs::Regions::index_of))]
+fn index_at(guard: &Guard, address: u32) -> u32
+    ensures index { result ≡ index_of guard.now.size address }
+    ensures small { result < guard.now.size / 4 }
+{
+    if guard.size == 0x4000 {
+        address % 0x4000 / 4
+    } else {
+        address % 0x1_0000 / 4
+    }
+}
+
+/// Whether an address lies in the instruction scratchpad.
+fn is_code(guard: &Guard, address: u32) -> bool
+    ensures { result ≡ in_i guard.now.size address }
+{
+    address < guard.size
+}
+
+/// Whether an address lies in the data scratchpad.
+fn is_data(guard: &Guard, address: u32) -> bool
+    ensures { result ≡ in_d guard.now.size address }
+{
+    address >= DATA && address < DATA + guard.size
+}
+
+/// The word of the instruction scratchpad at a pc, 0 outside.
+#[tactic(auto, unfolding(core_model::specs::Memory::code_at))]
+pub fn code_word(guard: &Guard, imem: &Spm, pc: u32) -> u32
+    requires { length imem.now ≡ guard.now.size / 4 }
+    ensures { result ≡ code_at guard.now.size imem.now pc }
+{
+    if is_code(guard, pc) {
+        imem.word_at(index_at(guard, pc))
+    } else {
+        0
+    }
+}
+
+/// The word that a thread's load finds at an address; outside the scratchpads it is the word that
+/// the thread's port shows in a cycle.
+#[tactic(auto, unfolding(core_model::specs::Memory::data_at))]
+pub fn data_word(
+    guard: &Guard,
+    imem: &Spm,
+    dmem: &Spm,
+    ports: &mut Ports,
+    thread: u8,
+    cycle: u64,
+    address: u32,
+) -> u32
+    requires imem { length imem.now ≡ guard.now.size / 4 }
+    requires dmem { length dmem.now ≡ guard.now.size / 4 }
+    requires eight { vec_len ports.old ≡ 8 }
+    requires thread { thread < 8 }
+    ensures word { result ≡ data_at guard.now.size imem.now dmem.now (word_seen (row_at (rows_of latched word_at ports.old.items) thread) cycle) address }
+    ensures rows { rows_of latched word_at ports.new.items ≡ rows_of latched word_at ports.old.items }
+    ensures eight { vec_len ports.new ≡ 8 }
+{
+    if is_code(guard, address) {
+        imem.word_at(index_at(guard, address))
+    } else if is_data(guard, address) {
+        dmem.word_at(index_at(guard, address))
+    } else {
+        read_port(ports, thread, cycle)
+    }
+}
+
+/// The lanes of a store of `size` bytes.
+fn lanes_of(size: u8, address: u32, value: u32) -> Lanes
+    requires width { IsWidth size }
+    requires aligned { address % size ≡ 0 }
+    ensures { result ≡ lanes_at size address value }
+{
+    match size {
+        1 => store_lanes(StoreOp::Sb, address, value),
+        2 => store_lanes(StoreOp::Sh, address, value),
+        _ => store_lanes(StoreOp::Sw, address, value),
+    }
+}
+
+/// Does what an effect does to the data scratchpad.
+pub fn store_word(guard: &Guard, dmem: &mut Spm, effect: Option<Effect>)
+    requires dmem { length dmem.old ≡ guard.now.size / 4 }
+    requires fits { EffectFits effect }
+    ensures words { dmem.new ≡ words_after guard.now.size effect dmem.old }
+    ensures length { length dmem.new ≡ length dmem.old }
+{
+    if let Some(
+        Effect::Store {
+            address,
+            size,
+            value,
+        },
+    ) = effect
+        && is_data(guard, address)
+    {
+        dmem.store(index_at(guard, address), lanes_of(size, address, value));
+    }
+}

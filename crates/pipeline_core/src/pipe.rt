@@ -1,0 +1,138 @@
+//! The latches between the stages.
+
+ghost use Rattle.std.specs.Prelude.{◌≡◌, All};
+ghost use Rattle.std.proofs.Props.{props};
+ghost use Rattle.pipe_model.specs.Laws.{empty};
+ghost use Rattle.pipeline_core.specs.Fits.{IsPc, FetchedFits, DecodedFits, ExecutedFits, StoredFits, WrittenFits, FetchedFits-prop, DecodedFits-prop, ExecutedFits-prop, StoredFits-prop, WrittenFits-prop};
+
+use crate::access::{access, store};
+use crate::decode::read;
+use crate::execute::execute;
+use crate::fetch::{fetch, redirect_to};
+use crate::units::Units;
+use crate::write::{retire, write_back, written};
+use fp_ports::{Port, Ports};
+use pipe_model::{Decoded, Executed, Fetched, Held, Stored, Written, keeps_standing};
+use rv_exec::Event;
+
+/// What stands between the stages: the turns of the last five cycles. Before cycle c, `f` holds the
+/// turn of c − 1, `d` that of c − 2, and so on to `w` with that of c − 5.
+///
+/// Threads are 0 to 7, pcs are multiples of four, effects can be shown in a line of a trace, and the
+/// addresses of loads and stores are aligned for their sizes.
+#[derive(Clone, Copy, Debug, PartialEq, Eq)]
+pub struct Pipe {
+    /// The pc that each thread fetches next.
+    pub next: [u32; 8],
+    pub f: Held<Fetched>,
+    pub d: Held<Decoded>,
+    pub e: Held<Executed>,
+    pub m: Held<Stored>,
+    pub w: Held<Written>,
+    ghost pcs: { All IsPc next } by { Prim.hlevel props },
+    ghost fetched: { FetchedFits f } by { FetchedFits-prop f },
+    ghost decoded: { DecodedFits d } by { DecodedFits-prop d },
+    ghost executed: { ExecutedFits e } by { ExecutedFits-prop e },
+    ghost stored: { StoredFits m } by { StoredFits-prop m },
+    ghost written: { WrittenFits w } by { WrittenFits-prop w },
+}
+
+impl Pipe {
+    ghost use Rattle.std.specs.Prelude.{◌<◌, vec_len};
+    ghost use Rattle.fp_ports.specs.Rows.{rows_of};
+    ghost use Rattle.world_model.specs.World.{Start};
+    ghost use Rattle.pipe_model.specs.Stages.{step};
+    ghost use Rattle.pipe_model.specs.Relation.{Begins, Shows, Stands, Kept};
+    ghost use Rattle.pipeline_core.specs.Fits.{IsEventShowable};
+    ghost use Rattle.pipeline_core.specs.Meaning.{latches_by, state_by, ticked_by};
+
+    /// A pipeline with nothing in it, whose threads start at these entries.
+    pub fn new(entries: [u32; 8]) -> Pipe
+        requires { All IsPc entries }
+        ensures { latches_by result ≡ empty entries }
+    {
+        Pipe {
+            next: entries,
+            f: Held::Bubble,
+            d: Held::Bubble,
+            e: Held::Bubble,
+            m: Held::Bubble,
+            w: Held::Bubble,
+        }
+    }
+
+    /// One cycle of the core. Where pipeline, units and ports stand for the cycle of a world, they
+    /// stand for its next cycle afterwards, and the answer is the event of the issue of four cycles
+    /// ago, or None where that has none or there is no issue.
+    pub fn tick(&mut self, units: &mut Units, ports: &mut Ports, cycle: u64) -> Option<Event>
+        requires cycle { cycle < 4000000000 }
+        requires eight { vec_len ports.old ≡ 8 }
+        ensures relation { let before = rows_of latched word_at ports.old.items in let after = rows_of latched word_at ports.new.items in
+            (s : Start) → Begins s → Shows s cycle before → Stands s cycle (latches_by self.old) (state_by units.old before) →
+            Kept s cycle before (ticked_by self.new units.new after result) }
+        ensures step { ticked_by self.new units.new (rows_of latched word_at ports.new.items) result ≡ step (latches_by self.old) (state_by units.old (rows_of latched word_at ports.old.items)) cycle }
+        ensures eight { vec_len ports.new ≡ 8 }
+        ensures showable { IsEventShowable result }
+    {
+        keeps_standing();
+        self.step(units, ports, cycle)
+    }
+
+    /// One cycle, stage by stage. The older stages go first, so that the younger ones go by what they
+    /// leave; the pick goes by slots, modes and sleep moments as they stand before. The turn in M was
+    /// issued three cycles ago, and finds at its thread's port the word of that cycle; the turn in E
+    /// was issued two cycles ago, that in D one cycle ago, and they go by the times of those cycles.
+    #[tactic(auto, unfolding(pipe_model::specs::Stages::step))]
+    fn step(&mut self, units: &mut Units, ports: &mut Ports, cycle: u64) -> Option<Event>
+        requires cycle { cycle < 4000000000 }
+        requires eight { vec_len ports.old ≡ 8 }
+        ensures step { ticked_by self.new units.new (rows_of latched word_at ports.new.items) result ≡ step (latches_by self.old) (state_by units.old (rows_of latched word_at ports.old.items)) cycle }
+        ensures eight { vec_len ports.new ≡ 8 }
+        ensures showable { IsEventShowable result }
+    {
+        let pick = units
+            .scheduler
+            .pick(&units.sched, cycle, units.clock.now(cycle));
+        let event = retire(&self.m, cycle.saturating_sub(4));
+        write_back(&mut units.bank, &self.m);
+        self.w = written(&self.m);
+        self.m = access(
+            &units.guard,
+            &units.imem,
+            &units.dmem,
+            ports,
+            cycle.saturating_sub(3),
+            &self.e,
+        );
+        store(&units.guard, &mut units.dmem, ports, &self.m);
+        let executed = execute(
+            &mut units.guard,
+            &mut units.sched,
+            &mut units.timers,
+            &mut units.traps,
+            &units.confined,
+            &units.permit,
+            units.clock.now(cycle.saturating_sub(2)),
+            &self.d,
+        );
+        self.e = executed.e;
+        redirect_to(&mut self.next, executed.redirect);
+        self.d = read(
+            &units.bank,
+            &self.m,
+            &self.e,
+            &units.timers,
+            executed.redirect,
+            units.clock.now(cycle.saturating_sub(1)),
+            &self.f,
+        );
+        self.f = fetch(
+            &units.guard,
+            &units.imem,
+            executed.redirect,
+            &mut self.next,
+            pick,
+        );
+        event
+    }
+}

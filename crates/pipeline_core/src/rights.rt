@@ -1,0 +1,95 @@
+//! What a thread's instruction may do.
+
+ghost use Rattle.std.specs.Prelude.{◌≡◌, ◌<◌};
+ghost use Rattle.world_model.specs.World.{around};
+ghost use Rattle.pipeline_core.specs.Meaning.{registers_by};
+
+use hart_exec::Surroundings;
+use region_guard::Guard;
+use slot_scheduler::Sched;
+
+/// What a thread's instruction asks, with the answers of the guard and of the machine's own
+/// registers as they stand when it is executed.
+#[derive(Clone, Copy, Debug)]
+pub struct Rights {
+    pub thread: u8,
+    pub time: u64,
+    pub confined: bool,
+    pub permit: bool,
+    pub guard: Guard,
+    pub slots: u32,
+    pub modes: u32,
+}
+
+impl Rights {
+    ghost use Rattle.pipeline_core.specs.Asked.{asked};
+
+    /// The rights of a thread at a time.
+    #[tactic(auto, unfolding(crate::specs::Asked::asked, world_model::specs::World::around))]
+    pub fn of(
+        thread: u8,
+        time: u64,
+        guard: &Guard,
+        sched: &Sched,
+        confined: &[bool; 8],
+        permit: &[bool; 8],
+    ) -> Rights
+        requires { thread < 8 }
+        ensures { asked result ≡ around time guard.now.size confined.now permit.now (registers_by sched.now guard.now) thread }
+    {
+        Rights {
+            thread,
+            time,
+            confined: confined[thread as usize],
+            permit: permit[thread as usize],
+            guard: *guard,
+            slots: sched.slots.word(),
+            modes: sched.modes.word(),
+        }
+    }
+}
+
+impl Surroundings for Rights {
+    ghost use Rattle.pipeline_core.specs.Asked.{asked};
+
+    ghost asks = { asked };
+
+    #[tactic(auto, unfolding(crate::specs::Asked::asked))]
+    fn thread(&self) -> u8 {
+        self.thread
+    }
+
+    #[tactic(auto, unfolding(crate::specs::Asked::asked))]
+    fn now(&self) -> u64 {
+        self.time
+    }
+
+    #[tactic(auto, unfolding(crate::specs::Asked::asked))]
+    fn may_fetch(&self, pc: u32) -> bool {
+        self.guard.may_fetch(self.thread, self.confined, pc)
+    }
+
+    #[tactic(auto, unfolding(crate::specs::Asked::asked))]
+    fn may_load(&self, address: u32, width: u8) -> bool {
+        self.guard
+            .may_load(self.thread, self.confined, address, width)
+    }
+
+    #[tactic(auto, unfolding(crate::specs::Asked::asked))]
+    fn may_store(&self, address: u32, width: u8) -> bool {
+        self.guard.may_store(self.thread, address, width)
+    }
+
+    #[tactic(auto, unfolding(crate::specs::Asked::asked))]
+    fn shared(&self, csr: u16) -> Option<u32> {
+        if !self.permit {
+            return None;
+        }
+        Some(match csr {
+            0x7C0 => self.slots,
+            0x7C1 => self.modes,
+            0x7C2 => self.guard.d.word(),
+            _ => self.guard.i.word(),
+        })
+    }
+}

@@ -1,0 +1,37 @@
+//! What the stages work on.
+
+ghost use Rattle.std.specs.Prelude.{◌≡◌, ◌/◌, length};
+
+use regfile_bank::Bank;
+use region_guard::Guard;
+use scratchpad::Spm;
+use slot_scheduler::{Sched, Scheduler};
+use timer_unit::{Clock, Timers};
+use trap_unit::Traps;
+
+/// The units of the core: registers, scratchpads and their guard, scheduling, time, traps, and the
+/// flags of the eight hardware threads.
+#[derive(Debug, Drop)]
+pub struct Units {
+    /// The registers x1 to x31 of each thread.
+    pub bank: Bank,
+    /// The instruction scratchpad.
+    pub imem: Spm,
+    /// The data scratchpad.
+    pub dmem: Spm,
+    /// The region registers, and the size of each scratchpad.
+    pub guard: Guard,
+    /// The place of the search for a soft thread.
+    pub scheduler: Scheduler,
+    /// Slots, modes and sleep moments, as the execute stage leaves them.
+    pub sched: Sched,
+    pub clock: Clock,
+    pub timers: Timers,
+    pub traps: Traps,
+    /// Whether a thread is confined to the regions that it owns or that are read only.
+    pub confined: [bool; 8],
+    /// Whether a thread may access the machine's own registers.
+    pub permit: [bool; 8],
+    ghost imem_size: { length imem ≡ guard.size / 4 },
+    ghost dmem_size: { length dmem ≡ guard.size / 4 },
+}

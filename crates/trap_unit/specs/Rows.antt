@@ -1,0 +1,30 @@
+-- The trap registers of the threads: for each thread a row.
+use Rattle.std.specs.Prelude.{◌≡◌, ℕ, ◌%◌, ◌==◌, Bool, ◌||◌, List, slice_index_or}
+use Rattle.core_model.specs.declared.own.Trapping.{Trapping}
+use Rattle.core_model.specs.declared.own.Own.{Own}
+use Rattle.core_model.specs.Thread.{no_own}
+use Rattle.core_model.specs.Control.{kept}
+
+-- a thread's trap registers at the start
+abbrev pub no_trap : Trapping
+no_trap = record { mtvec = 0; mscratch = 0; mepc = 0; mcause = 0 }
+
+-- the trap registers of one of the threads
+abbrev pub trap_of : List Trapping → ℕ → Trapping
+trap_of traps thread = slice_index_or traps thread no_trap
+
+-- the two low bits of mtvec and mepc are 0
+abbrev pub IsAlignedTrap : Trapping → Type 0
+IsAlignedTrap trap = (trap.mtvec % 4 ≡ 0) × (trap.mepc % 4 ≡ 0)
+
+-- the numbers of these registers: mtvec, mscratch, mepc and mcause
+abbrev pub is_trap : ℕ → Bool
+is_trap csr = csr == 0x305 || csr == 0x340 || csr == 0x341 || csr == 0x342
+
+-- a thread with these trap registers, as the definitions of one thread take it
+abbrev pub with_trap : Trapping → Own
+with_trap trap = record no_own { trap = trap }
+
+-- a thread's trap registers once a trap has saved the pc and the cause
+abbrev pub entered : Trapping → ℕ → ℕ → Trapping
+entered trap cause epc = record trap { mepc = kept 0x341 epc; mcause = cause }

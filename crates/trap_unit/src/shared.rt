@@ -1,0 +1,53 @@
+//! The machine's registers 0x7C0 to 0x7C3: slots, modes, dregions and iregions.
+
+ghost use Rattle.std.specs.Prelude.{◌≡◌, Some, IsTrue};
+ghost use Rattle.core_model.specs.Control.{may_hold};
+ghost use Rattle.trap_unit.specs.Access.{shared_value, sched_after, guard_after};
+
+use region_guard::{Guard, Regions};
+use slot_scheduler::{Modes, Sched};
+use slot_table::SlotTable;
+
+/// The word of one of the machine's registers, iregions for every number but the other three.
+pub fn read_shared(sched: &Sched, guard: &Guard, csr: u16) -> u32
+    ensures { result ≡ shared_value sched.now guard.now csr }
+{
+    match csr {
+        0x7C0 => sched.slots.word(),
+        0x7C1 => sched.modes.word(),
+        0x7C2 => guard.d.word(),
+        _ => guard.i.word(),
+    }
+}
+
+/// Writes one of the machine's registers, which may hold the word. Other numbers change nothing.
+#[tactic(auto, unfolding(core_model::specs::Control::may_hold), using(crate::proofs::Held::slots_kept))]
+pub fn write_shared(sched: &mut Sched, guard: &mut Guard, csr: u16, word: u32)
+    requires { IsTrue (may_hold csr word) }
+    ensures sched { sched.new ≡ sched_after sched.old csr (Some word) }
+    ensures guard { guard.new ≡ guard_after guard.old csr (Some word) }
+{
+    match csr {
+        0x7C0 => {
+            if let Ok(slots) = SlotTable::from_word(word) {
+                sched.slots = slots;
+            }
+        }
+        0x7C1 => {
+            if let Ok(modes) = Modes::from_word(word) {
+                sched.modes = modes;
+            }
+        }
+        0x7C2 => {
+            if let Ok(regions) = Regions::from_word(word) {
+                guard.d = regions;
+            }
+        }
+        0x7C3 => {
+            if let Ok(regions) = Regions::from_word(word) {
+                guard.i = regions;
+            }
+        }
+        _ => {}
+    }
+}

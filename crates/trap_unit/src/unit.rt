@@ -1,0 +1,305 @@
+//! The trap registers of the eight threads.
+
+ghost use Rattle.std.specs.Prelude.{◌≡◌, ◌<◌, Some, IsTrue, length, replicate, slice_set};
+ghost use Rattle.core_model.specs.Control.{csr_value, may_hold, kept};
+ghost use Rattle.trap_unit.specs.Rows.{no_trap, trap_of, is_trap, with_trap, entered, IsAlignedTrap};
+ghost use Rattle.trap_unit.specs.Access.{value_by, answer_by, written_in, traps_after, sched_after, guard_after};
+
+use crate::shared::{read_shared, write_shared};
+use core_model::{CsrOp, Own, Trapping};
+use hart_exec::{can_hold, change, keep, put, value_of};
+use region_guard::Guard;
+use slot_scheduler::Sched;
+use std::marker::Model;
+
+/// What an access has done: the old value, and the value that was written, as the register keeps it.
+#[derive(Clone, Copy, Debug, PartialEq, Eq)]
+pub struct CsrDone {
+    pub old: u32,
+    pub written: Option<u32>,
+}
+
+/// Why an access was refused.
+#[derive(Clone, Copy, Debug, PartialEq, Eq)]
+pub enum CsrNo {
+    /// The number is none of a register.
+    Unknown,
+    /// The register is one of the machine's, and the thread has no permit.
+    NoPermit,
+    /// The register, mhartid, takes no write.
+    ReadOnly,
+    /// The register doesn't take the new word.
+    BadValue,
+}
+
+/// The trap registers mtvec, mscratch, mepc and mcause of the eight hardware threads (RISC-V
+/// privileged manual, "Machine-Level CSRs"). The two low bits of mtvec and mepc are always 0. A
+/// thread is 0 to 7.
+#[derive(Clone, Copy, Debug, PartialEq, Eq)]
+pub struct Traps {
+    rows: [Trapping; 8],
+}
+
+impl Model for Traps {
+    ghost use Rattle.std.specs.Prelude.{List, All};
+    ghost use Rattle.core_model.specs.declared.own.Trapping.{Trapping};
+    ghost use Rattle.trap_unit.specs.Rows.{IsAlignedTrap};
+
+    ghost Value = { List Trapping };
+
+    ghost view = { λ t. t.rows };
+
+    ghost invariant = { λ t. All IsAlignedTrap t.rows };
+
+    ghost inverse = { λ rows. record { rows = rows } };
+}
+
+impl Traps {
+    /// Trap registers that are all 0.
+    pub fn new() -> Traps
+        ensures { result ≡ replicate 8 no_trap }
+    {
+        Traps {
+            rows: [Own::new().trap; 8],
+        }
+    }
+
+    /// A thread's trap registers.
+    pub fn row(&self, thread: u8) -> Trapping
+        requires { thread < 8 }
+        ensures row { result ≡ trap_of self.now thread }
+        ensures aligned { IsAlignedTrap result }
+    {
+        self.rows[thread as usize]
+    }
+
+    /// Gives a thread other trap registers.
+    pub fn set_row(&mut self, thread: u8, row: Trapping)
+        requires thread { thread < 8 }
+        requires aligned { IsAlignedTrap row }
+        ensures row { self.new ≡ slice_set self.old thread row }
+        ensures eight { length self.new ≡ 8 }
+    {
+        self.rows[thread as usize] = row;
+    }
+
+    /// A thread's word of mtvec, mscratch, mepc or mcause, by its number.
+    pub fn value(&self, thread: u8, csr: u16) -> u32
+        requires thread { thread < 8 }
+        requires csr { IsTrue (is_trap csr) }
+        ensures { Some result ≡ csr_value thread (with_trap (trap_of self.now thread)) csr (Some 0) }
+    {
+        let row = self.row(thread);
+        match csr {
+            0x305 => row.mtvec,
+            0x340 => row.mscratch,
+            0x341 => row.mepc,
+            _ => row.mcause,
+        }
+    }
+
+    /// A trap: it saves the pc, whose two low bits mepc doesn't keep, and the cause. The answer is
+    /// mtvec, where the thread goes on.
+    pub fn enter(&mut self, thread: u8, cause: u8, epc: u32) -> u32
+        requires { thread < 8 }
+        ensures target { result ≡ (trap_of self.old thread).mtvec }
+        ensures row { self.new ≡ slice_set self.old thread (entered (trap_of self.old thread) cause epc) }
+        ensures eight { length self.new ≡ 8 }
+    {
+        let row = self.row(thread);
+        let mepc = keep(0x341, epc);
+        self.set_row(
+            thread,
+            Trapping {
+                mepc,
+                mcause: u32::from(cause),
+                ..row
+            },
+        );
+        row.mtvec
+    }
+
+    /// A return from a trap. The answer is mepc, where the thread goes on.
+    pub fn leave(&self, thread: u8) -> u32
+        requires { thread < 8 }
+        ensures { result ≡ (trap_of self.now thread).mepc }
+    {
+        self.row(thread).mepc
+    }
+
+    /// A register by its number; None where the number is none.
+    #[tactic(auto, unfolding(crate::specs::Access::value_by))]
+    fn value_of(&self, sched: &Sched, guard: &Guard, thread: u8, csr: u16) -> Option<u32>
+        requires { thread < 8 }
+        ensures { result ≡ value_by self.now sched.now guard.now thread csr }
+    {
+        let own = Own {
+            trap: self.row(thread),
+            ..Own::new()
+        };
+        value_of(&own, thread, csr, Some(read_shared(sched, guard, csr)))
+    }
+
+    /// Gives one of the thread's registers, or of the machine's, a value that it keeps.
+    fn put(&mut self, sched: &mut Sched, guard: &mut Guard, thread: u8, csr: u16, value: u32)
+        requires thread { thread < 8 }
+        requires held { IsTrue (may_hold csr value) }
+        requires kept { kept csr value ≡ value }
+        ensures traps { self.new ≡ traps_after self.old thread csr (Some value) }
+        ensures sched { sched.new ≡ sched_after sched.old csr (Some value) }
+        ensures guard { guard.new ≡ guard_after guard.old csr (Some value) }
+    {
+        let mut own = Own {
+            trap: self.row(thread),
+            ..Own::new()
+        };
+        put(&mut own, csr, value);
+        self.set_row(thread, own.trap);
+        write_shared(sched, guard, csr, value);
+    }
+
+    /// A thread's access to a register by its number. The operand takes the old value's place, or
+    /// its bits are set or cleared in it, where the access `writes`.
+    ///
+    /// # Errors
+    ///
+    /// [`CsrNo`] by the first of its causes that holds; nothing changes then.
+    #[tactic(auto, using(crate::proofs::Aligned::held_as_kept))]
+    pub fn access(
+        &mut self,
+        sched: &mut Sched,
+        guard: &mut Guard,
+        thread: u8,
+        permit: bool,
+        op: CsrOp,
+        csr: u16,
+        operand: u32,
+        writes: bool,
+    ) -> Result<CsrDone, CsrNo>
+        requires { thread < 8 }
+        ensures answer { result ≡ answer_by permit op csr operand writes (value_by self.old sched.old guard.old thread csr) }
+        ensures traps { self.new ≡ traps_after self.old thread csr (written_in result) }
+        ensures sched { sched.new ≡ sched_after sched.old csr (written_in result) }
+        ensures guard { guard.new ≡ guard_after guard.old csr (written_in result) }
+    {
+        let Some(old) = self.value_of(sched, guard, thread, csr) else {
+            return Err(CsrNo::Unknown);
+        };
+        if (0x7C0..=0x7C3).contains(&csr) && !permit {
+            return Err(CsrNo::NoPermit);
+        }
+        if csr == 0xF14 && writes {
+            return Err(CsrNo::ReadOnly);
+        }
+        if !writes {
+            return Ok(CsrDone { old, written: None });
+        }
+        let word = change(op, old, operand);
+        if !can_hold(csr, word) {
+            return Err(CsrNo::BadValue);
+        }
+        let value = keep(csr, word);
+        self.put(sched, guard, thread, csr, value);
+        Ok(CsrDone {
+            old,
+            written: Some(value),
+        })
+    }
+}
+
+#[cfg(test)]
+mod tests {
+    use super::{CsrDone, CsrNo, Traps};
+    use core_model::CsrOp;
+    use region_guard::{Guard, Regions};
+    use slot_scheduler::{Modes, Sched};
+    use slot_table::SlotTable;
+    use std::test::Fail;
+
+    #[test]
+    fn accesses_by_number_permit_and_word(rt: HostRuntime) -> Result<(), Fail> {
+        let mut traps = Traps::new();
+        let mut sched = Sched {
+            slots: SlotTable::from_word(0xffff_fff0)?,
+            modes: Modes::from_word(0xfffc)?,
+            sleep: [0; 8],
+        };
+        let mut guard = Guard {
+            i: Regions::from_word(0xcccc_cccc)?,
+            d: Regions::from_word(0xcccc_c810)?,
+            size: 16_384,
+        };
+        let written = |old: u32, word: u32| {
+            Ok(CsrDone {
+                old,
+                written: Some(word),
+            })
+        };
+        for (permit, op, csr, operand, writes, answer) in [
+            (false, CsrOp::Swap, 0x305, 0x103, true, written(0, 0x100)),
+            (false, CsrOp::Set, 0x305, 0x7, true, written(0x100, 0x104)),
+            (false, CsrOp::Clear, 0x305, 0x4, true, written(0x104, 0x100)),
+            (false, CsrOp::Swap, 0x340, 3, true, written(0, 3)),
+            (false, CsrOp::Swap, 0x342, 24, true, written(0, 24)),
+            (
+                false,
+                CsrOp::Set,
+                0xF14,
+                0,
+                false,
+                Ok(CsrDone {
+                    old: 3,
+                    written: None,
+                }),
+            ),
+            (true, CsrOp::Set, 0xF14, 0, true, Err(CsrNo::ReadOnly)),
+            (true, CsrOp::Set, 0x300, 0, false, Err(CsrNo::Unknown)),
+            (true, CsrOp::Set, 0x7C4, 0, false, Err(CsrNo::Unknown)),
+            (false, CsrOp::Set, 0x7C0, 0, false, Err(CsrNo::NoPermit)),
+            (
+                true,
+                CsrOp::Swap,
+                0x7C0,
+                0xffff_ff10,
+                true,
+                written(0xffff_fff0, 0xffff_ff10),
+            ),
+            (
+                true,
+                CsrOp::Swap,
+                0x7C1,
+                0x1_0000,
+                true,
+                Err(CsrNo::BadValue),
+            ),
+            (
+                true,
+                CsrOp::Clear,
+                0x7C2,
+                0x800,
+                true,
+                written(0xcccc_c810, 0xcccc_c010),
+            ),
+            (
+                true,
+                CsrOp::Swap,
+                0x7C3,
+                0xcccc_cccd,
+                true,
+                Err(CsrNo::BadValue),
+            ),
+        ] {
+            let done = traps.access(&mut sched, &mut guard, 3, permit, op, csr, operand, writes);
+            assert_eq!(rt; done, answer, "{csr:x}");
+        }
+        assert_eq!(rt; traps.value(3, 0x305), 0x100);
+        assert_eq!(rt; traps.value(2, 0x305), 0);
+        assert_eq!(rt; sched.slots.word(), 0xffff_ff10);
+        assert_eq!(rt; sched.modes.word(), 0xfffc);
+        assert_eq!(rt; guard.d.word(), 0xcccc_c010);
+        assert_eq!(rt; traps.enter(3, 11, 0x40), 0x100);
+        assert_eq!(rt; traps.leave(3), 0x40);
+        assert_eq!(rt; traps.value(3, 0x342), 11);
+        Ok(())
+    }
+}
