@@ -3,7 +3,7 @@ mod Late
 mod Front
 mod Young
 mod Ports
-mod Keeping
+pub mod Keeping
 mod Showing
 mod Fetching
 mod Starting
