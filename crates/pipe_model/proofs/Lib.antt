@@ -6,5 +6,7 @@ mod Ports
 pub mod Keeping
 mod Showing
 mod Fetching
+mod Told
+mod Holding
 mod Starting
 mod Events
