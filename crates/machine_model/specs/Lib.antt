@@ -1,0 +1,4 @@
+pub mod Seen
+pub mod Fields
+pub mod Relation
+pub mod Laws
