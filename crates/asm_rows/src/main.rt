@@ -12,6 +12,8 @@
 mod answers;
 mod escapes;
 mod rows;
+#[cfg(test)]
+mod tests;
 
 use std::{fs, io};
 

@@ -1,25 +1,24 @@
 -- The powers of the loops from a place on are those of a part.
-use Rattle.std.proofs.Common.{◌≡◌, ◌≢◌, ℕ, zero, suc, ◌+◌, ◌-◌, ◌*◌, ◌/◌, ◌%◌, ◌<◌, ◌≤◌, ◌⊎◌, ◌^◌, refl, arith, subst, sym, ap, ◌∙◌, inl, inr, List, length, Option, Some, None, slice_index_or, slice_set, get_or-set_other, get_or-set_same, length-set, Contains, Box, Global}
+use Rattle.std.proofs.Common.{◌≡◌, ◌≢◌, ℕ, ◌+◌, ◌-◌, ◌<◌, ◌≤◌, ◌⊎◌, ◌^◌, arith, subst, sym, ap, ◌∙◌, inl, inr, length, Some, None, slice_set, get_or-set_other, get_or-set_same, length-set, Contains, Box, Global}
 use Rattle.std.specs.Option.{option_map}
 use Rattle.fp_setup.specs.declared.loop_list.LoopSetup.{LoopSetup}
-use Rattle.region_tree.specs.Graph.{Inside, Lies, Reachable}
-use Rattle.region_tree.specs.Graph.Reachable.{first, next}
+use Rattle.region_tree.specs.Graph.{Inside, Reachable}
+use Rattle.region_tree.specs.Graph.Reachable.{first}
 use Rattle.region_tree.specs.Search.{address}
 use Rattle.region_tree.specs.Tree.{IsTree, Tree, graph}
-use Rattle.region_tree.specs.Walk.{Course, Positions}
-use Rattle.region_tree.proofs.GraphLaws.{address-place, place-address}
+use Rattle.region_tree.specs.Walk.{Positions}
+use Rattle.region_tree.proofs.GraphLaws.{place-address}
 use Rattle.bound_calc.specs.declared.matrix.Matrix.{Matrix}
 use Rattle.bound_calc.specs.Best.{IsBest}
 use Rattle.bound_calc.specs.Context.{Net, Part, Walk, body}
 use Rattle.bound_calc.specs.Context.Walk.{start, step}
 use Rattle.bound_calc.specs.Matrices.{entry}
 use Rattle.bound_calc.specs.Passing.{HasRounds, IsFilled, IsPowers, IsReady, Powers, over, place, power_at}
-use Rattle.bound_calc.specs.Section.{IsAccepted, IsModest, net, whole}
+use Rattle.bound_calc.specs.Section.{IsModest, net, whole}
 use Rattle.bound_calc.specs.Ways.{Rounds}
 use Rattle.bound_calc.proofs.Accepted.{accepted, modest}
 use Rattle.bound_calc.proofs.Depth.{limit-body, limit-rounds, limit-whole}
 use Rattle.bound_calc.proofs.Embed.{body-part, is_or_not, same_head}
-use Rattle.bound_calc.proofs.PassLaws.{place-aligned}
 use Rattle.bound_calc.proofs.Sections.{net-nested, whole-part}
 
 -- a walk stays below the end of its part

@@ -17,3 +17,4 @@ mod PowerLaws
 mod TurnLaws
 mod FillLaws
 mod MostLaws
+mod RoundLaws

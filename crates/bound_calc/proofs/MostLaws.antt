@@ -1,5 +1,5 @@
 -- The most of all entries is the bound.
-use Rattle.std.proofs.Common.{◌≡◌, ◌≢◌, ℕ, zero, suc, ◌+◌, ◌-◌, ◌*◌, ◌/◌, ◌%◌, ◌<◌, ◌≤◌, ◌⊎◌, ◌^◌, ◌&&◌, nat_le, nat_lt, not, refl, arith, subst, sym, ap, ◌∙◌, inl, inr, List, [], ◌++◌, length, Option, Some, None, slice_index_or, Contains, Bool, true, false}
+use Rattle.std.proofs.Common.{◌≡◌, ℕ, ◌+◌, ◌<◌, ◌≤◌, ◌⊎◌, ◌^◌, nat_le, nat_lt, refl, arith, subst, sym, ap, ◌∙◌, inl, inr, List, [], length, Option, Some, None, slice_index_or, Contains, Bool, true, false}
 use Rattle.std.proofs.lemmas.Bool.Decides.{nat_tests}
 use Rattle.std.proofs.lemmas.List.Elements.{Contains-append_left, Contains-append_right, Contains-append_cases}
 use Rattle.region_tree.specs.declared.edges.Edges.{Edges as EdgesOf}
@@ -8,14 +8,14 @@ use Rattle.region_tree.specs.Graph.Reachable.{first}
 use Rattle.region_tree.specs.Search.{address}
 use Rattle.region_tree.specs.Tree.{IsTree, Tree, graph}
 use Rattle.region_tree.specs.Walk.{CostsOf, Course, IsOwn, Positions}
-use Rattle.region_tree.specs.Walk.CostsOf.{ends, leaves as out_of}
+use Rattle.region_tree.specs.Walk.CostsOf.{ends}
 use Rattle.region_tree.proofs.EdgeLaws.{edge-is, is-edge}
 use Rattle.region_tree.proofs.GraphLaws.{place-address, place-within, reachable-aligned, reachable-lies}
 use Rattle.bound_calc.specs.declared.hop.Hop.{Hop}
 use Rattle.bound_calc.specs.declared.matrix.Matrix.{Matrix}
-use Rattle.bound_calc.specs.Best.{Costs, In, IsBest, Then}
+use Rattle.bound_calc.specs.Best.{In, IsBest, Then}
 use Rattle.bound_calc.specs.Bound.{IsBound}
-use Rattle.bound_calc.specs.Hops.{Hops, IsHops, IsLargest, IsLeft}
+use Rattle.bound_calc.specs.Hops.{IsHops, IsLargest, IsLeft}
 use Rattle.bound_calc.specs.Matrices.{entry}
 use Rattle.bound_calc.specs.Pass.{Steps}
 use Rattle.bound_calc.specs.Passing.{IsMost, IsOut, edges_at, leaves, matrix_at, no_matrix, over, place}

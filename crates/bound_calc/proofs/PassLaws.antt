@@ -1,25 +1,25 @@
 -- One word of a pass.
-use Rattle.std.proofs.Common.{◌≡◌, ◌≢◌, ℕ, zero, suc, ◌+◌, ◌-◌, ◌*◌, ◌/◌, ◌%◌, ◌<◌, ◌≤◌, ◌⊎◌, ◌^◌, ◌&&◌, nat_lt, nat_le, refl, arith, subst, sym, ap, ◌∙◌, inl, inr, List, [], ◌∷◌, ◌++◌, length, Option, Some, None, slice_index_or, slice_set, MatchOption, replicate, get_or-set_other, get_or-set_same, length-set, Contains, Bool, true, false, if◌then◌else◌, Box, Global, IfSome}
+use Rattle.std.proofs.Common.{◌≡◌, ◌≢◌, ℕ, zero, suc, ◌+◌, ◌-◌, ◌/◌, ◌%◌, ◌<◌, ◌≤◌, ◌⊎◌, ◌^◌, ◌&&◌, nat_lt, nat_le, refl, arith, subst, sym, ap, ◌∙◌, inl, inr, List, [], ◌++◌, length, Option, Some, None, slice_index_or, slice_set, MatchOption, replicate, get_or-set_other, get_or-set_same, length-set, Contains, Bool, true, false, if◌then◌else◌, Box, Global, IfSome}
 use Rattle.std.proofs.lemmas.List.Elements.{Contains-append_left, Contains-append_right, Contains-append_cases}
 use Rattle.std.proofs.lemmas.Bool.Decides.{nat_tests}
 use Rattle.std.proofs.lemmas.List.{get_or_default}
 use Rattle.std.specs.Option.{option_map}
 use Rattle.fp_setup.specs.declared.loop_list.LoopSetup.{LoopSetup}
 use Rattle.region_tree.specs.declared.edges.Edges.{Edges as EdgesOf}
-use Rattle.region_tree.specs.Graph.{Edge, Graph, Holds, Lies, Reachable, edge_to, edge_list}
+use Rattle.region_tree.specs.Graph.{Edge, Lies, Reachable, edge_to}
 use Rattle.region_tree.specs.Search.{address}
 use Rattle.region_tree.specs.Tree.{Tree, IsTree, graph, word_at}
-use Rattle.region_tree.specs.Walk.{Course, IsOwn, IsNextTurn, Positions}
+use Rattle.region_tree.specs.Walk.{Course, IsOwn, Positions}
 use Rattle.region_tree.proofs.EdgeLaws.{edge-aligned, edge-is, is-edge, next-short}
-use Rattle.region_tree.proofs.GraphLaws.{reachable-aligned, reachable-lies, place-address, place-within, address-lies, address-place}
+use Rattle.region_tree.proofs.GraphLaws.{reachable-aligned, place-address, address-lies, address-place}
 use Rattle.bound_calc.specs.declared.matrix.Matrix.{Matrix}
 use Rattle.bound_calc.specs.declared.hop.Hop.{Hop}
 use Rattle.bound_calc.specs.Best.{Costs, Stays, Either, Then, Entries, In, IsBest}
-use Rattle.bound_calc.specs.Context.{Net, Part, IsPart, IsNested, body}
+use Rattle.bound_calc.specs.Context.{Part, IsPart, body}
 use Rattle.bound_calc.specs.Hops.{Hops, IsHops}
-use Rattle.bound_calc.specs.Matrices.{cell, entry, HasSums}
+use Rattle.bound_calc.specs.Matrices.{entry}
 use Rattle.bound_calc.specs.Pass.{Edges, Below, And, AndTo, Steps, Brings, Comes}
-use Rattle.bound_calc.specs.Passing.{over, edges_at, place, no_matrix, matrix_at, Powers, power_at, part_of, IsSpan, up_of, IsBrought, IsPowers, IsPassed, IsReady}
+use Rattle.bound_calc.specs.Passing.{over, edges_at, place, no_matrix, matrix_at, Powers, power_at, IsSpan, up_of, IsBrought, IsPassed, IsReady}
 use Rattle.bound_calc.specs.Section.{net, whole}
 use Rattle.bound_calc.specs.Ways.{Reaches, Enters, Rounds}
 use Rattle.bound_calc.proofs.BestLaws.{best-same, best-either-then}

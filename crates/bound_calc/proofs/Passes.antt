@@ -1,12 +1,12 @@
 -- A forward pass holds the best of what reaches each word.
 use Rattle.std.proofs.Common.{◌≡◌, ℕ, ◌+◌, ◌-◌, ◌<◌, ◌≤◌, ◌⊎◌, ◌≢◌, refl, arith, inl, inr, ap, subst, Contains}
-use Rattle.bound_calc.proofs.BestLaws.{Lands, Within, best-either, best-same, best-then, power-cut, power-join, power-up, same}
-use Rattle.bound_calc.proofs.Counters.{above, kept}
+use Rattle.bound_calc.proofs.BestLaws.{Lands, Within, best-same, best-then, power-cut, power-join, power-up, same}
+use Rattle.bound_calc.proofs.Counters.{kept}
 use Rattle.bound_calc.proofs.Heads.{Fresh, Rounded, at_head, enter, from_below, go_round}
 use Rattle.bound_calc.specs.Best.{Costs, Either, Entries, In, IsBest, Power, Then}
 use Rattle.bound_calc.specs.Context.{IsNested, IsPart, Net, Part, Walk}
 use Rattle.bound_calc.specs.Pass.{And, Below, Brings, Comes, Edges, Steps, Turns}
-use Rattle.bound_calc.specs.Section.{IsAccepted, net}
+use Rattle.bound_calc.specs.Section.{net}
 use Rattle.bound_calc.specs.Ways.{Enters, Reaches, Round, Rounds}
 use Rattle.fp_setup.specs.declared.loop_list.LoopSetup.{LoopSetup}
 use Rattle.region_tree.specs.Graph.{Edge, Holds, Lies, Reachable}

@@ -1,7 +1,7 @@
 -- Squaring.
-use Rattle.std.proofs.Common.{◌≡◌, ℕ, zero, suc, ◌+◌, ◌<◌, ◌≤◌, ◌^◌, refl, arith, subst, sym, Some}
+use Rattle.std.proofs.Common.{◌≡◌, ℕ, zero, suc, ◌+◌, ◌≤◌, refl, arith, subst, sym, Some}
 use Rattle.bound_calc.specs.declared.matrix.Matrix.{Matrix}
-use Rattle.bound_calc.specs.Best.{Costs, Covers, Either, Entries, In, IsBest, Power, Stays, Then}
+use Rattle.bound_calc.specs.Best.{Costs, Covers, Entries, In, IsBest, Power, Then}
 use Rattle.bound_calc.specs.Matrices.{HasSums, entry}
 use Rattle.bound_calc.specs.Passing.{HasPowers}
 use Rattle.bound_calc.proofs.BestLaws.{Lands, Within, best-then, power-join}

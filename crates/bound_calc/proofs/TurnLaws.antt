@@ -1,5 +1,5 @@
 -- The edges back to a loop's head.
-use Rattle.std.proofs.Common.{◌≡◌, ◌≢◌, ℕ, zero, suc, ◌+◌, ◌%◌, ◌<◌, ◌≤◌, ◌⊎◌, ◌^◌, refl, arith, subst, sym, ap, ◌∙◌, inl, inr, List, ◌++◌, length, Option, Some, None, Contains}
+use Rattle.std.proofs.Common.{◌≡◌, ℕ, ◌+◌, ◌%◌, ◌<◌, ◌≤◌, ◌⊎◌, ◌^◌, refl, arith, subst, sym, ap, ◌∙◌, inl, inr, List, Option, Some, None, Contains}
 use Rattle.std.proofs.lemmas.List.Elements.{Contains-append_left, Contains-append_right, Contains-append_cases}
 use Rattle.fp_setup.specs.declared.loop_list.LoopSetup.{LoopSetup}
 use Rattle.region_tree.specs.declared.edges.Edges.{Edges as EdgesOf}
@@ -11,7 +11,7 @@ use Rattle.region_tree.proofs.EdgeLaws.{edge-is, is-edge}
 use Rattle.region_tree.proofs.GraphLaws.{reachable-aligned}
 use Rattle.bound_calc.specs.declared.matrix.Matrix.{Matrix}
 use Rattle.bound_calc.specs.declared.hop.Hop.{Hop}
-use Rattle.bound_calc.specs.Best.{Costs, Either, Entries, In, IsBest, Stays, Then}
+use Rattle.bound_calc.specs.Best.{Either, Entries, In, IsBest, Stays, Then}
 use Rattle.bound_calc.specs.Context.{IsPart, body}
 use Rattle.bound_calc.specs.Hops.{Hops, IsHops}
 use Rattle.bound_calc.specs.Matrices.{entry}

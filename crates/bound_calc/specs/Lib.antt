@@ -8,3 +8,4 @@ pub mod Limit
 pub mod Matrices
 pub mod Hops
 pub mod Passing
+pub mod Laws

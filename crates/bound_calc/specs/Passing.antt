@@ -1,5 +1,5 @@
 -- What the matrices of a section's words hold while they are worked out.
-use Rattle.std.specs.Prelude.{◌≡◌, ◌≢◌, ℕ, ◌+◌, ◌-◌, ◌/◌, ◌<◌, ◌≤◌, ◌⊎◌, ◌^◌, ◌%◌, ◌&&◌, nat_lt, nat_le, not, if◌then◌else◌, Bool, true, false, List, [], length, Option, Some, None, slice_index_or, Contains, Box}
+use Rattle.std.specs.Prelude.{◌≡◌, ℕ, ◌-◌, ◌/◌, ◌<◌, ◌≤◌, ◌⊎◌, ◌^◌, ◌%◌, ◌&&◌, nat_lt, nat_le, not, if◌then◌else◌, Bool, true, false, List, [], length, Option, Some, None, slice_index_or, Contains, Box}
 use Rattle.std.specs.Global.{Global}
 use Rattle.std.specs.Option.{option_map}
 use Rattle.fp_setup.specs.declared.loop_list.LoopSetup.{LoopSetup}
@@ -7,10 +7,10 @@ use Rattle.region_tree.specs.Edges.{edges_of}
 use Rattle.region_tree.specs.Graph.{Edge, Lies, Reachable}
 use Rattle.region_tree.specs.Search.{address}
 use Rattle.region_tree.specs.Tree.{Tree, graph, word_at}
-use Rattle.region_tree.specs.Walk.{Course, CostsOf, IsOwn, Positions}
+use Rattle.region_tree.specs.Walk.{Course, CostsOf, Positions}
 use Rattle.region_tree.specs.declared.edges.Edges.{Edges}
-use Rattle.bound_calc.specs.Best.{Costs, Stays, Either, Then, Power, Entries, In, IsBest}
-use Rattle.bound_calc.specs.Context.{Net, Part, body, IsPart, IsNested}
+use Rattle.bound_calc.specs.Best.{Costs, Either, Then, Power, Entries, In, IsBest}
+use Rattle.bound_calc.specs.Context.{Part, body, IsPart, IsNested}
 use Rattle.bound_calc.specs.Section.{net, whole}
 use Rattle.bound_calc.specs.Ways.{Reaches, Rounds}
 use Rattle.bound_calc.specs.Pass.{Below, Steps, Comes}

@@ -5,6 +5,7 @@ mod advance;
 mod cycle_bound;
 mod fill;
 mod hop;
+mod laws;
 mod matrix;
 mod pass;
 mod powers;
@@ -12,4 +13,6 @@ mod rounds;
 mod steps;
 
 pub use cycle_bound::{BoundNo, bound};
+pub use laws::{rounds_are_steps, stays_in_rounds};
 pub use matrix::Matrix;
+pub use steps::has_slot;

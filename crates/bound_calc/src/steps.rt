@@ -1,6 +1,6 @@
 //! The turns of a thread, and the steps between them.
 
-ghost use Rattle.std.specs.Prelude.{◌≡◌, ◌≢◌, ℕ, ◌+◌, ◌%◌, ◌<◌, ◌≤◌, ◌↔◌, length, IsTrue, Option, Some, None, slice_index_or};
+ghost use Rattle.std.specs.Prelude.{◌≡◌, ◌≢◌, ℕ, ◌+◌, ◌%◌, ◌<◌, ◌≤◌, ◌↔◌, length, IsTrue, Contains, Option, Some, None, slice_index_or};
 ghost use Rattle.slot_table.specs.Frame.{frame};
 ghost use Rattle.region_tree.specs.Walk.{IsOwn, IsNextTurn};
 ghost use Rattle.bound_calc.specs.Best.{IsBest, Stays};
@@ -22,6 +22,19 @@ fn is_own(slots: &SlotTable, thread: u8, cycle: u64) -> bool
         Turn::Thread(turn) => turn == thread,
         Turn::Soft | Turn::Nobody => false,
     }
+}
+
+/// Whether a thread has a slot of its own.
+pub fn has_slot(slots: &SlotTable, thread: u8) -> bool
+    requires { thread < 8 }
+    ensures { IsTrue result ↔ Contains (frame slots.now) thread }
+{
+    for cycle in 0..u64::from(slots.frame_len()) {
+        if is_own(slots, thread, cycle) {
+            return true;
+        }
+    }
+    false
 }
 
 /// From a position of the thread the cycles until its first turn that is at least `lag` later.

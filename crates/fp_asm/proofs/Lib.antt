@@ -1,4 +1,5 @@
 pub mod Rows
+mod Worked
 pub mod Between
 pub mod LineByLine
 pub mod CommaByComma

@@ -17,9 +17,9 @@ use Rattle.pipe_model.specs.declared.latches.Executed.{Executed}
 use Rattle.pipe_model.specs.declared.latches.Fetched.{Fetched}
 use Rattle.pipe_model.specs.declared.latches.Stored.{Stored}
 use Rattle.pipe_model.specs.declared.latches.Redirect.{Redirect}
-use Rattle.pipe_model.specs.Stages.{Latches, decode_latch, is_killed, operand}
-use Rattle.pipe_model.specs.Relation.{turn_at, in_memory, in_execute, in_decode, in_fetch, decoded_in, pick_in, bank_in, control_in}
-use Rattle.pipe_model.specs.Laws.{FetchesAhead}
+use Rattle.pipe_model.specs.Stages.{Latches, State, decode_latch, is_killed, operand}
+use Rattle.pipe_model.specs.Relation.{turn_at, in_memory, in_execute, in_decode, in_fetch, decoded_in, pick_in, bank_in, control_in, Begins, Stands}
+use Rattle.pipe_model.specs.Shown.{FetchHolds}
 use Rattle.pipe_model.proofs.Moved.{eight}
 use Rattle.pipe_model.proofs.Late.{redirect_in}
 use Rattle.pipe_model.proofs.Young.{decode-is}
@@ -66,7 +66,7 @@ pc-of s n w after t k pc word effect turned e =
     let does : Does s n w after k pc word effect = subst (λ (x : Took). Turned s n w x after) e turned in
     does.pc_is
 
-pub holds : FetchesAhead
+pub holds : (s : Start) (c : ℕ) (p : Latches) (u : State) → Begins s → Stands s c p u → FetchHolds s p.f (turn_at s c 0)
 holds s c p u begins stands = record {
   flushed = λ k h. from-flushed _ _ _ _ _ _ k (turn_at s c 0) s (c - 1) (world s (c - 1)) (subst Decodes (sym f-is ∙ h) decoded);
   issue = λ k pc word effect e. issue k pc word effect e;

@@ -3,8 +3,10 @@ mod Late
 mod Front
 mod Young
 mod Ports
-mod Keeping
+pub mod Keeping
 mod Showing
 mod Fetching
+mod Told
+mod Holding
 mod Starting
 mod Events

@@ -4,7 +4,8 @@ use Rattle.fp_ports.specs.Rows.{Row}
 use Rattle.world_model.specs.World.{Start, start_world, events}
 use Rattle.pipe_model.specs.declared.latches.Held.TheVariants.{Bubble}
 use Rattle.pipe_model.specs.Stages.{Latches, State, step}
-use Rattle.pipe_model.specs.Shown.{FetchHolds, Shown}
+use Rattle.pipe_model.specs.Contents.{Contents}
+use Rattle.pipe_model.specs.Shown.{Shown}
 use Rattle.pipe_model.specs.Relation.{Stands, Shows, Begins, Kept, HasLatches, bank_in, control_in, turn_at, event_in, of_hart}
 
 -- a cycle takes what stands for it to what stands for the next one
@@ -49,6 +50,6 @@ EventsGrow = (s : Start) (i c : ℕ) → events s i (suc c) ≡ events s i c ++ 
 abbrev pub ShowsTurns : Type 0
 ShowsTurns = (s : Start) (c : ℕ) (p : Latches) (u : State) → Stands s c p u → Shown s c p u
 
--- and f holds what the turn of c - 1 is about to do, as far as it can be known
-abbrev pub FetchesAhead : Type 0
-FetchesAhead = (s : Start) (c : ℕ) (p : Latches) (u : State) → Begins s → Stands s c p u → FetchHolds s p.f (turn_at s c 0)
+-- and the latches hold what each of them is to hold of its turn
+abbrev pub HoldsTurns : Type 0
+HoldsTurns = (s : Start) (c : ℕ) (p : Latches) (u : State) → Begins s → Stands s c p u → Contents s c p

@@ -1,4 +1,5 @@
 pub mod Stages
 pub mod Relation
 pub mod Shown
+pub mod Contents
 pub mod Laws

@@ -5,7 +5,7 @@
 
 mod latches;
 
-ghost use Rattle.pipe_model.specs.Laws.{EventsGrow, FetchesAhead, Keeps, LosesPort, ShowsTurns, Starts};
+ghost use Rattle.pipe_model.specs.Laws.{EventsGrow, HoldsTurns, Keeps, LosesPort, ShowsTurns, Starts};
 
 pub use latches::{Decoded, Executed, Fetched, Held, Redirect, Stored, Written};
 
@@ -39,9 +39,8 @@ pub fn shows_turns()
     ensures { ShowsTurns }
 {}
 
-/// The latch after F holds the turn of the last cycle: it says that the turn is flushed only where it is
-/// lost, and the pc and the word of an issue are the issue's. The contract is the law; the call does
-/// nothing.
-pub fn fetches_ahead()
-    ensures { FetchesAhead }
+/// The latches that stand for a cycle hold of the last five turns what the profile of the core says, by
+/// the turn's pc, word and effect. The contract is the law; the call does nothing.
+pub fn holds_turns()
+    ensures { HoldsTurns }
 {}

@@ -3,7 +3,8 @@
 //!
 //! The table stands in the folder where it runs. A setup begins with a line `=== NAME`; the lines
 //! after it that begin with `--- ` are the answer that the model gave. The names of those at which
-//! the two differ are printed with both answers, and then how many there are.
+//! the two differ are printed with both answers, and then how many there are. Last comes what an
+//! example, which stands there too, says: it is the table's first setup with comments.
 #![tactic(auto)]
 
 mod answer;
@@ -25,5 +26,8 @@ fn main(rt: HostRuntime) -> io::Result<()> {
             println!(rt; "{}: answers\n{}for\n{}", case.name, got, case.answer)?;
         }
     }
-    println!(rt; "{setups} setups, {differ} differ")
+    println!(rt; "{setups} setups, {differ} differ")?;
+    let example = fs::read_to_string(&rt, "drive.toml")?;
+    let said = answer::of_setup(rt.alloc(), example.as_str())?;
+    print!(rt; "drive.toml:\n{said}")
 }

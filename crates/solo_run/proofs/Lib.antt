@@ -1,2 +1,4 @@
 mod Appends
 mod History
+mod Positions
+mod SetupViews

@@ -6,6 +6,7 @@ mod hart;
 mod memory;
 mod registers;
 mod rights;
+mod setup_view;
 mod shown;
 mod solo;
 mod view;

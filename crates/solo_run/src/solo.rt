@@ -149,6 +149,7 @@ impl SoloRun {
         ensures ok { OnOk result (Appends (K.taken out.old) (K.taken out.new) (solo_text (view_of self.old (shown_in (W.word_at shown.old) n)) n)) }
         ensures err { OnErr result (AppendsFront (K.taken out.old) (K.taken out.new) (solo_text (view_of self.old (shown_in (W.word_at shown.old) n)) n)) }
         ensures failed { OnErr result (Rose (K.faults out.old) (K.faults out.new)) }
+        ensures setting { setting_of self.new ≡ setting_of self.old }
     {
         for _cycle in 0..n.saturating_sub(4) {
             put_event(out, self.tick(shown))?;

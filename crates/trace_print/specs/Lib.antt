@@ -2,3 +2,4 @@ pub mod Digits
 pub mod Text
 pub mod Places
 pub mod Refusals
+pub mod Bounds

@@ -2,11 +2,13 @@
 //! nothing can fail.
 #![tactic(auto)]
 
+mod bounds;
 mod digits;
 mod events;
 mod places;
 mod refusals;
 
+pub use bounds::bound_line;
 pub use digits::{push_decimal, push_hex, push_right};
 pub use events::line;
 pub use refusals::{Refusal, refusal_line};

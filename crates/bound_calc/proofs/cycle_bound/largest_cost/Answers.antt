@@ -1,5 +1,5 @@
-use Rattle.std.proofs.Common.{◌≡◌, ℕ, ◌<◌, ◌≤◌, arith, length}
-use Rattle.bound_calc.proofs.FillLaws.{filled-none, ready-whole}
+use Rattle.std.proofs.Common.{arith}
+use Rattle.bound_calc.proofs.FillLaws.{ready-whole}
 use Rattle.bound_calc.proofs.cycle_bound.largest_cost.Goals as goal
 
 pub pass-requires-clause-ready : goal.pass-requires-clause-ready

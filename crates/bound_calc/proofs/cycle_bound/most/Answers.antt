@@ -1,6 +1,5 @@
-use Rattle.std.proofs.Common.{◌≡◌, ℕ, ◌<◌, ◌≤◌, ◌^◌, arith, length, subst, sym, slice_index_or}
-use Rattle.region_tree.specs.Search.{address}
-use Rattle.bound_calc.specs.Passing.{IsOut, edges_at, leaves, no_matrix, over}
+use Rattle.std.proofs.Common.{◌≤◌, arith, subst, sym, slice_index_or}
+use Rattle.bound_calc.specs.Passing.{IsOut, leaves, no_matrix, over}
 use Rattle.bound_calc.proofs.MostLaws.{most-all, most-first, most-more, most-sums}
 use Rattle.bound_calc.proofs.PassLaws.{lag-small}
 use Rattle.bound_calc.proofs.cycle_bound.most.Goals as goal

@@ -1,6 +1,6 @@
-use Rattle.std.proofs.Common.{◌≡◌, ℕ, ◌<◌, ◌≤◌, ◌^◌, arith, length, true, subst, sym}
+use Rattle.std.proofs.Common.{◌^◌, subst, sym}
 use Rattle.bound_calc.specs.Passing.{IsOut}
-use Rattle.bound_calc.proofs.MostLaws.{out-left, out-none}
+use Rattle.bound_calc.proofs.MostLaws.{out-left}
 use Rattle.bound_calc.proofs.PassLaws.{hops-fits, hops-places}
 use Rattle.bound_calc.proofs.cycle_bound.most_out.Goals as goal
 

@@ -1,4 +1,4 @@
-use Rattle.std.proofs.Common.{◌≡◌, ℕ, ◌<◌, length, slice_index_or, None}
+use Rattle.std.proofs.Common.{◌≡◌, ℕ, length, None}
 use Rattle.bound_calc.specs.Passing.{power_at}
 use Rattle.bound_calc.proofs.fill.empty.Given as goal
 

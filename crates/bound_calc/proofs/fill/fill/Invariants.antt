@@ -1,4 +1,4 @@
-use Rattle.std.proofs.Common.{◌≡◌, ℕ, ◌≤◌, length}
+use Rattle.std.proofs.Common.{◌≤◌, length}
 use Rattle.bound_calc.specs.Passing.{IsFilled, over}
 use Rattle.bound_calc.proofs.fill.fill.Given as goal
 

@@ -1,4 +1,4 @@
-use Rattle.std.proofs.Common.{◌≡◌, ℕ, ◌+◌, ◌*◌, ◌<◌, ◌≤◌, arith, length, refl, sym, subst, ap, ◌∙◌, Contains, true, false}
+use Rattle.std.proofs.Common.{◌≡◌, ◌+◌, ◌*◌, refl, sym, subst, ap, ◌∙◌, Contains, true, false}
 use Rattle.region_tree.specs.Graph.{Reachable}
 use Rattle.region_tree.specs.Search.{address}
 use Rattle.region_tree.specs.Tree.{graph}

@@ -1,4 +1,4 @@
-use Rattle.std.proofs.Common.{◌≡◌, ℕ, ◌<◌, ◌^◌, arith, subst, length, IfSome}
+use Rattle.std.proofs.Common.{ℕ, ◌<◌, ◌^◌, subst, length, IfSome}
 use Rattle.bound_calc.specs.Best.{In, Then}
 use Rattle.bound_calc.specs.Matrices.{entry}
 use Rattle.bound_calc.specs.Pass.{Steps}

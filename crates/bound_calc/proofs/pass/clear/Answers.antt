@@ -1,4 +1,4 @@
-use Rattle.std.proofs.Common.{◌≡◌, ℕ, ◌<◌, ◌≤◌, ◌⊎◌, arith, length}
+use Rattle.std.proofs.Common.{◌≡◌, ◌<◌, ◌⊎◌, arith}
 use Rattle.bound_calc.proofs.PassLaws.{cleared}
 use Rattle.bound_calc.proofs.pass.clear.Goals as goal
 

@@ -1,10 +1,9 @@
-use Rattle.std.proofs.Common.{◌≡◌, ◌+◌, ◌<◌, ◌≤◌, ◌^◌, ℕ, arith, length, refl, sym, subst, ap, ◌∙◌, slice_index_or, slice_set, length-set, MatchOption}
-use Rattle.std.specs.Option.{option_map}
+use Rattle.std.proofs.Common.{◌≡◌, ◌<◌, ◌≤◌, ◌^◌, ℕ, arith, refl, sym, subst, ◌∙◌, slice_index_or, slice_set, length-set, MatchOption}
 use Rattle.region_tree.specs.Search.{address}
 use Rattle.bound_calc.specs.Best.{In, IsBest, Then}
 use Rattle.bound_calc.specs.Matrices.{entry}
 use Rattle.bound_calc.specs.Pass.{Steps}
-use Rattle.bound_calc.specs.Passing.{IsBrought, edges_at, matrix_at, no_matrix, over, part_of, up_of}
+use Rattle.bound_calc.specs.Passing.{IsBrought, matrix_at, no_matrix, over, part_of, up_of}
 use Rattle.bound_calc.specs.Section.{net}
 use Rattle.bound_calc.specs.Ways.{Reaches}
 use Rattle.bound_calc.proofs.PassLaws.{always, lag-small, place-aligned, pass-start, pass-step, reached, read-power, round-sums, step-sums}

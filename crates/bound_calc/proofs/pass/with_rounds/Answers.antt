@@ -1,6 +1,5 @@
-use Rattle.std.proofs.Common.{◌≡◌, ap, subst, sym, ◌∙◌, Some}
+use Rattle.std.proofs.Common.{ap, sym, ◌∙◌, Some}
 use Rattle.std.specs.Option.{option_map}
-use Rattle.bound_calc.specs.Matrices.{HasSums}
 use Rattle.bound_calc.proofs.pass.with_rounds.Goals as goal
 
 pub chain-requires : goal.chain-requires

@@ -1,6 +1,6 @@
-use Rattle.std.proofs.Common.{◌≡◌, ℕ, suc, ◌+◌, ◌<◌, ◌≤◌, ◌/◌, ◌%◌, arith}
+use Rattle.std.proofs.Common.{ℕ, ◌+◌, ◌/◌, arith}
 use Rattle.region_tree.specs.Walk.{IsOwn}
-use Rattle.bound_calc.specs.Best.{In, IsBest, Power}
+use Rattle.bound_calc.specs.Best.{In}
 use Rattle.bound_calc.specs.Matrices.{entry}
 use Rattle.bound_calc.proofs.PowerLaws.{double-sums, fewer, more-sums, once_more, squared}
 use Rattle.bound_calc.proofs.powers.+power.Goals as goal

@@ -1,4 +1,4 @@
-use Rattle.std.proofs.Common.{◌≡◌, ℕ, ◌+◌, ◌<◌, ◌≤◌, ◌^◌, arith, length, refl, sym, subst, slice_index_or}
+use Rattle.std.proofs.Common.{ℕ, ◌<◌, ◌≤◌, ◌^◌, arith, sym, subst, slice_index_or}
 use Rattle.region_tree.specs.Search.{address}
 use Rattle.region_tree.specs.Walk.{IsOwn}
 use Rattle.bound_calc.specs.Best.{Either, In, IsBest, Stays, Then}

@@ -1,4 +1,4 @@
-use Rattle.std.proofs.Common.{◌≡◌, ℕ, ◌<◌, ◌≤◌, ◌^◌, arith, length, ap, ◌∙◌, Some}
+use Rattle.std.proofs.Common.{◌^◌, ap, ◌∙◌, Some}
 use Rattle.bound_calc.proofs.PassLaws.{hops-fits, hops-places}
 use Rattle.bound_calc.proofs.TurnLaws.{is-turned}
 use Rattle.bound_calc.proofs.rounds.turn.Goals as goal

@@ -1,0 +1,15 @@
+//! Laws of walks inside a loop. The contract of each call is the law; the call does nothing.
+
+ghost use Rattle.bound_calc.specs.Laws.{RoundsAreSteps, StaysInRounds};
+
+/// What a walk does from where it enters a loop, for as long as it stays there, is at most as many
+/// rounds as the loop's bound, and one more.
+pub fn stays_in_rounds()
+    ensures { StaysInRounds }
+{}
+
+/// At most as many rounds of a reachable loop as its bound, and one more, are steps that keep the
+/// bounds of the loop and of the loops inside it.
+pub fn rounds_are_steps()
+    ensures { RoundsAreSteps }
+{}

@@ -1,0 +1,4 @@
+pub mod Instructions
+pub mod Cycles
+pub mod Links
+pub mod Visited

@@ -1,0 +1,53 @@
+-- What the bound of a section says of the runs of a machine.
+use Rattle.std.specs.Prelude.{◌≡◌, ℕ, ◌-◌, ◌%◌, ◌<◌, ◌≤◌, true, false, List, [], ◌∷◌, length, Contains}
+use Rattle.core_model.specs.Memory.{code_at}
+use Rattle.region_tree.specs.Graph.{Edge, Lies, Reachable}
+use Rattle.region_tree.specs.Tree.{IsTree, Tree, graph, word_at}
+use Rattle.region_tree.specs.Walk.{CostsOf, Course, IsNextTurn, IsOwn}
+use Rattle.slot_scheduler.specs.ModeWord.{mode_of}
+use Rattle.bound_calc.specs.Bound.{course}
+use Rattle.world_model.specs.World.{Start, is_quiet, world}
+use Rattle.visit_bound.specs.Visits.{Issued, IsVisit, KeepsBounds, first_of, issues_of}
+
+-- A machine with these slots, where the hart is hard and active at the start, and where the section has the same
+-- words. What the other harts run, what they may do, and what else there is in memory plays no part.
+pub record IsHost (s : Start) (t : Tree) (slots thread : ℕ) : Type 0 where
+  pub number : thread < 8
+  pub eight : length s.threads ≡ 8
+  pub hard : mode_of s.registers.modes thread ≡ 0
+  pub same_slots : s.registers.slots ≡ slots
+  pub same_words : (u : ℕ) → u % 4 ≡ 0 → Lies (graph t) u → code_at s.size s.i_words u ≡ word_at t u
+
+-- The second issue is at the end of an edge of the first one's word, at the hart's first turn that is at least the
+-- edge's lag later.
+pub record Follows (x : Course) (first second : Issued) : Type 0 where
+  pub edge : Edge
+  pub known : Contains (x.graph.edges first.pc) edge
+  pub to : second.pc ≡ edge.to
+  pub order : first.cycle ≤ second.cycle
+  pub turn : IsNextTurn x.positions edge.lag (first.cycle % length x.positions.frame) (second.cycle - first.cycle) (second.cycle % length x.positions.frame)
+
+-- Issues, the newest first, are at the hart's positions; and each that is at a reachable word and doesn't trap is
+-- followed by the next one along an edge.
+abbrev pub AreLinked : Course → List Issued → Type 0
+AreLinked x [] = Unit {0}
+AreLinked x (i ∷ []) = IsOwn x.positions (i.cycle % length x.positions.frame)
+AreLinked x (i ∷ (h ∷ before)) =
+    AreLinked x (h ∷ before)
+    × IsOwn x.positions (i.cycle % length x.positions.frame)
+    × (Reachable x.graph h.pc → h.traps ≡ false → Follows x h i)
+
+-- In every quiet run of such a machine the hart's issues follow the edges of a section that has a bound.
+abbrev pub IssuesFollowEdges : Type 0
+IssuesFollowEdges =
+    (t : Tree) (slots thread : ℕ) (s : Start) (n : ℕ) → IsTree t → IsHost s t slots thread → is_quiet s n ≡ true →
+    AreLinked (course t slots thread) (issues_of thread (world s n).turns)
+
+-- In every quiet run of such a machine no visit of the section that keeps the stated bounds of its loops is longer, from
+-- its first issue to its last, than a number that no walk through the section costs more than.
+abbrev pub VisitsAreBounded : Type 0
+VisitsAreBounded =
+    (t : Tree) (slots thread b : ℕ) (s : Start) (n : ℕ) → IsTree t → ((c : ℕ) → CostsOf (course t slots thread) c → c ≤ b) →
+    IsHost s t slots thread → is_quiet s n ≡ true → (last : Issued) (before : List Issued) →
+    IsVisit (graph t) (issues_of thread (world s n).turns) last before → KeepsBounds t.loops last before →
+    last.cycle - (first_of last before).cycle ≤ b
