@@ -2,3 +2,4 @@ pub mod FeedLemmas
 pub mod Putting
 pub mod DumpLemmas
 pub mod RunLemmas
+pub mod LoadLemmas

@@ -1,5 +1,5 @@
 -- The machine and the ports as what stands for a cycle of a world.
-use Rattle.std.specs.Prelude.{◌≡◌, ℕ, suc, ◌-◌, ◌≤◌, List, [], map, Option}
+use Rattle.std.specs.Prelude.{◌≡◌, ℕ, suc, ◌-◌, ◌≤◌, List, [], map, replicate, Option}
 use Rattle.std.specs.Io.KnownBytes.{Appends}
 use Rattle.fp_io.specs.Content.{AppendsFront}
 use Rattle.trace_print.specs.Text.{text}
@@ -8,9 +8,13 @@ use Rattle.fp_image.specs.declared.parts.Segment.{Segment}
 use Rattle.fp_ports.specs.Rows.{Row, row_at}
 use Rattle.fp_ports.specs.Shown.{shown}
 use Rattle.fp_setup.specs.Meaning.{the_threads}
-use Rattle.fp_setup.specs.Settings.{Settings}
+use Rattle.fp_setup.specs.Settings.{Settings, size_of}
+use Rattle.fp_setup.specs.declared.thread_list.ThreadSetup.{ThreadSetup}
+use Rattle.timer_unit.specs.Time.{no_timer}
+use Rattle.trap_unit.specs.Rows.{no_trap}
 use Rattle.world_model.specs.World.{Start, events}
-use Rattle.setup_model.specs.Start.{start, thread_of}
+use Rattle.setup_model.specs.Start.{start, thread_of, i_words_of, d_words_of}
+use Rattle.pipe_model.specs.Stages.{State}
 use Rattle.pipe_model.specs.Relation.{event_in, turn_at}
 use Rattle.pipeline_core.specs.Meaning.{latches_by, state_by}
 use Rattle.machine_model.specs.Relation.{Standing}
@@ -40,3 +44,24 @@ pub record Stopped (s : Start) (n thread : ℕ) (m : Machine) (ports : List (Opt
   pub put : AppendsFront before after (text (events s thread n))
   pub within : m.at ≤ n
   pub stands : StandsFor s m.at n m ports
+
+-- the units at the start of a setup and an image, beside ports
+abbrev pub units_at_start : Settings → List Segment → List (Option Row) → State
+units_at_start s image ports =
+    record {
+      bank = replicate 8 (replicate 31 0);
+      i_words = i_words_of s image;
+      d_words = d_words_of s image;
+      control = record {
+        registers = record { slots = s.slots; modes = s.modes; dregions = s.dregions; iregions = s.iregions };
+        timers = replicate 8 no_timer;
+        traps = replicate 8 no_trap;
+        sleeps = replicate 8 0;
+      };
+      last = 7;
+      period = s.period;
+      size = size_of s.version;
+      confined = map (λ (t : ThreadSetup). t.confined) s.threads;
+      permit = map (λ (t : ThreadSetup). t.permit) s.threads;
+      ports = ports;
+    }

@@ -5,6 +5,7 @@
 mod dumping;
 mod feeding;
 mod lines;
+mod loading;
 mod running;
 mod state;
 

@@ -1,0 +1,154 @@
+//! The machine at its start.
+
+ghost use Rattle.std.specs.Prelude.{◌≡◌, ℕ, ◌/◌, ◌≤◌, List, All, Option, IfOk, length, map};
+ghost use Rattle.fp_ports.specs.Rows.{Row};
+ghost use Rattle.fp_setup.specs.declared.thread_list.ThreadSetup.{ThreadSetup};
+ghost use Rattle.fp_setup.specs.Settings.{size_of};
+ghost use Rattle.setup_model.specs.Start.{words_from};
+ghost use Rattle.pipeline_core.specs.Fits.{IsPc};
+ghost use Rattle.pipeline_core.specs.Meaning.{state_by};
+ghost use Rattle.machine.specs.Meaning.{StandsFor, start_beside, units_at_start};
+
+use crate::state::Machine;
+use fp_image::Image;
+use fp_setup::Setup;
+use pipe_model::starts_standing;
+use pipeline_core::{Pipe, Units};
+use regfile_bank::Bank;
+use region_guard::Guard;
+use scratchpad::Spm;
+use setup_model::{d_regions, i_regions, modes, slot_table, word_list};
+use slot_scheduler::{Sched, Scheduler};
+use std::alloc::{AllocError, Global};
+use timer_unit::{Clock, Timers};
+use trap_unit::Traps;
+
+/// The address of the data scratchpad.
+const DATA: u32 = 0x2000_0000;
+
+/// The address of each thread's first instruction.
+fn entries(setup: &Setup) -> [u32; 8]
+    ensures entries { result ≡ map (λ (t : ThreadSetup). t.entry) setup.now.threads }
+    ensures pcs { All IsPc result }
+    ensures eight { length setup.now.threads ≡ 8 }
+{
+    let threads = &setup.threads;
+    [
+        threads.get(0).entry,
+        threads.get(1).entry,
+        threads.get(2).entry,
+        threads.get(3).entry,
+        threads.get(4).entry,
+        threads.get(5).entry,
+        threads.get(6).entry,
+        threads.get(7).entry,
+    ]
+}
+
+/// Whether each thread is confined.
+fn confined(setup: &Setup) -> [bool; 8]
+    ensures { result ≡ map (λ (t : ThreadSetup). t.confined) setup.now.threads }
+{
+    let threads = &setup.threads;
+    [
+        threads.get(0).confined,
+        threads.get(1).confined,
+        threads.get(2).confined,
+        threads.get(3).confined,
+        threads.get(4).confined,
+        threads.get(5).confined,
+        threads.get(6).confined,
+        threads.get(7).confined,
+    ]
+}
+
+/// Whether each thread may access the machine's own registers.
+fn permits(setup: &Setup) -> [bool; 8]
+    ensures { result ≡ map (λ (t : ThreadSetup). t.permit) setup.now.threads }
+{
+    let threads = &setup.threads;
+    [
+        threads.get(0).permit,
+        threads.get(1).permit,
+        threads.get(2).permit,
+        threads.get(3).permit,
+        threads.get(4).permit,
+        threads.get(5).permit,
+        threads.get(6).permit,
+        threads.get(7).permit,
+    ]
+}
+
+/// When each thread's port is taken away.
+fn unplugs(setup: &Setup) -> [Option<u64>; 8]
+    ensures { result ≡ map (λ (t : ThreadSetup). t.unplug) setup.now.threads }
+{
+    let threads = &setup.threads;
+    [
+        threads.get(0).unplug,
+        threads.get(1).unplug,
+        threads.get(2).unplug,
+        threads.get(3).unplug,
+        threads.get(4).unplug,
+        threads.get(5).unplug,
+        threads.get(6).unplug,
+        threads.get(7).unplug,
+    ]
+}
+
+/// The words of a scratchpad that begins at an address.
+fn scratchpad(alloc: Global, setup: &Setup, image: &Image, base: u32) -> Result<Spm, AllocError>
+    requires { base ≤ 0x20000000 }
+    ensures words { IfOk result (λ s. s ≡ words_from image.now base (size_of setup.now.version)) }
+    ensures len { IfOk result (λ s. length s ≡ size_of setup.now.version / 4) }
+{
+    Ok(Spm::from_words(word_list(alloc, image, base, setup.size())?))
+}
+
+/// The units at the start.
+fn units(alloc: Global, setup: &Setup, image: &Image) -> Result<Units, AllocError>
+    ensures { IfOk result (λ u. (ports : List (Option Row)) → state_by u ports ≡ units_at_start setup.now image.now ports) }
+{
+    Ok(Units {
+        bank: Bank::new(),
+        imem: scratchpad(alloc, setup, image, 0)?,
+        dmem: scratchpad(alloc, setup, image, DATA)?,
+        guard: Guard {
+            i: i_regions(setup),
+            d: d_regions(setup),
+            size: setup.size(),
+        },
+        scheduler: Scheduler::new(),
+        sched: Sched {
+            slots: slot_table(setup),
+            modes: modes(setup),
+            sleep: [0; 8],
+        },
+        clock: Clock::new(setup.period),
+        timers: Timers::new(),
+        traps: Traps::new(),
+        confined: confined(setup),
+        permit: permits(setup),
+    })
+}
+
+impl Machine {
+    /// The machine at cycle 0 of a setup and an image. Words that the image doesn't have are 0; words
+    /// past the setup's scratchpads aren't taken.
+    ///
+    /// # Errors
+    ///
+    /// Memory was refused.
+    pub fn load(alloc: Global, setup: &Setup, image: &Image) -> Result<Machine, AllocError>
+        ensures stands { IfOk result (λ m. (ports : List (Option Row)) (n : ℕ) → length ports ≡ 8 → StandsFor (start_beside setup.now image.now ports n) 0 n m ports) }
+        ensures start { IfOk result (λ m. m.at ≡ 0) }
+    {
+        starts_standing();
+        Ok(Machine {
+            pipe: Pipe::new(entries(setup)),
+            units: units(alloc, setup, image)?,
+            at: 0,
+            unplugs: unplugs(setup),
+        })
+    }
+}
