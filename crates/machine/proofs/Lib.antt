@@ -3,3 +3,4 @@ pub mod Putting
 pub mod DumpLemmas
 pub mod RunLemmas
 pub mod LoadLemmas
+pub mod FedLemmas

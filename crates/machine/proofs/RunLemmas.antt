@@ -1,29 +1,49 @@
 -- A cycle of the machine, and the text of a run.
-use Rattle.std.proofs.Common.{◌≡◌, ℕ, zero, suc, ◌+◌, ◌-◌, ◌<◌, ◌≤◌, List, [], ◌∷◌, ◌++◌, length, Option, Some, None, arith, refl, ap, sym, subst, ◌∙◌, add-one, add-zero, append_assoc}
-use Rattle.std.specs.Prelude.{flat_map}
+use Rattle.std.proofs.Common.{◌≡◌, ℕ, zero, suc, ◌+◌, ◌-◌, ◌<◌, ◌≤◌, List, [], ◌∷◌, ◌++◌, get_or, length, Bool, true, false, Option, Some, None, arith, refl, ap, sym, subst, ◌∙◌, add-one, add-zero, append_assoc}
+use Rattle.std.specs.Prelude.{flat_map, if◌then◌else◌}
 use Rattle.std.proofs.lemmas.List.{append-nil}
 use Rattle.std.proofs.lemmas.Grind.{flat_map-append}
 use Rattle.std.specs.Io.KnownBytes.{Appends}
 use Rattle.fp_io.specs.Content.{AppendsFront}
-use Rattle.fp_ports.specs.Rows.{Row}
+use Rattle.fp_ports.specs.Rows.{Row, row_at}
 use Rattle.rv_exec.specs.declared.outcome.Event.{Event}
 use Rattle.trace_print.specs.Text.{line_text, text}
 use Rattle.world_model.specs.World.{Start, recent, world, events}
 use Rattle.pipe_model.specs.Stages.{Ticked}
-use Rattle.pipe_model.specs.Relation.{Begins, Shows, Stands, Kept, event_in, turn_at, of_hart}
+use Rattle.pipe_model.specs.Relation.{Begins, Shows, Stands, Kept, event_in, turn_at, of_hart, words_of, stays_in}
 use Rattle.pipe_model.specs.Laws.{EventsGrow}
 use Rattle.pipeline_core.specs.Meaning.{latches_by, state_by, ticked_by}
 use Rattle.machine_model.specs.Relation.{Standing, kept_in}
 use Rattle.machine_model.specs.Laws.{Unplugged, with_kept}
-use Rattle.machine_model.proofs.PortLemmas.{unplugs, goes_on}
+use Rattle.machine_model.proofs.PortLemmas.{unplugs, goes_on, kept-row}
 use Rattle.machine.specs.declared.state.Machine.{Machine}
-use Rattle.machine.specs.Meaning.{StandsFor, Ticks, HasRun, Stopped}
+use Rattle.machine.specs.Meaning.{StandsFor, IsLeft, AreLeft, Ticks, HasRun, Stopped}
 use Rattle.machine.proofs.Putting.{appends_nothing, appends_more, appends_front}
+
+left_words : (before after : Option Row) (stays : Bool) → words_of after ≡ words_of (if stays then before else None) → IsLeft before after
+left_words before None stays h = tt
+left_words before (Some r) true h = sym h
+left_words before (Some r) false h = cc
+
+left_is : (before after left : Option Row) (unplug : Option ℕ) (c : ℕ) → words_of after ≡ words_of left → left ≡ (if stays_in unplug c then before else None) → IsLeft before after
+left_is before after left unplug c same is = left_words before after (stays_in unplug c) (same ∙ ap words_of is)
+
+left_more : (before between after : Option Row) → IsLeft before between → IsLeft between after → IsLeft before after
+left_more before between None first second = tt
+left_more before (Some r) (Some q) first second = first ∙ second
+left_more before None (Some q) first second = cc
+
+left_all : (ports : List (Option Row)) → AreLeft ports ports
+left_all ports k below = go (row_at ports k)
+  where
+    go : (o : Option Row) → IsLeft o o
+    go None = tt
+    go (Some r) = refl
 
 -- a cycle, by the ports that are left in it
 pub ticks : (s : Start) (n : ℕ) (m after : Machine) (rows between new : List (Option Row)) (event : Option Event) → length rows ≡ 8 → between ≡ kept_in m.unplugs m.at rows 8 → m.at < n + 3 → StandsFor s m.at n m rows →
     (Begins s → Shows s m.at between → Stands s m.at (latches_by m.pipe) (state_by m.units between) → Kept s m.at between (ticked_by after.pipe after.units new event)) →
-    after.at ≡ m.at + 1 → after.unplugs ≡ m.unplugs → Ticks s m.at n after new event
+    after.at ≡ m.at + 1 → after.unplugs ≡ m.unplugs → Ticks s m.at n rows after new event
 ticks s n m after rows between new event eight is within st keeps at plan =
     let t : Ticked = ticked_by after.pipe after.units new event in
     let left : Unplugged s m.at (latches_by m.pipe) (with_kept (state_by m.units rows) m.at m.unplugs) = unplugs s m.at n (latches_by m.pipe) (state_by m.units rows) m.at m.unplugs st within eight in
@@ -34,7 +54,7 @@ ticks s n m after rows between new event eight is within st keeps at plan =
     let next : Standing s (suc m.at) n (latches_by after.pipe) (state_by after.units new) (suc m.at) m.unplugs = goes_on s m.at n (latches_by m.pipe) (state_by m.units rows) m.at m.unplugs t st eight kept in
     let A : ℕ → Type 0 = λ k. Standing s (suc m.at) n (latches_by after.pipe) (state_by after.units new) k m.unplugs in
     let B : List (Option ℕ) → Type 0 = λ xs. Standing s (suc m.at) n (latches_by after.pipe) (state_by after.units new) after.at xs in
-    record { stands = subst B (sym plan) (subst A (sym (add-one m.at) ∙ sym at) next); event_is = kept.event }
+    record { stands = subst B (sym plan) (subst A (sym (add-one m.at) ∙ sym at) next); event_is = kept.event; left = λ k below. left_is (row_at rows k) (row_at new k) (row_at (kept_in m.unplugs m.at rows 8) k) (get_or m.unplugs k None) m.at (kept.ports k) (kept-row m.unplugs m.at rows k eight below) }
 
 no_events : (s : Start) (i : ℕ) → events s i 0 ≡ []
 unfolding world recent
@@ -56,33 +76,34 @@ text_goes_on grows s i c (suc more) =
     let next : c + suc more ≡ suc (c + more) = omega arith in
     (rest ++ text (of_hart i e), ap (λ k. text (events s i k)) next ∙ text-next grows s i (c + more) e refl ∙ ap (λ zs. zs ++ text (of_hart i e)) is ∙ append_assoc (text (events s i c)) rest (text (of_hart i e)))
 
-pub run_begins : (s : Start) (n thread : ℕ) (m : Machine) (rows : List (Option Row)) (told : Option (List ℕ)) → StandsFor s 0 n m rows → HasRun s 0 n thread m rows told told
+pub run_begins : (s : Start) (n thread : ℕ) (m : Machine) (rows : List (Option Row)) (told : Option (List ℕ)) → StandsFor s 0 n m rows → HasRun s 0 n thread rows m rows told told
 run_begins s n thread m rows told st =
     let Told : List Event → Type 0 = λ es. Appends told told (text es) in
-    record { put = subst Told (sym (no_events s thread)) (appends_nothing told); stands = st }
+    record { put = subst Told (sym (no_events s thread)) (appends_nothing told); stands = st; left = left_all rows }
 
 -- one more cycle of a run
-pub run_on : EventsGrow → (s : Start) (k n thread : ℕ) (m after : Machine) (rows new : List (Option Row)) (before between now : Option (List ℕ)) (event : Option Event) → HasRun s k n thread m rows before between → m.at ≡ k →
-    (StandsFor s m.at n m rows → Ticks s m.at n after new event) → Appends between now (text (of_hart thread event)) → HasRun s (k + 1) n thread after new before now
-run_on grows s k n thread m after rows new before between now event run at tick put =
+pub run_on : EventsGrow → (s : Start) (k n thread : ℕ) (first : List (Option Row)) (m after : Machine) (rows new : List (Option Row)) (before between now : Option (List ℕ)) (event : Option Event) → HasRun s k n thread first m rows before between → m.at ≡ k →
+    (StandsFor s m.at n m rows → Ticks s m.at n rows after new event) → Appends between now (text (of_hart thread event)) → HasRun s (k + 1) n thread first after new before now
+run_on grows s k n thread first m after rows new before between now event run at tick put =
     let At : ℕ → Type 0 = λ c. StandsFor s c n m rows in
-    let After : ℕ → Type 0 = λ c. Ticks s c n after new event in
-    let ticked : Ticks s k n after new event = subst After at (tick (subst At (sym at) run.stands)) in
+    let After : ℕ → Type 0 = λ c. Ticks s c n rows after new event in
+    let ticked : Ticks s k n rows after new event = subst After at (tick (subst At (sym at) run.stands)) in
     let Told : List ℕ → Type 0 = λ x. Appends before now x in
-    let done : HasRun s (suc k) n thread after new before now = record {
+    let done : HasRun s (suc k) n thread first after new before now = record {
       put = subst Told (sym (text-next grows s thread k event ticked.event_is)) (appends_more before between now (text (events s thread k)) (text (of_hart thread event)) run.put put);
       stands = ticked.stands;
+      left = λ i below. left_more (row_at first i) (row_at rows i) (row_at new i) (run.left i below) (ticked.left i below);
     } in
-    let Run : ℕ → Type 0 = λ c. HasRun s c n thread after new before now in
+    let Run : ℕ → Type 0 = λ c. HasRun s c n thread first after new before now in
     subst Run (sym (add-one k)) done
 
 -- a run that stops in a cycle
-pub run_stops : EventsGrow → (s : Start) (k n thread : ℕ) (m after : Machine) (rows new : List (Option Row)) (before between now : Option (List ℕ)) (event : Option Event) → k < n → HasRun s k n thread m rows before between → m.at ≡ k →
-    (StandsFor s m.at n m rows → Ticks s m.at n after new event) → AppendsFront between now (text (of_hart thread event)) → Stopped s n thread after new before now
-run_stops grows s k n thread m after rows new before between now event within run at tick put =
+pub run_stops : EventsGrow → (s : Start) (k n thread : ℕ) (first : List (Option Row)) (m after : Machine) (rows new : List (Option Row)) (before between now : Option (List ℕ)) (event : Option Event) → k < n → HasRun s k n thread first m rows before between → m.at ≡ k →
+    (StandsFor s m.at n m rows → Ticks s m.at n rows after new event) → AppendsFront between now (text (of_hart thread event)) → Stopped s n thread first after new before now
+run_stops grows s k n thread first m after rows new before between now event within run at tick put =
     let At : ℕ → Type 0 = λ c. StandsFor s c n m rows in
-    let After : ℕ → Type 0 = λ c. Ticks s c n after new event in
-    let ticked : Ticks s k n after new event = subst After at (tick (subst At (sym at) run.stands)) in
+    let After : ℕ → Type 0 = λ c. Ticks s c n rows after new event in
+    let ticked : Ticks s k n rows after new event = subst After at (tick (subst At (sym at) run.stands)) in
     let here : after.at ≡ suc k = ticked.stands.cycle in
     let (rest, goes) = text_goes_on grows s thread (suc k) (n - suc k) in
     let end : n ≡ suc k + (n - suc k) = omega arith in
@@ -93,4 +114,5 @@ run_stops grows s k n thread m after rows new before between now event within ru
       put = appends_front before between now (text (events s thread k)) (text (of_hart thread event)) rest (text (events s thread n)) whole run.put put;
       within = omega (arith, here);
       stands = subst Here (sym here) ticked.stands;
+      left = λ i below. left_more (row_at first i) (row_at rows i) (row_at new i) (run.left i below) (ticked.left i below);
     }

@@ -1,5 +1,5 @@
 -- The machine and the ports as what stands for a cycle of a world.
-use Rattle.std.specs.Prelude.{◌≡◌, ℕ, suc, ◌-◌, ◌≤◌, List, [], map, replicate, Option}
+use Rattle.std.specs.Prelude.{◌≡◌, ℕ, suc, ◌-◌, ◌<◌, ◌≤◌, List, [], map, replicate, Option, Some, None}
 use Rattle.std.specs.Io.KnownBytes.{Appends}
 use Rattle.fp_io.specs.Content.{AppendsFront}
 use Rattle.trace_print.specs.Text.{text}
@@ -15,7 +15,7 @@ use Rattle.trap_unit.specs.Rows.{no_trap}
 use Rattle.world_model.specs.World.{Start, events}
 use Rattle.setup_model.specs.Start.{start, thread_of, i_words_of, d_words_of}
 use Rattle.pipe_model.specs.Stages.{State}
-use Rattle.pipe_model.specs.Relation.{event_in, turn_at}
+use Rattle.pipe_model.specs.Relation.{event_in, turn_at, words_of}
 use Rattle.pipeline_core.specs.Meaning.{latches_by, state_by}
 use Rattle.machine_model.specs.Relation.{Standing}
 use Rattle.machine.specs.declared.state.Machine.{Machine}
@@ -28,22 +28,33 @@ StandsFor s c n m ports = Standing s c n (latches_by m.pipe) (state_by m.units p
 abbrev pub start_beside : Settings → List Segment → List (Option Row) → ℕ → Start
 start_beside s image ports n = record (start s image ports n) { shown = map (λ i. shown (row_at ports i) [] (thread_of s i).unplug n) the_threads }
 
+-- a port that is left shows the words that it showed before
+abbrev pub IsLeft : Option Row → Option Row → Type 0
+IsLeft before None = Unit {0}
+IsLeft before (Some row) = words_of before ≡ Some row.words
+
+abbrev pub AreLeft : List (Option Row) → List (Option Row) → Type 0
+AreLeft before after = (k : ℕ) → k < 8 → IsLeft (row_at before k) (row_at after k)
+
 -- what a cycle left stands for the next one, and its answer is the event of the issue of c - 4
-pub record Ticks (s : Start) (c n : ℕ) (m : Machine) (ports : List (Option Row)) (event : Option Event) : Type 0 where
+pub record Ticks (s : Start) (c n : ℕ) (before : List (Option Row)) (m : Machine) (ports : List (Option Row)) (event : Option Event) : Type 0 where
   pub stands : StandsFor s (suc c) n m ports
   pub event_is : event ≡ event_in (c - 4) (turn_at s c 3)
+  pub left : AreLeft before ports
 
 -- k cycles of a run of n have put the text of the thread's events so far, and machine and ports stand for
 -- cycle k
-pub record HasRun (s : Start) (k n thread : ℕ) (m : Machine) (ports : List (Option Row)) (before after : Option (List ℕ)) : Type 0 where
+pub record HasRun (s : Start) (k n thread : ℕ) (first : List (Option Row)) (m : Machine) (ports : List (Option Row)) (before after : Option (List ℕ)) : Type 0 where
   pub put : Appends before after (text (events s thread k))
   pub stands : StandsFor s k n m ports
+  pub left : AreLeft first ports
 
 -- a run that was stopped has put a front of the text of all, and machine and ports stand for the cycles done
-pub record Stopped (s : Start) (n thread : ℕ) (m : Machine) (ports : List (Option Row)) (before after : Option (List ℕ)) : Type 0 where
+pub record Stopped (s : Start) (n thread : ℕ) (first : List (Option Row)) (m : Machine) (ports : List (Option Row)) (before after : Option (List ℕ)) : Type 0 where
   pub put : AppendsFront before after (text (events s thread n))
   pub within : m.at ≤ n
   pub stands : StandsFor s m.at n m ports
+  pub left : AreLeft first ports
 
 -- the units at the start of a setup and an image, beside ports
 abbrev pub units_at_start : Settings → List Segment → List (Option Row) → State

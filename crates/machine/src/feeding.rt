@@ -3,6 +3,7 @@
 ghost use Rattle.std.specs.Prelude.{◌≡◌, ◌<◌, ◌≤◌, length, take, vec_len, OnOk, OnErr};
 ghost use Rattle.fp_ports.specs.Rows.{rows_of};
 ghost use Rattle.machine.specs.Feeding.{fed_words, fed_all, IsFedFront};
+ghost use Rattle.machine.specs.Laws.{FeedsStart};
 
 use fp_ports::{Ports, feed_port};
 use fp_setup::{Input, Setup};
@@ -39,3 +40,9 @@ fn feed_thread(ports: &mut Ports, thread: u8, inputs: &[Input]) -> Result<(), Al
     }
     Ok(())
 }
+
+/// A machine beside ports that were fed with the inputs of its setup starts in the world of the setup
+/// and of the ports as they were handed in. The contract is the law; the call does nothing.
+pub fn feeds_the_start()
+    ensures { FeedsStart }
+{}

@@ -9,5 +9,5 @@ mod loading;
 mod running;
 mod state;
 
-pub use feeding::feed_inputs;
+pub use feeding::{feed_inputs, feeds_the_start};
 pub use state::Machine;

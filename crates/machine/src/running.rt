@@ -34,7 +34,7 @@ impl Machine {
         requires cycle { self.old.at < 4000000000 }
         requires eight { vec_len ports.old ≡ 8 }
         ensures relation { (s : Start) (n : ℕ) → self.old.at < n + 3 → StandsFor s self.old.at n self.old (rows_of latched word_at ports.old.items)
-            → Ticks s self.old.at n self.new (rows_of latched word_at ports.new.items) result }
+            → Ticks s self.old.at n (rows_of latched word_at ports.old.items) self.new (rows_of latched word_at ports.new.items) result }
         ensures at { self.new.at ≡ self.old.at + 1 }
         ensures eight { vec_len ports.new ≡ 8 }
         ensures showable { IsEventShowable result }
@@ -64,9 +64,9 @@ impl Machine {
         requires thread { thread < 8 }
         requires eight { vec_len ports.old ≡ 8 }
         ensures ok { OnOk result ((s : Start) → StandsFor s 0 n self.old (rows_of latched word_at ports.old.items)
-            → HasRun s n n thread self.new (rows_of latched word_at ports.new.items) (K.taken out.old) (K.taken out.new)) }
+            → HasRun s n n thread (rows_of latched word_at ports.old.items) self.new (rows_of latched word_at ports.new.items) (K.taken out.old) (K.taken out.new)) }
         ensures err { OnErr result ((s : Start) → StandsFor s 0 n self.old (rows_of latched word_at ports.old.items)
-            → Stopped s n thread self.new (rows_of latched word_at ports.new.items) (K.taken out.old) (K.taken out.new)) }
+            → Stopped s n thread (rows_of latched word_at ports.old.items) self.new (rows_of latched word_at ports.new.items) (K.taken out.old) (K.taken out.new)) }
         ensures failed { OnErr result (Rose (K.faults out.old) (K.faults out.new)) }
         ensures counted { K.faults out.old ≤ K.faults out.new }
         ensures cycles { OnOk result (self.new.at ≡ n) }

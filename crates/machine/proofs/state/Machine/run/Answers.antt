@@ -21,7 +21,7 @@ loop-cycle-preserved g c =
       at = c.tick-event.ensures.at ∙ ap (λ n. n + 1) inv.at;
       eight = c.tick-event.ensures.eight;
       counted = omega (arith, inv.counted, c.put_event.ensures.counted);
-      runs = λ s st. run_on c.events_grow.ensures s k c.args.n c.args.thread c.loop-cycle.self c.tick-event.new.self _ _ (g.K.Sink.taken c.args.out.now) (g.K.Sink.taken c.loop-cycle.out) (g.K.Sink.taken c.put_event.new.out)
+      runs = λ s st. run_on c.events_grow.ensures s k c.args.n c.args.thread _ c.loop-cycle.self c.tick-event.new.self _ _ (g.K.Sink.taken c.args.out.now) (g.K.Sink.taken c.loop-cycle.out) (g.K.Sink.taken c.put_event.new.out)
           c.tick-event.result (inv.runs s st) inv.at (c.tick-event.ensures.relation s c.args.n within) c.in_ok-put_event.ensures.ok;
     }
 
@@ -32,5 +32,5 @@ returns-in_err-put_event-clause-err g c =
     let inside : k < c.args.n = omega (arith, c.loop-cycle-test.true) in
     let within : c.loop-cycle.self.at < c.args.n + 3 = omega (arith, inv.at, inside) in
     let p = err_from_is_err_and c.from_residual.result c.from_residual.ensures.1 in
-    rw p.1 (λ s st. run_stops c.events_grow.ensures s k c.args.n c.args.thread c.loop-cycle.self c.tick-event.new.self _ _ (g.K.Sink.taken c.args.out.now) (g.K.Sink.taken c.loop-cycle.out) (g.K.Sink.taken c.put_event.new.out)
+    rw p.1 (λ s st. run_stops c.events_grow.ensures s k c.args.n c.args.thread _ c.loop-cycle.self c.tick-event.new.self _ _ (g.K.Sink.taken c.args.out.now) (g.K.Sink.taken c.loop-cycle.out) (g.K.Sink.taken c.put_event.new.out)
     c.tick-event.result inside (inv.runs s st) inv.at (c.tick-event.ensures.relation s c.args.n within) c.in_err-put_event.ensures.err)

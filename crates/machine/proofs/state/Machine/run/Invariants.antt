@@ -12,5 +12,5 @@ invariant-loop-cycle g l =
       at : l.self.at ≡ l._cycle;
       eight : vec_len l.ports ≡ 8;
       counted : g.K.Sink.faults l.initial.out ≤ g.K.Sink.faults l.out;
-      runs : (s : Start) → StandsFor s 0 l.n l.initial.self first → HasRun s l._cycle l.n l.thread l.self rows (g.K.Sink.taken l.initial.out) (g.K.Sink.taken l.out);
+      runs : (s : Start) → StandsFor s 0 l.n l.initial.self first → HasRun s l._cycle l.n l.thread first l.self rows (g.K.Sink.taken l.initial.out) (g.K.Sink.taken l.out);
     }
