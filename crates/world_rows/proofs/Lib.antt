@@ -1,0 +1,6 @@
+mod Drive
+mod Slots
+mod Time
+mod Traps
+mod Random
+mod Wide
