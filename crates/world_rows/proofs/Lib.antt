@@ -2,5 +2,6 @@ mod Drive
 mod Slots
 mod Time
 mod Traps
+mod Latches
 mod Random
 mod Wide
