@@ -3,5 +3,6 @@ mod Slots
 mod Time
 mod Traps
 mod Latches
+mod Views
 mod Random
 mod Wide
