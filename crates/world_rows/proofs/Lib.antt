@@ -2,5 +2,7 @@ mod Drive
 mod Slots
 mod Time
 mod Traps
+mod Latches
+mod Views
 mod Random
 mod Wide

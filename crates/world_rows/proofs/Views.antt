@@ -1,0 +1,56 @@
+-- Two machines that differ in all that one hart can't see.
+use Rattle.std.proofs.Common.{◌≡◌, ℕ, true, false, List, [], ◌∷◌, ◌++◌, None, Some, refl, replicate}
+use Rattle.nibble_word.specs.Nibbles.{nibbles}
+use Rattle.rv_decode.specs.Table.{ins, rows, lui_rows, auipc_rows, jal_rows, jalr_rows, branch_rows, load_rows, store_rows, imm_rows, op_rows, fence_rows, system_rows, time_rows}
+use Rattle.rv_exec.specs.Words.{bitwise}
+use Rattle.rv_exec.specs.Alu.{computed, computed_with, shifted, multiplied}
+use Rattle.rv_exec.specs.Access.{loaded, lanes_at, merged}
+use Rattle.rv_exec.specs.Result.{is_taken, result_of}
+use Rattle.region_guard.specs.Regions.{standing, region_of, index_of, may_fetch, may_load, may_store}
+use Rattle.slot_table.specs.Frame.{frame, turn}
+use Rattle.slot_table.specs.Table.{is_table}
+use Rattle.region_guard.specs.Register.{is_regions}
+use Rattle.slot_scheduler.specs.Picking.{is_awake, after_last, donated, pick}
+use Rattle.core_model.specs.Thread.{fresh}
+use Rattle.core_model.specs.Parts.{load, store, branch, delay, wait}
+use Rattle.core_model.specs.Control.{changed, may_hold, csr_access}
+use Rattle.core_model.specs.Issue.{goes, run, act, acts_on, effect_of, issue}
+use Rattle.core_model.specs.Memory.{code_at, data_at}
+use Rattle.world_model.specs.World.{Start, around, after_turn, recent, world, events}
+use Rattle.world_model.specs.Viewed.{setting_of, view}
+use Rattle.world_rows.specs.Base.{words, base}
+
+code : List ℕ
+code = 0x00100293 ∷ 0x00002303 ∷ 0x200000b7 ∷ 0x0060a023 ∷ 0x0000a383 ∷ 0x40000137 ∷ 0x00012403 ∷ 0xfe5ff06f ∷ []
+
+-- hart 0 beside hart 1, which has a region of code and one of data
+one : Start
+one =
+    record (base code) {
+      registers = record { slots = 0xfffffe10; modes = 0xfffc; dregions = 0xccccc810; iregions = 0xcccccc1c };
+    }
+
+-- the others have other slots, modes, entries, permits and ports; their regions are those of other harts;
+-- and there are words in them and in the shared region
+other : Start
+other =
+    record (base code) {
+      threads = fresh 0 ∷ replicate 7 (fresh 0x800);
+      confined = true ∷ true ∷ replicate 6 false;
+      permit = false ∷ false ∷ replicate 6 true;
+      i_words = words 16384 (code ++ replicate 504 0 ++ 0x200010b7 ∷ 0x00112023 ∷ 0xffdff06f ∷ []);
+      d_words = words 16384 (replicate 512 0 ++ 1 ∷ 2 ∷ 3 ∷ replicate 509 0 ++ 4 ∷ 5 ∷ []);
+      registers = record { slots = 0xfffff740; modes = 0x0028; dregions = 0xccccc850; iregions = 0xcccccc3c };
+      shown = replicate 60 0 ∷ replicate 7 (replicate 60 9);
+      handed = true ∷ replicate 7 false;
+      unplugs = None ∷ replicate 7 (Some 3);
+      latches = 0 ∷ replicate 7 8;
+    }
+
+alike : view one 0 ≡ view other 0
+unfolding one other code view setting_of nibbles standing frame
+alike = refl
+
+equal : events one 0 40 ≡ events other 0 40
+unfolding one other code ins rows lui_rows auipc_rows jal_rows jalr_rows branch_rows load_rows store_rows imm_rows op_rows fence_rows system_rows time_rows bitwise computed computed_with shifted multiplied is_taken loaded lanes_at merged result_of nibbles standing region_of index_of may_fetch may_load may_store frame turn is_table is_regions is_awake after_last donated pick load store branch delay wait changed may_hold csr_access goes run act acts_on effect_of issue code_at data_at around after_turn recent world
+equal = refl
