@@ -11,3 +11,6 @@ mod state;
 
 pub use feeding::{feed_inputs, feeds_the_start};
 pub use state::Machine;
+
+#[cfg(test)]
+mod tests;
