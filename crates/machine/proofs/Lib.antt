@@ -4,3 +4,4 @@ pub mod DumpLemmas
 pub mod RunLemmas
 pub mod LoadLemmas
 pub mod FedLemmas
+pub mod WordLemmas

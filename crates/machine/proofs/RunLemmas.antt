@@ -1,6 +1,6 @@
 -- A cycle of the machine, and the text of a run.
-use Rattle.std.proofs.Common.{◌≡◌, ℕ, zero, suc, ◌+◌, ◌-◌, ◌<◌, ◌≤◌, List, [], ◌∷◌, ◌++◌, get_or, length, Bool, true, false, Option, Some, None, arith, refl, ap, sym, subst, ◌∙◌, add-one, add-zero, append_assoc}
-use Rattle.std.specs.Prelude.{flat_map, if◌then◌else◌}
+use Rattle.std.proofs.Common.{◌≡◌, ℕ, zero, suc, ◌+◌, ◌-◌, ◌<◌, List, [], ◌++◌, get_or, length, Bool, true, false, Option, Some, None, arith, refl, ap, sym, subst, ◌∙◌, add-one, add-zero, append_assoc}
+use Rattle.std.specs.Prelude.{if◌then◌else◌}
 use Rattle.std.proofs.lemmas.List.{append-nil}
 use Rattle.std.proofs.lemmas.Grind.{flat_map-append}
 use Rattle.std.specs.Io.KnownBytes.{Appends}
@@ -25,15 +25,16 @@ left_words before None stays h = tt
 left_words before (Some r) true h = sym h
 left_words before (Some r) false h = cc
 
-left_is : (before after left : Option Row) (unplug : Option ℕ) (c : ℕ) → words_of after ≡ words_of left → left ≡ (if stays_in unplug c then before else None) → IsLeft before after
+-- a port that shows in a cycle what it showed, unless it was due
+pub left_is : (before after left : Option Row) (unplug : Option ℕ) (c : ℕ) → words_of after ≡ words_of left → left ≡ (if stays_in unplug c then before else None) → IsLeft before after
 left_is before after left unplug c same is = left_words before after (stays_in unplug c) (same ∙ ap words_of is)
 
-left_more : (before between after : Option Row) → IsLeft before between → IsLeft between after → IsLeft before after
+pub left_more : (before between after : Option Row) → IsLeft before between → IsLeft between after → IsLeft before after
 left_more before between None first second = tt
 left_more before (Some r) (Some q) first second = first ∙ second
 left_more before None (Some q) first second = cc
 
-left_all : (ports : List (Option Row)) → AreLeft ports ports
+pub left_all : (ports : List (Option Row)) → AreLeft ports ports
 left_all ports k below = go (row_at ports k)
   where
     go : (o : Option Row) → IsLeft o o

@@ -1,23 +1,24 @@
 -- The machine and the ports as what stands for a cycle of a world.
-use Rattle.std.specs.Prelude.{◌≡◌, ℕ, suc, ◌-◌, ◌<◌, ◌≤◌, List, [], map, replicate, Option, Some, None}
+use Rattle.std.specs.Prelude.{◌≡◌, ℕ, suc, ◌-◌, ◌<◌, ◌≤◌, false, ◌&&◌, if◌then◌else◌, List, [], slice_index_or, map, replicate, Option, Some, None}
 use Rattle.std.specs.Io.KnownBytes.{Appends}
 use Rattle.fp_io.specs.Content.{AppendsFront}
 use Rattle.trace_print.specs.Text.{text}
 use Rattle.rv_exec.specs.declared.outcome.Event.{Event}
 use Rattle.fp_image.specs.declared.parts.Segment.{Segment}
-use Rattle.fp_ports.specs.Rows.{Row, row_at}
+use Rattle.fp_ports.specs.Rows.{Row, row_at, written}
 use Rattle.fp_ports.specs.Shown.{shown}
 use Rattle.fp_setup.specs.Meaning.{the_threads}
 use Rattle.fp_setup.specs.Settings.{Settings, size_of}
 use Rattle.fp_setup.specs.declared.thread_list.ThreadSetup.{ThreadSetup}
 use Rattle.timer_unit.specs.Time.{no_timer}
 use Rattle.trap_unit.specs.Rows.{no_trap}
-use Rattle.world_model.specs.World.{Start, events}
+use Rattle.world_model.specs.World.{Start, world, events}
 use Rattle.setup_model.specs.Start.{start, thread_of, i_words_of, d_words_of}
 use Rattle.pipe_model.specs.Stages.{State}
 use Rattle.pipe_model.specs.Relation.{event_in, turn_at, words_of}
 use Rattle.pipeline_core.specs.Meaning.{latches_by, state_by}
 use Rattle.machine_model.specs.Relation.{Standing}
+use Rattle.machine_model.specs.Seen.{is_kept}
 use Rattle.machine.specs.declared.state.Machine.{Machine}
 
 -- the machine and the ports stand for cycle c of the world; its lists of shown words have n entries
@@ -55,6 +56,17 @@ pub record Stopped (s : Start) (n thread : ℕ) (first : List (Option Row)) (m :
   pub within : m.at ≤ n
   pub stands : StandsFor s m.at n m ports
   pub left : AreLeft first ports
+
+-- what is left of a thread's row after n cycles of a world: the port with the world's latch, and with its
+-- words as they were; none where none was handed in or it is gone
+abbrev pub row_after : Start → ℕ → ℕ → Option Row → Option Row
+row_after s n k row =
+    if slice_index_or s.handed k false && is_kept (slice_index_or s.unplugs k None) n
+    then written row (slice_index_or (world s (n - 3)).latches k 0)
+    else None
+
+abbrev pub PortsAfter : Start → ℕ → List (Option Row) → List (Option Row) → Type 0
+PortsAfter s n before after = (k : ℕ) → k < 8 → row_at after k ≡ row_after s n k (row_at before k)
 
 -- the units at the start of a setup and an image, beside ports
 abbrev pub units_at_start : Settings → List Segment → List (Option Row) → State

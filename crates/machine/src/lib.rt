@@ -10,4 +10,8 @@ mod running;
 mod state;
 
 pub use feeding::{feed_inputs, feeds_the_start};
+pub use running::leaves_ports;
 pub use state::Machine;
+
+#[cfg(test)]
+mod tests;

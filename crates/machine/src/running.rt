@@ -10,7 +10,8 @@ ghost use Rattle.world_model.specs.World.{Start, events};
 ghost use Rattle.pipe_model.specs.Relation.{stays_in, of_hart};
 ghost use Rattle.pipeline_core.specs.Fits.{IsEventShowable};
 ghost use Rattle.machine_model.specs.Relation.{kept_in};
-ghost use Rattle.machine.specs.Meaning.{StandsFor, Ticks, HasRun, Stopped};
+ghost use Rattle.machine.specs.Laws.{LeavesPorts};
+ghost use Rattle.machine.specs.Meaning.{StandsFor, AreLeft, Ticks, HasRun, Stopped};
 
 use crate::state::Machine;
 use fp_io::{PutFailed, Sink};
@@ -36,6 +37,7 @@ impl Machine {
         ensures relation { (s : Start) (n : ℕ) → self.old.at < n + 3 → StandsFor s self.old.at n self.old (rows_of latched word_at ports.old.items)
             → Ticks s self.old.at n (rows_of latched word_at ports.old.items) self.new (rows_of latched word_at ports.new.items) result }
         ensures at { self.new.at ≡ self.old.at + 1 }
+        ensures words { AreLeft (rows_of latched word_at ports.old.items) (rows_of latched word_at ports.new.items) }
         ensures eight { vec_len ports.new ≡ 8 }
         ensures showable { IsEventShowable result }
     {
@@ -70,6 +72,7 @@ impl Machine {
         ensures failed { OnErr result (Rose (K.faults out.old) (K.faults out.new)) }
         ensures counted { K.faults out.old ≤ K.faults out.new }
         ensures cycles { OnOk result (self.new.at ≡ n) }
+        ensures words { AreLeft (rows_of latched word_at ports.old.items) (rows_of latched word_at ports.new.items) }
         ensures eight { vec_len ports.new ≡ 8 }
     {
         events_grow();
@@ -114,6 +117,12 @@ impl Machine {
         }
     }
 }
+
+/// The ports after cycles of a world are those from before with the world's latches, but for the ones
+/// that are gone. The contract is the law; the call does nothing.
+pub fn leaves_ports()
+    ensures { LeavesPorts }
+{}
 
 /// Puts the line of an event, if it is one of the thread's.
 fn put_event<K: Sink>(event: Option<Event>, thread: u8, out: &mut K) -> Result<(), PutFailed>

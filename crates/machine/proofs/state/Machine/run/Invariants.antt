@@ -1,7 +1,7 @@
 use Rattle.std.proofs.Common.{◌≡◌, ◌≤◌, vec_len}
 use Rattle.fp_ports.specs.Rows.{rows_of}
 use Rattle.world_model.specs.World.{Start}
-use Rattle.machine.specs.Meaning.{StandsFor, HasRun}
+use Rattle.machine.specs.Meaning.{StandsFor, AreLeft, HasRun}
 use Rattle.machine.proofs.state.Machine.run.Given as goal
 
 abbrev pub invariant-loop-cycle : goal.invariant-loop-cycle
@@ -12,5 +12,6 @@ invariant-loop-cycle g l =
       at : l.self.at ≡ l._cycle;
       eight : vec_len l.ports ≡ 8;
       counted : g.K.Sink.faults l.initial.out ≤ g.K.Sink.faults l.out;
+      words : AreLeft first rows;
       runs : (s : Start) → StandsFor s 0 l.n l.initial.self first → HasRun s l._cycle l.n l.thread first l.self rows (g.K.Sink.taken l.initial.out) (g.K.Sink.taken l.out);
     }
