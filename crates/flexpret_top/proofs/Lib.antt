@@ -1,3 +1,5 @@
-mod Complete
-mod Cut
-mod Numbers
+mod Bounds
+mod Cuts
+mod Delivering
+mod Preparing
+mod Usage

@@ -1,17 +1,55 @@
--- The numbers of the faults of a source.
-use Rattle.std.specs.Prelude.{ℕ}
+-- The numbers of faults in refusal lines.
+use Rattle.std.specs.Prelude.{ℕ, Option, Some, None}
+use Rattle.fp_setup.specs.declared.refusal.SetupNo.{SetupNo}
+use Rattle.fp_setup.specs.declared.refusal.SetupNo.TheVariants as in_setup
+use Rattle.fp_image.specs.declared.refusals.ImageNo.{ImageNo}
+use Rattle.fp_image.specs.declared.refusals.ImageNo.TheVariants as in_image
 use Rattle.fp_asm.specs.declared.refusal.AsmNo.{AsmNo}
-use Rattle.fp_asm.specs.declared.refusal.AsmNo.TheVariants.{TooLong, Lex, UnknownName, Operands, OutOfRange, DoubleLabel, NoLabel, Misaligned, OutsideMemory, Overlap, TooManySegments}
+use Rattle.fp_asm.specs.declared.refusal.AsmNo.TheVariants as in_source
+use Rattle.region_tree.specs.declared.tree.TreeNo.{TreeNo}
+use Rattle.region_tree.specs.declared.tree.TreeNo.TheVariants as in_tree
+use Rattle.trace_print.specs.declared.refusals.Refusal.{Refusal}
+use Rattle.trace_print.specs.declared.refusals.Refusal.TheVariants.{Bound}
 
-abbrev pub code_of : AsmNo → ℕ
-code_of TooLong = 1
-code_of Lex = 2
-code_of UnknownName = 3
-code_of Operands = 4
-code_of OutOfRange = 5
-code_of DoubleLabel = 6
-code_of NoLabel = 7
-code_of Misaligned = 8
-code_of OutsideMemory = 9
-code_of Overlap = 10
-code_of TooManySegments = 11
+abbrev pub setup_code : SetupNo → ℕ
+setup_code in_setup.TooLong = 1
+setup_code in_setup.Toml = 2
+setup_code in_setup.UnknownKey = 3
+setup_code in_setup.MissingKey = 4
+setup_code in_setup.WrongType = 5
+setup_code in_setup.OutOfRange = 6
+setup_code in_setup.BadSlot = 7
+setup_code in_setup.BadMode = 8
+setup_code in_setup.BadRegion = 9
+setup_code in_setup.ConfinedPermit = 10
+setup_code in_setup.DoubleThread = 11
+setup_code in_setup.TooMany = 12
+
+abbrev pub image_code : ImageNo → ℕ
+image_code in_image.TooLong = 1
+image_code in_image.Magic = 2
+image_code in_image.Truncated = 3
+image_code in_image.BadSegment = 4
+image_code in_image.Overlap = 5
+image_code in_image.Trailing = 6
+
+abbrev pub source_code : AsmNo → ℕ
+source_code in_source.TooLong = 1
+source_code in_source.Lex = 2
+source_code in_source.UnknownName = 3
+source_code in_source.Operands = 4
+source_code in_source.OutOfRange = 5
+source_code in_source.DoubleLabel = 6
+source_code in_source.NoLabel = 7
+source_code in_source.Misaligned = 8
+source_code in_source.OutsideMemory = 9
+source_code in_source.Overlap = 10
+source_code in_source.TooManySegments = 11
+
+-- why a section has no bound, with the address; want of memory has no line
+abbrev pub tree_refusal : TreeNo → Option Refusal
+tree_refusal (in_tree.Nesting address) = Some (Bound 1 address)
+tree_refusal (in_tree.IndirectJump address) = Some (Bound 2 address)
+tree_refusal (in_tree.TimedWait address) = Some (Bound 3 address)
+tree_refusal (in_tree.UnboundedBackEdge address) = Some (Bound 4 address)
+tree_refusal in_tree.NoMemory = None

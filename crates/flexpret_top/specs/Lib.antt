@@ -1,6 +1,10 @@
-pub mod Words
-pub mod Asked
-pub mod Bare
 pub mod Codes
 pub mod Answer
+pub mod Program
+pub mod Run
+pub mod Assembled
+pub mod Bound
+pub mod Command
+pub mod Stops
+pub mod Prepared
 pub mod Status

@@ -1,16 +1,14 @@
-//! The program as one call, over files, a sink and the words of the command line.
+//! The program as one call, over files, a sink, the words of the command line and eight ports.
 #![tactic(auto)]
 
-mod asked;
-mod bare;
+mod assembling;
+mod bound;
 mod command;
-mod run;
+mod deliver;
+mod prepare;
+mod program;
+mod ready;
 mod status;
-mod words;
+mod stop;
 
-pub use asked::read_words;
 pub use command::flexpret;
-pub use run::Run;
-
-#[cfg(test)]
-mod tests;

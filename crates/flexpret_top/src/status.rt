@@ -9,10 +9,14 @@ pub enum Status {
     Ok = 0,
     /// The words ask no command.
     Usage = 2,
+    /// The setup has a fault, or the section that is asked for is none; its line was written.
+    Setup = 3,
     /// The image has a fault; its line was written.
     Image = 4,
     /// The source has a fault; its line was written.
     Source = 5,
+    /// The section has no bound, or one past 64 bits; its line was written.
+    Bound = 6,
     /// A file could not be read, or isn't there.
     Read = 7,
     /// The text could not be written whole.

@@ -9,4 +9,4 @@ mod Fetching
 mod Told
 mod Holding
 mod Starting
-mod Events
+pub mod Events

@@ -1,0 +1,33 @@
+-- What a machine that was prepared puts.
+use Rattle.std.proofs.Common.{◌≡◌, ℕ, List, Option, None, Result, Ok, Err, sym, subst}
+use Rattle.std.specs.Prelude.{OnOk, OnErr}
+use Rattle.std.specs.Io.KnownBytes.{Appends}
+use Rattle.fp_io.specs.Content.{AppendsFront}
+use Rattle.fp_ports.specs.Rows.{Row}
+use Rattle.world_model.specs.World.{Start}
+use Rattle.machine.specs.declared.state.Machine.{Machine}
+use Rattle.machine.specs.Meaning.{StandsFor, HasRun}
+use Rattle.machine_model.specs.Seen.{seen}
+use Rattle.flexpret_top.specs.declared.ready.Ready.{Ready}
+use Rattle.flexpret_top.specs.Prepared.{Gone, Runs}
+
+abbrev pub Passes : Ready → List (Option Row) → Machine → List (Option Row) → Type 0
+Passes r first m rows = (s : Start) → StandsFor s 0 r.cycles r.machine first → Gone s r.cycles first m rows
+
+pub dump-ok : {A E : Type 0} → (r : Ready) (first rows : List (Option Row)) (m : Machine) (before after : Option (List ℕ)) (put : Result A E) → Passes r first m rows →
+    OnOk put ((s : Start) (c n : ℕ) → StandsFor s c n m rows → Appends before after (seen s c)) →
+    OnOk put ((written : List ℕ) → Runs r first (λ s. seen s r.cycles) written → Appends before after written)
+dump-ok r first rows m before after (Ok x) passes puts =
+    λ written runs. (let Told : List ℕ → Type 0 = Appends before after in subst Told (sym runs.text_is) (puts runs.start r.cycles r.cycles (passes runs.start runs.stands).stands))
+dump-ok r first rows m before after (Err e) passes puts = tt
+
+pub dump-err : {A E : Type 0} → (r : Ready) (first rows : List (Option Row)) (m : Machine) (before after : Option (List ℕ)) (put : Result A E) → Passes r first m rows →
+    OnErr put ((s : Start) (c n : ℕ) → StandsFor s c n m rows → AppendsFront before after (seen s c)) →
+    OnErr put ((written : List ℕ) → Runs r first (λ s. seen s r.cycles) written → AppendsFront before after written)
+dump-err r first rows m before after (Ok x) passes puts = tt
+dump-err r first rows m before after (Err e) passes puts =
+    λ written runs. (let Told : List ℕ → Type 0 = AppendsFront before after in subst Told (sym runs.text_is) (puts runs.start r.cycles r.cycles (passes runs.start runs.stands).stands))
+
+-- a run that puts nothing has done its cycles
+pub gone-after : (s : Start) (k n : ℕ) (first : List (Option Row)) (m : Machine) (rows : List (Option Row)) → k ≡ n → HasRun s k n 0 first m rows None None → Gone s n first m rows
+gone-after s k n first m rows end run = let Run : ℕ → Type 0 = λ c. HasRun s c n 0 first m rows None None in let whole = subst Run end run in record { stands = whole.stands; left = whole.left }

@@ -1,0 +1,57 @@
+-- What was prepared, as the text that it will write.
+use Rattle.std.specs.Prelude.{◌≡◌, ◌<◌, ℕ, List, Option}
+use Rattle.fp_io.specs.Content.{FileMap}
+use Rattle.fp_ports.specs.Rows.{Row}
+use Rattle.ask_words.specs.declared.asked.Ask.{Ask}
+use Rattle.machine.specs.Meaning.{StandsFor, AreLeft}
+use Rattle.machine.specs.declared.state.Machine.{Machine}
+use Rattle.machine_model.specs.Seen.{seen}
+use Rattle.trace_print.specs.Bounds.{bound_text}
+use Rattle.trace_print.specs.Text.{text}
+use Rattle.world_model.specs.World.{Start, events}
+use Rattle.flexpret_top.specs.declared.program.Program.{Program}
+use Rattle.flexpret_top.specs.declared.ready.Ready.{Ready}
+use Rattle.flexpret_top.specs.declared.ready.Prepared.{Prepared}
+use Rattle.flexpret_top.specs.declared.ready.Prepared.TheVariants.{Trace, Dump, Image, Bound}
+use Rattle.flexpret_top.specs.Answer.{Answer}
+use Rattle.flexpret_top.specs.Answer.Answer.{Says}
+use Rattle.flexpret_top.specs.Command.{IsAnswerOf}
+use Rattle.flexpret_top.specs.Program.{program}
+use Rattle.flexpret_top.specs.Run.{start_of}
+use Rattle.std.specs.Prelude.{Ok}
+
+-- a machine at its start that stands, beside the ports that were fed, for the world of a program and the ports as they
+-- were handed in
+pub record IsReady (files : FileMap) (name : List ℕ) (before after : List (Option Row)) (r : Ready) : Type 0 where
+  pub made : Program
+  pub is : program files name ≡ Ok made
+  pub stands : StandsFor (start_of made before r.cycles) 0 r.cycles r.machine after
+
+-- a machine at its start, which stands for a world beside these ports, and a text that this world defines
+pub record Runs (r : Ready) (ports : List (Option Row)) (told : Start → List ℕ) (written : List ℕ) : Type 0 where
+  pub start : Start
+  pub stands : StandsFor start 0 r.cycles r.machine ports
+  pub text_is : written ≡ told start
+
+abbrev pub Delivers : Prepared → List (Option Row) → List ℕ → Type 0
+Delivers (Trace r thread) ports written = Runs r ports (λ s. text (events s thread r.cycles)) written
+Delivers (Dump r) ports written = Runs r ports (λ s. seen s r.cycles) written
+Delivers (Image bytes) ports written = written ≡ bytes.items
+Delivers (Bound cycles) ports written = written ≡ bound_text cycles
+
+-- a thread that is asked for is one of the eight
+abbrev pub IsThread : Prepared → Type 0
+IsThread (Trace r thread) = thread < 8
+IsThread _ = Unit {0}
+
+-- it will write a text that answers the command
+pub record Prepares (asked : Ask) (files : FileMap) (before after : List (Option Row)) (p : Prepared) : Type 0 where
+  pub written : List ℕ
+  pub delivers : Delivers p after written
+  pub is : IsAnswerOf asked files before (Says 0 written)
+
+-- after so many cycles, machine and ports stand for that cycle of the world, and the ports that are left show what they
+-- showed
+pub record Gone (s : Start) (n : ℕ) (first : List (Option Row)) (m : Machine) (ports : List (Option Row)) : Type 0 where
+  pub stands : StandsFor s n n m ports
+  pub left : AreLeft first ports

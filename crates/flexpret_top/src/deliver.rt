@@ -1,0 +1,86 @@
+//! What was prepared, written to the sink.
+
+ghost use Rattle.std.specs.Prelude.{◌≡◌, ◌⊎◌, ◌≤◌, ◌<◌, List, ℕ, OnOk, OnErr, vec_len};
+ghost use Rattle.std.specs.Io.KnownBytes.{Appends};
+ghost use Rattle.fp_io.specs.Causes.{Rose};
+ghost use Rattle.fp_io.specs.Content.{AppendsFront};
+ghost use Rattle.fp_ports.specs.Rows.{rows_of};
+ghost use Rattle.world_model.specs.World.{Start};
+ghost use Rattle.machine.specs.Meaning.{StandsFor};
+ghost use Rattle.flexpret_top.specs.Prepared.{Delivers, Gone, IsThread};
+ghost use Rattle.flexpret_top.specs.declared.ready.Prepared.{Prepared};
+
+use crate::ready::{Prepared, Ready};
+use fp_io::{PutFailed, Sink};
+use fp_ports::Ports;
+use machine::Machine;
+use trace_print::bound_line;
+
+/// Does so many cycles, and puts nothing.
+fn go(machine: &mut Machine, cycles: u64, ports: &mut Ports)
+    requires start { machine.old.at ≡ 0 }
+    requires limit { cycles ≤ 4000000000 }
+    requires eight { vec_len ports.old ≡ 8 }
+    ensures gone { (s : Start) → StandsFor s 0 cycles machine.old (rows_of latched word_at ports.old.items)
+        → Gone s cycles (rows_of latched word_at ports.old.items) machine.new (rows_of latched word_at ports.new.items) }
+    ensures eight { vec_len ports.new ≡ 8 }
+{
+    for _cycle in 0..cycles {
+        let _event = machine.tick(ports);
+    }
+}
+
+/// Runs a machine, and puts the lines of a thread's events.
+fn put_trace<K: Sink>(
+    ready: Ready,
+    thread: u8,
+    ports: &mut Ports,
+    out: &mut K,
+) -> Result<(), PutFailed>
+    requires thread { thread < 8 }
+    requires eight { vec_len ports.old ≡ 8 }
+    ensures ok { OnOk result ((written : List ℕ) → Delivers (Prepared.Trace ready thread) (rows_of latched word_at ports.old.items) written → Appends (K.taken out.old) (K.taken out.new) written) }
+    ensures err { OnErr result ((written : List ℕ) → Delivers (Prepared.Trace ready thread) (rows_of latched word_at ports.old.items) written → AppendsFront (K.taken out.old) (K.taken out.new) written) }
+    ensures failed { OnErr result (Rose (K.faults out.old) (K.faults out.new)) }
+    ensures counted { K.faults out.old ≤ K.faults out.new }
+    ensures eight { vec_len ports.new ≡ 8 }
+{
+    let mut machine = ready.machine;
+    machine.run(ready.cycles, thread, ports, out)
+}
+
+/// Runs a machine, and puts its dump.
+fn put_dump<K: Sink>(ready: Ready, ports: &mut Ports, out: &mut K) -> Result<(), PutFailed>
+    requires eight { vec_len ports.old ≡ 8 }
+    ensures ok { OnOk result ((written : List ℕ) → Delivers (Prepared.Dump ready) (rows_of latched word_at ports.old.items) written → Appends (K.taken out.old) (K.taken out.new) written) }
+    ensures err { OnErr result ((written : List ℕ) → Delivers (Prepared.Dump ready) (rows_of latched word_at ports.old.items) written → AppendsFront (K.taken out.old) (K.taken out.new) written) }
+    ensures failed { OnErr result (Rose (K.faults out.old) (K.faults out.new)) }
+    ensures counted { K.faults out.old ≤ K.faults out.new }
+    ensures eight { vec_len ports.new ≡ 8 }
+{
+    let mut machine = ready.machine;
+    go(&mut machine, ready.cycles, ports);
+    machine.dump(ports, out)
+}
+
+/// Writes what was prepared.
+pub fn deliver<K: Sink>(
+    prepared: Prepared,
+    ports: &mut Ports,
+    out: &mut K,
+) -> Result<(), PutFailed>
+    requires thread { IsThread prepared }
+    requires eight { vec_len ports.old ≡ 8 }
+    ensures ok { OnOk result ((written : List ℕ) → Delivers prepared (rows_of latched word_at ports.old.items) written → Appends (K.taken out.old) (K.taken out.new) written) }
+    ensures err { OnErr result ((written : List ℕ) → Delivers prepared (rows_of latched word_at ports.old.items) written → AppendsFront (K.taken out.old) (K.taken out.new) written) }
+    ensures failed { OnErr result (Rose (K.faults out.old) (K.faults out.new)) }
+    ensures counted { K.faults out.old ≤ K.faults out.new }
+    ensures eight { vec_len ports.new ≡ 8 }
+{
+    match prepared {
+        Prepared::Trace { ready, thread } => put_trace(ready, thread, ports, out),
+        Prepared::Dump(ready) => put_dump(ready, ports, out),
+        Prepared::Image(bytes) => out.put(&bytes),
+        Prepared::Bound(cycles) => out.put(bound_line(cycles).as_bytes()),
+    }
+}

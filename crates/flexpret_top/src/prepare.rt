@@ -1,0 +1,162 @@
+//! What a command will write, before the first byte of it is written.
+
+ghost use Rattle.std.specs.Prelude.{◌≡◌, ◌≢◌, ◌⊎◌, ◌≤◌, ◌<◌, Ok, Err, IfOk, IfErr, IfSome, List, Option, vec_len};
+ghost use Rattle.fp_ports.specs.Rows.{Row, rows_of};
+ghost use Rattle.ask_words.specs.Limits.{IsWithinLimits};
+ghost use Rattle.ask_words.specs.declared.asked.Ask.{Ask};
+ghost use Rattle.flexpret_top.specs.Assembled.{asm_answer};
+ghost use Rattle.flexpret_top.specs.Bound.{IsBoundAnswer};
+ghost use Rattle.flexpret_top.specs.Command.{IsAnswerIn};
+ghost use Rattle.flexpret_top.specs.Program.{program};
+ghost use Rattle.flexpret_top.specs.Prepared.{IsReady, IsThread, Prepares};
+ghost use Rattle.flexpret_top.specs.Stops.{IsStop};
+ghost use Rattle.flexpret_top.specs.declared.stop.Stop.TheVariants.{NoMemory};
+
+use crate::assembling::image_bytes;
+use crate::bound::section_bound;
+use crate::program::load;
+use crate::ready::{Prepared, Ready};
+use crate::stop::Stop;
+use ask_words::{Ask, Section};
+use fp_io::Files;
+use fp_ports::Ports;
+use machine::{Machine, feed_inputs};
+use std::alloc::Global;
+
+/// The machine of a setup and the image that it names, with the ports fed.
+fn ready<F: Files>(
+    alloc: Global,
+    setup: &str,
+    cycles: u64,
+    files: &mut F,
+    ports: &mut Ports,
+) -> Result<Ready, Stop>
+    requires limit { cycles ≤ 4000000000 }
+    requires eight { vec_len ports.old ≡ 8 }
+    ensures told { F.told files.new ≡ F.told files.old }
+    ensures counted { F.faults files.old ≤ F.faults files.new }
+    ensures ok { IfOk result (λ r. IfSome (F.told files.old) (λ told. IsReady told setup.now (rows_of latched word_at ports.old.items) (rows_of latched word_at ports.new.items) r)) }
+    ensures cycles { IfOk result (λ r. r.cycles ≡ cycles) }
+    ensures stop { IfErr result (IsStop (F.told files.old) (λ told x. program told setup.now ≡ Err x) (F.faults files.old) (F.faults files.new)) }
+    ensures kept { IfErr result (λ stop. stop ≢ NoMemory → ports.new ≡ ports.old) }
+    ensures eight { vec_len ports.new ≡ 8 }
+{
+    let program = load(alloc, setup, files)?;
+    let machine = Machine::load(alloc, &program.setup, &program.image)?;
+    feed_inputs(&program.setup, ports)?;
+    Ok(Ready { machine, cycles })
+}
+
+/// `run SETUP --thread i --cycles n`
+fn trace<F: Files>(
+    alloc: Global,
+    setup: &str,
+    thread: u8,
+    cycles: u64,
+    files: &mut F,
+    ports: &mut Ports,
+) -> Result<Prepared, Stop>
+    requires limit { cycles ≤ 4000000000 }
+    requires thread { thread < 8 }
+    requires eight { vec_len ports.old ≡ 8 }
+    ensures told { F.told files.new ≡ F.told files.old }
+    ensures counted { F.faults files.old ≤ F.faults files.new }
+    ensures ok { IfOk result (λ p. IfSome (F.told files.old) (λ told. Prepares (Ask.Run setup.now thread cycles) told (rows_of latched word_at ports.old.items) (rows_of latched word_at ports.new.items) p)) }
+    ensures thread { IfOk result IsThread }
+    ensures stop { IfErr result (IsStop (F.told files.old) (IsAnswerIn (Ask.Run setup.now thread cycles) (rows_of latched word_at ports.old.items)) (F.faults files.old) (F.faults files.new)) }
+    ensures kept { IfErr result (λ stop. stop ≢ NoMemory → ports.new ≡ ports.old) }
+    ensures eight { vec_len ports.new ≡ 8 }
+{
+    let ready = ready(alloc, setup, cycles, files, ports)?;
+    Ok(Prepared::Trace { ready, thread })
+}
+
+/// `dump SETUP --cycles n`
+fn dump<F: Files>(
+    alloc: Global,
+    setup: &str,
+    cycles: u64,
+    files: &mut F,
+    ports: &mut Ports,
+) -> Result<Prepared, Stop>
+    requires limit { cycles ≤ 4000000000 }
+    requires eight { vec_len ports.old ≡ 8 }
+    ensures told { F.told files.new ≡ F.told files.old }
+    ensures counted { F.faults files.old ≤ F.faults files.new }
+    ensures ok { IfOk result (λ p. IfSome (F.told files.old) (λ told. Prepares (Ask.Dump setup.now cycles) told (rows_of latched word_at ports.old.items) (rows_of latched word_at ports.new.items) p)) }
+    ensures thread { IfOk result IsThread }
+    ensures stop { IfErr result (IsStop (F.told files.old) (IsAnswerIn (Ask.Dump setup.now cycles) (rows_of latched word_at ports.old.items)) (F.faults files.old) (F.faults files.new)) }
+    ensures kept { IfErr result (λ stop. stop ≢ NoMemory → ports.new ≡ ports.old) }
+    ensures eight { vec_len ports.new ≡ 8 }
+{
+    Ok(Prepared::Dump(ready(alloc, setup, cycles, files, ports)?))
+}
+
+/// `asm SOURCE`
+fn image<F: Files>(alloc: Global, source: &str, files: &mut F) -> Result<Prepared, Stop>
+    ensures told { F.told files.new ≡ F.told files.old }
+    ensures counted { F.faults files.old ≤ F.faults files.new }
+    ensures ok { IfOk result (λ p. IfSome (F.told files.old) (λ told. (before after : List (Option Row)) → Prepares (Ask.Asm source.now) told before after p)) }
+    ensures thread { IfOk result IsThread }
+    ensures stop { IfErr result (IsStop (F.told files.old) (λ told x. x ≡ asm_answer told source.now) (F.faults files.old) (F.faults files.new)) }
+{
+    Ok(Prepared::Image(image_bytes(alloc, source, files)?))
+}
+
+/// `bound SETUP --thread i --from a --to b`
+fn bound<F: Files>(
+    alloc: Global,
+    setup: &str,
+    thread: u8,
+    section: Section,
+    files: &mut F,
+) -> Result<Prepared, Stop>
+    requires thread { thread < 8 }
+    ensures told { F.told files.new ≡ F.told files.old }
+    ensures counted { F.faults files.old ≤ F.faults files.new }
+    ensures ok { IfOk result (λ p. IfSome (F.told files.old) (λ told. (before after : List (Option Row)) → Prepares (Ask.Bound setup.now thread section) told before after p)) }
+    ensures thread { IfOk result IsThread }
+    ensures stop { IfErr result (IsStop (F.told files.old) (λ told x. IsBoundAnswer (program told setup.now) thread (record { from = section.from; to = section.to }) x) (F.faults files.old) (F.faults files.new)) }
+{
+    let program = load(alloc, setup, files)?;
+    let section = region_tree::Section {
+        from: section.from,
+        to: section.to,
+    };
+    Ok(Prepared::Bound(section_bound(
+        alloc, &program, thread, section,
+    )?))
+}
+
+/// What a command will write, with the ports fed where it runs the machine.
+pub fn prepare<F: Files>(
+    alloc: Global,
+    ask: &Ask,
+    files: &mut F,
+    ports: &mut Ports,
+) -> Result<Prepared, Stop>
+    requires limits { IsWithinLimits ask.now }
+    requires eight { vec_len ports.old ≡ 8 }
+    ensures told { F.told files.new ≡ F.told files.old }
+    ensures counted { F.faults files.old ≤ F.faults files.new }
+    ensures ok { IfOk result (λ p. IfSome (F.told files.old) (λ told. Prepares ask.now told (rows_of latched word_at ports.old.items) (rows_of latched word_at ports.new.items) p)) }
+    ensures thread { IfOk result IsThread }
+    ensures stop { IfErr result (IsStop (F.told files.old) (IsAnswerIn ask.now (rows_of latched word_at ports.old.items)) (F.faults files.old) (F.faults files.new)) }
+    ensures kept { IfErr result (λ stop. stop ≢ NoMemory → ports.new ≡ ports.old) }
+    ensures eight { vec_len ports.new ≡ 8 }
+{
+    match ask {
+        Ask::Run {
+            setup,
+            thread,
+            cycles,
+        } => trace(alloc, setup.as_str(), *thread, *cycles, files, ports),
+        Ask::Dump { setup, cycles } => dump(alloc, setup.as_str(), *cycles, files, ports),
+        Ask::Asm { source } => image(alloc, source.as_str(), files),
+        Ask::Bound {
+            setup,
+            thread,
+            section,
+        } => bound(alloc, setup.as_str(), *thread, *section, files),
+    }
+}

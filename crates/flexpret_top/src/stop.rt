@@ -1,0 +1,58 @@
+//! Why a command ends before its text.
+
+use crate::status::Status;
+use std::alloc::AllocError;
+use trace_print::Refusal;
+
+/// What a refusal speaks of.
+#[derive(Clone, Copy, Debug, PartialEq, Eq)]
+pub enum Cause {
+    /// The setup, or the section that a bound is asked for.
+    Setup,
+    /// The image.
+    Image,
+    /// The source of an image.
+    Source,
+    /// The bound of a section.
+    Bound,
+}
+
+impl Cause {
+    ghost use Rattle.std.specs.Prelude.{◌≡◌};
+    ghost use Rattle.flexpret_top.specs.Status.{number_of};
+    ghost use Rattle.flexpret_top.specs.Stops.{number_of_cause};
+
+    /// The status of such a refusal.
+    pub fn status(self) -> Status
+        ensures { number_of result ≡ number_of_cause self }
+    {
+        match self {
+            Cause::Setup => Status::Setup,
+            Cause::Image => Status::Image,
+            Cause::Source => Status::Source,
+            Cause::Bound => Status::Bound,
+        }
+    }
+}
+
+/// Why a command ends before its text.
+#[derive(Clone, Copy, Debug, PartialEq, Eq)]
+pub enum Stop {
+    /// Something has a fault.
+    Refused(Cause, Refusal),
+    /// A file isn't there, or could not be read.
+    Read,
+    /// Memory was refused.
+    NoMemory,
+}
+
+impl From<AllocError> for Stop {
+    ghost use Rattle.std.specs.Prelude.{◌≡◌};
+    ghost use Rattle.flexpret_top.specs.declared.stop.Stop.TheVariants.{NoMemory};
+
+    ghost from_gives = { λ _ stop. stop ≡ NoMemory };
+
+    fn from(_error: AllocError) -> Stop {
+        Stop::NoMemory
+    }
+}
