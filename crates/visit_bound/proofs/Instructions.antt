@@ -7,14 +7,14 @@ use Rattle.rv_decode.specs.declared.instruction.Ins.{Ins}
 use Rattle.rv_decode.specs.declared.instruction.Ins.TheVariants as i
 use Rattle.rv_exec.specs.declared.outcome.Effect.{Effect}
 use Rattle.rv_exec.specs.declared.outcome.Effect.TheVariants.{Nothing, Reg, Store, Csr, Trap, Wait}
-use Rattle.rv_exec.specs.Access.{is_aligned, store_size}
+use Rattle.rv_exec.specs.Access.{is_aligned}
 use Rattle.rv_exec.specs.Result.{result_of, unless, offset}
 use Rattle.rv_exec.specs.Words.{word}
 use Rattle.core_model.specs.declared.own.CsrOp.{CsrOp}
 use Rattle.core_model.specs.declared.own.Own.{Own}
 use Rattle.core_model.specs.Thread.{Around, Contents, Did, Thread, filled, reg_effect, reg_in}
-use Rattle.core_model.specs.Parts.{plain, wrote, load, store, went, branch, trapped, with_high, with_armed}
-use Rattle.core_model.specs.Control.{csr_access, csr_done, csr_put, csr_value, csr_written, with_csr, may_hold, changed, kept}
+use Rattle.core_model.specs.Parts.{plain, load, store, went, branch, trapped, with_high, with_armed}
+use Rattle.core_model.specs.Control.{csr_access, csr_done, csr_value, csr_written, with_csr, may_hold, changed, kept}
 use Rattle.core_model.specs.Issue.{act, acts_on, csr_op, csr_operand, csr_writes, effect_of, goes, issue, late_rd, run, source_1, source_2, unless_trap, value_in}
 use Rattle.region_tree.specs.declared.edges.Edges.{Edges}
 use Rattle.region_tree.specs.declared.edges.Stop.TheVariants.{No}

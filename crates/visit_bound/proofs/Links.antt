@@ -6,7 +6,7 @@ use Rattle.core_model.specs.Memory.{code_at}
 use Rattle.core_model.specs.Thread.{Thread}
 use Rattle.region_tree.proofs.GraphLaws.{reachable-aligned, reachable-lies}
 use Rattle.region_tree.specs.Edges.{edges_of}
-use Rattle.region_tree.specs.Graph.{Edge, Lies, Reachable, edge_list}
+use Rattle.region_tree.specs.Graph.{Edge, Lies, Reachable}
 use Rattle.region_tree.specs.Tree.{IsTree, Tree, graph, word_at}
 use Rattle.region_tree.specs.Walk.{IsOwn}
 use Rattle.region_tree.specs.declared.edges.Stop.{Stop}
@@ -15,11 +15,11 @@ use Rattle.slot_scheduler.specs.ModeWord.{mode_of}
 use Rattle.slot_table.specs.Frame.{frame}
 use Rattle.timer_unit.specs.Time.{time}
 use Rattle.bound_calc.specs.Bound.{course, positions}
-use Rattle.world_model.specs.World.{Start, contents, is_quiet, issue_of, leaves_registers, recent, surroundings, thread_of, world}
+use Rattle.world_model.specs.World.{Start, contents, issue_of, leaves_registers, recent, surroundings, thread_of, world}
 use Rattle.isolation.proofs.Induction.{quiet_before}
 use Rattle.visit_bound.proofs.Cycles.{Goes, Going, Stays, begins, cycles, goes_on}
 use Rattle.visit_bound.proofs.Instructions.{Gone, issue-goes}
-use Rattle.visit_bound.specs.Laws.{AreLinked, Follows, IsHost, IssuesFollowEdges}
+use Rattle.visit_bound.specs.Laws.{AreLinked, Follows, IssuesFollowEdges}
 use Rattle.visit_bound.specs.Visits.{Issued, is_trap, issues_of}
 
 -- a cycle at a position of the hart's own
@@ -158,14 +158,14 @@ linked t s i (suc c) is number eight hard words quiet = onto (linked t s i c is 
         go (inl g) = record {
           going = more;
           links = subst (λ k. AreLinked (course t s.registers.slots i) k) (sym g.issues)
-            (linked-more t s i l (record { cycle = c; pc = th.pc; traps = is_trap (issue_of s c (recent s c).now i).effect }) y.links g.own (link-of t s i c l th (is_trap (issue_of s c (recent s c).now i).effect) y.pending g.own g.ready));
+              (linked-more t s i l (record { cycle = c; pc = th.pc; traps = is_trap (issue_of s c (recent s c).now i).effect }) y.links g.own (link-of t s i c l th (is_trap (issue_of s c (recent s c).now i).effect) y.pending g.own g.ready));
           pending = subst (λ k. Pending t s i (suc c) k (thread_of (recent s (suc c)).now i)) (sym g.issues) (pending-new t s i c is words g l);
         }
         go (inr g) = record {
           going = more;
           links = subst (λ k. AreLinked (course t s.registers.slots i) k) (sym g.issues) y.links;
           pending = subst (λ k. Pending t s i (suc c) k (thread_of (recent s (suc c)).now i)) (sym g.issues)
-            (subst (λ u. Pending t s i (suc c) l u) (sym g.thread) (pending-same t s i c g l y.pending));
+              (subst (λ u. Pending t s i (suc c) l u) (sym g.thread) (pending-same t s i c g l y.pending));
         }
 
 pub issues_follow_edges : IssuesFollowEdges
