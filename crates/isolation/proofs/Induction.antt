@@ -120,7 +120,7 @@ unfolding world
 quiet_longer s n zero q = rw add-zero at q
 quiet_longer s n (suc m) q = quiet_longer s n m (quiet_before s (n + m) (rw add-suc at q))
 
-quiet_earlier : (s : Start) (n : ℕ) → is_quiet s n ≡ true → is_quiet s (n - 4) ≡ true
+pub quiet_earlier : (s : Start) (n : ℕ) → is_quiet s n ≡ true → is_quiet s (n - 4) ≡ true
 quiet_earlier s n q =
     let m : ℕ = n - (n - 4) in
     let e : n ≡ (n - 4) + m = omega arith in

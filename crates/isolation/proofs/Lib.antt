@@ -8,3 +8,5 @@ pub mod Outside
 pub mod Steps
 pub mod Induction
 mod Equal
+mod Found
+mod Free

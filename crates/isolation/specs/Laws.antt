@@ -5,6 +5,7 @@ use Rattle.slot_scheduler.specs.ModeWord.{mode_of}
 use Rattle.core_model.specs.Solo.{solo}
 use Rattle.world_model.specs.World.{Start, events, is_quiet}
 use Rattle.world_model.specs.Viewed.{view}
+use Rattle.isolation.specs.Wide.{wide_view, wide_solo}
 
 -- hart i is one of the eight, confined, without a permit, and hard active at the start
 pub record IsConfined (s : Start) (i : ℕ) : Type 0 where
@@ -28,3 +29,15 @@ EqualViews = (s t : Start) (i n : ℕ) → IsConfined s i → IsConfined t i →
 -- where no hart has a permit, every run is quiet
 abbrev pub QuietUnpermitted : Type 0
 QuietUnpermitted = (s : Start) → ((k : ℕ) → slice_index_or s.permit k false ≡ false) → (n : ℕ) → is_quiet s n ≡ true
+
+-- hart i is one of the eight, not confined, and hard active at the start
+pub record IsHard (s : Start) (i : ℕ) : Type 0 where
+  pub size : IsSize s.size
+  pub thread : i < 8
+  pub eight : length s.threads ≡ 8
+  pub free : slice_index_or s.confined i true ≡ false
+  pub hard : mode_of s.registers.modes i ≡ 0
+
+-- in a quiet run the events of such a hart are those of the definition of one hart over its wide view
+abbrev pub WideIsolation : Type 0
+WideIsolation = (s : Start) (i n : ℕ) → IsHard s i → is_quiet s n ≡ true → events s i n ≡ wide_solo (wide_view s i n) n

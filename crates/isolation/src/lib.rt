@@ -2,7 +2,7 @@
 //! contract of a call that does nothing; its statement stands in specs/Laws.antt.
 #![tactic(auto)]
 
-ghost use Rattle.isolation.specs.Laws.{EqualViews, Isolation, QuietUnpermitted};
+ghost use Rattle.isolation.specs.Laws.{EqualViews, Isolation, QuietUnpermitted, WideIsolation};
 
 /// A confined hard hart runs as if it were alone: in a quiet run its events are those of the
 /// definition of one hart, over its view.
@@ -18,4 +18,10 @@ pub fn shows_equal_events()
 /// Without a permit, no run of any length writes one of the machine's own registers.
 pub fn stays_quiet()
     ensures { QuietUnpermitted }
+{}
+
+/// A hard hart that isn't confined runs by its wide view: in a quiet run its events are those of the
+/// definition of one hart, over the view and what its loads find where others may write.
+pub fn runs_by_wide_view()
+    ensures { WideIsolation }
 {}

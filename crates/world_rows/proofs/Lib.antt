@@ -1,0 +1,7 @@
+mod Drive
+mod Slots
+mod Time
+mod Traps
+mod Latches
+mod Random
+mod Wide
