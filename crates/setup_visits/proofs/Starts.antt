@@ -1,5 +1,5 @@
 -- The start of a machine that is alike is one that the law of visits speaks of.
-use Rattle.std.proofs.Common.{◌≡◌, ◌⊎◌, inl, inr, ℕ, ◌+◌, ◌-◌, ◌*◌, ◌/◌, ◌%◌, ◌<◌, ◌≤◌, Bool, true, false, List, refl, ap, sym, ◌∙◌, subst, arith, map, length}
+use Rattle.std.proofs.Common.{◌≡◌, ◌⊎◌, inl, inr, ℕ, ◌+◌, ◌-◌, ◌*◌, ◌/◌, ◌%◌, ◌<◌, ◌≤◌, Bool, true, false, List, refl, ap, sym, ◌∙◌, arith, map}
 use Rattle.std.specs.Prelude.{if◌then◌else◌, nat_lt, slice_index_or}
 use Rattle.std.specs.List.{range_with_len}
 use Rattle.std.proofs.Math.Nat.{mod-eq_of_lt}
@@ -11,8 +11,7 @@ use Rattle.fp_image.specs.declared.parts.Segment.{Segment}
 use Rattle.fp_setup.specs.Settings.{Settings, size_of}
 use Rattle.core_model.specs.Memory.{code_at}
 use Rattle.region_guard.specs.Regions.{index_of}
-use Rattle.region_tree.specs.Graph.{Lies}
-use Rattle.region_tree.specs.Tree.{IsTree, Tree, graph, tree_of, word_at, words_of}
+use Rattle.region_tree.specs.Tree.{IsTree, tree_of, word_at, words_of}
 use Rattle.region_tree.specs.declared.section.Section.{Section}
 use Rattle.setup_model.specs.Start.{start, words_from}
 use Rattle.setup_laws.specs.Laws.{Machine}
@@ -57,8 +56,8 @@ alike-start setup image s i m n is h = record {
   hard = h.hard;
   same_slots = h.same_slots;
   same_words = λ u a l lt.
-    code-word m.image (size_of m.setup.version) u (size-even m.setup.version h.rules.version) a lt
-    ∙ (h.same_words u a l.low l.high ∙ sym (section-word image s setup.loops u is.draft.section.from_aligned is.draft.section.to_aligned a l.low l.high));
+      code-word m.image (size_of m.setup.version) u (size-even m.setup.version h.rules.version) a lt
+      ∙ (h.same_words u a l.low l.high ∙ sym (section-word image s setup.loops u is.draft.section.from_aligned is.draft.section.to_aligned a l.low l.high));
 }
 
 pub visits_stay_bounded : VisitsAreBounded → VisitsStayBounded
