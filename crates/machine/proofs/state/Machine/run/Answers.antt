@@ -1,6 +1,5 @@
-use Rattle.std.proofs.Common.{◌≡◌, ◌+◌, ◌<◌, arith, ap, ◌∙◌}
+use Rattle.std.proofs.Common.{◌+◌, ◌<◌, arith, ap, ◌∙◌}
 use Rattle.std.proofs.lemmas.Result.{err_from_is_err_and}
-use Rattle.fp_ports.specs.Rows.{rows_of}
 use Rattle.machine.proofs.RunLemmas.{run_begins, run_on, run_stops}
 use Rattle.machine.proofs.state.Machine.run.Goals as goal
 

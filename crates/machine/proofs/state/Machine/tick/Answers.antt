@@ -1,6 +1,5 @@
-use Rattle.std.proofs.Common.{◌≡◌, length, vec_len, refl, arith, ◌∙◌}
+use Rattle.std.proofs.Common.{◌≡◌, length, refl, arith, ◌∙◌}
 use Rattle.std.proofs.lemmas.List.{length-map}
-use Rattle.fp_ports.specs.Rows.{rows_of}
 use Rattle.machine.proofs.RunLemmas.{ticks}
 use Rattle.machine.proofs.state.Machine.tick.Goals as goal
 
