@@ -2,5 +2,6 @@ mod Bounds
 mod Cuts
 mod Delivering
 mod Ending
+mod Headlines
 mod Preparing
 mod Usage

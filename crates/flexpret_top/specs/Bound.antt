@@ -8,8 +8,8 @@ use Rattle.fp_setup.specs.Settings.{Settings, size_of}
 use Rattle.fp_image.specs.Rules.{word}
 use Rattle.region_tree.specs.declared.section.Section.{Section}
 use Rattle.region_tree.specs.declared.tree.TreeNo.{TreeNo}
-use Rattle.region_tree.specs.Refusals.{IsAllowed, IsRefused}
-use Rattle.region_tree.specs.Tree.{Tree, graph, tree_of}
+use Rattle.region_tree.specs.Refusals.{IsRefused}
+use Rattle.region_tree.specs.Tree.{IsTree, Tree, graph, tree_of}
 use Rattle.bound_calc.specs.Bound.{IsBound, course}
 use Rattle.trace_print.specs.Bounds.{bound_text}
 use Rattle.trace_print.specs.declared.refusals.Refusal.TheVariants as refusal
@@ -46,7 +46,7 @@ pub record IsTreeRefused (t : Tree) (x : Answer) : Type 0 where
 
 -- it has a bound, but that has more than 64 bits
 pub record IsTooLarge (t : Tree) (slots i : ℕ) (x : Answer) : Type 0 where
-  pub allowed : IsAllowed (graph t)
+  pub accepted : IsTree t
   pub cycles : ℕ
   pub is : IsBound (course t slots i) cycles
   pub large : 2 ^ 64 ≤ cycles
@@ -54,7 +54,7 @@ pub record IsTooLarge (t : Tree) (slots i : ℕ) (x : Answer) : Type 0 where
 
 -- it has a bound: the largest cost of a walk through it that keeps the loops' bounds, by the turns of the thread
 pub record IsBounded (t : Tree) (slots i : ℕ) (x : Answer) : Type 0 where
-  pub allowed : IsAllowed (graph t)
+  pub accepted : IsTree t
   pub cycles : ℕ
   pub is : IsBound (course t slots i) cycles
   pub small : cycles < 2 ^ 64

@@ -7,4 +7,5 @@ pub mod Bound
 pub mod Command
 pub mod Stops
 pub mod Prepared
+pub mod Headline
 pub mod Status

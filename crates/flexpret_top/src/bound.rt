@@ -1,8 +1,7 @@
 //! The bound of a section of a program.
 
 ghost use Rattle.std.specs.Prelude.{◌≡◌, ◌<◌, ◌≤◌, ◌↔◌, IsTrue, Some, Ok, IfOk, IfErr, OnOk, None, Contains, length};
-ghost use Rattle.region_tree.specs.Tree.{IsSection, graph};
-ghost use Rattle.region_tree.specs.Refusals.{IsAllowed};
+ghost use Rattle.region_tree.specs.Tree.{IsSection, IsTree};
 ghost use Rattle.flexpret_top.specs.Answer.Answer.{Says};
 ghost use Rattle.trace_print.specs.Bounds.{bound_text};
 ghost use Rattle.flexpret_top.specs.Bound.{IsBoundAnswer, IsTreeRefused, IsTreeAnswer, names, section_fault, section_tree};
@@ -84,7 +83,7 @@ fn bound_stop(no: BoundNo) -> Stop
 fn tree_in(alloc: Global, program: &Program, section: Section) -> Result<LoopTree, Stop>
     requires { IsSection section }
     ensures tree { IfOk result (λ tree. tree ≡ section_tree program.now section) }
-    ensures allowed { OnOk result (IsAllowed (graph (section_tree program.now section))) }
+    ensures rules { OnOk result (IsTree (section_tree program.now section)) }
     ensures stop { IfErr result (IsAnswerStop (IsTreeRefused (section_tree program.now section))) }
 {
     match LoopTree::build(alloc, &program.image, section, &program.setup.loops) {

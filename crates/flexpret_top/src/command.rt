@@ -7,6 +7,7 @@ ghost use Rattle.ask_words.specs.Commands.{ask};
 ghost use Rattle.ask_words.specs.Limits.{IsWithinLimits};
 ghost use Rattle.flexpret_top.specs.Answer.Answer.{Missing};
 ghost use Rattle.flexpret_top.specs.Command.{IsAnswer, IsAnswerIn, IsApart, IsApartBy, Leaves, LeavesBy, Said, Began, Answered};
+ghost use Rattle.flexpret_top.specs.Headline.{BoundsVisits, WritesAlone};
 ghost use Rattle.flexpret_top.specs.Status.{IsStatus, number_of};
 ghost use Rattle.flexpret_top.specs.declared.stop.Stop.{Stop};
 ghost use Rattle.flexpret_top.specs.Stops.{Ends, number_of_cause};
@@ -18,6 +19,8 @@ use crate::stop::{Cause, Stop};
 use ask_words::{Ask, WordsNo, read_words};
 use fp_io::{Files, PutFailed, Sink};
 use fp_ports::Ports;
+use setup_laws::traces_alone;
+use setup_visits::stays_bounded;
 use std::alloc::Global;
 use trace_print::{Refusal, refusal_line};
 
@@ -122,11 +125,16 @@ pub fn flexpret<F: Files, K: Sink>(
     ensures counted_files { F.faults files.old ≤ F.faults files.new }
     ensures counted_out { K.faults out.old ≤ K.faults out.new }
     ensures told { F.told files.new ≡ F.told files.old }
+    ensures alone { result ≡ 0 → IfSome (F.told files.old) (λ told. WritesAlone (ask (map string_bytes words.now)) told (rows_of latched word_at ports.old.items) (K.taken out.old) (K.taken out.new)) }
+    ensures visits { result ≡ 0 → IfSome (F.told files.old) (λ told. BoundsVisits (ask (map string_bytes words.now)) told (K.taken out.old) (K.taken out.new)) }
     ensures ports { result ≡ 0 → IfSome (F.told files.old) (λ told. LeavesBy (ask (map string_bytes words.now)) told (rows_of latched word_at ports.old.items) (rows_of latched word_at ports.new.items)) }
     ensures kept { 1 ≤ result → result ≤ 7 → ports.new ≡ ports.old }
     ensures apart { IsApartBy (ask (map string_bytes words.now)) → ports.new ≡ ports.old }
     ensures eight { vec_len ports.new ≡ 8 }
 {
+    // The laws by which one hart's trace and visits don't hang on what the others run.
+    traces_alone();
+    stays_bounded();
     match read_words(alloc, words) {
         Ok(ask) => answer(alloc, &ask, files, out, ports).number(),
         Err(WordsNo::Usage) => Status::Usage.number(),

@@ -86,6 +86,7 @@ impl LoopTree {
         requires { IsSection section }
         ensures tree { IfOk result (λ tree. tree ≡ tree_of (word image.now) section loops.now) }
         ensures allowed { OnOk result (IsAllowed (graph (tree_of (word image.now) section loops.now))) }
+        ensures rules { IfOk result IsTree }
         ensures refused { IfErr result (IsRefused (graph (tree_of (word image.now) section loops.now))) }
     {
         let draft = Draft::new(alloc, image, section, loops)?;

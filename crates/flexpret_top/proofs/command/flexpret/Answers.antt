@@ -2,6 +2,8 @@ use Rattle.std.proofs.Common.{map}
 use Rattle.std.specs.Prelude.{string_bytes}
 use Rattle.fp_ports.specs.Rows.{rows_of}
 use Rattle.flexpret_top.proofs.Ending.{complete-of}
+use Rattle.ask_words.specs.Commands.{ask}
+use Rattle.flexpret_top.proofs.Headlines.{alone-of, said-zero, visits-of}
 use Rattle.flexpret_top.proofs.Usage.{usage-said, usage-answered}
 use Rattle.flexpret_top.proofs.command.flexpret.Goals as goal
 
@@ -22,3 +24,23 @@ returns-in-Ok-clause-complete g c no_fetch_fault no_put_fault =
     let rows = rows_of (λ b. (goal.Port-dyn g (b.vtable, b.value)).latched b.value) (λ b. (goal.Port-dyn g (b.vtable, b.value)).word_at b.value) c.args.ports.now.items in
     complete-of (g.F.Files.told c.args.files.now) (map string_bytes c.args.words.now) c.in-Ok.ask rows c.answer.result c.number.result c.in-Ok.ensures.asked c.number.ensures
       (c.answer.ensures.complete no_fetch_fault no_put_fault)
+
+pub returns-in-Ok-clause-alone : goal.returns-in-Ok-clause-alone
+returns-in-Ok-clause-alone g c zero =
+    let told = g.F.Files.told c.args.files.now in
+    let words = map string_bytes c.args.words.now in
+    let rows = rows_of (λ b. (goal.Port-dyn g (b.vtable, b.value)).latched b.value) (λ b. (goal.Port-dyn g (b.vtable, b.value)).word_at b.value) c.args.ports.now.items in
+    let before = g.K.Sink.taken c.args.out.now in
+    let after = g.K.Sink.taken c.answer.new.out in
+    let said = said-zero told words c.in-Ok.ask rows c.answer.result c.number.result before after c.in-Ok.ensures.asked c.number.ensures zero c.answer.ensures.said in
+    alone-of c.traces_alone.ensures told (ask words) rows before after said
+
+pub returns-in-Ok-clause-visits : goal.returns-in-Ok-clause-visits
+returns-in-Ok-clause-visits g c zero =
+    let told = g.F.Files.told c.args.files.now in
+    let words = map string_bytes c.args.words.now in
+    let rows = rows_of (λ b. (goal.Port-dyn g (b.vtable, b.value)).latched b.value) (λ b. (goal.Port-dyn g (b.vtable, b.value)).word_at b.value) c.args.ports.now.items in
+    let before = g.K.Sink.taken c.args.out.now in
+    let after = g.K.Sink.taken c.answer.new.out in
+    let said = said-zero told words c.in-Ok.ask rows c.answer.result c.number.result before after c.in-Ok.ensures.asked c.number.ensures zero c.answer.ensures.said in
+    visits-of c.stays_bounded.ensures told (ask words) rows before after said
