@@ -11,7 +11,9 @@ use crate::fetch::{fetch, redirect_to};
 use crate::units::Units;
 use crate::write::{retire, write_back, written};
 use fp_ports::{Port, Ports};
-use pipe_model::{Decoded, Executed, Fetched, Held, Stored, Written, keeps_standing, starts_standing};
+use pipe_model::{
+    Decoded, Executed, Fetched, Held, Stored, Written, keeps_standing, starts_standing,
+};
 use rv_exec::Event;
 
 /// What stands between the stages: the turns of the last five cycles. Before cycle c, `f` holds the
@@ -94,9 +96,10 @@ impl Pipe {
         ensures eight { vec_len ports.new ≡ 8 }
         ensures showable { IsEventShowable result }
     {
-        let pick = units
-            .scheduler
-            .pick(&units.sched, cycle, units.clock.now(cycle));
+        let now = units.clock.now(cycle);
+        let before = units.clock.now(cycle.saturating_sub(1));
+        let earlier = units.clock.now(cycle.saturating_sub(2));
+        let pick = units.scheduler.pick(&units.sched, cycle, now);
         let event = retire(&self.m, cycle.saturating_sub(4));
         write_back(&mut units.bank, &self.m);
         self.w = written(&self.m);
@@ -116,27 +119,22 @@ impl Pipe {
             &mut units.traps,
             &units.confined,
             &units.permit,
-            units.clock.now(cycle.saturating_sub(2)),
+            earlier,
             &self.d,
         );
+        let redirect = executed.redirect;
         self.e = executed.e;
-        redirect_to(&mut self.next, executed.redirect);
+        redirect_to(&mut self.next, redirect);
         self.d = read(
             &units.bank,
             &self.m,
             &self.e,
             &units.timers,
-            executed.redirect,
-            units.clock.now(cycle.saturating_sub(1)),
+            redirect,
+            before,
             &self.f,
         );
-        self.f = fetch(
-            &units.guard,
-            &units.imem,
-            executed.redirect,
-            &mut self.next,
-            pick,
-        );
+        self.f = fetch(&units.guard, &units.imem, redirect, &mut self.next, pick);
         event
     }
 }
