@@ -58,11 +58,8 @@ impl Image {
         self.segments.as_slice()
     }
 
-    /// The word of the instruction scratchpad at an address, a multiple of four below 65,536: 0
-    /// where no segment has it.
-    pub fn code_word(&self, address: u32) -> u32
-        requires aligned { address % 4 ≡ 0 }
-        requires inside { address < 65536 }
+    /// The word at an address: 0 where no segment has all of its bytes.
+    pub fn word(&self, address: u32) -> u32
         ensures { result ≡ word self.now address }
     {
         for segment in &self.segments {
@@ -71,6 +68,16 @@ impl Image {
             }
         }
         0
+    }
+
+    /// The word of the instruction scratchpad at an address, a multiple of four below 65,536: 0
+    /// where no segment has it.
+    pub fn code_word(&self, address: u32) -> u32
+        requires aligned { address % 4 ≡ 0 }
+        requires inside { address < 65536 }
+        ensures { result ≡ word self.now address }
+    {
+        self.word(address)
     }
 }
 
