@@ -1,15 +1,13 @@
 -- Registers, with what is on its way to them.
-use Rattle.std.proofs.Common.{◌≡◌, ℕ, ◌-◌, Bool, true, false, List, Some, None, length, refl, arith}
+use Rattle.std.proofs.Common.{◌≡◌, ℕ, ◌-◌, Bool, true, false, List, Some, None, length, refl}
 use Rattle.std.specs.Prelude.{if◌then◌else◌, Option, ◌==◌, slice_set}
 use Rattle.std.proofs.lemmas.List.{length-set}
-use Rattle.std.proofs.lemmas.Bool.Decides.{nat_tests}
 use Rattle.rv_exec.specs.declared.outcome.Effect.{Effect}
 use Rattle.rv_exec.specs.declared.outcome.Effect.TheVariants.{Nothing, Reg, Store, Csr, Trap, Wait}
 use Rattle.pipe_model.specs.declared.latches.Held.{Held}
 use Rattle.pipe_model.specs.declared.latches.Held.TheVariants.{Bubble, Flushed, Issue}
 use Rattle.pipe_model.specs.declared.latches.Stored.{Stored}
-use Rattle.pipe_model.specs.declared.latches.Executed.{Executed}
-use Rattle.pipe_model.specs.Stages.{forward, from_m, from_e}
+use Rattle.pipe_model.specs.Stages.{forward, from_m}
 
 -- their number stays
 forward-length : (e : Option Effect) (regs : List ℕ) → length (forward e regs) ≡ length regs
@@ -25,15 +23,11 @@ forward-length (Some (Csr n x y z)) regs = refl
 forward-length (Some (Trap x y)) regs = refl
 forward-length (Some Wait) regs = refl
 
-pub from_m-length : (k : ℕ) (m : Held Stored) (regs : List ℕ) → length (from_m k m regs) ≡ length regs
-from_m-length k Bubble regs = refl
-from_m-length k (Flushed j) regs = refl
-from_m-length k (Issue j x) regs = go (j == k)
+pub from_m_length : (k : ℕ) (m : Held Stored) (regs : List ℕ) → length (from_m k m regs) ≡ length regs
+from_m_length k Bubble regs = refl
+from_m_length k (Flushed j) regs = refl
+from_m_length k (Issue j x) regs = go (j == k)
   where
     go : (b : Bool) → length (if b then forward x.effect regs else regs) ≡ length regs
     go true = forward-length x.effect regs
     go false = refl
-
--- a turn of the same thread is looked at
-pub from_e-here : (k j : ℕ) (x : Executed) (regs : List ℕ) → j ≡ k → from_e k (Issue j x) regs ≡ forward x.effect regs
-from_e-here k j x regs h = let e : (j == k) ≡ true = grind (arith, nat_tests) in rw e refl

@@ -46,14 +46,15 @@ fn settled(bank: &Bank, m: &Held<Stored>, thread: u8, x: u8) -> u32
     let older = bank.read(thread, x);
     match m {
         Held::Issue {
-            thread: other,
+            thread: stored,
             what,
-        } if *other == thread => newer(what.effect, x, older),
+        } if *stored == thread => newer(what.effect, x, older),
         _ => older,
     }
 }
 
 /// A thread's register by the bank and the turns in `m` and `e`, of which the younger counts.
+#[tactic(auto, using(crate::proofs::Forwarding::from_m_length))]
 fn source(bank: &Bank, m: &Held<Stored>, e: &Held<Executed>, thread: u8, x: u8) -> u32
     requires thread { thread < 8 }
     requires x { x < 32 }
@@ -64,9 +65,9 @@ fn source(bank: &Bank, m: &Held<Stored>, e: &Held<Executed>, thread: u8, x: u8) 
     let older = settled(bank, m, thread, x);
     match e {
         Held::Issue {
-            thread: other,
+            thread: executed,
             what,
-        } if *other == thread => newer(what.effect, x, older),
+        } if *executed == thread => newer(what.effect, x, older),
         _ => older,
     }
 }

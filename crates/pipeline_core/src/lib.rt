@@ -15,3 +15,6 @@ mod write;
 pub use pipe::Pipe;
 pub use pipe_model::{Decoded, Executed, Fetched, Held, Stored, Written};
 pub use units::Units;
+
+#[cfg(test)]
+mod tests;

@@ -2,7 +2,6 @@
 
 ghost use Rattle.std.specs.Prelude.{◌≡◌, All};
 ghost use Rattle.std.proofs.Props.{props};
-ghost use Rattle.pipe_model.specs.Laws.{empty};
 ghost use Rattle.pipeline_core.specs.Fits.{IsPc, FetchedFits, DecodedFits, ExecutedFits, StoredFits, WrittenFits, FetchedFits-prop, DecodedFits-prop, ExecutedFits-prop, StoredFits-prop, WrittenFits-prop};
 
 use crate::access::{access, store};
@@ -12,7 +11,9 @@ use crate::fetch::{fetch, redirect_to};
 use crate::units::Units;
 use crate::write::{retire, write_back, written};
 use fp_ports::{Port, Ports};
-use pipe_model::{Decoded, Executed, Fetched, Held, Stored, Written, keeps_standing};
+use pipe_model::{
+    Decoded, Executed, Fetched, Held, Stored, Written, keeps_standing, starts_standing,
+};
 use rv_exec::Event;
 
 /// What stands between the stages: the turns of the last five cycles. Before cycle c, `f` holds the
@@ -38,19 +39,24 @@ pub struct Pipe {
 }
 
 impl Pipe {
-    ghost use Rattle.std.specs.Prelude.{◌<◌, vec_len};
-    ghost use Rattle.fp_ports.specs.Rows.{rows_of};
-    ghost use Rattle.world_model.specs.World.{Start};
+    ghost use Rattle.std.specs.Prelude.{◌<◌, List, Option, map, vec_len};
+    ghost use Rattle.fp_ports.specs.Rows.{Row, rows_of};
+    ghost use Rattle.world_model.specs.World.{Start, start_world};
     ghost use Rattle.pipe_model.specs.Stages.{step};
-    ghost use Rattle.pipe_model.specs.Relation.{Begins, Shows, Stands, Kept};
+    ghost use Rattle.pipe_model.specs.Relation.{Begins, Shows, Stands, Kept, HasLatches};
+    ghost use Rattle.pipe_model.specs.Laws.{empty, first_units};
     ghost use Rattle.pipeline_core.specs.Fits.{IsEventShowable};
     ghost use Rattle.pipeline_core.specs.Meaning.{latches_by, state_by, ticked_by};
 
-    /// A pipeline with nothing in it, whose threads start at these entries.
+    /// A pipeline with nothing in it, whose threads start at these entries. It stands for cycle 0 of
+    /// each world whose threads start there, beside units and ports that hold that world's start.
     pub fn new(entries: [u32; 8]) -> Pipe
         requires { All IsPc entries }
-        ensures { latches_by result ≡ empty entries }
+        ensures latches { latches_by result ≡ empty entries }
+        ensures stands { (s : Start) (ports : List (Option Row)) → Begins s → HasLatches (start_world s) ports →
+            map (λ t. t.pc) s.threads ≡ entries → Stands s 0 (latches_by result) (first_units s ports) }
     {
+        starts_standing();
         Pipe {
             next: entries,
             f: Held::Bubble,
@@ -90,9 +96,10 @@ impl Pipe {
         ensures eight { vec_len ports.new ≡ 8 }
         ensures showable { IsEventShowable result }
     {
-        let pick = units
-            .scheduler
-            .pick(&units.sched, cycle, units.clock.now(cycle));
+        let now = units.clock.now(cycle);
+        let before = units.clock.now(cycle.saturating_sub(1));
+        let earlier = units.clock.now(cycle.saturating_sub(2));
+        let pick = units.scheduler.pick(&units.sched, cycle, now);
         let event = retire(&self.m, cycle.saturating_sub(4));
         write_back(&mut units.bank, &self.m);
         self.w = written(&self.m);
@@ -112,27 +119,22 @@ impl Pipe {
             &mut units.traps,
             &units.confined,
             &units.permit,
-            units.clock.now(cycle.saturating_sub(2)),
+            earlier,
             &self.d,
         );
+        let redirect = executed.redirect;
         self.e = executed.e;
-        redirect_to(&mut self.next, executed.redirect);
+        redirect_to(&mut self.next, redirect);
         self.d = read(
             &units.bank,
             &self.m,
             &self.e,
             &units.timers,
-            executed.redirect,
-            units.clock.now(cycle.saturating_sub(1)),
+            redirect,
+            before,
             &self.f,
         );
-        self.f = fetch(
-            &units.guard,
-            &units.imem,
-            executed.redirect,
-            &mut self.next,
-            pick,
-        );
+        self.f = fetch(&units.guard, &units.imem, redirect, &mut self.next, pick);
         event
     }
 }
