@@ -24,7 +24,7 @@ fn is_own(slots: &SlotTable, thread: u8, cycle: u64) -> bool
     }
 }
 
-/// Whether a thread has a slot of its own.
+/// Whether a thread, 0 to 7, has a slot of its own.
 pub fn has_slot(slots: &SlotTable, thread: u8) -> bool
     requires { thread < 8 }
     ensures { IsTrue result ↔ Contains (frame slots.now) thread }

@@ -6,7 +6,8 @@ use Rattle.fp_io.specs.Content.{AppendsFront}
 use Rattle.fp_ports.specs.Rows.{Row}
 use Rattle.world_model.specs.World.{Start}
 use Rattle.machine.specs.declared.state.Machine.{Machine}
-use Rattle.machine.specs.Meaning.{StandsFor, HasRun}
+use Rattle.machine.specs.Meaning.{StandsFor, HasRun, AreLeft, PortsAfter}
+use Rattle.machine.proofs.WordLemmas.{ports_after}
 use Rattle.machine_model.specs.Seen.{seen}
 use Rattle.flexpret_top.specs.declared.ready.Ready.{Ready}
 use Rattle.flexpret_top.specs.Prepared.{Gone, Runs}
@@ -31,3 +32,13 @@ dump-err r first rows m before after (Err e) passes puts =
 -- a run that puts nothing has done its cycles
 pub gone-after : (s : Start) (k n : ℕ) (first : List (Option Row)) (m : Machine) (rows : List (Option Row)) → k ≡ n → HasRun s k n 0 first m rows None None → Gone s n first m rows
 gone-after s k n first m rows end run = let Run : ℕ → Type 0 = λ c. HasRun s c n 0 first m rows None None in let whole = subst Run end run in record { stands = whole.stands; left = whole.left }
+
+-- what stands in the ports then
+pub ports-gone : (r : Ready) (first rows : List (Option Row)) (m : Machine) → Passes r first m rows → (s : Start) → StandsFor s 0 r.cycles r.machine first → PortsAfter s r.cycles first rows
+ports-gone r first rows m passes s st = let gone = passes s st in ports_after s r.cycles r.cycles m first rows gone.stands gone.left
+
+pub ports-run : {A E : Type 0} → (r : Ready) (thread : ℕ) (first rows : List (Option Row)) (m : Machine) (before after : Option (List ℕ)) (put : Result A E) → AreLeft first rows →
+    OnOk put ((s : Start) → StandsFor s 0 r.cycles r.machine first → HasRun s r.cycles r.cycles thread first m rows before after) →
+    OnOk put ((s : Start) → StandsFor s 0 r.cycles r.machine first → PortsAfter s r.cycles first rows)
+ports-run r thread first rows m before after (Ok x) words runs = λ s st. ports_after s r.cycles r.cycles m first rows (runs s st).stands words
+ports-run r thread first rows m before after (Err e) words runs = tt

@@ -1,5 +1,6 @@
 mod Bounds
 mod Cuts
 mod Delivering
+mod Ending
 mod Preparing
 mod Usage

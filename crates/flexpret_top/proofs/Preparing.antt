@@ -16,7 +16,7 @@ use Rattle.flexpret_top.specs.Assembled.{asm_answer}
 use Rattle.flexpret_top.specs.Bound.{IsBoundAnswer}
 use Rattle.machine.specs.Feeding.{fed_all}
 use Rattle.machine.proofs.FedLemmas.{feeds}
-use Rattle.machine.specs.Meaning.{StandsFor, start_beside}
+use Rattle.machine.specs.Meaning.{StandsFor, PortsAfter, start_beside}
 use Rattle.machine_model.specs.Seen.{seen}
 use Rattle.setup_model.specs.Start.{start}
 use Rattle.trace_print.specs.Text.{text}
@@ -37,8 +37,8 @@ ready-is None name before after p r is fed eight eight' few stands = tt
 ready-is (Some files) name before after p r is fed eight eight' few stands =
     let Stands : Start → Type 0 = λ s. StandsFor s 0 r.cycles r.machine after in
     let same : start_beside p.setup p.image after r.cycles ≡ start_of p before r.cycles =
-          ap (λ ports. start_beside p.setup p.image ports r.cycles) fed ∙ feeds p.setup p.image before r.cycles eight (omega arith) in
-    record { made = p; is = is; stands = subst Stands same (stands after r.cycles eight') }
+    ap (λ ports. start_beside p.setup p.image ports r.cycles) fed ∙ feeds p.setup p.image before r.cycles eight (omega arith) in
+    record { made = p; is = is; fed = fed; stands = subst Stands same (stands after r.cycles eight') }
 
 pub trace-prepares : (told : Option FileMap) (name : List ℕ) (i n : ℕ) (before after : List (Option Row)) (r : Ready) → r.cycles ≡ n →
     IfSome told (λ files. IsReady files name before after r) → IfSome told (λ files. Prepares (Run name i n) files before after (prepared.Trace r i))
@@ -49,6 +49,7 @@ trace-prepares (Some files) name i n before after r same ready =
       written = text (events (start_of ready.made before r.cycles) i r.cycles);
       delivers = record { start = start_of ready.made before r.cycles; stands = ready.stands; text_is = refl };
       is = sym (ap (λ (q : Result Program Answer). ends (then_by q (trace_of before i r.cycles))) ready.is);
+      leaves = λ last leaves. record { made = ready.made; is = ready.is; ports = subst (λ (ports : List (Option Row)). PortsAfter (start_of ready.made before r.cycles) r.cycles ports last) ready.fed (leaves (start_of ready.made before r.cycles) ready.stands) };
     })
 
 pub dump-prepares : (told : Option FileMap) (name : List ℕ) (n : ℕ) (before after : List (Option Row)) (r : Ready) → r.cycles ≡ n →
@@ -60,6 +61,7 @@ dump-prepares (Some files) name n before after r same ready =
       written = seen (start_of ready.made before r.cycles) r.cycles;
       delivers = record { start = start_of ready.made before r.cycles; stands = ready.stands; text_is = refl };
       is = sym (ap (λ (q : Result Program Answer). ends (then_by q (dump_of before r.cycles))) ready.is);
+      leaves = λ last leaves. record { made = ready.made; is = ready.is; ports = subst (λ (ports : List (Option Row)). PortsAfter (start_of ready.made before r.cycles) r.cycles ports last) ready.fed (leaves (start_of ready.made before r.cycles) ready.stands) };
     })
 
 abbrev pub none-there : List (Option Row)
@@ -82,4 +84,4 @@ pub ready-beside : {B : Type 0} → (latched : B → ℕ) (word_at : B → ℕ �
     IfSome told (λ files. IsReady files name (rows_of latched word_at before) (rows_of latched word_at after) r)
 ready-beside latched word_at told name before after p r is fed eight eight' few stands =
     ready-is told name (rows_of latched word_at before) (rows_of latched word_at after) p r is fed
-      (length-map before (row_of latched word_at) ∙ eight) (length-map after (row_of latched word_at) ∙ eight') few stands
+    (length-map before (row_of latched word_at) ∙ eight) (length-map after (row_of latched word_at) ∙ eight') few stands

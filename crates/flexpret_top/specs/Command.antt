@@ -1,5 +1,8 @@
 -- What a command line answers over the files that there are.
-use Rattle.std.specs.Prelude.{◌≡◌, ℕ, List, [], Option, Some, None}
+use Rattle.std.specs.Prelude.{◌≡◌, ℕ, List, [], Option, Some, None, Ok}
+use Rattle.machine.specs.Feeding.{fed_all}
+use Rattle.machine.specs.Meaning.{PortsAfter}
+use Rattle.flexpret_top.specs.declared.program.Program.{Program}
 use Rattle.fp_io.specs.Content.{FileMap}
 use Rattle.ask_words.specs.Commands.{ask}
 use Rattle.ask_words.specs.declared.asked.Ask.{Ask}
@@ -9,7 +12,7 @@ use Rattle.flexpret_top.specs.Answer.Answer.{Says}
 use Rattle.flexpret_top.specs.Assembled.{asm_answer}
 use Rattle.flexpret_top.specs.Bound.{IsBoundAnswer}
 use Rattle.flexpret_top.specs.Program.{program}
-use Rattle.flexpret_top.specs.Run.{run_answer, dump_answer}
+use Rattle.flexpret_top.specs.Run.{start_of, run_answer, dump_answer}
 use Rattle.fp_ports.specs.Rows.{Row}
 
 -- The answer of a command over the files and the ports as they are handed in. That of `bound` is a relation: a bound is
@@ -30,6 +33,34 @@ IsAnswerTo (Some asked) files ports x = IsAnswerOf asked files ports x
 -- of a command line
 abbrev pub IsAnswer : List (List ℕ) → FileMap → List (Option Row) → Answer → Type 0
 IsAnswer words files ports x = IsAnswerTo (ask words) files ports x
+
+-- After so many cycles a port is there where it was handed in and isn't unplugged yet; it has the latch of the world, and
+-- shows what it showed when it was handed in, with the setup's inputs fed.
+pub record LeavesMachine (files : FileMap) (name : List ℕ) (n : ℕ) (before after : List (Option Row)) : Type 0 where
+  pub made : Program
+  pub is : program files name ≡ Ok made
+  pub ports : PortsAfter (start_of made before n) n (fed_all made.setup before) after
+
+-- what stands in the ports after a command with status 0
+abbrev pub Leaves : Ask → FileMap → List (Option Row) → List (Option Row) → Type 0
+Leaves (Run setup thread cycles) files before after = LeavesMachine files setup cycles before after
+Leaves (Dump setup cycles) files before after = LeavesMachine files setup cycles before after
+Leaves (Asm source) files before after = after ≡ before
+Leaves (Bound setup thread section) files before after = after ≡ before
+
+abbrev pub LeavesBy : Option Ask → FileMap → List (Option Row) → List (Option Row) → Type 0
+LeavesBy None files before after = after ≡ before
+LeavesBy (Some asked) files before after = Leaves asked files before after
+
+-- a command in which no port plays a part
+abbrev pub IsApart : Ask → Type 0
+IsApart (Run setup thread cycles) = ⊥
+IsApart (Dump setup cycles) = ⊥
+IsApart _ = Unit {0}
+
+abbrev pub IsApartBy : Option Ask → Type 0
+IsApartBy None = Unit {0}
+IsApartBy (Some asked) = IsApart asked
 
 -- a status is that of such an answer, and its whole text was written
 pub record Said (Is : Answer → Type 0) (status : ℕ) (before after : Option (List ℕ)) : Type 0 where

@@ -3,7 +3,8 @@ use Rattle.std.specs.Prelude.{◌≡◌, ◌<◌, ℕ, List, Option}
 use Rattle.fp_io.specs.Content.{FileMap}
 use Rattle.fp_ports.specs.Rows.{Row}
 use Rattle.ask_words.specs.declared.asked.Ask.{Ask}
-use Rattle.machine.specs.Meaning.{StandsFor, AreLeft}
+use Rattle.machine.specs.Meaning.{StandsFor, AreLeft, PortsAfter}
+use Rattle.machine.specs.Feeding.{fed_all}
 use Rattle.machine.specs.declared.state.Machine.{Machine}
 use Rattle.machine_model.specs.Seen.{seen}
 use Rattle.trace_print.specs.Bounds.{bound_text}
@@ -15,7 +16,7 @@ use Rattle.flexpret_top.specs.declared.ready.Prepared.{Prepared}
 use Rattle.flexpret_top.specs.declared.ready.Prepared.TheVariants.{Trace, Dump, Image, Bound}
 use Rattle.flexpret_top.specs.Answer.{Answer}
 use Rattle.flexpret_top.specs.Answer.Answer.{Says}
-use Rattle.flexpret_top.specs.Command.{IsAnswerOf}
+use Rattle.flexpret_top.specs.Command.{IsAnswerOf, Leaves}
 use Rattle.flexpret_top.specs.Program.{program}
 use Rattle.flexpret_top.specs.Run.{start_of}
 use Rattle.std.specs.Prelude.{Ok}
@@ -25,6 +26,7 @@ use Rattle.std.specs.Prelude.{Ok}
 pub record IsReady (files : FileMap) (name : List ℕ) (before after : List (Option Row)) (r : Ready) : Type 0 where
   pub made : Program
   pub is : program files name ≡ Ok made
+  pub fed : after ≡ fed_all made.setup before
   pub stands : StandsFor (start_of made before r.cycles) 0 r.cycles r.machine after
 
 -- a machine at its start, which stands for a world beside these ports, and a text that this world defines
@@ -44,11 +46,25 @@ abbrev pub IsThread : Prepared → Type 0
 IsThread (Trace r thread) = thread < 8
 IsThread _ = Unit {0}
 
--- it will write a text that answers the command
+-- what stands in the ports once it was written
+abbrev pub LeavesPorts : Prepared → List (Option Row) → List (Option Row) → Type 0
+LeavesPorts (Trace r thread) before after = (s : Start) → StandsFor s 0 r.cycles r.machine before → PortsAfter s r.cycles before after
+LeavesPorts (Dump r) before after = (s : Start) → StandsFor s 0 r.cycles r.machine before → PortsAfter s r.cycles before after
+LeavesPorts (Image bytes) before after = after ≡ before
+LeavesPorts (Bound cycles) before after = after ≡ before
+
+-- no port plays a part in it
+abbrev pub IsApartFrom : Prepared → Type 0
+IsApartFrom (Trace r thread) = ⊥
+IsApartFrom (Dump r) = ⊥
+IsApartFrom _ = Unit {0}
+
+-- it will write a text that answers the command, and leave the ports as the command does
 pub record Prepares (asked : Ask) (files : FileMap) (before after : List (Option Row)) (p : Prepared) : Type 0 where
   pub written : List ℕ
   pub delivers : Delivers p after written
   pub is : IsAnswerOf asked files before (Says 0 written)
+  pub leaves : (last : List (Option Row)) → LeavesPorts p after last → Leaves asked files before last
 
 -- after so many cycles, machine and ports stand for that cycle of the world, and the ports that are left show what they
 -- showed

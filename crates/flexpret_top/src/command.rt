@@ -6,7 +6,7 @@ ghost use Rattle.fp_ports.specs.Rows.{rows_of};
 ghost use Rattle.ask_words.specs.Commands.{ask};
 ghost use Rattle.ask_words.specs.Limits.{IsWithinLimits};
 ghost use Rattle.flexpret_top.specs.Answer.Answer.{Missing};
-ghost use Rattle.flexpret_top.specs.Command.{IsAnswer, IsAnswerIn, Said, Began, Answered};
+ghost use Rattle.flexpret_top.specs.Command.{IsAnswer, IsAnswerIn, IsApart, IsApartBy, Leaves, LeavesBy, Said, Began, Answered};
 ghost use Rattle.flexpret_top.specs.Status.{IsStatus, number_of};
 ghost use Rattle.flexpret_top.specs.declared.stop.Stop.{Stop};
 ghost use Rattle.flexpret_top.specs.Stops.{Ends, number_of_cause};
@@ -66,6 +66,9 @@ fn answer<F: Files, K: Sink>(
     ensures complete { ¬ Rose (F.faults files.old) (F.faults files.new) → ¬ Rose (K.faults out.old) (K.faults out.new) → IfSome (F.told files.old) (λ told. (result ≡ Status.NoMemory) ⊎ Answered (IsAnswerIn ask.now (rows_of latched word_at ports.old.items) told) (number_of result)) }
     ensures asked { result ≢ Status.Usage }
     ensures nothing { (result ≡ Status.Read) ⊎ (result ≡ Status.NoMemory) → out.new ≡ out.old }
+    ensures ports { result ≡ Status.Ok → IfSome (F.told files.old) (λ told. Leaves ask.now told (rows_of latched word_at ports.old.items) (rows_of latched word_at ports.new.items)) }
+    ensures kept { result ≢ Status.Ok → result ≢ Status.Write → result ≢ Status.NoMemory → ports.new ≡ ports.old }
+    ensures apart { IsApart ask.now → ports.new ≡ ports.old }
     ensures eight { vec_len ports.new ≡ 8 }
 {
     match prepare(alloc, ask, files, ports) {
@@ -119,6 +122,9 @@ pub fn flexpret<F: Files, K: Sink>(
     ensures counted_files { F.faults files.old ≤ F.faults files.new }
     ensures counted_out { K.faults out.old ≤ K.faults out.new }
     ensures told { F.told files.new ≡ F.told files.old }
+    ensures ports { result ≡ 0 → IfSome (F.told files.old) (λ told. LeavesBy (ask (map string_bytes words.now)) told (rows_of latched word_at ports.old.items) (rows_of latched word_at ports.new.items)) }
+    ensures kept { 1 ≤ result → result ≤ 7 → ports.new ≡ ports.old }
+    ensures apart { IsApartBy (ask (map string_bytes words.now)) → ports.new ≡ ports.old }
     ensures eight { vec_len ports.new ≡ 8 }
 {
     match read_words(alloc, words) {

@@ -7,7 +7,7 @@ ghost use Rattle.fp_io.specs.Content.{AppendsFront};
 ghost use Rattle.fp_ports.specs.Rows.{rows_of};
 ghost use Rattle.world_model.specs.World.{Start};
 ghost use Rattle.machine.specs.Meaning.{StandsFor};
-ghost use Rattle.flexpret_top.specs.Prepared.{Delivers, Gone, IsThread};
+ghost use Rattle.flexpret_top.specs.Prepared.{Delivers, Gone, IsApartFrom, IsThread, LeavesPorts};
 ghost use Rattle.flexpret_top.specs.declared.ready.Prepared.{Prepared};
 
 use crate::ready::{Prepared, Ready};
@@ -43,6 +43,7 @@ fn put_trace<K: Sink>(
     ensures err { OnErr result ((written : List ℕ) → Delivers (Prepared.Trace ready thread) (rows_of latched word_at ports.old.items) written → AppendsFront (K.taken out.old) (K.taken out.new) written) }
     ensures failed { OnErr result (Rose (K.faults out.old) (K.faults out.new)) }
     ensures counted { K.faults out.old ≤ K.faults out.new }
+    ensures left { OnOk result (LeavesPorts (Prepared.Trace ready thread) (rows_of latched word_at ports.old.items) (rows_of latched word_at ports.new.items)) }
     ensures eight { vec_len ports.new ≡ 8 }
 {
     let mut machine = ready.machine;
@@ -56,6 +57,7 @@ fn put_dump<K: Sink>(ready: Ready, ports: &mut Ports, out: &mut K) -> Result<(),
     ensures err { OnErr result ((written : List ℕ) → Delivers (Prepared.Dump ready) (rows_of latched word_at ports.old.items) written → AppendsFront (K.taken out.old) (K.taken out.new) written) }
     ensures failed { OnErr result (Rose (K.faults out.old) (K.faults out.new)) }
     ensures counted { K.faults out.old ≤ K.faults out.new }
+    ensures left { LeavesPorts (Prepared.Dump ready) (rows_of latched word_at ports.old.items) (rows_of latched word_at ports.new.items) }
     ensures eight { vec_len ports.new ≡ 8 }
 {
     let mut machine = ready.machine;
@@ -64,17 +66,15 @@ fn put_dump<K: Sink>(ready: Ready, ports: &mut Ports, out: &mut K) -> Result<(),
 }
 
 /// Writes what was prepared.
-pub fn deliver<K: Sink>(
-    prepared: Prepared,
-    ports: &mut Ports,
-    out: &mut K,
-) -> Result<(), PutFailed>
+pub fn deliver<K: Sink>(prepared: Prepared, ports: &mut Ports, out: &mut K) -> Result<(), PutFailed>
     requires thread { IsThread prepared }
     requires eight { vec_len ports.old ≡ 8 }
     ensures ok { OnOk result ((written : List ℕ) → Delivers prepared (rows_of latched word_at ports.old.items) written → Appends (K.taken out.old) (K.taken out.new) written) }
     ensures err { OnErr result ((written : List ℕ) → Delivers prepared (rows_of latched word_at ports.old.items) written → AppendsFront (K.taken out.old) (K.taken out.new) written) }
     ensures failed { OnErr result (Rose (K.faults out.old) (K.faults out.new)) }
     ensures counted { K.faults out.old ≤ K.faults out.new }
+    ensures left { OnOk result (LeavesPorts prepared (rows_of latched word_at ports.old.items) (rows_of latched word_at ports.new.items)) }
+    ensures apart { IsApartFrom prepared → ports.new ≡ ports.old }
     ensures eight { vec_len ports.new ≡ 8 }
 {
     match prepared {

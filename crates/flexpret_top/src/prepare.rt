@@ -6,9 +6,9 @@ ghost use Rattle.ask_words.specs.Limits.{IsWithinLimits};
 ghost use Rattle.ask_words.specs.declared.asked.Ask.{Ask};
 ghost use Rattle.flexpret_top.specs.Assembled.{asm_answer};
 ghost use Rattle.flexpret_top.specs.Bound.{IsBoundAnswer};
-ghost use Rattle.flexpret_top.specs.Command.{IsAnswerIn};
+ghost use Rattle.flexpret_top.specs.Command.{IsAnswerIn, IsApart};
 ghost use Rattle.flexpret_top.specs.Program.{program};
-ghost use Rattle.flexpret_top.specs.Prepared.{IsReady, IsThread, Prepares};
+ghost use Rattle.flexpret_top.specs.Prepared.{IsApartFrom, IsReady, IsThread, Prepares};
 ghost use Rattle.flexpret_top.specs.Stops.{IsStop};
 ghost use Rattle.flexpret_top.specs.declared.stop.Stop.TheVariants.{NoMemory};
 
@@ -96,8 +96,9 @@ fn dump<F: Files>(
 fn image<F: Files>(alloc: Global, source: &str, files: &mut F) -> Result<Prepared, Stop>
     ensures told { F.told files.new ≡ F.told files.old }
     ensures counted { F.faults files.old ≤ F.faults files.new }
-    ensures ok { IfOk result (λ p. IfSome (F.told files.old) (λ told. (before after : List (Option Row)) → Prepares (Ask.Asm source.now) told before after p)) }
+    ensures ok { IfOk result (λ p. IfSome (F.told files.old) (λ told. (ports : List (Option Row)) → Prepares (Ask.Asm source.now) told ports ports p)) }
     ensures thread { IfOk result IsThread }
+    ensures apart { IfOk result IsApartFrom }
     ensures stop { IfErr result (IsStop (F.told files.old) (λ told x. x ≡ asm_answer told source.now) (F.faults files.old) (F.faults files.new)) }
 {
     Ok(Prepared::Image(image_bytes(alloc, source, files)?))
@@ -114,8 +115,9 @@ fn bound<F: Files>(
     requires thread { thread < 8 }
     ensures told { F.told files.new ≡ F.told files.old }
     ensures counted { F.faults files.old ≤ F.faults files.new }
-    ensures ok { IfOk result (λ p. IfSome (F.told files.old) (λ told. (before after : List (Option Row)) → Prepares (Ask.Bound setup.now thread section) told before after p)) }
+    ensures ok { IfOk result (λ p. IfSome (F.told files.old) (λ told. (ports : List (Option Row)) → Prepares (Ask.Bound setup.now thread section) told ports ports p)) }
     ensures thread { IfOk result IsThread }
+    ensures apart { IfOk result IsApartFrom }
     ensures stop { IfErr result (IsStop (F.told files.old) (λ told x. IsBoundAnswer (program told setup.now) thread (record { from = section.from; to = section.to }) x) (F.faults files.old) (F.faults files.new)) }
 {
     let program = load(alloc, setup, files)?;
@@ -123,9 +125,7 @@ fn bound<F: Files>(
         from: section.from,
         to: section.to,
     };
-    Ok(Prepared::Bound(section_bound(
-        alloc, &program, thread, section,
-    )?))
+    Ok(Prepared::Bound(section_bound(alloc, &program, thread, section)?))
 }
 
 /// What a command will write, with the ports fed where it runs the machine.
@@ -143,6 +143,8 @@ pub fn prepare<F: Files>(
     ensures thread { IfOk result IsThread }
     ensures stop { IfErr result (IsStop (F.told files.old) (IsAnswerIn ask.now (rows_of latched word_at ports.old.items)) (F.faults files.old) (F.faults files.new)) }
     ensures kept { IfErr result (λ stop. stop ≢ NoMemory → ports.new ≡ ports.old) }
+    ensures apart { IsApart ask.now → ports.new ≡ ports.old }
+    ensures apart_from { IfOk result (λ p. IsApart ask.now → IsApartFrom p) }
     ensures eight { vec_len ports.new ≡ 8 }
 {
     match ask {

@@ -1,5 +1,5 @@
 -- What a dump has put, by the world.
-use Rattle.std.proofs.Common.{◌≡◌, ℕ, List, Option, Ok, Err, subst}
+use Rattle.std.proofs.Common.{ℕ, List, Option, Ok, Err, subst}
 use Rattle.std.specs.Prelude.{Result, OnOk, OnErr}
 use Rattle.std.specs.Io.KnownBytes.{Appends}
 use Rattle.fp_io.specs.Content.{AppendsFront}

@@ -1,11 +1,9 @@
 -- What feeding does to the start of the world.
-use Rattle.std.proofs.Common.{◌≡◌, ◌≢◌, ℕ, zero, suc, ◌+◌, ◌<◌, ◌≤◌, ◌^◌, ◌⊎◌, inl, inr, List, [], ◌∷◌, get_or, set, map, length, Option, Some, None, Bool, arith, refl, ap, ap₂, sym, subst, ◌∙◌, lit<}
-use Rattle.std.specs.Prelude.{fold, option_map}
+use Rattle.std.proofs.Common.{◌≡◌, ◌≢◌, ℕ, zero, suc, ◌<◌, ◌≤◌, ◌^◌, inl, inr, List, [], ◌∷◌, map, length, Option, Some, None, arith, refl, ap, sym, subst, ◌∙◌, lit<}
 use Rattle.std.proofs.lemmas.Bool.{cases_lt}
 use Rattle.std.proofs.lemmas.List.{get_or-set_same, get_or-set_other}
 use Rattle.std.proofs.Math.ListN.{length-set}
 use Rattle.std.proofs.Math.Seq.{map-set_same}
-use Rattle.fp_image.specs.declared.parts.Segment.{Segment}
 use Rattle.fp_ports.specs.Rows.{Row, row_at, fed}
 use Rattle.fp_ports.specs.Rows.{fed_all as fed_pairs}
 use Rattle.fp_ports.specs.Shown.{shown}
@@ -16,7 +14,6 @@ use Rattle.fp_setup.specs.Settings.{Settings}
 use Rattle.setup_model.specs.Start.{start, thread_of, inputs_of, shown_to, is_handed, first_latch}
 use Rattle.machine.specs.Feeding.{fed_word, fed_words, fed_first, fed_all}
 use Rattle.machine.specs.Laws.{FeedsStart}
-use Rattle.machine.specs.Meaning.{start_beside}
 
 abbrev pairs_of : List Input → List (ℕ × ℕ)
 pairs_of inputs = map (λ (input : Input). (input.at, input.word)) inputs
@@ -55,12 +52,12 @@ first-below s ports zero i h inside = absurd (omega arith)
 first-below s ports (suc j) i h inside =
     elim (cases_lt i j) [
       | inl l ↦
-        let apart : i ≢ j = omega arith in
-        fed-other j i (fed_first s ports j) (thread_of s j).inputs apart ∙ first-below s ports j i l inside
+          let apart : i ≢ j = omega arith in
+          fed-other j i (fed_first s ports j) (thread_of s j).inputs apart ∙ first-below s ports j i l inside
       | inr g ↦
-        let e : j ≡ i = omega arith in
-        let P : ℕ → Type 0 = λ k. row_at (fed_first s ports (suc k)) i ≡ fed_pairs (row_at ports i) (inputs_of (thread_of s i)) in
-        subst P (sym e) (first-newest s ports i inside)
+          let e : j ≡ i = omega arith in
+          let P : ℕ → Type 0 = λ k. row_at (fed_first s ports (suc k)) i ≡ fed_pairs (row_at ports i) (inputs_of (thread_of s i)) in
+          subst P (sym e) (first-newest s ports i inside)
     ]
 
 -- what feeding leaves as it is

@@ -1,5 +1,5 @@
 -- Feeding one thread after the other.
-use Rattle.std.proofs.Common.{◌≡◌, ℕ, suc, ◌+◌, List, get_or, Some, None, Option, take, refl, ap, ap₂, sym, ◌∙◌, add-one}
+use Rattle.std.proofs.Common.{◌≡◌, ℕ, ◌+◌, List, get_or, Some, Option, take, ap, ap₂, sym, ◌∙◌, add-one}
 use Rattle.std.specs.Prelude.{slice_get}
 use Rattle.std.proofs.lemmas.Option.{get_or_from_slice_get}
 use Rattle.fp_ports.specs.Rows.{Row}

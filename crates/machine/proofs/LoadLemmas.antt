@@ -1,29 +1,28 @@
 -- The machine at its start stands for cycle 0.
-use Rattle.std.proofs.Common.{◌≡◌, ℕ, ◌+◌, ◌/◌, ◌<◌, ◌≤◌, Bool, true, false, List, [], ◌∷◌, get_or, map, length, Option, Some, None, arith, refl, ap, ap₂, sym, subst, ◌∙◌}
-use Rattle.std.specs.Prelude.{slice_get, is_some, IfSome, ◌&&◌, if◌then◌else◌, replicate, nat_lt}
-use Rattle.std.specs.List.{range_with_len}
+use Rattle.std.proofs.Common.{◌≡◌, ℕ, ◌/◌, Bool, true, false, List, [], ◌∷◌, get_or, map, length, Option, Some, None, arith, refl, ap, sym, subst, ◌∙◌}
+use Rattle.std.specs.Prelude.{slice_get, is_some, IfSome, ◌&&◌, if◌then◌else◌, replicate}
 use Rattle.std.proofs.lemmas.Bool.Decides.{nat_tests}
 use Rattle.std.proofs.lemmas.List.{length-map}
 use Rattle.std.proofs.Math.ListN.{get_or-map}
 use Rattle.std.proofs.lemmas.List.FromFn.{fill_by_all, get_or-map-range_with_len, length-map-range_with_len}
 use Rattle.std.proofs.lemmas.Option.{get_or_from_slice_get}
 use Rattle.fp_image.specs.declared.parts.Segment.{Segment}
-use Rattle.fp_ports.specs.Rows.{Row, row_at, word_seen}
+use Rattle.fp_ports.specs.Rows.{Row, row_at}
 use Rattle.fp_ports.specs.Shown.{is_gone, shown_at, shown}
-use Rattle.fp_setup.specs.Meaning.{unnamed, the_threads}
-use Rattle.fp_setup.specs.Settings.{Settings, size_of}
+use Rattle.fp_setup.specs.Meaning.{unnamed}
+use Rattle.fp_setup.specs.Settings.{Settings}
 use Rattle.fp_setup.specs.declared.thread_list.ThreadSetup.{ThreadSetup}
 use Rattle.core_model.specs.Thread.{Thread, fresh}
 use Rattle.trap_unit.specs.Rows.{no_trap}
 use Rattle.timer_unit.specs.Time.{no_timer}
-use Rattle.world_model.specs.World.{Start, start_world, world, recent, port_word}
+use Rattle.world_model.specs.World.{Start, start_world}
 use Rattle.setup_model.specs.Start.{start, words_from, thread_of, is_handed, first_latch}
 use Rattle.pipe_model.specs.Stages.{Latches, State}
-use Rattle.pipe_model.specs.Relation.{Begins, Stands, HasLatches, bank_in, control_in}
+use Rattle.pipe_model.specs.Relation.{Begins, Stands, HasLatches}
 use Rattle.pipe_model.specs.Laws.{Starts, empty, first_units}
 use Rattle.pipeline_core.specs.Meaning.{latches_by, state_by}
 use Rattle.machine_model.specs.Seen.{is_kept}
-use Rattle.machine_model.specs.Relation.{Standing, Plugged, found}
+use Rattle.machine_model.specs.Relation.{Plugged, found}
 use Rattle.machine.specs.declared.state.Machine.{Machine}
 use Rattle.machine.specs.Meaning.{StandsFor, start_beside, units_at_start}
 

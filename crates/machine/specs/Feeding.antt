@@ -1,5 +1,5 @@
 -- The inputs of a setup, fed to the ports.
-use Rattle.std.specs.Prelude.{◌≡◌, ℕ, zero, suc, ◌<◌, List, take, fold, slice_set, Option}
+use Rattle.std.specs.Prelude.{◌≡◌, ℕ, zero, suc, List, take, fold, slice_set, Option}
 use Rattle.fp_ports.specs.Rows.{Row, row_at, fed}
 use Rattle.fp_setup.specs.declared.input_list.Input.{Input}
 use Rattle.fp_setup.specs.Settings.{Settings}

@@ -73,6 +73,7 @@ fn state_of_fields(rt: HostRuntime) -> Result<(), Fail> {
     };
     let mut out = MemSink::new(rt.alloc(), 4096)?;
     let mut ports = ports(rt.alloc())?;
+    assert_eq!(rt; ports.len(), 8);
     let ran = machine.run(11, 0, &mut ports, &mut out);
     assert_eq!(rt; ran, Ok(()));
     assert_eq!(rt; out.bytes(), TRACE.as_bytes());

@@ -1,9 +1,9 @@
 -- What a cycle of a quiet run does to one hard hart.
-use Rattle.std.proofs.Common.{◌≡◌, ◌≢◌, ℕ, zero, suc, ◌+◌, ◌%◌, ◌<◌, ◌≤◌, inl, inr, ◌⊎◌, Bool, true, false, ◌&&◌, List, [], ◌∷◌, Some, None, map, get_or, length, length-set, refl, ap, ap₂, sym, ◌∙◌, subst, arith, get_or-set_other, get_or-set_same, slice_index}
-use Rattle.std.specs.Prelude.{if◌then◌else◌, Option, ◌==◌, nat_le, nat_lt}
+use Rattle.std.proofs.Common.{◌≡◌, ℕ, zero, suc, ◌+◌, ◌%◌, ◌<◌, ◌≤◌, inl, inr, ◌⊎◌, Bool, true, false, ◌&&◌, List, [], ◌∷◌, map, get_or, length, length-set, refl, ap, ap₂, sym, ◌∙◌, subst, arith, get_or-set_other, get_or-set_same}
+use Rattle.std.specs.Prelude.{if◌then◌else◌, ◌==◌, nat_le, nat_lt}
 use Rattle.std.specs.List.{list_all}
 use Rattle.std.proofs.Math.ListN.{get_or-map}
-use Rattle.std.proofs.lemmas.List.{get_or_default, length-map}
+use Rattle.std.proofs.lemmas.List.{length-map}
 use Rattle.std.proofs.lemmas.Bool.Decides.{nat_tests}
 use Rattle.core_model.specs.Thread.{Thread, Done, fresh}
 use Rattle.core_model.specs.Solo.{has_position}
@@ -13,15 +13,15 @@ use Rattle.slot_scheduler.specs.declared.picking.Pick.{Pick}
 use Rattle.slot_scheduler.specs.declared.picking.Pick.TheVariants.{Bubble, Issue}
 use Rattle.slot_table.specs.Frame.{frame}
 use Rattle.timer_unit.specs.Time.{time}
-use Rattle.world_model.specs.World.{Start, World, Registers, Took, leaves_registers, thread_of, sched_of, takes, after_turn, Recent, recent, issue_of, issued, passed}
-use Rattle.world_model.specs.World.Took.{Idle, Lost, Ran}
+use Rattle.world_model.specs.World.{Start, World, Registers, leaves_registers, thread_of, sched_of, takes, after_turn, Recent, recent, issue_of, issued, passed}
+use Rattle.world_model.specs.World.Took.{Lost, Ran}
 use Rattle.isolation.proofs.Picks.{is_this, picks, both}
-use Rattle.isolation.proofs.Steps.{Wakes, takes-wakes, takes-quiet, differs, equals, unequal, itself}
+use Rattle.isolation.proofs.Steps.{Wakes, takes-wakes, equals, unequal, itself}
 use Rattle.isolation.proofs.Induction.{one_of, two_of, sync_of}
 use Rattle.isolation.proofs.Outside.{quiet_registers}
 use Rattle.region_tree.specs.Walk.{IsOwn}
 use Rattle.bound_calc.specs.Bound.{positions}
-use Rattle.visit_bound.specs.Visits.{Issued, is_trap, issue_in, issues_of}
+use Rattle.visit_bound.specs.Visits.{is_trap, issues_of}
 
 -- the hart issues in the cycle
 pub record Issues (s : Start) (i c : ℕ) (w after : World) (o : Pick) : Type 0 where

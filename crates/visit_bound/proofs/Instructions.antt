@@ -7,14 +7,14 @@ use Rattle.rv_decode.specs.declared.instruction.Ins.{Ins}
 use Rattle.rv_decode.specs.declared.instruction.Ins.TheVariants as i
 use Rattle.rv_exec.specs.declared.outcome.Effect.{Effect}
 use Rattle.rv_exec.specs.declared.outcome.Effect.TheVariants.{Nothing, Reg, Store, Csr, Trap, Wait}
-use Rattle.rv_exec.specs.Access.{is_aligned, store_size}
+use Rattle.rv_exec.specs.Access.{is_aligned}
 use Rattle.rv_exec.specs.Result.{result_of, unless, offset}
 use Rattle.rv_exec.specs.Words.{word}
 use Rattle.core_model.specs.declared.own.CsrOp.{CsrOp}
 use Rattle.core_model.specs.declared.own.Own.{Own}
 use Rattle.core_model.specs.Thread.{Around, Contents, Did, Thread, filled, reg_effect, reg_in}
-use Rattle.core_model.specs.Parts.{plain, wrote, load, store, went, branch, trapped, with_high, with_armed}
-use Rattle.core_model.specs.Control.{csr_access, csr_done, csr_put, csr_value, csr_written, with_csr, may_hold, changed, kept}
+use Rattle.core_model.specs.Parts.{plain, load, store, went, branch, trapped, with_high, with_armed}
+use Rattle.core_model.specs.Control.{csr_access, csr_done, csr_value, csr_written, with_csr, may_hold, changed, kept}
 use Rattle.core_model.specs.Issue.{act, acts_on, csr_op, csr_operand, csr_writes, effect_of, goes, issue, late_rd, run, source_1, source_2, unless_trap, value_in}
 use Rattle.region_tree.specs.declared.edges.Edges.{Edges}
 use Rattle.region_tree.specs.declared.edges.Stop.TheVariants.{No}
@@ -179,3 +179,20 @@ issue-goes a m c t s h =
       sleeps = y.sleeps;
       later = subst (λ l. 1 ≤ l) y.lag y.later;
     }
+
+-- an issue that doesn't trap fetched its word
+act-fetches : (a : Around) (pc : ℕ) (t : Own) (expired : Bool) (w x y : ℕ) → is_trap (act a pc t expired w x y).effect ≡ false → a.fetch pc ≡ true
+unfolding act
+act-fetches a pc t true w x y h = cc
+act-fetches a pc t false w x y h = go (a.fetch pc) h
+  where
+    go : (b : Bool) → is_trap (if b then run a pc t w x y (ins w) else trapped pc t 0 1).effect ≡ false → b ≡ true
+    go true h = refl
+    go false h = cc
+
+pub issue-fetches : (a : Around) (m : Contents) (c : ℕ) (t : Thread) → is_trap (issue a m c t).effect ≡ false → a.fetch t.pc ≡ true
+unfolding issue effect_of acts_on
+issue-fetches a m c t h =
+    let w : ℕ = m.code t.pc in
+    let d : Did = acts_on a w t in
+    act-fetches a t.pc t.own (is_due t.own.timer.armed a.now) w (reg_in t.regs (source_1 (ins w))) (reg_in t.regs (source_2 (ins w))) (sym (filled-trap (late_rd (ins d.word)) (value_in m t.regs d) d.effect) ∙ h)

@@ -6,7 +6,7 @@ use Rattle.core_model.specs.Memory.{code_at}
 use Rattle.core_model.specs.Thread.{Thread}
 use Rattle.region_tree.proofs.GraphLaws.{reachable-aligned, reachable-lies}
 use Rattle.region_tree.specs.Edges.{edges_of}
-use Rattle.region_tree.specs.Graph.{Edge, Lies, Reachable, edge_list}
+use Rattle.region_tree.specs.Graph.{Edge, Lies, Reachable}
 use Rattle.region_tree.specs.Tree.{IsTree, Tree, graph, word_at}
 use Rattle.region_tree.specs.Walk.{IsOwn}
 use Rattle.region_tree.specs.declared.edges.Stop.{Stop}
@@ -15,11 +15,15 @@ use Rattle.slot_scheduler.specs.ModeWord.{mode_of}
 use Rattle.slot_table.specs.Frame.{frame}
 use Rattle.timer_unit.specs.Time.{time}
 use Rattle.bound_calc.specs.Bound.{course, positions}
-use Rattle.world_model.specs.World.{Start, contents, is_quiet, issue_of, leaves_registers, recent, surroundings, thread_of, world}
+use Rattle.world_model.specs.World.{Start, World, around, contents, issue_of, leaves_registers, recent, surroundings, thread_of, world}
 use Rattle.isolation.proofs.Induction.{quiet_before}
+use Rattle.isolation.proofs.Picks.{both}
+use Rattle.region_guard.specs.Regions.{may_fetch, may_read}
+use Rattle.std.specs.Prelude.{nat_lt, slice_index_or}
+use Rattle.std.proofs.lemmas.Bool.Decides.{nat_tests}
 use Rattle.visit_bound.proofs.Cycles.{Goes, Going, Stays, begins, cycles, goes_on}
-use Rattle.visit_bound.proofs.Instructions.{Gone, issue-goes}
-use Rattle.visit_bound.specs.Laws.{AreLinked, Follows, IsHost, IssuesFollowEdges}
+use Rattle.visit_bound.proofs.Instructions.{Gone, issue-fetches, issue-goes}
+use Rattle.visit_bound.specs.Laws.{AreLinked, Follows, IssuesFollowEdges}
 use Rattle.visit_bound.specs.Visits.{Issued, is_trap, issues_of}
 
 -- a cycle at a position of the hart's own
@@ -82,17 +86,23 @@ stop-no No a b = refl
 stop-no Indirect a b = absurd (a refl)
 stop-no Timed a b = absurd (b refl)
 
-edge-of : (t : Tree) (s : Start) (i c : ℕ) → IsTree t → ((u : ℕ) → u % 4 ≡ 0 → Lies (graph t) u → code_at s.size s.i_words u ≡ word_at t u) →
+-- what is fetched is in the scratchpad
+fetch-inside : (s : Start) (c : ℕ) (w : World) (i pc : ℕ) → (surroundings s c w i).fetch pc ≡ true → pc < s.size
+unfolding around may_fetch
+fetch-inside s c w i pc h = let low : nat_lt pc s.size ≡ true = (both (nat_lt pc s.size) (may_read i s.size (slice_index_or s.confined i true) w.registers.iregions pc) h).0 in grind (arith, nat_tests)
+
+edge-of : (t : Tree) (s : Start) (i c : ℕ) → IsTree t → ((u : ℕ) → u % 4 ≡ 0 → Lies (graph t) u → u < s.size → code_at s.size s.i_words u ≡ word_at t u) →
     Reachable (graph t) (thread_of (recent s c).now i).pc → is_trap (issue_of s c (recent s c).now i).effect ≡ false →
     Gone c (thread_of (recent s c).now i).own.sleep (edges_of (word_at t (thread_of (recent s c).now i).pc) (thread_of (recent s c).now i).pc) (issue_of s c (recent s c).now i).thread
 edge-of t s i c is words reach calm =
     let th = thread_of (recent s c).now i in
-    let same = words th.pc (reachable-aligned t is.draft th.pc reach) (reachable-lies t is.draft th.pc reach) in
+    let fetches = issue-fetches (surroundings s c (recent s c).now i) (contents s c (recent s c).now i) c th calm in
+    let same = words th.pc (reachable-aligned t is.draft th.pc reach) (reachable-lies t is.draft th.pc reach) (fetch-inside s c (recent s c).now i th.pc fetches) in
     let stop = stop-no ((graph t).stop th.pc) (λ e. is.allowed.indirect th.pc (reach, e)) (λ e. is.allowed.timed th.pc (reach, e)) in
     subst (λ w. Gone c th.own.sleep (edges_of w th.pc) (issue_of s c (recent s c).now i).thread) same
     (issue-goes (surroundings s c (recent s c).now i) (contents s c (recent s c).now i) c th (ap (λ w. (edges_of w th.pc).stop) same ∙ stop) calm)
 
-pending-new : (t : Tree) (s : Start) (i c : ℕ) → IsTree t → ((u : ℕ) → u % 4 ≡ 0 → Lies (graph t) u → code_at s.size s.i_words u ≡ word_at t u) → (g : Goes s i c) → (l : List Issued) →
+pending-new : (t : Tree) (s : Start) (i c : ℕ) → IsTree t → ((u : ℕ) → u % 4 ≡ 0 → Lies (graph t) u → u < s.size → code_at s.size s.i_words u ≡ word_at t u) → (g : Goes s i c) → (l : List Issued) →
     Pending t s i (suc c) (record { cycle = c; pc = (thread_of (recent s c).now i).pc; traps = is_trap (issue_of s c (recent s c).now i).effect } ∷ l) (thread_of (recent s (suc c)).now i)
 pending-new t s i c is words g l = (omega arith, g.own, awaits)
   where
@@ -138,7 +148,7 @@ unfolding recent
 linked-first t s i eight = record { going = begins s i eight; links = tt; pending = tt }
 
 linked : (t : Tree) (s : Start) (i n : ℕ) → IsTree t → i < 8 → length s.threads ≡ 8 → mode_of s.registers.modes i ≡ 0 →
-    ((u : ℕ) → u % 4 ≡ 0 → Lies (graph t) u → code_at s.size s.i_words u ≡ word_at t u) → list_all leaves_registers (recent s n).now.turns ≡ true → Linked t s i n
+    ((u : ℕ) → u % 4 ≡ 0 → Lies (graph t) u → u < s.size → code_at s.size s.i_words u ≡ word_at t u) → list_all leaves_registers (recent s n).now.turns ≡ true → Linked t s i n
 linked t s i zero is number eight hard words quiet = linked-first t s i eight
 linked t s i (suc c) is number eight hard words quiet = onto (linked t s i c is number eight hard words (quiet_before s c quiet))
   where
@@ -158,14 +168,14 @@ linked t s i (suc c) is number eight hard words quiet = onto (linked t s i c is 
         go (inl g) = record {
           going = more;
           links = subst (λ k. AreLinked (course t s.registers.slots i) k) (sym g.issues)
-            (linked-more t s i l (record { cycle = c; pc = th.pc; traps = is_trap (issue_of s c (recent s c).now i).effect }) y.links g.own (link-of t s i c l th (is_trap (issue_of s c (recent s c).now i).effect) y.pending g.own g.ready));
+              (linked-more t s i l (record { cycle = c; pc = th.pc; traps = is_trap (issue_of s c (recent s c).now i).effect }) y.links g.own (link-of t s i c l th (is_trap (issue_of s c (recent s c).now i).effect) y.pending g.own g.ready));
           pending = subst (λ k. Pending t s i (suc c) k (thread_of (recent s (suc c)).now i)) (sym g.issues) (pending-new t s i c is words g l);
         }
         go (inr g) = record {
           going = more;
           links = subst (λ k. AreLinked (course t s.registers.slots i) k) (sym g.issues) y.links;
           pending = subst (λ k. Pending t s i (suc c) k (thread_of (recent s (suc c)).now i)) (sym g.issues)
-            (subst (λ u. Pending t s i (suc c) l u) (sym g.thread) (pending-same t s i c g l y.pending));
+              (subst (λ u. Pending t s i (suc c) l u) (sym g.thread) (pending-same t s i c g l y.pending));
         }
 
 pub issues_follow_edges : IssuesFollowEdges

@@ -1,16 +1,15 @@
 -- The issues of a visit are a walk, whose cost is the visit's length.
-use Rattle.std.proofs.Common.{◌≡◌, ℕ, ◌+◌, ◌-◌, ◌%◌, ◌<◌, ◌≤◌, inl, inr, ◌⊎◌, false, List, [], ◌∷◌, ◌++◌, length, refl, ap, sym, ◌∙◌, subst, arith, Contains}
+use Rattle.std.proofs.Common.{◌≡◌, ℕ, ◌+◌, ◌-◌, ◌%◌, ◌<◌, ◌≤◌, inl, inr, ◌⊎◌, List, [], ◌∷◌, ◌++◌, length, refl, ap, sym, subst, arith, Contains}
 use Rattle.fp_setup.specs.declared.loop_list.LoopSetup.{LoopSetup}
-use Rattle.region_tree.specs.Graph.{Edge, Graph, Lies, Reachable}
+use Rattle.region_tree.specs.Graph.{Graph, Lies, Reachable}
 use Rattle.region_tree.specs.Graph.Reachable.{first, next}
-use Rattle.region_tree.specs.Tree.{IsTree, Tree, graph}
+use Rattle.region_tree.specs.Tree.{graph}
 use Rattle.region_tree.specs.Walk.{CostsOf, Course, IsOwn, IsStep, IsWalk, Step, cost, counted, counter}
 use Rattle.region_tree.specs.Walk.CostsOf.{ends, leaves}
 use Rattle.bound_calc.specs.Bound.{course}
-use Rattle.world_model.specs.World.{world}
 use Rattle.visit_bound.proofs.Links.{issues_follow_edges}
 use Rattle.visit_bound.specs.Laws.{AreLinked, Follows, VisitsAreBounded}
-use Rattle.visit_bound.specs.Visits.{GoOn, IsVisit, Issued, KeepsBounds, counter_at, first_of, issues_of}
+use Rattle.visit_bound.specs.Visits.{GoOn, Issued, KeepsBounds, counter_at, first_of}
 
 linked-rest : (x : Course) (a : Issued) (l : List Issued) → AreLinked x (a ∷ l) → AreLinked x l
 linked-rest x a [] h = tt

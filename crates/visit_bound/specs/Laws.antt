@@ -10,13 +10,14 @@ use Rattle.world_model.specs.World.{Start, is_quiet, world}
 use Rattle.visit_bound.specs.Visits.{Issued, IsVisit, KeepsBounds, first_of, issues_of}
 
 -- A machine with these slots, where the hart is hard and active at the start, and where the section has the same
--- words. What the other harts run, what they may do, and what else there is in memory plays no part.
+-- words as far as the scratchpad goes. What the other harts run, what they and this one may do, and what else there is
+-- in memory plays no part.
 pub record IsHost (s : Start) (t : Tree) (slots thread : ℕ) : Type 0 where
   pub number : thread < 8
   pub eight : length s.threads ≡ 8
   pub hard : mode_of s.registers.modes thread ≡ 0
   pub same_slots : s.registers.slots ≡ slots
-  pub same_words : (u : ℕ) → u % 4 ≡ 0 → Lies (graph t) u → code_at s.size s.i_words u ≡ word_at t u
+  pub same_words : (u : ℕ) → u % 4 ≡ 0 → Lies (graph t) u → u < s.size → code_at s.size s.i_words u ≡ word_at t u
 
 -- The second issue is at the end of an edge of the first one's word, at the hart's first turn that is at least the
 -- edge's lag later.

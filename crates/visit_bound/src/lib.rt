@@ -8,12 +8,10 @@ ghost use Rattle.visit_bound.specs.Laws.{IssuesFollowEdges, VisitsAreBounded};
 /// first turn after the edge's lag.
 pub fn follows_edges()
     ensures { IssuesFollowEdges }
-{
-}
+{}
 
 /// No visit of a hard hart in a quiet run that keeps the stated bounds of the section's loops is
 /// longer than what the section's walks can cost.
 pub fn stays_bounded()
     ensures { VisitsAreBounded }
-{
-}
+{}

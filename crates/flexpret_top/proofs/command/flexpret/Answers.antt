@@ -1,10 +1,24 @@
+use Rattle.std.proofs.Common.{map}
+use Rattle.std.specs.Prelude.{string_bytes}
+use Rattle.fp_ports.specs.Rows.{rows_of}
+use Rattle.flexpret_top.proofs.Ending.{complete-of}
 use Rattle.flexpret_top.proofs.Usage.{usage-said, usage-answered}
 use Rattle.flexpret_top.proofs.command.flexpret.Goals as goal
 
 pub returns-in-Err-Usage-clause-said : goal.returns-in-Err-Usage-clause-said
 returns-in-Err-Usage-clause-said g c small =
-    usage-said (g.F.Files.told c.args.files.now) _ _ (g.K.Sink.taken c.args.out.now) c.number-in-Err-Usage.result c.number-in-Err-Usage.ensures c.in-Err-Usage.ensures.refused
+    let rows = rows_of (λ b. (goal.Port-dyn g (b.vtable, b.value)).latched b.value) (λ b. (goal.Port-dyn g (b.vtable, b.value)).word_at b.value) c.args.ports.now.items in
+    let nothing = rw c.in-Err-Usage.field-0-is at c.in-Err-Usage.ensures.refused in
+    usage-said (g.F.Files.told c.args.files.now) (map string_bytes c.args.words.now) rows (g.K.Sink.taken c.args.out.now) c.number-in-Err-Usage.result c.number-in-Err-Usage.ensures nothing
 
 pub returns-in-Err-Usage-clause-complete : goal.returns-in-Err-Usage-clause-complete
 returns-in-Err-Usage-clause-complete g c no_fetch_fault no_put_fault =
-    usage-answered (g.F.Files.told c.args.files.now) _ _ c.number-in-Err-Usage.result c.number-in-Err-Usage.ensures c.in-Err-Usage.ensures.refused
+    let rows = rows_of (λ b. (goal.Port-dyn g (b.vtable, b.value)).latched b.value) (λ b. (goal.Port-dyn g (b.vtable, b.value)).word_at b.value) c.args.ports.now.items in
+    let nothing = rw c.in-Err-Usage.field-0-is at c.in-Err-Usage.ensures.refused in
+    usage-answered (g.F.Files.told c.args.files.now) (map string_bytes c.args.words.now) rows c.number-in-Err-Usage.result c.number-in-Err-Usage.ensures nothing
+
+pub returns-in-Ok-clause-complete : goal.returns-in-Ok-clause-complete
+returns-in-Ok-clause-complete g c no_fetch_fault no_put_fault =
+    let rows = rows_of (λ b. (goal.Port-dyn g (b.vtable, b.value)).latched b.value) (λ b. (goal.Port-dyn g (b.vtable, b.value)).word_at b.value) c.args.ports.now.items in
+    complete-of (g.F.Files.told c.args.files.now) (map string_bytes c.args.words.now) c.in-Ok.ask rows c.answer.result c.number.result c.in-Ok.ensures.asked c.number.ensures
+      (c.answer.ensures.complete no_fetch_fault no_put_fault)

@@ -1,4 +1,4 @@
-use Rattle.flexpret_top.proofs.Delivering.{dump-ok, dump-err}
+use Rattle.flexpret_top.proofs.Delivering.{dump-ok, dump-err, ports-gone}
 use Rattle.flexpret_top.proofs.deliver.put_dump.Goals as goal
 
 pub returns-clause-ok : goal.returns-clause-ok
@@ -6,3 +6,6 @@ returns-clause-ok g c = dump-ok c.args.ready _ _ c.go.new.machine (g.K.Sink.take
 
 pub returns-clause-err : goal.returns-clause-err
 returns-clause-err g c = dump-err c.args.ready _ _ c.go.new.machine (g.K.Sink.taken c.args.out.now) (g.K.Sink.taken c.dump.new.out) c.dump.result c.go.ensures.gone c.dump.ensures.err
+
+pub returns-clause-left : goal.returns-clause-left
+returns-clause-left g c = ports-gone c.args.ready _ _ c.go.new.machine c.go.ensures.gone

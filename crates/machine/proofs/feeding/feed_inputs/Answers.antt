@@ -1,4 +1,4 @@
-use Rattle.std.proofs.Common.{ap, sym, ◌∙◌}
+use Rattle.std.proofs.Common.{ap}
 use Rattle.std.proofs.lemmas.Result.{err_from_is_err_and}
 use Rattle.machine.proofs.FeedLemmas.{turn, turn_front}
 use Rattle.machine.proofs.feeding.feed_inputs.Goals as goal

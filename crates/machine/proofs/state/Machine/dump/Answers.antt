@@ -1,4 +1,3 @@
-use Rattle.fp_ports.specs.Rows.{rows_of}
 use Rattle.machine.proofs.DumpLemmas.{dump_ok, dump_err}
 use Rattle.machine.proofs.state.Machine.dump.Goals as goal
 
