@@ -1,11 +1,7 @@
 use Rattle.std.proofs.Common.{◌+◌, ◌<◌, arith, ap, ◌∙◌}
 use Rattle.std.proofs.lemmas.Result.{err_from_is_err_and}
-<<<<<<< HEAD
 use Rattle.machine.proofs.RunLemmas.{left_all, run_begins, run_on, run_stops}
 use Rattle.machine.proofs.WordLemmas.{words_on}
-=======
-use Rattle.machine.proofs.RunLemmas.{run_begins, run_on, run_stops}
->>>>>>> 5b44d5bbc3a19fe4cb2705a57cccb6e9b7cd142a
 use Rattle.machine.proofs.state.Machine.run.Goals as goal
 
 pub loop-cycle-init : goal.loop-cycle-init
