@@ -1,0 +1,89 @@
+//! What the machine writes for a command.
+
+use crate::table::{Case, Command};
+use fp_image::{Image, read_image};
+use fp_io::MemSink;
+use fp_ports::{HeldPort, Port, Ports, WavePort};
+use fp_setup::{Setup, read_setup};
+use machine::{Machine, feed_inputs};
+use std::alloc::{AllocError, Global};
+
+/// More than the bytes of any text of the table.
+const ROOM: usize = 65_536;
+
+/// The device of a kind: `-` none, `h` one that holds what it is fed, `wN` a square wave.
+fn port_of(alloc: Global, kind: &str) -> Result<Option<Box<dyn Port>>, AllocError> {
+    if kind == "h" {
+        return Ok(Some(Box::new(alloc, HeldPort::new(alloc))?));
+    }
+    let half = match kind.strip_prefix('w') {
+        Some(digits) => digits.parse().unwrap_or(0u64),
+        None => 0,
+    };
+    if half == 0 {
+        return Ok(None);
+    }
+    Ok(Some(Box::new(alloc, WavePort::new(alloc, half))?))
+}
+
+/// The devices of a case.
+fn ports_of(alloc: Global, kinds: &str) -> Result<Ports, AllocError> {
+    let mut ports = Vec::new(alloc);
+    for kind in kinds.split(' ') {
+        ports.push(port_of(alloc, kind)?)?;
+    }
+    Ok(ports)
+}
+
+/// A case's setup and image, read, and how many cycles it has.
+#[derive(Drop)]
+pub struct World {
+    setup: Setup,
+    image: Image,
+    cycles: u64,
+}
+
+impl World {
+    /// None where the setup or the image is refused.
+    pub fn of_case(alloc: Global, case: &Case) -> Option<World> {
+        let setup = read_setup(alloc, case.setup.as_bytes()).ok()?;
+        let image = read_image(alloc, &case.image, setup.size()).ok()?;
+        let cycles = case.cycles.as_str().parse().ok()?;
+        Some(World {
+            setup,
+            image,
+            cycles,
+        })
+    }
+
+    /// What the machine writes for a command beside ports of these kinds.
+    pub fn text_of(
+        &self,
+        alloc: Global,
+        kinds: &str,
+        command: &Command,
+    ) -> Result<String, AllocError> {
+        let mut ports = ports_of(alloc, kinds)?;
+        if ports.len() != 8 || self.cycles > 4_000_000_000 {
+            return String::from_str(alloc, "no case\n");
+        }
+        feed_inputs(&self.setup, &mut ports)?;
+        let mut machine = Machine::load(alloc, &self.setup, &self.image)?;
+        let mut out = MemSink::new(alloc, ROOM)?;
+        let thread = match command.words.as_str().strip_prefix("run ") {
+            Some(digit) => digit.parse().unwrap_or(0u8) % 8,
+            None => 0,
+        };
+        let ran = machine.run(self.cycles, thread, &mut ports, &mut out);
+        if command.words.as_str() == "dump" {
+            out = MemSink::new(alloc, ROOM)?;
+            if machine.dump(&ports, &mut out).is_err() {
+                return String::from_str(alloc, "no room for the dump\n");
+            }
+        }
+        if ran.is_err() {
+            return String::from_str(alloc, "no room for the trace\n");
+        }
+        String::from_utf8_lossy(alloc, out.bytes())
+    }
+}
