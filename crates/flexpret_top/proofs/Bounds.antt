@@ -61,10 +61,12 @@ pub asked_for : (s : Settings) (i : ℕ) (section : Section) → section_fault s
 unfolding section_fault
 asked_for s i section e =
     let (named, order, aligned, outside) = asked_by (mode_of s.modes i == 0) (names s.slots i) (nat_le section.to section.from) (section.from % 4 == 0 && section.to % 4 == 0) (nat_lt (size_of s.version) section.to) e in
-    let small = size_small s.version in
-    (named, record {
-      order = grind (arith, nat_tests, order);
-      from_aligned = grind (arith, nat_tests, aligned);
-      to_aligned = grind (arith, nat_tests, aligned);
-      end = grind (arith, nat_tests, outside, small);
-    })
+    let small = size_small s.version in (
+      named,
+      record {
+        order = grind (arith, nat_tests, order);
+        from_aligned = grind (arith, nat_tests, aligned);
+        to_aligned = grind (arith, nat_tests, aligned);
+        end = grind (arith, nat_tests, outside, small);
+      },
+    )

@@ -37,7 +37,7 @@ ready-is None name before after p r is fed eight eight' few stands = tt
 ready-is (Some files) name before after p r is fed eight eight' few stands =
     let Stands : Start → Type 0 = λ s. StandsFor s 0 r.cycles r.machine after in
     let same : start_beside p.setup p.image after r.cycles ≡ start_of p before r.cycles =
-          ap (λ ports. start_beside p.setup p.image ports r.cycles) fed ∙ feeds p.setup p.image before r.cycles eight (omega arith) in
+    ap (λ ports. start_beside p.setup p.image ports r.cycles) fed ∙ feeds p.setup p.image before r.cycles eight (omega arith) in
     record { made = p; is = is; stands = subst Stands same (stands after r.cycles eight') }
 
 pub trace-prepares : (told : Option FileMap) (name : List ℕ) (i n : ℕ) (before after : List (Option Row)) (r : Ready) → r.cycles ≡ n →
@@ -82,4 +82,4 @@ pub ready-beside : {B : Type 0} → (latched : B → ℕ) (word_at : B → ℕ �
     IfSome told (λ files. IsReady files name (rows_of latched word_at before) (rows_of latched word_at after) r)
 ready-beside latched word_at told name before after p r is fed eight eight' few stands =
     ready-is told name (rows_of latched word_at before) (rows_of latched word_at after) p r is fed
-      (length-map before (row_of latched word_at) ∙ eight) (length-map after (row_of latched word_at) ∙ eight') few stands
+    (length-map before (row_of latched word_at) ∙ eight) (length-map after (row_of latched word_at) ∙ eight') few stands

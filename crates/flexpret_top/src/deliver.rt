@@ -64,11 +64,7 @@ fn put_dump<K: Sink>(ready: Ready, ports: &mut Ports, out: &mut K) -> Result<(),
 }
 
 /// Writes what was prepared.
-pub fn deliver<K: Sink>(
-    prepared: Prepared,
-    ports: &mut Ports,
-    out: &mut K,
-) -> Result<(), PutFailed>
+pub fn deliver<K: Sink>(prepared: Prepared, ports: &mut Ports, out: &mut K) -> Result<(), PutFailed>
     requires thread { IsThread prepared }
     requires eight { vec_len ports.old ≡ 8 }
     ensures ok { OnOk result ((written : List ℕ) → Delivers prepared (rows_of latched word_at ports.old.items) written → Appends (K.taken out.old) (K.taken out.new) written) }

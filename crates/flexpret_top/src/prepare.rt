@@ -123,9 +123,7 @@ fn bound<F: Files>(
         from: section.from,
         to: section.to,
     };
-    Ok(Prepared::Bound(section_bound(
-        alloc, &program, thread, section,
-    )?))
+    Ok(Prepared::Bound(section_bound(alloc, &program, thread, section)?))
 }
 
 /// What a command will write, with the ports fed where it runs the machine.

@@ -120,12 +120,7 @@ fn most_of_an_image(size: u32) -> usize
 }
 
 /// Fetches and reads an image, for scratchpads of a size.
-fn fetch_image<F: Files>(
-    alloc: Global,
-    name: &str,
-    size: u32,
-    files: &mut F,
-) -> Result<Image, Stop>
+fn fetch_image<F: Files>(alloc: Global, name: &str, size: u32, files: &mut F) -> Result<Image, Stop>
     requires { IsSize size }
     ensures told { F.told files.new ≡ F.told files.old }
     ensures counted { F.faults files.old ≤ F.faults files.new }

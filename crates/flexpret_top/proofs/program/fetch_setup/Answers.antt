@@ -5,10 +5,10 @@ use Rattle.flexpret_top.proofs.program.fetch_setup.Goals as goal
 pub returns-clause-ok : goal.returns-clause-ok
 returns-clause-ok g c =
     ok-over (g.F.Files.told c.args.files.now) c.args.name.now setup_in c.deref.result.now c.in_ok-bytes.bytes.items 262144 c.setup_in.result
-      setup-cut c.in_ok-bytes.ensures.bytes c.deref.ensures.value c.setup_in.ensures.ok
+    setup-cut c.in_ok-bytes.ensures.bytes c.deref.ensures.value c.setup_in.ensures.ok
 
 pub returns-clause-stop : goal.returns-clause-stop
 returns-clause-stop g c =
     stop-over (g.F.Files.told c.args.files.now) c.args.name.now setup_in c.deref.result.now c.in_ok-bytes.bytes.items 262144
-      (g.F.Files.faults c.args.files.now) (g.F.Files.faults c.fetch.new.files) c.setup_in.result
-      setup-cut c.in_ok-bytes.ensures.bytes c.deref.ensures.value c.setup_in.ensures.stop
+    (g.F.Files.faults c.args.files.now) (g.F.Files.faults c.fetch.new.files) c.setup_in.result
+    setup-cut c.in_ok-bytes.ensures.bytes c.deref.ensures.value c.setup_in.ensures.stop
