@@ -1,7 +1,7 @@
 //! The answers of the assembler as texts.
 
 use fp_asm::{AsmRefused, assemble};
-use fp_image::Image;
+use fp_image::{Image, write_image};
 use std::alloc::{AllocError, Global};
 use std::fmt::Write;
 
@@ -28,4 +28,13 @@ fn image_text(alloc: Global, image: &Image) -> Result<String, AllocError> {
         }
     }
     Ok(text)
+}
+
+/// Whether a source is assembled to the image with these bytes.
+pub fn gives(alloc: Global, source: &[u8], image: &[u8]) -> Result<bool, AllocError> {
+    match assemble(alloc, source) {
+        Ok(assembled) => Ok(write_image(alloc, &assembled)?.as_slice() == image),
+        Err(AsmRefused::Fault { .. }) => Ok(false),
+        Err(AsmRefused::NoMemory) => Err(AllocError),
+    }
 }

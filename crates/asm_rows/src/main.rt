@@ -6,7 +6,8 @@
 //! The answers of `sources.txt` were worked out from the rules of the language by hand and by a
 //! model in another language. GNU as 2.40 with GNU ld made the words of `gnu.txt`, for the
 //! architecture `rv32im_zicsr_zifencei` without relaxation: every mnemonic that both assemblers
-//! know, each at a place that `.org` gives.
+//! know, each at a place that `.org` gives. Last, the source of an example, which stands there too,
+//! is assembled to the bytes of its image.
 #![tactic(auto)]
 
 mod answers;
@@ -23,5 +24,8 @@ fn main(rt: HostRuntime) -> io::Result<()> {
         let tally = rows::compared(&rt, table.as_str())?;
         println!(rt; "{name}: {} rows, {} differ", tally.rows, tally.differ)?;
     }
-    Ok(())
+    let source = fs::read(&rt, "drive.s")?;
+    let image = fs::read(&rt, "drive.fpx")?;
+    let same = answers::gives(rt.alloc(), &source, &image)?;
+    println!(rt; "drive.s gives drive.fpx: {same}")
 }

@@ -1,8 +1,12 @@
-//! The program: `flexpret run IMAGE --thread i --cycles n`.
+//! The program: `flexpret run SETUP --thread i --cycles n`, and the commands beside it.
 #![tactic(auto)]
+
+ghost use Rattle.std.specs.Prelude.{◌≡◌, OnOk, vec_len};
 
 use flexpret_top::flexpret;
 use fp_io::{OutSink, RealFiles};
+use fp_ports::{HeldPort, Port, Ports};
+use std::alloc::{AllocError, Global};
 use std::process::ExitCode;
 use std::{env, io};
 
@@ -33,17 +37,42 @@ fn read_args(rt: HostRuntime) -> Result<Vec<String>, u8> {
     }
 }
 
+/// A device that shows 0 until it is fed.
+fn held(alloc: Global) -> Result<Option<Box<dyn Port>>, AllocError> {
+    Ok(Some(Box::new(alloc, HeldPort::new(alloc))?))
+}
+
+/// A device for each of the eight threads.
+fn ports(alloc: Global) -> Result<Ports, AllocError>
+    ensures { OnOk result (λ ports. vec_len ports ≡ 8) }
+{
+    Ok(vec![in alloc;
+        held(alloc)?,
+        held(alloc)?,
+        held(alloc)?,
+        held(alloc)?,
+        held(alloc)?,
+        held(alloc)?,
+        held(alloc)?,
+        held(alloc)?,
+    ]?)
+}
+
 /// Runs the command that the words ask.
 fn run(rt: HostRuntime) -> u8 {
     let words = match read_args(rt) {
         Ok(words) => words,
         Err(status) => return status,
     };
+    let Ok(mut ports) = ports(rt.alloc()) else {
+        return NO_MEMORY;
+    };
     flexpret(
         rt.alloc(),
         &words,
         &mut RealFiles::new(rt),
         &mut OutSink::new(rt),
+        &mut ports,
     )
 }
 

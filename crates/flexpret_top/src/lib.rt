@@ -10,5 +10,7 @@ mod program;
 mod ready;
 mod status;
 mod stop;
+#[cfg(test)]
+mod tests;
 
 pub use command::flexpret;
