@@ -152,8 +152,7 @@ mod tests {
     use std::test::Fail;
 
     // addi x5, x5, -1; bne x5, x0, 0
-    const FILE: &[u8] =
-        b"FPX1\x01\0\0\0\0\0\0\0\x08\0\0\0\x93\x82\xf2\xff\xe3\x9e\x02\xfe";
+    const FILE: &[u8] = b"FPX1\x01\0\0\0\0\0\0\0\x08\0\0\0\x93\x82\xf2\xff\xe3\x9e\x02\xfe";
 
     const ROUND: LoopSetup = LoopSetup {
         head: 0,

@@ -76,7 +76,7 @@ section-longest law p i section before after None x (inr (inr bounded)) said =
       wrote = (subst Tells bounded.line said).1;
       met = bounded.is;
       longest = λ m n alike quiet last earlier visit keeps.
-        law p.setup p.image section i bounded.cycles m n bounded.accepted bounded.is.kept alike quiet last earlier visit keeps;
+          law p.setup p.image section i bounded.cycles m n bounded.accepted bounded.is.kept alike quiet last earlier visit keeps;
     }
 
 visits-over : VisitsStayBounded → (asked : Option Ask) (files : FileMap) (ports : List (Option Row)) (before after : Option (List ℕ)) → Said (IsAnswerTo asked files ports) 0 before after → BoundsVisits asked files before after

@@ -13,12 +13,7 @@ use std::alloc::{AllocError, Global};
 ///
 /// Memory was refused.
 #[tactic(auto, unfolding(crate::specs::Start::words_from))]
-pub fn word_list(
-    alloc: Global,
-    image: &Image,
-    base: u32,
-    size: u32,
-) -> Result<Vec<u32>, AllocError>
+pub fn word_list(alloc: Global, image: &Image, base: u32, size: u32) -> Result<Vec<u32>, AllocError>
     requires { base + size < 2 ^ 32 }
     ensures { IfOk result (λ words. words.items ≡ words_from image.now base size) }
 {

@@ -32,5 +32,5 @@ pub position-more : (w i : ℕ) (own : List Bool) (k : ℕ) → i < 8 → k < le
 position-more w i own k small room inside before =
     let mine : is_turn_of (turn w k) i ≡ (get_or (frame w) k 14 == i) = ap (λ t. is_turn_of t i) (turn-first w k inside) ∙ turn-own (get_or (frame w) k 14) i small in
     let more : map (λ slot. slot == i) (take (k + 1) (frame w)) ≡ map (λ slot. slot == i) (take k (frame w)) ++ (get_or (frame w) k 14 == i) ∷ [] =
-        ap (map (λ slot. slot == i)) (take_more (frame w) k 14 inside) ∙ map-append (λ slot. slot == i) (take k (frame w)) (get_or (frame w) k 14 ∷ []) in
+    ap (map (λ slot. slot == i)) (take_more (frame w) k 14 inside) ∙ map-append (λ slot. slot == i) (take k (frame w)) (get_or (frame w) k 14 ∷ []) in
     take_more_set own k (is_turn_of (turn w k) i) room ∙ ap₂ (λ (front : List Bool) (last : Bool). front ++ last ∷ []) before mine ∙ sym more

@@ -70,9 +70,14 @@ view-is s image i v made shown =
     let i_words = words-made image 0 v.size (size_of s.version) (kinds_of v.i_kind) (viewed.kinds_of i s.iregions) v.i made.i made.size made.i_kinds in
     let d_words = words-made image 0x20000000 v.size (size_of s.version) (kinds_of v.d_kind) (viewed.kinds_of i s.dregions) v.d made.d made.size made.d_kinds in
     let setting : setting_in v ≡ record {
-          period = s.period; size = size_of s.version; thread = i; own = map (λ slot. slot == i) (frame s.slots);
-          i_kinds = viewed.kinds_of i s.iregions; d_kinds = viewed.kinds_of i s.dregions; i_words = viewed.seen (size_of s.version) (viewed.kinds_of i s.iregions) (words_from image 0 (size_of s.version));
-        } = same-setting v.period s.period v.size (size_of s.version) v.thread i _ _ _ _ _ _ v.i _ made.period made.size made.thread made.own made.i_kinds made.d_kinds i_words in
+      period = s.period;
+      size = size_of s.version;
+      thread = i;
+      own = map (λ slot. slot == i) (frame s.slots);
+      i_kinds = viewed.kinds_of i s.iregions;
+      d_kinds = viewed.kinds_of i s.dregions;
+      i_words = viewed.seen (size_of s.version) (viewed.kinds_of i s.iregions) (words_from image 0 (size_of s.version));
+    } = same-setting v.period s.period v.size (size_of s.version) v.thread i _ _ _ _ _ _ v.i _ made.period made.size made.thread made.own made.i_kinds made.d_kinds i_words in
     same-view _ _ (fresh v.entry) _ v.d _ shown setting made.entry d_words
 
 pub length-seen_words : (image : List Segment) (base size : ℕ) (kinds : List Standing) → length (seen_words image base size kinds) ≡ size / 4

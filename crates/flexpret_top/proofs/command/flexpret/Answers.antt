@@ -23,7 +23,7 @@ pub returns-in-Ok-clause-complete : goal.returns-in-Ok-clause-complete
 returns-in-Ok-clause-complete g c no_fetch_fault no_put_fault =
     let rows = rows_of (λ b. (goal.Port-dyn g (b.vtable, b.value)).latched b.value) (λ b. (goal.Port-dyn g (b.vtable, b.value)).word_at b.value) c.args.ports.now.items in
     complete-of (g.F.Files.told c.args.files.now) (map string_bytes c.args.words.now) c.in-Ok.ask rows c.answer.result c.number.result c.in-Ok.ensures.asked c.number.ensures
-      (c.answer.ensures.complete no_fetch_fault no_put_fault)
+    (c.answer.ensures.complete no_fetch_fault no_put_fault)
 
 pub returns-in-Ok-clause-alone : goal.returns-in-Ok-clause-alone
 returns-in-Ok-clause-alone g c zero =

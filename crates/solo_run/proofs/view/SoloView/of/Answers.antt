@@ -15,16 +15,16 @@ returns-clause-view c =
     let is = c.setup.view_is in
     let inside : i < length c.setup.inside.threads = omega (arith, c.get.ensures.eight, c.requires) in
     let made : IsMade s c.args.image.now i _ = record {
-          period = ap (λ (s : Settings). s.period) is;
-          thread = refl;
-          size = c.size-size.ensures.size;
-          own = ap (λ n. take n c.positions.result) (c.frame_len.ensures) ∙ c.positions.ensures ∙ ap (λ w. map (λ slot. slot == i) (frame w)) c.slot_table-slots.ensures;
-          i_kinds = c.kinds-i_kind.ensures ∙ ap (kinds_of i) c.i_regions.ensures;
-          d_kinds = c.kinds-d_kind.ensures ∙ ap (kinds_of i) c.d_regions.ensures;
-          i = c.in_ok-readable_words.ensures;
-          d = c.in_ok-readable_words-2.ensures;
-          entry = sym (first-at c.setup.inside.threads i c.get.result.now inside c.get.ensures.value) ∙ ap (λ (s : Settings). get_or (map (λ (t : ThreadSetup). fresh t.entry) s.threads) i (fresh 0)) is;
-        } in
+      period = ap (λ (s : Settings). s.period) is;
+      thread = refl;
+      size = c.size-size.ensures.size;
+      own = ap (λ n. take n c.positions.result) (c.frame_len.ensures) ∙ c.positions.ensures ∙ ap (λ w. map (λ slot. slot == i) (frame w)) c.slot_table-slots.ensures;
+      i_kinds = c.kinds-i_kind.ensures ∙ ap (kinds_of i) c.i_regions.ensures;
+      d_kinds = c.kinds-d_kind.ensures ∙ ap (kinds_of i) c.d_regions.ensures;
+      i = c.in_ok-readable_words.ensures;
+      d = c.in_ok-readable_words-2.ensures;
+      entry = sym (first-at c.setup.inside.threads i c.get.result.now inside c.get.ensures.value) ∙ ap (λ (s : Settings). get_or (map (λ (t : ThreadSetup). fresh t.entry) s.threads) i (fresh 0)) is;
+    } in
     view-is s c.args.image.now i _ made
 
 pub returns-clause-rules : goal.returns-clause-rules
