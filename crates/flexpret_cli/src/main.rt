@@ -1,7 +1,7 @@
 //! The program: `flexpret run SETUP --thread i --cycles n`, and the commands beside it.
 #![tactic(auto)]
 
-ghost use Rattle.std.specs.Prelude.{◌≡◌, OnOk, vec_len};
+ghost use Rattle.std.specs.Prelude.{◌≡◌, IfOk, vec_len};
 
 use flexpret_top::flexpret;
 use fp_io::{OutSink, RealFiles};
@@ -44,7 +44,7 @@ fn held(alloc: Global) -> Result<Option<Box<dyn Port>>, AllocError> {
 
 /// A device for each of the eight threads.
 fn ports(alloc: Global) -> Result<Ports, AllocError>
-    ensures { OnOk result (λ ports. vec_len ports ≡ 8) }
+    ensures { IfOk result (λ ports. vec_len ports ≡ 8) }
 {
     Ok(vec![in alloc;
         held(alloc)?,
