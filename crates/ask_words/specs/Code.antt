@@ -3,9 +3,9 @@ use Rattle.std.specs.Prelude.{ℕ, ◌==◌, List, Option, Some, None, option_ma
 use Rattle.std.specs.Option.{option_map_or}
 use Rattle.std.specs.Str.{bytes_eq}
 use Rattle.ask_words.specs.Forms.{Text, Pairs, Form, gives, opens, bad, pairs, each_once, count_of}
-use Rattle.ask_words.specs.Commands.{CommandRow, run_row, dump_row, asm_row, bound_row}
+use Rattle.ask_words.specs.Commands.{CommandRow, run_row, dump_row, asm_row, bound_row, selfrun_row}
 use Rattle.ask_words.specs.declared.command.Command.{Command}
-use Rattle.ask_words.specs.declared.command.Command.TheVariants.{Run, Dump, Asm, Bound}
+use Rattle.ask_words.specs.declared.command.Command.TheVariants.{Run, Dump, Asm, Bound, Selfrun}
 use Rattle.ask_words.specs.declared.form.Form.{Form as CodeForm}
 use Rattle.ask_words.specs.declared.form.Form.TheVariants as code
 
@@ -15,6 +15,7 @@ row_of Run = run_row
 row_of Dump = dump_row
 row_of Asm = asm_row
 row_of Bound = bound_row
+row_of Selfrun = selfrun_row
 
 -- the form that the code found
 abbrev pub form_value : CodeForm → Form

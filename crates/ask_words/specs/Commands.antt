@@ -4,10 +4,10 @@ use Rattle.std.specs.Str.{bytes_eq}
 use Rattle.ask_words.specs.Forms.{Text, texts_in}
 use Rattle.ask_words.specs.Numbers.{thread_in, number_in, address_in}
 use Rattle.ask_words.specs.declared.asked.Ask.{Ask}
-use Rattle.ask_words.specs.declared.asked.Ask.TheVariants.{Run, Dump, Asm, Bound}
+use Rattle.ask_words.specs.declared.asked.Ask.TheVariants.{Run, Dump, Asm, Bound, Selfrun}
 
--- a command: its name, its options in order, and what it asks by the file name and the options' values
--- in that order
+-- a command: its name, its options in order, and what it asks by the file name (of `selfrun`: the number,
+-- which is given as a file name is) and the options' values in that order
 pub record CommandRow : Type 0 where
   pub name : Text
   pub options : List Text
@@ -45,6 +45,11 @@ abbrev pub bound_asks : List Text → Option Ask
 bound_asks (setup ∷ thread ∷ from ∷ to ∷ []) = of_three (bound_of setup) (thread_in thread) (address_in from) (address_in to)
 bound_asks _ = None
 
+-- a number, at most 4,294,967,295
+abbrev pub selfrun_asks : List Text → Option Ask
+selfrun_asks (number ∷ []) = option_map Selfrun (number_in 4294967295 number)
+selfrun_asks _ = None
+
 abbrev pub run_row : CommandRow
 run_row = record { name = codes "run"; options = codes "thread" ∷ codes "cycles" ∷ []; asks = run_asks }
 
@@ -57,8 +62,11 @@ asm_row = record { name = codes "asm"; options = []; asks = asm_asks }
 abbrev pub bound_row : CommandRow
 bound_row = record { name = codes "bound"; options = codes "thread" ∷ codes "from" ∷ codes "to" ∷ []; asks = bound_asks }
 
+abbrev pub selfrun_row : CommandRow
+selfrun_row = record { name = codes "selfrun"; options = []; asks = selfrun_asks }
+
 abbrev pub commands : List CommandRow
-commands = run_row ∷ dump_row ∷ asm_row ∷ bound_row ∷ []
+commands = run_row ∷ dump_row ∷ asm_row ∷ bound_row ∷ selfrun_row ∷ []
 
 -- what the words after a command's name ask
 unfoldable pub asked : CommandRow → List Text → Option Ask

@@ -47,6 +47,10 @@ pub enum Ask {
         thread: u8,
         section: Section,
     },
+    /// `selfrun NUMBER`: a large run that the number makes.
+    Selfrun {
+        number: u32,
+    },
 }
 
 impl From<AllocError> for WordsNo {

@@ -7,4 +7,5 @@ pub enum Command {
     Dump,
     Asm,
     Bound,
+    Selfrun,
 }

@@ -3,7 +3,7 @@
 ghost use Rattle.std.specs.Prelude.{◌≡◌, map, string_bytes, IfOk, IfErr, Some, option_map, find};
 ghost use Rattle.std.specs.Str.{bytes_eq};
 ghost use Rattle.ask_words.specs.Forms.{texts_in};
-ghost use Rattle.ask_words.specs.Commands.{ask, asked, commands, run_asks, dump_asks, asm_asks, bound_asks};
+ghost use Rattle.ask_words.specs.Commands.{ask, asked, commands, run_asks, dump_asks, asm_asks, bound_asks, selfrun_asks};
 ghost use Rattle.ask_words.specs.Code.{row_of};
 ghost use Rattle.ask_words.specs.Causes.{IsCauseOf};
 ghost use Rattle.ask_words.specs.Limits.{IsWithinLimits};
@@ -18,6 +18,9 @@ use std::alloc::Global;
 /// The most cycles of a run.
 const MOST_CYCLES: u64 = 4_000_000_000;
 
+/// The largest number of a large run.
+const MOST_NUMBER: u64 = 4_294_967_295;
+
 /// The command of this name.
 fn command_named(name: &str) -> Option<Command>
     ensures { option_map row_of result ≡ find (λ row. bytes_eq name.now row.name) commands }
@@ -27,6 +30,7 @@ fn command_named(name: &str) -> Option<Command>
         "dump" => Some(Command::Dump),
         "asm" => Some(Command::Asm),
         "bound" => Some(Command::Bound),
+        "selfrun" => Some(Command::Selfrun),
         _ => None,
     }
 }
@@ -45,6 +49,7 @@ fn texts_for<'a>(
         Command::Dump => texts_of(alloc, "dump", &["cycles"], words),
         Command::Asm => texts_of(alloc, "asm", &[], words),
         Command::Bound => texts_of(alloc, "bound", &["thread", "from", "to"], words),
+        Command::Selfrun => texts_of(alloc, "selfrun", &[], words),
     }
 }
 
@@ -122,7 +127,24 @@ fn bound(alloc: Global, texts: &[&str]) -> Result<Ask, WordsNo>
     }
 }
 
-/// What a command asks by its texts: the file name, and the options' values in order.
+/// `selfrun NUMBER`, whose number stands as the other commands' file name does.
+fn selfrun(texts: &[&str]) -> Result<Ask, WordsNo>
+    ensures asked { IfOk result (λ a. selfrun_asks (map (λ t. t.now) texts.now) ≡ Some a) }
+    ensures refused { IfErr result (IsCauseOf (selfrun_asks (map (λ t. t.now) texts.now))) }
+    ensures limits { IfOk result IsWithinLimits }
+{
+    if texts.len() != 1 {
+        return Err(WordsNo::Usage);
+    }
+    match number_of(MOST_NUMBER, texts[0]) {
+        Some(number) => Ok(Ask::Selfrun {
+            number: number as u32,
+        }),
+        None => Err(WordsNo::Usage),
+    }
+}
+
+/// What a command asks by its texts: the file name or number, and the options' values in order.
 fn ask_by(alloc: Global, command: Command, texts: &[&str]) -> Result<Ask, WordsNo>
     ensures asked { IfOk result (λ a. (row_of command).asks (map (λ t. t.now) texts.now) ≡ Some a) }
     ensures refused { IfErr result (IsCauseOf ((row_of command).asks (map (λ t. t.now) texts.now))) }
@@ -133,6 +155,7 @@ fn ask_by(alloc: Global, command: Command, texts: &[&str]) -> Result<Ask, WordsN
         Command::Dump => dump(alloc, texts),
         Command::Asm => asm(alloc, texts),
         Command::Bound => bound(alloc, texts),
+        Command::Selfrun => selfrun(texts),
     }
 }
 

@@ -36,13 +36,14 @@ fn told(alloc: Global, line: &str) -> Result<String, AllocError> {
                 section.to
             )
         }
+        Ok(Ask::Selfrun { number }) => format!(in alloc; "selfrun {number}"),
         Err(WordsNo::Usage) => String::from_str(alloc, "usage"),
         Err(WordsNo::NoMemory) => String::from_str(alloc, "memory"),
     }
 }
 
 /// Words that ask, and what.
-static ASKED: [(&str, &str); 13] = [
+static ASKED: [(&str, &str); 17] = [
     ("run a.toml --thread 3 --cycles 5", "run a.toml 3 5"),
     ("run --cycles 5 a.toml --thread 3", "run a.toml 3 5"),
     ("run --cycles=5 --thread=3 a.toml", "run a.toml 3 5"),
@@ -62,10 +63,14 @@ static ASKED: [(&str, &str); 13] = [
         "bound a --from=4294967295 --to=0x0000000a --thread=1",
         "bound a 1 4294967295 10",
     ),
+    ("selfrun 1", "selfrun 1"),
+    ("selfrun 0", "selfrun 0"),
+    ("selfrun 4294967295", "selfrun 4294967295"),
+    ("selfrun 0000000007", "selfrun 7"),
 ];
 
 /// Words that ask nothing.
-static NOTHING: [&str; 40] = [
+static NOTHING: [&str; 49] = [
     "",
     "help",
     "--help",
@@ -105,7 +110,16 @@ static NOTHING: [&str; 40] = [
     "bound a --thread 0 --from 0x000000001 --to 1",
     "bound a --thread 0 --from 0x1g --to 1",
     "bound a --thread 0 --from 1a --to 1",
-    "selfrun 5",
+    "selfrun",
+    "selfrun ",
+    "selfrun abc",
+    "selfrun 0x1",
+    "selfrun -1",
+    "selfrun 4294967296",
+    "selfrun 00000000007",
+    "selfrun 1 2",
+    "selfrun 1 --cycles 5",
+    "selfruns 5",
 ];
 
 /// The first line that asks something else than is wanted.
