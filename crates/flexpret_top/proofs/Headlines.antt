@@ -5,7 +5,7 @@ use Rattle.std.specs.Io.KnownBytes.{Appends}
 use Rattle.fp_io.specs.Content.{FileMap}
 use Rattle.fp_ports.specs.Rows.{Row}
 use Rattle.ask_words.specs.declared.asked.Ask.{Ask}
-use Rattle.ask_words.specs.declared.asked.Ask.TheVariants.{Run, Dump, Asm, Bound}
+use Rattle.ask_words.specs.declared.asked.Ask.TheVariants.{Run, Dump, Asm, Bound, Selfrun}
 use Rattle.region_tree.specs.Tree.{Tree}
 use Rattle.region_tree.specs.declared.section.Section.{Section}
 use Rattle.region_tree.specs.declared.tree.TreeNo.{TreeNo}
@@ -39,6 +39,7 @@ alone-over law (Some (Run setup i n)) files ports before after said =
 alone-over law (Some (Dump setup n)) files ports before after said = tt
 alone-over law (Some (Asm source)) files ports before after said = tt
 alone-over law (Some (Bound setup i section)) files ports before after said = tt
+alone-over law (Some (Selfrun number)) files ports before after said = tt
 
 pub alone-of : TraceAlone → (told : Option FileMap) (asked : Option Ask) (ports : List (Option Row)) (before after : Option (List ℕ)) →
     IfSome told (λ files. Said (IsAnswerTo asked files ports) 0 before after) → IfSome told (λ files. WritesAlone asked files ports before after)
@@ -84,6 +85,7 @@ visits-over law None files ports before after said = tt
 visits-over law (Some (Run setup i n)) files ports before after said = tt
 visits-over law (Some (Dump setup n)) files ports before after said = tt
 visits-over law (Some (Asm source)) files ports before after said = tt
+visits-over law (Some (Selfrun number)) files ports before after said = tt
 visits-over law (Some (Bound setup i section)) files ports before after said =
     λ p is. (
     let s : Section = record { from = section.from; to = section.to } in

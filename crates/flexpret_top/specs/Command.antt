@@ -6,7 +6,8 @@ use Rattle.flexpret_top.specs.declared.program.Program.{Program}
 use Rattle.fp_io.specs.Content.{FileMap}
 use Rattle.ask_words.specs.Commands.{ask}
 use Rattle.ask_words.specs.declared.asked.Ask.{Ask}
-use Rattle.ask_words.specs.declared.asked.Ask.TheVariants.{Run, Dump, Asm, Bound}
+use Rattle.ask_words.specs.declared.asked.Ask.TheVariants.{Run, Dump, Asm, Bound, Selfrun}
+use Rattle.selfrun.specs.Text.{selfrun_text}
 use Rattle.flexpret_top.specs.Answer.{Answer, IsSaid, WritesFront, IsAnswered}
 use Rattle.flexpret_top.specs.Answer.Answer.{Says}
 use Rattle.flexpret_top.specs.Assembled.{asm_answer}
@@ -22,6 +23,7 @@ IsAnswerOf (Run setup thread cycles) files ports x = x ≡ run_answer files port
 IsAnswerOf (Dump setup cycles) files ports x = x ≡ dump_answer files ports setup cycles
 IsAnswerOf (Asm source) files ports x = x ≡ asm_answer files source
 IsAnswerOf (Bound setup thread section) files ports x = IsBoundAnswer (program files setup) thread (record { from = section.from; to = section.to }) x
+IsAnswerOf (Selfrun number) files ports x = x ≡ Says 0 (selfrun_text number)
 
 abbrev pub IsAnswerIn : Ask → List (Option Row) → FileMap → Answer → Type 0
 IsAnswerIn asked ports files x = IsAnswerOf asked files ports x
@@ -47,6 +49,7 @@ Leaves (Run setup thread cycles) files before after = LeavesMachine files setup 
 Leaves (Dump setup cycles) files before after = LeavesMachine files setup cycles before after
 Leaves (Asm source) files before after = after ≡ before
 Leaves (Bound setup thread section) files before after = after ≡ before
+Leaves (Selfrun number) files before after = after ≡ before
 
 abbrev pub LeavesBy : Option Ask → FileMap → List (Option Row) → List (Option Row) → Type 0
 LeavesBy None files before after = after ≡ before

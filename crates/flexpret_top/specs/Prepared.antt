@@ -13,7 +13,8 @@ use Rattle.world_model.specs.World.{Start, events}
 use Rattle.flexpret_top.specs.declared.program.Program.{Program}
 use Rattle.flexpret_top.specs.declared.ready.Ready.{Ready}
 use Rattle.flexpret_top.specs.declared.ready.Prepared.{Prepared}
-use Rattle.flexpret_top.specs.declared.ready.Prepared.TheVariants.{Trace, Dump, Image, Bound}
+use Rattle.flexpret_top.specs.declared.ready.Prepared.TheVariants.{Trace, Dump, Image, Bound, Selfrun}
+use Rattle.selfrun.specs.Text.{tallies_text}
 use Rattle.flexpret_top.specs.Answer.{Answer}
 use Rattle.flexpret_top.specs.Answer.Answer.{Says}
 use Rattle.flexpret_top.specs.Command.{IsAnswerOf, Leaves}
@@ -40,6 +41,7 @@ Delivers (Trace r thread) ports written = Runs r ports (λ s. text (events s thr
 Delivers (Dump r) ports written = Runs r ports (λ s. seen s r.cycles) written
 Delivers (Image bytes) ports written = written ≡ bytes.items
 Delivers (Bound cycles) ports written = written ≡ bound_text cycles
+Delivers (Selfrun run) ports written = written ≡ tallies_text run.tallies
 
 -- a thread that is asked for is one of the eight
 abbrev pub IsThread : Prepared → Type 0
@@ -52,6 +54,7 @@ LeavesPorts (Trace r thread) before after = (s : Start) → StandsFor s 0 r.cycl
 LeavesPorts (Dump r) before after = (s : Start) → StandsFor s 0 r.cycles r.machine before → PortsAfter s r.cycles before after
 LeavesPorts (Image bytes) before after = after ≡ before
 LeavesPorts (Bound cycles) before after = after ≡ before
+LeavesPorts (Selfrun run) before after = after ≡ before
 
 -- no port plays a part in it
 abbrev pub IsApartFrom : Prepared → Type 0

@@ -91,7 +91,8 @@ fn answer<F: Files, K: Sink>(
 /// - `dump SETUP --cycles n`: what is seen of the machine then;
 /// - `asm SOURCE`: the image of a source;
 /// - `bound SETUP --thread i --from a --to b`: the largest number of cycles from a section's first
-///   issue to the last, over all walks that keep the loops' bounds.
+///   issue to the last, over all walks that keep the loops' bounds;
+/// - `selfrun NUMBER`: what the eight threads did in a run of programs that the number draws.
 ///
 /// It answers the status of the command:
 ///

@@ -82,5 +82,6 @@ pub fn deliver<K: Sink>(prepared: Prepared, ports: &mut Ports, out: &mut K) -> R
         Prepared::Dump(ready) => put_dump(ready, ports, out),
         Prepared::Image(bytes) => out.put(&bytes),
         Prepared::Bound(cycles) => out.put(bound_line(cycles).as_bytes()),
+        Prepared::Selfrun(run) => run.put(out),
     }
 }

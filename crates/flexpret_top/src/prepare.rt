@@ -1,6 +1,7 @@
 //! What a command will write, before the first byte of it is written.
 
 ghost use Rattle.std.specs.Prelude.{◌≡◌, ◌≢◌, ◌⊎◌, ◌≤◌, ◌<◌, Ok, Err, IfOk, IfErr, IfSome, List, Option, vec_len};
+ghost use Rattle.fp_io.specs.Content.{FileMap};
 ghost use Rattle.fp_ports.specs.Rows.{Row, rows_of};
 ghost use Rattle.ask_words.specs.Limits.{IsWithinLimits};
 ghost use Rattle.ask_words.specs.declared.asked.Ask.{Ask};
@@ -21,6 +22,7 @@ use ask_words::{Ask, Section};
 use fp_io::Files;
 use fp_ports::Ports;
 use machine::{Machine, feed_inputs};
+use selfrun::Selfrun;
 use std::alloc::Global;
 
 /// The machine of a setup and the image that it names, with the ports fed.
@@ -128,6 +130,16 @@ fn bound<F: Files>(
     Ok(Prepared::Bound(section_bound(alloc, &program, thread, section)?))
 }
 
+/// `selfrun NUMBER`
+fn own_run(alloc: Global, number: u32) -> Result<Prepared, Stop>
+    ensures ok { IfOk result (λ p. (told : FileMap) (ports : List (Option Row)) → Prepares (Ask.Selfrun number) told ports ports p) }
+    ensures thread { IfOk result IsThread }
+    ensures apart { IfOk result IsApartFrom }
+    ensures memory { IfErr result (λ stop. stop ≡ NoMemory) }
+{
+    Ok(Prepared::Selfrun(Selfrun::new(alloc, number)?))
+}
+
 /// What a command will write, with the ports fed where it runs the machine.
 pub fn prepare<F: Files>(
     alloc: Global,
@@ -160,5 +172,6 @@ pub fn prepare<F: Files>(
             thread,
             section,
         } => bound(alloc, setup.as_str(), *thread, *section, files),
+        Ask::Selfrun { number } => own_run(alloc, *number),
     }
 }

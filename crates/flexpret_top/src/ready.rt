@@ -3,6 +3,7 @@
 ghost use Rattle.std.specs.Prelude.{◌≡◌, ◌≤◌};
 
 use machine::Machine;
+use selfrun::Selfrun;
 
 /// A machine at its start, and the number of cycles that are asked for.
 #[derive(Debug, Drop)]
@@ -24,4 +25,6 @@ pub enum Prepared {
     Image(Vec<u8>),
     /// The line of a bound, in cycles.
     Bound(u64),
+    /// The lines of the machine's own run.
+    Selfrun(Selfrun),
 }
