@@ -1,12 +1,10 @@
 //! The program: `flexpret run SETUP --thread i --cycles n`, and the commands beside it.
 #![tactic(auto)]
 
-ghost use Rattle.std.specs.Prelude.{◌≡◌, IfOk, vec_len};
-
 use flexpret_top::flexpret;
 use fp_io::{OutSink, RealFiles};
-use fp_ports::{HeldPort, Port, Ports};
-use std::alloc::{AllocError, Global};
+use fp_ports::{HeldPort, Ports};
+use std::alloc::AllocError;
 use std::process::ExitCode;
 use std::{env, io};
 
@@ -37,43 +35,25 @@ fn read_args(rt: HostRuntime) -> Result<Vec<String>, u8> {
     }
 }
 
-/// A device that shows 0 until it is fed.
-fn held(alloc: Global) -> Result<Option<Box<dyn Port>>, AllocError> {
-    Ok(Some(Box::new(alloc, HeldPort::new(alloc))?))
+/// Runs the command that the words ask, beside a device at each of the eight ports that shows 0 until
+/// it is fed.
+fn answer(rt: HostRuntime, words: &[String]) -> Result<u8, AllocError> {
+    let alloc = rt.alloc();
+    let mut ports: Ports = Vec::new(alloc);
+    for _thread in 0..8u8 {
+        ports.push(Some(Box::new(alloc, HeldPort::new(alloc))?))?;
+    }
+    let mut files = RealFiles::new(rt);
+    let mut out = OutSink::new(rt);
+    Ok(flexpret(alloc, words, &mut files, &mut out, &mut ports))
 }
 
-/// A device for each of the eight threads.
-fn ports(alloc: Global) -> Result<Ports, AllocError>
-    ensures { IfOk result (λ ports. vec_len ports ≡ 8) }
-{
-    Ok(vec![in alloc;
-        held(alloc)?,
-        held(alloc)?,
-        held(alloc)?,
-        held(alloc)?,
-        held(alloc)?,
-        held(alloc)?,
-        held(alloc)?,
-        held(alloc)?,
-    ]?)
-}
-
-/// Runs the command that the words ask.
+/// The status of the command, or that the words or the ports can't be made.
 fn run(rt: HostRuntime) -> u8 {
-    let words = match read_args(rt) {
-        Ok(words) => words,
-        Err(status) => return status,
-    };
-    let Ok(mut ports) = ports(rt.alloc()) else {
-        return NO_MEMORY;
-    };
-    flexpret(
-        rt.alloc(),
-        &words,
-        &mut RealFiles::new(rt),
-        &mut OutSink::new(rt),
-        &mut ports,
-    )
+    match read_args(rt) {
+        Ok(words) => answer(rt, &words).unwrap_or(NO_MEMORY),
+        Err(status) => status,
+    }
 }
 
 fn main(rt: HostRuntime) -> ExitCode {

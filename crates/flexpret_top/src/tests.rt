@@ -44,15 +44,6 @@ fn words(alloc: Global, line: &str) -> Result<Vec<String>, AllocError> {
     Ok(words)
 }
 
-/// Eight devices that show 0 until they are fed.
-fn held_ports(alloc: Global) -> Result<Ports, AllocError> {
-    let mut ports: Ports = Vec::new(alloc);
-    for _thread in 0..8u8 {
-        ports.push(Some(Box::new(alloc, HeldPort::new(alloc))?))?;
-    }
-    Ok(ports)
-}
-
 /// A setup with these slots and disabled ones after them, and then the tables.
 fn setup(alloc: Global, slots: &str, tables: &str) -> Result<String, AllocError> {
     let mut text = String::from_str(alloc, "period = 10\nimage = \"a.fpx\"\nslots = [")?;
@@ -80,13 +71,26 @@ fn status_of(
     Ok(flexpret(rt.alloc(), &words, files, out, ports))
 }
 
+/// The status of the program beside eight devices that show 0 until they are fed.
+fn status_held(
+    rt: &(impl Abort + AllocGlobal),
+    line: &str,
+    files: &mut MemFiles,
+    out: &mut MemSink,
+) -> Result<u8, Fail> {
+    let mut ports: Ports = Vec::new(rt.alloc());
+    for _thread in 0..8u8 {
+        ports.push(Some(Box::new(rt.alloc(), HeldPort::new(rt.alloc()))?))?;
+    }
+    status_of(rt, line, files, out, &mut ports)
+}
+
 /// The files of a setup and of the image that a source gives.
 fn files_of(rt: &(impl Abort + AllocGlobal), setup: &str, source: &str) -> Result<MemFiles, Fail> {
     let mut files = MemFiles::new(rt.alloc());
     files.add("a.s", source.as_bytes())?;
     let mut image = MemSink::new(rt.alloc(), ROOM)?;
-    let mut ports = held_ports(rt.alloc())?;
-    let status = status_of(rt, "asm a.s", &mut files, &mut image, &mut ports)?;
+    let status = status_held(rt, "asm a.s", &mut files, &mut image)?;
     assert_eq!(rt; status, 0, "{source}");
     files.add("a.toml", setup.as_bytes())?;
     files.add("a.fpx", image.bytes())?;
@@ -100,7 +104,6 @@ fn answer(
     files: &mut MemFiles,
 ) -> Result<(u8, String), Fail> {
     let mut out = MemSink::new(rt.alloc(), ROOM)?;
-    let mut ports = held_ports(rt.alloc())?;
-    let status = status_of(rt, line, files, &mut out, &mut ports)?;
+    let status = status_held(rt, line, files, &mut out)?;
     Ok((status, String::from_utf8_lossy(rt.alloc(), out.bytes())?))
 }

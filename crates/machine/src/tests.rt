@@ -9,7 +9,6 @@ use region_guard::{Guard, Regions};
 use scratchpad::Spm;
 use slot_scheduler::{Modes, Sched, Scheduler};
 use slot_table::SlotTable;
-use std::alloc::{AllocError, Global};
 use std::test::Fail;
 use timer_unit::{Clock, Timers};
 use trap_unit::Traps;
@@ -25,14 +24,6 @@ const TRACE: &str = "         0 00000000 00100293 x05=00000001
          3 00000008 00000463 -
          6 00000010 00200393 x07=00000002
 ";
-
-fn ports(alloc: Global) -> Result<Ports, AllocError> {
-    let mut ports: Ports = Vec::new(alloc);
-    for _thread in 0..8u8 {
-        ports.push(Some(Box::new(alloc, HeldPort::new(alloc))?))?;
-    }
-    Ok(ports)
-}
 
 #[test]
 fn state_of_fields(rt: HostRuntime) -> Result<(), Fail> {
@@ -72,7 +63,10 @@ fn state_of_fields(rt: HostRuntime) -> Result<(), Fail> {
         unplugs: [None; 8],
     };
     let mut out = MemSink::new(rt.alloc(), 4096)?;
-    let mut ports = ports(rt.alloc())?;
+    let mut ports: Ports = Vec::new(rt.alloc());
+    for _thread in 0..8u8 {
+        ports.push(Some(Box::new(rt.alloc(), HeldPort::new(rt.alloc()))?))?;
+    }
     assert_eq!(rt; ports.len(), 8);
     let ran = machine.run(11, 0, &mut ports, &mut out);
     assert_eq!(rt; ran, Ok(()));

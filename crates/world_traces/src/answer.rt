@@ -3,7 +3,7 @@
 use crate::table::{Case, Command};
 use fp_image::{Image, read_image};
 use fp_io::MemSink;
-use fp_ports::{HeldPort, Port, Ports, WavePort};
+use fp_ports::{HeldPort, Ports, WavePort};
 use fp_setup::{Setup, read_setup};
 use machine::{Machine, feed_inputs};
 use std::alloc::{AllocError, Global};
@@ -11,28 +11,12 @@ use std::alloc::{AllocError, Global};
 /// More than the bytes of any text of the table.
 const ROOM: usize = 65_536;
 
-/// The device of a kind: `-` none, `h` one that holds what it is fed, `wN` a square wave.
-fn port_of(alloc: Global, kind: &str) -> Result<Option<Box<dyn Port>>, AllocError> {
-    if kind == "h" {
-        return Ok(Some(Box::new(alloc, HeldPort::new(alloc))?));
-    }
-    let half = match kind.strip_prefix('w') {
+/// The half of the period of a square wave, by its kind `wN`; 0 for other kinds.
+fn half_of(kind: &str) -> u64 {
+    match kind.strip_prefix('w') {
         Some(digits) => digits.parse().unwrap_or(0u64),
         None => 0,
-    };
-    if half == 0 {
-        return Ok(None);
     }
-    Ok(Some(Box::new(alloc, WavePort::new(alloc, half))?))
-}
-
-/// The devices of a case.
-fn ports_of(alloc: Global, kinds: &str) -> Result<Ports, AllocError> {
-    let mut ports = Vec::new(alloc);
-    for kind in kinds.split(' ') {
-        ports.push(port_of(alloc, kind)?)?;
-    }
-    Ok(ports)
 }
 
 /// A case's setup and image, read, and how many cycles it has.
@@ -56,28 +40,49 @@ impl World {
         })
     }
 
-    /// What the machine writes for a command beside ports of these kinds.
+    /// What the machine writes for a command beside ports of these kinds: `-` none, `h` one that holds
+    /// what it is fed, `wN` a square wave.
     pub fn text_of(
         &self,
         alloc: Global,
         kinds: &str,
         command: &Command,
     ) -> Result<String, AllocError> {
-        let mut ports = ports_of(alloc, kinds)?;
+        let mut ports: Ports = Vec::new(alloc);
+        for kind in kinds.split(' ') {
+            let half = half_of(kind);
+            if kind == "h" {
+                ports.push(Some(Box::new(alloc, HeldPort::new(alloc))?))?;
+            } else if half > 0 {
+                ports.push(Some(Box::new(alloc, WavePort::new(alloc, half))?))?;
+            } else {
+                ports.push(None)?;
+            }
+        }
+        self.text_beside(alloc, &mut ports, command)
+    }
+
+    /// What the machine writes for a command beside these ports.
+    fn text_beside(
+        &self,
+        alloc: Global,
+        ports: &mut Ports,
+        command: &Command,
+    ) -> Result<String, AllocError> {
         if ports.len() != 8 || self.cycles > 4_000_000_000 {
             return String::from_str(alloc, "no case\n");
         }
-        feed_inputs(&self.setup, &mut ports)?;
+        feed_inputs(&self.setup, ports)?;
         let mut machine = Machine::load(alloc, &self.setup, &self.image)?;
         let mut out = MemSink::new(alloc, ROOM)?;
         let thread = match command.words.as_str().strip_prefix("run ") {
             Some(digit) => digit.parse().unwrap_or(0u8) % 8,
             None => 0,
         };
-        let ran = machine.run(self.cycles, thread, &mut ports, &mut out);
+        let ran = machine.run(self.cycles, thread, ports, &mut out);
         if command.words.as_str() == "dump" {
             out = MemSink::new(alloc, ROOM)?;
-            if machine.dump(&ports, &mut out).is_err() {
+            if machine.dump(ports, &mut out).is_err() {
                 return String::from_str(alloc, "no room for the dump\n");
             }
         }

@@ -251,8 +251,7 @@ fn the_bytes_of_an_image(rt: HostRuntime) -> Result<(), Fail> {
     let mut files = MemFiles::new(rt.alloc());
     files.add("a.s", b"start: li x5, 1\nbeq x5, x0, start\n")?;
     let mut out = MemSink::new(rt.alloc(), ROOM)?;
-    let mut ports = held_ports(rt.alloc())?;
-    let status = status_of(&rt, "asm a.s", &mut files, &mut out, &mut ports)?;
+    let status = status_held(&rt, "asm a.s", &mut files, &mut out)?;
     assert_eq!(rt; status, 0);
     let want =
         b"FPX1\x01\x00\x00\x00\x00\x00\x00\x00\x08\x00\x00\x00\x93\x02\x10\x00\xe3\x8e\x02\xfe";

@@ -76,19 +76,14 @@ const UNPLUGGED: &str =
 const FED: &str =
     "[[thread]]\nid = 0\nmode = \"hard\"\nentry = 0\ninputs = [[0, 7]]\n[[thread]]\nid = 1\nmode = \"hard\"\nentry = 0\ninputs = [[0, 7]]\n";
 
-/// Held devices, but for a given one at a thread's port.
-fn ports_with(alloc: Global, at: usize, port: Box<dyn Port>) -> Result<Ports, AllocError> {
-    let mut ports = held_ports(alloc)?;
-    if let Some(entry) = ports.get_mut(at) {
-        *entry = Some(port);
-    }
-    Ok(ports)
-}
-
 #[test]
 fn a_device_that_shows_the_cycle(rt: HostRuntime) -> Result<(), Fail> {
     let mut files = files_of(&rt, setup(rt.alloc(), "T0", HARD)?.as_str(), READS)?;
-    let mut ports = ports_with(rt.alloc(), 0, Box::new(rt.alloc(), StepPort { latch: 0 })?)?;
+    let mut ports: Ports = Vec::new(rt.alloc());
+    ports.push(Some(Box::new(rt.alloc(), StepPort { latch: 0 })?))?;
+    for _thread in 1..8u8 {
+        ports.push(None)?;
+    }
     let mut out = MemSink::new(rt.alloc(), ROOM)?;
     let line = "run a.toml --thread 0 --cycles 11";
     assert_eq!(rt; status_of(&rt, line, &mut files, &mut out, &mut ports)?, 0);
@@ -105,7 +100,12 @@ fn a_device_that_shows_the_cycle(rt: HostRuntime) -> Result<(), Fail> {
 #[test]
 fn a_device_that_refuses_to_be_fed(rt: HostRuntime) -> Result<(), Fail> {
     let mut files = files_of(&rt, setup(rt.alloc(), "T0", FED)?.as_str(), READS)?;
-    let mut ports = ports_with(rt.alloc(), 1, Box::new(rt.alloc(), StepPort { latch: 0 })?)?;
+    let mut ports: Ports = Vec::new(rt.alloc());
+    ports.push(Some(Box::new(rt.alloc(), HeldPort::new(rt.alloc()))?))?;
+    ports.push(Some(Box::new(rt.alloc(), StepPort { latch: 0 })?))?;
+    for _thread in 2..8u8 {
+        ports.push(None)?;
+    }
     let mut out = MemSink::new(rt.alloc(), ROOM)?;
     let line = "run a.toml --thread 0 --cycles 11";
     assert_eq!(rt; status_of(&rt, line, &mut files, &mut out, &mut ports)?, 9);
@@ -125,7 +125,11 @@ fn a_device_that_counts_its_drops(rt: HostRuntime) -> Result<(), Fail> {
             held: HeldPort::new(rt.alloc()),
             drops: drops.clone()?,
         };
-        let mut ports = ports_with(rt.alloc(), 0, Box::new(rt.alloc(), port)?)?;
+        let mut ports: Ports = Vec::new(rt.alloc());
+        ports.push(Some(Box::new(rt.alloc(), port)?))?;
+        for _thread in 1..8u8 {
+            ports.push(None)?;
+        }
         let mut files = files_of(&rt, text.as_str(), READS)?;
         let mut out = MemSink::new(rt.alloc(), ROOM)?;
         let line = format!(in rt.alloc(); "run a.toml --thread 0 --cycles {cycles}")?;
@@ -133,7 +137,7 @@ fn a_device_that_counts_its_drops(rt: HostRuntime) -> Result<(), Fail> {
         assert_eq!(rt; status, 0);
         assert_eq!(rt; drops.get(), drops_wanted, "{cycles}");
         let stands = ports.iter().filter(|port| port.is_some()).count();
-        assert_eq!(rt; stands, if drops_wanted == 0 { 8 } else { 7 });
+        assert_eq!(rt; stands, if drops_wanted == 0 { 1 } else { 0 });
         if cycles == 56 {
             let want = "        46 00000004 00012283 x05=00000007
         48 00000008 ffdff06f -

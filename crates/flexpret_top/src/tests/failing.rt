@@ -51,9 +51,8 @@ fn puts_that_fail(rt: HostRuntime) -> Result<(), Fail> {
         let mut files = files_of(&rt, setup.as_str(), LOADS)?;
         let mut out = MemSink::new(rt.alloc(), ROOM)?;
         out.fail_at(call, taken)?;
-        let mut ports = held_ports(rt.alloc())?;
         let line = "run a.toml --thread 0 --cycles 11";
-        let status = status_of(&rt, line, &mut files, &mut out, &mut ports)?;
+        let status = status_held(&rt, line, &mut files, &mut out)?;
         assert_eq!(rt; status, 8);
         let mut whole = String::new(rt.alloc());
         for (number, line) in (0u64..).zip(LOADS_TRACE.iter()) {
