@@ -1,5 +1,5 @@
 -- How the tallies follow the events of a world.
-use Rattle.std.proofs.Common.{◌≡◌, ◌≢◌, ℕ, zero, suc, ◌+◌, ◌-◌, ◌<◌, ◌≤◌, List, [], ◌∷◌, ◌++◌, get_or, length, Bool, true, false, Option, Some, None, eq-eqb, inl, inr, arith, refl, ap, sym, subst, ◌∙◌, add-one}
+use Rattle.std.proofs.Common.{◌≡◌, ◌≢◌, ℕ, zero, suc, ◌+◌, ◌-◌, ◌<◌, ◌≤◌, List, [], ◌∷◌, ◌++◌, length, Bool, true, Option, Some, None, eq-eqb, inl, inr, arith, refl, ap, sym, subst, ◌∙◌, add-one}
 use Rattle.std.specs.Prelude.{◌==◌, if◌then◌else◌, map, fold, slice_set}
 use Rattle.std.specs.List.{range_with_len}
 use Rattle.std.proofs.lemmas.Bool.Decides.{eqb_tells}
@@ -59,7 +59,6 @@ one_changed F G v a (suc n) (suc j) others this =
     let rest : map G (range_with_len (a + 1) n) ≡ slice_set (map F (range_with_len (a + 1) n)) j v =
     one_changed F G v (a + 1) n j (λ k ne. others k (λ e. ne (e ∙ sym moved))) (λ below. ap G moved ∙ this (omega arith)) in
     ap (λ x. x ∷ map G (range_with_len (a + 1) n)) head ∙ ap (λ xs. F a ∷ xs) rest
-
 
 of_other : (k : ℕ) (e : Event) → k ≢ e.thread → of_hart k (Some e) ≡ []
 of_other k e other =

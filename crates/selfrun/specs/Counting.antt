@@ -1,5 +1,5 @@
 -- How the tallies of the threads grow as events retire.
-use Rattle.std.specs.Prelude.{◌≡◌, ℕ, ◌+◌, ◌<◌, ◌≤◌, List, slice_set, map, Option, Some, None}
+use Rattle.std.specs.Prelude.{◌≡◌, ℕ, ◌+◌, ◌≤◌, List, slice_set, map, Option, Some, None}
 use Rattle.fp_ports.specs.Rows.{Row}
 use Rattle.fp_setup.specs.Meaning.{the_threads}
 use Rattle.machine.specs.Meaning.{StandsFor}
@@ -8,7 +8,7 @@ use Rattle.rv_exec.specs.declared.outcome.Event.{Event}
 use Rattle.trace_print.specs.Text.{line_text}
 use Rattle.world_model.specs.World.{Start, events}
 use Rattle.selfrun.specs.declared.tally.Tally.{Tally}
-use Rattle.selfrun.specs.Text.{folded, no_tally, tally_at, tally_of}
+use Rattle.selfrun.specs.Text.{folded, tally_at, tally_of}
 
 -- with one more event
 abbrev pub with_event : Tally → Event → Tally

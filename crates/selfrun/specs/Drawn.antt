@@ -40,8 +40,8 @@ form n a b d e =
 unfoldable pub drawn_ins : ℕ → Ins
 drawn_ins x = form (x / 2 ^ 28 % 8) (1 + x / 2 ^ 8 % 7) (1 + x / 2 ^ 12 % 7) (1 + x / 2 ^ 16 % 7) (4 * (x / 2 ^ 20 % 64))
 
--- what thread k has before the drawn instructions, which puts the address of its data into x8: the lower
--- half of a kibibyte is less by 2,048
+-- what thread k has before the drawn instructions: it puts the address of region k of the data
+-- scratchpad, 0x20000000 + 2048 * k, into x8, as a multiple of 4,096 from which an odd k takes 2,048
 abbrev pub first_ins : ℕ → List Ins
 first_ins k = Lui 8 (0x20000 + (k + 1) / 2) ∷ OpImm Addi 8 8 (if k % 2 == 0 then pos 0 else negsuc 2047) ∷ []
 

@@ -25,18 +25,58 @@ pub fn drawn_ins(x: u32) -> Ins
     let d = 1 + (x / 0x1_0000 % 7) as u8;
     let e = 4 * (x / 0x10_0000 % 64) as i32;
     match x / 0x1000_0000 % 8 {
-        0 => Ins::Op { op: AluOp::Add, rd: d, rs1: a, rs2: b },
-        1 => Ins::Op { op: AluOp::Sub, rd: d, rs1: a, rs2: b },
-        2 => Ins::Op { op: AluOp::Xor, rd: d, rs1: a, rs2: b },
-        3 => Ins::OpImm { op: ImmOp::Addi, rd: d, rs1: a, imm: e },
-        4 => Ins::Op { op: AluOp::Sltu, rd: d, rs1: a, rs2: b },
-        5 => Ins::Load { op: LoadOp::Lw, rd: d, rs1: 8, imm: e },
-        6 => Ins::Store { op: StoreOp::Sw, rs1: 8, rs2: b, imm: e },
-        _ => Ins::Branch { op: BranchOp::Bne, rs1: a, rs2: b, off: 8 },
+        0 => Ins::Op {
+            op: AluOp::Add,
+            rd: d,
+            rs1: a,
+            rs2: b,
+        },
+        1 => Ins::Op {
+            op: AluOp::Sub,
+            rd: d,
+            rs1: a,
+            rs2: b,
+        },
+        2 => Ins::Op {
+            op: AluOp::Xor,
+            rd: d,
+            rs1: a,
+            rs2: b,
+        },
+        3 => Ins::OpImm {
+            op: ImmOp::Addi,
+            rd: d,
+            rs1: a,
+            imm: e,
+        },
+        4 => Ins::Op {
+            op: AluOp::Sltu,
+            rd: d,
+            rs1: a,
+            rs2: b,
+        },
+        5 => Ins::Load {
+            op: LoadOp::Lw,
+            rd: d,
+            rs1: 8,
+            imm: e,
+        },
+        6 => Ins::Store {
+            op: StoreOp::Sw,
+            rs1: 8,
+            rs2: b,
+            imm: e,
+        },
+        _ => Ins::Branch {
+            op: BranchOp::Bne,
+            rs1: a,
+            rs2: b,
+            off: 8,
+        },
     }
 }
 
-/// What thread k has before the drawn instructions: the upper part of the address of its data,
+/// The first instruction of thread k: the upper part of the address of its data, into x8.
 pub fn upper_ins(k: u8) -> Ins
     requires { k < 8 }
     ensures ins { result ≡ Ins.Lui 8 (0x20000 + (k + 1) / 2) }
@@ -48,7 +88,7 @@ pub fn upper_ins(k: u8) -> Ins
     }
 }
 
-/// and the lower part of it.
+/// The second one: the lower part of that address.
 pub fn lower_ins(k: u8) -> Ins
     ensures ins { result ≡ Ins.OpImm ImmOp.Addi 8 8 (if k % 2 == 0 then pos 0 else negsuc 2047) }
     ensures range { InRange result }
@@ -61,7 +101,7 @@ pub fn lower_ins(k: u8) -> Ins
     }
 }
 
-/// What a thread has after the drawn instructions: a count in x1,
+/// The instruction after the drawn ones: a count in x1.
 pub fn count_ins() -> Ins
     ensures ins { result ≡ Ins.OpImm ImmOp.Addi 1 1 (pos 1) }
     ensures range { InRange result }
@@ -74,7 +114,7 @@ pub fn count_ins() -> Ins
     }
 }
 
-/// and the way back to the first of them.
+/// The last one: back to the first of the drawn ones.
 pub fn back_ins() -> Ins
     ensures ins { result ≡ Ins.Jal 0 (negsuc 499) }
     ensures range { InRange result }

@@ -1,4 +1,4 @@
-use Rattle.std.proofs.Common.{◌≡◌, [], ◌∷◌, ap, ◌∙◌}
+use Rattle.std.proofs.Common.{◌≡◌, [], ◌∷◌}
 use Rattle.selfrun.specs.Drawn.{first_ins, last_ins}
 use Rattle.selfrun.proofs.DrawnLemmas.{thread_parts}
 use Rattle.selfrun.proofs.drawing.thread_bytes.Goals as goal
