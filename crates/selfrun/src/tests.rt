@@ -1,8 +1,8 @@
 //! What the run tells, by values of an executable model that was written apart from it.
 
-use crate::Selfrun;
 use crate::drawing::drawn_image;
-use fp_io::MemSink;
+use crate::{Selfrun, Tally};
+use fp_io::{MemSink, PutFailed};
 use std::alloc::{AllocError, Global};
 use std::test::Fail;
 
@@ -49,7 +49,7 @@ const TOLD: [(u32, [&str; 8]); 3] = [
     ),
 ];
 
-/// Words at an address of the image of number 1, and of the image of number 2.
+/// Numbers, and the word at an address of their image.
 const WORDS: [(u32, u32, u32); 3] = [
     (1, 0x0000, 0x2000_0437),
     (1, 0x0004, 0x0004_0413),
@@ -87,5 +87,38 @@ fn the_same_at_each_run(rt: HostRuntime) -> Result<(), Fail> {
             assert_eq!(rt; got.as_str(), want.as_str());
         }
     }
+    Ok(())
+}
+
+#[test]
+fn each_line_is_put_by_one_call(rt: HostRuntime) -> Result<(), Fail> {
+    let run = Selfrun {
+        tallies: [Tally {
+            events: 7,
+            fold: 0xabc,
+        }; 8],
+    };
+    let lines = [
+        "T0 events 7 fold 00000abc\n",
+        "T1 events 7 fold 00000abc\n",
+        "T2 events 7 fold 00000abc\n",
+        "T3 events 7 fold 00000abc\n",
+        "T4 events 7 fold 00000abc\n",
+        "T5 events 7 fold 00000abc\n",
+        "T6 events 7 fold 00000abc\n",
+        "T7 events 7 fold 00000abc\n",
+    ];
+    let mut want = String::new(rt.alloc());
+    for (call, line) in lines.iter().enumerate() {
+        let mut out = MemSink::new(rt.alloc(), 512)?;
+        out.fail_at(call as u64, 0)?;
+        assert_eq!(rt; run.put(&mut out), Err(PutFailed));
+        assert_eq!(rt; out.bytes(), want.as_str().as_bytes());
+        want.push_str(line)?;
+    }
+    let mut out = MemSink::new(rt.alloc(), 512)?;
+    out.fail_at(8, 0)?;
+    assert_eq!(rt; run.put(&mut out), Ok(()));
+    assert_eq!(rt; out.bytes(), want.as_str().as_bytes());
     Ok(())
 }
