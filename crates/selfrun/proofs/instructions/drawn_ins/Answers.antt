@@ -1,0 +1,5 @@
+use Rattle.std.proofs.Common.{rules, pos, refl, arith}
+use Rattle.selfrun.proofs.instructions.drawn_ins.Goals as goal
+
+pub returns-in_default-clause-range : goal.returns-in_default-clause-range
+returns-in_default-clause-range c = (omega arith, omega arith, search rules, (pos 4, refl))

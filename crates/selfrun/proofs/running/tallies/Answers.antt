@@ -1,0 +1,28 @@
+use Rattle.std.proofs.Common.{◌≡◌, ◌+◌, ◌<◌, arith, refl, ap, ◌∙◌}
+use Rattle.selfrun.proofs.TallyLemmas.{tallies_begin, tallies_on, tallies_end, few_none, few_more}
+use Rattle.selfrun.proofs.running.tallies.Goals as goal
+
+pub loop-cycle-init : goal.loop-cycle-init
+loop-cycle-init g c = record {
+  at = c.requires.start;
+  eight = c.requires.eight;
+  few = few_none;
+  runs = λ s st. tallies_begin s c.args.cycles c.args.machine.now _ _ refl st;
+}
+
+pub loop-cycle-preserved : goal.loop-cycle-preserved
+loop-cycle-preserved g c =
+    let inv = c.loop-cycle.invariant in
+    let k = c.loop-cycle._cycle in
+    let within : c.loop-cycle.machine.at < c.args.cycles + 3 = omega (arith, inv.at, c.loop-cycle-test.true) in
+    record {
+      at = c.tick-event.ensures.at ∙ ap (λ n. n + 1) inv.at;
+      eight = c.tick-event.ensures.eight;
+      few = rw c.count.ensures (few_more c.loop-cycle.tallies c.tick-event.result k inv.few);
+      runs = λ s st. rw c.count.ensures (tallies_on c.events_grow.ensures s k c.args.cycles c.loop-cycle.machine c.tick-event.new.self _ _ c.loop-cycle.tallies c.tick-event.result (inv.runs s st) inv.at (c.tick-event.ensures.relation s c.args.cycles within));
+    }
+
+pub returns : goal.returns
+returns g c =
+    let end : c.loop-cycle._cycle ≡ c.args.cycles = omega (arith, c.loop-cycle-test.false, c.loop-cycle.auto._cycle-end) in
+    λ s st. tallies_end s c.loop-cycle._cycle c.args.cycles c.loop-cycle.machine _ c.loop-cycle.tallies end (c.loop-cycle.invariant.runs s st)

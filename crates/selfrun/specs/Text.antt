@@ -1,0 +1,48 @@
+-- What is told of the machine's own run: of each thread, how many events retired, and a fold of the text of
+-- its trace. Source: this project's profile.
+use Rattle.std.specs.Prelude.{ℕ, ◌+◌, ◌*◌, ◌%◌, ◌^◌, List, ◌++◌, length, decimal, codes, fold, map, flat_map, slice_index_or}
+use Rattle.fp_setup.specs.Meaning.{the_threads}
+use Rattle.rv_exec.specs.declared.outcome.Event.{Event}
+use Rattle.setup_model.specs.Start.{start, no_ports}
+use Rattle.trace_print.specs.Digits.{hex}
+use Rattle.trace_print.specs.Text.{text}
+use Rattle.world_model.specs.World.{Start, events}
+use Rattle.selfrun.specs.declared.tally.Tally.{Tally}
+use Rattle.selfrun.specs.Drawn.{own_setup, programs}
+
+-- the fold of bytes, on from a fold
+abbrev pub with_byte : ℕ → ℕ → ℕ
+with_byte h byte = (h * 31 + byte) % 2 ^ 32
+
+unfoldable pub folded : ℕ → List ℕ → ℕ
+folded h bytes = fold with_byte h bytes
+
+-- what is kept of a thread's events
+unfoldable pub tally_of : List Event → Tally
+tally_of es = record { events = length es; fold = folded 0 (text es) }
+
+-- the line of thread k
+unfoldable pub tally_line : ℕ → Tally → List ℕ
+tally_line k t = codes "T" ++ (decimal k ++ (codes " events " ++ (decimal t.events ++ (codes " fold " ++ (hex 8 t.fold ++ codes "\n")))))
+
+-- a run of n cycles of the programs drawn from a number, with no port
+unfoldable pub own_start : ℕ → ℕ → Start
+own_start number n = start own_setup (programs number) no_ports n
+
+-- what the threads did in the first 100,000 cycles
+unfoldable pub own_tallies : ℕ → List Tally
+own_tallies number = map (λ k. tally_of (events (own_start number 100000) k 100000)) the_threads
+
+-- of no event, and the tally of thread k
+abbrev pub no_tally : Tally
+no_tally = record { events = 0; fold = 0 }
+
+abbrev pub tally_at : List Tally → ℕ → Tally
+tally_at tallies k = slice_index_or tallies k no_tally
+
+-- the lines of the eight threads, in order
+abbrev pub tallies_text : List Tally → List ℕ
+tallies_text tallies = flat_map (λ k. tally_line k (tally_at tallies k)) the_threads
+
+unfoldable pub selfrun_text : ℕ → List ℕ
+selfrun_text number = tallies_text (own_tallies number)

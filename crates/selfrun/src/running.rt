@@ -1,0 +1,122 @@
+//! The run.
+
+ghost use Rattle.std.specs.Prelude.{◌≡◌, ℕ, ◌<◌, ◌≤◌, vec_len, OnOk, OnErr, IfOk};
+ghost use Rattle.std.specs.Io.KnownBytes.{Appends};
+ghost use Rattle.fp_io.specs.Causes.{Rose};
+ghost use Rattle.fp_io.specs.Content.{AppendsFront};
+ghost use Rattle.fp_ports.specs.Rows.{rows_of};
+ghost use Rattle.setup_model.specs.Start.{no_ports};
+ghost use Rattle.pipeline_core.specs.Fits.{IsEventShowable};
+ghost use Rattle.world_model.specs.World.{Start};
+ghost use Rattle.machine.specs.Meaning.{StandsFor};
+ghost use Rattle.selfrun.specs.Counting.{AreFew, counted, tallies_of};
+ghost use Rattle.selfrun.specs.Text.{own_tallies, selfrun_text, tallies_text, tally_at, tally_line};
+
+use crate::drawing::{drawn_image, own_setup};
+use crate::tally::Tally;
+use fp_io::{PutFailed, Sink};
+use fp_ports::Ports;
+use machine::Machine;
+use pipe_model::events_grow;
+use rv_exec::Event;
+use std::alloc::{AllocError, Global};
+
+/// How many cycles the machine runs.
+const CYCLES: u64 = 100_000;
+
+/// Eight ports that aren't there.
+fn no_ports(alloc: Global) -> Result<Ports, AllocError>
+    ensures rows { IfOk result (λ ports. rows_of latched word_at ports.items ≡ no_ports) }
+    ensures eight { IfOk result (λ ports. vec_len ports ≡ 8) }
+{
+    let mut ports = Vec::new(alloc);
+    for _thread in 0..8u8 {
+        ports.push(None)?;
+    }
+    Ok(ports)
+}
+
+/// Counts the event of a cycle, if there is one.
+fn count(tallies: &mut [Tally; 8], event: &Option<Event>)
+    requires few { AreFew tallies.old 99999 }
+    requires showable { IsEventShowable event.now }
+    ensures { tallies.new ≡ counted tallies.old event.now }
+{
+    if let Some(event) = event {
+        let k = usize::from(event.thread);
+        if k < tallies.len() {
+            tallies[k] = tallies[k].with(event);
+        }
+    }
+}
+
+/// Runs a machine for so many cycles from its start, and counts the events of each thread as they retire.
+fn tallies(machine: &mut Machine, cycles: u64, ports: &mut Ports) -> [Tally; 8]
+    requires start { machine.old.at ≡ 0 }
+    requires limit { cycles ≤ 100000 }
+    requires eight { vec_len ports.old ≡ 8 }
+    ensures { (s : Start) → StandsFor s 0 cycles machine.old (rows_of latched word_at ports.old.items) → result ≡ tallies_of s cycles }
+{
+    events_grow();
+    let mut tallies = [Tally { events: 0, fold: 0 }; 8];
+    for _cycle in 0..cycles {
+        let event = machine.tick(ports);
+        count(&mut tallies, &event);
+    }
+    tallies
+}
+
+/// What each thread did in the machine's own run.
+#[derive(Clone, Copy, Debug, PartialEq, Eq)]
+pub struct Selfrun {
+    pub tallies: [Tally; 8],
+}
+
+impl Selfrun {
+    /// Draws the programs from a number, and runs the machine for 100,000 cycles with no port. It keeps
+    /// no trace.
+    ///
+    /// # Errors
+    ///
+    /// Memory was refused.
+    pub fn new(alloc: Global, number: u32) -> Result<Selfrun, AllocError>
+        ensures tallies { IfOk result (λ r. r.tallies ≡ own_tallies number) }
+        ensures text { IfOk result (λ r. tallies_text r.tallies ≡ selfrun_text number) }
+    {
+        let setup = own_setup(alloc)?;
+        let image = drawn_image(alloc, number)?;
+        let mut ports = no_ports(alloc)?;
+        let mut machine = Machine::load(alloc, &setup, &image)?;
+        let tallies = tallies(&mut machine, CYCLES, &mut ports);
+        Ok(Selfrun { tallies })
+    }
+
+    /// Puts a line for each thread, in order, by one call each: `T0 events 12345 fold 0123abcd`.
+    ///
+    /// # Errors
+    ///
+    /// A fault of the sink was counted in this call; a front of the text was put.
+    pub fn put<K: Sink>(&self, out: &mut K) -> Result<(), PutFailed>
+        ensures ok { OnOk result (Appends (K.taken out.old) (K.taken out.new) (tallies_text self.now.tallies)) }
+        ensures err { OnErr result (AppendsFront (K.taken out.old) (K.taken out.new) (tallies_text self.now.tallies)) }
+        ensures failed { OnErr result (Rose (K.faults out.old) (K.faults out.new)) }
+        ensures counted { K.faults out.old ≤ K.faults out.new }
+    {
+        for k in 0..8u8 {
+            self.put_line(k, out)?;
+        }
+        Ok(())
+    }
+
+    /// Puts the line of thread k.
+    fn put_line<K: Sink>(&self, k: u8, out: &mut K) -> Result<(), PutFailed>
+        requires { k < 8 }
+        ensures ok { OnOk result (Appends (K.taken out.old) (K.taken out.new) (tally_line k (tally_at self.now.tallies k))) }
+        ensures err { OnErr result (AppendsFront (K.taken out.old) (K.taken out.new) (tally_line k (tally_at self.now.tallies k))) }
+        ensures failed { OnErr result (Rose (K.faults out.old) (K.faults out.new)) }
+        ensures counted { K.faults out.old ≤ K.faults out.new }
+    {
+        let tally = self.tallies[usize::from(k)];
+        out.put(tally.line(k).as_bytes())
+    }
+}
