@@ -1,6 +1,7 @@
 #!/usr/bin/env bash
 # Cycles a second, and the most memory, of `run` over the example of a control loop, with thread 0
-# traced, and over four hard threads of plain arithmetic. It is no part of the gate.
+# traced, and over four hard threads of plain arithmetic; and of 100 calls of `selfrun`, which has
+# 100,000 cycles. It is no part of the gate.
 set -eu
 top=$(cd "$(dirname "${BASH_SOURCE[0]}")/.." && pwd)
 work=$(mktemp -d)
@@ -41,3 +42,12 @@ PY
 }
 measure examples/drive.toml
 measure plain.toml
+echo selfrun
+python3 - "$top/crates/flexpret_cli/out/flexpret_cli" <<'PY'
+import resource, subprocess, sys
+for number in range(1, 101):
+    subprocess.run([sys.argv[1], 'selfrun', str(number)], stdout=subprocess.DEVNULL, check=True)
+used = resource.getrusage(resource.RUSAGE_CHILDREN)
+busy = used.ru_utime + used.ru_stime
+print(f'10000000 cycles: {10 / busy:.2f} million a second of processor time, {busy:.2f} s, {used.ru_maxrss} KB')
+PY
