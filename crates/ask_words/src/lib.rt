@@ -14,5 +14,3 @@ pub use asked::{Ask, Section, WordsNo};
 pub use commands::read_words;
 pub use file_name::Name;
 
-#[cfg(test)]
-mod tests;

@@ -13,5 +13,3 @@ pub use reader::read_image;
 pub use refusals::{ImageNo, ImageRefused};
 pub use writer::write_image;
 
-#[cfg(test)]
-mod tests;

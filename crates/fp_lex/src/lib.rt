@@ -9,8 +9,6 @@ mod bytes;
 mod lexer;
 mod number;
 mod scan;
-#[cfg(test)]
-mod tests;
 mod token;
 
 pub use lexer::tokens;

@@ -13,5 +13,3 @@ pub use feeding::{feed_inputs, feeds_the_start};
 pub use running::leaves_ports;
 pub use state::Machine;
 
-#[cfg(test)]
-mod tests;

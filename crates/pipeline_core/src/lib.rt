@@ -16,5 +16,3 @@ pub use pipe::Pipe;
 pub use pipe_model::{Decoded, Executed, Fetched, Held, Stored, Written};
 pub use units::Units;
 
-#[cfg(test)]
-mod tests;

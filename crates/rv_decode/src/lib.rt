@@ -13,5 +13,3 @@ pub use encoder::encode;
 pub use instruction::{AluOp, BranchOp, CsrKind, ImmOp, Ins, LoadOp, MulOp, ShiftOp, StoreOp};
 pub use lags::lag_of;
 
-#[cfg(test)]
-mod tests;

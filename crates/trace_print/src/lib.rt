@@ -13,5 +13,3 @@ pub use digits::{push_decimal, push_hex, push_right};
 pub use events::line;
 pub use refusals::{Refusal, refusal_line};
 
-#[cfg(test)]
-mod tests;

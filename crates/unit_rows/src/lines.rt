@@ -1,9 +1,9 @@
 //! Lines of worked runs.
 ghost use Rattle.std.specs.Prelude.{◌≡◌};
 
-use crate::{Refusal, line, refusal_line};
 use fp_setup::Place;
 use rv_exec::{Effect, Event};
+use trace_print::{Refusal, line, refusal_line};
 
 fn event(cycle: u64, pc: u32, word: u32, effect: Effect) -> Event
     ensures { result.effect ≡ effect }

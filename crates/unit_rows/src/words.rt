@@ -1,4 +1,4 @@
-use crate::{Ask, WordsNo, read_words};
+use ask_words::{Ask, WordsNo, read_words};
 use std::alloc::{AllocError, Global};
 use std::test::Fail;
 

@@ -1,7 +1,7 @@
 //! Worked rows, from the RISC-V manuals and from runs of whole programs.
 
-use crate::{Lanes, Outcome, execute, load_value, size_of_load, size_of_store, store_lanes};
 use rv_decode::{LoadOp, StoreOp, decode};
+use rv_exec::{Lanes, Outcome, execute, load_value, size_of_load, size_of_store, store_lanes};
 
 fn outcome(value: u32, address: u32, target: u32, taken: bool, trap: Option<u8>) -> Outcome {
     Outcome {

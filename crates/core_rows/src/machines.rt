@@ -1,8 +1,8 @@
 //! That the machine's whole state stands in its fields.
 
-use crate::Machine;
 use fp_io::MemSink;
 use fp_ports::{HeldPort, Ports};
+use machine::Machine;
 use pipeline_core::{Held, Pipe, Units};
 use regfile_bank::Bank;
 use region_guard::{Guard, Regions};

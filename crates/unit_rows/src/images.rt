@@ -1,4 +1,4 @@
-use super::*;
+use fp_image::{Bytes, Image, ImageNo, ImageRefused, read_image, write_image};
 use std::alloc::{AllocError, Global};
 use std::test::Fail;
 

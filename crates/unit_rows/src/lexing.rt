@@ -1,4 +1,4 @@
-use super::{LexNo, Tokens, tokens};
+use fp_lex::{LexNo, Tokens, tokens};
 use std::alloc::{AllocError, Global};
 use std::fmt::Write;
 use std::test::Fail;

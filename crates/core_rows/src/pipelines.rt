@@ -3,8 +3,8 @@
 ghost use Rattle.std.specs.Prelude.{◌≡◌, ◌≤◌, All, IfOk, vec_len};
 ghost use Rattle.pipeline_core.specs.Fits.{IsPc};
 
-use crate::{Pipe, Units};
 use fp_ports::{HeldPort, Port, Ports, feed_port, latch_of};
+use pipeline_core::{Pipe, Units};
 use regfile_bank::Bank;
 use region_guard::{Guard, Regions};
 use rv_exec::{Effect, Event, Lanes};

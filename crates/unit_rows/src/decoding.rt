@@ -1,4 +1,6 @@
-use super::*;
+use rv_decode::{
+    AluOp, BranchOp, CsrKind, ImmOp, Ins, LoadOp, MulOp, ShiftOp, StoreOp, decode, encode, lag_of,
+};
 
 /// Words of each opcode whose meaning tells one field from another.
 #[test]
