@@ -5,7 +5,7 @@ set -eu
 top=$(cd "$(dirname "${BASH_SOURCE[0]}")/.." && pwd)
 crate=$top/crates/solo_bench
 (cd "$crate" && rt run -- data/plain.toml data/plain.fpx 0 1000 >/dev/null)
-for cycles in 1000000 10000000 100000000; do
+for cycles in 1000000 10000000 50000000; do
     python3 - "$crate/out/solo_bench" "$crate/data" "$cycles" <<'PY'
 import resource, subprocess, sys
 program, data, cycles = sys.argv[1:]
