@@ -4,3 +4,4 @@ pub mod Placed
 pub mod TopTable
 pub mod PlainThreads
 pub mod PlaceLaws
+pub mod InputByInput

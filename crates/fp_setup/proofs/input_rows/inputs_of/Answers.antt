@@ -1,0 +1,20 @@
+use Rattle.std.proofs.Common.{arith, ◌∙◌}
+use Rattle.std.proofs.lemmas.Grind.{common_steps}
+use Rattle.fp_setup.proofs.InputByInput.{found-more, read-more}
+use Rattle.fp_setup.proofs.input_rows.inputs_of.Goals as goal
+
+pub loop-index-preserved : goal.loop-index-preserved
+loop-index-preserved c =
+    let i = c.loop-index.index in
+    let items = c.args.items.now in
+    let x = c.index-items-index.result in
+    let before = c.loop-index.invariant in
+    let same = c.in_ok-input.ensures.read.1 in
+    let good = rw c.element.ensures at c.in_ok-input.ensures.read.0 in
+    record {
+      found = before.found ∙ found-more items i x c.in_ok-input.input c.loop-index-test.true c.index-items-index.is same c.args.place c.loop-index.before good;
+      read = read-more items i x c.in_ok-input.input c.loop-index-test.true c.index-items-index.is same c.loop-index.read.items _ c.in_ok-push.ensures.items before.read;
+      within = grind (arith, common_steps);
+      rising = grind (arith, common_steps);
+      reached = grind (arith, common_steps);
+    }
