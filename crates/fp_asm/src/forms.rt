@@ -182,7 +182,6 @@ pub(crate) fn fill_all<'a>(
 }
 
 /// Each operand as a target.
-#[tactic(auto, using(crate::proofs::Filling::targets_start, crate::proofs::Filling::targets_more, crate::proofs::Filling::targets_none, crate::proofs::Filling::targets_end))]
 pub(crate) fn targets<'a>(
     alloc: Global,
     operands: &[&[Piece<'a>]],

@@ -54,7 +54,7 @@ pub enum AsmRefused {
 }
 
 /// What stops the work on a line.
-#[derive(Clone, Copy, Debug, PartialEq, Eq)]
+#[derive(Clone, Copy)]
 pub(crate) enum Stop {
     Fault { code: AsmNo },
     NoMemory,

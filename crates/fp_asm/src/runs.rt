@@ -13,7 +13,6 @@ pub(crate) struct Run {
 }
 
 // The runs, the first of which begins at an address.
-#[tactic(auto, using(crate::proofs::RunByRun::runs_start, crate::proofs::RunByRun::runs_on, crate::proofs::RunByRun::runs_off, crate::proofs::RunByRun::runs_end))]
 fn runs_after(alloc: Global, start: u32, others: &[u32]) -> Result<Vec<Run>, AllocError>
     requires { length others.now < 2 ^ 30 }
     ensures { IfOk result (λ runs. runs_from start 1 others.now ≡ runs.items) }

@@ -8,7 +8,7 @@ ghost use Rattle.fp_asm.specs.Views.{mnemonic_seen};
 use rv_decode::{AluOp, BranchOp, CsrKind, ImmOp, LoadOp, MulOp, ShiftOp, StoreOp};
 
 /// What an operand is, and where it goes.
-#[derive(Clone, Copy, Debug, PartialEq, Eq)]
+#[derive(Clone, Copy)]
 pub(crate) enum Slot {
     /// A register that is written.
     Rd,
@@ -27,7 +27,7 @@ pub(crate) enum Slot {
 }
 
 /// An instruction whose operands are registers and numbers alone.
-#[derive(Clone, Copy, Debug, PartialEq, Eq)]
+#[derive(Clone, Copy)]
 pub(crate) enum Plain {
     Op(AluOp),
     Muldiv(MulOp),
@@ -60,7 +60,7 @@ pub(crate) enum Plain {
 }
 
 /// What a mnemonic makes of its operands.
-#[derive(Clone, Copy, Debug, PartialEq, Eq)]
+#[derive(Clone, Copy)]
 pub(crate) enum Makes {
     Plain(Plain),
     /// A conditional branch to an address.
@@ -81,7 +81,7 @@ pub(crate) enum Makes {
 
 /// A row of the table. An operand that it does not have is register 0 or the number 0. `.word`
 /// takes one operand or more of its form.
-#[derive(Clone, Copy, Debug)]
+#[derive(Clone, Copy)]
 pub(crate) struct Row {
     pub(crate) name: &'static [u8],
     pub(crate) form: &'static [Slot],

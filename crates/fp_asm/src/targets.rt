@@ -36,7 +36,6 @@ pub(crate) fn resolve(labels: &Labels, target: &Target) -> Result<u32, AsmNo>
 }
 
 /// Each target as a word.
-#[tactic(auto, using(crate::proofs::TargetByTarget::resolved_start, crate::proofs::TargetByTarget::resolved_more, crate::proofs::TargetByTarget::resolved_fault, crate::proofs::TargetByTarget::resolved_end))]
 pub(crate) fn resolve_all(
     alloc: Global,
     labels: &Labels,
