@@ -1,6 +1,6 @@
 //! The run of one hart from its view.
 
-ghost use Rattle.std.specs.Prelude.{◌≡◌, ◌+◌, ◌/◌, ◌<◌, ◌≤◌, [], length, OnOk, OnErr};
+ghost use Rattle.std.specs.Prelude.{◌≡◌, ◌+◌, ◌-◌, ◌/◌, ◌<◌, ◌≤◌, [], length, OnOk, OnErr};
 ghost use Rattle.fp_io.specs.Causes.{Rose};
 ghost use Rattle.std.specs.Io.KnownBytes.{Appends};
 ghost use Rattle.fp_io.specs.Content.{AppendsFront};
@@ -33,7 +33,7 @@ pub struct SoloRun {
 }
 
 impl SoloRun {
-    ghost use Rattle.core_model.specs.Solo.{solo_turn, may_go, has_position};
+    ghost use Rattle.core_model.specs.Solo.{solo_at, solo_turn, may_go, has_position};
     ghost use Rattle.timer_unit.specs.Time.{time};
     ghost use Rattle.hart_exec.specs.Meaning.{IsShowable};
     ghost use Rattle.solo_run.specs.Solo.{IsView, setting_of, alone_of, positions_of, view_of, view_with, cycle_of};
@@ -132,7 +132,8 @@ impl SoloRun {
     }
 
     /// Runs `n` cycles from the start, and puts a line for each event that has retired then, each
-    /// by one call. It takes no memory.
+    /// by one call. Nothing is shown of the last four cycles, so they aren't worked out. It takes no
+    /// memory.
     ///
     /// # Errors
     ///
@@ -150,6 +151,12 @@ impl SoloRun {
         ensures err { OnErr result (AppendsFront (K.taken out.old) (K.taken out.new) (solo_text (view_of self.old (shown_in (W.word_at shown.old) n)) n)) }
         ensures failed { OnErr result (Rose (K.faults out.old) (K.faults out.new)) }
         ensures setting { setting_of self.new ≡ setting_of self.old }
+
+        // The hart and the words are those of the definition before the cycle that comes next.
+        ensures alone { alone_of self.new ≡ (solo_at (view_of self.old (shown_in (W.word_at shown.old) n)) (cycle_of self.new)).alone }
+        ensures cycle { OnOk result (cycle_of self.new ≡ n - 4) }
+        ensures within { cycle_of self.new ≤ n - 4 }
+        ensures shown { W.word_at shown.new ≡ W.word_at shown.old }
     {
         for _cycle in 0..n.saturating_sub(4) {
             put_event(out, self.tick(shown))?;

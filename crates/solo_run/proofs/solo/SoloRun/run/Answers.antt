@@ -68,3 +68,21 @@ returns-clause-ok g c =
     let Told : ℕ → Type 0 = λ k. Appends (g.K.Sink.taken c.args.out.now) (g.K.Sink.taken c.loop-cycle.out) (text_at v k) in
     let end : c.loop-cycle._cycle ≡ c.args.n - 4 = omega (arith, c.loop-cycle-test.false, c.loop-cycle.auto._cycle-end, c.saturating_sub-cycle-end.ensures) in
     subst Told end c.loop-cycle.invariant.told
+
+pub returns-in_err-put_event-clause-alone : goal.returns-in_err-put_event-clause-alone
+returns-in_err-put_event-clause-alone g c =
+    let shows = g.W.Shown.word_at c.args.shown.now in
+    let v = view_of c.args.self.now (shown_in shows c.args.n) in
+    let k = c.loop-cycle._cycle in
+    let run = c.loop-cycle.self in
+    let inv = c.loop-cycle.invariant in
+    let within : k < c.args.n = omega (arith, c.loop-cycle-test.true, c.saturating_sub-cycle-end.ensures) in
+    let turn = turn_is v shows (g.W.Shown.word_at c.loop-cycle.shown) c.args.n k run.cycle (setting_of run) (alone_of run) refl within inv.cycle inv.setting inv.alone inv.shown in
+    let cycle = c.tick.ensures.cycle ∙ ap (λ n. n + 1) inv.cycle in
+    c.tick.ensures.alone ∙ ap (λ d. d.alone) turn ∙ sym (ap (λ p. p.alone) (past-next v k)) ∙ sym (ap (λ n. (solo_at v n).alone) cycle)
+
+pub returns-clause-alone : goal.returns-clause-alone
+returns-clause-alone g c =
+    let v = view_of c.args.self.now (shown_in (g.W.Shown.word_at c.args.shown.now) c.args.n) in
+    let inv = c.loop-cycle.invariant in
+    inv.alone ∙ sym (ap (λ n. (solo_at v n).alone) inv.cycle)

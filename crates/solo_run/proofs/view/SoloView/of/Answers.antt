@@ -18,7 +18,7 @@ returns-clause-view c =
       period = ap (λ (s : Settings). s.period) is;
       thread = refl;
       size = c.size-size.ensures.size;
-      own = ap (λ n. take n c.positions.result) (c.frame_len.ensures) ∙ c.positions.ensures ∙ ap (λ w. map (λ slot. slot == i) (frame w)) c.slot_table-slots.ensures;
+      own = ap (λ n. take n c.positions.result) (c.frame_len.ensures) ∙ c.positions.ensures.mine ∙ ap (λ w. map (λ slot. slot == i) (frame w)) c.slot_table-slots.ensures;
       i_kinds = c.kinds-i_kind.ensures ∙ ap (kinds_of i) c.i_regions.ensures;
       d_kinds = c.kinds-d_kind.ensures ∙ ap (kinds_of i) c.d_regions.ensures;
       i = c.in_ok-readable_words.ensures;
