@@ -3,7 +3,6 @@
 mod answers;
 mod devices;
 mod failing;
-mod worlds;
 
 use crate::flexpret;
 use fp_io::{MemFiles, MemSink};
@@ -14,6 +13,12 @@ use std::test::Fail;
 
 /// More than the bytes of any text of the tables.
 const ROOM: usize = 65_536;
+
+/// The registers of regions in a setup.
+const REGIONS: &str = "]
+i_regions = [\"readonly\", \"readonly\", \"readonly\", \"readonly\", \"readonly\", \"readonly\", \"readonly\", \"readonly\"]
+d_regions = [\"T0\", \"T1\", \"shared\", \"readonly\", \"readonly\", \"readonly\", \"readonly\", \"readonly\"]
+";
 
 /// A hard thread 0 that is confined, with entry 0.
 const HARD: &str = "[[thread]]\nid = 0\nmode = \"hard\"\nentry = 0\nconfined = true\n";
@@ -26,35 +31,33 @@ const LOADS: &str =
 const READS: &str = "lui x2, 0x40000\nagain: lw x5, 0(x2)\nj again\n";
 
 /// The trace of `LOADS` where thread 0 has each cycle.
-const LOADS_TRACE: [&str; 4] = [
-    "         0 00000000 00100293 x05=00000001\n",
-    "         1 00000004 00002303 x06=00100293\n",
-    "         3 00000008 00000463 -\n",
-    "         6 00000010 00200393 x07=00000002\n",
-];
+const LOADS_TRACE: &str = "         0 00000000 00100293 x05=00000001
+         1 00000004 00002303 x06=00100293
+         3 00000008 00000463 -
+         6 00000010 00200393 x07=00000002
+";
 
 /// The words of a line.
 fn words(alloc: Global, line: &str) -> Result<Vec<String>, AllocError> {
     let mut words = Vec::new(alloc);
-    for word in line.split(' ') {
-        if !word.is_empty() {
-            words.push(String::from_str(alloc, word)?)?;
-        }
+    for word in line.split_whitespace() {
+        words.push(String::from_str(alloc, word)?)?;
     }
     Ok(words)
 }
 
-/// A setup with these slots and disabled ones after them, and then the tables.
-fn setup(alloc: Global, slots: &str, tables: &str) -> Result<String, AllocError> {
+/// A setup with these slots and disabled ones after them, and then the tables of threads and loops.
+fn setup(alloc: Global, slots: &str, threads: &str, loops: &str) -> Result<String, AllocError> {
     let mut text = String::from_str(alloc, "period = 10\nimage = \"a.fpx\"\nslots = [")?;
-    for slot in slots.split(' ').chain("D D D D D D D D".split(' ')).take(8) {
-        write!(text, "\"{slot}\", ")?;
+    let mut slots = slots.split(' ');
+    for _slot in 0..8u8 {
+        text.push_str("\"")?;
+        text.push_str(slots.next().unwrap_or("D"))?;
+        text.push_str("\", ")?;
     }
-    text.push_str("]\ni_regions = [\"readonly\", \"readonly\", \"readonly\", \"readonly\", ")?;
-    text.push_str("\"readonly\", \"readonly\", \"readonly\", \"readonly\"]\n")?;
-    text.push_str("d_regions = [\"T0\", \"T1\", \"shared\", \"readonly\", ")?;
-    text.push_str("\"readonly\", \"readonly\", \"readonly\", \"readonly\"]\n")?;
-    text.push_str(tables)?;
+    text.push_str(REGIONS)?;
+    text.push_str(threads)?;
+    text.push_str(loops)?;
     Ok(text)
 }
 
@@ -85,25 +88,39 @@ fn status_held(
     status_of(rt, line, files, out, &mut ports)
 }
 
-/// The files of a setup and of the image that a source gives.
-fn files_of(rt: &(impl Abort + AllocGlobal), setup: &str, source: &str) -> Result<MemFiles, Fail> {
+/// The image that a source gives.
+fn image_of(rt: &(impl Abort + AllocGlobal), source: &str) -> Result<Vec<u8>, Fail> {
     let mut files = MemFiles::new(rt.alloc());
     files.add("a.s", source.as_bytes())?;
     let mut image = MemSink::new(rt.alloc(), ROOM)?;
     let status = status_held(rt, "asm a.s", &mut files, &mut image)?;
     assert_eq!(rt; status, 0, "{source}");
+    Ok(Vec::from_slice(rt.alloc(), image.bytes())?)
+}
+
+/// The files of a setup and of the image that a source gives.
+fn files_of(rt: &(impl Abort + AllocGlobal), setup: &str, source: &str) -> Result<MemFiles, Fail> {
+    let image = image_of(rt, source)?;
+    let mut files = MemFiles::new(rt.alloc());
     files.add("a.toml", setup.as_bytes())?;
-    files.add("a.fpx", image.bytes())?;
+    files.add("a.fpx", &image)?;
     Ok(files)
 }
 
-/// The status and the text of the program with eight devices that hold what they are fed.
-fn answer(
+/// A command line has this answer; of a dump, this is its front.
+fn says(
     rt: &(impl Abort + AllocGlobal),
-    line: &str,
     files: &mut MemFiles,
-) -> Result<(u8, String), Fail> {
+    line: &str,
+    status: u8,
+    text: &[u8],
+) -> Result<(), Fail> {
     let mut out = MemSink::new(rt.alloc(), ROOM)?;
-    let status = status_held(rt, line, files, &mut out)?;
-    Ok((status, String::from_utf8_lossy(rt.alloc(), out.bytes())?))
+    assert_eq!(rt; status_held(rt, line, files, &mut out)?, status, "{line}");
+    if line.starts_with("dump") {
+        assert!(rt; out.bytes().starts_with(text), "{line}");
+    } else {
+        assert_eq!(rt; out.bytes(), text, "{line}");
+    }
+    Ok(())
 }

@@ -18,51 +18,70 @@ fn words_that_ask_nothing(rt: HostRuntime) -> Result<(), Fail> {
     // A call of `fetch` would be the first, and would fail.
     let mut files = MemFiles::new(rt.alloc());
     files.fail_at(0)?;
-    for line in &lines {
-        assert_eq!(rt; answer(&rt, line, &mut files)?.0, 2, "{line}");
+    for line in lines {
+        says(&rt, &mut files, line, 2, b"")?;
     }
     Ok(())
 }
 
-#[test]
-fn fetches_that_fail(rt: HostRuntime) -> Result<(), Fail> {
-    let setup = setup(rt.alloc(), "T0", HARD)?;
-    let line = "run a.toml --thread 0 --cycles 11";
-    // The setup, and then its image. Call 0 has fetched the source.
-    for call in [1, 2] {
-        let mut files = files_of(&rt, setup.as_str(), LOADS)?;
-        files.fail_at(call)?;
-        let (status, text) = answer(&rt, line, &mut files)?;
-        assert_eq!(rt; status, 7);
-        assert_eq!(rt; text.as_str(), "");
+const RUN: &str = "run a.toml --thread 0 --cycles 11";
+
+const ASM: &str = "asm a.s";
+
+/// How many of the setup and its image are there; a command line; the calls of `fetch` and of `put` that
+/// fail, the latter with the bytes that it takes; the status, and how many bytes of the trace are written.
+const FAULTS: [(u8, &str, Option<u32>, Option<(u32, usize)>, u8, usize); 10] = [
+    (2, RUN, Some(0), None, 7, 0),
+    (2, RUN, Some(1), None, 7, 0),
+    (1, RUN, None, None, 7, 0),
+    (0, RUN, None, None, 7, 0),
+    (0, ASM, None, None, 7, 0),
+    (2, RUN, None, Some((0, 0)), 8, 0),
+    (2, RUN, None, Some((1, 0)), 8, 42),
+    (2, RUN, None, Some((2, 0)), 8, 84),
+    (2, RUN, None, Some((3, 0)), 8, 115),
+    (2, RUN, None, Some((3, 5)), 8, 120),
+];
+
+/// Files of which a call of `fetch` fails: as many as there are of a setup and its image.
+fn failing_files(
+    alloc: Global,
+    there: u8,
+    setup: &str,
+    image: &[u8],
+    fetch: Option<u32>,
+) -> Result<MemFiles, AllocError> {
+    let mut files = MemFiles::new(alloc);
+    if there > 0 {
+        files.add("a.toml", setup.as_bytes())?;
     }
-    let mut missing = MemFiles::new(rt.alloc());
-    assert_eq!(rt; answer(&rt, line, &mut missing)?.0, 7);
-    assert_eq!(rt; answer(&rt, "asm a.s", &mut missing)?.0, 7);
-    missing.add("a.toml", setup.as_bytes())?;
-    assert_eq!(rt; answer(&rt, line, &mut missing)?.0, 7);
-    Ok(())
+    if there > 1 {
+        files.add("a.fpx", image)?;
+    }
+    if let Some(call) = fetch {
+        files.fail_at(u64::from(call))?;
+    }
+    Ok(files)
+}
+
+/// A sink of which a call of `put` fails, once it has taken so many bytes.
+fn failing_sink(alloc: Global, put: Option<(u32, usize)>) -> Result<MemSink, AllocError> {
+    let mut out = MemSink::new(alloc, ROOM)?;
+    if let Some((call, taken)) = put {
+        out.fail_at(u64::from(call), taken)?;
+    }
+    Ok(out)
 }
 
 #[test]
-fn puts_that_fail(rt: HostRuntime) -> Result<(), Fail> {
-    let setup = setup(rt.alloc(), "T0", HARD)?;
-    for (call, taken) in [(0, 0), (1, 0), (2, 0), (3, 0), (3, 5)] {
-        let mut files = files_of(&rt, setup.as_str(), LOADS)?;
-        let mut out = MemSink::new(rt.alloc(), ROOM)?;
-        out.fail_at(call, taken)?;
-        let line = "run a.toml --thread 0 --cycles 11";
-        let status = status_held(&rt, line, &mut files, &mut out)?;
-        assert_eq!(rt; status, 8);
-        let mut whole = String::new(rt.alloc());
-        for (number, line) in (0u64..).zip(LOADS_TRACE.iter()) {
-            if number < call {
-                whole.push_str(line)?;
-            } else if number == call {
-                whole.push_str(line.get(..taken).unwrap_or(""))?;
-            }
-        }
-        assert_eq!(rt; out.bytes(), whole.as_bytes());
+fn files_and_sinks_that_fail(rt: HostRuntime) -> Result<(), Fail> {
+    let setup = setup(rt.alloc(), "T0", HARD, "")?;
+    let image = image_of(&rt, LOADS)?;
+    for (there, line, fetch, put, status, written) in FAULTS {
+        let mut files = failing_files(rt.alloc(), there, setup.as_str(), &image, fetch)?;
+        let mut out = failing_sink(rt.alloc(), put)?;
+        assert_eq!(rt; status_held(&rt, line, &mut files, &mut out)?, status);
+        assert_eq!(rt; Some(out.bytes()), LOADS_TRACE.as_bytes().get(..written));
     }
     Ok(())
 }
