@@ -14,6 +14,13 @@ pub fn next_draw(x: u32) -> u32
     ((u64::from(x) * 1_664_525 + 1_013_904_223) % 0x1_0000_0000) as u32
 }
 
+/// An instruction on two registers.
+fn on_two(op: AluOp, rd: u8, rs1: u8, rs2: u8) -> Ins
+    ensures { result ≡ Ins.Op op rd rs1 rs2 }
+{
+    Ins::Op { op, rd, rs1, rs2 }
+}
+
 /// The instruction of a draw.
 #[tactic(auto, unfolding(crate::specs::Drawn::drawn_ins))]
 pub fn drawn_ins(x: u32) -> Ins
@@ -25,36 +32,16 @@ pub fn drawn_ins(x: u32) -> Ins
     let d = 1 + (x / 0x1_0000 % 7) as u8;
     let e = 4 * (x / 0x10_0000 % 64) as i32;
     match x / 0x1000_0000 % 8 {
-        0 => Ins::Op {
-            op: AluOp::Add,
-            rd: d,
-            rs1: a,
-            rs2: b,
-        },
-        1 => Ins::Op {
-            op: AluOp::Sub,
-            rd: d,
-            rs1: a,
-            rs2: b,
-        },
-        2 => Ins::Op {
-            op: AluOp::Xor,
-            rd: d,
-            rs1: a,
-            rs2: b,
-        },
+        0 => on_two(AluOp::Add, d, a, b),
+        1 => on_two(AluOp::Sub, d, a, b),
+        2 => on_two(AluOp::Xor, d, a, b),
         3 => Ins::OpImm {
             op: ImmOp::Addi,
             rd: d,
             rs1: a,
             imm: e,
         },
-        4 => Ins::Op {
-            op: AluOp::Sltu,
-            rd: d,
-            rs1: a,
-            rs2: b,
-        },
+        4 => on_two(AluOp::Sltu, d, a, b),
         5 => Ins::Load {
             op: LoadOp::Lw,
             rd: d,
