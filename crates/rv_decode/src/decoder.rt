@@ -9,6 +9,7 @@ use crate::fields::{csr, funct3, funct7, imm_b, imm_i, imm_j, imm_s, imm_u, opco
 use crate::instruction::{AluOp, BranchOp, CsrKind, ImmOp, Ins, LoadOp, MulOp, ShiftOp, StoreOp};
 
 /// The instruction that the word `w` is: [`Ins::Illegal`] where it is none.
+#[inline(always)]
 pub fn decode(w: u32) -> Ins
     ensures table { result ≡ ins w }
     ensures range { InRange result }
@@ -17,6 +18,7 @@ pub fn decode(w: u32) -> Ins
     by_opcode(w)
 }
 
+#[inline(always)]
 fn by_opcode(word: u32) -> Ins
     ensures { result ≡ ins word }
 {
@@ -38,6 +40,7 @@ fn by_opcode(word: u32) -> Ins
 }
 
 #[tactic(auto, unfolding(crate::specs::Table::lui_rows))]
+#[inline(always)]
 fn lui(word: u32) -> Ins
     requires { field word 0 7 ≡ 0x37 }
     ensures { result ≡ read_by lui_rows word }
@@ -49,6 +52,7 @@ fn lui(word: u32) -> Ins
 }
 
 #[tactic(auto, unfolding(crate::specs::Table::auipc_rows))]
+#[inline(always)]
 fn auipc(word: u32) -> Ins
     requires { field word 0 7 ≡ 0x17 }
     ensures { result ≡ read_by auipc_rows word }
@@ -60,6 +64,7 @@ fn auipc(word: u32) -> Ins
 }
 
 #[tactic(auto, unfolding(crate::specs::Table::jal_rows))]
+#[inline(always)]
 fn jal(word: u32) -> Ins
     requires { field word 0 7 ≡ 0x6f }
     ensures { result ≡ read_by jal_rows word }
@@ -71,6 +76,7 @@ fn jal(word: u32) -> Ins
 }
 
 #[tactic(auto, unfolding(crate::specs::Table::jalr_rows))]
+#[inline(always)]
 fn jalr(word: u32) -> Ins
     requires { field word 0 7 ≡ 0x67 }
     ensures { result ≡ read_by jalr_rows word }
@@ -86,6 +92,7 @@ fn jalr(word: u32) -> Ins
 }
 
 #[tactic(auto, unfolding(crate::specs::Table::branch_rows))]
+#[inline(always)]
 fn conditional_branch(word: u32) -> Ins
     requires { field word 0 7 ≡ 0x63 }
     ensures { result ≡ read_by branch_rows word }
@@ -108,6 +115,7 @@ fn conditional_branch(word: u32) -> Ins
 }
 
 #[tactic(auto, unfolding(crate::specs::Table::load_rows))]
+#[inline(always)]
 fn load(word: u32) -> Ins
     requires { field word 0 7 ≡ 0x03 }
     ensures { result ≡ read_by load_rows word }
@@ -129,6 +137,7 @@ fn load(word: u32) -> Ins
 }
 
 #[tactic(auto, unfolding(crate::specs::Table::store_rows))]
+#[inline(always)]
 fn store(word: u32) -> Ins
     requires { field word 0 7 ≡ 0x23 }
     ensures { result ≡ read_by store_rows word }
@@ -148,6 +157,7 @@ fn store(word: u32) -> Ins
 }
 
 #[tactic(auto, unfolding(crate::specs::Table::imm_rows))]
+#[inline(always)]
 fn op_imm(word: u32) -> Ins
     requires { field word 0 7 ≡ 0x13 }
     ensures { result ≡ read_by imm_rows word }
@@ -170,6 +180,7 @@ fn op_imm(word: u32) -> Ins
 }
 
 #[tactic(auto, unfolding(crate::specs::Table::imm_rows))]
+#[inline(always)]
 fn shift(word: u32) -> Ins
     requires code { field word 0 7 ≡ 0x13 }
     requires kind { (field word 12 3 ≡ 1) ⊎ (field word 12 3 ≡ 5) }
@@ -190,6 +201,7 @@ fn shift(word: u32) -> Ins
 }
 
 #[tactic(auto, unfolding(crate::specs::Table::op_rows))]
+#[inline(always)]
 fn op(word: u32) -> Ins
     requires { field word 0 7 ≡ 0x33 }
     ensures { result ≡ read_by op_rows word }
@@ -217,6 +229,7 @@ fn op(word: u32) -> Ins
 }
 
 #[tactic(auto, unfolding(crate::specs::Table::op_rows))]
+#[inline(always)]
 fn muldiv(word: u32) -> Ins
     requires code { field word 0 7 ≡ 0x33 }
     requires kind { field word 25 7 ≡ 1 }
@@ -242,6 +255,7 @@ fn muldiv(word: u32) -> Ins
 }
 
 #[tactic(auto, unfolding(crate::specs::Table::fence_rows))]
+#[inline(always)]
 fn fence(word: u32) -> Ins
     requires { field word 0 7 ≡ 0x0f }
     ensures { result ≡ read_by fence_rows word }
@@ -253,6 +267,7 @@ fn fence(word: u32) -> Ins
 }
 
 #[tactic(auto, unfolding(crate::specs::Table::system_rows))]
+#[inline(always)]
 fn system(word: u32) -> Ins
     requires { field word 0 7 ≡ 0x73 }
     ensures { result ≡ read_by system_rows word }
@@ -283,6 +298,7 @@ fn system(word: u32) -> Ins
 }
 
 #[tactic(auto, unfolding(crate::specs::Table::time_rows))]
+#[inline(always)]
 fn timing(word: u32) -> Ins
     requires { field word 0 7 ≡ 0x0b }
     ensures { result ≡ read_by time_rows word }

@@ -8,6 +8,7 @@ use rv_decode::{AluOp, ImmOp, ShiftOp};
 /// The value of an operation on two registers (RISC-V unprivileged manual, "Integer
 /// Register-Register Operations").
 #[tactic(auto, unfolding(crate::specs::Alu::computed))]
+#[inline(always)]
 pub fn compute(op: AluOp, a: u32, b: u32) -> u32
     ensures { result ≡ computed op a b }
 {
@@ -28,6 +29,7 @@ pub fn compute(op: AluOp, a: u32, b: u32) -> u32
 /// The value of an operation on a register and an immediate ("Integer Register-Immediate
 /// Instructions").
 #[tactic(auto, unfolding(crate::specs::Alu::computed_with))]
+#[inline(always)]
 pub(crate) fn compute_with(op: ImmOp, a: u32, imm: i32) -> u32
     ensures { result ≡ computed_with op a imm }
 {
@@ -44,6 +46,7 @@ pub(crate) fn compute_with(op: ImmOp, a: u32, imm: i32) -> u32
 
 /// The value of a shift by a constant amount.
 #[tactic(auto, unfolding(crate::specs::Alu::shifted))]
+#[inline(always)]
 pub(crate) fn shift(op: ShiftOp, a: u32, amount: u8) -> u32
     ensures { result ≡ shifted op a amount }
 {

@@ -12,6 +12,7 @@ use rv_decode::{BranchOp, Ins};
 
 /// The outcome of an instruction at `pc`, with `a` and `b` as the values of `rs1` and `rs2`.
 #[tactic(auto, unfolding(crate::specs::Result::result_of))]
+#[inline(always)]
 pub fn execute(i: &Ins, pc: u32, a: u32, b: u32) -> Outcome
     ensures outcome { result ≡ result_of i.now pc a b }
     ensures aligned { result.trap ≡ None → IsAligned i.now result.address }
@@ -48,6 +49,7 @@ pub fn execute(i: &Ins, pc: u32, a: u32, b: u32) -> Outcome
 
 /// Whether a branch is taken (RISC-V unprivileged manual, "Conditional Branches").
 #[tactic(auto, unfolding(crate::specs::Result::is_taken))]
+#[inline(always)]
 fn takes(op: BranchOp, a: u32, b: u32) -> bool
     ensures { result ≡ is_taken op a b }
 {
@@ -62,6 +64,7 @@ fn takes(op: BranchOp, a: u32, b: u32) -> bool
 }
 
 /// A word plus a signed offset.
+#[inline(always)]
 fn add_offset(a: u32, off: i32) -> u32
     ensures { result ≡ offset a off }
 {
