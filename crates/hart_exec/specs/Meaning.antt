@@ -3,7 +3,7 @@ use Rattle.std.specs.Prelude.{◌≡◌, ℕ, ◌%◌, Option, Some, None}
 use Rattle.rv_decode.specs.declared.instruction.CsrKind.{CsrKind}
 use Rattle.rv_exec.specs.Line.{IsPrintable}
 use Rattle.rv_exec.specs.declared.outcome.Effect.{Effect}
-use Rattle.rv_exec.specs.declared.outcome.Effect.TheVariants.{Store}
+use Rattle.rv_exec.specs.declared.outcome.Effect.TheVariants.{Store, Csr}
 use Rattle.core_model.specs.declared.own.Own.{Own}
 use Rattle.core_model.specs.Thread.{Did}
 use Rattle.core_model.specs.Issue.{csr_op, csr_operand, csr_writes}
@@ -27,3 +27,8 @@ IsAlignedStore _ = Unit {0}
 abbrev pub IsShowable : Option Effect → Type 0
 IsShowable (Some effect) = IsPrintable effect
 IsShowable None = Unit {0}
+
+-- an effect that changes no control and status register
+abbrev pub IsPlain : Option Effect → Type 0
+IsPlain (Some (Csr csr value rd old)) = ⊥
+IsPlain _ = Unit {0}

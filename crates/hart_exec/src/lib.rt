@@ -7,11 +7,13 @@ mod control;
 mod late;
 mod outcome;
 mod parts;
+mod plain;
 mod step;
 mod surroundings;
 
 pub use control::{can_hold, change, keep, put, value_of};
 pub use late::finish;
 pub use outcome::{Executed, Place, Sources};
+pub use plain::execute_plain;
 pub use step::{execute_in, sources_of};
 pub use surroundings::Surroundings;

@@ -45,7 +45,7 @@ pub fn sources_of(i: &Ins) -> (u8, u8)
 }
 
 /// The value that a store writes: as many low bytes as it takes.
-fn cut(op: StoreOp, value: u32) -> u32
+pub(crate) fn cut(op: StoreOp, value: u32) -> u32
     ensures cut { result ≡ value % 256 ^ store_size op }
     ensures small { result < 256 ^ store_size op }
 {

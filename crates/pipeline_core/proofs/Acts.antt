@@ -1,7 +1,7 @@
 -- What every executed instruction keeps: pcs, and the trap registers that hold pcs, are multiples of
 -- four, and a control and status register is given a word that it may hold.
 use Rattle.std.proofs.Common.{◌≡◌, ℕ, ◌*◌, ◌/◌, ◌%◌, ◌^◌, Bool, true, false, Some, None, refl, arith}
-use Rattle.std.specs.Prelude.{if◌then◌else◌, Option, ◌==◌, ◌||◌, nat_le}
+use Rattle.std.specs.Prelude.{if◌then◌else◌, Option, IfSome, ◌==◌, ◌||◌, nat_le}
 use Rattle.std.proofs.lemmas.Bool.Decides.{nat_tests}
 use Rattle.rv_decode.specs.Table.{ins}
 use Rattle.rv_decode.specs.declared.instruction.Ins.{Ins}
@@ -12,7 +12,7 @@ use Rattle.rv_exec.specs.declared.outcome.Outcome.{Outcome}
 use Rattle.rv_exec.specs.Result.{result_of, unless, is_taken}
 use Rattle.core_model.specs.declared.own.Own.{Own}
 use Rattle.core_model.specs.declared.own.CsrOp.{CsrOp}
-use Rattle.core_model.specs.Thread.{Around, Did, reg_effect}
+use Rattle.core_model.specs.Thread.{Around, Did, no_own, reg_effect}
 use Rattle.core_model.specs.Parts.{load, store, branch, delay, wait, trapped, plain, wrote, went}
 use Rattle.core_model.specs.Control.{csr_value, changed, may_hold, kept, with_csr, csr_put, csr_done, csr_access}
 use Rattle.core_model.specs.Issue.{csr_op, csr_operand, csr_writes, goes, unless_trap, run, act}
@@ -188,3 +188,9 @@ act-keeps a pc t false w x y h k = go (a.fetch pc)
 pub done-keeps : (own : Own) (x : Executed) (a : Around) (pc : ℕ) (t : Own) (expired : Bool) (w p q : ℕ) →
     did own x ≡ act a pc t expired w p q → IsPc pc → IsAlignedTrap t.trap → Keeps (did own x)
 done-keeps own x a pc t expired w p q e h k = rw e (act-keeps a pc t expired w p q h k)
+
+-- an instruction that does the same whatever its hart owns goes on at a multiple of four
+pub plain_pc : (a : Around) (pc : ℕ) (expired : Bool) (w p q : ℕ) (r : Option Executed) →
+    IfSome r (λ x. (own : Own) → did own x ≡ act a pc own expired w p q) → IsPc pc → IfSome r (λ x. IsPc x.pc)
+plain_pc a pc expired w p q None same h = tt
+plain_pc a pc expired w p q (Some x) same h = (done-keeps no_own x a pc no_own expired w p q (same no_own) h (refl, refl)).pc

@@ -3,3 +3,4 @@ pub mod Pcs
 pub mod Acts
 pub mod Forwarding
 pub mod Standing
+pub mod Plain

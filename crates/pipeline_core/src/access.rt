@@ -21,8 +21,8 @@ use scratchpad::Spm;
 
 const PORT: u32 = 0x4000_0000;
 
-/// A thread's effect, with its late value if it has one. A load at the port finds the word of a
-/// cycle.
+/// The effect of an instruction whose value may come late, with that value. A load at the port finds the
+/// word of a cycle.
 fn late_effect(
     guard: &Guard,
     imem: &Spm,
@@ -44,15 +44,23 @@ fn late_effect(
     ensures rows { rows_of latched word_at ports.new.items ≡ rows_of latched word_at ports.old.items }
     ensures eight { vec_len ports.new ≡ 8 }
 {
-    let Some(Effect::Nothing) = x.effect else {
-        return x.effect;
-    };
     let found = data_word(guard, imem, dmem, ports, thread, cycle, x.address);
     let sources = Sources { a: x.a, b: x.b };
     finish(x.effect, &decode(x.word), found, x.address, sources)
 }
 
-/// What M leaves of a turn that was issued in a cycle.
+/// What stands in the latch of an instruction with its effect.
+fn stored(x: &Executed, effect: Option<Effect>) -> Stored
+    ensures { result ≡ record { pc = x.now.pc; word = x.now.word; effect = effect } }
+{
+    Stored {
+        pc: x.pc,
+        word: x.word,
+        effect,
+    }
+}
+
+/// Leaves in `m` what M makes of a turn that was issued in a cycle.
 #[tactic(auto, unfolding(pipe_model::specs::Stages::memory_latch))]
 pub fn access(
     guard: &Guard,
@@ -61,28 +69,32 @@ pub fn access(
     ports: &mut Ports,
     cycle: u64,
     held: &Held<Executed>,
-) -> Held<Stored>
+    m: &mut Held<Stored>,
+)
     requires imem { length imem.now ≡ guard.now.size / 4 }
     requires dmem { length dmem.now ≡ guard.now.size / 4 }
     requires eight { vec_len ports.old ≡ 8 }
     requires fits { ExecutedFits held.now }
-    ensures latch { result ≡ memory_latch guard.now.size imem.now dmem.now (rows_of latched word_at ports.old.items) cycle held.now }
-    ensures fits { StoredFits result }
+    ensures latch { m.new ≡ memory_latch guard.now.size imem.now dmem.now (rows_of latched word_at ports.old.items) cycle held.now }
+    ensures fits { StoredFits m.new }
     ensures rows { rows_of latched word_at ports.new.items ≡ rows_of latched word_at ports.old.items }
     ensures eight { vec_len ports.new ≡ 8 }
 {
     match held {
-        Held::Bubble => Held::Bubble,
-        Held::Flushed { thread } => Held::Flushed { thread: *thread },
+        Held::Bubble => *m = Held::Bubble,
+        Held::Flushed { thread } => *m = Held::Flushed { thread: *thread },
         Held::Issue { thread, what } => {
-            let effect = late_effect(guard, imem, dmem, ports, *thread, cycle, what);
-            Held::Issue {
-                thread: *thread,
-                what: Stored {
-                    pc: what.pc,
-                    word: what.word,
-                    effect,
-                },
+            if let Some(Effect::Nothing) = what.effect {
+                let effect = late_effect(guard, imem, dmem, ports, *thread, cycle, what);
+                *m = Held::Issue {
+                    thread: *thread,
+                    what: stored(what, effect),
+                };
+            } else {
+                *m = Held::Issue {
+                    thread: *thread,
+                    what: stored(what, what.effect),
+                };
             }
         }
     }

@@ -72,8 +72,8 @@ fn source(bank: &Bank, m: &Held<Stored>, e: &Held<Executed>, thread: u8, x: u8) 
     }
 }
 
-/// Reads the sources of the turn, and whether its thread's armed moment is reached at a time, if the
-/// turn isn't flushed.
+/// Leaves in `d` the turn with its sources, and whether its thread's armed moment is reached at a time,
+/// if the turn isn't flushed.
 #[tactic(auto, unfolding(pipe_model::specs::Stages::decode_latch))]
 pub fn read(
     bank: &Bank,
@@ -83,23 +83,31 @@ pub fn read(
     redirect: Option<Redirect>,
     time: u64,
     held: &Held<Fetched>,
-) -> Held<Decoded>
+    d: &mut Held<Decoded>,
+)
     requires m { StoredFits m.now }
     requires e { ExecutedFits e.now }
     requires f { FetchedFits held.now }
-    ensures latch { result ≡ decode_latch bank.now m.now e.now timers.now redirect time held.now }
-    ensures fits { DecodedFits result }
+    ensures latch { d.new ≡ decode_latch bank.now m.now e.now timers.now redirect time held.now }
+    ensures fits { DecodedFits d.new }
 {
     let (thread, x) = match held {
-        Held::Bubble => return Held::Bubble,
-        Held::Flushed { thread } => return Held::Flushed { thread: *thread },
+        Held::Bubble => {
+            *d = Held::Bubble;
+            return;
+        }
+        Held::Flushed { thread } => {
+            *d = Held::Flushed { thread: *thread };
+            return;
+        }
         Held::Issue { thread, what } => (*thread, what),
     };
     if is_flushed(1, thread, redirect) {
-        return Held::Flushed { thread };
+        *d = Held::Flushed { thread };
+        return;
     }
     let (rs1, rs2) = sources_of(&decode(x.word));
-    Held::Issue {
+    *d = Held::Issue {
         thread,
         what: Decoded {
             pc: x.pc,
@@ -108,5 +116,5 @@ pub fn read(
             a: source(bank, m, e, thread, rs1),
             b: source(bank, m, e, thread, rs2),
         },
-    }
+    };
 }

@@ -1,12 +1,15 @@
 //! E: instructions are executed, but for late values.
 
-ghost use Rattle.std.specs.Prelude.{◌≡◌, ◌<◌, length};
+ghost use Rattle.std.specs.Prelude.{◌≡◌, ◌<◌, IfSome, length};
 ghost use Rattle.rv_decode.specs.Table.{ins};
 ghost use Rattle.rv_exec.specs.Access.{IsAligned};
 ghost use Rattle.core_model.specs.Issue.{act};
-ghost use Rattle.hart_exec.specs.Meaning.{did};
+ghost use Rattle.core_model.specs.Thread.{no_own};
+ghost use Rattle.core_model.specs.declared.own.Own.{Own};
+ghost use Rattle.hart_exec.specs.Meaning.{did, IsPlain};
 ghost use Rattle.trap_unit.specs.Rows.{IsAlignedTrap};
 ghost use Rattle.pipe_model.specs.Stages.{own_in, executed, redirect_of, execution};
+ghost use Rattle.pipe_model.specs.declared.latches.Held.TheVariants.{Issue};
 ghost use Rattle.pipeline_core.specs.Fits.{IsPc, EffectFits, DecodedFits, ExecutedFits, RedirectFits, IsAccepted};
 ghost use Rattle.pipeline_core.specs.Meaning.{registers_by, control_by};
 ghost use Rattle.pipeline_core.specs.Asked.{asked};
@@ -14,20 +17,13 @@ ghost use Rattle.world_model.specs.World.{registers_after};
 
 use crate::rights::Rights;
 use core_model::Own;
-use hart_exec::{Executed as Done, Place, Sources, execute_in};
+use hart_exec::{Executed as Done, Place, Sources, execute_in, execute_plain};
 use pipe_model::{Decoded, Executed, Held, Redirect};
 use region_guard::Guard;
 use rv_exec::Effect;
 use slot_scheduler::Sched;
 use timer_unit::Timers;
 use trap_unit::{Traps, write_shared};
-
-/// What E leaves of a turn, and where its thread goes on if the next turns are flushed.
-#[derive(Clone, Copy, Debug)]
-pub struct Execution {
-    pub e: Held<Executed>,
-    pub redirect: Option<Redirect>,
-}
 
 /// What an instruction does, with what its thread has then.
 #[derive(Clone, Copy, Debug)]
@@ -69,9 +65,26 @@ fn execute_at(mut own: Own, rights: &Rights, x: &Decoded) -> Step
     Step { own, done }
 }
 
+/// Executes an instruction of a thread that leaves what the thread has; None where it doesn't, and in
+/// rarer cases.
+fn execute_plainly(rights: &Rights, x: &Decoded) -> Option<Done>
+    requires { IsPc x.now.pc }
+    ensures did { IfSome result (λ done. (own : Own) → did own done ≡ act (asked rights.now) x.now.pc own x.now.expired x.now.word x.now.a x.now.b) }
+    ensures effect { IfSome result (λ done. EffectFits done.effect) }
+    ensures plain { IfSome result (λ done. IsPlain done.effect) }
+    ensures address { IfSome result (λ done. IsAligned (ins done.word) done.address) }
+    ensures pc { IfSome result (λ done. IsPc done.pc) }
+{
+    let at = Place {
+        pc: x.pc,
+        word: x.word,
+    };
+    execute_plain(rights, at, x.expired, Sources { a: x.a, b: x.b })
+}
+
 /// What stands in the latch: an instruction whose word isn't shown has no sources.
-fn latch_of(x: &Decoded, own: &Own, done: &Done) -> Executed
-    ensures { result ≡ executed x.now (did own.now done.now) }
+fn latch_of(x: &Decoded, done: &Done) -> Executed
+    ensures { result ≡ executed x.now (did no_own done.now) }
 {
     let is_shown = done.word != 0;
     Executed {
@@ -85,10 +98,10 @@ fn latch_of(x: &Decoded, own: &Own, done: &Done) -> Executed
 }
 
 /// Where the thread goes on, if its next turns are flushed.
-fn redirect_by(thread: u8, own: &Own, done: &Done) -> Option<Redirect>
+fn redirect_by(thread: u8, done: &Done) -> Option<Redirect>
     requires thread { thread < 8 }
     requires pc { IsPc done.now.pc }
-    ensures redirect { result ≡ redirect_of thread (did own.now done.now) }
+    ensures redirect { result ≡ redirect_of thread (did no_own done.now) }
     ensures fits { RedirectFits result }
 {
     if done.lag == 1 {
@@ -113,8 +126,82 @@ fn write_registers(guard: &mut Guard, sched: &mut Sched, effect: Option<Effect>)
     }
 }
 
-/// Executes the turn at a time, in nanoseconds. What it changes of its thread and of the machine's
-/// own registers is changed here.
+/// Executes an issue over what its thread has, and changes that and the machine's own registers.
+#[cold]
+#[tactic(auto, unfolding(pipe_model::specs::Stages::execution))]
+fn execute_fully(
+    guard: &mut Guard,
+    sched: &mut Sched,
+    timers: &mut Timers,
+    traps: &mut Traps,
+    confined: &[bool; 8],
+    permit: &[bool; 8],
+    time: u64,
+    thread: u8,
+    x: &Decoded,
+    e: &mut Held<Executed>,
+) -> Option<Redirect>
+    requires thread { thread < 8 }
+    requires pc { IsPc x.now.pc }
+    ensures e { e.new ≡ (execution guard.old.size confined.now permit.now time (control_by sched.old guard.old timers.old traps.old) (Issue thread x.now)).e }
+    ensures redirect { result ≡ (execution guard.old.size confined.now permit.now time (control_by sched.old guard.old timers.old traps.old) (Issue thread x.now)).redirect }
+    ensures control { control_by sched.new guard.new timers.new traps.new ≡ (execution guard.old.size confined.now permit.now time (control_by sched.old guard.old timers.old traps.old) (Issue thread x.now)).control }
+    ensures size { guard.new.size ≡ guard.old.size }
+    ensures fits { ExecutedFits e.new }
+    ensures redirect_fits { RedirectFits result }
+{
+    let rights = Rights::of(thread, time, guard, sched, confined, permit);
+    let own = own_of(guard, sched, timers, traps, thread);
+    let step = execute_at(own, &rights, x);
+    timers.set_row(thread, step.own.timer);
+    traps.set_row(thread, step.own.trap);
+    sched.sleep[thread as usize] = step.own.sleep;
+    write_registers(guard, sched, step.done.effect);
+    *e = Held::Issue {
+        thread,
+        what: latch_of(x, &step.done),
+    };
+    redirect_by(thread, &step.done)
+}
+
+/// Executes an issue. Most leave what their thread has, and are done without a look at it.
+#[tactic(auto, unfolding(pipe_model::specs::Stages::execution))]
+fn execute_issue(
+    guard: &mut Guard,
+    sched: &mut Sched,
+    timers: &mut Timers,
+    traps: &mut Traps,
+    confined: &[bool; 8],
+    permit: &[bool; 8],
+    time: u64,
+    thread: u8,
+    x: &Decoded,
+    e: &mut Held<Executed>,
+) -> Option<Redirect>
+    requires thread { thread < 8 }
+    requires pc { IsPc x.now.pc }
+    ensures e { e.new ≡ (execution guard.old.size confined.now permit.now time (control_by sched.old guard.old timers.old traps.old) (Issue thread x.now)).e }
+    ensures redirect { result ≡ (execution guard.old.size confined.now permit.now time (control_by sched.old guard.old timers.old traps.old) (Issue thread x.now)).redirect }
+    ensures control { control_by sched.new guard.new timers.new traps.new ≡ (execution guard.old.size confined.now permit.now time (control_by sched.old guard.old timers.old traps.old) (Issue thread x.now)).control }
+    ensures size { guard.new.size ≡ guard.old.size }
+    ensures fits { ExecutedFits e.new }
+    ensures redirect_fits { RedirectFits result }
+{
+    let rights = Rights::of(thread, time, guard, sched, confined, permit);
+    let Some(done) = execute_plainly(&rights, x) else {
+        return execute_fully(
+            guard, sched, timers, traps, confined, permit, time, thread, x, e,
+        );
+    };
+    *e = Held::Issue {
+        thread,
+        what: latch_of(x, &done),
+    };
+    redirect_by(thread, &done)
+}
+
+/// Executes the turn at a time, in nanoseconds, and tells where its thread goes on if the next turns
+/// are flushed. What it changes of its thread and of the machine's own registers is changed here.
 #[tactic(auto, unfolding(pipe_model::specs::Stages::execution))]
 pub fn execute(
     guard: &mut Guard,
@@ -125,42 +212,27 @@ pub fn execute(
     permit: &[bool; 8],
     time: u64,
     held: &Held<Decoded>,
-) -> Execution
+    e: &mut Held<Executed>,
+) -> Option<Redirect>
     requires { DecodedFits held.now }
-    ensures e { result.e ≡ (execution guard.old.size confined.now permit.now time (control_by sched.old guard.old timers.old traps.old) held.now).e }
-    ensures redirect { result.redirect ≡ (execution guard.old.size confined.now permit.now time (control_by sched.old guard.old timers.old traps.old) held.now).redirect }
+    ensures e { e.new ≡ (execution guard.old.size confined.now permit.now time (control_by sched.old guard.old timers.old traps.old) held.now).e }
+    ensures redirect { result ≡ (execution guard.old.size confined.now permit.now time (control_by sched.old guard.old timers.old traps.old) held.now).redirect }
     ensures control { control_by sched.new guard.new timers.new traps.new ≡ (execution guard.old.size confined.now permit.now time (control_by sched.old guard.old timers.old traps.old) held.now).control }
     ensures size { guard.new.size ≡ guard.old.size }
-    ensures fits { ExecutedFits result.e }
-    ensures redirect_fits { RedirectFits result.redirect }
+    ensures fits { ExecutedFits e.new }
+    ensures redirect_fits { RedirectFits result }
 {
-    let (thread, x) = match held {
+    match held {
         Held::Bubble => {
-            return Execution {
-                e: Held::Bubble,
-                redirect: None,
-            };
+            *e = Held::Bubble;
+            None
         }
         Held::Flushed { thread } => {
-            return Execution {
-                e: Held::Flushed { thread: *thread },
-                redirect: None,
-            };
+            *e = Held::Flushed { thread: *thread };
+            None
         }
-        Held::Issue { thread, what } => (*thread, what),
-    };
-    let rights = Rights::of(thread, time, guard, sched, confined, permit);
-    let own = own_of(guard, sched, timers, traps, thread);
-    let step = execute_at(own, &rights, x);
-    timers.set_row(thread, step.own.timer);
-    traps.set_row(thread, step.own.trap);
-    sched.sleep[thread as usize] = step.own.sleep;
-    write_registers(guard, sched, step.done.effect);
-    Execution {
-        e: Held::Issue {
-            thread,
-            what: latch_of(x, &step.own, &step.done),
-        },
-        redirect: redirect_by(thread, &step.own, &step.done),
+        Held::Issue { thread, what } => execute_issue(
+            guard, sched, timers, traps, confined, permit, time, *thread, what, e,
+        ),
     }
 }

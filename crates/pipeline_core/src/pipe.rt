@@ -39,10 +39,10 @@ pub struct Pipe {
 }
 
 impl Pipe {
-    ghost use Rattle.std.specs.Prelude.{◌<◌, List, Option, map, vec_len};
+    ghost use Rattle.std.specs.Prelude.{◌<◌, ◌-◌, List, Option, map, vec_len};
     ghost use Rattle.fp_ports.specs.Rows.{Row, rows_of};
     ghost use Rattle.world_model.specs.World.{Start, start_world};
-    ghost use Rattle.pipe_model.specs.Stages.{step};
+    ghost use Rattle.pipe_model.specs.Stages.{retired, step};
     ghost use Rattle.pipe_model.specs.Relation.{Begins, Shows, Stands, Kept, HasLatches};
     ghost use Rattle.pipe_model.specs.Laws.{empty, first_units};
     ghost use Rattle.pipeline_core.specs.Fits.{IsEventShowable};
@@ -70,6 +70,7 @@ impl Pipe {
     /// One cycle of the core. Where pipeline, units and ports stand for the cycle of a world, they
     /// stand for its next cycle afterwards, and the answer is the event of the issue of four cycles
     /// ago, or None where that has none or there is no issue.
+    #[inline(always)]
     pub fn tick(&mut self, units: &mut Units, ports: &mut Ports, cycle: u64) -> Option<Event>
         requires cycle { cycle < 4000000000 }
         requires eight { vec_len ports.old ≡ 8 }
@@ -78,41 +79,44 @@ impl Pipe {
             Kept s cycle before (ticked_by self.new units.new after result) }
         ensures step { ticked_by self.new units.new (rows_of latched word_at ports.new.items) result ≡ step (latches_by self.old) (state_by units.old (rows_of latched word_at ports.old.items)) cycle }
         ensures eight { vec_len ports.new ≡ 8 }
+        ensures retires { result ≡ retired (cycle - 4) self.old.m }
         ensures showable { IsEventShowable result }
     {
         keeps_standing();
-        self.step(units, ports, cycle)
+        let event = retire(&self.m, cycle);
+        self.step(units, ports, cycle);
+        event
     }
 
     /// One cycle, stage by stage. The older stages go first, so that the younger ones go by what they
     /// leave; the pick goes by slots, modes and sleep moments as they stand before. The turn in M was
     /// issued three cycles ago, and finds at its thread's port the word of that cycle; the turn in E
     /// was issued two cycles ago, that in D one cycle ago, and they go by the times of those cycles.
+    #[inline(never)]
     #[tactic(auto, unfolding(pipe_model::specs::Stages::step))]
-    fn step(&mut self, units: &mut Units, ports: &mut Ports, cycle: u64) -> Option<Event>
+    fn step(&mut self, units: &mut Units, ports: &mut Ports, cycle: u64)
         requires cycle { cycle < 4000000000 }
         requires eight { vec_len ports.old ≡ 8 }
-        ensures step { ticked_by self.new units.new (rows_of latched word_at ports.new.items) result ≡ step (latches_by self.old) (state_by units.old (rows_of latched word_at ports.old.items)) cycle }
+        ensures step { ticked_by self.new units.new (rows_of latched word_at ports.new.items) (retired (cycle - 4) self.old.m) ≡ step (latches_by self.old) (state_by units.old (rows_of latched word_at ports.old.items)) cycle }
         ensures eight { vec_len ports.new ≡ 8 }
-        ensures showable { IsEventShowable result }
     {
         let now = units.clock.now(cycle);
         let before = units.clock.now(cycle.saturating_sub(1));
         let earlier = units.clock.now(cycle.saturating_sub(2));
         let pick = units.scheduler.pick(&units.sched, cycle, now);
-        let event = retire(&self.m, cycle.saturating_sub(4));
         write_back(&mut units.bank, &self.m);
         self.w = written(&self.m);
-        self.m = access(
+        access(
             &units.guard,
             &units.imem,
             &units.dmem,
             ports,
             cycle.saturating_sub(3),
             &self.e,
+            &mut self.m,
         );
         store(&units.guard, &mut units.dmem, ports, &self.m);
-        let executed = execute(
+        let redirect = execute(
             &mut units.guard,
             &mut units.sched,
             &mut units.timers,
@@ -121,11 +125,10 @@ impl Pipe {
             &units.permit,
             earlier,
             &self.d,
+            &mut self.e,
         );
-        let redirect = executed.redirect;
-        self.e = executed.e;
         redirect_to(&mut self.next, redirect);
-        self.d = read(
+        read(
             &units.bank,
             &self.m,
             &self.e,
@@ -133,8 +136,8 @@ impl Pipe {
             redirect,
             before,
             &self.f,
+            &mut self.d,
         );
         self.f = fetch(&units.guard, &units.imem, redirect, &mut self.next, pick);
-        event
     }
 }

@@ -1,6 +1,6 @@
 //! W: registers are written, and events retire.
 
-ghost use Rattle.std.specs.Prelude.{◌≡◌, length};
+ghost use Rattle.std.specs.Prelude.{◌≡◌, ◌-◌, length};
 ghost use Rattle.pipe_model.specs.Stages.{bank_after, write_latch, retired};
 ghost use Rattle.pipeline_core.specs.Fits.{StoredFits, WrittenFits, IsEventShowable};
 
@@ -8,18 +8,18 @@ use pipe_model::{Held, Stored, Written};
 use regfile_bank::Bank;
 use rv_exec::{Effect, Event};
 
-/// The event of the turn that was issued in a cycle, if it has one.
+/// The event that retires in a cycle, if there is one: that of the turn that was issued four cycles ago.
 #[tactic(auto, unfolding(pipe_model::specs::Stages::retired))]
 pub fn retire(held: &Held<Stored>, cycle: u64) -> Option<Event>
     requires { StoredFits held.now }
-    ensures event { result ≡ retired cycle held.now }
+    ensures event { result ≡ retired (cycle - 4) held.now }
     ensures showable { IsEventShowable result }
 {
     let Held::Issue { thread, what } = held else {
         return None;
     };
     Some(Event {
-        cycle,
+        cycle: cycle.saturating_sub(4),
         thread: *thread,
         pc: what.pc,
         word: what.word,

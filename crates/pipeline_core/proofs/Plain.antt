@@ -1,0 +1,36 @@
+-- An issue that leaves what its thread owns changes nothing of the control.
+use Rattle.std.proofs.Common.{◌≡◌, ℕ, Some, None, refl}
+use Rattle.std.specs.Prelude.{Option}
+use Rattle.std.proofs.lemmas.List.{set-get_or}
+use Rattle.rv_exec.specs.declared.outcome.Effect.{Effect}
+use Rattle.rv_exec.specs.declared.outcome.Effect.TheVariants.{Nothing, Reg, Store, Csr, Trap, Wait}
+use Rattle.core_model.specs.declared.own.Own.{Own}
+use Rattle.core_model.specs.Thread.{Around, Did, no_own}
+use Rattle.core_model.specs.Issue.{act}
+use Rattle.world_model.specs.World.{Registers, registers_after}
+use Rattle.hart_exec.specs.declared.outcome.Executed.{Executed}
+use Rattle.hart_exec.specs.Meaning.{did, IsPlain}
+use Rattle.pipe_model.specs.declared.latches.Held.TheVariants.{Issue}
+use Rattle.pipe_model.specs.declared.latches.Decoded.{Decoded}
+use Rattle.pipe_model.specs.Stages.{After, Control, own_in, executed, controlled, redirect_of, executes}
+
+registers-left : (e : Option Effect) (r : Registers) → IsPlain e → registers_after e r ≡ r
+registers-left None r h = refl
+registers-left (Some Nothing) r h = refl
+registers-left (Some (Reg rd value)) r h = refl
+registers-left (Some (Store address size value)) r h = refl
+registers-left (Some (Csr csr value rd old)) r h = absurd h
+registers-left (Some (Trap cause target)) r h = refl
+registers-left (Some Wait) r h = refl
+
+control_left : (k : ℕ) (x : Executed) (u : Control) (d : Did) → did (own_in u k) x ≡ d → IsPlain x.effect → u ≡ controlled k d u
+control_left k x u d same h =
+    rw (← same, registers-left x.effect u.registers h, set-get_or u.timers k _, set-get_or u.traps k _, set-get_or u.sleeps k _) refl
+
+-- what such an issue leaves in E
+pub plain_after : (a b : Around) (k : ℕ) (x : Decoded) (u : Control) (done : Executed) → a ≡ b →
+    ((own : Own) → did own done ≡ act a x.pc own x.expired x.word x.a x.b) → IsPlain done.effect →
+    record { e = Issue k (executed x (did no_own done)); control = u; redirect = redirect_of k (did no_own done) }
+    ≡ executes k x u (act b x.pc (own_in u k) x.expired x.word x.a x.b)
+plain_after a b k x u done around same h =
+    rw (← around, ← same (own_in u k), ← control_left k done u (did (own_in u k) done) refl h) refl
