@@ -5,3 +5,4 @@ pub mod RunLemmas
 pub mod LoadLemmas
 pub mod FedLemmas
 pub mod WordLemmas
+pub mod Retiring

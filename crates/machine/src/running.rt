@@ -1,12 +1,14 @@
 //! The cycles of a machine.
 
-ghost use Rattle.std.specs.Prelude.{◌≡◌, ℕ, ◌+◌, ◌<◌, ◌≤◌, not, None, vec_len, slice_index_or, slice_set, if◌then◌else◌, OnOk, OnErr};
+ghost use Rattle.std.specs.Prelude.{◌≡◌, ℕ, ◌+◌, ◌-◌, ◌<◌, ◌≤◌, false, not, None, [], is_some, vec_len, slice_index_or, slice_set, if◌then◌else◌, OnOk, OnErr};
+ghost use Rattle.std.specs.List.{list_any};
 ghost use Rattle.std.specs.Io.KnownBytes.{Appends};
 ghost use Rattle.fp_io.specs.Causes.{Rose};
 ghost use Rattle.fp_io.specs.Content.{AppendsFront};
 ghost use Rattle.fp_ports.specs.Rows.{rows_of};
 ghost use Rattle.trace_print.specs.Text.{text};
 ghost use Rattle.world_model.specs.World.{Start, events};
+ghost use Rattle.pipe_model.specs.Stages.{retired};
 ghost use Rattle.pipe_model.specs.Relation.{stays_in, of_hart};
 ghost use Rattle.pipeline_core.specs.Fits.{IsEventShowable};
 ghost use Rattle.machine_model.specs.Relation.{kept_in};
@@ -16,7 +18,7 @@ ghost use Rattle.machine.specs.Meaning.{StandsFor, AreLeft, Ticks, HasRun, Stopp
 use crate::state::Machine;
 use fp_io::{PutFailed, Sink};
 use fp_ports::{Ports, unplug};
-use pipe_model::events_grow;
+use pipe_model::{Held, events_grow};
 use rv_exec::Event;
 use trace_print::line;
 
@@ -41,10 +43,78 @@ impl Machine {
         ensures eight { vec_len ports.new ≡ 8 }
         ensures showable { IsEventShowable result }
     {
-        self.take_due(ports);
+        self.cycle_on(ports, self.loses_ports())
+    }
+
+    /// One cycle, where it is known whether any port is ever taken away.
+    #[inline(always)]
+    fn cycle_on(&mut self, ports: &mut Ports, loses_ports: bool) -> Option<Event>
+        requires cycle { self.old.at < 4000000000 }
+        requires eight { vec_len ports.old ≡ 8 }
+        requires known { loses_ports ≡ list_any is_some self.old.unplugs }
+        ensures relation { (s : Start) (n : ℕ) → self.old.at < n + 3 → StandsFor s self.old.at n self.old (rows_of latched word_at ports.old.items)
+            → Ticks s self.old.at n (rows_of latched word_at ports.old.items) self.new (rows_of latched word_at ports.new.items) result }
+        ensures at { self.new.at ≡ self.old.at + 1 }
+        ensures unplugs { self.new.unplugs ≡ self.old.unplugs }
+        ensures words { AreLeft (rows_of latched word_at ports.old.items) (rows_of latched word_at ports.new.items) }
+        ensures eight { vec_len ports.new ≡ 8 }
+        ensures retires { result ≡ retired (self.old.at - 4) self.old.pipe.m }
+        ensures showable { IsEventShowable result }
+    {
+        self.take_if_any(ports, loses_ports);
         let event = self.pipe.tick(&mut self.units, ports, self.at);
         self.at += 1;
         event
+    }
+
+    /// One cycle, and the line of its event, if that is one of the thread's. The events of other threads
+    /// aren't looked at.
+    fn put_cycle<K: Sink>(
+        &mut self,
+        thread: u8,
+        ports: &mut Ports,
+        loses_ports: bool,
+        out: &mut K,
+    ) -> Result<(), PutFailed>
+        requires cycle { self.old.at < 4000000000 }
+        requires eight { vec_len ports.old ≡ 8 }
+        requires known { loses_ports ≡ list_any is_some self.old.unplugs }
+        ensures relation { (s : Start) (n : ℕ) → self.old.at < n + 3 → StandsFor s self.old.at n self.old (rows_of latched word_at ports.old.items)
+            → Ticks s self.old.at n (rows_of latched word_at ports.old.items) self.new (rows_of latched word_at ports.new.items) (retired (self.old.at - 4) self.old.pipe.m) }
+        ensures at { self.new.at ≡ self.old.at + 1 }
+        ensures unplugs { self.new.unplugs ≡ self.old.unplugs }
+        ensures words { AreLeft (rows_of latched word_at ports.old.items) (rows_of latched word_at ports.new.items) }
+        ensures eight { vec_len ports.new ≡ 8 }
+        ensures ok { OnOk result (Appends (K.taken out.old) (K.taken out.new) (text (of_hart thread (retired (self.old.at - 4) self.old.pipe.m)))) }
+        ensures err { OnErr result (AppendsFront (K.taken out.old) (K.taken out.new) (text (of_hart thread (retired (self.old.at - 4) self.old.pipe.m)))) }
+        ensures failed { OnErr result (Rose (K.faults out.old) (K.faults out.new)) }
+        ensures counted { K.faults out.old ≤ K.faults out.new }
+    {
+        if self.is_retiring(thread) {
+            let event = self.cycle_on(ports, loses_ports);
+            put_event(event, thread, out)
+        } else {
+            let _event = self.cycle_on(ports, loses_ports);
+            Ok(())
+        }
+    }
+
+    /// Whether the turn that retires in the next cycle is an issue of the thread.
+    #[tactic(auto, unfolding(pipe_model::specs::Stages::retired), using(crate::proofs::Retiring::of_others))]
+    fn is_retiring(&self, thread: u8) -> bool
+        ensures { result ≡ false → of_hart thread (retired (self.now.at - 4) self.now.pipe.m) ≡ [] }
+    {
+        match self.pipe.m {
+            Held::Issue { thread: issued, .. } => issued == thread,
+            _ => false,
+        }
+    }
+
+    /// Whether any thread loses its port in some cycle.
+    fn loses_ports(&self) -> bool
+        ensures { result ≡ list_any is_some self.now.unplugs }
+    {
+        self.unplugs.iter().any(|unplug| unplug.is_some())
     }
 
     /// Does n cycles from cycle 0 on, and puts the line of each event of the thread as it retires. It
@@ -76,11 +146,24 @@ impl Machine {
         ensures eight { vec_len ports.new ≡ 8 }
     {
         events_grow();
+        let loses_ports = self.loses_ports();
         for _cycle in 0..n {
-            let event = self.tick(ports);
-            put_event(event, thread, out)?;
+            self.put_cycle(thread, ports, loses_ports, out)?;
         }
         Ok(())
+    }
+
+    /// Takes the ports away that are due in the next cycle, where any is taken away at all.
+    #[tactic(auto, using(crate::proofs::Retiring::none_due))]
+    fn take_if_any(&self, ports: &mut Ports, loses_ports: bool)
+        requires eight { vec_len ports.old ≡ 8 }
+        requires known { loses_ports ≡ list_any is_some self.now.unplugs }
+        ensures rows { rows_of latched word_at ports.new.items ≡ kept_in self.now.unplugs self.now.at (rows_of latched word_at ports.old.items) 8 }
+        ensures eight { vec_len ports.new ≡ 8 }
+    {
+        if loses_ports {
+            self.take_due(ports);
+        }
     }
 
     /// Takes the ports away that are due in the next cycle.

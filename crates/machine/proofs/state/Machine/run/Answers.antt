@@ -1,5 +1,6 @@
-use Rattle.std.proofs.Common.{◌+◌, ◌<◌, arith, ap, ◌∙◌}
+use Rattle.std.proofs.Common.{◌+◌, ◌-◌, ◌<◌, rules, arith, ap, ◌∙◌}
 use Rattle.std.proofs.lemmas.Result.{err_from_is_err_and}
+use Rattle.pipe_model.specs.Stages.{retired}
 use Rattle.machine.proofs.RunLemmas.{left_all, run_begins, run_on, run_stops}
 use Rattle.machine.proofs.WordLemmas.{words_on}
 use Rattle.machine.proofs.state.Machine.run.Goals as goal
@@ -10,6 +11,7 @@ loop-cycle-init g c = record {
   eight = c.requires.eight;
   counted = omega arith;
   words = left_all _;
+  known = search rules;
   runs = λ s st. run_begins s c.args.n c.args.thread c.args.self.now _ (g.K.Sink.taken c.args.out.now) st;
 }
 
@@ -19,23 +21,24 @@ loop-cycle-preserved g c =
     let k = c.loop-cycle._cycle in
     let within : c.loop-cycle.self.at < c.args.n + 3 = omega (arith, inv.at, c.loop-cycle-test.true) in
     record {
-      at = c.tick-event.ensures.at ∙ ap (λ n. n + 1) inv.at;
-      eight = c.tick-event.ensures.eight;
-      counted = omega (arith, inv.counted, c.put_event.ensures.counted);
-      words = words_on _ _ _ inv.words c.tick-event.ensures.words;
-      runs = λ s st. run_on c.events_grow.ensures s k c.args.n c.args.thread _ c.loop-cycle.self c.tick-event.new.self _ _ (g.K.Sink.taken c.args.out.now) (g.K.Sink.taken c.loop-cycle.out) (g.K.Sink.taken c.put_event.new.out)
-          c.tick-event.result (inv.runs s st) inv.at (c.tick-event.ensures.relation s c.args.n within) c.in_ok-put_event.ensures.ok;
+      at = c.put_cycle.ensures.at ∙ ap (λ n. n + 1) inv.at;
+      eight = c.put_cycle.ensures.eight;
+      counted = omega (arith, inv.counted, c.put_cycle.ensures.counted);
+      words = words_on _ _ _ inv.words c.put_cycle.ensures.words;
+      known = cc;
+      runs = λ s st. run_on c.events_grow.ensures s k c.args.n c.args.thread _ c.loop-cycle.self c.put_cycle.new.self _ _ (g.K.Sink.taken c.args.out.now) (g.K.Sink.taken c.loop-cycle.out) (g.K.Sink.taken c.put_cycle.new.out)
+          (retired (c.loop-cycle.self.at - 4) c.loop-cycle.self.pipe.m) (inv.runs s st) inv.at (c.put_cycle.ensures.relation s c.args.n within) c.in_ok-put_cycle.ensures.ok;
     }
 
-pub returns-in_err-put_event-clause-err : goal.returns-in_err-put_event-clause-err
-returns-in_err-put_event-clause-err g c =
+pub returns-in_err-put_cycle-clause-err : goal.returns-in_err-put_cycle-clause-err
+returns-in_err-put_cycle-clause-err g c =
     let inv = c.loop-cycle.invariant in
     let k = c.loop-cycle._cycle in
     let inside : k < c.args.n = omega (arith, c.loop-cycle-test.true) in
     let within : c.loop-cycle.self.at < c.args.n + 3 = omega (arith, inv.at, inside) in
     let p = err_from_is_err_and c.from_residual.result c.from_residual.ensures.1 in
-    rw p.1 (λ s st. run_stops c.events_grow.ensures s k c.args.n c.args.thread _ c.loop-cycle.self c.tick-event.new.self _ _ (g.K.Sink.taken c.args.out.now) (g.K.Sink.taken c.loop-cycle.out) (g.K.Sink.taken c.put_event.new.out)
-    c.tick-event.result inside (inv.runs s st) inv.at (c.tick-event.ensures.relation s c.args.n within) c.in_err-put_event.ensures.err)
+    rw p.1 (λ s st. run_stops c.events_grow.ensures s k c.args.n c.args.thread _ c.loop-cycle.self c.put_cycle.new.self _ _ (g.K.Sink.taken c.args.out.now) (g.K.Sink.taken c.loop-cycle.out) (g.K.Sink.taken c.put_cycle.new.out)
+    (retired (c.loop-cycle.self.at - 4) c.loop-cycle.self.pipe.m) inside (inv.runs s st) inv.at (c.put_cycle.ensures.relation s c.args.n within) c.in_err-put_cycle.ensures.err)
 
-pub returns-in_err-put_event-clause-words : goal.returns-in_err-put_event-clause-words
-returns-in_err-put_event-clause-words g c = words_on _ _ _ c.loop-cycle.invariant.words c.tick-event.ensures.words
+pub returns-in_err-put_cycle-clause-words : goal.returns-in_err-put_cycle-clause-words
+returns-in_err-put_cycle-clause-words g c = words_on _ _ _ c.loop-cycle.invariant.words c.put_cycle.ensures.words

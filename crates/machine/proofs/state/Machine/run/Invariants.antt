@@ -1,4 +1,6 @@
 use Rattle.std.proofs.Common.{◌≡◌, ◌≤◌, vec_len}
+use Rattle.std.specs.Prelude.{is_some}
+use Rattle.std.specs.List.{list_any}
 use Rattle.fp_ports.specs.Rows.{rows_of}
 use Rattle.world_model.specs.World.{Start}
 use Rattle.machine.specs.Meaning.{StandsFor, AreLeft, HasRun}
@@ -13,5 +15,6 @@ invariant-loop-cycle g l =
       eight : vec_len l.ports ≡ 8;
       counted : g.K.Sink.faults l.initial.out ≤ g.K.Sink.faults l.out;
       words : AreLeft first rows;
+      known : l.loses_ports ≡ list_any is_some l.self.unplugs;
       runs : (s : Start) → StandsFor s 0 l.n l.initial.self first → HasRun s l._cycle l.n l.thread first l.self rows (g.K.Sink.taken l.initial.out) (g.K.Sink.taken l.out);
     }

@@ -1,0 +1,30 @@
+-- Turns of other threads put nothing, and where no port is ever taken away none is due.
+use Rattle.std.proofs.Common.{◌≡◌, ℕ, zero, suc, List, [], ◌∷◌, get_or, false, Some, None, Option, refl, subst}
+use Rattle.std.specs.Prelude.{if◌then◌else◌, ◌==◌, is_some}
+use Rattle.std.specs.List.{list_any}
+use Rattle.fp_ports.specs.Rows.{Row}
+use Rattle.rv_exec.specs.declared.outcome.Effect.{Effect}
+use Rattle.rv_exec.specs.declared.outcome.Event.{Event}
+use Rattle.world_model.specs.World.{Start}
+use Rattle.pipe_model.specs.Stages.{event_at}
+use Rattle.pipe_model.specs.Relation.{of_hart}
+use Rattle.machine_model.specs.Relation.{kept_in}
+use Rattle.machine.specs.declared.state.Machine.{Machine}
+use Rattle.machine.specs.Meaning.{Ticks}
+
+pub of_others : (i cycle k pc word : ℕ) (effect : Option Effect) → (k == i) ≡ false → of_hart i (event_at cycle k pc word effect) ≡ []
+of_others i cycle k pc word None other = refl
+of_others i cycle k pc word (Some effect) other = rw other refl
+
+none_at : (unplugs : List (Option ℕ)) (k : ℕ) → list_any is_some unplugs ≡ false → get_or unplugs k None ≡ None
+none_at [] k h = refl
+none_at (None ∷ more) zero h = refl
+none_at (None ∷ more) (suc k) h = none_at more k h
+none_at (Some unplug ∷ more) k h = cc
+
+pub none_due : (unplugs : List (Option ℕ)) (cycle : ℕ) (rows : List (Option Row)) (k : ℕ) → list_any is_some unplugs ≡ false → kept_in unplugs cycle rows k ≡ rows
+none_due unplugs cycle rows zero h = refl
+none_due unplugs cycle rows (suc k) h = rw (none_at unplugs k h) (none_due unplugs cycle rows k h)
+
+pub ticks_by : (s : Start) (c n : ℕ) (before : List (Option Row)) (m : Machine) (ports : List (Option Row)) (a b : Option Event) → a ≡ b → Ticks s c n before m ports a → Ticks s c n before m ports b
+ticks_by s c n before m ports a b same ticks = subst (λ (e : Option Event). Ticks s c n before m ports e) same ticks
