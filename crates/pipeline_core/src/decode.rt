@@ -35,40 +35,51 @@ fn newer(effect: Option<Effect>, x: u8, older: u32) -> u32
     }
 }
 
-/// A thread's register by the bank and the turn in `m`.
-fn settled(bank: &Bank, m: &Held<Stored>, thread: u8, x: u8) -> u32
+/// Two registers of a thread by the bank and the turn in `m`.
+fn settled(bank: &Bank, m: &Held<Stored>, thread: u8, x: u8, y: u8) -> (u32, u32)
     requires thread { thread < 8 }
     requires x { x < 32 }
+    requires y { y < 32 }
     requires m { StoredFits m.now }
-    ensures value { result ≡ reg_in (from_m thread m.now (registers_of bank.now thread)) x }
+    ensures first { result.0 ≡ reg_in (from_m thread m.now (registers_of bank.now thread)) x }
+    ensures second { result.1 ≡ reg_in (from_m thread m.now (registers_of bank.now thread)) y }
     ensures words { length (registers_of bank.now thread) ≡ 31 }
 {
-    let older = bank.read(thread, x);
+    let (a, b) = (bank.read(thread, x), bank.read(thread, y));
     match m {
         Held::Issue {
             thread: stored,
             what,
-        } if *stored == thread => newer(what.effect, x, older),
-        _ => older,
+        } if *stored == thread => (newer(what.effect, x, a), newer(what.effect, y, b)),
+        _ => (a, b),
     }
 }
 
-/// A thread's register by the bank and the turns in `m` and `e`, of which the younger counts.
+/// Two registers of a thread by the bank and the turns in `m` and `e`, of which the younger counts.
 #[tactic(auto, using(crate::proofs::Forwarding::from_m_length))]
-fn source(bank: &Bank, m: &Held<Stored>, e: &Held<Executed>, thread: u8, x: u8) -> u32
+fn sources(
+    bank: &Bank,
+    m: &Held<Stored>,
+    e: &Held<Executed>,
+    thread: u8,
+    x: u8,
+    y: u8,
+) -> (u32, u32)
     requires thread { thread < 8 }
     requires x { x < 32 }
+    requires y { y < 32 }
     requires m { StoredFits m.now }
     requires e { ExecutedFits e.now }
-    ensures { result ≡ operand bank.now m.now e.now thread x }
+    ensures first { result.0 ≡ operand bank.now m.now e.now thread x }
+    ensures second { result.1 ≡ operand bank.now m.now e.now thread y }
 {
-    let older = settled(bank, m, thread, x);
+    let (a, b) = settled(bank, m, thread, x, y);
     match e {
         Held::Issue {
             thread: executed,
             what,
-        } if *executed == thread => newer(what.effect, x, older),
-        _ => older,
+        } if *executed == thread => (newer(what.effect, x, a), newer(what.effect, y, b)),
+        _ => (a, b),
     }
 }
 
@@ -107,14 +118,15 @@ pub fn read(
         return;
     }
     let (rs1, rs2) = sources_of(&decode(x.word));
+    let (a, b) = sources(bank, m, e, thread, rs1, rs2);
     *d = Held::Issue {
         thread,
         what: Decoded {
             pc: x.pc,
             word: x.word,
             expired: timers.due(thread, time),
-            a: source(bank, m, e, thread, rs1),
-            b: source(bank, m, e, thread, rs2),
+            a,
+            b,
         },
     };
 }
