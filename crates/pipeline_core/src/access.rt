@@ -84,17 +84,22 @@ pub fn access(
         Held::Bubble => *m = Held::Bubble,
         Held::Flushed { thread } => *m = Held::Flushed { thread: *thread },
         Held::Issue { thread, what } => {
-            if let Some(Effect::Nothing) = what.effect {
-                let effect = late_effect(guard, imem, dmem, ports, *thread, cycle, what);
-                *m = Held::Issue {
-                    thread: *thread,
-                    what: stored(what, effect),
-                };
-            } else {
-                *m = Held::Issue {
-                    thread: *thread,
-                    what: stored(what, what.effect),
-                };
+            let (thread, x) = (*thread, what);
+            match x.effect {
+                Some(Effect::Nothing) => {
+                    let effect = late_effect(guard, imem, dmem, ports, thread, cycle, x);
+                    let what = stored(x, effect);
+                    *m = Held::Issue { thread, what };
+                }
+                // The most frequent effect: no more than its own fields is moved.
+                Some(Effect::Reg { rd, value }) => {
+                    let what = stored(x, Some(Effect::Reg { rd, value }));
+                    *m = Held::Issue { thread, what };
+                }
+                effect => {
+                    let what = stored(x, effect);
+                    *m = Held::Issue { thread, what };
+                }
             }
         }
     }

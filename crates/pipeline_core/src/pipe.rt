@@ -9,7 +9,7 @@ use crate::decode::read;
 use crate::execute::execute;
 use crate::fetch::{fetch, redirect_to};
 use crate::units::Units;
-use crate::write::{retire, write_back, written};
+use crate::write::{retire, write};
 use fp_ports::{Port, Ports};
 use pipe_model::{
     Decoded, Executed, Fetched, Held, Stored, Written, keeps_standing, starts_standing,
@@ -104,8 +104,7 @@ impl Pipe {
         let before = units.clock.now(cycle.saturating_sub(1));
         let earlier = units.clock.now(cycle.saturating_sub(2));
         let pick = units.scheduler.pick(&units.sched, cycle, now);
-        write_back(&mut units.bank, &self.m);
-        self.w = written(&self.m);
+        write(&mut units.bank, &self.m, &mut self.w);
         access(
             &units.guard,
             &units.imem,

@@ -1,8 +1,9 @@
 //! W: registers are written, and events retire.
 
-ghost use Rattle.std.specs.Prelude.{◌≡◌, ◌-◌, length};
+ghost use Rattle.std.specs.Prelude.{◌≡◌, ◌-◌, ◌<◌, [], slice_index_or, slice_set};
+ghost use Rattle.core_model.specs.Thread.{regs_after};
 ghost use Rattle.pipe_model.specs.Stages.{bank_after, write_latch, retired};
-ghost use Rattle.pipeline_core.specs.Fits.{StoredFits, WrittenFits, IsEventShowable};
+ghost use Rattle.pipeline_core.specs.Fits.{EffectFits, StoredFits, WrittenFits, IsEventShowable};
 
 use pipe_model::{Held, Stored, Written};
 use regfile_bank::Bank;
@@ -27,37 +28,40 @@ pub fn retire(held: &Held<Stored>, cycle: u64) -> Option<Event>
     })
 }
 
-/// Writes the register of the turn's effect, if it has one.
-#[tactic(auto, unfolding(pipe_model::specs::Stages::bank_after), using(crate::proofs::Registers::unwritten))]
-pub fn write_back(bank: &mut Bank, held: &Held<Stored>)
-    requires { StoredFits held.now }
-    ensures bank { bank.new ≡ bank_after held.now bank.old }
+/// Writes the register of an effect, if it has one.
+#[tactic(auto, using(crate::proofs::Registers::unwritten))]
+fn write_register(bank: &mut Bank, thread: u8, effect: Option<Effect>)
+    requires thread { thread < 8 }
+    requires fits { EffectFits effect }
+    ensures { bank.new ≡ slice_set bank.old thread (regs_after effect (slice_index_or bank.old thread [])) }
 {
-    if let Held::Issue { thread, what } = held {
-        match what.effect {
-            Some(Effect::Reg { rd, value }) => bank.write(*thread, rd, value),
-            Some(Effect::Csr { rd, old, .. }) => bank.write(*thread, rd, old),
-            _ => {}
-        }
+    match effect {
+        Some(Effect::Reg { rd, value }) => bank.write(thread, rd, value),
+        Some(Effect::Csr { rd, old, .. }) => bank.write(thread, rd, old),
+        _ => {}
     }
 }
 
-/// What W leaves of a turn.
-#[tactic(auto, unfolding(pipe_model::specs::Stages::write_latch))]
-pub fn written(held: &Held<Stored>) -> Held<Written>
+/// Writes the register of the turn's effect, if it has one, and leaves the turn in `w`.
+#[tactic(auto, unfolding(pipe_model::specs::Stages::bank_after, pipe_model::specs::Stages::write_latch))]
+pub fn write(bank: &mut Bank, held: &Held<Stored>, w: &mut Held<Written>)
     requires { StoredFits held.now }
-    ensures latch { result ≡ write_latch held.now }
-    ensures fits { WrittenFits result }
+    ensures bank { bank.new ≡ bank_after held.now bank.old }
+    ensures latch { w.new ≡ write_latch held.now }
+    ensures fits { WrittenFits w.new }
 {
-    match *held {
-        Held::Bubble => Held::Bubble,
-        Held::Flushed { thread } => Held::Flushed { thread },
-        Held::Issue { thread, what } => Held::Issue {
-            thread,
-            what: Written {
-                pc: what.pc,
-                word: what.word,
-            },
-        },
+    match held {
+        Held::Bubble => *w = Held::Bubble,
+        Held::Flushed { thread } => *w = Held::Flushed { thread: *thread },
+        Held::Issue { thread, what } => {
+            write_register(bank, *thread, what.effect);
+            *w = Held::Issue {
+                thread: *thread,
+                what: Written {
+                    pc: what.pc,
+                    word: what.word,
+                },
+            };
+        }
     }
 }
