@@ -1,6 +1,6 @@
 -- Turns of other threads put nothing, and where no port is ever taken away none is due.
 use Rattle.std.proofs.Common.{◌≡◌, ℕ, zero, suc, List, [], ◌∷◌, get_or, false, Some, None, Option, refl, subst}
-use Rattle.std.specs.Prelude.{if◌then◌else◌, ◌==◌, is_some}
+use Rattle.std.specs.Prelude.{◌==◌, is_some}
 use Rattle.std.specs.List.{list_any}
 use Rattle.fp_ports.specs.Rows.{Row}
 use Rattle.rv_exec.specs.declared.outcome.Effect.{Effect}

@@ -12,7 +12,7 @@ use Rattle.hart_exec.specs.declared.outcome.Executed.{Executed}
 use Rattle.hart_exec.specs.Meaning.{did, IsPlain}
 use Rattle.pipe_model.specs.declared.latches.Held.TheVariants.{Issue}
 use Rattle.pipe_model.specs.declared.latches.Decoded.{Decoded}
-use Rattle.pipe_model.specs.Stages.{After, Control, own_in, executed, controlled, redirect_of, executes}
+use Rattle.pipe_model.specs.Stages.{Control, own_in, executed, controlled, redirect_of, executes}
 
 registers-left : (e : Option Effect) (r : Registers) → IsPlain e → registers_after e r ≡ r
 registers-left None r h = refl

@@ -1,5 +1,5 @@
 -- An issue that leaves what its thread owns.
-use Rattle.std.proofs.Common.{◌≡◌, ap}
+use Rattle.std.proofs.Common.{ap}
 use Rattle.pipe_model.specs.Stages.{After, execution}
 use Rattle.pipeline_core.specs.Meaning.{control_by}
 use Rattle.pipeline_core.proofs.Plain.{plain_after}
