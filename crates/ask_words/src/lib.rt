@@ -13,4 +13,3 @@ mod parse;
 pub use asked::{Ask, Section, WordsNo};
 pub use commands::read_words;
 pub use file_name::Name;
-

@@ -12,4 +12,3 @@ pub use parts::{Bytes, Segment};
 pub use reader::read_image;
 pub use refusals::{ImageNo, ImageRefused};
 pub use writer::write_image;
-

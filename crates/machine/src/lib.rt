@@ -12,4 +12,3 @@ mod state;
 pub use feeding::{feed_inputs, feeds_the_start};
 pub use running::leaves_ports;
 pub use state::Machine;
-

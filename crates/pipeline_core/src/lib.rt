@@ -15,4 +15,3 @@ mod write;
 pub use pipe::Pipe;
 pub use pipe_model::{Decoded, Executed, Fetched, Held, Stored, Written};
 pub use units::Units;
-

@@ -12,4 +12,3 @@ pub use decoder::decode;
 pub use encoder::encode;
 pub use instruction::{AluOp, BranchOp, CsrKind, ImmOp, Ins, LoadOp, MulOp, ShiftOp, StoreOp};
 pub use lags::lag_of;
-

@@ -12,4 +12,3 @@ pub use bounds::bound_line;
 pub use digits::{push_decimal, push_hex, push_right};
 pub use events::line;
 pub use refusals::{Refusal, refusal_line};
-
