@@ -1,5 +1,5 @@
 -- The powers of the loops from a place on are those of a part.
-use Rattle.std.proofs.Common.{◌≡◌, ◌≢◌, ℕ, ◌+◌, ◌-◌, ◌<◌, ◌≤◌, ◌⊎◌, ◌^◌, arith, subst, sym, ap, ◌∙◌, inl, inr, length, Some, None, slice_set, get_or-set_other, get_or-set_same, length-set, Contains, Box, Global}
+use Rattle.std.proofs.Common.{◌≡◌, ◌≢◌, ℕ, zero, suc, ◌+◌, ◌-◌, ◌<◌, ◌≤◌, ◌⊎◌, ◌^◌, [], ◌∷◌, ◌++◌, arith, refl, subst, sym, ap, ◌∙◌, inl, inr, length, Some, None, slice_set, get_or-set_other, get_or-set_same, length-set, Contains, Box, Global}
 use Rattle.std.specs.Option.{option_map}
 use Rattle.fp_setup.specs.declared.loop_list.LoopSetup.{LoopSetup}
 use Rattle.region_tree.specs.Graph.{Inside, Reachable}
@@ -133,3 +133,10 @@ filled-none t o powers is count none = record {
   some = λ j known le r. let l = (accepted t is).ordered j known in let w = is.draft.words in let e = head-place t is j known in absurd (omega (arith, l.1, l.2));
   only = λ k m e. let z : None ≡ Some m = sym (none k) ∙ e in cc;
 }
+
+-- no power among one more
+pub none-more : (powers : Powers) → ((k : ℕ) → power_at powers k ≡ None) → (k : ℕ) → power_at (powers ++ None ∷ []) k ≡ None
+none-more [] none zero = refl
+none-more [] none (suc k) = refl
+none-more (p ∷ powers) none zero = none 0
+none-more (p ∷ powers) none (suc k) = none-more powers (λ j. none (suc j)) k

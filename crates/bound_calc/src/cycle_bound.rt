@@ -1,12 +1,13 @@
 //! The bound of a section.
 
-ghost use Rattle.std.specs.Prelude.{◌≡◌, ◌≢◌, ℕ, ◌+◌, ◌-◌, ◌/◌, ◌<◌, ◌≤◌, ◌^◌, length, Contains, IfOk, IfErr, List};
+ghost use Rattle.std.specs.Prelude.{◌≡◌, ◌≢◌, ℕ, ◌+◌, ◌-◌, ◌/◌, ◌<◌, ◌≤◌, ◌^◌, length, Contains, IfOk, IfErr, MatchResult, List};
 ghost use Rattle.slot_table.specs.Frame.{frame};
 ghost use Rattle.region_tree.specs.Search.{address};
 ghost use Rattle.region_tree.specs.Tree.{IsTree};
 ghost use Rattle.region_tree.specs.Walk.{IsOwn};
 ghost use Rattle.bound_calc.specs.Best.{In, IsBest, Then};
 ghost use Rattle.bound_calc.specs.Bound.{IsBound, IsTooLarge, course};
+ghost use Rattle.bound_calc.specs.declared.cycle_bound.BoundNo.TheVariants.{Overflow};
 ghost use Rattle.bound_calc.specs.Section.{net, whole};
 ghost use Rattle.bound_calc.specs.Ways.{Reaches};
 ghost use Rattle.bound_calc.specs.Pass.{Steps as StepsAfter};
@@ -95,7 +96,7 @@ fn most(tree: &LoopTree, steps: &Steps, at: &[Matrix]) -> u128
 }
 
 /// The largest cost of a walk, in the given room.
-fn largest_cost(
+fn cost_in(
     alloc: Global,
     tree: &LoopTree,
     steps: &Steps,
@@ -115,6 +116,29 @@ fn largest_cost(
     Ok(most(tree, steps, at))
 }
 
+/// The largest cost of a walk.
+fn largest_cost(alloc: Global, tree: &LoopTree, steps: &Steps) -> Result<u128, AllocError>
+    requires frame { length steps.now.frame ≤ 8 }
+    requires slot { (p : ℕ) × IsOwn steps.now p }
+    ensures { IfOk result (IsBound (over tree.now steps.now)) }
+{
+    let section = tree.section();
+    let count = ((section.to - section.from) / 4) as usize;
+    let mut at = vec![in alloc; Matrix::NONE; count]?;
+    let mut powers = empty(alloc, count)?;
+    cost_in(alloc, tree, steps, &mut powers, &mut at)
+}
+
+/// A bound in 64 bits, if it has no more.
+fn in_64_bits(value: u128) -> Result<u64, BoundNo>
+    ensures { MatchResult result (λ bound. bound ≡ value) (λ no. (no ≡ Overflow value) × (2 ^ 64 ≤ value)) }
+{
+    match u64::try_from(value) {
+        Ok(bound) => Ok(bound),
+        Err(_) => Err(BoundNo::Overflow { value }),
+    }
+}
+
 /// The bound of a tree's section for a thread: the largest number of cycles that a walk through it
 /// takes, by the turns of the thread, where no loop goes back to its head more often than its bound
 /// allows. The thread is 0 to 7 and has a slot.
@@ -129,14 +153,6 @@ pub fn bound(alloc: Global, tree: &LoopTree, slots: &SlotTable, thread: u8) -> R
     ensures bound { IfOk result (IsBound (course tree.now slots.now thread)) }
     ensures refused { IfErr result (IsTooLarge (course tree.now slots.now thread)) }
 {
-    let section = tree.section();
-    let count = ((section.to - section.from) / 4) as usize;
     let steps = Steps::new(*slots, thread);
-    let mut at = vec![in alloc; Matrix::NONE; count]?;
-    let mut powers = empty(alloc, count)?;
-    let value = largest_cost(alloc, tree, &steps, &mut powers, &mut at)?;
-    match u64::try_from(value) {
-        Ok(bound) => Ok(bound),
-        Err(_) => Err(BoundNo::Overflow { value }),
-    }
+    in_64_bits(largest_cost(alloc, tree, &steps)?)
 }

@@ -1,10 +1,23 @@
-use Rattle.std.proofs.Common.{◌+◌, arith, refl, ◌∙◌}
+use Rattle.std.proofs.Common.{◌≢◌, ◌+◌, ◌<◌, arith, refl, ◌∙◌, length, length-set, get_or-set_other, get_or-set_same, below_more}
 use Rattle.bound_calc.proofs.AdvanceLaws.{best-advanced}
 use Rattle.bound_calc.proofs.Entries.{entry-in}
 use Rattle.bound_calc.proofs.advance.advance.Goals as goal
 
+pub advance_row-requires-clause-places : goal.advance_row-requires-clause-places
+advance_row-requires-clause-places c = λ p d q h. (c.requires.places p d q h).1
+
 pub advance_row-requires-clause-fits : goal.advance_row-requires-clause-fits
 advance_row-requires-clause-fits c = λ r x d q lt is h. c.requires.fits c.loop-p.p (x + d) q (record { at = r; one = x; two = d; first = entry-in c.args.here.now c.loop-p.p r (omega arith) lt ∙ is; second = h; cost = refl })
+
+pub loop-p-preserved : goal.loop-p-preserved
+loop-p-preserved c =
+    let lt : c.loop-p.p < length c.loop-p.best = omega (arith, c.loop-p.invariant.count) in
+    record {
+      count = simp length-set c.loop-p.invariant.count;
+      rows = below_more _ _
+          (λ k h. let ne : k ≢ c.loop-p.p = omega arith in rw get_or-set_other (c.loop-p.invariant.rows k h))
+          (rw get_or-set_same (c.advance_row.ensures));
+    }
 
 pub returns : goal.returns
 returns c = best-advanced c.args.here.now c.args.onto.now (record { best = c.loop-p.best }) c.args.hops.now.hops c.requires.places (λ p h. c.loop-p.invariant.rows p (omega arith))
