@@ -2,8 +2,8 @@
 
 ghost use Rattle.std.specs.Prelude.{◌≡◌, ℕ, ◌+◌, ◌*◌, ◌<◌, ◌≤◌, ◌⊎◌, length, OnOk, IfOk, IfSome, Some, vec_len, false, []};
 ghost use Rattle.region_tree.specs.Graph.{Reachable};
-ghost use Rattle.region_tree.specs.Search.{IsVisited, IsGathered, IsMet, IsClosed, address, is_met};
-ghost use Rattle.region_tree.specs.Tree.{graph};
+ghost use Rattle.region_tree.specs.Search.{IsVisited, IsGathered, IsMet, IsClosed, address, is_met, unmet};
+ghost use Rattle.region_tree.specs.Tree.{IsDraft, graph};
 
 use crate::draft::Draft;
 use std::alloc::{AllocError, Global};
@@ -42,6 +42,32 @@ impl Frontier {
         self.met[place] = true;
         Ok(())
     }
+
+    /// Meets the words to which the edges of the word at a place lead.
+    fn follow(&mut self, draft: &Draft, place: usize) -> Result<(), AllocError>
+        requires rules { IsDraft draft.now }
+        requires within { place < length draft.now.words }
+        requires reached { Reachable (graph draft.now) (address draft.now place) }
+        requires gathered { IsGathered draft.now (λ k. place ≡ k) self.old.met.items self.old.todo.items }
+        ensures gathered { OnOk result (IsGathered draft.now (λ _. ⊥) self.new.met.items self.new.todo.items) }
+        ensures less { OnOk result (2 * unmet self.new.met.items + length self.new.todo.items ≤ 2 * unmet self.old.met.items + length self.old.todo.items) }
+    {
+        let edges = draft.edges(place);
+        self.visit(draft.place_of(edges.next))?;
+        self.visit(draft.place_of(edges.jump))
+    }
+
+    /// Follows edges until no word is left to do.
+    fn search(&mut self, draft: &Draft) -> Result<(), AllocError>
+        requires rules { IsDraft draft.now }
+        requires gathered { IsGathered draft.now (λ _. ⊥) self.old.met.items self.old.todo.items }
+        ensures { OnOk result (IsMet draft.now self.new.met.items) }
+    {
+        while let Some(place) = self.todo.pop() {
+            self.follow(draft, place)?;
+        }
+        Ok(())
+    }
 }
 
 /// Which words are reachable, by their places.
@@ -50,10 +76,6 @@ pub fn reachable(alloc: Global, draft: &Draft) -> Result<Vec<bool>, AllocError>
 {
     let mut frontier = Frontier::new(alloc, draft.len())?;
     frontier.visit(Some(0))?;
-    while let Some(place) = frontier.todo.pop() {
-        let edges = draft.edges(place);
-        frontier.visit(draft.place_of(edges.next))?;
-        frontier.visit(draft.place_of(edges.jump))?;
-    }
+    frontier.search(draft)?;
     Ok(frontier.met)
 }

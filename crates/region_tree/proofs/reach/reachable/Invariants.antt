@@ -1,9 +1,0 @@
-use Rattle.std.proofs.Common.{◌+◌, ◌*◌, length}
-use Rattle.region_tree.specs.Search.{IsGathered, unmet}
-use Rattle.region_tree.proofs.reach.reachable.Given as goal
-
-abbrev pub invariant-loop-place : goal.invariant-loop-place
-invariant-loop-place l = IsGathered l.draft (λ k. ⊥) l.frontier.met.items l.frontier.todo.items
-
-abbrev pub decreases-loop-place : goal.decreases-loop-place
-decreases-loop-place l = 2 * unmet l.frontier.met.items + length l.frontier.todo.items
