@@ -6,3 +6,4 @@ pub mod LoadLemmas
 pub mod FedLemmas
 pub mod WordLemmas
 pub mod Retiring
+mod LineLemmas

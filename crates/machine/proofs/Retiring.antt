@@ -1,13 +1,13 @@
 -- Turns of other threads put nothing, and where no port is ever taken away none is due.
-use Rattle.std.proofs.Common.{◌≡◌, ℕ, zero, suc, List, [], ◌∷◌, get_or, false, Some, None, Option, refl, subst}
-use Rattle.std.specs.Prelude.{◌==◌, is_some}
+use Rattle.std.proofs.Common.{◌≡◌, ℕ, zero, suc, ◌+◌, List, [], ◌∷◌, get_or, false, Some, None, Option, refl, subst, ap, ◌∙◌, add-one}
+use Rattle.std.specs.Prelude.{◌==◌, is_some, if◌then◌else◌, slice_index_or, slice_set}
 use Rattle.std.specs.List.{list_any}
 use Rattle.fp_ports.specs.Rows.{Row}
 use Rattle.rv_exec.specs.declared.outcome.Effect.{Effect}
 use Rattle.rv_exec.specs.declared.outcome.Event.{Event}
 use Rattle.world_model.specs.World.{Start}
 use Rattle.pipe_model.specs.Stages.{event_at}
-use Rattle.pipe_model.specs.Relation.{of_hart}
+use Rattle.pipe_model.specs.Relation.{of_hart, stays_in}
 use Rattle.machine_model.specs.Relation.{kept_in}
 use Rattle.machine.specs.declared.state.Machine.{Machine}
 use Rattle.machine.specs.Meaning.{Ticks}
@@ -25,6 +25,12 @@ none_at (Some unplug ∷ more) k h = cc
 pub none_due : (unplugs : List (Option ℕ)) (cycle : ℕ) (rows : List (Option Row)) (k : ℕ) → list_any is_some unplugs ≡ false → kept_in unplugs cycle rows k ≡ rows
 none_due unplugs cycle rows zero h = refl
 none_due unplugs cycle rows (suc k) h = rw (none_at unplugs k h) (none_due unplugs cycle rows k h)
+
+-- one thread more
+pub kept_more : (unplugs : List (Option ℕ)) (cycle : ℕ) (first now after : List (Option Row)) (k : ℕ) → now ≡ kept_in unplugs cycle first k →
+    after ≡ (if stays_in (slice_index_or unplugs k None) cycle then now else slice_set now k None) → after ≡ kept_in unplugs cycle first (k + 1)
+kept_more unplugs cycle first now after k is step =
+    rw (add-one k) (step ∙ ap (λ (rows : List (Option Row)). if stays_in (slice_index_or unplugs k None) cycle then rows else slice_set rows k None) is)
 
 pub ticks_by : (s : Start) (c n : ℕ) (before : List (Option Row)) (m : Machine) (ports : List (Option Row)) (a b : Option Event) → a ≡ b → Ticks s c n before m ports a → Ticks s c n before m ports b
 ticks_by s c n before m ports a b same ticks = subst (λ (e : Option Event). Ticks s c n before m ports e) same ticks

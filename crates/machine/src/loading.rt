@@ -110,9 +110,9 @@ fn units(alloc: Global, setup: &Setup, image: &Image) -> Result<Units, AllocErro
     ensures { IfOk result (λ u. (ports : List (Option Row)) → state_by u ports ≡ units_at_start setup.now image.now ports) }
 {
     Ok(Units {
-        bank: Bank::new(),
         imem: scratchpad(alloc, setup, image, 0)?,
         dmem: scratchpad(alloc, setup, image, DATA)?,
+        bank: Bank::new(),
         guard: Guard {
             i: i_regions(setup),
             d: d_regions(setup),

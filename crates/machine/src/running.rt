@@ -155,7 +155,6 @@ impl Machine {
 
     /// Takes the ports away that are due in the next cycle, where any is taken away at all.
     #[inline(always)]
-    #[tactic(auto, using(crate::proofs::Retiring::none_due))]
     fn take_if_any(&self, ports: &mut Ports, loses_ports: bool)
         requires eight { vec_len ports.old ≡ 8 }
         requires known { loses_ports ≡ list_any is_some self.now.unplugs }
