@@ -1,7 +1,8 @@
 //! The lines, over plain values.
 
-ghost use Rattle.std.specs.Prelude.{◌≡◌, ◌+◌, ◌*◌, ◌≤◌, ◌++◌, length};
+ghost use Rattle.std.specs.Prelude.{◌≡◌, ◌+◌, ◌*◌, ◌≤◌, ◌++◌, length, codes};
 ghost use Rattle.arrayvec.specs.ArrayString.{array_string_len};
+ghost use Rattle.trace_print.specs.Digits.{hex};
 ghost use Rattle.dump_text.specs.Lines.{cycles_text, thread_text, held_text, stage_text, word_text, words_text, thread_words_text, moment_text, timer_text, port_text, latch_text, memory_text};
 
 use arrayvec::ArrayString;
@@ -82,12 +83,22 @@ pub fn timer_line(thread: u8, armed: Option<u64>, sleep: u64, high: u32) -> Arra
     push_thread(&mut text, thread);
     text.push_str(" armed ");
     push_moment(&mut text, armed);
-    text.push_str(" sleep ");
-    push_hex(&mut text, sleep, 16);
-    text.push_str(" high ");
-    push_hex(&mut text, u64::from(high), 8);
+    push_sleep(&mut text, sleep, high);
     text.push_str("\n");
     text
+}
+
+/// Appends a sleep moment and a latched high word.
+fn push_sleep(text: &mut ArrayString<96>, sleep: u64, high: u32)
+    requires room { array_string_len text.old + 37 ≤ 96 }
+    ensures text { text.new.bytes ≡
+        text.old.bytes ++ (codes " sleep " ++ (hex 16 sleep ++ (codes " high " ++ hex 8 high))) }
+    ensures len { array_string_len text.new ≤ array_string_len text.old + 37 }
+{
+    text.push_str(" sleep ");
+    push_hex(text, sleep, 16);
+    text.push_str(" high ");
+    push_hex(text, u64::from(high), 8);
 }
 
 /// The line of a thread's latch, which is open where no port is there.
