@@ -1,0 +1,12 @@
+use Rattle.std.proofs.Common.{arith, rules}
+use Rattle.std.proofs.lemmas.Grind.{common_steps}
+use Rattle.trace_print.specs.Digits.{right}
+use Rattle.trace_print.proofs.digits.push_right.Goals as goal
+
+pub loop-place-init : goal.loop-place-init
+unfolding right
+loop-place-init c = search rules
+
+pub returns-clause-text : goal.returns-clause-text
+unfolding right
+returns-clause-text c = grind (arith, common_steps)
