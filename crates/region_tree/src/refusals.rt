@@ -67,6 +67,9 @@ fn crossed(loops: &[LoopSetup]) -> Option<u32>
     found
 }
 
+/// How many of the loops may hold all of a loop, the loop itself among them.
+const DEEPEST: usize = 4;
+
 /// How many of the loops hold all of a loop.
 fn depth(loops: &[LoopSetup], j: LoopSetup) -> usize
     ensures { result ≡ depth loops.now j }
@@ -83,7 +86,7 @@ fn deep_here(loops: &[LoopSetup], place: usize) -> Option<u32>
     ensures { LowestOf (DeepHere loops.now place) result }
 {
     let j = loops[place];
-    if depth(loops, j) > 4 {
+    if depth(loops, j) > DEEPEST {
         Some(j.head)
     } else {
         None
