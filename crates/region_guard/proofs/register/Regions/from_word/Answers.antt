@@ -1,4 +1,5 @@
-use Rattle.std.proofs.Common.{Some, None, sym}
+use Rattle.std.proofs.Common.{Some, None, rules, sym}
+use Rattle.region_guard.specs.Register.{regions_of}
 use Rattle.region_guard.proofs.Accepted.{accepted_at}
 use Rattle.region_guard.proofs.register.Regions.from_word.Goals as goal
 
@@ -10,3 +11,7 @@ returns-in-Some-clause-accepts c = accepted_at c.args.word (Some c.in-Some.index
 
 pub returns-in-None-clause-accepts : goal.returns-in-None-clause-accepts
 returns-in-None-clause-accepts c = accepted_at c.args.word None (rw c.nibbles_of.ensures at c.in-None.ensures.first)
+
+pub returns-in-Some-clause-regions : goal.returns-in-Some-clause-regions
+unfolding regions_of
+returns-in-Some-clause-regions c = search rules
