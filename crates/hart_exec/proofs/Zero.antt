@@ -1,5 +1,5 @@
 -- The address 0 is aligned for every load and store.
-use Rattle.std.proofs.Common.{◌≡◌, ℕ, ◌%◌, Bool, true, false, if◌then◌else◌, refl}
+use Rattle.std.proofs.Common.{◌≡◌, ℕ, ◌%◌, refl}
 use Rattle.rv_decode.specs.declared.instruction.Ins.{Ins}
 use Rattle.rv_decode.specs.declared.instruction.Ins.TheVariants.{Load, Store}
 use Rattle.rv_decode.specs.declared.instruction.LoadOp.{LoadOp}
@@ -24,8 +24,3 @@ pub aligned_zero : (i : Ins) (address : ℕ) → address ≡ 0 → IsAligned i a
 aligned_zero (Load op rd rs1 imm) address e = rw e (load_zero op)
 aligned_zero (Store op rs1 rs2 imm) address e = rw e (store_zero op)
 aligned_zero _ address e = tt
-
--- and so is an address that is aligned or 0
-pub aligned_if : (i : Ins) (allowed : Bool) (address at : ℕ) → at ≡ (if allowed then address else 0) → IsAligned i address → IsAligned i at
-aligned_if i true address at e h = rw e h
-aligned_if i false address at e h = aligned_zero i at e

@@ -1,10 +1,11 @@
 //! The outcomes of an instruction.
 
-ghost use Rattle.std.specs.Prelude.{◌≡◌, ◌<◌, ◌%◌, ◌^◌, Some, if◌then◌else◌};
+ghost use Rattle.std.specs.Prelude.{◌≡◌, ◌<◌, ◌%◌, ◌^◌, true, Some};
+ghost use Rattle.core_model.specs.declared.own.Own.{Own};
 ghost use Rattle.core_model.specs.Thread.{reg_effect};
 ghost use Rattle.core_model.specs.Parts.{plus, trapped, load, store, branch, delay, wait};
 ghost use Rattle.rv_exec.specs.Line.{IsPrintable, IsWidth};
-ghost use Rattle.hart_exec.specs.Meaning.{did, IsShowable, IsAlignedStore};
+ghost use Rattle.hart_exec.specs.Meaning.{did, IsShowable, IsAlignedStore, IsPlain};
 
 use crate::outcome::{Executed, Place};
 use core_model::Own;
@@ -69,11 +70,13 @@ pub fn go_to(at: Place, target: u32, effect: Effect) -> Executed
     }
 }
 
+/// A branch, taken or not.
 #[tactic(auto, unfolding(core_model::specs::Parts::branch))]
-pub fn branch_to(own: &Own, at: Place, taken: bool, target: u32) -> Executed
-    ensures did { did own.now result ≡ branch at.pc own.now at.word taken target }
+pub fn branch_on(at: Place, taken: bool, target: u32) -> Executed
+    ensures did { (own : Own) → did own result ≡ branch at.pc own at.word taken target }
     ensures showable { IsShowable result.effect }
     ensures store { IsAlignedStore result.effect }
+    ensures plain { IsPlain result.effect }
     ensures word { result.word ≡ at.word }
     ensures address { result.address ≡ 0 }
 {
@@ -84,44 +87,35 @@ pub fn branch_to(own: &Own, at: Place, taken: bool, target: u32) -> Executed
     }
 }
 
+/// A load that is allowed.
 #[tactic(auto, unfolding(core_model::specs::Parts::load))]
-pub fn load_from(own: &mut Own, at: Place, address: u32, allowed: bool) -> Executed
-    ensures did { did own.new result ≡ load at.pc own.old at.word address allowed }
+pub fn load_at(at: Place, address: u32) -> Executed
+    ensures did { (own : Own) → did own result ≡ load at.pc own at.word address true }
     ensures showable { IsShowable result.effect }
     ensures store { IsAlignedStore result.effect }
+    ensures plain { IsPlain result.effect }
     ensures word { result.word ≡ at.word }
-    ensures address { result.address ≡ (if allowed then address else 0) }
+    ensures address { result.address ≡ address }
 {
-    if !allowed {
-        return trap(own, at, 5);
-    }
     Executed {
         address,
         ..go_on(at, 2, Effect::Nothing)
     }
 }
 
+/// A store that is allowed.
 #[tactic(auto, unfolding(core_model::specs::Parts::store))]
-pub fn store_to(
-    own: &mut Own,
-    at: Place,
-    address: u32,
-    width: u8,
-    value: u32,
-    allowed: bool,
-) -> Executed
-    requires width { IsWidth width }
-    requires aligned { address % width ≡ 0 }
-    requires cut { value < 256 ^ width }
-    ensures did { did own.new result ≡ store at.pc own.old at.word address width value allowed }
+pub fn store_at(at: Place, address: u32, size: u8, value: u32) -> Executed
+    requires width { IsWidth size }
+    requires aligned { address % size ≡ 0 }
+    requires cut { value < 256 ^ size }
+    ensures did { (own : Own) → did own result ≡ store at.pc own at.word address size value true }
     ensures showable { IsShowable result.effect }
     ensures store { IsAlignedStore result.effect }
+    ensures plain { IsPlain result.effect }
     ensures word { result.word ≡ at.word }
-    ensures address { result.address ≡ (if allowed then address else 0) }
+    ensures address { result.address ≡ address }
 {
-    if !allowed {
-        return trap(own, at, 7);
-    }
     Executed {
         address,
         ..go_on(
@@ -129,7 +123,7 @@ pub fn store_to(
             1,
             Effect::Store {
                 address,
-                size: width,
+                size,
                 value,
             },
         )
@@ -138,10 +132,11 @@ pub fn store_to(
 
 /// DU: the hart stays at its word until the moment.
 #[tactic(auto, unfolding(core_model::specs::Parts::delay))]
-pub fn delay_until(own: &Own, at: Place, now: u64, until: u64) -> Executed
-    ensures did { did own.now result ≡ delay now at.pc own.now at.word until }
+pub fn delay_until(at: Place, now: u64, until: u64) -> Executed
+    ensures did { (own : Own) → did own result ≡ delay now at.pc own at.word until }
     ensures showable { IsShowable result.effect }
     ensures store { IsAlignedStore result.effect }
+    ensures plain { IsPlain result.effect }
     ensures word { result.word ≡ at.word }
     ensures address { result.address ≡ 0 }
 {

@@ -1,86 +1,37 @@
 //! The execution of most instructions, which leave their hart's timer, trap registers and sleep moment
 //! as they are.
 
-ghost use Rattle.std.specs.Prelude.{◌≡◌, ◌<◌, ◌%◌, ◌^◌, true, IfSome};
+ghost use Rattle.std.specs.Prelude.{◌≡◌, ◌<◌, ◌%◌, ◌^◌, IfSome, is_some};
 ghost use Rattle.rv_decode.specs.Table.{ins};
-ghost use Rattle.rv_exec.specs.Access.{IsAligned};
-ghost use Rattle.rv_exec.specs.Line.{IsWidth};
+ghost use Rattle.rv_exec.specs.Access.{IsAligned, store_size};
 ghost use Rattle.core_model.specs.declared.own.Own.{Own};
-ghost use Rattle.core_model.specs.Parts.{load, store, branch};
 ghost use Rattle.core_model.specs.Issue.{goes, act};
 ghost use Rattle.rv_decode.specs.Range.{InRange};
-ghost use Rattle.hart_exec.specs.Meaning.{did, IsShowable, IsAlignedStore, IsPlain};
+ghost use Rattle.hart_exec.specs.Meaning.{did, is_plain, leaves_own, IsShowable, IsAlignedStore, IsPlain};
 
 use crate::outcome::{Executed, Place, Sources};
-use crate::parts::{go_on, go_to, write_to};
-use crate::step::cut;
+use crate::parts::{branch_on, delay_until, go_on, go_to, load_at, store_at, write_to};
 use crate::surroundings::Surroundings;
-use rv_decode::{Ins, decode};
+use rv_decode::{Ins, StoreOp, decode};
 use rv_exec::{Effect, Outcome, execute, size_of_load, size_of_store};
+use timer_unit::moment;
 
-/// A branch, whose result has no trap.
-#[tactic(auto, unfolding(core_model::specs::Parts::branch))]
-fn branch_on(at: Place, taken: bool, target: u32) -> Executed
-    ensures did { (own : Own) → did own result ≡ branch at.pc own at.word taken target }
-    ensures showable { IsShowable result.effect }
-    ensures store { IsAlignedStore result.effect }
-    ensures plain { IsPlain result.effect }
-    ensures word { result.word ≡ at.word }
-    ensures address { result.address ≡ 0 }
+/// The value that a store writes: as many low bytes as it takes.
+fn cut(op: StoreOp, value: u32) -> u32
+    ensures cut { result ≡ value % 256 ^ store_size op }
+    ensures small { result < 256 ^ store_size op }
 {
-    if taken {
-        go_to(at, target, Effect::Nothing)
-    } else {
-        go_on(at, 1, Effect::Nothing)
+    match op {
+        StoreOp::Sb => value & 0xff,
+        StoreOp::Sh => value & 0xffff,
+        StoreOp::Sw => value,
     }
 }
 
-/// A load that is allowed.
-#[tactic(auto, unfolding(core_model::specs::Parts::load))]
-fn load_at(at: Place, address: u32) -> Executed
-    ensures did { (own : Own) → did own result ≡ load at.pc own at.word address true }
-    ensures showable { IsShowable result.effect }
-    ensures store { IsAlignedStore result.effect }
-    ensures plain { IsPlain result.effect }
-    ensures word { result.word ≡ at.word }
-    ensures address { result.address ≡ address }
-{
-    Executed {
-        address,
-        ..go_on(at, 2, Effect::Nothing)
-    }
-}
-
-/// A store that is allowed.
-#[tactic(auto, unfolding(core_model::specs::Parts::store))]
-fn store_at(at: Place, address: u32, size: u8, value: u32) -> Executed
-    requires width { IsWidth size }
-    requires aligned { address % size ≡ 0 }
-    requires cut { value < 256 ^ size }
-    ensures did { (own : Own) → did own result ≡ store at.pc own at.word address size value true }
-    ensures showable { IsShowable result.effect }
-    ensures store { IsAlignedStore result.effect }
-    ensures plain { IsPlain result.effect }
-    ensures word { result.word ≡ at.word }
-    ensures address { result.address ≡ address }
-{
-    Executed {
-        address,
-        ..go_on(
-            at,
-            1,
-            Effect::Store {
-                address,
-                size,
-                value,
-            },
-        )
-    }
-}
-
-/// An instruction whose result has no trap, if it leaves all that its hart owns.
-#[tactic(auto, unfolding(core_model::specs::Issue::goes), using(crate::proofs::Zero::aligned_zero))]
-fn plain<S: Surroundings>(
+/// An instruction whose result has no trap; None exactly where it changes what its hart owns or goes
+/// by it.
+#[tactic(auto, unfolding(core_model::specs::Issue::goes, crate::specs::Meaning::is_plain), using(crate::proofs::Zero::aligned_zero))]
+pub(crate) fn plain<S: Surroundings>(
     around: &S,
     at: Place,
     s: Sources,
@@ -89,6 +40,7 @@ fn plain<S: Surroundings>(
 ) -> Option<Executed>
     requires range { InRange i.now }
     requires aligned { IsAligned i.now o.now.address }
+    ensures answers { is_some result ≡ is_plain (S.asks around.now) o.now i.now }
     ensures did { IfSome result (λ done. (own : Own) → did own done ≡ goes (S.asks around.now) at.pc own at.word s.a s.b o.now i.now) }
     ensures showable { IfSome result (λ done. IsShowable done.effect) }
     ensures store { IfSome result (λ done. IsAlignedStore done.effect) }
@@ -113,20 +65,23 @@ fn plain<S: Surroundings>(
             Some(store_at(at, o.address, size_of_store(op), cut(op, s.b)))
         }
         Ins::Muldiv { .. } => Some(go_on(at, 2, Effect::Nothing)),
+        Ins::Fence { .. } => Some(go_on(at, 1, Effect::Nothing)),
+        Ins::Du { .. } => Some(delay_until(at, around.now(), moment(s.a, s.b))),
         _ => None,
     }
 }
 
-/// What [`execute_in`](crate::execute_in) does of an instruction at a place, where that leaves all
-/// that its hart owns; None where it doesn't, and in rarer cases. Most instructions are done by this
-/// alone, without a look at what the hart owns.
-#[tactic(auto, unfolding(core_model::specs::Issue::act, core_model::specs::Issue::run))]
+/// What [`execute_in`](crate::execute_in) does of an instruction at a place; None exactly where that
+/// changes what the hart owns or goes by it, as each trap does. Most instructions are done by this alone,
+/// without a look at what the hart owns.
+#[tactic(auto, unfolding(core_model::specs::Issue::act, core_model::specs::Issue::run, crate::specs::Meaning::leaves_own))]
 pub fn execute_plain<S: Surroundings>(
     around: &S,
     at: Place,
     expired: bool,
     s: Sources,
 ) -> Option<Executed>
+    ensures answers { is_some result ≡ leaves_own (S.asks around.now) at.pc expired at.word s.a s.b }
     ensures did { IfSome result (λ done. (own : Own) → did own done ≡ act (S.asks around.now) at.pc own expired at.word s.a s.b) }
     ensures showable { IfSome result (λ done. IsShowable done.effect) }
     ensures store { IfSome result (λ done. IsAlignedStore done.effect) }

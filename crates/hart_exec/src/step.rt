@@ -1,21 +1,20 @@
 //! The execution of an instruction, but for a late value.
 
-ghost use Rattle.std.specs.Prelude.{◌≡◌, ◌<◌, ◌%◌, ◌^◌};
+ghost use Rattle.std.specs.Prelude.{◌≡◌};
 ghost use Rattle.rv_decode.specs.Table.{ins};
-ghost use Rattle.rv_exec.specs.Access.{IsAligned, store_size};
+ghost use Rattle.rv_exec.specs.Access.{IsAligned};
 ghost use Rattle.core_model.specs.Issue.{source_1, source_2, goes, run, act};
 ghost use Rattle.rv_decode.specs.Range.{InRange};
 ghost use Rattle.hart_exec.specs.Meaning.{did, IsShowable, IsAlignedStore};
 
 use crate::control::{Access, access_csr};
 use crate::outcome::{Executed, Place, Sources};
-use crate::parts::{
-    branch_to, delay_until, go_on, go_to, load_from, store_to, trap, wait_until, write_to,
-};
+use crate::parts::{go_on, go_to, trap, wait_until, write_to};
+use crate::plain::plain;
 use crate::surroundings::Surroundings;
 use core_model::Own;
-use rv_decode::{CsrKind, Ins, StoreOp, decode};
-use rv_exec::{Effect, Outcome, execute, size_of_load, size_of_store};
+use rv_decode::{CsrKind, Ins, decode};
+use rv_exec::{Effect, Outcome, execute};
 use timer_unit::moment;
 
 /// The numbers of the registers that an instruction reads, x0 where it reads none.
@@ -44,20 +43,9 @@ pub fn sources_of(i: &Ins) -> (u8, u8)
     }
 }
 
-/// The value that a store writes: as many low bytes as it takes.
-pub(crate) fn cut(op: StoreOp, value: u32) -> u32
-    ensures cut { result ≡ value % 256 ^ store_size op }
-    ensures small { result < 256 ^ store_size op }
-{
-    match op {
-        StoreOp::Sb => value & 0xff,
-        StoreOp::Sh => value & 0xffff,
-        StoreOp::Sw => value,
-    }
-}
-
-/// An instruction whose result has no trap.
-#[tactic(auto, unfolding(core_model::specs::Issue::goes), using(crate::proofs::Zero::aligned_zero, crate::proofs::Zero::aligned_if))]
+/// An instruction whose result has no trap. What `plain` declines is a load or store that is refused,
+/// or goes by what the hart owns.
+#[tactic(auto, unfolding(core_model::specs::Issue::goes, core_model::specs::Parts::load, core_model::specs::Parts::store, crate::specs::Meaning::is_plain), using(crate::proofs::Zero::aligned_zero))]
 fn go<S: Surroundings>(
     own: &mut Own,
     around: &S,
@@ -74,25 +62,12 @@ fn go<S: Surroundings>(
     ensures word { result.word ≡ at.word }
     ensures address { IsAligned i.now result.address }
 {
+    if let Some(done) = plain(around, at, s, o, i) {
+        return done;
+    }
     match *i {
-        Ins::Lui { rd, .. }
-        | Ins::Auipc { rd, .. }
-        | Ins::OpImm { rd, .. }
-        | Ins::Shift { rd, .. }
-        | Ins::Op { rd, .. } => go_on(at, 1, write_to(rd, o.value)),
-        Ins::Jal { rd, .. } | Ins::Jalr { rd, .. } => go_to(at, o.target, write_to(rd, o.value)),
-        Ins::Branch { .. } => branch_to(own, at, o.taken, o.target),
-        Ins::Load { op, .. } => {
-            let allowed = around.may_load(o.address, size_of_load(op));
-            load_from(own, at, o.address, allowed)
-        }
-        Ins::Store { op, .. } => {
-            let width = size_of_store(op);
-            let allowed = around.may_store(o.address, width);
-            store_to(own, at, o.address, width, cut(op, s.b), allowed)
-        }
-        Ins::Muldiv { .. } => go_on(at, 2, Effect::Nothing),
-        Ins::Fence { .. } => go_on(at, 1, Effect::Nothing),
+        Ins::Load { .. } => trap(own, at, 5),
+        Ins::Store { .. } => trap(own, at, 7),
         Ins::Mret => go_to(at, own.trap.mepc, Effect::Nothing),
         Ins::Csr { op, rd, csr, src } => access_csr(
             own,
@@ -108,7 +83,6 @@ fn go<S: Surroundings>(
             go_on(at, 1, write_to(rd, (around.now() % 0x1_0000_0000) as u32))
         }
         Ins::Gth { rd } => go_on(at, 1, write_to(rd, own.timer.high)),
-        Ins::Du { .. } => delay_until(own, at, around.now(), moment(s.a, s.b)),
         Ins::Wu { .. } => wait_until(own, at, around.now(), moment(s.a, s.b)),
         Ins::Ee { .. } => {
             own.timer.armed = Some(moment(s.a, s.b));
@@ -118,7 +92,7 @@ fn go<S: Surroundings>(
             own.timer.armed = None;
             go_on(at, 3, Effect::Nothing)
         }
-        Ins::Ecall | Ins::Ebreak | Ins::Illegal { .. } => trap(own, at, 2),
+        _ => trap(own, at, 2),
     }
 }
 

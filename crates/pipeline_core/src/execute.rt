@@ -1,12 +1,12 @@
 //! E: instructions are executed, but for late values.
 
-ghost use Rattle.std.specs.Prelude.{◌≡◌, ◌<◌, IfSome, length};
+ghost use Rattle.std.specs.Prelude.{◌≡◌, ◌<◌, IfSome, is_some, length};
 ghost use Rattle.rv_decode.specs.Table.{ins};
 ghost use Rattle.rv_exec.specs.Access.{IsAligned};
 ghost use Rattle.core_model.specs.Issue.{act};
 ghost use Rattle.core_model.specs.Thread.{no_own};
 ghost use Rattle.core_model.specs.declared.own.Own.{Own};
-ghost use Rattle.hart_exec.specs.Meaning.{did, IsPlain};
+ghost use Rattle.hart_exec.specs.Meaning.{did, leaves_own, IsPlain};
 ghost use Rattle.trap_unit.specs.Rows.{IsAlignedTrap};
 ghost use Rattle.pipe_model.specs.Stages.{own_in, executed, redirect_of, execution};
 ghost use Rattle.pipe_model.specs.declared.latches.Held.TheVariants.{Issue};
@@ -65,10 +65,10 @@ fn execute_at(mut own: Own, rights: &Rights, x: &Decoded) -> Step
     Step { own, done }
 }
 
-/// Executes an instruction of a thread that leaves what the thread has; None where it doesn't, and in
-/// rarer cases.
+/// Executes an instruction of a thread; None exactly where that changes what the thread has or goes by it.
 fn execute_plainly(rights: &Rights, x: &Decoded) -> Option<Done>
     requires { IsPc x.now.pc }
+    ensures answers { is_some result ≡ leaves_own (asked rights.now) x.now.pc x.now.expired x.now.word x.now.a x.now.b }
     ensures did { IfSome result (λ done. (own : Own) → did own done ≡ act (asked rights.now) x.now.pc own x.now.expired x.now.word x.now.a x.now.b) }
     ensures effect { IfSome result (λ done. EffectFits done.effect) }
     ensures plain { IfSome result (λ done. IsPlain done.effect) }
