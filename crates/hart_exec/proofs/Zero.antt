@@ -1,5 +1,7 @@
--- The address 0 is aligned for every load and store.
-use Rattle.std.proofs.Common.{◌≡◌, ℕ, ◌%◌, refl}
+-- The address 0 is aligned for every load and store, and the word 0 is no instruction.
+use Rattle.std.proofs.Common.{◌≡◌, ◌≢◌, ℕ, ◌%◌, None, refl}
+use Rattle.rv_decode.specs.Table.{ins, rows, lui_rows, auipc_rows, jal_rows, jalr_rows, branch_rows, load_rows, store_rows, imm_rows, op_rows, fence_rows, system_rows, time_rows}
+use Rattle.rv_exec.specs.Result.{result_of}
 use Rattle.rv_decode.specs.declared.instruction.Ins.{Ins}
 use Rattle.rv_decode.specs.declared.instruction.Ins.TheVariants.{Load, Store}
 use Rattle.rv_decode.specs.declared.instruction.LoadOp.{LoadOp}
@@ -24,3 +26,7 @@ pub aligned_zero : (i : Ins) (address : ℕ) → address ≡ 0 → IsAligned i a
 aligned_zero (Load op rd rs1 imm) address e = rw e (load_zero op)
 aligned_zero (Store op rs1 rs2 imm) address e = rw e (store_zero op)
 aligned_zero _ address e = tt
+
+pub shown : (w pc x y : ℕ) → (result_of (ins w) pc x y).trap ≡ None → w ≢ 0
+unfolding result_of ins rows lui_rows auipc_rows jal_rows jalr_rows branch_rows load_rows store_rows imm_rows op_rows fence_rows system_rows time_rows
+shown w pc x y h e = let k = rw e at h in cc

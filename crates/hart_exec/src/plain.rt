@@ -1,7 +1,7 @@
 //! The execution of most instructions, which leave their hart's timer, trap registers and sleep moment
 //! as they are.
 
-ghost use Rattle.std.specs.Prelude.{◌≡◌, ◌<◌, ◌%◌, ◌^◌, IfSome, is_some};
+ghost use Rattle.std.specs.Prelude.{◌≡◌, ◌≢◌, ◌<◌, ◌%◌, ◌^◌, IfSome, is_some};
 ghost use Rattle.rv_decode.specs.Table.{ins};
 ghost use Rattle.rv_exec.specs.Access.{IsAligned, store_size};
 ghost use Rattle.core_model.specs.declared.own.Own.{Own};
@@ -31,6 +31,7 @@ fn cut(op: StoreOp, value: u32) -> u32
 /// An instruction whose result has no trap; None exactly where it changes what its hart owns or goes
 /// by it.
 #[tactic(auto, unfolding(core_model::specs::Issue::goes, crate::specs::Meaning::is_plain), using(crate::proofs::Zero::aligned_zero))]
+#[inline(always)]
 pub(crate) fn plain<S: Surroundings>(
     around: &S,
     at: Place,
@@ -74,7 +75,8 @@ pub(crate) fn plain<S: Surroundings>(
 /// What [`execute_in`](crate::execute_in) does of an instruction at a place; None exactly where that
 /// changes what the hart owns or goes by it, as each trap does. Most instructions are done by this alone,
 /// without a look at what the hart owns.
-#[tactic(auto, unfolding(core_model::specs::Issue::act, core_model::specs::Issue::run, crate::specs::Meaning::leaves_own))]
+#[tactic(auto, unfolding(core_model::specs::Issue::act, core_model::specs::Issue::run, crate::specs::Meaning::leaves_own), using(crate::proofs::Zero::shown))]
+#[inline(always)]
 pub fn execute_plain<S: Surroundings>(
     around: &S,
     at: Place,
@@ -86,6 +88,7 @@ pub fn execute_plain<S: Surroundings>(
     ensures showable { IfSome result (λ done. IsShowable done.effect) }
     ensures store { IfSome result (λ done. IsAlignedStore done.effect) }
     ensures plain { IfSome result (λ done. IsPlain done.effect) }
+    ensures shown { IfSome result (λ done. done.word ≢ 0) }
     ensures address { IfSome result (λ done. IsAligned (ins done.word) done.address) }
 {
     if expired || !around.may_fetch(at.pc) {

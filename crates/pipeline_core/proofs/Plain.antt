@@ -1,5 +1,6 @@
 -- An issue that leaves what its thread owns changes nothing of the control.
-use Rattle.std.proofs.Common.{◌≡◌, ℕ, Some, None, refl}
+use Rattle.std.proofs.Common.{◌≡◌, ◌≢◌, ◌==◌, ℕ, if◌then◌else◌, Some, None, refl, arith}
+use Rattle.std.proofs.lemmas.Bool.Decides.{nat_tests}
 use Rattle.std.specs.Prelude.{Option}
 use Rattle.std.proofs.lemmas.List.{set-get_or}
 use Rattle.rv_exec.specs.declared.outcome.Effect.{Effect}
@@ -12,6 +13,7 @@ use Rattle.hart_exec.specs.declared.outcome.Executed.{Executed}
 use Rattle.hart_exec.specs.Meaning.{did, IsPlain}
 use Rattle.pipe_model.specs.declared.latches.Held.TheVariants.{Issue}
 use Rattle.pipe_model.specs.declared.latches.Decoded.{Decoded}
+use Rattle.pipe_model.specs.declared.latches.Executed as latch
 use Rattle.pipe_model.specs.Stages.{Control, own_in, executed, controlled, redirect_of, executes}
 
 registers-left : (e : Option Effect) (r : Registers) → IsPlain e → registers_after e r ≡ r
@@ -34,3 +36,12 @@ pub plain_after : (a b : Around) (k : ℕ) (x : Decoded) (u : Control) (done : E
     ≡ executes k x u (act b x.pc (own_in u k) x.expired x.word x.a x.b)
 plain_after a b k x u done around same h =
     rw (← around, ← same (own_in u k), ← control_left k done u (did (own_in u k) done) refl h) refl
+
+source : (w v : ℕ) → w ≢ 0 → v ≡ (if w == 0 then 0 else v)
+source w v h = grind (arith, nat_tests)
+
+-- a word that is shown keeps its sources
+pub shown_latch : (x : Decoded) (done : Executed) → done.word ≢ 0 →
+    let l : latch.Executed = record { pc = x.pc; word = done.word; a = x.a; b = x.b; address = done.address; effect = done.effect } in
+    l ≡ executed x (did no_own done)
+shown_latch x done h = rw (← source done.word x.a h, ← source done.word x.b h) refl

@@ -7,6 +7,7 @@ ghost use Rattle.core_model.specs.Thread.{filled};
 ghost use Rattle.core_model.specs.Issue.{late_rd, late_value};
 ghost use Rattle.core_model.specs.Memory.{data_at};
 ghost use Rattle.fp_ports.specs.Rows.{rows_of, row_at, word_seen};
+ghost use Rattle.pipe_model.specs.declared.latches.Held.TheVariants.{Issue};
 ghost use Rattle.pipe_model.specs.Stages.{memory_latch, words_stored, ports_stored, put_at_port};
 ghost use Rattle.pipeline_core.specs.Fits.{EffectFits, ExecutedFits, StoredFits};
 
@@ -15,7 +16,7 @@ use fp_ports::{Port, Ports, write_port};
 use hart_exec::{Sources, finish};
 use pipe_model::{Executed, Held, Stored};
 use region_guard::Guard;
-use rv_decode::decode;
+use rv_decode::{Ins, decode};
 use rv_exec::Effect;
 use scratchpad::Spm;
 
@@ -44,9 +45,13 @@ fn late_effect(
     ensures rows { rows_of latched word_at ports.new.items ≡ rows_of latched word_at ports.old.items }
     ensures eight { vec_len ports.new ≡ 8 }
 {
-    let found = data_word(guard, imem, dmem, ports, thread, cycle, x.address);
+    let i = decode(x.word);
+    let found = match i {
+        Ins::Load { .. } => data_word(guard, imem, dmem, ports, thread, cycle, x.address),
+        _ => 0,
+    };
     let sources = Sources { a: x.a, b: x.b };
-    finish(x.effect, &decode(x.word), found, x.address, sources)
+    finish(x.effect, &i, found, x.address, sources)
 }
 
 /// What stands in the latch of an instruction with its effect.
@@ -60,78 +65,87 @@ fn stored(x: &Executed, effect: Option<Effect>) -> Stored
     }
 }
 
-/// Leaves in `m` what M makes of a turn that was issued in a cycle.
-#[tactic(auto, unfolding(pipe_model::specs::Stages::memory_latch))]
+/// Does what a thread's effect does at its port.
+fn put_word(ports: &mut Ports, thread: u8, effect: &Option<Effect>)
+    requires eight { vec_len ports.old ≡ 8 }
+    requires thread { thread < 8 }
+    ensures rows { rows_of latched word_at ports.new.items ≡ put_at_port thread effect.now (rows_of latched word_at ports.old.items) }
+    ensures eight { vec_len ports.new ≡ 8 }
+{
+    if let Some(Effect::Store { address, value, .. }) = effect
+        && *address == PORT
+    {
+        write_port(ports, thread, *value);
+    }
+}
+
+/// Leaves in `m` what M makes of an instruction that was issued in a cycle, and stores what it stores, in
+/// the data scratchpad or at its thread's port.
+#[tactic(auto, unfolding(pipe_model::specs::Stages::memory_latch, pipe_model::specs::Stages::words_stored, pipe_model::specs::Stages::ports_stored))]
+fn access_issue(
+    guard: &Guard,
+    imem: &Spm,
+    dmem: &mut Spm,
+    ports: &mut Ports,
+    cycle: u64,
+    thread: u8,
+    x: &Executed,
+    m: &mut Held<Stored>,
+)
+    requires imem { length imem.now ≡ guard.now.size / 4 }
+    requires dmem { length dmem.old ≡ guard.now.size / 4 }
+    requires eight { vec_len ports.old ≡ 8 }
+    requires fits { ExecutedFits (Issue thread x.now) }
+    ensures latch { m.new ≡ memory_latch guard.now.size imem.now dmem.old (rows_of latched word_at ports.old.items) cycle (Issue thread x.now) }
+    ensures fits { StoredFits m.new }
+    ensures words { dmem.new ≡ words_stored guard.now.size m.new dmem.old }
+    ensures length { length dmem.new ≡ length dmem.old }
+    ensures rows { rows_of latched word_at ports.new.items ≡ ports_stored m.new (rows_of latched word_at ports.old.items) }
+    ensures eight { vec_len ports.new ≡ 8 }
+{
+    // The most frequent effect stores nothing, and no more than its own fields is moved.
+    if let Some(Effect::Reg { rd, value }) = x.effect {
+        let what = stored(x, Some(Effect::Reg { rd, value }));
+        *m = Held::Issue { thread, what };
+        return;
+    }
+    let effect = match x.effect {
+        Some(Effect::Nothing) => late_effect(guard, imem, dmem, ports, thread, cycle, x),
+        effect => effect,
+    };
+    store_word(guard, dmem, &effect);
+    put_word(ports, thread, &effect);
+    let what = stored(x, effect);
+    *m = Held::Issue { thread, what };
+}
+
+/// Leaves in `m` what M makes of a turn that was issued in a cycle, and stores what it stores.
+#[tactic(auto, unfolding(pipe_model::specs::Stages::memory_latch, pipe_model::specs::Stages::words_stored, pipe_model::specs::Stages::ports_stored))]
 pub fn access(
     guard: &Guard,
     imem: &Spm,
-    dmem: &Spm,
+    dmem: &mut Spm,
     ports: &mut Ports,
     cycle: u64,
     held: &Held<Executed>,
     m: &mut Held<Stored>,
 )
     requires imem { length imem.now ≡ guard.now.size / 4 }
-    requires dmem { length dmem.now ≡ guard.now.size / 4 }
+    requires dmem { length dmem.old ≡ guard.now.size / 4 }
     requires eight { vec_len ports.old ≡ 8 }
     requires fits { ExecutedFits held.now }
-    ensures latch { m.new ≡ memory_latch guard.now.size imem.now dmem.now (rows_of latched word_at ports.old.items) cycle held.now }
+    ensures latch { m.new ≡ memory_latch guard.now.size imem.now dmem.old (rows_of latched word_at ports.old.items) cycle held.now }
     ensures fits { StoredFits m.new }
-    ensures rows { rows_of latched word_at ports.new.items ≡ rows_of latched word_at ports.old.items }
+    ensures words { dmem.new ≡ words_stored guard.now.size m.new dmem.old }
+    ensures length { length dmem.new ≡ length dmem.old }
+    ensures rows { rows_of latched word_at ports.new.items ≡ ports_stored m.new (rows_of latched word_at ports.old.items) }
     ensures eight { vec_len ports.new ≡ 8 }
 {
     match held {
         Held::Bubble => *m = Held::Bubble,
         Held::Flushed { thread } => *m = Held::Flushed { thread: *thread },
         Held::Issue { thread, what } => {
-            let (thread, x) = (*thread, what);
-            match x.effect {
-                Some(Effect::Nothing) => {
-                    let effect = late_effect(guard, imem, dmem, ports, thread, cycle, x);
-                    let what = stored(x, effect);
-                    *m = Held::Issue { thread, what };
-                }
-                // The most frequent effect: no more than its own fields is moved.
-                Some(Effect::Reg { rd, value }) => {
-                    let what = stored(x, Some(Effect::Reg { rd, value }));
-                    *m = Held::Issue { thread, what };
-                }
-                effect => {
-                    let what = stored(x, effect);
-                    *m = Held::Issue { thread, what };
-                }
-            }
+            access_issue(guard, imem, dmem, ports, cycle, *thread, what, m);
         }
-    }
-}
-
-/// Does what a thread's effect does at its port.
-fn put_word(ports: &mut Ports, thread: u8, effect: Option<Effect>)
-    requires eight { vec_len ports.old ≡ 8 }
-    requires thread { thread < 8 }
-    ensures rows { rows_of latched word_at ports.new.items ≡ put_at_port thread effect (rows_of latched word_at ports.old.items) }
-    ensures eight { vec_len ports.new ≡ 8 }
-{
-    if let Some(Effect::Store { address, value, .. }) = effect
-        && address == PORT
-    {
-        write_port(ports, thread, value);
-    }
-}
-
-/// Stores what the turn in M stores, in the data scratchpad or at its thread's port.
-#[tactic(auto, unfolding(pipe_model::specs::Stages::words_stored, pipe_model::specs::Stages::ports_stored))]
-pub fn store(guard: &Guard, dmem: &mut Spm, ports: &mut Ports, held: &Held<Stored>)
-    requires dmem { length dmem.old ≡ guard.now.size / 4 }
-    requires eight { vec_len ports.old ≡ 8 }
-    requires fits { StoredFits held.now }
-    ensures words { dmem.new ≡ words_stored guard.now.size held.now dmem.old }
-    ensures length { length dmem.new ≡ length dmem.old }
-    ensures rows { rows_of latched word_at ports.new.items ≡ ports_stored held.now (rows_of latched word_at ports.old.items) }
-    ensures eight { vec_len ports.new ≡ 8 }
-{
-    if let Held::Issue { thread, what } = held {
-        store_word(guard, dmem, what.effect);
-        put_word(ports, *thread, what.effect);
     }
 }

@@ -1,6 +1,6 @@
 //! E: instructions are executed, but for late values.
 
-ghost use Rattle.std.specs.Prelude.{◌≡◌, ◌<◌, IfSome, is_some, length};
+ghost use Rattle.std.specs.Prelude.{◌≡◌, ◌≢◌, ◌<◌, ◌==◌, if◌then◌else◌, IfSome, is_some, length};
 ghost use Rattle.rv_decode.specs.Table.{ins};
 ghost use Rattle.rv_exec.specs.Access.{IsAligned};
 ghost use Rattle.core_model.specs.Issue.{act};
@@ -72,6 +72,7 @@ fn execute_plainly(rights: &Rights, x: &Decoded) -> Option<Done>
     ensures did { IfSome result (λ done. (own : Own) → did own done ≡ act (asked rights.now) x.now.pc own x.now.expired x.now.word x.now.a x.now.b) }
     ensures effect { IfSome result (λ done. EffectFits done.effect) }
     ensures plain { IfSome result (λ done. IsPlain done.effect) }
+    ensures shown { IfSome result (λ done. done.word ≢ 0) }
     ensures address { IfSome result (λ done. IsAligned (ins done.word) done.address) }
     ensures pc { IfSome result (λ done. IsPc done.pc) }
 {
@@ -82,36 +83,60 @@ fn execute_plainly(rights: &Rights, x: &Decoded) -> Option<Done>
     execute_plain(rights, at, x.expired, Sources { a: x.a, b: x.b })
 }
 
-/// What stands in the latch: an instruction whose word isn't shown has no sources.
-fn latch_of(x: &Decoded, done: &Done) -> Executed
-    ensures { result ≡ executed x.now (did no_own done.now) }
+/// The issue as its instruction was executed: one whose word isn't shown has no sources.
+fn shown(x: &Decoded, done: &Done) -> Decoded
+    ensures a { result.a ≡ (if done.now.word == 0 then 0 else x.now.a) }
+    ensures b { result.b ≡ (if done.now.word == 0 then 0 else x.now.b) }
+    ensures pc { result.pc ≡ x.now.pc }
 {
-    let is_shown = done.word != 0;
-    Executed {
-        pc: x.pc,
-        word: done.word,
-        a: if is_shown { x.a } else { 0 },
-        b: if is_shown { x.b } else { 0 },
-        address: done.address,
-        effect: done.effect,
+    if done.word == 0 {
+        Decoded { a: 0, b: 0, ..*x }
+    } else {
+        *x
     }
 }
 
-/// Where the thread goes on, if its next turns are flushed.
-fn redirect_by(thread: u8, done: &Done) -> Option<Redirect>
+/// What stands in the latch of an executed instruction with its effect.
+fn latch_of(x: &Decoded, done: &Done, effect: Option<Effect>) -> Executed
+    ensures { result ≡ record { pc = x.now.pc; word = done.now.word; a = x.now.a; b = x.now.b; address = done.now.address; effect = effect } }
+{
+    Executed {
+        pc: x.pc,
+        word: done.word,
+        a: x.a,
+        b: x.b,
+        address: done.address,
+        effect,
+    }
+}
+
+/// Leaves an executed instruction in `e`, and tells where its thread goes on if its next turns are flushed.
+#[inline(always)]
+fn leave(thread: u8, x: &Decoded, done: &Done, e: &mut Held<Executed>) -> Option<Redirect>
     requires thread { thread < 8 }
     requires pc { IsPc done.now.pc }
+    ensures e { e.new ≡ Issue thread (record { pc = x.now.pc; word = done.now.word; a = x.now.a; b = x.now.b; address = done.now.address; effect = done.now.effect }) }
     ensures redirect { result ≡ redirect_of thread (did no_own done.now) }
     ensures fits { RedirectFits result }
 {
-    if done.lag == 1 {
-        return None;
+    if done.lag != 1 {
+        let what = latch_of(x, done, done.effect);
+        *e = Held::Issue { thread, what };
+        return Some(Redirect {
+            thread,
+            pc: done.pc,
+            kills: done.lag.saturating_sub(1),
+        });
     }
-    Some(Redirect {
-        thread,
-        pc: done.pc,
-        kills: done.lag.saturating_sub(1),
-    })
+    // The most frequent outcome: no more than the effect's own fields is moved.
+    if let Some(Effect::Reg { rd, value }) = done.effect {
+        let what = latch_of(x, done, Some(Effect::Reg { rd, value }));
+        *e = Held::Issue { thread, what };
+    } else {
+        let what = latch_of(x, done, done.effect);
+        *e = Held::Issue { thread, what };
+    }
+    None
 }
 
 /// Does what an effect does to the machine's own registers.
@@ -157,11 +182,7 @@ fn execute_fully(
     traps.set_row(thread, step.own.trap);
     sched.sleep[thread as usize] = step.own.sleep;
     write_registers(guard, sched, step.done.effect);
-    *e = Held::Issue {
-        thread,
-        what: latch_of(x, &step.done),
-    };
-    redirect_by(thread, &step.done)
+    leave(thread, &shown(x, &step.done), &step.done, e)
 }
 
 /// Executes an issue. Most leave what their thread has, and are done without a look at it.
@@ -193,11 +214,7 @@ fn execute_issue(
             guard, sched, timers, traps, confined, permit, time, thread, x, e,
         );
     };
-    *e = Held::Issue {
-        thread,
-        what: latch_of(x, &done),
-    };
-    redirect_by(thread, &done)
+    leave(thread, x, &done, e)
 }
 
 /// Executes the turn at a time, in nanoseconds, and tells where its thread goes on if the next turns

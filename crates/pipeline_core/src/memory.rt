@@ -1,6 +1,6 @@
 //! The words of the two scratchpads, as fetches, loads and stores reach them.
 
-ghost use Rattle.std.specs.Prelude.{◌≡◌, ◌<◌, ◌/◌, ◌%◌, length, vec_len};
+ghost use Rattle.std.specs.Prelude.{◌≡◌, ◌<◌, ◌/◌, ◌%◌, IsTrue, length, vec_len};
 ghost use Rattle.region_guard.specs.Regions.{IsSize, in_i, in_d, index_of};
 ghost use Rattle.rv_exec.specs.Access.{lanes_at};
 ghost use Rattle.rv_exec.specs.Line.{IsWidth};
@@ -17,17 +17,24 @@ use scratchpad::Spm;
 
 const DATA: u32 = 0x2000_0000;
 
-/// The index of an address's word in its scratchpad.
+/// The index of an address's word in the instruction scratchpad.
 #[tactic(auto, unfolding(region_guard::specs::Regions::index_of))]
-fn index_at(guard: &Guard, address: u32) -> u32
+fn code_index(guard: &Guard, address: u32) -> u32
+    requires { IsTrue (in_i guard.now.size address) }
     ensures index { result ≡ index_of guard.now.size address }
     ensures small { result < guard.now.size / 4 }
 {
-    if guard.size == 0x4000 {
-        address % 0x4000 / 4
-    } else {
-        address % 0x1_0000 / 4
-    }
+    address / 4
+}
+
+/// The index of an address's word in the data scratchpad.
+#[tactic(auto, unfolding(region_guard::specs::Regions::index_of))]
+fn data_index(guard: &Guard, address: u32) -> u32
+    requires { IsTrue (in_d guard.now.size address) }
+    ensures index { result ≡ index_of guard.now.size address }
+    ensures small { result < guard.now.size / 4 }
+{
+    (address - DATA) / 4
 }
 
 /// Whether an address lies in the instruction scratchpad.
@@ -51,7 +58,7 @@ pub fn code_word(guard: &Guard, imem: &Spm, pc: u32) -> u32
     ensures { result ≡ code_at guard.now.size imem.now pc }
 {
     if is_code(guard, pc) {
-        imem.word_at(index_at(guard, pc))
+        imem.word_at(code_index(guard, pc))
     } else {
         0
     }
@@ -78,9 +85,9 @@ pub fn data_word(
     ensures eight { vec_len ports.new ≡ 8 }
 {
     if is_code(guard, address) {
-        imem.word_at(index_at(guard, address))
+        imem.word_at(code_index(guard, address))
     } else if is_data(guard, address) {
-        dmem.word_at(index_at(guard, address))
+        dmem.word_at(data_index(guard, address))
     } else {
         read_port(ports, thread, cycle)
     }
@@ -100,10 +107,10 @@ fn lanes_of(size: u8, address: u32, value: u32) -> Lanes
 }
 
 /// Does what an effect does to the data scratchpad.
-pub fn store_word(guard: &Guard, dmem: &mut Spm, effect: Option<Effect>)
+pub fn store_word(guard: &Guard, dmem: &mut Spm, effect: &Option<Effect>)
     requires dmem { length dmem.old ≡ guard.now.size / 4 }
-    requires fits { EffectFits effect }
-    ensures words { dmem.new ≡ words_after guard.now.size effect dmem.old }
+    requires fits { EffectFits effect.now }
+    ensures words { dmem.new ≡ words_after guard.now.size effect.now dmem.old }
     ensures length { length dmem.new ≡ length dmem.old }
 {
     if let Some(
@@ -113,8 +120,11 @@ pub fn store_word(guard: &Guard, dmem: &mut Spm, effect: Option<Effect>)
             value,
         },
     ) = effect
-        && is_data(guard, address)
+        && is_data(guard, *address)
     {
-        dmem.store(index_at(guard, address), lanes_of(size, address, value));
+        dmem.store(
+            data_index(guard, *address),
+            lanes_of(*size, *address, *value),
+        );
     }
 }

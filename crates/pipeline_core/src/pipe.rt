@@ -4,7 +4,7 @@ ghost use Rattle.std.specs.Prelude.{◌≡◌, All};
 ghost use Rattle.std.proofs.Props.{props};
 ghost use Rattle.pipeline_core.specs.Fits.{IsPc, FetchedFits, DecodedFits, ExecutedFits, StoredFits, WrittenFits, FetchedFits-prop, DecodedFits-prop, ExecutedFits-prop, StoredFits-prop, WrittenFits-prop};
 
-use crate::access::{access, store};
+use crate::access::access;
 use crate::decode::read;
 use crate::execute::execute;
 use crate::fetch::{fetch, redirect_to};
@@ -100,21 +100,19 @@ impl Pipe {
         ensures step { ticked_by self.new units.new (rows_of latched word_at ports.new.items) (retired (cycle - 4) self.old.m) ≡ step (latches_by self.old) (state_by units.old (rows_of latched word_at ports.old.items)) cycle }
         ensures eight { vec_len ports.new ≡ 8 }
     {
-        let now = units.clock.now(cycle);
-        let before = units.clock.now(cycle.saturating_sub(1));
-        let earlier = units.clock.now(cycle.saturating_sub(2));
-        let pick = units.scheduler.pick(&units.sched, cycle, now);
         write(&mut units.bank, &self.m, &mut self.w);
         access(
             &units.guard,
             &units.imem,
-            &units.dmem,
+            &mut units.dmem,
             ports,
             cycle.saturating_sub(3),
             &self.e,
             &mut self.m,
         );
-        store(&units.guard, &mut units.dmem, ports, &self.m);
+        let now = units.clock.now(cycle);
+        let pick = units.scheduler.pick(&units.sched, cycle, now);
+        let earlier = units.clock.now(cycle.saturating_sub(2));
         let redirect = execute(
             &mut units.guard,
             &mut units.sched,
@@ -127,6 +125,7 @@ impl Pipe {
             &mut self.e,
         );
         redirect_to(&mut self.next, redirect);
+        let before = units.clock.now(cycle.saturating_sub(1));
         read(
             &units.bank,
             &self.m,

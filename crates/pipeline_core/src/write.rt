@@ -30,14 +30,14 @@ pub fn retire(held: &Held<Stored>, cycle: u64) -> Option<Event>
 
 /// Writes the register of an effect, if it has one.
 #[tactic(auto, using(crate::proofs::Registers::unwritten))]
-fn write_register(bank: &mut Bank, thread: u8, effect: Option<Effect>)
+fn write_register(bank: &mut Bank, thread: u8, effect: &Option<Effect>)
     requires thread { thread < 8 }
-    requires fits { EffectFits effect }
-    ensures { bank.new ≡ slice_set bank.old thread (regs_after effect (slice_index_or bank.old thread [])) }
+    requires fits { EffectFits effect.now }
+    ensures { bank.new ≡ slice_set bank.old thread (regs_after effect.now (slice_index_or bank.old thread [])) }
 {
     match effect {
-        Some(Effect::Reg { rd, value }) => bank.write(thread, rd, value),
-        Some(Effect::Csr { rd, old, .. }) => bank.write(thread, rd, old),
+        Some(Effect::Reg { rd, value }) => bank.write(thread, *rd, *value),
+        Some(Effect::Csr { rd, old, .. }) => bank.write(thread, *rd, *old),
         _ => {}
     }
 }
@@ -54,7 +54,7 @@ pub fn write(bank: &mut Bank, held: &Held<Stored>, w: &mut Held<Written>)
         Held::Bubble => *w = Held::Bubble,
         Held::Flushed { thread } => *w = Held::Flushed { thread: *thread },
         Held::Issue { thread, what } => {
-            write_register(bank, *thread, what.effect);
+            write_register(bank, *thread, &what.effect);
             *w = Held::Issue {
                 thread: *thread,
                 what: Written {

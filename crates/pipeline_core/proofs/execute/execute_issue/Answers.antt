@@ -2,20 +2,20 @@
 use Rattle.std.proofs.Common.{ap}
 use Rattle.pipe_model.specs.Stages.{After, execution}
 use Rattle.pipeline_core.specs.Meaning.{control_by}
-use Rattle.pipeline_core.proofs.Plain.{plain_after}
+use Rattle.pipeline_core.proofs.Plain.{plain_after, shown_latch}
 use Rattle.pipeline_core.proofs.execute.execute_issue.Goals as goal
 
 pub returns-clause-e : goal.returns-clause-e
 unfolding execution
 returns-clause-e c =
-    rw c.latch_of.ensures
+    rw (c.leave.ensures.e, shown_latch c.args.x.now c.in-Some.done c.in-Some.ensures.shown)
     (ap (λ (r : After). r.e) (plain_after _ _ c.args.thread c.args.x.now (control_by c.args.sched.now c.args.guard.now c.args.timers.now c.args.traps.now)
     c.in-Some.done c.of-rights.ensures c.in-Some.ensures.did c.in-Some.ensures.plain))
 
 pub returns-clause-redirect : goal.returns-clause-redirect
 unfolding execution
 returns-clause-redirect c =
-    rw c.redirect_by.ensures.redirect
+    rw c.leave.ensures.redirect
     (ap (λ (r : After). r.redirect) (plain_after _ _ c.args.thread c.args.x.now (control_by c.args.sched.now c.args.guard.now c.args.timers.now c.args.traps.now)
     c.in-Some.done c.of-rights.ensures c.in-Some.ensures.did c.in-Some.ensures.plain))
 
