@@ -1,6 +1,6 @@
 //! M: loads and stores reach the scratchpads and the ports.
 
-ghost use Rattle.std.specs.Prelude.{◌≡◌, ◌<◌, ◌/◌, length, vec_len};
+ghost use Rattle.std.specs.Prelude.{◌≡◌, ◌-◌, ◌<◌, ◌/◌, length, vec_len};
 ghost use Rattle.rv_decode.specs.Table.{ins};
 ghost use Rattle.rv_exec.specs.Access.{IsAligned};
 ghost use Rattle.core_model.specs.Thread.{filled};
@@ -23,7 +23,7 @@ use scratchpad::Spm;
 const PORT: u32 = 0x4000_0000;
 
 /// The effect of an instruction whose value may come late, with that value. A load at the port finds the
-/// word of a cycle.
+/// word of three cycles ago, when it was issued.
 fn late_effect(
     guard: &Guard,
     imem: &Spm,
@@ -39,7 +39,7 @@ fn late_effect(
     requires thread { thread < 8 }
     requires fits { EffectFits x.now.effect }
     requires aligned { IsAligned (ins x.now.word) x.now.address }
-    ensures effect { let found = data_at guard.now.size imem.now dmem.now (word_seen (row_at (rows_of latched word_at ports.old.items) thread) cycle) x.now.address in
+    ensures effect { let found = data_at guard.now.size imem.now dmem.now (word_seen (row_at (rows_of latched word_at ports.old.items) thread) (cycle - 3)) x.now.address in
         result ≡ filled (late_rd (ins x.now.word)) (late_value (ins x.now.word) found x.now.address x.now.a x.now.b) x.now.effect }
     ensures fits { EffectFits result }
     ensures rows { rows_of latched word_at ports.new.items ≡ rows_of latched word_at ports.old.items }
@@ -79,8 +79,8 @@ fn put_word(ports: &mut Ports, thread: u8, effect: &Option<Effect>)
     }
 }
 
-/// Leaves in `m` what M makes of an instruction that was issued in a cycle, and stores what it stores, in
-/// the data scratchpad or at its thread's port.
+/// Leaves in `m` what M makes of an instruction that was issued three cycles ago, and stores what it
+/// stores, in the data scratchpad or at its thread's port.
 #[tactic(auto, unfolding(pipe_model::specs::Stages::memory_latch, pipe_model::specs::Stages::words_stored, pipe_model::specs::Stages::ports_stored))]
 fn access_issue(
     guard: &Guard,
@@ -96,7 +96,7 @@ fn access_issue(
     requires dmem { length dmem.old ≡ guard.now.size / 4 }
     requires eight { vec_len ports.old ≡ 8 }
     requires fits { ExecutedFits (Issue thread x.now) }
-    ensures latch { m.new ≡ memory_latch guard.now.size imem.now dmem.old (rows_of latched word_at ports.old.items) cycle (Issue thread x.now) }
+    ensures latch { m.new ≡ memory_latch guard.now.size imem.now dmem.old (rows_of latched word_at ports.old.items) (cycle - 3) (Issue thread x.now) }
     ensures fits { StoredFits m.new }
     ensures words { dmem.new ≡ words_stored guard.now.size m.new dmem.old }
     ensures length { length dmem.new ≡ length dmem.old }
@@ -119,7 +119,7 @@ fn access_issue(
     *m = Held::Issue { thread, what };
 }
 
-/// Leaves in `m` what M makes of a turn that was issued in a cycle, and stores what it stores.
+/// Leaves in `m` what M makes of a turn that was issued three cycles ago, and stores what it stores.
 #[tactic(auto, unfolding(pipe_model::specs::Stages::memory_latch, pipe_model::specs::Stages::words_stored, pipe_model::specs::Stages::ports_stored))]
 pub fn access(
     guard: &Guard,
@@ -134,7 +134,7 @@ pub fn access(
     requires dmem { length dmem.old ≡ guard.now.size / 4 }
     requires eight { vec_len ports.old ≡ 8 }
     requires fits { ExecutedFits held.now }
-    ensures latch { m.new ≡ memory_latch guard.now.size imem.now dmem.old (rows_of latched word_at ports.old.items) cycle held.now }
+    ensures latch { m.new ≡ memory_latch guard.now.size imem.now dmem.old (rows_of latched word_at ports.old.items) (cycle - 3) held.now }
     ensures fits { StoredFits m.new }
     ensures words { dmem.new ≡ words_stored guard.now.size m.new dmem.old }
     ensures length { length dmem.new ≡ length dmem.old }

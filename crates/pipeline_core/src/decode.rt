@@ -1,6 +1,7 @@
 //! D: registers are read, with what is on its way to them.
 
-ghost use Rattle.std.specs.Prelude.{◌≡◌, ◌<◌, ℕ, List, length};
+ghost use Rattle.std.specs.Prelude.{◌≡◌, ◌-◌, ◌<◌, ℕ, List, length};
+ghost use Rattle.timer_unit.specs.Time.{is_due, time, timer_of};
 ghost use Rattle.core_model.specs.Thread.{reg_in};
 ghost use Rattle.regfile_bank.specs.Registers.{registers_of};
 ghost use Rattle.pipe_model.specs.Stages.{forward, from_m, from_e, operand, is_killed, decode_latch};
@@ -11,7 +12,7 @@ use pipe_model::{Decoded, Executed, Fetched, Held, Redirect, Stored};
 use regfile_bank::Bank;
 use rv_decode::decode;
 use rv_exec::Effect;
-use timer_unit::Timers;
+use timer_unit::{Clock, Timers};
 
 /// Whether a redirect flushes a thread's turn that comes so many cycles behind it.
 pub fn is_flushed(behind: u8, thread: u8, redirect: Option<Redirect>) -> bool
@@ -30,7 +31,7 @@ fn newer(effect: Option<Effect>, x: u8, older: u32) -> u32
     ensures { (regs : List ℕ) → length regs ≡ 31 → older ≡ reg_in regs x → result ≡ reg_in (forward effect regs) x }
 {
     match effect {
-        Some(Effect::Reg { rd, value }) if rd == x && x != 0 => value,
+        Some(Effect::Reg { rd, value }) if rd == x && rd != 0 => value,
         _ => older,
     }
 }
@@ -83,23 +84,37 @@ fn sources(
     }
 }
 
-/// Leaves in `d` the turn with its sources, and whether its thread's armed moment is reached at a time,
-/// if the turn isn't flushed.
+/// Whether a thread's armed moment was reached in the cycle before this one.
+fn was_due(timers: &Timers, clock: &Clock, cycle: u64, thread: u8) -> bool
+    requires thread { thread < 8 }
+    requires cycle { cycle < 4000000000 }
+    ensures { result ≡ is_due (timer_of timers.now thread).armed (time clock.now (cycle - 1)) }
+{
+    match timers.armed(thread) {
+        Some(moment) => moment <= clock.now(cycle.saturating_sub(1)),
+        None => false,
+    }
+}
+
+/// Leaves in `d` the turn with its sources, and whether its thread's armed moment was reached when it
+/// was issued, in the cycle before this one, if the turn isn't flushed.
 #[tactic(auto, unfolding(pipe_model::specs::Stages::decode_latch))]
 pub fn read(
     bank: &Bank,
     m: &Held<Stored>,
     e: &Held<Executed>,
     timers: &Timers,
+    clock: &Clock,
     redirect: Option<Redirect>,
-    time: u64,
+    cycle: u64,
     held: &Held<Fetched>,
     d: &mut Held<Decoded>,
 )
     requires m { StoredFits m.now }
     requires e { ExecutedFits e.now }
     requires f { FetchedFits held.now }
-    ensures latch { d.new ≡ decode_latch bank.now m.now e.now timers.now redirect time held.now }
+    requires cycle { cycle < 4000000000 }
+    ensures latch { d.new ≡ decode_latch bank.now m.now e.now timers.now redirect (time clock.now (cycle - 1)) held.now }
     ensures fits { DecodedFits d.new }
 {
     let (thread, x) = match held {
@@ -124,7 +139,7 @@ pub fn read(
         what: Decoded {
             pc: x.pc,
             word: x.word,
-            expired: timers.due(thread, time),
+            expired: was_due(timers, clock, cycle, thread),
             a,
             b,
         },

@@ -1,6 +1,6 @@
 //! The words of the two scratchpads, as fetches, loads and stores reach them.
 
-ghost use Rattle.std.specs.Prelude.{◌≡◌, ◌<◌, ◌/◌, ◌%◌, IsTrue, length, vec_len};
+ghost use Rattle.std.specs.Prelude.{◌≡◌, ◌-◌, ◌<◌, ◌/◌, ◌%◌, IsTrue, length, vec_len};
 ghost use Rattle.region_guard.specs.Regions.{IsSize, in_i, in_d, index_of};
 ghost use Rattle.rv_exec.specs.Access.{lanes_at};
 ghost use Rattle.rv_exec.specs.Line.{IsWidth};
@@ -65,7 +65,7 @@ pub fn code_word(guard: &Guard, imem: &Spm, pc: u32) -> u32
 }
 
 /// The word that a thread's load finds at an address; outside the scratchpads it is the word that
-/// the thread's port shows in a cycle.
+/// the thread's port showed three cycles ago.
 #[tactic(auto, unfolding(core_model::specs::Memory::data_at))]
 pub fn data_word(
     guard: &Guard,
@@ -80,7 +80,7 @@ pub fn data_word(
     requires dmem { length dmem.now ≡ guard.now.size / 4 }
     requires eight { vec_len ports.old ≡ 8 }
     requires thread { thread < 8 }
-    ensures word { result ≡ data_at guard.now.size imem.now dmem.now (word_seen (row_at (rows_of latched word_at ports.old.items) thread) cycle) address }
+    ensures word { result ≡ data_at guard.now.size imem.now dmem.now (word_seen (row_at (rows_of latched word_at ports.old.items) thread) (cycle - 3)) address }
     ensures rows { rows_of latched word_at ports.new.items ≡ rows_of latched word_at ports.old.items }
     ensures eight { vec_len ports.new ≡ 8 }
 {
@@ -89,7 +89,7 @@ pub fn data_word(
     } else if is_data(guard, address) {
         dmem.word_at(data_index(guard, address))
     } else {
-        read_port(ports, thread, cycle)
+        read_port(ports, thread, cycle.saturating_sub(3))
     }
 }
 

@@ -106,7 +106,7 @@ impl Pipe {
             &units.imem,
             &mut units.dmem,
             ports,
-            cycle.saturating_sub(3),
+            cycle,
             &self.e,
             &mut self.m,
         );
@@ -125,17 +125,18 @@ impl Pipe {
             &mut self.e,
         );
         redirect_to(&mut self.next, redirect);
-        let before = units.clock.now(cycle.saturating_sub(1));
+        let fetched = fetch(&units.guard, &units.imem, redirect, &mut self.next, pick);
         read(
             &units.bank,
             &self.m,
             &self.e,
             &units.timers,
+            &units.clock,
             redirect,
-            before,
+            cycle,
             &self.f,
             &mut self.d,
         );
-        self.f = fetch(&units.guard, &units.imem, redirect, &mut self.next, pick);
+        self.f = fetched;
     }
 }
