@@ -1,4 +1,6 @@
 -- What a thread's instruction may do, as the definitions have it.
+use Rattle.std.specs.Prelude.{◌-◌}
+use Rattle.timer_unit.specs.Time.{time}
 use Rattle.region_guard.specs.Regions.{may_fetch, may_load, may_store}
 use Rattle.core_model.specs.Thread.{Around}
 use Rattle.world_model.specs.World.{granted, register}
@@ -8,7 +10,7 @@ unfoldable pub asked : Rights → Around
 asked r =
     record {
       thread = r.thread;
-      now = r.time;
+      now = time r.clock (r.cycle - 2);
       fetch = λ pc. may_fetch r.thread r.guard.size r.confined r.guard.i pc;
       load = λ address width. may_load r.thread r.guard.size r.confined r.guard.i r.guard.d address width;
       store = λ address width. may_store r.thread r.guard.size r.guard.d address width;

@@ -1,12 +1,13 @@
 //! E: instructions are executed, but for late values.
 
-ghost use Rattle.std.specs.Prelude.{◌≡◌, ◌≢◌, ◌<◌, ◌==◌, if◌then◌else◌, IfSome, is_some, length};
+ghost use Rattle.std.specs.Prelude.{◌≡◌, ◌≢◌, ◌-◌, ◌<◌, ◌==◌, if◌then◌else◌, IfSome, is_some, length};
 ghost use Rattle.rv_decode.specs.Table.{ins};
 ghost use Rattle.rv_exec.specs.Access.{IsAligned};
 ghost use Rattle.core_model.specs.Issue.{act};
 ghost use Rattle.core_model.specs.Thread.{no_own};
 ghost use Rattle.core_model.specs.declared.own.Own.{Own};
 ghost use Rattle.hart_exec.specs.Meaning.{did, leaves_own, IsPlain};
+ghost use Rattle.timer_unit.specs.Time.{time};
 ghost use Rattle.trap_unit.specs.Rows.{IsAlignedTrap};
 ghost use Rattle.pipe_model.specs.Stages.{own_in, executed, redirect_of, execution};
 ghost use Rattle.pipe_model.specs.declared.latches.Held.TheVariants.{Issue};
@@ -22,7 +23,7 @@ use pipe_model::{Decoded, Executed, Held, Redirect};
 use region_guard::Guard;
 use rv_exec::Effect;
 use slot_scheduler::Sched;
-use timer_unit::Timers;
+use timer_unit::{Clock, Timers};
 use trap_unit::{Traps, write_shared};
 
 /// What an instruction does, with what its thread has then.
@@ -161,21 +162,23 @@ fn execute_fully(
     traps: &mut Traps,
     confined: &[bool; 8],
     permit: &[bool; 8],
-    time: u64,
+    clock: &Clock,
+    cycle: u64,
     thread: u8,
     x: &Decoded,
     e: &mut Held<Executed>,
 ) -> Option<Redirect>
     requires thread { thread < 8 }
+    requires cycle { cycle < 4000000000 }
     requires pc { IsPc x.now.pc }
-    ensures e { e.new ≡ (execution guard.old.size confined.now permit.now time (control_by sched.old guard.old timers.old traps.old) (Issue thread x.now)).e }
-    ensures redirect { result ≡ (execution guard.old.size confined.now permit.now time (control_by sched.old guard.old timers.old traps.old) (Issue thread x.now)).redirect }
-    ensures control { control_by sched.new guard.new timers.new traps.new ≡ (execution guard.old.size confined.now permit.now time (control_by sched.old guard.old timers.old traps.old) (Issue thread x.now)).control }
+    ensures e { e.new ≡ (execution guard.old.size confined.now permit.now (time clock.now (cycle - 2)) (control_by sched.old guard.old timers.old traps.old) (Issue thread x.now)).e }
+    ensures redirect { result ≡ (execution guard.old.size confined.now permit.now (time clock.now (cycle - 2)) (control_by sched.old guard.old timers.old traps.old) (Issue thread x.now)).redirect }
+    ensures control { control_by sched.new guard.new timers.new traps.new ≡ (execution guard.old.size confined.now permit.now (time clock.now (cycle - 2)) (control_by sched.old guard.old timers.old traps.old) (Issue thread x.now)).control }
     ensures size { guard.new.size ≡ guard.old.size }
     ensures fits { ExecutedFits e.new }
     ensures redirect_fits { RedirectFits result }
 {
-    let rights = Rights::of(thread, time, guard, sched, confined, permit);
+    let rights = Rights::of(thread, clock, cycle, guard, sched, confined, permit);
     let own = own_of(guard, sched, timers, traps, thread);
     let step = execute_at(own, &rights, x);
     timers.set_row(thread, step.own.timer);
@@ -194,30 +197,32 @@ fn execute_issue(
     traps: &mut Traps,
     confined: &[bool; 8],
     permit: &[bool; 8],
-    time: u64,
+    clock: &Clock,
+    cycle: u64,
     thread: u8,
     x: &Decoded,
     e: &mut Held<Executed>,
 ) -> Option<Redirect>
     requires thread { thread < 8 }
+    requires cycle { cycle < 4000000000 }
     requires pc { IsPc x.now.pc }
-    ensures e { e.new ≡ (execution guard.old.size confined.now permit.now time (control_by sched.old guard.old timers.old traps.old) (Issue thread x.now)).e }
-    ensures redirect { result ≡ (execution guard.old.size confined.now permit.now time (control_by sched.old guard.old timers.old traps.old) (Issue thread x.now)).redirect }
-    ensures control { control_by sched.new guard.new timers.new traps.new ≡ (execution guard.old.size confined.now permit.now time (control_by sched.old guard.old timers.old traps.old) (Issue thread x.now)).control }
+    ensures e { e.new ≡ (execution guard.old.size confined.now permit.now (time clock.now (cycle - 2)) (control_by sched.old guard.old timers.old traps.old) (Issue thread x.now)).e }
+    ensures redirect { result ≡ (execution guard.old.size confined.now permit.now (time clock.now (cycle - 2)) (control_by sched.old guard.old timers.old traps.old) (Issue thread x.now)).redirect }
+    ensures control { control_by sched.new guard.new timers.new traps.new ≡ (execution guard.old.size confined.now permit.now (time clock.now (cycle - 2)) (control_by sched.old guard.old timers.old traps.old) (Issue thread x.now)).control }
     ensures size { guard.new.size ≡ guard.old.size }
     ensures fits { ExecutedFits e.new }
     ensures redirect_fits { RedirectFits result }
 {
-    let rights = Rights::of(thread, time, guard, sched, confined, permit);
+    let rights = Rights::of(thread, clock, cycle, guard, sched, confined, permit);
     let Some(done) = execute_plainly(&rights, x) else {
         return execute_fully(
-            guard, sched, timers, traps, confined, permit, time, thread, x, e,
+            guard, sched, timers, traps, confined, permit, clock, cycle, thread, x, e,
         );
     };
     leave(thread, x, &done, e)
 }
 
-/// Executes the turn at a time, in nanoseconds, and tells where its thread goes on if the next turns
+/// Executes the turn that was issued two cycles ago, and tells where its thread goes on if the next turns
 /// are flushed. What it changes of its thread and of the machine's own registers is changed here.
 #[tactic(auto, unfolding(pipe_model::specs::Stages::execution))]
 pub fn execute(
@@ -227,14 +232,16 @@ pub fn execute(
     traps: &mut Traps,
     confined: &[bool; 8],
     permit: &[bool; 8],
-    time: u64,
+    clock: &Clock,
+    cycle: u64,
     held: &Held<Decoded>,
     e: &mut Held<Executed>,
 ) -> Option<Redirect>
-    requires { DecodedFits held.now }
-    ensures e { e.new ≡ (execution guard.old.size confined.now permit.now time (control_by sched.old guard.old timers.old traps.old) held.now).e }
-    ensures redirect { result ≡ (execution guard.old.size confined.now permit.now time (control_by sched.old guard.old timers.old traps.old) held.now).redirect }
-    ensures control { control_by sched.new guard.new timers.new traps.new ≡ (execution guard.old.size confined.now permit.now time (control_by sched.old guard.old timers.old traps.old) held.now).control }
+    requires fits { DecodedFits held.now }
+    requires cycle { cycle < 4000000000 }
+    ensures e { e.new ≡ (execution guard.old.size confined.now permit.now (time clock.now (cycle - 2)) (control_by sched.old guard.old timers.old traps.old) held.now).e }
+    ensures redirect { result ≡ (execution guard.old.size confined.now permit.now (time clock.now (cycle - 2)) (control_by sched.old guard.old timers.old traps.old) held.now).redirect }
+    ensures control { control_by sched.new guard.new timers.new traps.new ≡ (execution guard.old.size confined.now permit.now (time clock.now (cycle - 2)) (control_by sched.old guard.old timers.old traps.old) held.now).control }
     ensures size { guard.new.size ≡ guard.old.size }
     ensures fits { ExecutedFits e.new }
     ensures redirect_fits { RedirectFits result }
@@ -249,7 +256,7 @@ pub fn execute(
             None
         }
         Held::Issue { thread, what } => execute_issue(
-            guard, sched, timers, traps, confined, permit, time, *thread, what, e,
+            guard, sched, timers, traps, confined, permit, clock, cycle, *thread, what, e,
         ),
     }
 }

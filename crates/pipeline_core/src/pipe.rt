@@ -112,7 +112,6 @@ impl Pipe {
         );
         let now = units.clock.now(cycle);
         let pick = units.scheduler.pick(&units.sched, cycle, now);
-        let earlier = units.clock.now(cycle.saturating_sub(2));
         let redirect = execute(
             &mut units.guard,
             &mut units.sched,
@@ -120,7 +119,8 @@ impl Pipe {
             &mut units.traps,
             &units.confined,
             &units.permit,
-            earlier,
+            &units.clock,
+            cycle,
             &self.d,
             &mut self.e,
         );

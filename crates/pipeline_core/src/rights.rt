@@ -1,45 +1,53 @@
 //! What a thread's instruction may do.
 
-ghost use Rattle.std.specs.Prelude.{◌≡◌, ◌<◌};
+ghost use Rattle.std.specs.Prelude.{◌≡◌, ◌-◌, ◌<◌};
+ghost use Rattle.timer_unit.specs.Time.{time};
 ghost use Rattle.world_model.specs.World.{around};
 ghost use Rattle.pipeline_core.specs.Meaning.{registers_by};
 
 use hart_exec::Surroundings;
 use region_guard::Guard;
 use slot_scheduler::Sched;
+use timer_unit::Clock;
 
 /// What a thread's instruction asks, with the answers of the guard and of the machine's own
 /// registers as they stand when it is executed.
 #[derive(Clone, Copy, Debug)]
 pub struct Rights {
     pub thread: u8,
-    pub time: u64,
+    pub clock: Clock,
+    /// The cycle in which the instruction is executed, two after that of its issue.
+    pub cycle: u64,
     pub confined: bool,
     pub permit: bool,
     pub guard: Guard,
     pub slots: u32,
     pub modes: u32,
+    ghost early: { cycle < 4000000000 },
 }
 
 impl Rights {
     ghost use Rattle.pipeline_core.specs.Asked.{asked};
 
-    /// The rights of a thread at a time.
+    /// The rights of a thread, for an instruction that was issued two cycles ago.
     #[tactic(auto, unfolding(crate::specs::Asked::asked, world_model::specs::World::around))]
     pub fn of(
         thread: u8,
-        time: u64,
+        clock: &Clock,
+        cycle: u64,
         guard: &Guard,
         sched: &Sched,
         confined: &[bool; 8],
         permit: &[bool; 8],
     ) -> Rights
-        requires { thread < 8 }
-        ensures { asked result ≡ around time guard.now.size confined.now permit.now (registers_by sched.now guard.now) thread }
+        requires thread { thread < 8 }
+        requires cycle { cycle < 4000000000 }
+        ensures { asked result ≡ around (time clock.now (cycle - 2)) guard.now.size confined.now permit.now (registers_by sched.now guard.now) thread }
     {
         Rights {
             thread,
-            time,
+            clock: *clock,
+            cycle,
             confined: confined[thread as usize],
             permit: permit[thread as usize],
             guard: *guard,
@@ -61,7 +69,7 @@ impl Surroundings for Rights {
 
     #[tactic(auto, unfolding(crate::specs::Asked::asked))]
     fn now(&self) -> u64 {
-        self.time
+        self.clock.now(self.cycle.saturating_sub(2))
     }
 
     #[tactic(auto, unfolding(crate::specs::Asked::asked))]
