@@ -11,8 +11,8 @@ asked r =
     record {
       thread = r.thread;
       now = time r.clock (r.cycle - 2);
-      fetch = λ pc. may_fetch r.thread r.guard.size r.confined r.guard.i pc;
-      load = λ address width. may_load r.thread r.guard.size r.confined r.guard.i r.guard.d address width;
-      store = λ address width. may_store r.thread r.guard.size r.guard.d address width;
-      shared = λ csr. granted r.permit (register (record { slots = r.slots; modes = r.modes; dregions = r.guard.d; iregions = r.guard.i }) csr);
+      fetch = λ pc. may_fetch r.thread r.guard.now.size r.confined r.guard.now.i pc;
+      load = λ address width. may_load r.thread r.guard.now.size r.confined r.guard.now.i r.guard.now.d address width;
+      store = λ address width. may_store r.thread r.guard.now.size r.guard.now.d address width;
+      shared = λ csr. granted r.permit (register (record { slots = r.slots; modes = r.modes; dregions = r.guard.now.d; iregions = r.guard.now.i }) csr);
     }

@@ -47,7 +47,7 @@ fn own_of(guard: &Guard, sched: &Sched, timers: &Timers, traps: &Traps, thread: 
 }
 
 /// Executes an instruction of a thread.
-fn execute_at(mut own: Own, rights: &Rights, x: &Decoded) -> Step
+fn execute_at(mut own: Own, rights: &Rights<'_>, x: &Decoded) -> Step
     requires pc { IsPc x.now.pc }
     requires trap { IsAlignedTrap own.trap }
     ensures did { did result.own result.done ≡ act (asked rights.now) x.now.pc own x.now.expired x.now.word x.now.a x.now.b }
@@ -67,7 +67,7 @@ fn execute_at(mut own: Own, rights: &Rights, x: &Decoded) -> Step
 }
 
 /// Executes an instruction of a thread; None exactly where that changes what the thread has or goes by it.
-fn execute_plainly(rights: &Rights, x: &Decoded) -> Option<Done>
+fn execute_plainly(rights: &Rights<'_>, x: &Decoded) -> Option<Done>
     requires { IsPc x.now.pc }
     ensures answers { is_some result ≡ leaves_own (asked rights.now) x.now.pc x.now.expired x.now.word x.now.a x.now.b }
     ensures did { IfSome result (λ done. (own : Own) → did own done ≡ act (asked rights.now) x.now.pc own x.now.expired x.now.word x.now.a x.now.b) }

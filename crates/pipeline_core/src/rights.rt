@@ -13,20 +13,20 @@ use timer_unit::Clock;
 /// What a thread's instruction asks, with the answers of the guard and of the machine's own
 /// registers as they stand when it is executed.
 #[derive(Clone, Copy, Debug)]
-pub struct Rights {
+pub struct Rights<'a> {
     pub thread: u8,
     pub clock: Clock,
     /// The cycle in which the instruction is executed, two after that of its issue.
     pub cycle: u64,
     pub confined: bool,
     pub permit: bool,
-    pub guard: Guard,
+    pub guard: &'a Guard,
     pub slots: u32,
     pub modes: u32,
     ghost early: { cycle < 4000000000 },
 }
 
-impl Rights {
+impl<'a> Rights<'a> {
     ghost use Rattle.pipeline_core.specs.Asked.{asked};
 
     /// The rights of a thread, for an instruction that was issued two cycles ago.
@@ -35,11 +35,11 @@ impl Rights {
         thread: u8,
         clock: &Clock,
         cycle: u64,
-        guard: &Guard,
+        guard: &'a Guard,
         sched: &Sched,
         confined: &[bool; 8],
         permit: &[bool; 8],
-    ) -> Rights
+    ) -> Rights<'a>
         requires thread { thread < 8 }
         requires cycle { cycle < 4000000000 }
         ensures { asked result ≡ around (time clock.now (cycle - 2)) guard.now.size confined.now permit.now (registers_by sched.now guard.now) thread }
@@ -50,14 +50,14 @@ impl Rights {
             cycle,
             confined: confined[thread as usize],
             permit: permit[thread as usize],
-            guard: *guard,
+            guard,
             slots: sched.slots.word(),
             modes: sched.modes.word(),
         }
     }
 }
 
-impl Surroundings for Rights {
+impl Surroundings for Rights<'_> {
     ghost use Rattle.pipeline_core.specs.Asked.{asked};
 
     ghost asks = { asked };
