@@ -92,20 +92,20 @@ fn memory_in(pieces: &[Piece]) -> Option<(i64, u8)>
             Piece::Opening,
             Piece::Name { text },
             Piece::Closing,
-        ] => {
-            let base = register(*text)?;
-            Some((i64::from(*value), base))
-        }
+        ] => match register(*text) {
+            Some(base) => Some((i64::from(*value), base)),
+            None => None,
+        },
         [
             Piece::Minus,
             Piece::Number { value },
             Piece::Opening,
             Piece::Name { text },
             Piece::Closing,
-        ] => {
-            let base = register(*text)?;
-            Some((-i64::from(*value), base))
-        }
+        ] => match register(*text) {
+            Some(base) => Some((-i64::from(*value), base)),
+            None => None,
+        },
         _ => None,
     }
 }
@@ -118,44 +118,44 @@ fn fill<'a>(slot: Slot, pieces: &[Piece<'a>], operands: &Operands<'a>) -> Option
     ensures registers { IfSome result (λ o. HasRegisters (operands_seen o)) }
 {
     match slot {
-        Slot::Rd => {
-            let rd = register_in(pieces)?;
-            Some(Operands { rd, ..*operands })
-        }
-        Slot::Rs1 => {
-            let rs1 = register_in(pieces)?;
-            Some(Operands { rs1, ..*operands })
-        }
-        Slot::Rs2 => {
-            let rs2 = register_in(pieces)?;
-            Some(Operands { rs2, ..*operands })
-        }
-        Slot::Csr => {
-            let csr_number = csr_in(pieces)?;
-            Some(Operands {
+        Slot::Rd => match register_in(pieces) {
+            Some(rd) => Some(Operands { rd, ..*operands }),
+            None => None,
+        },
+        Slot::Rs1 => match register_in(pieces) {
+            Some(rs1) => Some(Operands { rs1, ..*operands }),
+            None => None,
+        },
+        Slot::Rs2 => match register_in(pieces) {
+            Some(rs2) => Some(Operands { rs2, ..*operands }),
+            None => None,
+        },
+        Slot::Csr => match csr_in(pieces) {
+            Some(csr_number) => Some(Operands {
                 csr_number,
                 ..*operands
-            })
-        }
-        Slot::Number => {
-            let given = number_in(pieces)?;
-            Some(Operands { given, ..*operands })
-        }
-        Slot::Memory => {
-            let (given, rs1) = memory_in(pieces)?;
-            Some(Operands {
+            }),
+            None => None,
+        },
+        Slot::Number => match number_in(pieces) {
+            Some(given) => Some(Operands { given, ..*operands }),
+            None => None,
+        },
+        Slot::Memory => match memory_in(pieces) {
+            Some((given, rs1)) => Some(Operands {
                 given,
                 rs1,
                 ..*operands
-            })
-        }
-        Slot::Value => {
-            let target = target_in(pieces)?;
-            Some(Operands {
+            }),
+            None => None,
+        },
+        Slot::Value => match target_in(pieces) {
+            Some(target) => Some(Operands {
                 target,
                 ..*operands
-            })
-        }
+            }),
+            None => None,
+        },
     }
 }
 
@@ -173,8 +173,10 @@ pub(crate) fn fill_all<'a>(
     match (form, operands) {
         ([], []) => Some(*given),
         ([slot, slots @ ..], [pieces, others @ ..]) => {
-            let filled = fill(*slot, *pieces, given)?;
-            fill_all(slots, others, &filled)
+            match fill(*slot, *pieces, given) {
+                Some(filled) => fill_all(slots, others, &filled),
+                None => None,
+            }
         }
         ([], [_, ..]) => None,
         ([_, ..], []) => None,

@@ -51,52 +51,61 @@ pub(crate) fn instruction(plain: Plain, operands: &Operands) -> Option<Ins>
     match plain {
         Plain::Op(op) => Some(Ins::Op { op, rd, rs1, rs2 }),
         Plain::Muldiv(op) => Some(Ins::Muldiv { op, rd, rs1, rs2 }),
-        Plain::OpImm(op) => {
-            let imm = signed_12(number)?;
-            Some(Ins::OpImm { op, rd, rs1, imm })
-        }
-        Plain::Shift(op) => {
-            let amount = up_to(31, number)? as u8;
-            Some(Ins::Shift {
+        Plain::OpImm(op) => match signed_12(number) {
+            Some(imm) => Some(Ins::OpImm { op, rd, rs1, imm }),
+            None => None,
+        },
+        Plain::Shift(op) => match up_to(31, number) {
+            Some(amount) => Some(Ins::Shift {
                 op,
                 rd,
                 rs1,
-                amount,
-            })
-        }
-        Plain::Load(op) => {
-            let imm = signed_12(number)?;
-            Some(Ins::Load { op, rd, rs1, imm })
-        }
-        Plain::Store(op) => {
-            let imm = signed_12(number)?;
-            Some(Ins::Store { op, rs1, rs2, imm })
-        }
-        Plain::Jalr => {
-            let imm = signed_12(number)?;
-            Some(Ins::Jalr { rd, rs1, imm })
-        }
-        Plain::Lui => {
-            let imm = up_to(1_048_575, number)?;
-            Some(Ins::Lui { rd, imm })
-        }
-        Plain::Auipc => {
-            let imm = up_to(1_048_575, number)?;
-            Some(Ins::Auipc { rd, imm })
-        }
-        Plain::Csr(op) => {
-            let csr = up_to(4095, i64::from(operands.csr_number))? as u16;
-            Some(Ins::Csr {
+                amount: amount as u8,
+            }),
+            None => None,
+        },
+        Plain::Load(op) => match signed_12(number) {
+            Some(imm) => Some(Ins::Load { op, rd, rs1, imm }),
+            None => None,
+        },
+        Plain::Store(op) => match signed_12(number) {
+            Some(imm) => Some(Ins::Store { op, rs1, rs2, imm }),
+            None => None,
+        },
+        Plain::Jalr => match signed_12(number) {
+            Some(imm) => Some(Ins::Jalr { rd, rs1, imm }),
+            None => None,
+        },
+        Plain::Lui => match up_to(1_048_575, number) {
+            Some(imm) => Some(Ins::Lui { rd, imm }),
+            None => None,
+        },
+        Plain::Auipc => match up_to(1_048_575, number) {
+            Some(imm) => Some(Ins::Auipc { rd, imm }),
+            None => None,
+        },
+        Plain::Csr(op) => match up_to(4095, i64::from(operands.csr_number)) {
+            Some(csr) => Some(Ins::Csr {
                 op,
                 rd,
-                csr,
+                csr: csr as u16,
                 src: rs1,
-            })
-        }
+            }),
+            None => None,
+        },
         Plain::CsrImm(op) => {
-            let csr = up_to(4095, i64::from(operands.csr_number))? as u16;
-            let src = up_to(31, number)? as u8;
-            Some(Ins::Csr { op, rd, csr, src })
+            match (
+                up_to(4095, i64::from(operands.csr_number)),
+                up_to(31, number),
+            ) {
+                (Some(csr), Some(src)) => Some(Ins::Csr {
+                    op,
+                    rd,
+                    csr: csr as u16,
+                    src: src as u8,
+                }),
+                _ => None,
+            }
         }
         Plain::Gt => Some(Ins::Gt { rd }),
         Plain::Gth => Some(Ins::Gth { rd }),

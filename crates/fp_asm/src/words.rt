@@ -5,7 +5,7 @@ ghost use Rattle.rv_decode.specs.Range.{IsEven};
 ghost use Rattle.rv_decode.specs.declared.instruction.Ins.TheVariants as made;
 ghost use Rattle.fp_asm.specs.Operands.{HasRegisters};
 ghost use Rattle.fp_asm.specs.Statements.{checked};
-ghost use Rattle.fp_asm.specs.Second.{way as way_of, jump as jump_of, words_of as words_of_statement, plain_word, branch_word, jal_word, address_words, value_words};
+ghost use Rattle.fp_asm.specs.Second.{way as way_of, jump as jump_of, words_of as words_of_statement, one_word as one_word_of, plain_word, branch_word, jal_word, address_words, value_words};
 ghost use Rattle.fp_asm.specs.Faults.{IsStopOf};
 ghost use Rattle.fp_asm.specs.Views.{labels_seen};
 ghost use Rattle.fp_asm.specs.Seen.{target_seen, operands_seen, statement_seen};
@@ -115,6 +115,15 @@ fn values(alloc: Global, labels: &Labels, targets: &[Target]) -> Result<Vec<u32>
     Ok(words)
 }
 
+// A word as a list, where there is one.
+fn one_word(alloc: Global, word: Result<u32, AsmNo>) -> Result<Vec<u32>, Stop>
+    ensures words { IfOk result (λ words. one_word_of word ≡ Ok words.items) }
+    ensures refused { IfErr result (IsStopOf (one_word_of word)) }
+{
+    let word = word?;
+    Ok(vec![in alloc; word]?)
+}
+
 /// The words that a statement makes at a place.
 #[tactic(auto, unfolding(crate::specs::Second::words_of))]
 pub(crate) fn words_of(
@@ -132,18 +141,9 @@ pub(crate) fn words_of(
 {
     let operands = &statement.operands;
     match statement.makes {
-        Makes::Plain(makes) => {
-            let word = plain(makes, operands)?;
-            Ok(vec![in alloc; word]?)
-        }
-        Makes::Branch(op) => {
-            let word = branch(op, labels, place, operands)?;
-            Ok(vec![in alloc; word]?)
-        }
-        Makes::Jal => {
-            let word = jal(labels, place, operands)?;
-            Ok(vec![in alloc; word]?)
-        }
+        Makes::Plain(makes) => one_word(alloc, plain(makes, operands)),
+        Makes::Branch(op) => one_word(alloc, branch(op, labels, place, operands)),
+        Makes::Jal => one_word(alloc, jal(labels, place, operands)),
         Makes::Li => Ok(load_words(alloc, operands.rd, low_word(operands.given))?),
         Makes::La => address(alloc, labels, operands),
         Makes::Words => values(alloc, labels, statement.values.as_slice()),
