@@ -18,3 +18,12 @@ loop-index-preserved c =
       rising = grind (arith, common_steps);
       reached = grind (arith, common_steps);
     }
+
+pub returns-in_err-input-clause-read : goal.returns-in_err-input-clause-read
+returns-in_err-input-clause-read c = grind (arith, common_steps)
+
+pub returns-clause-read : goal.returns-clause-read
+returns-clause-read c = grind (arith, common_steps)
+
+pub returns-clause-rules : goal.returns-clause-rules
+returns-clause-rules c = grind (arith, common_steps)

@@ -1,10 +1,11 @@
-use Rattle.std.proofs.Common.{◌≡◌, ap, ◌∙◌, None}
+use Rattle.std.proofs.Common.{◌≡◌, ap, ◌∙◌, None, rules}
 use Rattle.std.proofs.lemmas.Result.{err_from_is_err_and}
 use Rattle.toml.specs.Data.{Members}
 use Rattle.toml.specs.View.{table_view}
 use Rattle.fp_setup.specs.declared.thread_rows.ThreadRows.{ThreadRows}
 use Rattle.fp_setup.specs.Settings.{size_of}
-use Rattle.fp_setup.specs.Meaning.{version_at, word_of}
+use Rattle.fp_setup.specs.Tables.{top_fault, unknown_fault}
+use Rattle.fp_setup.specs.Meaning.{version_at, word_of, settings}
 use Rattle.fp_setup.proofs.TopTable.{IsGoodSoFar, threads_check, found-image, found-threads, top_fault-last, settings-from}
 use Rattle.fp_setup.proofs.reader.top_table.Goals as goal
 
@@ -69,3 +70,27 @@ returns c =
           (c.word_of_modes.ensures.word ∙ ap (word_of 4) (ap (λ (r : ThreadRows). r.modes) rows)) c.in_ok-iregions.ensures.read.1 c.in_ok-dregions.ensures.read.1
           c.in_ok-image.ensures.read.1 (ap (λ (r : ThreadRows). r.threads) rows) c.in_ok-loops.ensures.read.1,
     )
+
+pub returns-in_err-no_other_key : goal.returns-in_err-no_other_key
+unfolding top_fault
+returns-in_err-no_other_key c = search rules
+
+pub returns-in_err-version : goal.returns-in_err-version
+unfolding top_fault
+returns-in_err-version c = search rules
+
+pub returns-in_err-period : goal.returns-in_err-period
+unfolding top_fault
+returns-in_err-period c = search rules
+
+pub returns-in_err-slots : goal.returns-in_err-slots
+unfolding top_fault unknown_fault settings
+returns-in_err-slots c = search rules
+
+pub returns-in_err-iregions : goal.returns-in_err-iregions
+unfolding top_fault unknown_fault settings
+returns-in_err-iregions c = search rules
+
+pub returns-in_err-dregions : goal.returns-in_err-dregions
+unfolding top_fault unknown_fault settings
+returns-in_err-dregions c = search rules

@@ -1,4 +1,5 @@
 use Rattle.std.proofs.Common.{◌≡◌, ◌<◌, ◌==◌, ◌+◌, ℕ, List, [], ◌∷◌, ◌++◌, length, map, false, None, nat_lt, take, length-set, refl, ap, subst, ◌∙◌, arith}
+use Rattle.std.proofs.lemmas.Grind.{common_steps}
 use Rattle.std.specs.List.{list_all, list_any}
 use Rattle.std.proofs.lemmas.List.Elements.{All-same, All-replicate, All-set}
 use Rattle.toml.specs.View.{view}
@@ -60,3 +61,9 @@ loop-index-preserved c =
       each = All-same IsThread _ _ c.put.ensures.threads (All-set IsThread c.loop-index.rows.threads row.id row.thread c.in_ok-row.ensures.rules before.each);
       inside = All-same (λ (t : ThreadSetup). t.entry < c.args.size) _ _ c.put.ensures.threads (All-set (λ (t : ThreadSetup). t.entry < c.args.size) c.loop-index.rows.threads row.id row.thread c.in_ok-row.ensures.inside before.inside);
     }
+
+pub returns-in_err-row-clause-read : goal.returns-in_err-row-clause-read
+returns-in_err-row-clause-read c = grind (arith, common_steps)
+
+pub returns-clause-read : goal.returns-clause-read
+returns-clause-read c = grind (arith, common_steps)
