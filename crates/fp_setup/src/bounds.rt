@@ -7,7 +7,7 @@ ghost use Rattle.fp_setup.specs.Settings.{size_of};
 ghost use Rattle.fp_setup.specs.Checks.{is_in};
 
 /// The multiples of `step` from `low` to `high`. The step isn't 0.
-#[derive(Clone, Copy, Debug, PartialEq, Eq)]
+#[derive(Clone, Copy)]
 pub(crate) struct Range {
     pub low: u32,
     pub high: u32,

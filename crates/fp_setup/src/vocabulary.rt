@@ -6,7 +6,7 @@ ghost use Rattle.fp_setup.specs.Vocabulary.{is_value, number_in, number_of, refu
 use crate::refusal::SetupNo;
 
 /// A list of texts, each of which stands for a number.
-#[derive(Clone, Copy, Debug, PartialEq, Eq)]
+#[derive(Clone, Copy)]
 pub(crate) enum Words {
     /// The slots of the frame.
     Slots,

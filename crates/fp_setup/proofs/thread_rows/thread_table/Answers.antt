@@ -1,35 +1,36 @@
-use Rattle.std.proofs.Common.{rules}
+use Rattle.std.proofs.Common.{arith}
+use Rattle.std.proofs.lemmas.Grind.{common_steps}
 use Rattle.fp_setup.specs.Tables.{thread_table_fault}
 use Rattle.fp_setup.proofs.thread_rows.thread_table.Goals as goal
 
 pub returns-in_err-no_other_key : goal.returns-in_err-no_other_key
 unfolding thread_table_fault
-returns-in_err-no_other_key c = search rules
+returns-in_err-no_other_key c = grind (arith, common_steps)
 
 pub returns-in_err-id : goal.returns-in_err-id
 unfolding thread_table_fault
-returns-in_err-id c = search rules
+returns-in_err-id c = grind (arith, common_steps)
 
 pub returns-in_err-mode : goal.returns-in_err-mode
 unfolding thread_table_fault
-returns-in_err-mode c = search rules
+returns-in_err-mode c = grind (arith, common_steps)
 
 pub returns-in_err-entry : goal.returns-in_err-entry
 unfolding thread_table_fault
-returns-in_err-entry c = search rules
+returns-in_err-entry c = grind (arith, common_steps)
 
 pub returns-in_err-confined : goal.returns-in_err-confined
 unfolding thread_table_fault
-returns-in_err-confined c = search rules
+returns-in_err-confined c = grind (arith, common_steps)
 
 pub returns-in_err-permit : goal.returns-in_err-permit
 unfolding thread_table_fault
-returns-in_err-permit c = search rules
+returns-in_err-permit c = grind (arith, common_steps)
 
 pub returns-in_err-unplug : goal.returns-in_err-unplug
 unfolding thread_table_fault
-returns-in_err-unplug c = search rules
+returns-in_err-unplug c = grind (arith, common_steps)
 
 pub returns-in_err-inputs : goal.returns-in_err-inputs
 unfolding thread_table_fault
-returns-in_err-inputs c = search rules
+returns-in_err-inputs c = grind (arith, common_steps)
