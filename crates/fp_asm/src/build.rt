@@ -23,7 +23,6 @@ fn word_at(memory: &BTreeMap<u32, u32>, a: u32) -> u32
 }
 
 // The bytes of the words of a run.
-#[tactic(auto, using(crate::proofs::RunByRun::bytes_start, crate::proofs::RunByRun::bytes_here, crate::proofs::RunByRun::bytes_end))]
 fn bytes_of(alloc: Global, memory: &BTreeMap<u32, u32>, run: &Run) -> Result<Vec<u8>, AllocError>
     requires { run.now.first + 4 * run.now.count < 2 ^ 32 }
     ensures { IfOk result (λ bytes. bytes.items ≡ bytes_from memory.now.entries run.now.first run.now.count) }

@@ -64,7 +64,6 @@ impl<'a> First<'a> {
     }
 
     /// The first pass over the lines.
-    #[tactic(auto, using(crate::proofs::PassByPass::first_here, crate::proofs::PassByPass::first_end, crate::proofs::PassByPass::first_fault))]
     pub(crate) fn pass(&mut self, alloc: Global, lines: &[&'a [u8]]) -> Result<(), AsmRefused>
         requires short { All (λ l. length l.now < 2 ^ 32) lines.now }
         requires few { length lines.now < 2 ^ 31 }

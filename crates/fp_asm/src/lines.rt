@@ -18,7 +18,6 @@ fn without_return(line: &[u8]) -> &[u8]
 }
 
 /// The lines of a source.
-#[tactic(auto, using(crate::proofs::LineByLine::lines_start, crate::proofs::LineByLine::lines_on, crate::proofs::LineByLine::lines_push, crate::proofs::LineByLine::lines_last))]
 pub(crate) fn lines<'a>(alloc: Global, source: &'a [u8]) -> Result<Vec<&'a [u8]>, AllocError>
     ensures lines { IfOk result (λ lines. map (λ line. line.now) lines.items ≡ lines_of source.now) }
     ensures short { IfOk result (λ lines. All (λ line. length line.now ≤ length source.now) lines.items) }

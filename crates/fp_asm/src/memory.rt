@@ -6,7 +6,6 @@ use std::alloc::AllocError;
 use std::collections::BTreeMap;
 
 /// Writes words from a place on.
-#[tactic(auto, using(crate::proofs::WordByWord::words_start, crate::proofs::WordByWord::words_here, crate::proofs::WordByWord::words_end))]
 pub(crate) fn write_words(
     memory: &mut BTreeMap<u32, u32>,
     place: u32,

@@ -97,7 +97,6 @@ fn is_comma(piece: &Piece) -> bool
     matches!(piece, Piece::Comma)
 }
 
-#[tactic(auto, using(crate::proofs::CommaByComma::commas_start, crate::proofs::CommaByComma::commas_on, crate::proofs::CommaByComma::commas_push, crate::proofs::CommaByComma::commas_last))]
 fn between_commas<'p, 'a>(
     alloc: Global,
     pieces: &'p [Piece<'a>],

@@ -76,7 +76,6 @@ impl Second {
     }
 
     /// The second pass over the lines.
-    #[tactic(auto, using(crate::proofs::PassByPass::second_here, crate::proofs::PassByPass::second_end, crate::proofs::PassByPass::second_fault))]
     pub(crate) fn pass(
         &mut self,
         alloc: Global,

@@ -4,6 +4,7 @@ use Rattle.clap.specs.Words.{App, app_of}
 use Rattle.ask_words.specs.Rules.{file_rule}
 use Rattle.ask_words.proofs.Built.{and_option, options_added}
 use Rattle.ask_words.proofs.Counts.{left_of}
+use Rattle.std.proofs.lemmas.Grind.{common_steps}
 use Rattle.ask_words.proofs.parse.command_of.Goals as goal
 
 pub loop-option-init : goal.loop-option-init
@@ -20,3 +21,12 @@ loop-option-preserved c =
     let split = left_of (λ (n : Bor (List ℕ)). n.now) options i (record { ref_ptr = (0, 0); now = [] }) inside in
     c.loop-option.invariant
     ∙ (ap (fold and_option (app_of c.loop-option.command)) split ∙ ap (λ (a : App). fold and_option a rest) (sym c.in_ok-command-2.ensures))
+
+pub returns : goal.returns
+returns c = grind (arith, common_steps)
+
+pub returns-in_err-command : goal.returns-in_err-command
+returns-in_err-command c = grind (arith, common_steps)
+
+pub returns-in_err-command-2 : goal.returns-in_err-command-2
+returns-in_err-command-2 c = grind (arith, common_steps)

@@ -3,6 +3,8 @@ use Rattle.fp_asm.specs.Runs.{runs_of, ArePlaced}
 use Rattle.fp_asm.specs.Passed.{placed_seen}
 use Rattle.fp_asm.proofs.Soundness.{first_placed}
 use Rattle.fp_asm.proofs.Segments.{placed_few, runs_image}
+use Rattle.std.proofs.lemmas.Grind.{common_steps}
+use Rattle.fp_asm.specs.Source.{assembled_lines}
 use Rattle.fp_asm.proofs.assembler.assemble_lines.Goals as goal
 
 pub runs_of-requires : goal.runs_of-requires
@@ -18,3 +20,19 @@ image_of-requires c =
     let rising : ArePlaced 0 c.as_slice.result.now = rw same placed in
     let few : length (runs_of c.as_slice.result.now) ≤ 16 = omega (arith, c.len.ensures, ap length c.in_ok-runs.ensures, c.if-len-gt16.false) in
     rw (c.as_slice-2.ensures.value ∙ c.in_ok-runs.ensures) (runs_image c.pass-2.new.self.memory.entries c.as_slice.result.now rising few)
+
+pub returns-clause-image : goal.returns-clause-image
+unfolding assembled_lines
+returns-clause-image c = grind (arith, common_steps)
+
+pub returns-in_err-pass-clause-refused : goal.returns-in_err-pass-clause-refused
+unfolding assembled_lines
+returns-in_err-pass-clause-refused c = grind (arith, common_steps)
+
+pub returns-in_err-pass-2-clause-refused : goal.returns-in_err-pass-2-clause-refused
+unfolding assembled_lines
+returns-in_err-pass-2-clause-refused c = grind (arith, common_steps)
+
+pub returns-then-len-gt16-clause-refused : goal.returns-then-len-gt16-clause-refused
+unfolding assembled_lines
+returns-then-len-gt16-clause-refused c = grind (arith, common_steps)

@@ -1,5 +1,5 @@
 use Rattle.std.proofs.Common.{rules, arith}
-use Rattle.fp_asm.proofs.LineByLine.{lines_push}
+use Rattle.fp_asm.proofs.LineByLine.{lines_push, lines_start, lines_on, lines_last}
 use Rattle.fp_asm.proofs.lines.lines.Goals as goal
 
 pub loop-i-preserved : goal.loop-i-preserved
@@ -9,3 +9,12 @@ loop-i-preserved c = record {
   short = search rules;
   few = omega (arith, c.push.ensures);
 }
+
+pub loop-i-init : goal.loop-i-init
+loop-i-init c = grind (arith, lines_start)
+
+pub loop-i-preserved-then-source-i-ne10 : goal.loop-i-preserved-then-source-i-ne10
+loop-i-preserved-then-source-i-ne10 c = grind (arith, lines_on)
+
+pub returns-clause-lines : goal.returns-clause-lines
+returns-clause-lines c = grind (arith, lines_last)

@@ -1,7 +1,6 @@
 use Rattle.std.proofs.Common.{arith}
 use Rattle.std.proofs.lemmas.Grind.{common_steps}
-use Rattle.fp_asm.specs.First.{first_line}
-use Rattle.fp_asm.specs.First.{placed_by}
+use Rattle.fp_asm.specs.First.{first_line, placed_by}
 use Rattle.fp_asm.proofs.first.First.line.Goals as goal
 
 pub returns-clause-ok : goal.returns-clause-ok
