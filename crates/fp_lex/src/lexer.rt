@@ -28,7 +28,7 @@ pub fn tokens(alloc: Global, line: &[u8]) -> Result<Tokens, LexNo>
     Ok(Tokens::new(list_of(alloc, line)?))
 }
 
-#[tactic(auto, using(crate::proofs::Along::left_start, crate::proofs::Along::left_blank, crate::proofs::Along::left_hash, crate::proofs::Along::left_end, crate::proofs::Along::left_token, crate::proofs::Along::left_fault), unfolding(crate::specs::Tokens::tokens_of))]
+#[tactic(auto, unfolding(crate::specs::Tokens::tokens_of))]
 fn list_of(alloc: Global, line: &[u8]) -> Result<Vec<Token>, LexNo>
     requires { length line.now < 2 ^ 32 }
     ensures tokens { IfOk result (λ ts. tokens_of line.now ≡ Ok ts.items) }

@@ -81,7 +81,7 @@ fn number_at(i: u32, bytes: &[u8]) -> Result<Token, LexNo>
 }
 
 // The token at column i, where these bytes begin.
-#[tactic(auto, using(crate::proofs::Runs::run_some), unfolding(crate::specs::Tokens::token_at))]
+#[tactic(auto, unfolding(crate::specs::Tokens::token_at))]
 fn token_at(i: u32, bytes: &[u8]) -> Result<Token, LexNo>
     requires end { i + length bytes.now < 2 ^ 32 }
     requires some { 0 < length bytes.now }
