@@ -1,14 +1,15 @@
 //! The run.
 
-ghost use Rattle.std.specs.Prelude.{◌≡◌, ℕ, ◌<◌, ◌≤◌, vec_len, OnOk, OnErr, IfOk};
+ghost use Rattle.std.specs.Prelude.{◌≡◌, ℕ, ◌<◌, ◌≤◌, List, Option, length, vec_len, OnOk, OnErr, IfOk};
 ghost use Rattle.std.specs.Io.KnownBytes.{Appends};
 ghost use Rattle.fp_io.specs.Causes.{Rose};
 ghost use Rattle.fp_io.specs.Content.{AppendsFront};
-ghost use Rattle.fp_ports.specs.Rows.{rows_of};
+ghost use Rattle.fp_ports.specs.Rows.{Row, rows_of};
 ghost use Rattle.setup_model.specs.Start.{no_ports};
 ghost use Rattle.pipeline_core.specs.Fits.{IsEventShowable};
 ghost use Rattle.world_model.specs.World.{Start};
-ghost use Rattle.machine.specs.Meaning.{StandsFor};
+ghost use Rattle.machine.specs.Meaning.{StandsFor, start_beside};
+ghost use Rattle.selfrun.specs.Drawn.{own_setup, programs};
 ghost use Rattle.selfrun.specs.Counting.{AreFew, counted, tallies_of};
 ghost use Rattle.selfrun.specs.Text.{own_tallies, selfrun_text, tallies_text, tally_at, tally_line};
 
@@ -50,6 +51,16 @@ fn count(tallies: &mut [Tally; 8], event: &Option<Event>)
     }
 }
 
+/// The machine with the drawn programs, at its start.
+fn own_machine(alloc: Global, number: u32) -> Result<Machine, AllocError>
+    ensures stands { IfOk result (λ m. (ports : List (Option Row)) (n : ℕ) → length ports ≡ 8 → StandsFor (start_beside own_setup (programs number) ports n) 0 n m ports) }
+    ensures start { IfOk result (λ m. m.at ≡ 0) }
+{
+    let setup = own_setup(alloc)?;
+    let image = drawn_image(alloc, number)?;
+    Machine::load(alloc, &setup, &image)
+}
+
 /// Runs a machine for so many cycles from its start, and counts the events of each thread as they retire.
 fn tallies(machine: &mut Machine, cycles: u64, ports: &mut Ports) -> [Tally; 8]
     requires start { machine.old.at ≡ 0 }
@@ -83,12 +94,13 @@ impl Selfrun {
         ensures tallies { IfOk result (λ r. r.tallies ≡ own_tallies number) }
         ensures text { IfOk result (λ r. tallies_text r.tallies ≡ selfrun_text number) }
     {
-        let setup = own_setup(alloc)?;
-        let image = drawn_image(alloc, number)?;
         let mut ports = no_ports(alloc)?;
-        let mut machine = Machine::load(alloc, &setup, &image)?;
-        let tallies = tallies(&mut machine, CYCLES, &mut ports);
-        Ok(Selfrun { tallies })
+        match own_machine(alloc, number) {
+            Ok(mut machine) => Ok(Selfrun {
+                tallies: tallies(&mut machine, CYCLES, &mut ports),
+            }),
+            Err(error) => Err(error),
+        }
     }
 
     /// Puts a line for each thread, in order, by one call each: `T0 events 12345 fold 0123abcd`.
