@@ -1,10 +1,12 @@
 //! What a command will write, before the first byte of it is written.
 
-ghost use Rattle.std.specs.Prelude.{◌≡◌, ◌≢◌, ◌⊎◌, ◌≤◌, ◌<◌, Ok, Err, IfOk, IfErr, IfSome, List, Option, vec_len};
+ghost use Rattle.std.specs.Prelude.{◌≡◌, ◌≢◌, ◌⊎◌, ◌≤◌, ◌<◌, ℕ, Ok, Err, IfOk, IfErr, OnOk, IfSome, List, Option, length, vec_len};
 ghost use Rattle.fp_io.specs.Content.{FileMap};
 ghost use Rattle.fp_ports.specs.Rows.{Row, rows_of};
 ghost use Rattle.ask_words.specs.Limits.{IsWithinLimits};
 ghost use Rattle.ask_words.specs.declared.asked.Ask.{Ask};
+ghost use Rattle.machine.specs.Feeding.{fed_all};
+ghost use Rattle.machine.specs.Meaning.{StandsFor, start_beside};
 ghost use Rattle.flexpret_top.specs.Assembled.{asm_answer};
 ghost use Rattle.flexpret_top.specs.Bound.{IsBoundAnswer};
 ghost use Rattle.flexpret_top.specs.Command.{IsAnswerIn, IsApart};
@@ -15,7 +17,7 @@ ghost use Rattle.flexpret_top.specs.declared.stop.Stop.TheVariants.{NoMemory};
 
 use crate::assembling::image_bytes;
 use crate::bound::section_bound;
-use crate::program::load;
+use crate::program::{Program, load};
 use crate::ready::{Prepared, Ready};
 use crate::stop::Stop;
 use ask_words::{Ask, Section};
@@ -23,7 +25,28 @@ use fp_io::Files;
 use fp_ports::Ports;
 use machine::{Machine, feed_inputs};
 use selfrun::Selfrun;
-use std::alloc::Global;
+use std::alloc::{AllocError, Global};
+
+/// The machine of a program, with the ports fed.
+fn machine_beside(
+    alloc: Global,
+    program: &Program,
+    ports: &mut Ports,
+) -> Result<Machine, AllocError>
+    requires eight { vec_len ports.old ≡ 8 }
+    ensures stands { IfOk result (λ m. (ports : List (Option Row)) (n : ℕ) → length ports ≡ 8 → StandsFor (start_beside program.now.setup program.now.image ports n) 0 n m ports) }
+    ensures start { IfOk result (λ m. m.at ≡ 0) }
+    ensures fed { OnOk result (rows_of latched word_at ports.new.items ≡ fed_all program.now.setup (rows_of latched word_at ports.old.items)) }
+    ensures eight { vec_len ports.new ≡ 8 }
+{
+    match Machine::load(alloc, &program.setup, &program.image) {
+        Ok(machine) => match feed_inputs(&program.setup, ports) {
+            Ok(()) => Ok(machine),
+            Err(error) => Err(error),
+        },
+        Err(error) => Err(error),
+    }
+}
 
 /// The machine of a setup and the image that it names, with the ports fed.
 fn ready<F: Files>(
@@ -43,10 +66,13 @@ fn ready<F: Files>(
     ensures kept { IfErr result (λ stop. stop ≢ NoMemory → ports.new ≡ ports.old) }
     ensures eight { vec_len ports.new ≡ 8 }
 {
-    let program = load(alloc, setup, files)?;
-    let machine = Machine::load(alloc, &program.setup, &program.image)?;
-    feed_inputs(&program.setup, ports)?;
-    Ok(Ready { machine, cycles })
+    match load(alloc, setup, files) {
+        Ok(program) => match machine_beside(alloc, &program, ports) {
+            Ok(machine) => Ok(Ready { machine, cycles }),
+            Err(AllocError) => Err(Stop::NoMemory),
+        },
+        Err(stop) => Err(stop),
+    }
 }
 
 /// `run SETUP --thread i --cycles n`
@@ -122,12 +148,17 @@ fn bound<F: Files>(
     ensures apart { IfOk result IsApartFrom }
     ensures stop { IfErr result (IsStop (F.told files.old) (λ told x. IsBoundAnswer (program told setup.now) thread (record { from = section.from; to = section.to }) x) (F.faults files.old) (F.faults files.new)) }
 {
-    let program = load(alloc, setup, files)?;
     let section = region_tree::Section {
         from: section.from,
         to: section.to,
     };
-    Ok(Prepared::Bound(section_bound(alloc, &program, thread, section)?))
+    match load(alloc, setup, files) {
+        Ok(program) => match section_bound(alloc, &program, thread, section) {
+            Ok(cycles) => Ok(Prepared::Bound(cycles)),
+            Err(stop) => Err(stop),
+        },
+        Err(stop) => Err(stop),
+    }
 }
 
 /// `selfrun NUMBER`

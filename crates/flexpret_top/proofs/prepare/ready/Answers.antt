@@ -1,12 +1,9 @@
-use Rattle.std.proofs.Common.{refl, ◌∙◌, sym}
-use Rattle.flexpret_top.proofs.Preparing.{ready-beside, none-there}
+use Rattle.std.proofs.Common.{sym, ◌∙◌}
+use Rattle.flexpret_top.proofs.Preparing.{ready-beside}
 use Rattle.flexpret_top.proofs.prepare.ready.Goals as goal
 
-pub invariant_of-result : goal.invariant_of-result
-invariant_of-result g c = record { start = (c.in_ok-machine.ensures.stands none-there 0 refl).cycle; limit = c.requires.limit }
-
-pub returns-clause-ok : goal.returns-clause-ok
-returns-clause-ok g c =
-    ready-beside _ _ (g.F.Files.told c.args.files.now) c.args.setup.now c.args.ports.now.items c.feed_inputs.new.ports.items c.in_ok-program.program _
-    c.in_ok-program.ensures.ok c.in_ok-feed_inputs.ensures.ok (sym c.args.ports.now.ok.0 ∙ c.requires.eight) (sym c.feed_inputs.new.ports.ok.0 ∙ c.in_ok-feed_inputs.ensures.eight)
-    c.requires.limit c.in_ok-machine.ensures.stands
+pub returns-in-Ok-machine_beside-clause-ok : goal.returns-in-Ok-machine_beside-clause-ok
+returns-in-Ok-machine_beside-clause-ok g c =
+    ready-beside _ _ (g.F.Files.told c.args.files.now) c.args.setup.now c.args.ports.now.items c.machine_beside.new.ports.items c.in-Ok.program _
+    c.in-Ok.ensures.ok c.in-Ok-machine_beside.ensures.fed (sym c.args.ports.now.ok.0 ∙ c.requires.eight) (sym c.machine_beside.new.ports.ok.0 ∙ c.in-Ok-machine_beside.ensures.eight)
+    c.requires.limit c.in-Ok-machine_beside.ensures.stands
