@@ -10,7 +10,5 @@ mod program;
 mod ready;
 mod status;
 mod stop;
-#[cfg(test)]
-mod tests;
 
 pub use command::flexpret;

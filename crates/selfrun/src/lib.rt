@@ -9,6 +9,3 @@ mod tally;
 
 pub use running::Selfrun;
 pub use tally::Tally;
-
-#[cfg(test)]
-mod tests;

@@ -1,22 +1,31 @@
-//! The abbreviations of the table: a full stop stands for eight zeros, a star for eight words of
+//! The abbreviations of the tables: a full stop stands for eight zeros, a star for eight words of
 //! zeros, each with a space before it.
 
-use std::alloc::{AllocError, Global};
+use std::alloc::AllocError;
 
-/// Appends a line of a text.
-pub fn push_line(text: &mut String, line: &str) -> Result<(), AllocError> {
-    for c in line.chars() {
-        match c {
-            '.' => text.push_str("00000000")?,
-            '*' => {
+/// Appends a text with these abbreviations.
+pub fn push_expanded(to: &mut Vec<u8>, text: &str) -> Result<(), AllocError> {
+    for byte in text.as_bytes() {
+        match *byte {
+            b'.' => to.extend_from_slice(b"00000000")?,
+            b'*' => {
                 for _word in 0..8u8 {
-                    text.push_str(" 00000000")?;
+                    to.extend_from_slice(b" 00000000")?;
                 }
             }
-            _ => text.push(c)?,
+            byte => to.push(byte)?,
         }
     }
-    text.push('\n')
+    Ok(())
+}
+
+/// Appends a line of a trace, whose cycle is put right in ten places.
+pub fn push_event(to: &mut Vec<u8>, line: &str) -> Result<(), AllocError> {
+    let digits = line.find(' ').unwrap_or(0);
+    for _place in digits..10 {
+        to.push(b' ')?;
+    }
+    push_expanded(to, line)
 }
 
 /// The value of a hexadecimal digit in lower case; 0 for another byte.

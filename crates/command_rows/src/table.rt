@@ -1,0 +1,220 @@
+//! The tables of command lines with their answers.
+
+use crate::expanded::{push_bytes, push_event, push_expanded};
+use std::alloc::{AllocError, Global};
+
+/// A file that is there from its place in the table on.
+#[derive(Drop)]
+pub struct File {
+    pub name: String,
+    pub bytes: Vec<u8>,
+}
+
+/// A call of `put` that fails, and how many bytes it takes.
+#[derive(Clone, Copy)]
+pub struct Cut {
+    pub call: u32,
+    pub taken: usize,
+}
+
+/// The calls that fail.
+#[derive(Clone, Copy)]
+pub struct Fails {
+    pub fetch: Option<u32>,
+    pub put: Option<Cut>,
+}
+
+/// How the lines of a text are written in the table.
+#[derive(Clone, Copy)]
+enum Style {
+    /// As they are. No line end follows a line whose last byte is a backslash, and that isn't written.
+    Plain,
+    /// With the abbreviations of a dump, or of a trace.
+    Dump,
+    Trace,
+    /// In hexadecimal digits.
+    Digits,
+}
+
+/// A command line, with how many of the case's files are there and which calls fail; and its answer:
+/// its status, what it writes, and what is left at the ports, where that is asked.
+#[derive(Drop)]
+pub struct Command {
+    pub line: String,
+    pub files: usize,
+    pub fails: Fails,
+    pub status: u8,
+    pub text: Vec<u8>,
+    pub ports: Option<String>,
+}
+
+/// Devices and files, and command lines over them.
+#[derive(Drop)]
+pub struct Case {
+    pub name: String,
+    pub ports: String,
+    pub files: Vec<File>,
+    pub commands: Vec<Command>,
+}
+
+/// What the lines belong to that follow.
+#[derive(Clone, Copy)]
+enum Part {
+    Head,
+    File(Style),
+    Text(Style),
+    Ports,
+}
+
+/// How the text of a command is written.
+fn style_of(status: u8, line: &str) -> Style {
+    if status != 0 {
+        Style::Plain
+    } else if line.starts_with("run") {
+        Style::Trace
+    } else if line.starts_with("dump") {
+        Style::Dump
+    } else if line.starts_with("asm") {
+        Style::Digits
+    } else {
+        Style::Plain
+    }
+}
+
+/// Appends a line that is written so.
+fn push_line(to: &mut Vec<u8>, style: Style, line: &str) -> Result<(), AllocError> {
+    match style {
+        Style::Digits => return push_bytes(to, line),
+        Style::Plain => match line.strip_suffix('\\') {
+            Some(front) => return to.extend_from_slice(front.as_bytes()),
+            None => to.extend_from_slice(line.as_bytes())?,
+        },
+        Style::Dump => push_expanded(to, line)?,
+        Style::Trace => push_event(to, line)?,
+    }
+    to.push(b'\n')?;
+    Ok(())
+}
+
+/// The calls that fail, of a command's head as `7 fetch 0` or `8 put 3 5`.
+fn fails_of(head: &str) -> Fails {
+    let mut words = head.split_whitespace().skip(1);
+    let kind = words.next().unwrap_or("");
+    let call = words.next().and_then(|call| call.parse().ok());
+    let taken = words
+        .next()
+        .and_then(|taken| taken.parse().ok())
+        .unwrap_or(0);
+    match kind {
+        "put" => Fails {
+            fetch: None,
+            put: call.map(|call| Cut { call, taken }),
+        },
+        _ => Fails {
+            fetch: call,
+            put: None,
+        },
+    }
+}
+
+/// The status of a command's head.
+fn status_of(head: &str) -> u8 {
+    let word = head.split_whitespace().next().unwrap_or("");
+    word.parse().unwrap_or(255)
+}
+
+impl Case {
+    fn named(alloc: Global, name: &str) -> Result<Case, AllocError> {
+        Ok(Case {
+            name: String::from_str(alloc, name)?,
+            ports: String::new(alloc),
+            files: Vec::new(alloc),
+            commands: Vec::new(alloc),
+        })
+    }
+
+    /// Begins a file.
+    fn begin_file(&mut self, alloc: Global, name: &str) -> Result<(), AllocError> {
+        self.files.push(File {
+            name: String::from_str(alloc, name)?,
+            bytes: Vec::new(alloc),
+        })?;
+        Ok(())
+    }
+
+    /// Begins a command, of its head and its line. Says how its text is written.
+    fn begin_command(
+        &mut self,
+        alloc: Global,
+        head: &str,
+        line: &str,
+    ) -> Result<Style, AllocError> {
+        let status = status_of(head);
+        self.commands.push(Command {
+            line: String::from_str(alloc, line)?,
+            files: self.files.len(),
+            fails: fails_of(head),
+            status,
+            text: Vec::new(alloc),
+            ports: None,
+        })?;
+        Ok(style_of(status, line))
+    }
+
+    /// Begins a part.
+    fn begin(&mut self, alloc: Global, heading: &str) -> Result<Part, AllocError> {
+        if let Some((head, line)) = heading.split_once("$ ") {
+            return Ok(Part::Text(self.begin_command(alloc, head, line)?));
+        }
+        match heading.split_once(' ') {
+            Some(("text", name)) => {
+                self.begin_file(alloc, name)?;
+                Ok(Part::File(Style::Plain))
+            }
+            Some(("bytes", name)) => {
+                self.begin_file(alloc, name)?;
+                Ok(Part::File(Style::Digits))
+            }
+            _ => Ok(Part::Ports),
+        }
+    }
+
+    /// Takes a line of a part.
+    fn take(&mut self, alloc: Global, part: Part, line: &str) -> Result<(), AllocError> {
+        match part {
+            Part::Head => self.ports.push_str(line),
+            Part::File(style) => match self.files.last_mut() {
+                Some(file) => push_line(&mut file.bytes, style, line),
+                None => Ok(()),
+            },
+            Part::Text(style) => match self.commands.last_mut() {
+                Some(command) => push_line(&mut command.text, style, line),
+                None => Ok(()),
+            },
+            Part::Ports => {
+                if let Some(command) = self.commands.last_mut() {
+                    command.ports = Some(String::from_str(alloc, line)?);
+                }
+                Ok(())
+            }
+        }
+    }
+}
+
+/// The cases of a table. Lines before the first are left out.
+pub fn cases(alloc: Global, text: &str) -> Result<Vec<Case>, AllocError> {
+    let mut cases: Vec<Case> = Vec::new(alloc);
+    let mut part = Part::Head;
+    for line in text.lines() {
+        if let Some(name) = line.strip_prefix("=== ") {
+            cases.push(Case::named(alloc, name)?)?;
+            part = Part::Head;
+        } else if let Some(case) = cases.last_mut() {
+            match line.strip_prefix("--- ") {
+                Some(heading) => part = case.begin(alloc, heading)?,
+                None => case.take(alloc, part, line)?,
+            }
+        }
+    }
+    Ok(cases)
+}
