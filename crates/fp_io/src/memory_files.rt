@@ -137,35 +137,3 @@ impl Files for MemFiles {
         Vec::from_slice(alloc, &whole[..front]).map_err(|_| FetchFault::NoMemory)
     }
 }
-
-#[cfg(test)]
-mod tests {
-    use super::*;
-    use std::test::Fail;
-
-    #[test]
-    fn listed_calls_of_fetch_fail(rt: HostRuntime) -> Result<(), Fail> {
-        let alloc = rt.alloc();
-        let mut files = MemFiles::new(alloc);
-        files.add("a", b"12")?;
-        files.add("b", b"345")?;
-        files.add("a", b"6789")?;
-        files.fail_at(2)?;
-        files.fail_at(2)?;
-        let rows: [(&str, usize, Option<FetchFault>, &[u8]); 6] = [
-            ("a", 2, None, b"678"),
-            ("c", 2, Some(FetchFault::Missing), b""),
-            ("c", 2, Some(FetchFault::Failed), b""),
-            ("b", 2, None, b"345"),
-            ("b", 3, None, b"345"),
-            ("a", 0, None, b"6"),
-        ];
-        for (name, most, fault, want) in rows {
-            match files.fetch(alloc, name, most) {
-                Ok(bytes) => assert!(rt; fault.is_none() && bytes.as_slice() == want),
-                Err(error) => assert_eq!(rt; Some(error), fault),
-            }
-        }
-        Ok(())
-    }
-}

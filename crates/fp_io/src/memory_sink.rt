@@ -122,30 +122,3 @@ impl Sink for MemSink {
         Err(PutFailed)
     }
 }
-
-#[cfg(test)]
-mod tests {
-    use super::*;
-    use std::test::Fail;
-
-    #[test]
-    fn listed_calls_of_put_fail(rt: HostRuntime) -> Result<(), Fail> {
-        let mut sink = MemSink::new(rt.alloc(), 8)?;
-        sink.fail_at(1, 1)?;
-        sink.fail_at(1, 2)?;
-        sink.fail_at(3, 9)?;
-        let rows: [(&[u8], Result<(), PutFailed>, &[u8]); 6] = [
-            (b"ab", Ok(()), b"ab"),
-            (b"cd", Err(PutFailed), b"abc"),
-            (b"", Ok(()), b"abc"),
-            (b"e", Err(PutFailed), b"abce"),
-            (b"fghij", Err(PutFailed), b"abcefghi"),
-            (b"", Ok(()), b"abcefghi"),
-        ];
-        for (bytes, want, taken) in rows {
-            assert_eq!(rt; sink.put(bytes), want);
-            assert!(rt; sink.bytes() == taken);
-        }
-        Ok(())
-    }
-}

@@ -116,6 +116,3 @@ fn latch_entry(entry: &Option<Box<dyn Port>>) -> Option<u32>
         None => None,
     }
 }
-
-#[cfg(test)]
-mod tests;

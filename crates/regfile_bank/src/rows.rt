@@ -55,26 +55,3 @@ impl Bank {
         }
     }
 }
-
-#[cfg(test)]
-mod tests {
-    use super::Bank;
-
-    #[test]
-    fn threads_have_their_own_registers(rt: HostRuntime) {
-        let mut bank = Bank::new();
-        for (thread, x, word) in [(0, 5, 16), (1, 5, 42), (7, 31, 0xffff_ffff), (3, 0, 9)] {
-            bank.write(thread, x, word);
-        }
-        for (thread, x, word) in [
-            (0, 5, 16),
-            (1, 5, 42),
-            (7, 31, 0xffff_ffff),
-            (3, 0, 0),
-            (2, 5, 0),
-            (7, 1, 0),
-        ] {
-            assert_eq!(rt; bank.read(thread, x), word, "x{x} of thread {thread}");
-        }
-    }
-}

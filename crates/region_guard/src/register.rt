@@ -88,20 +88,3 @@ impl Regions {
         nibble(self.word, region)
     }
 }
-
-#[cfg(test)]
-mod tests {
-    use super::{BadRegion, Regions};
-    use std::test::Fail;
-
-    #[test]
-    fn the_lowest_bad_region_is_named(rt: HostRuntime) -> Result<(), Fail> {
-        let regions = Regions::from_word(0xcccc_c810)?;
-        assert_eq!(rt; regions.word(), 0xcccc_c810);
-        assert_eq!(rt; regions.owner(2), 8);
-        for (word, index) in [(0xcccc_ccc9, 0), (0xdccc_bccc, 3), (0xecc8_7654, 7)] {
-            assert_eq!(rt; Regions::from_word(word).err(), Some(BadRegion { index }));
-        }
-        Ok(())
-    }
-}

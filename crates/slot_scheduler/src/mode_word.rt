@@ -62,20 +62,3 @@ impl Modes {
         ((self.word >> (2 * u32::from(thread))) % 4) as u8
     }
 }
-
-#[cfg(test)]
-mod tests {
-    use super::{BadMode, Modes};
-    use std::test::Fail;
-
-    #[test]
-    fn modes_of_a_word(rt: HostRuntime) -> Result<(), Fail> {
-        let modes = Modes::from_word(0xffe4)?;
-        assert_eq!(rt; modes.word(), 0xffe4);
-        for (thread, mode) in [(0, 0), (1, 1), (2, 2), (3, 3), (7, 3)] {
-            assert_eq!(rt; modes.mode(thread), mode);
-        }
-        assert_eq!(rt; Modes::from_word(0x1_0000).err(), Some(BadMode));
-        Ok(())
-    }
-}

@@ -75,36 +75,3 @@ impl SlotTable {
         self.layout.turns[self.layout.place(cycle) as usize]
     }
 }
-
-#[cfg(test)]
-mod tests {
-    use super::SlotTable;
-    use crate::frame::{BadSlot, Turn};
-    use std::test::Fail;
-
-    #[test]
-    fn cycles_go_round_the_frame(rt: HostRuntime) -> Result<(), Fail> {
-        for (word, len, cycle, turn) in [
-            (0xffff_fff0, 1, 5, Turn::Thread(0)),
-            (0xffff_3210, 4, 6, Turn::Thread(2)),
-            (0xfffe_e0e0, 5, 4, Turn::Soft),
-            (0xfffe_e0e0, 5, 7, Turn::Thread(0)),
-            (0xf2f1_f0ff, 3, 5, Turn::Thread(2)),
-            (0x7654_3210, 8, 4_000_000_007, Turn::Thread(7)),
-            (0xffff_ffff, 0, 9, Turn::Nobody),
-        ] {
-            let table = SlotTable::from_word(word)?;
-            assert_eq!(rt; table.word(), word);
-            assert_eq!(rt; table.frame_len(), len, "at {word:x}");
-            assert_eq!(rt; table.turn(cycle), turn, "at {word:x}");
-        }
-        Ok(())
-    }
-
-    #[test]
-    fn the_lowest_bad_slot_is_named(rt: HostRuntime) {
-        for (word, index) in [(0xffff_fff8, 0), (0xdfff_f9f0, 2), (0x8fff_ffff, 7)] {
-            assert_eq!(rt; SlotTable::from_word(word).err(), Some(BadSlot { index }));
-        }
-    }
-}

@@ -48,15 +48,3 @@ pub fn moment(hi: u32, lo: u32) -> u64
 {
     (u64::from(hi) << 32) + u64::from(lo)
 }
-
-#[cfg(test)]
-mod tests {
-    use super::{Clock, moment};
-
-    #[test]
-    fn times_and_moments(rt: HostRuntime) {
-        assert_eq!(rt; Clock::new(10).now(8), 80);
-        assert_eq!(rt; Clock::new(1_000).now(4_000_000_010), 4_000_000_010_000);
-        assert_eq!(rt; moment(1, 0xffff_ffff), 0x1_ffff_ffff);
-    }
-}

@@ -110,30 +110,3 @@ impl Timers {
         }
     }
 }
-
-#[cfg(test)]
-mod tests {
-    use super::Timers;
-
-    #[test]
-    fn each_thread_has_its_own_moment_and_latch(rt: HostRuntime) {
-        let mut timers = Timers::new();
-        timers.arm(3, 200);
-        timers.arm(4, 0x7_0000_0000);
-        assert_eq!(rt; timers.get_low(3, 0x5_0000_0064), 0x64);
-        assert_eq!(rt; timers.get_high(3), 5);
-        assert_eq!(rt; timers.get_high(4), 0);
-        for (thread, now, due) in [
-            (3, 199, false),
-            (3, 200, true),
-            (4, 200, false),
-            (5, 200, false),
-        ] {
-            assert_eq!(rt; timers.due(thread, now), due, "thread {thread} at {now}");
-        }
-        timers.disarm(3);
-        assert_eq!(rt; timers.armed(3), None);
-        assert_eq!(rt; timers.armed(4), Some(0x7_0000_0000));
-        assert_eq!(rt; timers.get_high(3), 5);
-    }
-}

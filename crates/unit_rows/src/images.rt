@@ -1,225 +1,110 @@
-use fp_image::{Bytes, Image, ImageNo, ImageRefused, read_image, write_image};
+//! What is read out of the bytes of an image.
+
+ghost use Rattle.region_guard.specs.Regions.{IsSize};
+
+use crate::escapes::unescaped;
+use crate::numbers::{low_word, numbers};
+use fp_image::{Bytes, Image, ImageRefused, read_image, write_image};
 use std::alloc::{AllocError, Global};
-use std::test::Fail;
+use std::fmt::Write;
 
-/// A program of three segments.
-const DRIVE: [u8; 92] = [
-    0x46, 0x50, 0x58, 0x31, 0x03, 0x00, 0x00, 0x00, 0x00, 0x00, 0x00, 0x00, 0x30, 0x00, 0x00, 0x00,
-    0xb7, 0x00, 0x00, 0x20, 0x37, 0x01, 0x00, 0x40, 0x0b, 0x05, 0x00, 0x00, 0x8b, 0x15, 0x00, 0x00,
-    0x83, 0x22, 0x01, 0x00, 0x23, 0xa0, 0x50, 0x00, 0x03, 0xa3, 0x00, 0x00, 0xb7, 0x11, 0x00, 0x20,
-    0x23, 0xa0, 0x61, 0x00, 0x13, 0x05, 0x05, 0x19, 0x0b, 0xb0, 0xa5, 0x00, 0x6f, 0xf0, 0x5f, 0xfe,
-    0x40, 0x00, 0x00, 0x00, 0x04, 0x00, 0x00, 0x00, 0x6f, 0x00, 0x00, 0x00, 0x00, 0x01, 0x00, 0x00,
-    0x08, 0x00, 0x00, 0x00, 0x93, 0x80, 0x10, 0x00, 0x6f, 0xf0, 0xdf, 0xff,
-];
-
-fn refused(code: ImageNo, offset: u32) -> Option<ImageRefused> {
-    Some(ImageRefused::Fault { code, offset })
-}
-
-/// Files with the first fault of each.
-#[test]
-fn refuses_files(rt: HostRuntime) {
-    let rows: [(&[u8], Option<ImageRefused>); 30] = [
-        (b"", refused(ImageNo::Magic, 0)),
-        (b"FPX2\0\0\0\0", refused(ImageNo::Magic, 0)),
-        (b"FPX1\x01\0\0", refused(ImageNo::Truncated, 7)),
-        (b"FPX1\0\0\0\0", None),
-        (b"FPX1\0\0\0\0\0", refused(ImageNo::Trailing, 8)),
-        (b"FPX1\x11\0\0\0", refused(ImageNo::BadSegment, 4)),
-        (b"FPX1\xff\xff\xff\xff", refused(ImageNo::BadSegment, 4)),
-        (
-            b"FPX1\x01\0\0\0\0\0\0\0\x04\0\0",
-            refused(ImageNo::Truncated, 15),
-        ),
-        (
-            b"FPX1\x01\0\0\0\0\0\0\0\x04\0\0\0\x93\x02",
-            refused(ImageNo::Truncated, 18),
-        ),
-        (b"FPX1\x01\0\0\0\0\0\0\0\x04\0\0\0\x93\x02\x10\0", None),
-        (
-            b"FPX1\x01\0\0\0\0\0\0\0\x04\0\0\0\x93\x02\x10\0\0",
-            refused(ImageNo::Trailing, 20),
-        ),
-        (
-            b"FPX1\x01\0\0\0\0\0\0\0\0\0\0\0",
-            refused(ImageNo::BadSegment, 8),
-        ),
-        (
-            b"FPX1\x01\0\0\0\0\0\0\0\x06\0\0\0",
-            refused(ImageNo::BadSegment, 8),
-        ),
-        (
-            b"FPX1\x01\0\0\0\x02\0\0\0\x04\0\0\0\x93\x02\x10\0",
-            refused(ImageNo::BadSegment, 8),
-        ),
-        (
-            b"FPX1\x01\0\0\0\xfc?\0\0\x08\0\0\0",
-            refused(ImageNo::BadSegment, 8),
-        ),
-        (
-            b"FPX1\x01\0\0\0\0@\0\0\x04\0\0\0\x93\x02\x10\0",
-            refused(ImageNo::BadSegment, 8),
-        ),
-        (
-            b"FPX1\x01\0\0\0\xfc\xff\xff\x1f\x04\0\0\0\x93\x02\x10\0",
-            refused(ImageNo::BadSegment, 8),
-        ),
-        (
-            b"FPX1\x01\0\0\0\xfc?\0\x20\x08\0\0\0",
-            refused(ImageNo::BadSegment, 8),
-        ),
-        (
-            b"FPX1\x01\0\0\0\0\0\0@\x04\0\0\0\x93\x02\x10\0",
-            refused(ImageNo::BadSegment, 8),
-        ),
-        (
-            b"FPX1\x01\0\0\0\xfc\xff\xff\xff\x08\0\0\0",
-            refused(ImageNo::BadSegment, 8),
-        ),
-        (
-            b"FPX1\x01\0\0\0\0\0\0\0\xfc\xff\xff\xff",
-            refused(ImageNo::BadSegment, 8),
-        ),
-        (b"FPX1\x01\0\0\0\xfc?\0\0\x04\0\0\0\x93\x02\x10\0", None),
-        (b"FPX1\x01\0\0\0\xfc?\0\x20\x04\0\0\0\x93\x02\x10\0", None),
-        (
-            b"FPX1\x02\0\0\0\0\0\0\0\x04\0\0\0\x93\x02\x10\0\0\0\0\0\x04\0\0\0",
-            refused(ImageNo::Overlap, 20),
-        ),
-        (
-            b"FPX1\x02\0\0\0\0\0\0\0\x08\0\0\0\x93\x02\x10\0\x93\x02\x10\0\x04\0\0\0\x04\0\0\0\x93\x02\x10\0",
-            refused(ImageNo::Overlap, 24),
-        ),
-        (
-            b"FPX1\x02\0\0\0\0\x01\0\0\x04\0\0\0\x93\x02\x10\0\0\0\0\0\x04\0\0\0\x93\x02\x10\0",
-            refused(ImageNo::Overlap, 20),
-        ),
-        (
-            b"FPX1\x02\0\0\0\0\0\0\0\x04\0\0\0\x93\x02\x10\0\x04\0\0\0\x04\0\0\0\x93\x02\x10\0",
-            None,
-        ),
-        (
-            b"FPX1\x02\0\0\0\x04\0\0\0\x04\0\0\0\x93\x02\x10\0\x01\0\0\0\x04\0\0\0\x93\x02\x10\0",
-            refused(ImageNo::BadSegment, 20),
-        ),
-        (
-            b"FPX1\x02\0\0\0\x04\0\0\0\x04\0\0\0\x93\x02\x10\0\0\0\0\0\x08\0\0\0",
-            refused(ImageNo::Overlap, 20),
-        ),
-        (
-            b"FPX1\x02\0\0\0\0\x01\0\0\x04\0\0\0\x93\x02\x10\0\0\0\0\x20\x08\0\0\0\x93\x02\x10\0\x93\x02\x10\0",
-            None,
-        ),
-    ];
-    for (file, refused) in rows {
-        assert_eq!(rt;
-            read_image(rt.alloc(), file, 16_384).err(),
-            refused,
-            "{file:?}"
-        );
+/// `small BYTES` or `large BYTES`, with escapes, for the two sizes of scratchpads; `zeros small COUNT`;
+/// `word ADDRESS BYTES`; `made`.
+pub fn answer(alloc: Global, call: &str) -> Result<String, AllocError> {
+    let (name, with) = call.split_once(' ').unwrap_or((call, ""));
+    match name {
+        "small" => read(alloc, &unescaped(alloc, with)?, 16_384),
+        "large" => read(alloc, &unescaped(alloc, with)?, 65_536),
+        "zeros" => zeros(alloc, with),
+        "word" => word(alloc, with),
+        _ => made(alloc),
     }
 }
 
-/// The fronts of a file of three segments.
-#[test]
-fn refuses_each_front(rt: HostRuntime) {
-    for len in 0..92 {
-        let (front, _) = DRIVE.split_at(len);
-        let code = if len < 4 {
-            ImageNo::Magic
-        } else {
-            ImageNo::Truncated
-        };
-        let offset = if len < 4 { 0 } else { len as u32 };
-        assert_eq!(rt;
-            read_image(rt.alloc(), front, 16_384).err(),
-            refused(code, offset),
-            "{len}"
-        );
+/// The image of some bytes, or its refusal.
+fn read(alloc: Global, bytes: &[u8], size: u32) -> Result<String, AllocError>
+    requires { IsSize size }
+{
+    match read_image(alloc, bytes, size) {
+        Ok(image) => image_text(alloc, &image, bytes),
+        Err(ImageRefused::Fault { code, offset }) => format!(in alloc; "{code:?} {offset}"),
+        Err(ImageRefused::NoMemory) => Err(AllocError),
     }
 }
 
-#[test]
-fn refuses_long_files(rt: HostRuntime) -> Result<(), AllocError> {
-    let (magic, too_long) = (refused(ImageNo::Magic, 0), refused(ImageNo::TooLong, 0));
-    for (len, refused) in [(34_816, magic), (34_817, too_long)] {
-        let file = vec![in rt.alloc(); 0; len]?;
-        assert_eq!(rt;
-            read_image(rt.alloc(), &file, 16_384).err(),
-            refused,
-            "{len}"
-        );
+/// The segments of an image, and whether it is written to these bytes.
+fn image_text(alloc: Global, image: &Image, bytes: &[u8]) -> Result<String, AllocError> {
+    let mut text = String::new(alloc);
+    push_segments(&mut text, image)?;
+    let written = write_image(alloc, image)?;
+    if written.as_slice() != bytes {
+        text.push_str("written otherwise")?;
     }
-    for (len, refused) in [(139_264, magic), (139_265, too_long)] {
-        let file = vec![in rt.alloc(); 0; len]?;
-        assert_eq!(rt;
-            read_image(rt.alloc(), &file, 65_536).err(),
-            refused,
-            "{len}"
-        );
+    Ok(text)
+}
+
+fn push_segments(text: &mut String, image: &Image) -> Result<(), AllocError> {
+    for segment in image.segments() {
+        push_segment(text, segment.address, segment.bytes.as_slice())?;
     }
     Ok(())
 }
 
-#[test]
-fn reads_and_writes(rt: HostRuntime) -> Result<(), Fail> {
-    let image = read_image(rt.alloc(), &DRIVE, 16_384)?;
-    assert_eq!(rt; image.segments().len(), 3);
-    let words = [
-        (0, 0x2000_00b7),
-        (0x2c, 0xfe5f_f06f),
-        (0x30, 0),
-        (0x40, 0x6f),
-        (0x104, 0xffdf_f06f),
-        (0xfffc, 0),
-    ];
-    for (address, word) in words {
-        assert_eq!(rt; word_at(&image, address), word, "{address:x}");
+fn push_segment(text: &mut String, address: u32, bytes: &[u8]) -> Result<(), AllocError> {
+    write!(text, "{address:x}:")?;
+    for byte in bytes {
+        write!(text, "{byte:02x}")?;
     }
-    assert_eq!(rt;
-        write_image(rt.alloc(), &image)?.as_slice(),
-        DRIVE.as_slice()
-    );
-    Ok(())
+    text.push(';')
 }
 
-fn word_at(image: &Image, address: u32) -> u32 {
-    if address % 4 == 0 && address < 65_536 {
-        image.code_word(address)
+/// The image of so many bytes of 0.
+fn zeros(alloc: Global, with: &str) -> Result<String, AllocError> {
+    let (size, count) = with.split_once(' ').unwrap_or((with, ""));
+    let bytes = vec![in alloc; 0; numbers(count)[0] as usize]?;
+    if size == "small" {
+        read(alloc, &bytes, 16_384)
     } else {
-        1
+        read(alloc, &bytes, 65_536)
     }
 }
 
-/// A segment past the smaller scratchpads.
-#[test]
-fn reads_larger_images(rt: HostRuntime) -> Result<(), Fail> {
-    let file = b"FPX1\x01\0\0\0\0\x80\0\0\x04\0\0\0\x93\x02\x10\0";
-    assert_eq!(rt;
-        read_image(rt.alloc(), file, 16_384).err(),
-        refused(ImageNo::BadSegment, 8)
-    );
-    let image = read_image(rt.alloc(), file, 65_536)?;
-    assert_eq!(rt; image.code_word(0x8000), 0x0010_0293);
-    assert_eq!(rt;
-        write_image(rt.alloc(), &image)?.as_slice(),
-        file.as_slice()
-    );
-    Ok(())
+/// The word at an address of an image.
+fn word(alloc: Global, with: &str) -> Result<String, AllocError> {
+    let (address, bytes) = with.split_once(' ').unwrap_or((with, ""));
+    let address = low_word(numbers(address)[0]);
+    match read_image(alloc, &unescaped(alloc, bytes)?, 65_536) {
+        Ok(image) => word_text(alloc, &image, address),
+        Err(_) => String::from_str(alloc, "no image"),
+    }
 }
 
-/// An image that is put together from its segments.
-#[test]
-fn adds_segments(rt: HostRuntime) -> Result<(), Fail> {
-    let mut image = Image::new(rt.alloc());
-    assert!(rt; image.segments().is_empty());
-    image.add(0x100, Bytes::from_vec(vec![in rt.alloc(); 1, 2, 3, 4]?))?;
-    assert_eq!(rt; image.code_word(0x100), 0x0403_0201);
-    assert_eq!(rt; image.code_word(0xfc), 0);
-    let [segment] = image.segments() else {
-        return Err(Fail::from("one segment"));
-    };
-    assert_eq!(rt; segment.address, 0x100);
-    assert_eq!(rt; segment.bytes.as_slice(), [1, 2, 3, 4].as_slice());
-    Ok(())
+fn word_text(alloc: Global, image: &Image, address: u32) -> Result<String, AllocError> {
+    if address % 4 != 0 || address >= 65_536 {
+        return String::from_str(alloc, "no place of a word");
+    }
+    let (plain, code) = (image.word(address), image.code_word(address));
+    format!(in alloc; "{plain:x} {code:x}")
+}
+
+/// An image that is put together from its segments, with two of its words.
+fn made(alloc: Global) -> Result<String, AllocError> {
+    let bytes = vec![in alloc; 1, 2, 3, 4]?;
+    let mut image = Image::new(alloc);
+    let before = image.segments().len();
+    image.add(0x100, Bytes::from_vec(bytes))?;
+    let words = (image.code_word(0x100), image.code_word(0xfc));
+    made_text(alloc, before, &image, words)
+}
+
+fn made_text(
+    alloc: Global,
+    before: usize,
+    image: &Image,
+    words: (u32, u32),
+) -> Result<String, AllocError> {
+    let mut text = String::new(alloc);
+    write!(text, "{before} {:x} {:x} ", words.0, words.1)?;
+    push_segments(&mut text, image)?;
+    Ok(text)
 }

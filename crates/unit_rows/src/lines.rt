@@ -1,168 +1,101 @@
-//! Lines of worked runs.
-ghost use Rattle.std.specs.Prelude.{◌≡◌};
+//! Lines of traces, and of refusals.
 
+ghost use Rattle.rv_exec.specs.Line.{IsPrintable};
+
+use crate::numbers::{low_byte, low_word, numbers};
 use fp_setup::Place;
 use rv_exec::{Effect, Event};
+use std::alloc::{AllocError, Global};
 use trace_print::{Refusal, line, refusal_line};
 
-fn event(cycle: u64, pc: u32, word: u32, effect: Effect) -> Event
-    ensures { result.effect ≡ effect }
-{
-    Event {
-        cycle,
+/// `event CYCLE PC WORD EFFECT ..`, or a refusal's kind with its numbers. The line end isn't told.
+pub fn answer(alloc: Global, call: &str) -> Result<String, AllocError> {
+    let (name, with) = call.split_once(' ').unwrap_or((call, ""));
+    if name == "event" {
+        return event_text(alloc, with);
+    }
+    let refusal = refusal_of(name, &numbers(with), value_of(with));
+    let text = refusal_line(&refusal);
+    String::from_str(alloc, text.as_str().trim_end())
+}
+
+/// The line of an event: its cycle, pc and word, and the numbers of its effect after its name.
+fn event_text(alloc: Global, with: &str) -> Result<String, AllocError> {
+    let n = numbers(with);
+    let effect = effect_of(with.split(' ').nth(3).unwrap_or(""), &n);
+    let event = Event {
+        cycle: n[0],
         thread: 0,
-        pc,
-        word,
+        pc: low_word(n[1]),
+        word: low_word(n[2]),
         effect,
+    };
+    let text = line(&event);
+    String::from_str(alloc, text.as_str().trim_end())
+}
+
+fn effect_of(name: &str, n: &[u64; 8]) -> Effect
+    ensures { IsPrintable result }
+{
+    match name {
+        "register" => Effect::Reg {
+            rd: low_byte(n[4]) % 32,
+            value: low_word(n[5]),
+        },
+        "store" => Effect::Store {
+            address: low_word(n[4]),
+            size: 4,
+            value: low_word(n[5]),
+        },
+        "csr" => Effect::Csr {
+            csr: (n[4] % 4096) as u16,
+            value: low_word(n[5]),
+            rd: low_byte(n[6]) % 32,
+            old: low_word(n[7]),
+        },
+        "trap" => Effect::Trap {
+            cause: low_byte(n[4]),
+            target: low_word(n[5]),
+        },
+        "wait" => Effect::Wait,
+        _ => Effect::Nothing,
     }
 }
 
-#[test]
-fn prints_each_effect(rt: HostRuntime) {
-    let nothing = event(48, 0x2c, 0xfe5f_f06f, Effect::Nothing);
-    assert_eq!(rt; line(&nothing).as_str(), "        48 0000002c fe5ff06f -\n");
-    let register = event(
-        0,
-        0,
-        0x2000_00b7,
-        Effect::Reg {
-            rd: 1,
-            value: 0x2000_0000,
-        },
-    );
-    assert_eq!(rt;
-        line(&register).as_str(),
-        "         0 00000000 200000b7 x01=20000000\n"
-    );
-    let store = Effect::Store {
-        address: 0x2000_0010,
-        size: 4,
-        value: 0x2a,
-    };
-    let store = event(4_000_000_000, 0x14, 0x0050_a023, store);
-    assert_eq!(rt;
-        line(&store).as_str(),
-        "4000000000 00000014 0050a023 [20000010]/4=0000002a\n"
-    );
-    let csr = Effect::Csr {
-        csr: 0x305,
-        value: 0x100,
-        rd: 0,
-        old: 7,
-    };
-    let csr = event(1, 4, 0x3050_9073, csr);
-    assert_eq!(rt;
-        line(&csr).as_str(),
-        "         1 00000004 30509073 csr 305=00000100\n"
-    );
-    let swap = Effect::Csr {
-        csr: 0x340,
-        value: 0x2a,
-        rd: 31,
-        old: 7,
-    };
-    let swap = event(u64::MAX, 4, 0x3400_9ff3, swap);
-    let text = "18446744073709551615 00000004 34009ff3 x31=00000007 csr 340=0000002a\n";
-    assert_eq!(rt; line(&swap).as_str(), text);
-    let trap = event(
-        20,
-        0x18,
-        0,
-        Effect::Trap {
-            cause: 24,
-            target: 0x100,
-        },
-    );
-    assert_eq!(rt;
-        line(&trap).as_str(),
-        "        20 00000018 00000000 trap 24 -> 00000100\n"
-    );
-    let wait = event(40, 0x28, 0x00a5_b00b, Effect::Wait);
-    assert_eq!(rt; line(&wait).as_str(), "        40 00000028 00a5b00b wait\n");
+/// The last number, which may have more than 64 bits.
+fn value_of(with: &str) -> u128 {
+    with.split(' ')
+        .last()
+        .unwrap_or("")
+        .parse()
+        .unwrap_or(0u128)
 }
 
-fn setup(code: u8, table: u8, row: u32, key: u8, item: u32) -> Refusal {
-    Refusal::Setup {
-        code,
-        place: Place {
-            table,
-            row,
-            key,
-            item,
+fn refusal_of(name: &str, n: &[u64; 8], value: u128) -> Refusal {
+    let code = low_byte(n[0]);
+    match name {
+        "setup" => Refusal::Setup {
+            code,
+            place: Place {
+                table: low_byte(n[1]),
+                row: low_word(n[2]),
+                key: low_byte(n[3]),
+                item: low_word(n[4]),
+            },
         },
-    }
-}
-
-#[test]
-fn prints_refusals(rt: HostRuntime) {
-    let rows = [
-        (setup(6, 1, 0, 2, 0), "refused setup 6 OutOfRange period\n"),
-        (setup(7, 1, 0, 4, 4), "refused setup 7 BadSlot slots[3]\n"),
-        (setup(2, 0, 0, 0, 0), "refused setup 2 Toml -\n"),
-        (setup(3, 1, 0, 0, 0), "refused setup 3 UnknownKey top\n"),
-        (
-            setup(3, 2, 0, 0, 0),
-            "refused setup 3 UnknownKey thread[0]\n",
-        ),
-        (
-            setup(11, 2, 1, 1, 0),
-            "refused setup 11 DoubleThread thread[1].id\n",
-        ),
-        (
-            setup(6, 2, 0, 7, 2),
-            "refused setup 6 OutOfRange thread[0].inputs[1]\n",
-        ),
-        (
-            setup(6, 3, 255, 3, 0),
-            "refused setup 6 OutOfRange loop[255].bound\n",
-        ),
-        (Refusal::Section { code: 1 }, "refused section 1 NotHard\n"),
-        (
-            Refusal::Section { code: 6 },
-            "refused section 6 NotConfined\n",
-        ),
-        (
-            Refusal::Image {
-                code: 3,
-                offset: 18,
-            },
-            "refused image 3 Truncated 18\n",
-        ),
-        (
-            Refusal::Image {
-                code: 40,
-                offset: 52,
-            },
-            "refused image 40 BadLoad 52\n",
-        ),
-        (
-            Refusal::Source { line: 2, code: 6 },
-            "refused source 2 6 DoubleLabel\n",
-        ),
-        (
-            Refusal::Bound { code: 4, value: 0 },
-            "refused bound 4 UnboundedBackEdge 00000000\n",
-        ),
-        (
-            Refusal::Bound {
-                code: 9,
-                value: 0x1a0,
-            },
-            "refused bound 9 Recursion 000001a0\n",
-        ),
-        (
-            Refusal::Bound {
-                code: 6,
-                value: 4835724031080784023519240,
-            },
-            "refused bound 6 Overflow 4835724031080784023519240\n",
-        ),
-        (
-            Refusal::Routines { line: 1, code: 2 },
-            "refused routines 1 2 BadLine\n",
-        ),
-    ];
-    for (refusal, text) in rows {
-        assert_eq!(rt; refusal_line(&refusal).as_str(), text);
+        "section" => Refusal::Section { code },
+        "image" => Refusal::Image {
+            code,
+            offset: low_word(n[1]),
+        },
+        "source" => Refusal::Source {
+            line: low_word(n[1]),
+            code,
+        },
+        "routines" => Refusal::Routines {
+            line: low_word(n[1]),
+            code,
+        },
+        _ => Refusal::Bound { code, value },
     }
 }
