@@ -1,15 +1,18 @@
 //! That the machine's whole state stands in its fields.
 
+ghost use Rattle.std.specs.Prelude.{◌≡◌, All, length};
+ghost use Rattle.pipeline_core.specs.Fits.{IsPc};
+
+use crate::pipelines::{guard, one_port, sched};
 use fp_io::MemSink;
-use fp_ports::{HeldPort, Ports};
 use machine::Machine;
 use pipeline_core::{Held, Pipe, Units};
 use regfile_bank::Bank;
-use region_guard::{Guard, Regions};
+use region_guard::Guard;
 use scratchpad::Spm;
-use slot_scheduler::{Modes, Sched, Scheduler};
-use slot_table::SlotTable;
-use std::test::Fail;
+use slot_scheduler::{Sched, Scheduler};
+use std::alloc::{AllocError, Global};
+use std::fmt::Write;
 use timer_unit::{Clock, Timers};
 use trap_unit::Traps;
 
@@ -19,58 +22,69 @@ const CODE: [u8; 24] = [
     0x93, 0x03, 0x20, 0x00, 0x6f, 0x00, 0x00, 0x00,
 ];
 
-const TRACE: &str = "         0 00000000 00100293 x05=00000001
-         1 00000004 00002303 x06=00100293
-         3 00000008 00000463 -
-         6 00000010 00200393 x07=00000002
-";
+/// Stages with no turn in them, where each thread has the pc that it fetches next.
+fn bubbles(next: [u32; 8]) -> Pipe
+    requires { All IsPc next }
+{
+    Pipe {
+        next,
+        f: Held::Bubble,
+        d: Held::Bubble,
+        e: Held::Bubble,
+        m: Held::Bubble,
+        w: Held::Bubble,
+    }
+}
 
-#[test]
-fn state_of_fields(rt: HostRuntime) -> Result<(), Fail> {
-    let mut imem = Spm::new(rt.alloc(), 16_384)?;
+/// Units at their start.
+fn units(sched: Sched, guard: Guard, imem: Spm, dmem: Spm) -> Units
+    requires size { guard.size ≡ 16384 }
+    requires code { length imem ≡ 4096 }
+    requires data { length dmem ≡ 4096 }
+{
+    Units {
+        bank: Bank::new(),
+        imem,
+        dmem,
+        guard,
+        scheduler: Scheduler::new(),
+        sched,
+        clock: Clock::new(10),
+        timers: Timers::new(),
+        traps: Traps::new(),
+        confined: [true, false, false, false, false, false, false, false],
+        permit: [false; 8],
+    }
+}
+
+/// The trace of thread 0 in eleven cycles, with a semicolon at the end of each line, and the cycle then.
+fn trace_of(alloc: Global, machine: &mut Machine) -> Result<String, AllocError>
+    requires { machine.old.at ≡ 0 }
+{
+    let mut out = MemSink::new(alloc, 4096)?;
+    let mut ports = one_port(alloc)?;
+    let ran = machine.run(11, 0, &mut ports, &mut out);
+    let mut text = String::new(alloc);
+    for line in str::from_utf8(out.bytes()).unwrap_or("").lines() {
+        write!(text, "0 {};", line.trim())?;
+    }
+    write!(text, "{ran:?} {}", machine.cycle())?;
+    Ok(text)
+}
+
+/// What the machine of these fields does.
+pub fn trace(alloc: Global) -> Result<String, AllocError> {
+    let (Some(sched), Some(guard)) = (sched(0xffff_fff0, 0xfffc), guard(0xcccc_c810)) else {
+        return String::from_str(alloc, "no registers");
+    };
+    let mut imem = Spm::new(alloc, 16_384)?;
     imem.fill(0, &CODE);
+    let dmem = Spm::new(alloc, 16_384)?;
     let mut machine = Machine {
-        pipe: Pipe {
-            next: [0; 8],
-            f: Held::Bubble,
-            d: Held::Bubble,
-            e: Held::Bubble,
-            m: Held::Bubble,
-            w: Held::Bubble,
-        },
-        units: Units {
-            bank: Bank::new(),
-            imem,
-            dmem: Spm::new(rt.alloc(), 16_384)?,
-            guard: Guard {
-                i: Regions::from_word(0xcccc_cccc)?,
-                d: Regions::from_word(0xcccc_c810)?,
-                size: 16_384,
-            },
-            scheduler: Scheduler::new(),
-            sched: Sched {
-                slots: SlotTable::from_word(0xffff_fff0)?,
-                modes: Modes::from_word(0xfffc)?,
-                sleep: [0; 8],
-            },
-            clock: Clock::new(10),
-            timers: Timers::new(),
-            traps: Traps::new(),
-            confined: [true, false, false, false, false, false, false, false],
-            permit: [false; 8],
-        },
+        pipe: bubbles([0; 8]),
+        units: units(sched, guard, imem, dmem),
         at: 0,
         unplugs: [None; 8],
     };
-    let mut out = MemSink::new(rt.alloc(), 4096)?;
-    let mut ports: Ports = Vec::new(rt.alloc());
-    for _thread in 0..8u8 {
-        ports.push(Some(Box::new(rt.alloc(), HeldPort::new(rt.alloc()))?))?;
-    }
-    assert_eq!(rt; ports.len(), 8);
-    let ran = machine.run(11, 0, &mut ports, &mut out);
-    assert_eq!(rt; ran, Ok(()));
-    assert_eq!(rt; out.bytes(), TRACE.as_bytes());
-    assert_eq!(rt; machine.cycle(), 11);
-    Ok(())
+    trace_of(alloc, &mut machine)
 }
