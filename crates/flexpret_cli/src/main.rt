@@ -2,7 +2,7 @@
 #![tactic(auto)]
 
 use flexpret_top::flexpret;
-use fp_io::{OutSink, RealFiles};
+use fp_io::{OutSink, PutFailed, RealFiles};
 use fp_ports::{HeldPort, Ports};
 use std::alloc::AllocError;
 use std::process::ExitCode;
@@ -10,6 +10,9 @@ use std::{env, io};
 
 /// The status where the words ask no command.
 const USAGE: u8 = 2;
+
+/// The status where standard output can't be written.
+const WRITE: u8 = 8;
 
 /// The status where memory is refused.
 const NO_MEMORY: u8 = 9;
@@ -19,7 +22,7 @@ fn complaint(status: u8) -> Option<&'static str> {
     match status {
         USAGE => Some("flexpret: usage"),
         7 => Some("flexpret: read failed"),
-        8 => Some("flexpret: write failed"),
+        WRITE => Some("flexpret: write failed"),
         NO_MEMORY => Some("flexpret: out of memory"),
         _ => None,
     }
@@ -36,7 +39,7 @@ fn read_args(rt: HostRuntime) -> Result<Vec<String>, u8> {
 }
 
 /// Runs the command that the words ask, beside a device at each of the eight ports that shows 0 until
-/// it is fed.
+/// it is fed. A command is done once all that it wrote has left the program.
 fn answer(rt: HostRuntime, words: &[String]) -> Result<u8, AllocError> {
     let alloc = rt.alloc();
     let mut ports: Ports = Vec::new(alloc);
@@ -45,7 +48,11 @@ fn answer(rt: HostRuntime, words: &[String]) -> Result<u8, AllocError> {
     }
     let mut files = RealFiles::new(rt);
     let mut out = OutSink::new(rt);
-    Ok(flexpret(alloc, words, &mut files, &mut out, &mut ports))
+    let status = flexpret(alloc, words, &mut files, &mut out, &mut ports);
+    Ok(match out.flush() {
+        Ok(()) => status,
+        Err(PutFailed) => WRITE,
+    })
 }
 
 /// The status of the command, or that the words or the ports can't be made.

@@ -1,3 +1,4 @@
+pub mod Fronts
 pub mod ListedCalls
 pub mod NamedBytes
 pub mod Pieces
