@@ -1,6 +1,7 @@
 //! Numbers as texts, at the end of a buffer.
 
 ghost use Rattle.std.specs.Prelude.{◌≡◌, ◌+◌, ◌<◌, ◌≤◌, ◌^◌, ◌∷◌, [], ◌++◌, max, length, decimal};
+ghost use Rattle.std.specs.Str.{IsUtf8};
 ghost use Rattle.arrayvec.specs.ArrayString.{array_string_len};
 ghost use Rattle.trace_print.specs.Digits.{hex_digit, hex, two_digits, right};
 
@@ -43,6 +44,51 @@ pub fn push_hex(text: &mut ArrayString<96>, number: u64, places: usize)
     if places > 0 {
         push_hex(text, number / 16, places - 1);
         text.push(hex_char((number % 16) as u8));
+    }
+}
+
+/// Appends a word as eight hexadecimal digits.
+pub fn push_word(text: &mut ArrayString<96>, word: u32)
+    requires room { array_string_len text.old + 8 ≤ 96 }
+    ensures text { text.new.bytes ≡ text.old.bytes ++ hex 8 word }
+    ensures len { array_string_len text.new ≡ array_string_len text.old + 8 }
+{
+    let digits = word_digits(word);
+    // Digits are ASCII, which is text as it is. A test of each byte would cost more than the digits do.
+    text.push_str(unsafe { str::from_utf8_unchecked(&digits) });
+}
+
+/// The eight hexadecimal digits of a word.
+#[inline(always)]
+#[tactic(auto, unfolding(crate::specs::Digits::hex))]
+fn word_digits(word: u32) -> [u8; 8]
+    ensures digits { result ≡ hex 8 word }
+    ensures text { IsUtf8 result }
+{
+    [
+        hex_byte(word / 0x1000_0000 % 16),
+        hex_byte(word / 0x100_0000 % 16),
+        hex_byte(word / 0x10_0000 % 16),
+        hex_byte(word / 0x1_0000 % 16),
+        hex_byte(word / 0x1000 % 16),
+        hex_byte(word / 0x100 % 16),
+        hex_byte(word / 0x10 % 16),
+        hex_byte(word % 16),
+    ]
+}
+
+/// A hexadecimal digit as a byte of text.
+#[inline(always)]
+fn hex_byte(digit: u32) -> u8
+    requires { digit < 16 }
+    ensures digit { result ≡ hex_digit digit }
+    ensures ascii { result < 128 }
+{
+    let digit = digit as u8;
+    if digit < 10 {
+        b'0' + digit
+    } else {
+        b'a' + (digit - 10)
     }
 }
 

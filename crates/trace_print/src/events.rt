@@ -5,7 +5,7 @@ ghost use Rattle.arrayvec.specs.ArrayString.{array_string_len};
 ghost use Rattle.rv_exec.specs.Line.{IsPrintable};
 ghost use Rattle.trace_print.specs.Text.{register_text, store_text, csr_text, trap_text, effect_text, line_text};
 
-use crate::digits::{push_decimal, push_hex, push_right, push_two_digits};
+use crate::digits::{push_decimal, push_hex, push_right, push_two_digits, push_word};
 use arrayvec::ArrayString;
 use rv_exec::{Effect, Event};
 
@@ -19,9 +19,9 @@ pub fn line(e: &Event) -> ArrayString<96>
     let mut text = ArrayString::new();
     push_right(&mut text, e.cycle, 10);
     text.push_str(" ");
-    push_hex(&mut text, u64::from(e.pc), 8);
+    push_word(&mut text, e.pc);
     text.push_str(" ");
-    push_hex(&mut text, u64::from(e.word), 8);
+    push_word(&mut text, e.word);
     text.push_str(" ");
     push_effect(&mut text, &e.effect);
     text.push_str("\n");
@@ -76,7 +76,7 @@ fn push_register(text: &mut ArrayString<96>, rd: u8, value: u32)
     text.push_str("x");
     push_two_digits(text, rd);
     text.push_str("=");
-    push_hex(text, u64::from(value), 8);
+    push_word(text, value);
 }
 
 /// Appends what is stored where.
@@ -87,11 +87,11 @@ fn push_store(text: &mut ArrayString<96>, address: u32, size: u8, value: u32)
     ensures len { array_string_len text.new ≤ array_string_len text.old + 23 }
 {
     text.push_str("[");
-    push_hex(text, u64::from(address), 8);
+    push_word(text, address);
     text.push_str("]/");
     push_decimal(text, size);
     text.push_str("=");
-    push_hex(text, u64::from(value), 8);
+    push_word(text, value);
 }
 
 /// Appends a CSR and the value that it keeps.
@@ -104,7 +104,7 @@ fn push_csr(text: &mut ArrayString<96>, csr: u16, value: u32)
     text.push_str("csr ");
     push_hex(text, u64::from(csr), 3);
     text.push_str("=");
-    push_hex(text, u64::from(value), 8);
+    push_word(text, value);
 }
 
 /// Appends a trap's cause and the address where the thread goes on.
@@ -117,5 +117,5 @@ fn push_trap(text: &mut ArrayString<96>, cause: u8, target: u32)
     text.push_str("trap ");
     push_decimal(text, cause);
     text.push_str(" -> ");
-    push_hex(text, u64::from(target), 8);
+    push_word(text, target);
 }

@@ -9,6 +9,6 @@ mod places;
 mod refusals;
 
 pub use bounds::bound_line;
-pub use digits::{push_decimal, push_hex, push_right};
+pub use digits::{push_decimal, push_hex, push_right, push_word};
 pub use events::line;
 pub use refusals::{Refusal, refusal_line};
