@@ -5,7 +5,7 @@ use Rattle.fp_io.specs.Content.{FileMap}
 use Rattle.fp_ports.specs.Rows.{Row}
 use Rattle.ask_words.specs.Commands.{ask}
 use Rattle.ask_words.specs.declared.asked.Ask.{Ask}
-use Rattle.machine.proofs.Putting.{appends_nothing}
+use Rattle.fp_io.proofs.Fronts.{appends_nothing}
 use Rattle.flexpret_top.specs.Answer.Answer.{Says}
 use Rattle.flexpret_top.specs.Command.{IsAnswer, IsAnswerTo, Said, Answered}
 

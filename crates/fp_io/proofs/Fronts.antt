@@ -6,6 +6,16 @@ use Rattle.std.specs.Io.KnownBytes.{Appends}
 use Rattle.fp_io.specs.Content.{AppendsFront}
 use Rattle.fp_io.specs.Real.{followed}
 
+pub appends_nothing : (taken : Option (List ℕ)) → Appends taken taken []
+appends_nothing None = tt
+appends_nothing (Some xs) = sym (append-nil xs)
+
+pub appends_more : (before between after : Option (List ℕ)) (xs ys : List ℕ) → Appends before between xs → Appends between after ys → Appends before after (xs ++ ys)
+appends_more None between after xs ys first second = tt
+appends_more (Some told) None after xs ys first second = absurd first
+appends_more (Some told) (Some more) None xs ys first second = absurd second
+appends_more (Some told) (Some more) (Some most) xs ys first second = second ∙ ap (λ zs. zs ++ ys) first ∙ append_assoc told xs ys
+
 -- the first of a piece, after another piece, is the first of a whole that begins with both
 pub appends_front : (before between after : Option (List ℕ)) (xs ys rest whole : List ℕ) →
     whole ≡ (xs ++ ys) ++ rest → Appends before between xs → AppendsFront between after ys → AppendsFront before after whole

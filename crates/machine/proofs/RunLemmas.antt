@@ -18,7 +18,7 @@ use Rattle.machine_model.specs.Laws.{Unplugged, with_kept}
 use Rattle.machine_model.proofs.PortLemmas.{unplugs, goes_on, kept-row}
 use Rattle.machine.specs.declared.state.Machine.{Machine}
 use Rattle.machine.specs.Meaning.{StandsFor, IsLeft, AreLeft, Ticks, HasRun, Stopped}
-use Rattle.machine.proofs.Putting.{appends_nothing, appends_more, appends_front}
+use Rattle.fp_io.proofs.Fronts.{appends_nothing, appends_more, appends_front}
 
 left_words : (before after : Option Row) (stays : Bool) → words_of after ≡ words_of (if stays then before else None) → IsLeft before after
 left_words before None stays h = tt

@@ -1,4 +1,3 @@
-mod Appends
 mod History
 mod Positions
 mod SetupViews

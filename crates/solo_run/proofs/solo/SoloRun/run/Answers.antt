@@ -4,7 +4,7 @@ use Rattle.std.specs.Io.KnownBytes.{Appends}
 use Rattle.core_model.specs.Solo.{solo_at}
 use Rattle.solo_run.specs.Solo.{setting_of, alone_of, view_of}
 use Rattle.solo_run.specs.Text.{shown_in, event_text}
-use Rattle.solo_run.proofs.Appends.{appends_nothing, appends_more, appends_front}
+use Rattle.fp_io.proofs.Fronts.{appends_nothing, appends_more, appends_front}
 use Rattle.solo_run.proofs.History.{past-next, text_at, text-next, text_goes_on, turn_is}
 use Rattle.solo_run.proofs.solo.SoloRun.run.Goals as goal
 
