@@ -6,7 +6,7 @@ ghost use Rattle.trace_print.specs.Digits.{hex};
 ghost use Rattle.dump_text.specs.Lines.{cycles_text, thread_text, held_text, stage_text, word_text, words_text, thread_words_text, moment_text, timer_text, port_text, latch_text, memory_text};
 
 use arrayvec::ArrayString;
-use trace_print::{push_decimal, push_hex};
+use trace_print::{push_decimal, push_hex, push_word};
 
 /// What a stage holds, as a dump shows it.
 #[derive(Clone, Copy, Debug)]
@@ -53,7 +53,7 @@ pub fn word_line(name: &str, word: u32) -> ArrayString<96>
     let mut text = ArrayString::new();
     text.push_str(name);
     text.push_str(" ");
-    push_hex(&mut text, u64::from(word), 8);
+    push_word(&mut text, word);
     text.push_str("\n");
     text
 }
@@ -98,7 +98,7 @@ fn push_sleep(text: &mut ArrayString<96>, sleep: u64, high: u32)
     text.push_str(" sleep ");
     push_hex(text, sleep, 16);
     text.push_str(" high ");
-    push_hex(text, u64::from(high), 8);
+    push_word(text, high);
 }
 
 /// The line of a thread's latch, which is open where no port is there.
@@ -122,7 +122,7 @@ pub fn memory_line(address: u32, words: &[u32]) -> ArrayString<96>
 {
     let mut text = ArrayString::new();
     text.push_str("[");
-    push_hex(&mut text, u64::from(address), 8);
+    push_word(&mut text, address);
     text.push_str("]");
     push_words(&mut text, words);
     text.push_str("\n");
@@ -157,9 +157,9 @@ fn push_held(text: &mut ArrayString<96>, held: &Held)
         Held::Issue { thread, pc, word } => {
             push_thread(text, thread);
             text.push_str(" ");
-            push_hex(text, u64::from(pc), 8);
+            push_word(text, pc);
             text.push_str(" ");
-            push_hex(text, u64::from(word), 8);
+            push_word(text, word);
         }
     }
 }
@@ -185,7 +185,7 @@ fn push_port(text: &mut ArrayString<96>, latch: Option<u32>)
     ensures len { array_string_len text.new ≤ array_string_len text.old + 8 }
 {
     match latch {
-        Some(latch) => push_hex(text, u64::from(latch), 8),
+        Some(latch) => push_word(text, latch),
         None => text.push_str("open"),
     }
 }
@@ -199,7 +199,7 @@ fn push_words(text: &mut ArrayString<96>, words: &[u32])
 {
     if let [first, rest @ ..] = words {
         text.push_str(" ");
-        push_hex(text, u64::from(*first), 8);
+        push_word(text, *first);
         push_words(text, rest);
     }
 }
