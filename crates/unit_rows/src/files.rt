@@ -120,10 +120,16 @@ fn slow(alloc: Global, n: &[u64; 8]) -> Result<String, AllocError> {
     Ok(text)
 }
 
-/// What the slow runtime's output takes.
+/// Puts a text to the slow runtime's output and flushes it, and tells what it takes.
 fn slow_out(alloc: Global, with: &str) -> Result<String, AllocError> {
     let (failing, text) = with.split_once(' ').unwrap_or((with, ""));
     let slow = Slow::new(low_word(numbers(failing)[0]));
-    let told = put(&mut OutSink::new(&slow), text);
-    format!(in alloc; "{told} {:x}", slow.taken.get())
+    let mut out = OutSink::new(&slow);
+    let told = put(&mut out, text);
+    let before = slow.taken.get();
+    let flushed = match out.flush() {
+        Ok(()) => "ok",
+        Err(_) => "failed",
+    };
+    format!(in alloc; "{told} {before:x} {flushed} {:x}", slow.taken.get())
 }
