@@ -27,3 +27,9 @@ returns-clause-read c = grind (arith, common_steps)
 
 pub returns-clause-rules : goal.returns-clause-rules
 returns-clause-rules c = grind (arith, common_steps)
+
+pub loop-index-init : goal.loop-index-init
+loop-index-init c = grind (arith, common_steps)
+
+pub from_vec-requires : goal.from_vec-requires
+from_vec-requires c = grind (arith, common_steps)

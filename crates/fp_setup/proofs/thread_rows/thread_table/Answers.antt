@@ -1,6 +1,7 @@
 use Rattle.std.proofs.Common.{arith}
 use Rattle.std.proofs.lemmas.Grind.{common_steps}
 use Rattle.fp_setup.specs.Tables.{thread_table_fault}
+use Rattle.fp_setup.specs.Meaning.{thread_of}
 use Rattle.fp_setup.proofs.thread_rows.thread_table.Goals as goal
 
 pub returns-in_err-no_other_key : goal.returns-in_err-no_other_key
@@ -34,3 +35,22 @@ returns-in_err-unplug c = grind (arith, common_steps)
 pub returns-in_err-inputs : goal.returns-in_err-inputs
 unfolding thread_table_fault
 returns-in_err-inputs c = grind (arith, common_steps)
+
+pub returns-clause-rules : goal.returns-clause-rules
+returns-clause-rules c = grind (arith, common_steps)
+
+pub returns-clause-inside : goal.returns-clause-inside
+returns-clause-inside c = grind (arith, common_steps)
+
+pub returns-clause-id : goal.returns-clause-id
+returns-clause-id c = grind (arith, common_steps)
+
+pub returns-clause-fresh : goal.returns-clause-fresh
+returns-clause-fresh c = grind (arith, common_steps)
+
+pub returns-clause-mode : goal.returns-clause-mode
+returns-clause-mode c = grind (arith, common_steps)
+
+pub returns-clause-read : goal.returns-clause-read
+unfolding thread_table_fault thread_of
+returns-clause-read c = grind (arith, common_steps)
