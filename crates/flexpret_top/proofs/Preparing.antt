@@ -1,5 +1,5 @@
 -- What was prepared answers the command.
-use Rattle.std.proofs.Common.{replicate, refl, ◌≡◌, ℕ, ◌≤◌, ◌^◌, List, length, Option, Some, None, Result, Ok, Err, arith, ap, sym, subst, ◌∙◌}
+use Rattle.std.proofs.Common.{refl, ◌≡◌, ℕ, ◌≤◌, ◌^◌, List, length, Option, Some, None, Result, Ok, Err, arith, ap, sym, subst, ◌∙◌}
 use Rattle.std.specs.Prelude.{IfSome, IfErr}
 use Rattle.ask_words.specs.declared.asked.Ask.{Ask}
 use Rattle.flexpret_top.specs.Command.{IsAnswerIn}
@@ -63,9 +63,6 @@ dump-prepares (Some files) name n before after r same ready =
       is = sym (ap (λ (q : Result Program Answer). ends (then_by q (dump_of before r.cycles))) ready.is);
       leaves = λ last leaves. record { made = ready.made; is = ready.is; ports = subst (λ (ports : List (Option Row)). PortsAfter (start_of ready.made before r.cycles) r.cycles ports last) ready.fed (leaves (start_of ready.made before r.cycles) ready.stands) };
     })
-
-abbrev pub none-there : List (Option Row)
-none-there = replicate 8 None
 
 -- the stops of commands that don't hang on the ports
 pub stop-asm : {A : Type 0} → (told : Option FileMap) (source : List ℕ) (asked : Ask) (ports : List (Option Row)) (before after : ℕ) (r : Result A Stop) → Asm source ≡ asked →

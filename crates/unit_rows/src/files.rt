@@ -1,7 +1,5 @@
 //! Files and sinks: those in memory with calls that fail, real ones, and those of a runtime that is slow.
 
-ghost use Rattle.std.specs.Prelude.{◌^◌, ◌-◌, ◌<◌};
-
 use crate::numbers::{low_word, numbers};
 use crate::slow::Slow;
 use fp_io::{FetchFault, Files, MemFiles, MemSink, OutSink, RealFiles, Sink};
