@@ -14,4 +14,5 @@ mod steps;
 
 pub use cycle_bound::{BoundNo, bound};
 pub use laws::{rounds_are_steps, stays_in_rounds};
+pub use matrix::Matrix;
 pub use steps::has_slot;
