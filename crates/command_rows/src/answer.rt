@@ -1,10 +1,11 @@
 //! What the program answers to a command.
 
-use crate::ports::{left_at, ports_of};
+use crate::devices::{DropPort, StepPort};
+use crate::ports::{half_of, left_at};
 use crate::table::{Case, Command, Cut};
 use flexpret_top::flexpret;
 use fp_io::{MemFiles, MemSink};
-use fp_ports::Ports;
+use fp_ports::{HeldPort, Ports, WavePort};
 use std::alloc::{AllocError, Global};
 use std::cell::Cell;
 use std::fmt::Write;
@@ -68,18 +69,44 @@ fn status_of(
     flexpret(alloc, words, files, out, ports)
 }
 
+/// The program's status beside devices of some kinds, and what is left at the ports then. The kinds have
+/// a space between two: `h` is a device that holds what it is fed, `wN` a square wave, `step` one that
+/// shows the cycle, `drop` one that counts its drops in `drops`, `-` none.
+fn status_beside(
+    alloc: Global,
+    kinds: &str,
+    drops: &Rc<Cell<u32>>,
+    words: &[String],
+    files: &mut MemFiles,
+    out: &mut MemSink,
+) -> Result<(u8, String), AllocError> {
+    let mut ports: Ports = Vec::new(alloc);
+    for kind in kinds.split(' ') {
+        let half = half_of(kind);
+        match kind {
+            "h" => ports.push(Some(Box::new(alloc, HeldPort::new(alloc))?))?,
+            "step" => ports.push(Some(Box::new(alloc, StepPort::new())?))?,
+            "drop" => ports.push(Some(Box::new(alloc, DropPort::new(alloc, drops)?)?))?,
+            _ if half > 0 => ports.push(Some(Box::new(alloc, WavePort::new(alloc, half))?))?,
+            _ => ports.push(None)?,
+        }
+    }
+    let status = status_of(alloc, words, files, out, &mut ports);
+    Ok((status, left_at(alloc, ports, drops)?))
+}
+
 /// The answer to a command of a case.
 pub fn answer_to(alloc: Global, case: &Case, command: &Command) -> Result<Answer, AllocError> {
     let words = words_of(alloc, command.line.as_str())?;
     let mut files = files_of(alloc, case, command)?;
     let mut out = sink_of(alloc, command.fails.put)?;
     let drops = Rc::new(alloc, Cell::new(0))?;
-    let mut ports = ports_of(alloc, case.ports.as_str(), &drops)?;
-    let status = status_of(alloc, &words, &mut files, &mut out, &mut ports);
+    let kinds = case.ports.as_str();
+    let (status, ports) = status_beside(alloc, kinds, &drops, &words, &mut files, &mut out)?;
     Ok(Answer {
         status,
         text: Vec::from_slice(alloc, out.bytes())?,
-        ports: left_at(alloc, ports, &drops)?,
+        ports,
     })
 }
 

@@ -3,8 +3,9 @@
 ghost use Rattle.std.specs.Prelude.{◌≡◌, All, length};
 ghost use Rattle.pipeline_core.specs.Fits.{IsPc};
 
-use crate::pipelines::{guard, one_port, sched};
+use crate::pipelines::{guard, sched};
 use fp_io::MemSink;
+use fp_ports::Ports;
 use machine::Machine;
 use pipeline_core::{Held, Pipe, Units};
 use regfile_bank::Bank;
@@ -62,7 +63,10 @@ fn trace_of(alloc: Global, machine: &mut Machine) -> Result<String, AllocError>
     requires { machine.old.at ≡ 0 }
 {
     let mut out = MemSink::new(alloc, 4096)?;
-    let mut ports = one_port(alloc)?;
+    let mut ports: Ports = Vec::new(alloc);
+    for _count in 0..8usize {
+        ports.push(None)?;
+    }
     let ran = machine.run(11, 0, &mut ports, &mut out);
     let mut text = String::new(alloc);
     for line in str::from_utf8(out.bytes()).unwrap_or("").lines() {

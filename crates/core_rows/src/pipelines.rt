@@ -80,18 +80,6 @@ fn units(alloc: Global, sched: Sched, guard: Guard, imem: Spm) -> Result<Units, 
     })
 }
 
-/// The ports, with a device at that of thread 0 alone.
-pub fn one_port(alloc: Global) -> Result<Ports, AllocError>
-    ensures { IfOk result (λ ports. vec_len ports ≡ 8) }
-{
-    let mut ports: Ports = Vec::new(alloc);
-    ports.push(Some(Box::new(alloc, HeldPort::new(alloc))?))?;
-    for _count in 1..8usize {
-        ports.push(None)?;
-    }
-    Ok(ports)
-}
-
 /// Feeds pairs of a cycle and a word to thread 0's device.
 fn feed(ports: &mut Ports, pairs: &str) -> Result<(), AllocError>
     requires { vec_len ports.old ≡ 8 }
@@ -134,23 +122,28 @@ fn push_events(
     Ok(())
 }
 
-/// The events of some cycles, and the latch of thread 0's device then.
-fn shown(
+/// Appends the events of some cycles, and the latch of thread 0's device then. That is the one device
+/// that there is; it is fed before the first cycle.
+fn push_shown(
     alloc: Global,
+    text: &mut String,
     units: &mut Units,
-    ports: &mut Ports,
+    fed: &str,
     second: u32,
     cycles: u64,
-) -> Result<String, AllocError>
-    requires { vec_len ports.old ≡ 8 }
-{
-    let entries = [0, second / 4 * 4, 0, 0, 0, 0, 0, 0];
-    let mut text = String::new(alloc);
-    push_events(&mut text, units, ports, entries, cycles.min(1000))?;
-    if let Some(latch) = latch_of(ports, 0) {
-        write!(text, "latch {latch:x}")?;
+) -> Result<(), AllocError> {
+    let mut ports: Ports = Vec::new(alloc);
+    ports.push(Some(Box::new(alloc, HeldPort::new(alloc))?))?;
+    for _count in 1..8usize {
+        ports.push(None)?;
     }
-    Ok(text)
+    feed(&mut ports, fed)?;
+    let entries = [0, second / 4 * 4, 0, 0, 0, 0, 0, 0];
+    push_events(text, units, &mut ports, entries, cycles.min(1000))?;
+    match latch_of(&ports, 0) {
+        Some(latch) => write!(text, "latch {latch:x}"),
+        None => Ok(()),
+    }
 }
 
 /// The events of a program: the registers of slots and modes, the entry of thread 1 and how many cycles;
@@ -163,7 +156,8 @@ pub fn events_of(alloc: Global, program: &str) -> Result<String, AllocError> {
         return String::from_str(alloc, "no registers");
     };
     let mut units = units(alloc, sched, guard, imem)?;
-    let mut ports = one_port(alloc)?;
-    feed(&mut ports, parts.next().unwrap_or(""))?;
-    shown(alloc, &mut units, &mut ports, low_word(n[2]), n[3])
+    let mut text = String::new(alloc);
+    let fed = parts.next().unwrap_or("");
+    push_shown(alloc, &mut text, &mut units, fed, low_word(n[2]), n[3])?;
+    Ok(text)
 }
