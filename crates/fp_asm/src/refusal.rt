@@ -2,64 +2,48 @@
 ghost use Rattle.std.specs.Prelude.{◌≡◌};
 
 use std::alloc::{AllocError, AllocFailed};
-use std::error::Error;
-use std::fmt;
+use thiserror::Error;
 
 /// What is wrong with a source. The numbers are shown to the user.
-#[derive(Clone, Copy, Debug, PartialEq, Eq)]
+#[derive(Clone, Copy, Debug, PartialEq, Eq, Error)]
 pub enum AsmNo {
     /// More than 1,048,576 bytes.
+    #[error("the source is too long")]
     TooLong = 1,
     /// The line has no tokens: a bad byte, a bad number, or more than 64 tokens.
+    #[error("a bad byte, a bad number or too many tokens")]
     Lex = 2,
     /// The name before the operands is no mnemonic.
+    #[error("an unknown name")]
     UnknownName = 3,
     /// The operands' number or form is wrong, or what follows the labels begins with no name.
+    #[error("wrong operands")]
     Operands = 4,
     /// A number or a way is outside its range.
+    #[error("a number out of range")]
     OutOfRange = 5,
     /// A label that was there before.
+    #[error("a label that is there already")]
     DoubleLabel = 6,
     /// A label that is nowhere.
+    #[error("an unknown label")]
     NoLabel = 7,
     /// A place, a size or a branch's address that is no multiple of four.
+    #[error("no multiple of four")]
     Misaligned = 8,
     /// A word outside the scratchpads.
+    #[error("a word outside the scratchpads")]
     OutsideMemory = 9,
     /// A word where one was placed before.
+    #[error("a word where there is one already")]
     Overlap = 10,
     /// More than 16 runs of placed words.
+    #[error("more than 16 segments")]
     TooManySegments = 11,
 }
 
-impl AsmNo {
-    fn text(self) -> &'static str {
-        match self {
-            AsmNo::TooLong => "the source is too long",
-            AsmNo::Lex => "a bad byte, a bad number or too many tokens",
-            AsmNo::UnknownName => "an unknown name",
-            AsmNo::Operands => "wrong operands",
-            AsmNo::OutOfRange => "a number out of range",
-            AsmNo::DoubleLabel => "a label that is there already",
-            AsmNo::NoLabel => "an unknown label",
-            AsmNo::Misaligned => "no multiple of four",
-            AsmNo::OutsideMemory => "a word outside the scratchpads",
-            AsmNo::Overlap => "a word where there is one already",
-            AsmNo::TooManySegments => "more than 16 segments",
-        }
-    }
-}
-
-impl fmt::Display for AsmNo {
-    fn fmt<W: fmt::Write>(&self, f: &mut fmt::Formatter<W>) -> fmt::Result {
-        f.write_str(self.text())
-    }
-}
-
-impl Error for AsmNo {}
-
 /// Why a source has no image.
-#[derive(Clone, Copy, Debug, PartialEq, Eq, thiserror::Error)]
+#[derive(Clone, Copy, Debug, PartialEq, Eq, Error)]
 pub enum AsmRefused {
     /// The first fault. Lines count from 1; a fault of the whole source has line 0.
     #[error("line {line}: {code}")]
