@@ -21,13 +21,17 @@ pub fn answer_text(alloc: Global, source: &[u8]) -> Result<String, AllocError> {
 fn image_text(alloc: Global, image: &Image) -> Result<String, AllocError> {
     let mut text = String::from_str(alloc, "image")?;
     for segment in image.segments() {
-        let address = segment.address;
-        write!(text, " {address:08x} ")?;
-        for byte in segment.bytes.as_slice() {
-            write!(text, "{byte:02x}")?;
-        }
+        push_segment(&mut text, segment.address, segment.bytes.as_slice())?;
     }
     Ok(text)
+}
+
+fn push_segment(text: &mut String, address: u32, bytes: &[u8]) -> Result<(), AllocError> {
+    write!(text, " {address:08x} ")?;
+    for byte in bytes {
+        write!(text, "{byte:02x}")?;
+    }
+    Ok(())
 }
 
 /// Whether a source is assembled to the image with these bytes.
