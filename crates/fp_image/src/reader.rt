@@ -26,6 +26,9 @@ pub fn read_image(alloc: Global, bytes: &[u8], size: u32) -> Result<Image, Image
     read_segments(alloc, &bytes[8..], count, size, bytes.len() as u32)
 }
 
+/// How many segments an image may have.
+const MOST_SEGMENTS: u32 = 16;
+
 /// The number of segments of a file.
 #[tactic(auto, unfolding(crate::specs::Format::count_of))]
 fn count_of(bytes: &[u8], size: u32) -> Result<u32, ImageRefused>
@@ -45,7 +48,7 @@ fn count_of(bytes: &[u8], size: u32) -> Result<u32, ImageRefused>
         return Err(fault(ImageNo::Truncated, bytes.len() as u32));
     }
     let count = LittleEndian::read_u32(&bytes[4..]);
-    if count > 16 {
+    if count > MOST_SEGMENTS {
         return Err(fault(ImageNo::BadSegment, 4));
     }
     Ok(count)
