@@ -1,20 +1,25 @@
 -- Rows of tables, by their names.
-use Rattle.std.proofs.Common.{◌≡◌, ℕ, ◌<◌, ◌&&◌, List, [], ◌∷◌, Some, Bool, true, false, option_map, map, find, refl, cond, Bor, nat_lt, arith}
+use Rattle.std.proofs.Common.{◌≡◌, ℕ, ◌<◌, ◌&&◌, List, [], ◌∷◌, Option, Some, None, Bool, true, false, option_map, map, find, refl, sym, cond, Bor, nat_lt, arith, ap, ◌∙◌, take, drop}
 use Rattle.std.specs.Str.{bytes_eq}
 use Rattle.std.specs.List.{list_all}
+use Rattle.std.specs.Option.{option_or}
+use Rattle.std.proofs.lemmas.List.Folds.{find-append}
 use Rattle.std.proofs.lemmas.Bool.Decides.{nat_tests}
-use Rattle.fp_asm.specs.Mnemonics.{row_named}
+use Rattle.fp_asm.specs.Mnemonics.{Mnemonic, mnemonics, mnemonic, row_named}
 use Rattle.fp_asm.specs.Names.{named, registers, register}
 use Rattle.fp_asm.specs.Views.{mnemonic_seen, name_seen}
 use Rattle.fp_asm.specs.declared.table.Row.{Row}
 
-pub found_row : (rows : List Row) (text : List ℕ) → row_named (map mnemonic_seen rows) text ≡ option_map mnemonic_seen (find (λ row. bytes_eq row.name.now text) rows)
+found_row : (rows : List Row) (text : List ℕ) → row_named (map mnemonic_seen rows) text ≡ option_map mnemonic_seen (find (λ row. bytes_eq row.name.now text) rows)
 found_row [] text = refl
 found_row (r ∷ rs) text = go (bytes_eq r.name.now text) (found_row rs text)
   where
     go : (b : Bool) → row_named (map mnemonic_seen rs) text ≡ option_map mnemonic_seen (find (λ row. bytes_eq row.name.now text) rs) → cond b (Some (mnemonic_seen r)) (row_named (map mnemonic_seen rs) text) ≡ option_map mnemonic_seen (cond b (Some r) (find (λ row. bytes_eq row.name.now text) rs))
     go true h = refl
     go false h = h
+
+pub table_row : (rows : List Row) (table : List Mnemonic) (text : List ℕ) (found : Option Row) → map mnemonic_seen rows ≡ table → found ≡ find (λ row. bytes_eq row.name.now text) rows → option_map mnemonic_seen found ≡ row_named table text
+table_row rows table text found same e = ap (option_map mnemonic_seen) e ∙ sym (found_row rows text) ∙ ap (λ rows. row_named rows text) same
 
 pub found_number : (rows : List (Bor (List ℕ) × ℕ)) (text : List ℕ) → named (map name_seen rows) text ≡ option_map (λ row. row.1) (find (λ row. bytes_eq row.0.now text) rows)
 found_number [] text = refl
@@ -41,3 +46,29 @@ named_small limit (r ∷ rs) text n all found = go (bytes_eq r.0 text) (nat_lt r
 pub register_small : (text : List ℕ) (n : ℕ) → register text ≡ Some n → n < 32
 unfolding register registers
 register_small text n h = named_small 32 registers text n refl h
+
+module _ (text : List ℕ) where
+  abbrev first : Option Mnemonic
+  first = row_named (take 27 mnemonics) text
+
+  abbrev second : Option Mnemonic
+  second = row_named (take 35 (drop 27 mnemonics)) text
+
+  abbrev third : Option Mnemonic
+  third = row_named (drop 62 mnemonics) text
+
+  -- the row of a name, in three tables
+  in_three : mnemonic text ≡ option_or first (option_or second third)
+  unfolding mnemonic mnemonics
+  in_three =
+      find-append (λ row. bytes_eq row.name text) (take 27 mnemonics) (drop 27 mnemonics)
+      ∙ ap (option_or first) (find-append (λ row. bytes_eq row.name text) (take 35 (drop 27 mnemonics)) (drop 62 mnemonics))
+
+  pub in_first : (row : Mnemonic) → Some row ≡ first → Some row ≡ mnemonic text
+  in_first row e = sym (in_three ∙ ap (λ found. option_or found (option_or second third)) (sym e))
+
+  pub in_second : (row : Mnemonic) → None ≡ first → Some row ≡ second → Some row ≡ mnemonic text
+  in_second row none e = sym (in_three ∙ ap (λ found. option_or found (option_or second third)) (sym none) ∙ ap (λ found. option_or found third) (sym e))
+
+  pub in_third : (found : Option Mnemonic) → None ≡ first → None ≡ second → found ≡ third → found ≡ mnemonic text
+  in_third found none none2 e = sym (in_three ∙ ap (λ found. option_or found (option_or second third)) (sym none) ∙ ap (λ found. option_or found third) (sym none2) ∙ sym e)

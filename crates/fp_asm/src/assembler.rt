@@ -12,6 +12,9 @@ use super::second::Second;
 use fp_image::Image;
 use std::alloc::Global;
 
+/// How many bytes a source may have.
+const MOST_BYTES: usize = 1_048_576;
+
 // The image of the lines.
 #[tactic(auto, unfolding(crate::specs::Source::assembled_lines))]
 fn assemble_lines(alloc: Global, lines: &[&[u8]]) -> Result<Image, AsmRefused>
@@ -47,7 +50,7 @@ pub fn assemble(alloc: Global, source: &[u8]) -> Result<Image, AsmRefused>
     ensures image { IfOk result (λ image. assembled source.now ≡ Ok image) }
     ensures refused { IfErr result (IsFaultOf (assembled source.now)) }
 {
-    if source.len() > 1_048_576 {
+    if source.len() > MOST_BYTES {
         return Err(AsmRefused::Fault {
             line: 0,
             code: AsmNo::TooLong,

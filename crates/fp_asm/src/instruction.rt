@@ -8,7 +8,7 @@ ghost use Rattle.fp_asm.specs.Seen.{operands_seen};
 
 use super::operands::Operands;
 use super::table::Plain;
-use rv_decode::{ImmOp, Ins, encode};
+use rv_decode::{CsrKind, ImmOp, Ins, LoadOp, ShiftOp, StoreOp, encode};
 use std::alloc::{AllocError, Global};
 
 // A number of twelve bits with a sign.
@@ -37,6 +37,137 @@ fn up_to(most: u32, number: i64) -> Option<u32>
     }
 }
 
+#[tactic(auto, unfolding(crate::specs::Words::instruction))]
+fn op_imm(op: ImmOp, operands: &Operands) -> Option<Ins>
+    requires { HasRegisters (operands_seen operands.now) }
+    ensures instruction { result ≡ instruction_of (Plain.OpImm op) (operands_seen operands.now) }
+    ensures in_range { IfSome result InRange }
+{
+    let imm = signed_12(operands.given)?;
+    Some(Ins::OpImm {
+        op,
+        rd: operands.rd,
+        rs1: operands.rs1,
+        imm,
+    })
+}
+
+#[tactic(auto, unfolding(crate::specs::Words::instruction))]
+fn shift(op: ShiftOp, operands: &Operands) -> Option<Ins>
+    requires { HasRegisters (operands_seen operands.now) }
+    ensures instruction { result ≡ instruction_of (Plain.Shift op) (operands_seen operands.now) }
+    ensures in_range { IfSome result InRange }
+{
+    let amount = up_to(31, operands.given)?;
+    Some(Ins::Shift {
+        op,
+        rd: operands.rd,
+        rs1: operands.rs1,
+        amount: amount as u8,
+    })
+}
+
+#[tactic(auto, unfolding(crate::specs::Words::instruction))]
+fn load(op: LoadOp, operands: &Operands) -> Option<Ins>
+    requires { HasRegisters (operands_seen operands.now) }
+    ensures instruction { result ≡ instruction_of (Plain.Load op) (operands_seen operands.now) }
+    ensures in_range { IfSome result InRange }
+{
+    let imm = signed_12(operands.given)?;
+    Some(Ins::Load {
+        op,
+        rd: operands.rd,
+        rs1: operands.rs1,
+        imm,
+    })
+}
+
+#[tactic(auto, unfolding(crate::specs::Words::instruction))]
+fn store(op: StoreOp, operands: &Operands) -> Option<Ins>
+    requires { HasRegisters (operands_seen operands.now) }
+    ensures instruction { result ≡ instruction_of (Plain.Store op) (operands_seen operands.now) }
+    ensures in_range { IfSome result InRange }
+{
+    let imm = signed_12(operands.given)?;
+    Some(Ins::Store {
+        op,
+        rs1: operands.rs1,
+        rs2: operands.rs2,
+        imm,
+    })
+}
+
+#[tactic(auto, unfolding(crate::specs::Words::instruction))]
+fn jalr(operands: &Operands) -> Option<Ins>
+    requires { HasRegisters (operands_seen operands.now) }
+    ensures instruction { result ≡ instruction_of Plain.Jalr (operands_seen operands.now) }
+    ensures in_range { IfSome result InRange }
+{
+    let imm = signed_12(operands.given)?;
+    Some(Ins::Jalr {
+        rd: operands.rd,
+        rs1: operands.rs1,
+        imm,
+    })
+}
+
+#[tactic(auto, unfolding(crate::specs::Words::instruction))]
+fn lui(operands: &Operands) -> Option<Ins>
+    requires { HasRegisters (operands_seen operands.now) }
+    ensures instruction { result ≡ instruction_of Plain.Lui (operands_seen operands.now) }
+    ensures in_range { IfSome result InRange }
+{
+    let imm = up_to(1_048_575, operands.given)?;
+    Some(Ins::Lui {
+        rd: operands.rd,
+        imm,
+    })
+}
+
+#[tactic(auto, unfolding(crate::specs::Words::instruction))]
+fn auipc(operands: &Operands) -> Option<Ins>
+    requires { HasRegisters (operands_seen operands.now) }
+    ensures instruction { result ≡ instruction_of Plain.Auipc (operands_seen operands.now) }
+    ensures in_range { IfSome result InRange }
+{
+    let imm = up_to(1_048_575, operands.given)?;
+    Some(Ins::Auipc {
+        rd: operands.rd,
+        imm,
+    })
+}
+
+#[tactic(auto, unfolding(crate::specs::Words::instruction))]
+fn csr(op: CsrKind, operands: &Operands) -> Option<Ins>
+    requires { HasRegisters (operands_seen operands.now) }
+    ensures instruction { result ≡ instruction_of (Plain.Csr op) (operands_seen operands.now) }
+    ensures in_range { IfSome result InRange }
+{
+    let csr = up_to(4095, i64::from(operands.csr_number))?;
+    Some(Ins::Csr {
+        op,
+        rd: operands.rd,
+        csr: csr as u16,
+        src: operands.rs1,
+    })
+}
+
+#[tactic(auto, unfolding(crate::specs::Words::instruction))]
+fn csr_imm(op: CsrKind, operands: &Operands) -> Option<Ins>
+    requires { HasRegisters (operands_seen operands.now) }
+    ensures instruction { result ≡ instruction_of (Plain.CsrImm op) (operands_seen operands.now) }
+    ensures in_range { IfSome result InRange }
+{
+    let csr = up_to(4095, i64::from(operands.csr_number))?;
+    let src = up_to(31, operands.given)?;
+    Some(Ins::Csr {
+        op,
+        rd: operands.rd,
+        csr: csr as u16,
+        src: src as u8,
+    })
+}
+
 /// The instruction of a row that names no address, where each number is in its range.
 #[tactic(auto, unfolding(crate::specs::Words::instruction))]
 pub(crate) fn instruction(plain: Plain, operands: &Operands) -> Option<Ins>
@@ -47,66 +178,18 @@ pub(crate) fn instruction(plain: Plain, operands: &Operands) -> Option<Ins>
     let rd = operands.rd;
     let rs1 = operands.rs1;
     let rs2 = operands.rs2;
-    let number = operands.given;
     match plain {
         Plain::Op(op) => Some(Ins::Op { op, rd, rs1, rs2 }),
         Plain::Muldiv(op) => Some(Ins::Muldiv { op, rd, rs1, rs2 }),
-        Plain::OpImm(op) => match signed_12(number) {
-            Some(imm) => Some(Ins::OpImm { op, rd, rs1, imm }),
-            None => None,
-        },
-        Plain::Shift(op) => match up_to(31, number) {
-            Some(amount) => Some(Ins::Shift {
-                op,
-                rd,
-                rs1,
-                amount: amount as u8,
-            }),
-            None => None,
-        },
-        Plain::Load(op) => match signed_12(number) {
-            Some(imm) => Some(Ins::Load { op, rd, rs1, imm }),
-            None => None,
-        },
-        Plain::Store(op) => match signed_12(number) {
-            Some(imm) => Some(Ins::Store { op, rs1, rs2, imm }),
-            None => None,
-        },
-        Plain::Jalr => match signed_12(number) {
-            Some(imm) => Some(Ins::Jalr { rd, rs1, imm }),
-            None => None,
-        },
-        Plain::Lui => match up_to(1_048_575, number) {
-            Some(imm) => Some(Ins::Lui { rd, imm }),
-            None => None,
-        },
-        Plain::Auipc => match up_to(1_048_575, number) {
-            Some(imm) => Some(Ins::Auipc { rd, imm }),
-            None => None,
-        },
-        Plain::Csr(op) => match up_to(4095, i64::from(operands.csr_number)) {
-            Some(csr) => Some(Ins::Csr {
-                op,
-                rd,
-                csr: csr as u16,
-                src: rs1,
-            }),
-            None => None,
-        },
-        Plain::CsrImm(op) => {
-            match (
-                up_to(4095, i64::from(operands.csr_number)),
-                up_to(31, number),
-            ) {
-                (Some(csr), Some(src)) => Some(Ins::Csr {
-                    op,
-                    rd,
-                    csr: csr as u16,
-                    src: src as u8,
-                }),
-                _ => None,
-            }
-        }
+        Plain::OpImm(op) => op_imm(op, operands),
+        Plain::Shift(op) => shift(op, operands),
+        Plain::Load(op) => load(op, operands),
+        Plain::Store(op) => store(op, operands),
+        Plain::Jalr => jalr(operands),
+        Plain::Lui => lui(operands),
+        Plain::Auipc => auipc(operands),
+        Plain::Csr(op) => csr(op, operands),
+        Plain::CsrImm(op) => csr_imm(op, operands),
         Plain::Gt => Some(Ins::Gt { rd }),
         Plain::Gth => Some(Ins::Gth { rd }),
         Plain::Du => Some(Ins::Du { rs1, rs2 }),

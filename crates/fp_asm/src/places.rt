@@ -8,10 +8,13 @@ use super::refusal::{AsmNo, Stop};
 use std::alloc::AllocError;
 use std::collections::BTreeSet;
 
+/// The bytes of each scratchpad.
+const SPM_BYTES: u32 = 16_384;
+
 fn is_inside(a: u32) -> bool
     ensures { result ≡ is_inside_of a }
 {
-    a < 16_384 || (0x2000_0000 <= a && a < 0x2000_4000)
+    a < SPM_BYTES || (0x2000_0000 <= a && a < 0x2000_4000)
 }
 
 // Whether the scratchpads have n words from a place on.

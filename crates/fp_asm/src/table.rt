@@ -1,5 +1,5 @@
 //! The mnemonics: the name of each, the form of its operands, and what it makes of them.
-ghost use Rattle.std.specs.Prelude.{◌≡◌, find, map, option_map};
+ghost use Rattle.std.specs.Prelude.{◌≡◌, find, map, option_map, take, drop};
 ghost use Rattle.std.specs.Option.{option_copied};
 ghost use Rattle.std.specs.Str.{bytes_eq};
 ghost use Rattle.fp_asm.specs.Mnemonics.{mnemonics, mnemonic as mnemonic_of};
@@ -100,7 +100,8 @@ macro_rules! plain {
     };
 }
 
-static ROWS: [Row; 78] = [
+/// The rows that work on registers and numbers.
+static COMPUTING: [Row; 27] = [
     plain!(b"add", [Rd, Rs1, Rs2], Op(AluOp::Add)),
     plain!(b"sub", [Rd, Rs1, Rs2], Op(AluOp::Sub)),
     plain!(b"sll", [Rd, Rs1, Rs2], Op(AluOp::Sll)),
@@ -128,6 +129,10 @@ static ROWS: [Row; 78] = [
     plain!(b"slli", [Rd, Rs1, Number], Shift(ShiftOp::Slli)),
     plain!(b"srli", [Rd, Rs1, Number], Shift(ShiftOp::Srli)),
     plain!(b"srai", [Rd, Rs1, Number], Shift(ShiftOp::Srai)),
+];
+
+/// The rows that access memory, lead elsewhere, or concern the thread and its time.
+static ACTING: [Row; 35] = [
     plain!(b"lb", [Rd, Memory], Load(LoadOp::Lb)),
     plain!(b"lh", [Rd, Memory], Load(LoadOp::Lh)),
     plain!(b"lw", [Rd, Memory], Load(LoadOp::Lw)),
@@ -163,6 +168,10 @@ static ROWS: [Row; 78] = [
     plain!(b"mret", [], Mret),
     plain!(b"fence", [], Fence),
     plain!(b"fence.i", [], FenceI),
+];
+
+/// The pseudo-instructions and directives.
+static SHORTHANDS: [Row; 16] = [
     plain!(b"nop", [], OpImm(ImmOp::Addi)),
     plain!(b"mv", [Rd, Rs1], OpImm(ImmOp::Addi)),
     plain!(b"not", [Rd, Rs1], Not),
@@ -182,10 +191,24 @@ static ROWS: [Row; 78] = [
 ];
 
 #[tactic(auto, unfolding(crate::specs::Mnemonics::mnemonics))]
-fn rows() -> &'static [Row]
-    ensures { map mnemonic_seen result.now ≡ mnemonics }
+fn computing() -> &'static [Row]
+    ensures { map mnemonic_seen result.now ≡ take 27 mnemonics }
 {
-    &ROWS
+    &COMPUTING
+}
+
+#[tactic(auto, unfolding(crate::specs::Mnemonics::mnemonics))]
+fn acting() -> &'static [Row]
+    ensures { map mnemonic_seen result.now ≡ take 35 (drop 27 mnemonics) }
+{
+    &ACTING
+}
+
+#[tactic(auto, unfolding(crate::specs::Mnemonics::mnemonics))]
+fn shorthands() -> &'static [Row]
+    ensures { map mnemonic_seen result.now ≡ drop 62 mnemonics }
+{
+    &SHORTHANDS
 }
 
 fn row_of(rows: &'static [Row], text: &[u8]) -> Option<&'static Row>
@@ -195,9 +218,14 @@ fn row_of(rows: &'static [Row], text: &[u8]) -> Option<&'static Row>
 }
 
 /// The row of a name.
-#[tactic(auto, using(crate::proofs::Rows::found_row), unfolding(crate::specs::Mnemonics::mnemonic))]
 pub(crate) fn mnemonic(text: &[u8]) -> Option<&'static Row>
     ensures { option_map mnemonic_seen (option_copied result) ≡ mnemonic_of text.now }
 {
-    row_of(rows(), text)
+    if let Some(row) = row_of(computing(), text) {
+        return Some(row);
+    }
+    if let Some(row) = row_of(acting(), text) {
+        return Some(row);
+    }
+    row_of(shorthands(), text)
 }

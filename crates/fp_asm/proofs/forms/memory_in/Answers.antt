@@ -1,4 +1,4 @@
-use Rattle.std.proofs.Common.{arith, rules}
+use Rattle.std.proofs.Common.{arith}
 use Rattle.std.proofs.lemmas.Grind.{common_steps}
 use Rattle.fp_asm.specs.Operands.{memory_in}
 use Rattle.fp_asm.proofs.forms.memory_in.Goals as goal
