@@ -10,3 +10,6 @@ returns-in_ok-from_str-in-Some-clause-limits c = grind (arith, common_steps)
 
 pub returns-in-None-clause-refused : goal.returns-in-None-clause-refused
 returns-in-None-clause-refused c = grind (arith, common_steps)
+
+pub returns-then-texts-ne2-clause-refused : goal.returns-then-texts-ne2-clause-refused
+returns-then-texts-ne2-clause-refused c = grind (arith, common_steps)

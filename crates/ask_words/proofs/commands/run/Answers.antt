@@ -10,3 +10,6 @@ returns-in_ok-from_str-in-Some-Some-clause-limits c = grind (arith, common_steps
 
 pub returns-in_default-clause-refused : goal.returns-in_default-clause-refused
 returns-in_default-clause-refused c = grind (arith, common_steps)
+
+pub returns-then-texts-ne3-clause-refused : goal.returns-then-texts-ne3-clause-refused
+returns-then-texts-ne3-clause-refused c = grind (arith, common_steps)

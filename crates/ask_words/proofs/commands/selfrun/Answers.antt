@@ -7,3 +7,6 @@ returns-in-Some-clause-asked c = grind (arith, common_steps)
 
 pub returns-in-None-clause-refused : goal.returns-in-None-clause-refused
 returns-in-None-clause-refused c = grind (arith, common_steps)
+
+pub returns-then-texts-ne1-clause-refused : goal.returns-then-texts-ne1-clause-refused
+returns-then-texts-ne1-clause-refused c = grind (arith, common_steps)

@@ -10,3 +10,12 @@ returns-in-None c =
     let none : position_or_len is_equals c.in-Some.rest.now ≡ length c.in-Some.rest.now = search rules in
     let parts = no_equals c.in-Some.rest.now none in
     grind (arith, common_steps)
+
+pub returns-in_default : goal.returns-in_default
+returns-in_default c = grind (arith, common_steps)
+
+pub returns-in-Some-split_once : goal.returns-in-Some-split_once
+returns-in-Some-split_once c = grind (arith, common_steps)
+
+pub returns-in_default-split_once : goal.returns-in_default-split_once
+returns-in_default-split_once c = grind (arith, common_steps)
