@@ -1,5 +1,5 @@
 -- How a command ends, by what was prepared for it.
-use Rattle.std.proofs.Common.{◌≡◌, ◌⊎◌, ℕ, List, Option, Some, None, inl, inr, ap, sym, subst, ◌∙◌}
+use Rattle.std.proofs.Common.{◌≡◌, ◌⊎◌, ℕ, ◌<◌, List, Option, Some, None, inl, inr, refl, ap, sym, subst, ◌∙◌}
 use Rattle.std.specs.Prelude.{IfSome}
 use Rattle.fp_io.specs.Content.{FileMap, AppendsFront}
 use Rattle.fp_ports.specs.Rows.{Row}
@@ -7,10 +7,10 @@ use Rattle.ask_words.specs.Commands.{ask}
 use Rattle.ask_words.specs.declared.asked.Ask.{Ask}
 use Rattle.flexpret_top.specs.declared.ready.Prepared.{Prepared}
 use Rattle.flexpret_top.specs.declared.status.Status.{Status}
-use Rattle.flexpret_top.specs.declared.status.Status.TheVariants.{NoMemory}
+use Rattle.flexpret_top.specs.declared.status.Status.TheVariants.{Ok, Write, NoMemory}
 use Rattle.flexpret_top.specs.Answer.{IsAnswered}
 use Rattle.flexpret_top.specs.Answer.Answer.{Says}
-use Rattle.flexpret_top.specs.Command.{IsAnswer, IsAnswerIn, IsAnswerTo, Began, Answered}
+use Rattle.flexpret_top.specs.Command.{IsAnswer, IsAnswerIn, IsAnswerTo, Said, Began, Answered}
 use Rattle.flexpret_top.specs.Prepared.{Delivers, Prepares}
 use Rattle.flexpret_top.specs.Status.{number_of}
 
@@ -21,6 +21,25 @@ pub front-of : (told : Option FileMap) (asked : Ask) (ports fed : List (Option R
 front-of None asked ports fed p before after prepares puts = tt
 front-of (Some files) asked ports fed p before after prepares puts =
     record { answer = Says 0 prepares.written; is = prepares.is; front = puts prepares.written prepares.delivers }
+
+-- a command that ends well ends with no other status
+pub ok-no_write : Ok ≡ Write → ⊥
+ok-no_write e = cc
+
+-- what was prepared is the answer of the command that is done
+pub answered-of : (told : Option FileMap) (asked : Ask) (ports fed : List (Option Row)) (p : Prepared) → IfSome told (λ files. Prepares asked files ports fed p) →
+    IfSome told (λ files. (Ok ≡ NoMemory) ⊎ Answered (IsAnswerIn asked ports files) (number_of Ok))
+answered-of None asked ports fed p prepares = tt
+answered-of (Some files) asked ports fed p prepares = inr (record { answer = Says 0 prepares.written; is = prepares.is; answered = refl })
+
+-- what a command said is what the words that ask it say
+pub said-of : (told : Option FileMap) (words : List (List ℕ)) (asked : Ask) (ports : List (Option Row)) (s : Status) (n : ℕ) (before after : Option (List ℕ)) → ask words ≡ Some asked → n ≡ number_of s → n < 7 →
+    (number_of s < 7 → IfSome told (λ files. Said (IsAnswerIn asked ports files) (number_of s) before after)) → IfSome told (λ files. Said (IsAnswer words files ports) n before after)
+said-of told words asked ports s n before after is number small said =
+    let Small : ℕ → Type 0 = λ k. k < 7 in
+    let Of : ℕ → Type 0 = λ k. IfSome told (λ files. Said (IsAnswerIn asked ports files) k before after) in
+    let By : Option Ask → Type 0 = λ o. IfSome told (λ files. Said (IsAnswerTo o files ports) n before after) in
+    subst By (sym is) (subst Of (sym number) (said (subst Small number small)))
 
 -- the answer of a command is that of the words that ask it
 pub complete-of : (told : Option FileMap) (words : List (List ℕ)) (asked : Ask) (ports : List (Option Row)) (s : Status) (n : ℕ) → ask words ≡ Some asked → n ≡ number_of s →

@@ -1,8 +1,9 @@
-use Rattle.std.proofs.Common.{map}
+use Rattle.std.proofs.Common.{◌∙◌, ap, arith, map}
 use Rattle.std.specs.Prelude.{string_bytes}
 use Rattle.fp_ports.specs.Rows.{rows_of}
-use Rattle.flexpret_top.proofs.Ending.{complete-of}
+use Rattle.flexpret_top.proofs.Ending.{complete-of, said-of}
 use Rattle.ask_words.specs.Commands.{ask}
+use Rattle.flexpret_top.specs.Status.{number_of}
 use Rattle.flexpret_top.proofs.Headlines.{alone-of, said-zero, visits-of}
 use Rattle.flexpret_top.proofs.Usage.{usage-said, usage-answered}
 use Rattle.flexpret_top.proofs.command.flexpret.Goals as goal
@@ -18,6 +19,19 @@ returns-in-Err-Usage-clause-complete g c no_fetch_fault no_put_fault =
     let rows = rows_of (λ b. (goal.Port-dyn g (b.vtable, b.value)).latched b.value) (λ b. (goal.Port-dyn g (b.vtable, b.value)).word_at b.value) c.args.ports.now.items in
     let nothing = rw c.in-Err-Usage.field-0-is at c.in-Err-Usage.ensures.refused in
     usage-answered (g.F.Files.told c.args.files.now) (map string_bytes c.args.words.now) rows c.number-in-Err-Usage.result c.number-in-Err-Usage.ensures nothing
+
+pub returns-in-Ok-clause-said : goal.returns-in-Ok-clause-said
+returns-in-Ok-clause-said g c small =
+    let rows = rows_of (λ b. (goal.Port-dyn g (b.vtable, b.value)).latched b.value) (λ b. (goal.Port-dyn g (b.vtable, b.value)).word_at b.value) c.args.ports.now.items in
+    said-of (g.F.Files.told c.args.files.now) (map string_bytes c.args.words.now) c.in-Ok.ask rows c.answer.result c.number.result (g.K.Sink.taken c.args.out.now) (g.K.Sink.taken c.answer.new.out)
+    c.in-Ok.ensures.asked c.number.ensures small c.answer.ensures.said
+
+pub returns-in-Ok-clause-kept : goal.returns-in-Ok-clause-kept
+returns-in-Ok-clause-kept g c least most =
+    c.answer.ensures.kept
+    (λ ok. omega (arith, c.number.ensures ∙ ap number_of ok, least))
+    (λ write. omega (arith, c.number.ensures ∙ ap number_of write, most))
+    (λ memory. omega (arith, c.number.ensures ∙ ap number_of memory, most))
 
 pub returns-in-Ok-clause-complete : goal.returns-in-Ok-clause-complete
 returns-in-Ok-clause-complete g c no_fetch_fault no_put_fault =
