@@ -4,9 +4,10 @@ use Rattle.std.specs.Prelude.{OnOk, OnErr}
 use Rattle.std.specs.Io.KnownBytes.{Appends}
 use Rattle.fp_io.specs.Content.{AppendsFront}
 use Rattle.fp_ports.specs.Rows.{Row}
-use Rattle.world_model.specs.World.{Start}
+use Rattle.trace_print.specs.Text.{text}
+use Rattle.world_model.specs.World.{Start, events}
 use Rattle.machine.specs.declared.state.Machine.{Machine}
-use Rattle.machine.specs.Meaning.{StandsFor, HasRun, AreLeft, PortsAfter}
+use Rattle.machine.specs.Meaning.{StandsFor, HasRun, Stopped, AreLeft, PortsAfter}
 use Rattle.machine.proofs.WordLemmas.{ports_after}
 use Rattle.machine_model.specs.Seen.{seen}
 use Rattle.flexpret_top.specs.declared.ready.Ready.{Ready}
@@ -42,3 +43,18 @@ pub ports-run : {A E : Type 0} → (r : Ready) (thread : ℕ) (first rows : List
     OnOk put ((s : Start) → StandsFor s 0 r.cycles r.machine first → PortsAfter s r.cycles first rows)
 ports-run r thread first rows m before after (Ok x) words runs = λ s st. ports_after s r.cycles r.cycles m first rows (runs s st).stands words
 ports-run r thread first rows m before after (Err e) words runs = tt
+
+-- what a run puts
+pub trace-ok : {A E : Type 0} → (r : Ready) (thread : ℕ) (first rows : List (Option Row)) (m : Machine) (before after : Option (List ℕ)) (put : Result A E) →
+    OnOk put ((s : Start) → StandsFor s 0 r.cycles r.machine first → HasRun s r.cycles r.cycles thread first m rows before after) →
+    OnOk put ((written : List ℕ) → Runs r first (λ s. text (events s thread r.cycles)) written → Appends before after written)
+trace-ok r thread first rows m before after (Ok x) run =
+    λ written runs. (let Told : List ℕ → Type 0 = Appends before after in subst Told (sym runs.text_is) (run runs.start runs.stands).put)
+trace-ok r thread first rows m before after (Err e) run = tt
+
+pub trace-err : {A E : Type 0} → (r : Ready) (thread : ℕ) (first rows : List (Option Row)) (m : Machine) (before after : Option (List ℕ)) (put : Result A E) →
+    OnErr put ((s : Start) → StandsFor s 0 r.cycles r.machine first → Stopped s r.cycles thread first m rows before after) →
+    OnErr put ((written : List ℕ) → Runs r first (λ s. text (events s thread r.cycles)) written → AppendsFront before after written)
+trace-err r thread first rows m before after (Ok x) run = tt
+trace-err r thread first rows m before after (Err e) run =
+    λ written runs. (let Told : List ℕ → Type 0 = AppendsFront before after in subst Told (sym runs.text_is) (run runs.start runs.stands).put)
