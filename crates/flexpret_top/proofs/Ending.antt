@@ -1,5 +1,5 @@
 -- How a command ends, by what was prepared for it.
-use Rattle.std.proofs.Common.{◌≡◌, ◌⊎◌, ℕ, ◌<◌, List, Option, Some, None, inl, inr, refl, ap, sym, subst, ◌∙◌}
+use Rattle.std.proofs.Common.{◌≡◌, ◌⊎◌, ℕ, ◌<◌, List, Option, Some, None, inl, inr, refl, ap, sym, subst, ◌∙◌, arith}
 use Rattle.std.specs.Prelude.{IfSome}
 use Rattle.fp_io.specs.Content.{FileMap, AppendsFront}
 use Rattle.fp_ports.specs.Rows.{Row}
@@ -7,7 +7,7 @@ use Rattle.ask_words.specs.Commands.{ask}
 use Rattle.ask_words.specs.declared.asked.Ask.{Ask}
 use Rattle.flexpret_top.specs.declared.ready.Prepared.{Prepared}
 use Rattle.flexpret_top.specs.declared.status.Status.{Status}
-use Rattle.flexpret_top.specs.declared.status.Status.TheVariants.{Ok, Write, NoMemory}
+use Rattle.flexpret_top.specs.declared.status.Status.TheVariants.{Ok, Usage, Setup, Image, Source, Bound, Read, Write, NoMemory}
 use Rattle.flexpret_top.specs.Answer.{IsAnswered}
 use Rattle.flexpret_top.specs.Answer.Answer.{Says}
 use Rattle.flexpret_top.specs.Command.{IsAnswer, IsAnswerIn, IsAnswerTo, Said, Began, Answered}
@@ -21,6 +21,45 @@ pub front-of : (told : Option FileMap) (asked : Ask) (ports fed : List (Option R
 front-of None asked ports fed p before after prepares puts = tt
 front-of (Some files) asked ports fed p before after prepares puts =
     record { answer = Says 0 prepares.written; is = prepares.is; front = puts prepares.written prepares.delivers }
+
+-- a status by its number
+pub usage-of : (s : Status) → number_of s ≡ 2 → s ≡ Usage
+usage-of Ok e = absurd (omega (arith, e))
+usage-of Usage e = refl
+usage-of Setup e = absurd (omega (arith, e))
+usage-of Image e = absurd (omega (arith, e))
+usage-of Source e = absurd (omega (arith, e))
+usage-of Bound e = absurd (omega (arith, e))
+usage-of Read e = absurd (omega (arith, e))
+usage-of Write e = absurd (omega (arith, e))
+usage-of NoMemory e = absurd (omega (arith, e))
+
+read-of : (s : Status) → number_of s ≡ 7 → s ≡ Read
+read-of Ok e = absurd (omega (arith, e))
+read-of Usage e = absurd (omega (arith, e))
+read-of Setup e = absurd (omega (arith, e))
+read-of Image e = absurd (omega (arith, e))
+read-of Source e = absurd (omega (arith, e))
+read-of Bound e = absurd (omega (arith, e))
+read-of Read e = refl
+read-of Write e = absurd (omega (arith, e))
+read-of NoMemory e = absurd (omega (arith, e))
+
+memory-of : (s : Status) → number_of s ≡ 9 → s ≡ NoMemory
+memory-of Ok e = absurd (omega (arith, e))
+memory-of Usage e = absurd (omega (arith, e))
+memory-of Setup e = absurd (omega (arith, e))
+memory-of Image e = absurd (omega (arith, e))
+memory-of Source e = absurd (omega (arith, e))
+memory-of Bound e = absurd (omega (arith, e))
+memory-of Read e = absurd (omega (arith, e))
+memory-of Write e = absurd (omega (arith, e))
+memory-of NoMemory e = refl
+
+pub nothing-of : (s : Status) → (s ≡ Usage → ⊥) → (number_of s ≡ 2) ⊎ ((number_of s ≡ 7) ⊎ (number_of s ≡ 9)) → (s ≡ Read) ⊎ (s ≡ NoMemory)
+nothing-of s asked (inl e) = absurd (asked (usage-of s e))
+nothing-of s asked (inr (inl e)) = inl (read-of s e)
+nothing-of s asked (inr (inr e)) = inr (memory-of s e)
 
 -- a command that ends well ends with no other status
 pub ok-no_write : Ok ≡ Write → ⊥

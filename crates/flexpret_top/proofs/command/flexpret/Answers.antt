@@ -1,7 +1,7 @@
-use Rattle.std.proofs.Common.{◌∙◌, ap, arith, map}
+use Rattle.std.proofs.Common.{◌≡◌, ◌⊎◌, ◌∙◌, ℕ, ap, sym, subst, arith, map}
 use Rattle.std.specs.Prelude.{string_bytes}
 use Rattle.fp_ports.specs.Rows.{rows_of}
-use Rattle.flexpret_top.proofs.Ending.{complete-of, said-of}
+use Rattle.flexpret_top.proofs.Ending.{complete-of, said-of, nothing-of, usage-of}
 use Rattle.ask_words.specs.Commands.{ask}
 use Rattle.flexpret_top.specs.Status.{number_of}
 use Rattle.flexpret_top.proofs.Headlines.{alone-of, said-zero, visits-of}
@@ -19,6 +19,14 @@ returns-in-Err-Usage-clause-complete g c no_fetch_fault no_put_fault =
     let rows = rows_of (λ b. (goal.Port-dyn g (b.vtable, b.value)).latched b.value) (λ b. (goal.Port-dyn g (b.vtable, b.value)).word_at b.value) c.args.ports.now.items in
     let nothing = rw c.in-Err-Usage.field-0-is at c.in-Err-Usage.ensures.refused in
     usage-answered (g.F.Files.told c.args.files.now) (map string_bytes c.args.words.now) rows c.number-in-Err-Usage.result c.number-in-Err-Usage.ensures nothing
+
+pub returns-in-Ok-clause-usage : goal.returns-in-Ok-clause-usage
+returns-in-Ok-clause-usage g c two = absurd (c.answer.ensures.asked (usage-of c.answer.result (sym c.number.ensures ∙ two)))
+
+pub returns-in-Ok-clause-nothing : goal.returns-in-Ok-clause-nothing
+returns-in-Ok-clause-nothing g c none =
+    let None : ℕ → Type 0 = λ n. (n ≡ 2) ⊎ ((n ≡ 7) ⊎ (n ≡ 9)) in
+    c.answer.ensures.nothing (nothing-of c.answer.result c.answer.ensures.asked (subst None c.number.ensures none))
 
 pub returns-in-Ok-clause-said : goal.returns-in-Ok-clause-said
 returns-in-Ok-clause-said g c small =
