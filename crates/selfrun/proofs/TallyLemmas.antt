@@ -154,19 +154,20 @@ beside_none : (number n : ℕ) → start_beside own_setup (programs number) no_p
 unfolding own_start start plain_threads
 beside_none number n = refl
 
+-- those of the machine's own number of cycles are its own
+own_tallies_are : (number n : ℕ) → n ≡ 100000 → tallies_of (own_start number n) n ≡ own_tallies number
+unfolding own_tallies
+own_tallies_are number n is = ap (λ c. tallies_of (own_start number c) c) is
+
 -- what the machine of the setup and the image did is what its world did
 pub own_run : (number n : ℕ) (setup : Settings) (image : List Segment) (rows : List (Option Row)) (m : Machine) (ts : List Tally) → setup ≡ own_setup → image ≡ programs number → rows ≡ no_ports →
-    ((ports : List (Option Row)) (n : ℕ) → length ports ≡ 8 → StandsFor (start_beside setup image ports n) 0 n m ports) → ((s : Start) → StandsFor s 0 n m rows → ts ≡ tallies_of s n) → ts ≡ tallies_of (own_start number n) n
-own_run number n setup image rows m ts same_setup same_image same_rows stands ran =
+    ((ports : List (Option Row)) (n : ℕ) → length ports ≡ 8 → StandsFor (start_beside setup image ports n) 0 n m ports) → ((s : Start) → StandsFor s 0 n m rows → ts ≡ tallies_of s n) → n ≡ 100000 → ts ≡ own_tallies number
+own_run number n setup image rows m ts same_setup same_image same_rows stands ran is =
     let A : List (Option Row) → Type 0 = λ ports. StandsFor (own_start number n) 0 n m ports in
     let B : Start → Type 0 = λ s. StandsFor s 0 n m no_ports in
     let C : List Segment → Type 0 = λ xs. StandsFor (start_beside own_setup xs no_ports n) 0 n m no_ports in
     let D : Settings → Type 0 = λ s. StandsFor (start_beside s image no_ports n) 0 n m no_ports in
-    ran (own_start number n) (subst A (sym same_rows) (subst B (beside_none number n) (subst C same_image (subst D same_setup (stands no_ports n refl)))))
-
-pub own_tallies_are : (number : ℕ) → tallies_of (own_start number 100000) 100000 ≡ own_tallies number
-unfolding own_tallies
-own_tallies_are number = refl
+    ran (own_start number n) (subst A (sym same_rows) (subst B (beside_none number n) (subst C same_image (subst D same_setup (stands no_ports n refl))))) ∙ own_tallies_are number n is
 
 pub tallies_end : (s : Start) (k n : ℕ) (m : Machine) (rows : List (Option Row)) (ts : List Tally) → k ≡ n → HasTallied s k n m rows ts → ts ≡ tallies_of s n
 tallies_end s k n m rows ts end run = run.are ∙ ap (λ c. tallies_of s c) end

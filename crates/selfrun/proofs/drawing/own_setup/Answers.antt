@@ -1,4 +1,4 @@
-use Rattle.std.proofs.Common.{refl}
+use Rattle.std.proofs.Common.{refl, rules}
 use Rattle.slot_table.specs.Table.{is_table}
 use Rattle.region_guard.specs.Register.{is_regions}
 use Rattle.nibble_word.specs.Nibbles.{nibbles}
@@ -15,3 +15,6 @@ of_words-requires-clause-iregions c = refl
 pub of_words-requires-clause-dregions : goal.of_words-requires-clause-dregions
 unfolding is_regions nibbles
 of_words-requires-clause-dregions c = refl
+
+pub returns : goal.returns
+returns c = search rules

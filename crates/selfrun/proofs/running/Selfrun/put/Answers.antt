@@ -1,4 +1,4 @@
-use Rattle.std.proofs.Common.{◌<◌, ℕ, List, arith}
+use Rattle.std.proofs.Common.{◌<◌, ℕ, List, arith, rules}
 use Rattle.std.proofs.lemmas.Result.{err_from_is_err_and}
 use Rattle.machine.proofs.Putting.{line_taken, line_begun}
 use Rattle.selfrun.specs.Text.{tally_at, tally_line}
@@ -19,3 +19,9 @@ returns-in_err-put_line-clause-err g c =
     let p = err_from_is_err_and c.from_residual.result c.from_residual.ensures.1 in
     rw p.1 (line_begun (g.K.Sink.taken c.args.out.now) (g.K.Sink.taken c.loop-k.out) (g.K.Sink.taken c.put_line.new.out) line c.loop-k.k 8
     within c.loop-k.invariant.told c.in_err-put_line.ensures.err)
+
+pub returns-clause-ok : goal.returns-clause-ok
+returns-clause-ok g c = search rules
+
+pub returns-clause-failed : goal.returns-clause-failed
+returns-clause-failed g c = search rules
