@@ -14,3 +14,6 @@ pub returns-clause-words : goal.returns-clause-words
 returns-clause-words g c =
     let same : length c.args.ports.now.items ≡ 8 = omega arith in
     cycle_words c.args.self.now _ _ _ (length-map c.args.ports.now.items _ ∙ same) c.take_if_any.ensures.rows c.tick-event.ensures.step
+
+pub returns-clause-at : goal.returns-clause-at
+returns-clause-at g c = refl

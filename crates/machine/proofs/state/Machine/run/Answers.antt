@@ -42,3 +42,12 @@ returns-in_err-put_cycle-clause-err g c =
 
 pub returns-in_err-put_cycle-clause-words : goal.returns-in_err-put_cycle-clause-words
 returns-in_err-put_cycle-clause-words g c = words_on _ _ _ c.loop-cycle.invariant.words c.put_cycle.ensures.words
+
+pub put_cycle-requires-clause-cycle : goal.put_cycle-requires-clause-cycle
+put_cycle-requires-clause-cycle g c = omega (arith, c.loop-cycle.invariant.at, c.loop-cycle-test.true)
+
+pub returns-clause-cycles : goal.returns-clause-cycles
+returns-clause-cycles g c = search rules
+
+pub returns-clause-ok : goal.returns-clause-ok
+returns-clause-ok g c = search rules
