@@ -158,11 +158,18 @@ impl SoloRun {
         ensures within { cycle_of self.new ≤ n - 4 }
         ensures shown { W.word_at shown.new ≡ W.word_at shown.old }
     {
-        for _cycle in 0..n.saturating_sub(4) {
+        for _cycle in 0..cycles_shown(n) {
             put_event(out, self.tick(shown))?;
         }
         Ok(())
     }
+}
+
+/// How many of `n` cycles have retired at their end: all but the last four.
+fn cycles_shown(n: u64) -> u64
+    ensures { result ≡ n - 4 }
+{
+    n.saturating_sub(4)
 }
 
 /// Puts the line of an event, if there is one.
