@@ -1,14 +1,12 @@
 //! The values of a table's keys, each checked at its place.
 
-ghost use Rattle.std.specs.Prelude.{◌≡◌, ◌<◌, ◌≤◌, ◌==◌, ◌&&◌, ℕ, List, true, false, map, option_map, unwrap_or, Option, Some, None, IfOk, IfSome, MatchResult, IsTrue, length};
+ghost use Rattle.std.specs.Prelude.{◌≡◌, ◌<◌, ◌≤◌, ◌==◌, ◌&&◌, ℕ, List, true, false, map, option_map, unwrap_or, Option, Some, None, IfOk, IfSome, IsTrue, length};
 ghost use Rattle.std.specs.Option.{option_map_or};
 ghost use Rattle.std.specs.Str.{bytes_eq};
 ghost use Rattle.toml.specs.Data.{get_member};
 ghost use Rattle.toml.specs.View.{view, table_view};
 ghost use Rattle.nibble_word.specs.Nibbles.{nibbles};
 ghost use Rattle.std.specs.List.{list_all, list_any};
-ghost use Rattle.fp_setup.specs.declared.refusal.SetupNo.TheVariants as no;
-ghost use Rattle.fp_setup.specs.Faults.{at_place};
 ghost use Rattle.fp_setup.specs.Vocabulary.{is_value, is_word};
 ghost use Rattle.fp_setup.specs.Values.{elements_at, number, number_at, text_at, truth_at};
 ghost use Rattle.fp_setup.specs.Checks.{bytes_check, eight_check, fresh_check, integer_check, is_in, permit_check, truth_check, word_check};
@@ -20,7 +18,7 @@ use crate::bounds::Range;
 use crate::file_name::Name;
 use crate::nibble_list::eight;
 use crate::refusal::{Fault, Place, SetupNo, SetupRefused};
-use crate::values::{integer, name, permit, truth_value, word};
+use crate::values::{fresh, integer, name, permit, truth_value, word};
 use crate::vocabulary::Words;
 use std::alloc::Global;
 use toml::{Table, Value};
@@ -62,18 +60,6 @@ pub(crate) fn member<'a>(table: &'a Table, key: &str) -> Option<&'a Value>
     table.get(key)
 }
 
-/// What stands under a key that is needed.
-pub(crate) fn needed<'a>(table: &'a Table, key: &str, place: Place) -> Result<&'a Value, Fault>
-    ensures { MatchResult result
-        (λ v. get_member key.now (table_view table.now) ≡ Some (view v.now))
-        (λ e. (get_member key.now (table_view table.now) ≡ None) × (e ≡ at_place no.MissingKey place)) }
-{
-    match member(table, key) {
-        Some(value) => Ok(value),
-        None => Err(Fault::new(SetupNo::MissingKey, place)),
-    }
-}
-
 /// An integer that is needed.
 #[tactic(auto, unfolding(crate::specs::Tables::key_fault))]
 pub(crate) fn needed_integer(
@@ -88,7 +74,10 @@ pub(crate) fn needed_integer(
         (number_at key.now (table_view table.now)) }
     ensures within { IfOk result (λ n. is_in range n ≡ true) }
 {
-    integer(needed(table, key, place)?, range, place)
+    match member(table, key) {
+        Some(value) => integer(value, range, place),
+        None => Err(Fault::new(SetupNo::MissingKey, place)),
+    }
 }
 
 /// An integer that may be absent.
@@ -124,7 +113,10 @@ pub(crate) fn needed_eight(
         (nibble_word words (elements_at key.now (table_view table.now))) }
     ensures values { IfOk result (λ word. IsTrue (is_word words word)) }
 {
-    eight(needed(table, key, place)?, words, place)
+    match member(table, key) {
+        Some(value) => eight(value, words, place),
+        None => Err(Fault::new(SetupNo::MissingKey, place)),
+    }
 }
 
 /// The number of a text of a list, which is needed.
@@ -135,7 +127,10 @@ pub(crate) fn needed_word(table: &Table, key: &str, words: Words, place: Place) 
         (named words (text_at key.now (table_view table.now))) }
     ensures value { IfOk result (λ n. is_value words n ≡ true) }
 {
-    word(needed(table, key, place)?, words, place)
+    match member(table, key) {
+        Some(value) => word(value, words, place),
+        None => Err(Fault::new(SetupNo::MissingKey, place)),
+    }
 }
 
 /// A truth value, false where it is absent.
@@ -185,11 +180,17 @@ pub(crate) fn needed_name(
         (text_at key.now (table_view table.now)) }
     ensures lengths { IfOk result (λ n. (low ≤ length n) × (length n ≤ high)) }
 {
-    name(alloc, needed(table, key, place)?, low, high, place)
+    match member(table, key) {
+        Some(value) => name(alloc, value, low, high, place),
+        None => Err(SetupRefused::Fault {
+            code: SetupNo::MissingKey,
+            place,
+        }),
+    }
 }
 
 /// An integer that is needed, and isn't among those that are taken.
-#[tactic(auto, unfolding(crate::specs::Tables::key_fault, crate::specs::Checks::fresh_check))]
+#[tactic(auto, unfolding(crate::specs::Tables::key_fault))]
 pub(crate) fn needed_fresh(
     table: &Table,
     key: &str,
@@ -205,9 +206,8 @@ pub(crate) fn needed_fresh(
     ensures within { IfOk result (λ n. is_in range n ≡ true) }
     ensures fresh { IfOk result (λ n. list_any (λ k. k == n) taken.now ≡ false) }
 {
-    let number = integer(needed(table, key, place)?, range, place)? as u8;
-    if taken.contains(&number) {
-        return Err(Fault::new(SetupNo::DoubleThread, place));
+    match member(table, key) {
+        Some(value) => fresh(value, range, taken, place),
+        None => Err(Fault::new(SetupNo::MissingKey, place)),
     }
-    Ok(number)
 }

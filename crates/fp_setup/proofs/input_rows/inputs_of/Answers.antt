@@ -1,5 +1,5 @@
-use Rattle.std.proofs.Common.{arith, ◌∙◌}
 use Rattle.std.proofs.lemmas.Grind.{common_steps}
+use Rattle.std.proofs.Common.{rules, ◌∙◌, arith}
 use Rattle.fp_setup.proofs.InputByInput.{found-more, read-more}
 use Rattle.fp_setup.proofs.input_rows.inputs_of.Goals as goal
 
@@ -26,10 +26,10 @@ pub returns-clause-read : goal.returns-clause-read
 returns-clause-read c = grind (arith, common_steps)
 
 pub returns-clause-rules : goal.returns-clause-rules
-returns-clause-rules c = grind (arith, common_steps)
+returns-clause-rules c = search rules
 
 pub loop-index-init : goal.loop-index-init
-loop-index-init c = grind (arith, common_steps)
+loop-index-init c = search rules
 
 pub from_vec-requires : goal.from_vec-requires
 from_vec-requires c = grind (arith, common_steps)

@@ -1,21 +1,11 @@
-use Rattle.std.proofs.Common.{arith}
-use Rattle.std.proofs.lemmas.Grind.{common_steps}
+use Rattle.std.proofs.Common.{rules}
 use Rattle.fp_setup.specs.Tables.{key_fault}
-use Rattle.fp_setup.specs.Checks.{fresh_check}
 use Rattle.fp_setup.proofs.keys.needed_fresh.Goals as goal
 
-pub returns-clause-read : goal.returns-clause-read
-unfolding key_fault fresh_check
-returns-clause-read c = grind (arith, common_steps)
+pub returns-in-None-clause-read : goal.returns-in-None-clause-read
+unfolding key_fault
+returns-in-None-clause-read c = search rules
 
-pub returns-in_err-needed-clause-read : goal.returns-in_err-needed-clause-read
-unfolding key_fault fresh_check
-returns-in_err-needed-clause-read c = grind (arith, common_steps)
-
-pub returns-in_err-number-clause-read : goal.returns-in_err-number-clause-read
-unfolding key_fault fresh_check
-returns-in_err-number-clause-read c = grind (arith, common_steps)
-
-pub returns-then-contains-clause-read : goal.returns-then-contains-clause-read
-unfolding key_fault fresh_check
-returns-then-contains-clause-read c = grind (arith, common_steps)
+pub returns-in-Some-clause-read : goal.returns-in-Some-clause-read
+unfolding key_fault
+returns-in-Some-clause-read c = search rules

@@ -1,12 +1,11 @@
-use Rattle.std.proofs.Common.{arith}
-use Rattle.std.proofs.lemmas.Grind.{common_steps}
+use Rattle.std.proofs.Common.{rules}
 use Rattle.fp_setup.specs.Tables.{key_fault}
 use Rattle.fp_setup.proofs.keys.needed_word.Goals as goal
 
-pub returns-clause-read : goal.returns-clause-read
+pub returns-in-None-clause-read : goal.returns-in-None-clause-read
 unfolding key_fault
-returns-clause-read c = grind (arith, common_steps)
+returns-in-None-clause-read c = search rules
 
-pub returns-in_err-needed-clause-read : goal.returns-in_err-needed-clause-read
+pub returns-in-Some-clause-read : goal.returns-in-Some-clause-read
 unfolding key_fault
-returns-in_err-needed-clause-read c = grind (arith, common_steps)
+returns-in-Some-clause-read c = search rules

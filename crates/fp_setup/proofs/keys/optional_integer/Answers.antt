@@ -1,16 +1,15 @@
-use Rattle.std.proofs.Common.{arith}
-use Rattle.std.proofs.lemmas.Grind.{common_steps}
+use Rattle.std.proofs.Common.{rules}
 use Rattle.fp_setup.specs.Tables.{key_fault}
 use Rattle.fp_setup.proofs.keys.optional_integer.Goals as goal
 
 pub returns-in-None-clause-read : goal.returns-in-None-clause-read
 unfolding key_fault
-returns-in-None-clause-read c = grind (arith, common_steps)
+returns-in-None-clause-read c = search rules
 
 pub returns-in_err-integer-in-Some-clause-read : goal.returns-in_err-integer-in-Some-clause-read
 unfolding key_fault
-returns-in_err-integer-in-Some-clause-read c = grind (arith, common_steps)
+returns-in_err-integer-in-Some-clause-read c = search rules
 
 pub returns-in_ok-integer-in-Some-clause-read : goal.returns-in_ok-integer-in-Some-clause-read
 unfolding key_fault
-returns-in_ok-integer-in-Some-clause-read c = grind (arith, common_steps)
+returns-in_ok-integer-in-Some-clause-read c = search rules

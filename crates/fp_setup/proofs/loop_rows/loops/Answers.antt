@@ -1,5 +1,5 @@
-use Rattle.std.proofs.Common.{arith}
 use Rattle.std.proofs.lemmas.Grind.{common_steps}
+use Rattle.std.proofs.Common.{rules, arith}
 use Rattle.fp_setup.specs.Checks.{list_check}
 use Rattle.fp_setup.specs.Tables.{loops_fault}
 use Rattle.fp_setup.proofs.loop_rows.loops.Goals as goal
@@ -10,7 +10,7 @@ returns-clause-read c = grind (arith, common_steps)
 
 pub returns-in_default-clause-read : goal.returns-in_default-clause-read
 unfolding list_check loops_fault
-returns-in_default-clause-read c = grind (arith, common_steps)
+returns-in_default-clause-read c = search rules
 
 pub returns-then-items-gt-MOST_LOOPS-clause-read : goal.returns-then-items-gt-MOST_LOOPS-clause-read
 unfolding list_check loops_fault

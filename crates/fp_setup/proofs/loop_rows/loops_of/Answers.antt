@@ -1,9 +1,9 @@
-use Rattle.std.proofs.Common.{arith}
 use Rattle.std.proofs.lemmas.Grind.{common_steps}
+use Rattle.std.proofs.Common.{rules, arith}
 use Rattle.fp_setup.proofs.loop_rows.loops_of.Goals as goal
 
 pub loop-row-init : goal.loop-row-init
-loop-row-init c = grind (arith, common_steps)
+loop-row-init c = search rules
 
 pub loop-row-preserved : goal.loop-row-preserved
 loop-row-preserved c = grind (arith, common_steps)

@@ -1,5 +1,5 @@
-use Rattle.std.proofs.Common.{arith}
 use Rattle.std.proofs.lemmas.Grind.{common_steps}
+use Rattle.std.proofs.Common.{arith}
 use Rattle.fp_setup.proofs.nibble_list.eight_numbers.Goals as goal
 
 pub returns-in_err-numbers-clause-read : goal.returns-in_err-numbers-clause-read
