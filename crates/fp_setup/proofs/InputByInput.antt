@@ -1,5 +1,9 @@
 -- The inputs of a list, input by input.
-use Rattle.std.proofs.Common.{◌≡◌, ℕ, ◌<◌, ◌+◌, List, [], ◌∷◌, ◌++◌, length, get_or, take, drop, map, Option, Some, None, refl, sym, ap, ◌∙◌}
+use Rattle.std.proofs.Common.{◌≡◌, ℕ, ◌<◌, ◌≤◌, ◌+◌, true, arith, List, [], ◌∷◌, ◌++◌, length, get_or, take, drop, map, Option, Some, None, refl, sym, ap, ◌∙◌}
+use Rattle.std.specs.List.{All, AllPairs}
+use Rattle.std.proofs.lemmas.Bool.{ltb-true}
+use Rattle.std.proofs.lemmas.List.Elements.{All-push}
+use Rattle.std.proofs.lemmas.List.Quantifiers.{all_pairs_push}
 use Rattle.std.proofs.lemmas.List.{take_more, drop_more, map-append}
 use Rattle.toml.specs.declared.value.Value.{Value}
 use Rattle.toml.specs.View.{view}
@@ -7,7 +11,8 @@ use Rattle.fp_setup.specs.declared.refusal.Place.{Place}
 use Rattle.fp_setup.specs.declared.input_list.Input.{Input}
 use Rattle.fp_setup.specs.Faults.{element_of}
 use Rattle.fp_setup.specs.Values.{input_of}
-use Rattle.fp_setup.specs.Checks.{input_check, inputs_from}
+use Rattle.fp_setup.specs.Checks.{input_check, inputs_from, is_after}
+use Rattle.fp_setup.proofs.Lists.{IsReached}
 
 module _ (items : List Value) (i : ℕ) (x : Value) (new : Input) (inside : i < length items) (is : x ≡ get_or items i x) (same : new ≡ input_of (view x)) where
   -- the faults that are left, after one more input
@@ -21,3 +26,19 @@ module _ (items : List Value) (i : ℕ) (x : Value) (new : Input) (inside : i < 
   pub read-more : (read after : List Input) → after ≡ read ++ new ∷ [] → read ≡ map input_of (map view (take i items))
       → after ≡ map input_of (map view (take (i + 1) items))
   read-more read after more before = rw (more, take_more items i x inside, ← is, map-append, map-append, before, same) refl
+
+-- what comes after the last cycle comes after those that were reached before
+later : (before : Option ℕ) (old new : ℕ) → IsReached before old → is_after before new ≡ true → old < new
+later None old new reached after = absurd reached
+later (Some last) old new reached after = omega (arith, ltb-true last new after, reached)
+
+module _ (read after : List Input) (new : Input) (before : Option ℕ) (more : after ≡ read ++ new ∷ []) (reached : All (λ (i : Input). IsReached before i.at) read) (is_later : is_after before new.at ≡ true) where
+  -- their cycles rise
+  pub rising-more : AllPairs (λ (i j : Input). i.at < j.at) read → AllPairs (λ (i j : Input). i.at < j.at) after
+  rising-more rising =
+      rw more (all_pairs_push (λ (i j : Input). i.at < j.at) read new rising (λ k d h. later before _ new.at (reached k d h) is_later))
+
+  -- the new cycle is reached
+  pub reached-more : All (λ (i : Input). IsReached (Some new.at) i.at) after
+  reached-more =
+      rw more (All-push (λ (i : Input). IsReached (Some new.at) i.at) read new (λ k d h. let less = later before _ new.at (reached k d h) is_later in omega arith) (omega arith))

@@ -1,6 +1,9 @@
 use Rattle.std.proofs.lemmas.Grind.{common_steps}
-use Rattle.std.proofs.Common.{rules, ◌∙◌, arith}
-use Rattle.fp_setup.proofs.InputByInput.{found-more, read-more}
+use Rattle.std.proofs.Common.{rules, ◌∙◌, arith, ◌≤◌}
+use Rattle.std.proofs.lemmas.List.Elements.{All-push, All-same}
+use Rattle.fp_setup.specs.declared.input_list.Input.{Input}
+use Rattle.fp_setup.specs.Inputs.{last_cycle}
+use Rattle.fp_setup.proofs.InputByInput.{found-more, read-more, rising-more, reached-more}
 use Rattle.fp_setup.proofs.input_rows.inputs_of.Goals as goal
 
 pub loop-index-preserved : goal.loop-index-preserved
@@ -14,9 +17,9 @@ loop-index-preserved c =
     record {
       found = before.found ∙ found-more items i x c.in_ok-input.input c.loop-index-test.true c.index-items-index.is same c.args.place c.loop-index.before good;
       read = read-more items i x c.in_ok-input.input c.loop-index-test.true c.index-items-index.is same c.loop-index.read.items _ c.in_ok-push.ensures.items before.read;
-      within = grind (arith, common_steps);
-      rising = grind (arith, common_steps);
-      reached = grind (arith, common_steps);
+      within = All-same (λ (i : Input). i.at ≤ last_cycle) _ _ c.in_ok-push.ensures.items (All-push (λ (i : Input). i.at ≤ last_cycle) c.loop-index.read.items c.in_ok-input.input before.within c.in_ok-input.ensures.within);
+      rising = rising-more c.loop-index.read.items _ c.in_ok-input.input c.loop-index.before c.in_ok-push.ensures.items before.reached c.in_ok-input.ensures.after before.rising;
+      reached = reached-more c.loop-index.read.items _ c.in_ok-input.input c.loop-index.before c.in_ok-push.ensures.items before.reached c.in_ok-input.ensures.after;
     }
 
 pub returns-in_err-input-clause-read : goal.returns-in_err-input-clause-read
