@@ -1,17 +1,19 @@
 #!/usr/bin/env bash
 # Processor time and the most memory of the analyser over 200 loops in a row, and over 16,384 words
 # with 256 loops, each of bound 1,048,576, for a thread that has all eight slots. It is no part of the
-# gate. The program bound_rows reads each section as a table of one row, and must find its answer.
+# gate. The program unit_rows reads each section as a table of one row, beside empty tables, and must find
+# its answer.
 set -eu
 top=$(cd "$(dirname "${BASH_SOURCE[0]}")/.." && pwd)
 work=$(mktemp -d)
 trap 'rm -rf "$work"' EXIT
-(cd "$top/crates/bound_rows" && rt run --jobs 1 >/dev/null 2>&1 || true)
+(cd "$top/crates/unit_rows" && rt run --jobs 1 >/dev/null 2>&1 || true)
 cd "$work"
-python3 - "$top/crates/bound_rows/out/bound_rows" <<'PY'
+python3 - "$top/crates/unit_rows/out/unit_rows" <<'PY'
 import os, subprocess, sys
 
 NOP, COUNT = 0x13, 0xfff28293
+OTHERS = 'instructions lines tokens images sections words units files setups decode results'
 
 
 def bne(offset):
@@ -34,11 +36,14 @@ def nests():
 
 
 def measure(name, answer, words, loops):
-    with open('sections.txt', 'w') as table:
+    for other in OTHERS.split():
+        open(f'{other}.txt', 'w').close()
+    with open('bounds.txt', 'w') as table:
         table.write('%s\t00000000 0 0 %x\t%s\t%s\n' % (
             answer, 4 * len(words), ' '.join('%x %x 1048576' % j for j in loops), ' '.join('%08x' % w for w in words)))
     child = subprocess.Popen([sys.argv[1]], stdout=subprocess.PIPE)
-    said = child.stdout.read().decode().strip()
+    told = child.stdout.read().decode().splitlines()
+    said = next(line for line in told if line.startswith('bounds.txt'))
     used = os.wait4(child.pid, 0)[2]
     print(f'{name}: {said}, {used.ru_utime + used.ru_stime:.2f} s, {used.ru_maxrss} KB')
 

@@ -3,7 +3,7 @@
 use std::alloc::{AllocError, Global};
 
 /// What comes next in a text with escapes.
-#[derive(Clone, Copy, Debug)]
+#[derive(Clone, Copy)]
 enum Next {
     Plain,
     /// After `\`.

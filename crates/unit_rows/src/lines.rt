@@ -2,36 +2,33 @@
 
 ghost use Rattle.rv_exec.specs.Line.{IsPrintable};
 
-use crate::numbers::{low_byte, low_word, numbers};
+use crate::numbers::{head, low_byte, low_word, numbers};
 use fp_setup::Place;
 use rv_exec::{Effect, Event};
-use std::alloc::{AllocError, Global};
+use std::alloc::AllocError;
 use trace_print::{Refusal, line, refusal_line};
 
 /// `event CYCLE PC WORD EFFECT ..`, or a refusal's kind with its numbers. The line end isn't told.
-pub fn answer(alloc: Global, call: &str) -> Result<String, AllocError> {
-    let (name, with) = call.split_once(' ').unwrap_or((call, ""));
+pub fn push_answer(text: &mut String, call: &str) -> Result<(), AllocError> {
+    let (name, with) = head(call);
+    let n = numbers(with);
     if name == "event" {
-        return event_text(alloc, with);
+        return push_event(text, with, &n);
     }
-    let refusal = refusal_of(name, &numbers(with), value_of(with));
-    let text = refusal_line(&refusal);
-    String::from_str(alloc, text.as_str().trim_end())
+    let refusal = refusal_of(name, &n, value_of(with));
+    text.push_str(refusal_line(&refusal).as_str().trim_end())
 }
 
 /// The line of an event: its cycle, pc and word, and the numbers of its effect after its name.
-fn event_text(alloc: Global, with: &str) -> Result<String, AllocError> {
-    let n = numbers(with);
-    let effect = effect_of(with.split(' ').nth(3).unwrap_or(""), &n);
+fn push_event(text: &mut String, with: &str, n: &[u64; 8]) -> Result<(), AllocError> {
     let event = Event {
         cycle: n[0],
         thread: 0,
         pc: low_word(n[1]),
         word: low_word(n[2]),
-        effect,
+        effect: effect_of(with.split(' ').nth(3).unwrap_or(""), n),
     };
-    let text = line(&event);
-    String::from_str(alloc, text.as_str().trim_end())
+    text.push_str(line(&event).as_str().trim_end())
 }
 
 fn effect_of(name: &str, n: &[u64; 8]) -> Effect
@@ -64,11 +61,8 @@ fn effect_of(name: &str, n: &[u64; 8]) -> Effect
 
 /// The last number, which may have more than 64 bits.
 fn value_of(with: &str) -> u128 {
-    with.split(' ')
-        .last()
-        .unwrap_or("")
-        .parse()
-        .unwrap_or(0u128)
+    let last = with.split(' ').last().unwrap_or("");
+    last.parse().unwrap_or(0u128)
 }
 
 fn refusal_of(name: &str, n: &[u64; 8], value: u128) -> Refusal {

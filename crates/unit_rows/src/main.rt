@@ -3,21 +3,28 @@
 //! beside its tests.
 //!
 //! The tables stand in the folder where it runs. A line of a table is an answer, a tab, and the call
-//! with what it is called with. Standard output has each call at which the two differ, and for each
-//! table how many calls there are and how many differ.
+//! with what it is called with; in `setups.txt` a call is several lines after `=== `, and each line of its
+//! answer begins with `--- `. Standard output has each call at which the two differ, and for each table
+//! how many calls there are and how many differ; of `decode.txt` and `results.txt`, which other programs
+//! made, it has this for each kind of instruction.
 #![tactic(auto)]
 
+mod bounds;
 mod escapes;
 mod files;
 mod images;
 mod instructions;
 mod lines;
+mod mnemonics;
 mod numbers;
 mod sections;
+mod setups;
 mod slow;
 mod steps;
 mod tokens;
+mod told;
 mod units;
+mod vectors;
 mod words;
 
 use std::alloc::AllocError;
@@ -34,7 +41,22 @@ enum Table {
     Words,
     Units,
     Files,
+    Setups,
+    Bounds,
 }
+
+const TABLES: [Table; 10] = [
+    Table::Instructions,
+    Table::Lines,
+    Table::Tokens,
+    Table::Images,
+    Table::Sections,
+    Table::Words,
+    Table::Units,
+    Table::Files,
+    Table::Setups,
+    Table::Bounds,
+];
 
 impl Table {
     fn name(self) -> &'static str {
@@ -47,45 +69,60 @@ impl Table {
             Table::Words => "words.txt",
             Table::Units => "units.txt",
             Table::Files => "files.txt",
+            Table::Setups => "setups.txt",
+            Table::Bounds => "bounds.txt",
         }
     }
 
-    /// The answer to a call.
-    fn answer(self, rt: HostRuntime, call: &str) -> Result<String, AllocError> {
+    /// What stands between two rows.
+    fn separator(self) -> &'static str {
+        match self {
+            Table::Setups => "=== ",
+            _ => "\n",
+        }
+    }
+
+    /// The answer of a row, and its call.
+    fn parts(self, row: &str) -> (&str, &str) {
+        let parts = match self {
+            Table::Setups => row.split_once("--- ").map(|(call, wanted)| (wanted, call)),
+            _ => row.split_once('\t'),
+        };
+        parts.unwrap_or((row, ""))
+    }
+
+    /// Appends the answer to a call.
+    fn push_answer(self, text: &mut String, rt: HostRuntime, call: &str) -> Result<(), AllocError> {
         let alloc = rt.alloc();
         match self {
-            Table::Instructions => instructions::answer(alloc, call),
-            Table::Lines => lines::answer(alloc, call),
-            Table::Tokens => tokens::answer(alloc, call),
-            Table::Images => images::answer(alloc, call),
-            Table::Sections => sections::answer(alloc, call),
-            Table::Words => words::answer(alloc, call),
-            Table::Units => units::answer(alloc, call),
-            Table::Files => files::answer(rt, call),
+            Table::Instructions => instructions::push_answer(text, call),
+            Table::Lines => lines::push_answer(text, call),
+            Table::Tokens => tokens::push_answer(text, alloc, call),
+            Table::Images => images::push_answer(text, alloc, call),
+            Table::Sections => sections::push_answer(text, alloc, call),
+            Table::Words => words::push_answer(text, alloc, call),
+            Table::Units => units::push_answer(text, alloc, call),
+            Table::Files => files::push_answer(text, rt, call),
+            Table::Setups => setups::push_answer(text, rt, call),
+            Table::Bounds => bounds::push_answer(text, alloc, call),
         }
     }
 }
 
-const TABLES: [Table; 8] = [
-    Table::Instructions,
-    Table::Lines,
-    Table::Tokens,
-    Table::Images,
-    Table::Sections,
-    Table::Words,
-    Table::Units,
-    Table::Files,
-];
+fn put_differing(rt: HostRuntime, call: &str, answer: &str, wanted: &str) -> io::Result<()> {
+    println!(rt; "{call}: answers {answer} for {wanted}")
+}
 
-/// Whether a call has the answer that its line gives. One that differs is printed.
-fn agrees(rt: HostRuntime, table: Table, line: &str) -> io::Result<bool> {
-    let (wanted, call) = line.split_once('\t').unwrap_or((line, ""));
-    let answer = table.answer(rt, call)?;
-    if answer.as_str() == wanted {
-        return Ok(true);
+/// Whether a call has the answer that its row gives. One that differs is printed.
+fn agrees(rt: HostRuntime, table: Table, row: &str) -> io::Result<bool> {
+    let (wanted, call) = table.parts(row);
+    let mut answer = String::new(rt.alloc());
+    table.push_answer(&mut answer, rt, call)?;
+    let agrees = answer.as_str() == wanted;
+    if !agrees {
+        put_differing(rt, call, answer.as_str(), wanted)?;
     }
-    println!(rt; "{call}: answers {answer} for {wanted}")?;
-    Ok(false)
+    Ok(agrees)
 }
 
 /// Compares the calls of a table.
@@ -94,9 +131,12 @@ fn compare(rt: HostRuntime, table: Table) -> io::Result<()> {
     let text = fs::read_to_string(&rt, name)?;
     let mut calls = 0u32;
     let mut differ = 0u32;
-    for line in text.lines() {
+    for row in text.split(table.separator()) {
+        if row.is_empty() {
+            continue;
+        }
         calls = calls.saturating_add(1);
-        if !agrees(rt, table, line)? {
+        if !agrees(rt, table, row)? {
             differ = differ.saturating_add(1);
         }
     }
@@ -107,5 +147,5 @@ fn main(rt: HostRuntime) -> io::Result<()> {
     for table in TABLES {
         compare(rt, table)?;
     }
-    Ok(())
+    vectors::compare(rt)
 }

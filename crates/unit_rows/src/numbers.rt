@@ -1,9 +1,17 @@
-//! The numbers that a call is called with.
+//! The words and numbers that a call is called with.
 
 ghost use Rattle.std.specs.Prelude.{◌<◌};
 
+/// A text up to its first space, and what follows that.
+pub fn head(text: &str) -> (&str, &str) {
+    match text.split_once(' ') {
+        Some(parts) => parts,
+        None => (text, ""),
+    }
+}
+
 /// The number of a word, hexadecimal after `0x`; 0 where it is none.
-fn number_of(word: &str) -> u64 {
+pub fn number(word: &str) -> u64 {
     match word.strip_prefix("0x") {
         Some(digits) => u64::from_str_radix(digits, 16).unwrap_or(0),
         None => word.parse().unwrap_or(0u64),
@@ -14,10 +22,15 @@ fn number_of(word: &str) -> u64 {
 pub fn numbers(text: &str) -> [u64; 8] {
     let mut words = text.split_whitespace();
     let mut numbers = [0; 8];
-    for number in &mut numbers {
-        *number = number_of(words.next().unwrap_or(""));
+    for each in &mut numbers {
+        *each = number(words.next().unwrap_or(""));
     }
     numbers
+}
+
+/// The number of hexadecimal digits.
+pub fn hexadecimal(digits: &str) -> Option<u32> {
+    u32::from_str_radix(digits, 16).ok()
 }
 
 /// The low 32 bits of a number.

@@ -2,13 +2,14 @@
 
 ghost use Rattle.std.specs.Prelude.{◌<◌};
 
-use crate::numbers::{low_word, numbers, thread_of};
+use crate::numbers::{head, low_word, numbers, thread_of};
 use bound_calc::{bound, has_slot};
 use fp_image::{Image, read_image};
 use fp_setup::{LoopSetup, Loops};
 use region_tree::{LoopTree, Section, TreeNo};
 use slot_table::SlotTable;
 use std::alloc::{AllocError, Global};
+use std::fmt::Write;
 
 // addi x5, x5, -1; bne x5, x0, 0; j 16; ret; nop
 const FILE: &[u8] = b"FPX1\x01\0\0\0\0\0\0\0\x14\0\0\0\
@@ -26,68 +27,69 @@ const OUTSIDE: LoopSetup = LoopSetup {
     limit: 1,
 };
 
+/// A program with its loops.
+#[derive(Drop)]
+struct Program {
+    image: Image,
+    loops: Loops,
+}
+
 fn two_loops(alloc: Global) -> Result<Loops, AllocError> {
-    let mut loops = Vec::new(alloc);
-    loops.push(OUTSIDE)?;
-    loops.push(ROUND)?;
+    let loops = vec![in alloc; OUTSIDE, ROUND]?;
     Ok(Loops::from_vec(loops))
 }
 
 /// `tree`, `return`, or `bound SLOTS THREAD`.
-pub fn answer(alloc: Global, call: &str) -> Result<String, AllocError> {
-    let (name, with) = call.split_once(' ').unwrap_or((call, ""));
+pub fn push_answer(text: &mut String, alloc: Global, call: &str) -> Result<(), AllocError> {
     let loops = two_loops(alloc)?;
     let Ok(image) = read_image(alloc, FILE, 16_384) else {
-        return String::from_str(alloc, "no image");
+        return text.push_str("no image");
     };
+    let program = Program { image, loops };
+    let (name, with) = head(call);
     match name {
-        "tree" => tree(alloc, &image, &loops),
-        "return" => refused_return(alloc, &image, &loops),
-        _ => {
-            let n = numbers(with);
-            rounds(alloc, &image, &loops, low_word(n[0]), thread_of(n[1]))
-        }
+        "tree" => push_tree(text, alloc, &program),
+        "return" => push_refused(text, alloc, &program),
+        _ => push_bound(text, alloc, &program, &numbers(with)),
     }
 }
 
 /// What the tree of the whole file holds: its ends, how many loops, the word at 8, and whether 12 and 16
 /// are reachable.
-fn tree(alloc: Global, image: &Image, loops: &Loops) -> Result<String, AllocError> {
+fn push_tree(text: &mut String, alloc: Global, program: &Program) -> Result<(), AllocError> {
     let section = Section { from: 0, to: 20 };
-    let Ok(tree) = LoopTree::build(alloc, image, section, loops) else {
-        return String::from_str(alloc, "no tree");
+    let Ok(tree) = LoopTree::build(alloc, &program.image, section, &program.loops) else {
+        return text.push_str("no tree");
     };
     let (section, loops) = (tree.section(), tree.loops().len());
     let word = tree.word(8);
     let (behind, target) = (tree.is_reachable(12), tree.is_reachable(16));
-    format!(in alloc; "{section:?} {loops} {word:x} {behind} {target}")
+    write!(text, "{section:?} {loops} {word:x} {behind} {target}")
 }
 
 /// Why the word at 12 is no section.
-fn refused_return(alloc: Global, image: &Image, loops: &Loops) -> Result<String, AllocError> {
+fn push_refused(text: &mut String, alloc: Global, program: &Program) -> Result<(), AllocError> {
     let section = Section { from: 12, to: 16 };
-    let no: Option<TreeNo> = LoopTree::build(alloc, image, section, loops).err();
-    format!(in alloc; "{no:?}")
+    let no: Option<TreeNo> = LoopTree::build(alloc, &program.image, section, &program.loops).err();
+    write!(text, "{no:?}")
 }
 
-/// The bound of the loop's rounds where the thread has a slot.
-fn rounds(
+/// The bound of the loop's rounds, where the thread has a slot.
+fn push_bound(
+    text: &mut String,
     alloc: Global,
-    image: &Image,
-    loops: &Loops,
-    slots: u32,
-    thread: u8,
-) -> Result<String, AllocError>
-    requires { thread < 8 }
-{
+    program: &Program,
+    n: &[u64; 8],
+) -> Result<(), AllocError> {
     let section = Section { from: 0, to: 8 };
-    let tree = LoopTree::build(alloc, image, section, loops);
-    let (Ok(tree), Ok(slots)) = (tree, SlotTable::from_word(slots)) else {
-        return String::from_str(alloc, "no tree");
+    let tree = LoopTree::build(alloc, &program.image, section, &program.loops);
+    let (Ok(tree), Ok(slots)) = (tree, SlotTable::from_word(low_word(n[0]))) else {
+        return text.push_str("no tree");
     };
+    let thread = thread_of(n[1]);
     if !has_slot(&slots, thread) {
-        return String::from_str(alloc, "no slot");
+        return text.push_str("no slot");
     }
     let cycles = bound(alloc, &tree, &slots, thread).ok();
-    format!(in alloc; "{cycles:?}")
+    write!(text, "{cycles:?}")
 }

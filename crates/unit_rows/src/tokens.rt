@@ -1,38 +1,31 @@
 //! The tokens of a line, or its fault.
 
 use crate::escapes::unescaped;
-use fp_lex::{LexNo, Token, Tokens, tokens};
+use fp_lex::{Token, tokens};
 use std::alloc::{AllocError, Global};
 use std::fmt::Write;
 
 /// `LINE`, with escapes.
-pub fn answer(alloc: Global, call: &str) -> Result<String, AllocError> {
+pub fn push_answer(text: &mut String, alloc: Global, call: &str) -> Result<(), AllocError> {
     let line = unescaped(alloc, call)?;
     if line.len() > 1000 {
-        return String::from_str(alloc, "too long");
+        return text.push_str("too long");
     }
-    shown(alloc, tokens(alloc, &line))
+    match tokens(alloc, &line) {
+        Ok(tokens) => push_tokens(text, tokens.as_slice()),
+        Err(fault) => write!(text, "{fault:?}"),
+    }
 }
 
-fn shown(alloc: Global, found: Result<Tokens, LexNo>) -> Result<String, AllocError> {
-    let mut text = String::new(alloc);
-    match found {
-        Ok(tokens) => {
-            for token in tokens.as_slice() {
-                push_token(&mut text, *token)?;
-            }
-        }
-        Err(fault) => write!(text, "{fault:?}")?,
+fn push_tokens(text: &mut String, tokens: &[Token]) -> Result<(), AllocError> {
+    for token in tokens {
+        let Token {
+            kind,
+            start,
+            end,
+            value,
+        } = *token;
+        write!(text, "{kind:?} {start}..{end} {value};")?;
     }
-    Ok(text)
-}
-
-fn push_token(text: &mut String, token: Token) -> Result<(), AllocError> {
-    let Token {
-        kind,
-        start,
-        end,
-        value,
-    } = token;
-    write!(text, "{kind:?} {start}..{end} {value};")
+    Ok(())
 }

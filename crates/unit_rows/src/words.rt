@@ -2,52 +2,55 @@
 
 use ask_words::{Ask, WordsNo, read_words};
 use std::alloc::{AllocError, Global};
-
-fn words(alloc: Global, text: &str) -> Result<Vec<String>, AllocError> {
-    let mut words = Vec::new(alloc);
-    for word in text.split(' ') {
-        words.push(String::from_str(alloc, word)?)?;
-    }
-    Ok(words)
-}
+use std::fmt::Write;
 
 /// `none`, or the words after a colon: what they ask, with all values.
-pub fn answer(alloc: Global, call: &str) -> Result<String, AllocError> {
-    match call.strip_prefix(':') {
-        Some(line) => told(alloc, &words(alloc, line)?),
-        None => told(alloc, &[]),
+pub fn push_answer(text: &mut String, alloc: Global, call: &str) -> Result<(), AllocError> {
+    let mut words = Vec::new(alloc);
+    if let Some(line) = call.strip_prefix(':') {
+        for word in line.split(' ') {
+            words.push(String::from_str(alloc, word)?)?;
+        }
     }
-}
-
-fn told(alloc: Global, words: &[String]) -> Result<String, AllocError> {
-    match read_words(alloc, words) {
-        Ok(ask) => ask_text(alloc, &ask),
-        Err(WordsNo::Usage) => String::from_str(alloc, "usage"),
+    match read_words(alloc, &words) {
+        Ok(ask) => push_ask(text, &ask),
+        Err(WordsNo::Usage) => text.push_str("usage"),
         Err(WordsNo::NoMemory) => Err(AllocError),
     }
 }
 
-fn ask_text(alloc: Global, ask: &Ask) -> Result<String, AllocError> {
+fn push_ask(text: &mut String, ask: &Ask) -> Result<(), AllocError> {
     match ask {
         Ask::Run {
             setup,
             thread,
             cycles,
-        } => format!(in alloc; "run {} {thread} {cycles}", setup.as_str()),
-        Ask::Dump { setup, cycles } => format!(in alloc; "dump {} {cycles}", setup.as_str()),
-        Ask::Asm { source } => format!(in alloc; "asm {}", source.as_str()),
+        } => push_asked(text, "run ", setup.as_str(), &[u64::from(*thread), *cycles]),
+        Ask::Dump { setup, cycles } => push_asked(text, "dump ", setup.as_str(), &[*cycles]),
+        Ask::Asm { source } => push_asked(text, "asm ", source.as_str(), &[]),
         Ask::Bound {
             setup,
             thread,
             section,
         } => {
-            format!(in alloc;
-                "bound {} {thread} {} {}",
-                setup.as_str(),
-                section.from,
-                section.to
-            )
+            let numbers = [u32::from(*thread), section.from, section.to].map(u64::from);
+            push_asked(text, "bound ", setup.as_str(), &numbers)
         }
-        Ask::Selfrun { number } => format!(in alloc; "selfrun {number}"),
+        Ask::Selfrun { number } => push_asked(text, "selfrun", "", &[u64::from(*number)]),
     }
+}
+
+/// A command with its file and its numbers.
+fn push_asked(
+    text: &mut String,
+    command: &str,
+    file: &str,
+    numbers: &[u64],
+) -> Result<(), AllocError> {
+    text.push_str(command)?;
+    text.push_str(file)?;
+    for number in numbers {
+        write!(text, " {number}")?;
+    }
+    Ok(())
 }

@@ -4,59 +4,55 @@ use rv_decode::{AluOp, BranchOp, CsrKind, ImmOp, Ins, LoadOp, MulOp, ShiftOp, St
 
 /// A kind of instructions and the numbers of one: registers, immediates and offsets, in the order
 /// of the fields of [`Ins`], with zeros after them.
-#[derive(Clone, Copy, Debug, PartialEq, Eq)]
+#[derive(Clone, Copy, PartialEq, Eq)]
 pub struct Said<'a> {
     pub kind: &'a str,
     pub numbers: [i64; 3],
 }
 
+fn said_of_three(kind: &'static str, first: u8, second: u8, third: i64) -> Said<'static> {
+    Said {
+        kind,
+        numbers: [i64::from(first), i64::from(second), third],
+    }
+}
+
+fn said_of_two(kind: &'static str, register: u8, number: i64) -> Said<'static> {
+    Said {
+        kind,
+        numbers: [i64::from(register), number, 0],
+    }
+}
+
 pub fn said_of(ins: &Ins) -> Said<'static> {
-    let (kind, numbers) = match *ins {
-        Ins::Lui { rd, imm } => ("lui", [i64::from(rd), i64::from(imm), 0]),
-        Ins::Auipc { rd, imm } => ("auipc", [i64::from(rd), i64::from(imm), 0]),
-        Ins::Jal { rd, off } => ("jal", [i64::from(rd), i64::from(off), 0]),
-        Ins::Jalr { rd, rs1, imm } => ("jalr", [i64::from(rd), i64::from(rs1), i64::from(imm)]),
-        Ins::Branch { op, rs1, rs2, off } => {
-            (branch(op), [i64::from(rs1), i64::from(rs2), i64::from(off)])
-        }
-        Ins::Load { op, rd, rs1, imm } => {
-            (load(op), [i64::from(rd), i64::from(rs1), i64::from(imm)])
-        }
-        Ins::Store { op, rs1, rs2, imm } => {
-            (store(op), [i64::from(rs1), i64::from(rs2), i64::from(imm)])
-        }
-        Ins::OpImm { op, rd, rs1, imm } => {
-            (
-                with_immediate(op),
-                [i64::from(rd), i64::from(rs1), i64::from(imm)],
-            )
-        }
+    match *ins {
+        Ins::Lui { rd, imm } => said_of_two("lui", rd, i64::from(imm)),
+        Ins::Auipc { rd, imm } => said_of_two("auipc", rd, i64::from(imm)),
+        Ins::Jal { rd, off } => said_of_two("jal", rd, i64::from(off)),
+        Ins::Jalr { rd, rs1, imm } => said_of_three("jalr", rd, rs1, i64::from(imm)),
+        Ins::Branch { op, rs1, rs2, off } => said_of_three(branch(op), rs1, rs2, i64::from(off)),
+        Ins::Load { op, rd, rs1, imm } => said_of_three(load(op), rd, rs1, i64::from(imm)),
+        Ins::Store { op, rs1, rs2, imm } => said_of_three(store(op), rs1, rs2, i64::from(imm)),
+        Ins::OpImm { op, rd, rs1, imm } => said_of_three(
+            with_immediate(op),
+            rd,
+            rs1,
+            i64::from(imm),
+        ),
         Ins::Shift {
             op,
             rd,
             rs1,
             amount,
-        } => {
-            (
-                shift(op),
-                [i64::from(rd), i64::from(rs1), i64::from(amount)],
-            )
-        }
-        Ins::Op { op, rd, rs1, rs2 } => {
-            (
-                with_register(op),
-                [i64::from(rd), i64::from(rs1), i64::from(rs2)],
-            )
-        }
-        Ins::Muldiv { op, rd, rs1, rs2 } => {
-            (muldiv(op), [i64::from(rd), i64::from(rs1), i64::from(rs2)])
-        }
-        Ins::Csr { op, rd, csr, src } => {
-            (control(op), [i64::from(rd), i64::from(csr), i64::from(src)])
-        }
-        _ => (unnumbered(ins), [0; 3]),
-    };
-    Said { kind, numbers }
+        } => said_of_three(shift(op), rd, rs1, i64::from(amount)),
+        Ins::Op { op, rd, rs1, rs2 } => said_of_three(with_register(op), rd, rs1, i64::from(rs2)),
+        Ins::Muldiv { op, rd, rs1, rs2 } => said_of_three(muldiv(op), rd, rs1, i64::from(rs2)),
+        Ins::Csr { op, rd, csr, src } => Said {
+            kind: control(op),
+            numbers: [i64::from(rd), i64::from(csr), i64::from(src)],
+        },
+        _ => said_of_three(unnumbered(ins), 0, 0, 0),
+    }
 }
 
 fn unnumbered(ins: &Ins) -> &'static str {

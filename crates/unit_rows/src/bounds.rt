@@ -1,0 +1,156 @@
+//! The bounds of sections, and the refusals of those that have none. An executable model of the rules,
+//! which was written apart from the analyser, gave the answers.
+//!
+//! A call is the slots register, the thread, and the section's two ends; the loops, each as its head, its
+//! last word and its bound; the words of the section; with a tab between two of these. Numbers are
+//! hexadecimal, but for threads and bounds.
+
+ghost use Rattle.std.specs.Prelude.{◌<◌, ◌↔◌, Contains, IsTrue};
+ghost use Rattle.fp_setup.specs.Loops.{IsLoop};
+ghost use Rattle.region_tree.specs.Tree.{IsSection};
+ghost use Rattle.slot_table.specs.Frame.{frame};
+
+use crate::numbers::hexadecimal;
+use bound_calc::{BoundNo, bound, has_slot};
+use fp_image::{Image, read_image};
+use fp_setup::{LoopSetup, Loops};
+use region_tree::{LoopTree, Section, TreeNo};
+use slot_table::SlotTable;
+use std::alloc::{AllocError, Global};
+use std::fmt::Write;
+
+/// What a bound is asked of, beside the image and the loops.
+#[derive(Clone, Copy)]
+struct Question {
+    slots: SlotTable,
+    thread: u8,
+    section: Section,
+}
+
+impl Question {
+    fn of_words(words: &str) -> Option<Question> {
+        let mut words = words.split(' ');
+        let slots = hexadecimal(words.next()?)?;
+        let thread = words.next()?.parse().ok()?;
+        let from = hexadecimal(words.next()?)?;
+        let to = hexadecimal(words.next()?)?;
+        Some(Question {
+            slots: SlotTable::from_word(slots).ok()?,
+            thread,
+            section: Section { from, to },
+        })
+    }
+}
+
+/// `bound` and the number, or `refused` with the number, the name and the place of the refusal; a
+/// dash where no bound may be asked.
+pub fn push_answer(text: &mut String, alloc: Global, call: &str) -> Result<(), AllocError> {
+    let mut parts = call.split('\t');
+    let Some(question) = Question::of_words(parts.next().unwrap_or("")) else {
+        return text.push_str("no question");
+    };
+    let Some(loops) = loops_of(alloc, parts.next().unwrap_or(""))? else {
+        return text.push_str("no loops");
+    };
+    match image_of(alloc, question.section.from, parts.next().unwrap_or(""))? {
+        Some(image) => push_asked(text, alloc, question, &image, &loops),
+        None => text.push_str("no image"),
+    }
+}
+
+fn is_loop(j: &LoopSetup) -> bool
+    ensures { IsTrue result ↔ IsLoop j.now }
+{
+    j.head % 4 == 0 && j.last % 4 == 0 && j.head <= j.last && j.limit <= 1_048_576
+}
+
+/// The loops of a list of numbers, three each; None where they break a rule of loops.
+fn loops_of(alloc: Global, numbers: &str) -> Result<Option<Loops>, AllocError> {
+    let mut loops = Vec::new(alloc);
+    let mut words = numbers.split_ascii_whitespace();
+    while let Some(head) = words.next() {
+        let (last, limit) = (words.next().unwrap_or(""), words.next().unwrap_or(""));
+        let (Some(head), Some(last), Ok(limit)) = (
+            hexadecimal(head),
+            hexadecimal(last),
+            limit.parse(),
+        ) else {
+            return Ok(None);
+        };
+        loops.push(LoopSetup { head, last, limit })?;
+    }
+    if loops.len() > 256 || !loops.iter().all(is_loop) {
+        return Ok(None);
+    }
+    Ok(Some(Loops::from_vec(loops)))
+}
+
+/// The image with words from an address on; None where a word is no number.
+fn image_of(alloc: Global, address: u32, words: &str) -> Result<Option<Image>, AllocError> {
+    let mut file = Vec::new(alloc);
+    file.extend_from_slice(b"FPX1\x01\0\0\0")?;
+    file.extend_from_slice(&address.to_le_bytes())?;
+    let length = words.split_ascii_whitespace().count().wrapping_mul(4);
+    file.extend_from_slice(&((length & 0xffff_ffff) as u32).to_le_bytes())?;
+    for word in words.split_ascii_whitespace() {
+        let Some(word) = hexadecimal(word) else {
+            return Ok(None);
+        };
+        file.extend_from_slice(&word.to_le_bytes())?;
+    }
+    Ok(read_image(alloc, &file, 65_536).ok())
+}
+
+fn is_section(s: Section) -> bool
+    ensures { IsTrue result ↔ IsSection s }
+{
+    s.from < s.to && s.from % 4 == 0 && s.to % 4 == 0 && s.to <= 65_536
+}
+
+fn push_asked(
+    text: &mut String,
+    alloc: Global,
+    question: Question,
+    image: &Image,
+    loops: &Loops,
+) -> Result<(), AllocError> {
+    let Question {
+        slots,
+        thread,
+        section,
+    } = question;
+    if !is_section(section) || thread > 7 || !has_slot(&slots, thread) {
+        return text.push('-');
+    }
+    match LoopTree::build(alloc, image, section, loops) {
+        Ok(tree) => push_bound(text, alloc, &tree, &slots, thread),
+        Err(TreeNo::NoMemory) => Err(AllocError),
+        Err(TreeNo::Nesting { address }) => push_refused(text, "1 Nesting", address),
+        Err(TreeNo::IndirectJump { address }) => push_refused(text, "2 IndirectJump", address),
+        Err(TreeNo::TimedWait { address }) => push_refused(text, "3 TimedWait", address),
+        Err(TreeNo::UnboundedBackEdge { address }) => {
+            push_refused(text, "4 UnboundedBackEdge", address)
+        }
+    }
+}
+
+fn push_bound(
+    text: &mut String,
+    alloc: Global,
+    tree: &LoopTree,
+    slots: &SlotTable,
+    thread: u8,
+) -> Result<(), AllocError>
+    requires thread { thread < 8 }
+    requires slot { Contains (frame slots.now) thread }
+{
+    match bound(alloc, tree, slots, thread) {
+        Ok(cycles) => write!(text, "bound {cycles}"),
+        Err(BoundNo::Overflow { value }) => write!(text, "refused 6 Overflow {value}"),
+        Err(BoundNo::NoMemory) => Err(AllocError),
+    }
+}
+
+fn push_refused(text: &mut String, why: &str, address: u32) -> Result<(), AllocError> {
+    write!(text, "refused {why} {address:08x}")
+}

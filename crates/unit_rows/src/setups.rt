@@ -1,0 +1,193 @@
+//! What is read out of a setup, as text. An executable model of the format, which was written apart from
+//! the reader, gave the answers to the setups of the table.
+
+use crate::escapes::unescaped;
+use crate::numbers::{low_word, number};
+use fp_io::{Files, RealFiles};
+use fp_setup::{
+    Input, Inputs, LoopSetup, Loops, Name, Place, Setup, SetupNo, SetupRefused, ThreadSetup,
+    read_setup,
+};
+use std::alloc::{AllocError, Global};
+use std::fmt::Write;
+
+/// A name, and the lines of a setup; or `bytes: BYTES`, with escapes, `signs: COUNT` for so many bytes
+/// `#`, `file: NAME`, `words: given` for a setup of its registers' words, and `parts: given` for what the
+/// parts of a setup give back.
+pub fn push_answer(text: &mut String, rt: HostRuntime, call: &str) -> Result<(), AllocError> {
+    let (name, setup) = call.split_once('\n').unwrap_or((call, ""));
+    match name.split_once(": ") {
+        Some((kind, with)) => push_made(text, rt, kind, with),
+        None => push_setup(text, rt.alloc(), setup.as_bytes()),
+    }
+}
+
+fn push_made(text: &mut String, rt: HostRuntime, kind: &str, with: &str) -> Result<(), AllocError> {
+    let alloc = rt.alloc();
+    match kind {
+        "bytes" => push_setup(text, alloc, &unescaped(alloc, with)?),
+        "signs" => {
+            let count = low_word(number(with)) as usize;
+            push_setup(text, alloc, &vec![in alloc; b'#'; count]?)
+        }
+        "file" => push_file(text, rt, with),
+        "words" => push_words(text, alloc),
+        _ => push_parts(text, alloc),
+    }
+}
+
+fn push_file(text: &mut String, rt: HostRuntime, name: &str) -> Result<(), AllocError> {
+    match RealFiles::new(rt).fetch(rt.alloc(), name, 262_144) {
+        Ok(bytes) => push_setup(text, rt.alloc(), &bytes),
+        Err(_) => text.push_str("no file"),
+    }
+}
+
+/// The refusal of a setup, or all that it says.
+fn push_setup(text: &mut String, alloc: Global, bytes: &[u8]) -> Result<(), AllocError> {
+    match read_setup(alloc, bytes) {
+        Ok(setup) => push_accepted(text, &setup),
+        Err(SetupRefused::Fault { code, place }) => push_fault(text, code, place),
+        Err(SetupRefused::NoMemory) => Err(AllocError),
+    }
+}
+
+fn push_fault(text: &mut String, code: SetupNo, place: Place) -> Result<(), AllocError> {
+    write!(text, "refused {} {code:?} ", code as u8)?;
+    push_place(text, place)?;
+    text.push('\n')
+}
+
+fn push_place(text: &mut String, place: Place) -> Result<(), AllocError> {
+    let Place {
+        table,
+        row,
+        key,
+        item,
+    } = place;
+    match table {
+        0 => text.push('-')?,
+        1 => text.push_str(if key == 0 { "top" } else { "" })?,
+        2 => write!(text, "thread[{row}]")?,
+        _ => write!(text, "loop[{row}]")?,
+    }
+    text.push_str(if table > 1 && key > 0 { "." } else { "" })?;
+    text.push_str(key_name(table, key))?;
+    if item == 0 {
+        return Ok(());
+    }
+    write!(text, "[{}]", item - 1)
+}
+
+fn key_name(table: u8, key: u8) -> &'static str {
+    match (table, key) {
+        (1, 1) => "version",
+        (1, 2) => "period",
+        (1, 3) => "image",
+        (1, 4) => "slots",
+        (1, 5) => "i_regions",
+        (1, 6) => "d_regions",
+        (1, 7) => "thread",
+        (1, 8) => "loop",
+        (2, 1) => "id",
+        (2, 2) => "mode",
+        (2, 3) => "entry",
+        (2, 4) => "confined",
+        (2, 5) => "permit",
+        (2, 6) => "unplug",
+        (2, 7) => "inputs",
+        (3, 1) => "head",
+        (3, 2) => "last",
+        (3, 3) => "bound",
+        _ => "",
+    }
+}
+
+/// All that a setup says. Lines after the first begin as in the table.
+fn push_accepted(text: &mut String, setup: &Setup) -> Result<(), AllocError> {
+    push_registers(text, setup)?;
+    for thread in 0..8 {
+        push_thread(text, thread, setup.threads.get(thread))?;
+    }
+    push_loops(text, setup.loops.as_slice())
+}
+
+fn push_registers(text: &mut String, setup: &Setup) -> Result<(), AllocError> {
+    let Setup {
+        version,
+        period,
+        slots,
+        modes,
+        iregions,
+        dregions,
+        ..
+    } = *setup;
+    writeln!(text, "version {version} period {period}")?;
+    writeln!(text, "--- slots {slots:08x} modes {modes:08x}")?;
+    let image = setup.image.as_str();
+    writeln!(
+        text,
+        "--- regions {iregions:08x} {dregions:08x} image {image}"
+    )
+}
+
+fn push_thread(text: &mut String, number: u8, thread: &ThreadSetup) -> Result<(), AllocError> {
+    write!(text, "--- T{number} entry {}", thread.entry)?;
+    text.push_str(if thread.confined { " confined" } else { "" })?;
+    text.push_str(if thread.permit { " permit" } else { "" })?;
+    if let Some(cycle) = thread.unplug {
+        write!(text, " unplug {cycle}")?;
+    }
+    push_inputs(text, thread.inputs.as_slice())
+}
+
+fn push_inputs(text: &mut String, inputs: &[Input]) -> Result<(), AllocError> {
+    for input in inputs {
+        write!(text, " {}:{}", input.at, input.word)?;
+    }
+    text.push('\n')
+}
+
+fn push_loops(text: &mut String, loops: &[LoopSetup]) -> Result<(), AllocError> {
+    for bounds in loops {
+        let LoopSetup { head, last, limit } = *bounds;
+        writeln!(text, "--- loop {head} {last} {limit}")?;
+    }
+    Ok(())
+}
+
+#[tactic(auto, unfolding(slot_table::specs::Table::is_table, region_guard::specs::Register::is_regions, nibble_word::specs::Nibbles::nibbles))]
+fn push_words(text: &mut String, alloc: Global) -> Result<(), AllocError> {
+    let setup = Setup::of_words(
+        alloc,
+        10,
+        0xeeee_3210,
+        0xaa00,
+        0x7654_3210,
+        0xc888_3210,
+        [0, 2048, 4096, 6144, 8192, 10240, 12288, 14336],
+        [true, true, true, true, false, false, false, false],
+    )?;
+    push_accepted(text, &setup)
+}
+
+fn push_parts(text: &mut String, alloc: Global) -> Result<(), AllocError> {
+    let name = Name::from_str(alloc, "drive.toml")?;
+    let inputs = Inputs::from_vec(vec![in alloc; Input { at: 3, word: 4 }]?);
+    let head = LoopSetup {
+        head: 4,
+        last: 8,
+        limit: 2,
+    };
+    let loops = Loops::from_vec(vec![in alloc; head]?);
+    push_counts(text, &name, inputs.as_slice().len(), loops.as_slice().len())
+}
+
+fn push_counts(
+    text: &mut String,
+    name: &Name,
+    inputs: usize,
+    loops: usize,
+) -> Result<(), AllocError> {
+    writeln!(text, "{}, {inputs} inputs, {loops} loops", name.as_str())
+}
