@@ -1,5 +1,6 @@
 //! Compares what the program answers to command lines with tables that were worked out apart from it:
-//! its status, what it writes, and what is left of the devices at the ports.
+//! its status, what it writes, and what is left of the devices at the ports. Last come programs through
+//! the pipeline alone.
 //!
 //! The tables stand in the folder where it runs; `commands.txt` says at its head how they are written.
 //! Standard output has each command at which the two differ, and for each table how many there are.
@@ -8,7 +9,11 @@
 mod answer;
 mod devices;
 mod expanded;
+mod machines;
+mod numbers;
+mod pipelines;
 mod ports;
+mod programs;
 mod table;
 
 use answer::{answer_to, is_wanted, push_answer};
@@ -60,5 +65,5 @@ fn main(rt: HostRuntime) -> io::Result<()> {
             tally.commands, tally.differ
         )?;
     }
-    Ok(())
+    programs::compare(rt)
 }

@@ -146,18 +146,16 @@ fn push_shown(
     }
 }
 
-/// The events of a program: the registers of slots and modes, the entry of thread 1 and how many cycles;
+/// Appends the events of a program: the registers of slots and modes, the entry of thread 1 and how many cycles;
 /// the words of its code after their places; and what thread 0's port is fed.
-pub fn events_of(alloc: Global, program: &str) -> Result<String, AllocError> {
+pub fn push_program(alloc: Global, text: &mut String, program: &str) -> Result<(), AllocError> {
     let mut parts = program.split(", ");
     let n = numbers(parts.next().unwrap_or(""));
     let imem = code_of(alloc, parts.next().unwrap_or(""))?;
     let (Some(sched), Some(guard)) = (sched(low_word(n[0]), low_word(n[1])), guard(0)) else {
-        return String::from_str(alloc, "no registers");
+        return text.push_str("no registers");
     };
     let mut units = units(alloc, sched, guard, imem)?;
-    let mut text = String::new(alloc);
     let fed = parts.next().unwrap_or("");
-    push_shown(alloc, &mut text, &mut units, fed, low_word(n[2]), n[3])?;
-    Ok(text)
+    push_shown(alloc, text, &mut units, fed, low_word(n[2]), n[3])
 }

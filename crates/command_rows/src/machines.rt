@@ -58,8 +58,9 @@ fn units(sched: Sched, guard: Guard, imem: Spm, dmem: Spm) -> Units
     }
 }
 
-/// The trace of thread 0 in eleven cycles, with a semicolon at the end of each line, and the cycle then.
-fn trace_of(alloc: Global, machine: &mut Machine) -> Result<String, AllocError>
+/// Appends the trace of thread 0 in eleven cycles, with a semicolon at the end of each line, and the cycle
+/// then.
+fn push_run(alloc: Global, text: &mut String, machine: &mut Machine) -> Result<(), AllocError>
     requires { machine.old.at ≡ 0 }
 {
     let mut out = MemSink::new(alloc, 4096)?;
@@ -68,18 +69,16 @@ fn trace_of(alloc: Global, machine: &mut Machine) -> Result<String, AllocError>
         ports.push(None)?;
     }
     let ran = machine.run(11, 0, &mut ports, &mut out);
-    let mut text = String::new(alloc);
     for line in str::from_utf8(out.bytes()).unwrap_or("").lines() {
         write!(text, "0 {};", line.trim())?;
     }
-    write!(text, "{ran:?} {}", machine.cycle())?;
-    Ok(text)
+    write!(text, "{ran:?} {}", machine.cycle())
 }
 
-/// What the machine of these fields does.
-pub fn trace(alloc: Global) -> Result<String, AllocError> {
+/// Appends what the machine of these fields does.
+pub fn push_trace(alloc: Global, text: &mut String) -> Result<(), AllocError> {
     let (Some(sched), Some(guard)) = (sched(0xffff_fff0, 0xfffc), guard(0xcccc_c810)) else {
-        return String::from_str(alloc, "no registers");
+        return text.push_str("no registers");
     };
     let mut imem = Spm::new(alloc, 16_384)?;
     imem.fill(0, &CODE);
@@ -90,5 +89,5 @@ pub fn trace(alloc: Global) -> Result<String, AllocError> {
         at: 0,
         unplugs: [None; 8],
     };
-    trace_of(alloc, &mut machine)
+    push_run(alloc, text, &mut machine)
 }
