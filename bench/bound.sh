@@ -39,8 +39,8 @@ def measure(name, answer, words, loops):
     for other in OTHERS.split():
         open(f'{other}.txt', 'w').close()
     with open('bounds.txt', 'w') as table:
-        table.write('%s\t00000000 0 0 %x\t%s\t%s\n' % (
-            answer, 4 * len(words), ' '.join('%x %x 1048576' % j for j in loops), ' '.join('%08x' % w for w in words)))
+        table.write('%s\t00000000 0 0 %x\t%s\t31585046 1 0 %x %s\n' % (
+            answer, 4 * len(words), ' '.join('%x %x 1048576' % j for j in loops), 4 * len(words), ' '.join('%08x' % w for w in words)))
     child = subprocess.Popen([sys.argv[1]], stdout=subprocess.PIPE)
     told = child.stdout.read().decode().splitlines()
     said = next(line for line in told if line.startswith('bounds.txt'))

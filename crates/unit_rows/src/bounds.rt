@@ -2,15 +2,15 @@
 //! which was written apart from the analyser, gave the answers.
 //!
 //! A call is the slots register, the thread, and the section's two ends; the loops, each as its head, its
-//! last word and its bound; the words of the section; with a tab between two of these. Numbers are
-//! hexadecimal, but for threads and bounds.
+//! last word and its bound; the words of an image's file that has the section alone; with a tab between
+//! two of these. Numbers are hexadecimal, but for bounds.
 
 ghost use Rattle.std.specs.Prelude.{◌<◌, ◌↔◌, Contains, IsTrue};
 ghost use Rattle.fp_setup.specs.Loops.{IsLoop};
 ghost use Rattle.region_tree.specs.Tree.{IsSection};
 ghost use Rattle.slot_table.specs.Frame.{frame};
 
-use crate::numbers::hexadecimal;
+use crate::numbers::{hexadecimal, read_hexadecimals};
 use bound_calc::{BoundNo, bound, has_slot};
 use fp_image::{Image, read_image};
 use fp_setup::{LoopSetup, Loops};
@@ -29,14 +29,12 @@ struct Question {
 
 impl Question {
     fn of_words(words: &str) -> Option<Question> {
-        let mut words = words.split(' ');
-        let slots = hexadecimal(words.next()?)?;
-        let thread = words.next()?.parse().ok()?;
-        let from = hexadecimal(words.next()?)?;
-        let to = hexadecimal(words.next()?)?;
+        let mut numbers = [0; 4];
+        read_hexadecimals(words, &mut numbers)?;
+        let [slots, thread, from, to] = numbers;
         Some(Question {
             slots: SlotTable::from_word(slots).ok()?,
-            thread,
+            thread: u8::try_from(thread).ok()?,
             section: Section { from, to },
         })
     }
@@ -52,7 +50,7 @@ pub fn push_answer(text: &mut String, alloc: Global, call: &str) -> Result<(), A
     let Some(loops) = loops_of(alloc, parts.next().unwrap_or(""))? else {
         return text.push_str("no loops");
     };
-    match image_of(alloc, question.section.from, parts.next().unwrap_or(""))? {
+    match image_of(alloc, parts.next().unwrap_or(""))? {
         Some(image) => push_asked(text, alloc, question, &image, &loops),
         None => text.push_str("no image"),
     }
@@ -85,13 +83,9 @@ fn loops_of(alloc: Global, numbers: &str) -> Result<Option<Loops>, AllocError> {
     Ok(Some(Loops::from_vec(loops)))
 }
 
-/// The image with words from an address on; None where a word is no number.
-fn image_of(alloc: Global, address: u32, words: &str) -> Result<Option<Image>, AllocError> {
+/// The image of a file's words; None where a word is no number.
+fn image_of(alloc: Global, words: &str) -> Result<Option<Image>, AllocError> {
     let mut file = Vec::new(alloc);
-    file.extend_from_slice(b"FPX1\x01\0\0\0")?;
-    file.extend_from_slice(&address.to_le_bytes())?;
-    let length = words.split_ascii_whitespace().count().wrapping_mul(4);
-    file.extend_from_slice(&((length & 0xffff_ffff) as u32).to_le_bytes())?;
     for word in words.split_ascii_whitespace() {
         let Some(word) = hexadecimal(word) else {
             return Ok(None);

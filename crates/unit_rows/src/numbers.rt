@@ -33,6 +33,15 @@ pub fn hexadecimal(digits: &str) -> Option<u32> {
     u32::from_str_radix(digits, 16).ok()
 }
 
+/// Reads hexadecimal numbers into places. None where a place gets none.
+pub fn read_hexadecimals(text: &str, places: &mut [u32]) -> Option<()> {
+    let mut words = text.split_whitespace();
+    for place in places {
+        *place = hexadecimal(words.next()?)?;
+    }
+    Some(())
+}
+
 /// The low 32 bits of a number.
 pub fn low_word(number: u64) -> u32 {
     (number & 0xffff_ffff) as u32

@@ -13,7 +13,7 @@
 //! stand. Operands are the edges of ranges in about half of the rows, and random in the others.
 
 use crate::mnemonics::{Said, said_of};
-use crate::numbers::hexadecimal;
+use crate::numbers::{hexadecimal, read_hexadecimals};
 use rv_decode::{Ins, decode, encode};
 use rv_exec::{Lanes, execute, load_value, store_lanes};
 use std::alloc::{AllocError, Global};
@@ -103,10 +103,7 @@ fn word_compared(line: &str) -> Option<(&str, bool)> {
 /// The kind of a run's instruction, and whether it leaves what the library says.
 fn run_compared(line: &str) -> Option<(&'static str, bool)> {
     let mut numbers = [0; 9];
-    let mut parts = line.split_whitespace();
-    for number in &mut numbers {
-        *number = hexadecimal(parts.next()?)?;
-    }
+    read_hexadecimals(line, &mut numbers)?;
     let [word, pc, a, b, address, content, value, next, after] = numbers;
     let ins = decode(word);
     let agrees = left_by(&ins, pc, a, b, content) == Some([value, next, address, after]);
