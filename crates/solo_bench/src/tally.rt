@@ -3,7 +3,7 @@
 use fp_io::{PutFailed, Sink};
 
 /// A sink that counts the bytes that it takes, and keeps none. It never fails.
-#[derive(Clone, Copy, Debug, PartialEq, Eq)]
+#[derive(Clone, Copy)]
 pub struct Tally {
     pub bytes: u64,
 }
