@@ -2,7 +2,7 @@
 # Processor time and the most memory of the analyser over 200 loops in a row, and over 16,384 words
 # with 256 loops, each of bound 1,048,576, for a thread that has all eight slots. It is no part of the
 # gate. The program unit_rows reads each section as a table of one row, beside empty tables, and must find
-# its answer.
+# its answer. The memory is no less than that of the python that starts it, some 14 MB.
 set -eu
 top=$(cd "$(dirname "${BASH_SOURCE[0]}")/.." && pwd)
 work=$(mktemp -d)
