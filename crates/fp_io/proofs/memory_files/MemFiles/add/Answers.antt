@@ -1,4 +1,5 @@
-use Rattle.std.proofs.Common.{◌∙◌, ap, ap₂}
+use Rattle.std.proofs.Common.{◌∙◌, ap, ap₂, arith}
+use Rattle.std.proofs.lemmas.Grind.{common_steps}
 use Rattle.std.specs.FinMap.{insert}
 use Rattle.fp_io.specs.Memory.{MemoryFiles}
 use Rattle.fp_io.proofs.NamedBytes.{named_by, named_by-insert}
@@ -11,3 +12,7 @@ returns-clause-after c =
     let given = named ∙ ap₂ (insert (named_by (λ v. v.items) inside.files)) c.in_ok-name.ensures.ok c.in_ok-bytes.ensures.items in
     ap (λ n. record { named = n; failing = inside.failing.items; calls = inside.calls; faults = inside.faults }) given
     ∙ ap (λ (m : MemoryFiles). record m { named = insert m.named c.args.name.now c.args.bytes.now }) c.self.view_is
+
+-- Memory was refused.
+pub returns-in_err-insert-clause-after : goal.returns-in_err-insert-clause-after
+returns-in_err-insert-clause-after c = grind (arith, common_steps)

@@ -21,3 +21,14 @@ invariant_of-self-2 c =
 
 pub returns-clause-few : goal.returns-clause-few
 returns-clause-few c = (invariant_of-self-2 c).few
+
+-- The bytes that are taken.
+pub returns-clause-after : goal.returns-clause-after
+returns-clause-after c = grind (arith, common_steps)
+
+-- All of the bytes fit.
+pub returns-then-fitting-bytes-clause-after : goal.returns-then-fitting-bytes-clause-after
+returns-then-fitting-bytes-clause-after c = grind (arith, common_steps)
+
+pub returns-then-fitting-bytes-clause-failed : goal.returns-then-fitting-bytes-clause-failed
+returns-then-fitting-bytes-clause-failed c = grind (arith, common_steps)
