@@ -1,4 +1,5 @@
-use Rattle.std.proofs.Common.{rules}
+use Rattle.std.proofs.Common.{rules, arith}
+use Rattle.std.proofs.lemmas.Grind.{common_steps}
 use Rattle.rv_exec.proofs.Bitwise.{bitwise_word, xor_is_bitwise, or_is_bitwise, and_is_bitwise}
 use Rattle.rv_exec.specs.Alu.{computed}
 use Rattle.rv_exec.proofs.alu.compute.Goals as goal
@@ -14,3 +15,7 @@ returns-in-Or c = rw c.in-Or.is (bitwise_word _ _ or_is_bitwise c.args.a c.args.
 pub returns-in-And : goal.returns-in-And
 unfolding computed
 returns-in-And c = rw c.in-And.is (bitwise_word _ _ and_is_bitwise c.args.a c.args.b (search rules) (search rules))
+
+pub returns-in-Sra : goal.returns-in-Sra
+unfolding computed
+returns-in-Sra c = grind (arith, common_steps)
