@@ -1,0 +1,7 @@
+-- The bits of an offset in their places.
+use Rattle.std.proofs.Common.{arith}
+use Rattle.std.proofs.lemmas.Grind.{common_steps}
+use Rattle.rv_decode.proofs.encoder.b_word.Goals as goal
+
+pub returns : goal.returns
+returns c = grind (arith, common_steps)
