@@ -1,0 +1,9 @@
+-- The operand's bits are cleared.
+use Rattle.std.proofs.Common.{arith}
+use Rattle.std.proofs.lemmas.Grind.{common_steps}
+use Rattle.core_model.specs.Control.{changed}
+use Rattle.hart_exec.proofs.control.change.Goals as goal
+
+pub returns-in-Clear : goal.returns-in-Clear
+unfolding changed
+returns-in-Clear c = grind (arith, common_steps)
