@@ -11,10 +11,13 @@ use std::collections::BTreeSet;
 /// The bytes of each scratchpad.
 const SPM_BYTES: u32 = 16_384;
 
+/// The address of the first byte of the data scratchpad.
+const DATA: u32 = 0x2000_0000;
+
 fn is_inside(a: u32) -> bool
     ensures { result ≡ is_inside_of a }
 {
-    a < SPM_BYTES || (0x2000_0000 <= a && a < 0x2000_4000)
+    a < SPM_BYTES || (DATA <= a && a < DATA + SPM_BYTES)
 }
 
 // Whether the scratchpads have n words from a place on.
