@@ -24,7 +24,7 @@ pub struct Section {
 }
 
 /// A command with its values.
-#[derive(Debug, Drop)]
+#[derive(Drop)]
 pub enum Ask {
     /// `run SETUP --thread i --cycles n`: the trace of a thread.
     Run {

@@ -21,7 +21,7 @@ use std::{fs, io};
 use table::{Case, Command};
 
 /// How many commands there are, and how many differ.
-#[derive(Clone, Copy, Debug)]
+#[derive(Clone, Copy)]
 struct Tally {
     commands: u32,
     differ: u32,

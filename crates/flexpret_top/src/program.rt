@@ -23,7 +23,7 @@ use trace_print::Refusal;
 const MOST_OF_A_SETUP: usize = 262_144;
 
 /// A setup, and the image that it names.
-#[derive(Debug, Drop)]
+#[derive(Drop)]
 pub struct Program {
     pub setup: Setup,
     pub image: Image,

@@ -6,7 +6,7 @@ use machine::Machine;
 use selfrun::Selfrun;
 
 /// A machine at its start, and the number of cycles that are asked for.
-#[derive(Debug, Drop)]
+#[derive(Drop)]
 pub struct Ready {
     pub machine: Machine,
     pub cycles: u64,
@@ -15,7 +15,7 @@ pub struct Ready {
 }
 
 /// What a command will write.
-#[derive(Debug, Drop)]
+#[derive(Drop)]
 pub enum Prepared {
     /// The lines of a thread's events.
     Trace { ready: Ready, thread: u8 },

@@ -5,7 +5,7 @@ use std::alloc::AllocError;
 use trace_print::Refusal;
 
 /// What a refusal speaks of.
-#[derive(Clone, Copy, Debug, PartialEq, Eq)]
+#[derive(Clone, Copy)]
 pub enum Cause {
     /// The setup, or the section that a bound is asked for.
     Setup,
@@ -36,7 +36,7 @@ impl Cause {
 }
 
 /// Why a command ends before its text.
-#[derive(Clone, Copy, Debug, PartialEq, Eq)]
+#[derive(Clone, Copy)]
 pub enum Stop {
     /// Something has a fault.
     Refused(Cause, Refusal),

@@ -10,7 +10,7 @@ use std::marker::Model;
 
 /// At most 16 segments, which rise without overlap, each of whole words and inside one scratchpad
 /// of 65,536 bytes.
-#[derive(Debug, Drop)]
+#[derive(Drop)]
 pub struct Image {
     segments: Vec<Segment>,
 }

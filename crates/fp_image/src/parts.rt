@@ -6,7 +6,7 @@ ghost use Rattle.std.specs.Prelude.{length};
 use std::marker::Model;
 
 /// Bytes that a segment holds.
-#[derive(Debug, Drop)]
+#[derive(Drop)]
 pub struct Bytes {
     bytes: Vec<u8>,
 }
@@ -41,7 +41,7 @@ impl Bytes {
 }
 
 /// Bytes and the address of the first of them.
-#[derive(Debug, Drop)]
+#[derive(Drop)]
 pub struct Segment {
     pub address: u32,
     pub bytes: Bytes,

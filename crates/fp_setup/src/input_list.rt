@@ -14,7 +14,7 @@ pub struct Input {
 
 /// The words that are fed to a thread's port: at most 4,096, their cycles strictly rising and at
 /// most 4,000,000,000. Contracts see the list.
-#[derive(Debug, Drop)]
+#[derive(Drop)]
 pub struct Inputs {
     items: Vec<Input>,
 }

@@ -17,7 +17,7 @@ pub struct LoopSetup {
 
 /// The loops of a program: at most 256, each with head and last multiples of 4, head at most last,
 /// and limit at most 1,048,576. Contracts see the list.
-#[derive(Debug, Drop)]
+#[derive(Drop)]
 pub struct Loops {
     items: Vec<LoopSetup>,
 }

@@ -7,7 +7,7 @@ use std::alloc::Global;
 use std::marker::Model;
 
 /// What a setup says of a thread. Its mode stands in the setup's word of modes.
-#[derive(Debug, Drop)]
+#[derive(Drop)]
 pub struct ThreadSetup {
     /// The address of the first instruction, a multiple of 4.
     pub entry: u32,
@@ -48,7 +48,7 @@ impl ThreadSetup {
 }
 
 /// The threads of a setup, eight of them. Contracts see the list.
-#[derive(Debug, Drop)]
+#[derive(Drop)]
 pub struct Threads {
     items: [ThreadSetup; 8],
 }

@@ -8,7 +8,7 @@ use std::alloc::{AllocError, Global};
 use std::marker::Model;
 
 /// An accepted setup. Contracts see its fields under their names.
-#[derive(Debug, Drop)]
+#[derive(Drop)]
 pub struct Setup {
     /// 1 or 2. Both scratchpads have 16,384 bytes in version 1 and 65,536 bytes in version 2.
     pub version: u32,

@@ -3,7 +3,7 @@
 use pipeline_core::{Pipe, Units};
 
 /// The machine between two cycles: its whole state beside the devices at the ports.
-#[derive(Debug, Drop)]
+#[derive(Drop)]
 pub struct Machine {
     /// The turns in the stages.
     pub pipe: Pipe,

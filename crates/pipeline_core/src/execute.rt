@@ -27,7 +27,7 @@ use timer_unit::{Clock, Timers};
 use trap_unit::{Traps, write_shared};
 
 /// What an instruction does, with what its thread has then.
-#[derive(Clone, Copy, Debug)]
+#[derive(Clone, Copy)]
 struct Step {
     own: Own,
     done: Done,

@@ -12,7 +12,7 @@ use timer_unit::Clock;
 
 /// What a thread's instruction asks, with the answers of the guard and of the machine's own
 /// registers as they stand when it is executed.
-#[derive(Clone, Copy, Debug)]
+#[derive(Clone, Copy)]
 pub struct Rights<'a> {
     pub thread: u8,
     pub clock: Clock,

@@ -11,7 +11,7 @@ use trap_unit::Traps;
 
 /// The units of the core: registers, scratchpads and their guard, scheduling, time, traps, and the
 /// flags of the eight hardware threads.
-#[derive(Debug, Drop)]
+#[derive(Drop)]
 pub struct Units {
     /// The registers x1 to x31 of each thread.
     pub bank: Bank,

@@ -13,7 +13,7 @@ use std::marker::Model;
 
 /// A section, its words and the loops that count in it. Nothing is known yet of how they fit
 /// together.
-#[derive(Debug, Drop)]
+#[derive(Drop)]
 pub struct Draft {
     section: Section,
     words: Vec<u32>,

@@ -45,7 +45,7 @@ impl From<AllocError> for TreeNo {
 }
 
 /// A section of code that has a bound: its words, and the loops of a setup that count in it.
-#[derive(Debug, Drop)]
+#[derive(Drop)]
 pub struct LoopTree {
     draft: Draft,
     met: Vec<bool>,

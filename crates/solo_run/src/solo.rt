@@ -17,7 +17,7 @@ use scratchpad::Spm;
 use trace_print::line;
 
 /// The run of one hart from its view, cycle by cycle.
-#[derive(Debug, Drop)]
+#[derive(Drop)]
 pub struct SoloRun {
     rights: Rights,
     period: u32,
