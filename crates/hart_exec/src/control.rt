@@ -15,7 +15,7 @@ use slot_scheduler::Modes;
 use slot_table::SlotTable;
 
 /// What a CSR instruction wants of a register.
-#[derive(Clone, Copy, Debug, PartialEq, Eq)]
+#[derive(Clone, Copy)]
 pub struct Access {
     pub op: CsrOp,
     pub operand: u32,
