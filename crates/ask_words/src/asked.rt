@@ -15,7 +15,7 @@ pub enum WordsNo {
 }
 
 /// The words of a program from an address to below another.
-#[derive(Clone, Copy, Debug, PartialEq, Eq)]
+#[derive(Clone, Copy, Debug)]
 pub struct Section {
     /// The address of the first byte.
     pub from: u32,

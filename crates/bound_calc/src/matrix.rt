@@ -8,7 +8,7 @@ use std::array;
 
 /// For each pair of frame positions the largest sum, or none. The row is the position at the start,
 /// the column the one at the end.
-#[derive(Clone, Copy, Debug, PartialEq, Eq)]
+#[derive(Clone, Copy, Debug)]
 pub struct Matrix {
     pub best: [[Option<u128>; 8]; 8],
 }

@@ -6,7 +6,7 @@ use timer_unit::Timer;
 
 /// The hart's trap registers (RISC-V privileged manual, "Machine-Level CSRs"). The two low bits of
 /// `mtvec` and `mepc` are 0.
-#[derive(Clone, Copy, Debug, PartialEq, Eq)]
+#[derive(Clone, Copy, Debug)]
 pub struct Trapping {
     pub mtvec: u32,
     pub mscratch: u32,
@@ -15,7 +15,7 @@ pub struct Trapping {
 }
 
 /// A hart's timer, its trap registers, and the moment until which it sleeps, in nanoseconds.
-#[derive(Clone, Copy, Debug, PartialEq, Eq)]
+#[derive(Clone, Copy, Debug)]
 pub struct Own {
     pub timer: Timer,
     pub trap: Trapping,
@@ -47,7 +47,7 @@ impl Own {
 
 /// What a CSR instruction does with the old value and its operand (RISC-V unprivileged manual,
 /// "Zicsr"): it puts the operand in its place, or sets or clears the operand's bits in it.
-#[derive(Clone, Copy, Debug, PartialEq, Eq)]
+#[derive(Clone, Copy, Debug)]
 pub enum CsrOp {
     Swap,
     Set,

@@ -7,7 +7,7 @@ use std::fmt;
 use std::marker::Model;
 
 /// What a token is.
-#[derive(Clone, Copy, Debug, PartialEq, Eq)]
+#[derive(Clone, Copy, Debug)]
 pub enum Kind {
     /// A letter, `_` or `.`, and then letters, digits, `_` and `.`.
     Name,
@@ -18,7 +18,7 @@ pub enum Kind {
 }
 
 /// A token, whose text is the slice of its line from `start` to before `end`, in bytes.
-#[derive(Clone, Copy, Debug, PartialEq, Eq)]
+#[derive(Clone, Copy, Debug)]
 pub struct Token {
     pub kind: Kind,
     pub start: u32,

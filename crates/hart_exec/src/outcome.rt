@@ -3,21 +3,21 @@
 use rv_exec::Effect;
 
 /// Where an instruction stands, and its word.
-#[derive(Clone, Copy, Debug, PartialEq, Eq)]
+#[derive(Clone, Copy, Debug)]
 pub struct Place {
     pub pc: u32,
     pub word: u32,
 }
 
 /// The values of an instruction's rs1 and rs2, 0 where it reads none.
-#[derive(Clone, Copy, Debug, PartialEq, Eq)]
+#[derive(Clone, Copy, Debug)]
 pub struct Sources {
     pub a: u32,
     pub b: u32,
 }
 
 /// What is known of an instruction once it is executed, besides what it did to its hart.
-#[derive(Clone, Copy, Debug, PartialEq, Eq)]
+#[derive(Clone, Copy, Debug)]
 pub struct Executed {
     /// Where the hart goes on.
     pub pc: u32,

@@ -4,7 +4,7 @@
 use rv_exec::Effect;
 
 /// What a latch holds of a turn.
-#[derive(Clone, Copy, Debug, PartialEq, Eq)]
+#[derive(Clone, Copy, Debug)]
 pub enum Held<T> {
     /// Nobody was picked.
     Bubble,
@@ -15,7 +15,7 @@ pub enum Held<T> {
 }
 
 /// After F: an address and its word, 0 outside the instruction scratchpad.
-#[derive(Clone, Copy, Debug, PartialEq, Eq)]
+#[derive(Clone, Copy, Debug)]
 pub struct Fetched {
     pub pc: u32,
     pub word: u32,
@@ -23,7 +23,7 @@ pub struct Fetched {
 
 /// After D: the word with the values of its source registers, 0 where it has none. `expired` says that
 /// the hart's armed moment was reached in the cycle of the issue.
-#[derive(Clone, Copy, Debug, PartialEq, Eq)]
+#[derive(Clone, Copy, Debug)]
 pub struct Decoded {
     pub pc: u32,
     pub word: u32,
@@ -35,7 +35,7 @@ pub struct Decoded {
 /// After E: the word is 0 where an expiry or a refused fetch took the turn, and so are the sources.
 /// `address` is that of a load or store that doesn't trap, else 0. `effect` is none for an instruction
 /// that was held, and `Nothing` where M works out the value.
-#[derive(Clone, Copy, Debug, PartialEq, Eq)]
+#[derive(Clone, Copy, Debug)]
 pub struct Executed {
     pub pc: u32,
     pub word: u32,
@@ -46,7 +46,7 @@ pub struct Executed {
 }
 
 /// After M: the effect is the event's, none for an instruction that was held.
-#[derive(Clone, Copy, Debug, PartialEq, Eq)]
+#[derive(Clone, Copy, Debug)]
 pub struct Stored {
     pub pc: u32,
     pub word: u32,
@@ -54,7 +54,7 @@ pub struct Stored {
 }
 
 /// After W.
-#[derive(Clone, Copy, Debug, PartialEq, Eq)]
+#[derive(Clone, Copy, Debug)]
 pub struct Written {
     pub pc: u32,
     pub word: u32,
@@ -62,7 +62,7 @@ pub struct Written {
 
 /// What E tells the younger stages: the hart goes on at `pc`, and so many of its next turns, 1 or 2,
 /// are flushed if they come right behind.
-#[derive(Clone, Copy, Debug, PartialEq, Eq)]
+#[derive(Clone, Copy, Debug)]
 pub struct Redirect {
     pub thread: u8,
     pub pc: u32,

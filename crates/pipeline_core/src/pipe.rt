@@ -21,7 +21,7 @@ use rv_exec::Event;
 ///
 /// Threads are 0 to 7, pcs are multiples of four, effects can be shown in a line of a trace, and the
 /// addresses of loads and stores are aligned for their sizes.
-#[derive(Clone, Copy, Debug, PartialEq, Eq)]
+#[derive(Clone, Copy, Debug)]
 pub struct Pipe {
     /// The pc that each thread fetches next.
     pub next: [u32; 8],

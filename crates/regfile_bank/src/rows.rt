@@ -7,7 +7,7 @@ use std::marker::Model;
 
 /// The registers x1 to x31 of the eight hardware threads. x0 reads 0 and ignores writes. A thread is
 /// 0 to 7, and a register 0 to 31.
-#[derive(Clone, Copy, Debug, PartialEq, Eq)]
+#[derive(Clone, Copy, Debug)]
 pub struct Bank {
     rows: [[u32; 31]; 8],
 }

@@ -9,7 +9,7 @@ use crate::register::{READ_ONLY, Regions, SHARED};
 ///
 /// The instruction scratchpad begins at address 0, the data scratchpad at 0x2000_0000, and the word
 /// of a thread's port stands at 0x4000_0000. Each scratchpad has eight regions of `size / 8` bytes.
-#[derive(Clone, Copy, Debug, PartialEq, Eq)]
+#[derive(Clone, Copy, Debug)]
 pub struct Guard {
     /// The regions of the instruction scratchpad.
     pub i: Regions,

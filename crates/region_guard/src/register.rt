@@ -10,7 +10,7 @@ use std::marker::Model;
 
 /// A word of a region register: a nibble for each of a scratchpad's eight regions, which names the
 /// thread that owns it (0 to 7), or is 8 for a shared and 12 for a read only region.
-#[derive(Clone, Copy, Debug, PartialEq, Eq)]
+#[derive(Clone, Copy, Debug)]
 pub struct Regions {
     word: u32,
 }

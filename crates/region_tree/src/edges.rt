@@ -17,7 +17,7 @@ pub enum Stop {
 }
 
 /// The edges of a word: to the next word, and to a jump's target. A jump has the lag [`JUMP_LAG`].
-#[derive(Clone, Copy, Debug, PartialEq, Eq)]
+#[derive(Clone, Copy, Debug)]
 pub struct Edges {
     /// The address of the next word, where the word can lead on to it.
     pub next: Option<u32>,

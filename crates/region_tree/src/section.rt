@@ -1,7 +1,7 @@
 //! Sections of code.
 
 /// The words of code from `from` to below `to`.
-#[derive(Clone, Copy, Debug, PartialEq, Eq)]
+#[derive(Clone, Copy, Debug)]
 pub struct Section {
     /// The address of the first word.
     pub from: u32,

@@ -2,7 +2,7 @@
 //! extended, and offsets are in bytes.
 
 /// The condition of a conditional branch (RISC-V unprivileged manual, "Conditional Branches").
-#[derive(Clone, Copy, Debug, PartialEq, Eq)]
+#[derive(Clone, Copy, Debug)]
 pub enum BranchOp {
     Beq,
     Bne,
@@ -13,7 +13,7 @@ pub enum BranchOp {
 }
 
 /// The width of a load and whether its value is sign extended ("Load and Store Instructions").
-#[derive(Clone, Copy, Debug, PartialEq, Eq)]
+#[derive(Clone, Copy, Debug)]
 pub enum LoadOp {
     Lb,
     Lh,
@@ -23,7 +23,7 @@ pub enum LoadOp {
 }
 
 /// The width of a store ("Load and Store Instructions").
-#[derive(Clone, Copy, Debug, PartialEq, Eq)]
+#[derive(Clone, Copy, Debug)]
 pub enum StoreOp {
     Sb,
     Sh,
@@ -31,7 +31,7 @@ pub enum StoreOp {
 }
 
 /// An operation on a register and a 12-bit immediate ("Integer Register-Immediate Instructions").
-#[derive(Clone, Copy, Debug, PartialEq, Eq)]
+#[derive(Clone, Copy, Debug)]
 pub enum ImmOp {
     Addi,
     Slti,
@@ -42,7 +42,7 @@ pub enum ImmOp {
 }
 
 /// A shift by a constant amount ("Integer Register-Immediate Instructions").
-#[derive(Clone, Copy, Debug, PartialEq, Eq)]
+#[derive(Clone, Copy, Debug)]
 pub enum ShiftOp {
     Slli,
     Srli,
@@ -50,7 +50,7 @@ pub enum ShiftOp {
 }
 
 /// An operation on two registers ("Integer Register-Register Operations").
-#[derive(Clone, Copy, Debug, PartialEq, Eq)]
+#[derive(Clone, Copy, Debug)]
 pub enum AluOp {
     Add,
     Sub,
@@ -65,7 +65,7 @@ pub enum AluOp {
 }
 
 /// A multiplication or division on two registers ("M" Extension).
-#[derive(Clone, Copy, Debug, PartialEq, Eq)]
+#[derive(Clone, Copy, Debug)]
 pub enum MulOp {
     Mul,
     Mulh,
@@ -78,7 +78,7 @@ pub enum MulOp {
 }
 
 /// What a CSR instruction does, with a register or with an immediate ("Zicsr").
-#[derive(Clone, Copy, Debug, PartialEq, Eq)]
+#[derive(Clone, Copy, Debug)]
 pub enum CsrKind {
     Rw,
     Rs,
@@ -89,7 +89,7 @@ pub enum CsrKind {
 }
 
 /// An instruction with its fields.
-#[derive(Clone, Copy, Debug, PartialEq, Eq)]
+#[derive(Clone, Copy, Debug)]
 pub enum Ins {
     Lui {
         rd: u8,

@@ -78,7 +78,7 @@ fn tallies(machine: &mut Machine, cycles: u64, ports: &mut Ports) -> [Tally; 8]
 }
 
 /// What each thread did in the machine's own run.
-#[derive(Clone, Copy, Debug, PartialEq, Eq)]
+#[derive(Clone, Copy, Debug)]
 pub struct Selfrun {
     pub tallies: [Tally; 8],
 }

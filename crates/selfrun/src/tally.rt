@@ -10,7 +10,7 @@ use rv_exec::Event;
 use trace_print::{line, push_decimal, push_hex};
 
 /// What is kept of a thread's events.
-#[derive(Clone, Copy, Debug, PartialEq, Eq)]
+#[derive(Clone, Copy, Debug)]
 pub struct Tally {
     /// How many there are.
     pub events: u32,

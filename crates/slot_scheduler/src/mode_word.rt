@@ -7,7 +7,7 @@ use std::marker::Model;
 
 /// A word of the modes register: two bits for each thread, of which thread i has bits 2i and
 /// 2i + 1. 0 is hard active, 1 hard asleep, 2 soft active, 3 soft asleep. The bits above 15 are 0.
-#[derive(Clone, Copy, Debug, PartialEq, Eq)]
+#[derive(Clone, Copy, Debug)]
 pub struct Modes {
     word: u32,
 }

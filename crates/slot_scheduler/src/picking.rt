@@ -8,7 +8,7 @@ use slot_table::{SlotTable, Turn};
 use std::marker::Model;
 
 /// What picking goes by.
-#[derive(Clone, Copy, Debug, PartialEq, Eq)]
+#[derive(Clone, Copy, Debug)]
 pub struct Sched {
     pub slots: SlotTable,
     pub modes: Modes,
@@ -17,7 +17,7 @@ pub struct Sched {
 }
 
 /// Who has a cycle.
-#[derive(Clone, Copy, Debug, PartialEq, Eq)]
+#[derive(Clone, Copy, Debug)]
 pub enum Pick {
     /// A thread, which issues an instruction if it is ready.
     Issue { thread: u8 },
@@ -26,7 +26,7 @@ pub enum Pick {
 }
 
 /// The place of the search for a soft thread: the one that such a search picked last, at first 7.
-#[derive(Clone, Copy, Debug, PartialEq, Eq)]
+#[derive(Clone, Copy, Debug)]
 pub struct Scheduler {
     last: u8,
 }

@@ -5,7 +5,7 @@ ghost use Rattle.slot_table.specs.Frame.{is_slot, is_used, turn_of_slot};
 ghost use Rattle.slot_table.specs.Table.{laid_out};
 
 /// Whose turn a cycle is, by the frame of slots.
-#[derive(Clone, Copy, Debug, PartialEq, Eq)]
+#[derive(Clone, Copy, Debug)]
 pub enum Turn {
     /// A hardware thread's own slot.
     Thread(u8),
@@ -23,7 +23,7 @@ pub struct BadSlot {
 }
 
 /// The slots of a frame as turns: the first `len` places have them, the others are nobody's.
-#[derive(Clone, Copy, Debug, PartialEq, Eq)]
+#[derive(Clone, Copy, Debug)]
 pub struct Frame {
     pub turns: [Turn; 8],
     pub len: u8,

@@ -10,7 +10,7 @@ use std::marker::Model;
 
 /// A word of the slots register: a nibble for each of eight slots, which names a thread (0 to 7),
 /// the soft threads (14) or nobody (15, disabled).
-#[derive(Clone, Copy, Debug, PartialEq, Eq)]
+#[derive(Clone, Copy, Debug)]
 pub struct SlotTable {
     word: u32,
     layout: Frame,

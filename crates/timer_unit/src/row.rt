@@ -1,7 +1,7 @@
 //! What one thread has in the timers.
 
 /// What one hardware thread has in the timers.
-#[derive(Clone, Copy, Debug, PartialEq, Eq)]
+#[derive(Clone, Copy, Debug)]
 pub struct Timer {
     /// The armed moment, in nanoseconds: from then on, an expiry trap takes the place of the
     /// thread's next instruction.

@@ -6,7 +6,7 @@ ghost use Rattle.timer_unit.specs.Time.{moment, time};
 use std::marker::Model;
 
 /// The clock of the core, whose cycles have a period of 1 to 1,000 nanoseconds.
-#[derive(Clone, Copy, Debug, PartialEq, Eq)]
+#[derive(Clone, Copy, Debug)]
 pub struct Clock {
     period: u32,
 }

@@ -8,7 +8,7 @@ use std::marker::Model;
 
 /// The timers of the eight hardware threads. Times and moments are in nanoseconds, and a thread is
 /// 0 to 7.
-#[derive(Clone, Copy, Debug, PartialEq, Eq)]
+#[derive(Clone, Copy, Debug)]
 pub struct Timers {
     rows: [Timer; 8],
 }

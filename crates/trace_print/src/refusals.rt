@@ -10,7 +10,7 @@ use arrayvec::ArrayString;
 use fp_setup::Place;
 
 /// Why something is refused, by the code of its fault. A code without a name prints none.
-#[derive(Clone, Copy, Debug, PartialEq, Eq)]
+#[derive(Clone, Copy, Debug)]
 pub enum Refusal {
     /// A setup, with the place of the fault.
     Setup { code: u8, place: Place },

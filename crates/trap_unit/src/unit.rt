@@ -13,7 +13,7 @@ use slot_scheduler::Sched;
 use std::marker::Model;
 
 /// What an access has done: the old value, and the value that was written, as the register keeps it.
-#[derive(Clone, Copy, Debug, PartialEq, Eq)]
+#[derive(Clone, Copy, Debug)]
 pub struct CsrDone {
     pub old: u32,
     pub written: Option<u32>,
@@ -35,7 +35,7 @@ pub enum CsrNo {
 /// The trap registers mtvec, mscratch, mepc and mcause of the eight hardware threads (RISC-V
 /// privileged manual, "Machine-Level CSRs"). The two low bits of mtvec and mepc are always 0. A
 /// thread is 0 to 7.
-#[derive(Clone, Copy, Debug, PartialEq, Eq)]
+#[derive(Clone, Copy, Debug)]
 pub struct Traps {
     rows: [Trapping; 8],
 }
