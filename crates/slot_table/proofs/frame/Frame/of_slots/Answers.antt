@@ -1,4 +1,5 @@
-use Rattle.std.proofs.Common.{◌<◌, [], ◌∷◌, filter, length, take, get_or, arith, length-append}
+use Rattle.std.proofs.Common.{◌<◌, [], ◌∷◌, filter, length, take, get_or, refl, arith, length-append}
+use Rattle.std.proofs.lemmas.List.{take_all}
 use Rattle.slot_table.specs.Frame.{is_used}
 use Rattle.slot_table.proofs.Turns.{used-kept, used-left, turns_of-push}
 use Rattle.slot_table.proofs.frame.Frame.of_slots.Goals as goal
@@ -21,3 +22,8 @@ loop-slot-preserved c =
           let same = used-left slots i inside w.if-slot-ne-DISABLED.false in
           record { turns = cc; len = cc; few = omega arith }
     ]
+
+pub returns : goal.returns
+returns c =
+    let all = take_all c.loop-slot.slot-index c.args.slots.now (omega arith) in
+    rw (c.loop-slot.invariant.turns, c.loop-slot.invariant.len, all) refl

@@ -1,5 +1,6 @@
-use Rattle.std.proofs.Common.{Some, None, sym}
+use Rattle.std.proofs.Common.{Some, None, sym, rules}
 use Rattle.slot_table.specs.Frame.{frame}
+use Rattle.slot_table.specs.Table.{table_of}
 use Rattle.slot_table.proofs.Accepted.{accepted_at}
 use Rattle.slot_table.proofs.table.SlotTable.from_word.Goals as goal
 
@@ -13,3 +14,7 @@ returns-in-Some-clause-accepts c = accepted_at c.args.word (Some c.in-Some.index
 
 pub returns-in-None-clause-accepts : goal.returns-in-None-clause-accepts
 returns-in-None-clause-accepts c = accepted_at c.args.word None (rw c.nibbles_of-slots.ensures at c.in-None.ensures.first)
+
+pub returns-in-Some-clause-table : goal.returns-in-Some-clause-table
+unfolding frame table_of
+returns-in-Some-clause-table c = search rules
