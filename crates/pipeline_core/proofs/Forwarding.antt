@@ -1,13 +1,16 @@
 -- Registers, with what is on its way to them.
-use Rattle.std.proofs.Common.{◌≡◌, ℕ, ◌-◌, Bool, true, false, List, Some, None, length, refl}
-use Rattle.std.specs.Prelude.{if◌then◌else◌, Option, ◌==◌, slice_set}
+use Rattle.std.proofs.Common.{◌≡◌, ◌≢◌, ℕ, ◌-◌, Bool, true, false, List, [], Some, None, length, refl, arith}
+use Rattle.std.specs.Prelude.{if◌then◌else◌, Option, ◌==◌, slice_index_or, slice_set}
+use Rattle.std.proofs.lemmas.Bool.Decides.{nat_tests}
 use Rattle.std.proofs.lemmas.List.{length-set}
+use Rattle.core_model.specs.Thread.{reg_in}
 use Rattle.rv_exec.specs.declared.outcome.Effect.{Effect}
 use Rattle.rv_exec.specs.declared.outcome.Effect.TheVariants.{Nothing, Reg, Store, Csr, Trap, Wait}
 use Rattle.pipe_model.specs.declared.latches.Held.{Held}
 use Rattle.pipe_model.specs.declared.latches.Held.TheVariants.{Bubble, Flushed, Issue}
+use Rattle.pipe_model.specs.declared.latches.Executed.{Executed}
 use Rattle.pipe_model.specs.declared.latches.Stored.{Stored}
-use Rattle.pipe_model.specs.Stages.{forward, from_m}
+use Rattle.pipe_model.specs.Stages.{forward, from_m, operand}
 
 -- their number stays
 forward-length : (e : Option Effect) (regs : List ℕ) → length (forward e regs) ≡ length regs
@@ -31,3 +34,18 @@ from_m_length k (Issue j x) regs = go (j == k)
     go : (b : Bool) → length (if b then forward x.effect regs else regs) ≡ length regs
     go true = forward-length x.effect regs
     go false = refl
+
+-- a register, where the turn in E is the thread's, and where it is another's
+pub forwarded : (bank : List (List ℕ)) (m : Held Stored) (e : Held Executed) (k j : ℕ) (what : Executed) (x v : ℕ) →
+    e ≡ Issue j what → j ≡ k → v ≡ reg_in (forward what.effect (from_m k m (slice_index_or bank k []))) x → v ≡ operand bank m e k x
+forwarded bank m e k j what x v is same h = rw (is, tested) h
+  where
+    tested : (j == k) ≡ true
+    tested = grind (arith, nat_tests)
+
+pub passed_by : (bank : List (List ℕ)) (m : Held Stored) (e : Held Executed) (k j : ℕ) (what : Executed) (x v : ℕ) →
+    e ≡ Issue j what → j ≢ k → v ≡ reg_in (from_m k m (slice_index_or bank k [])) x → v ≡ operand bank m e k x
+passed_by bank m e k j what x v is other h = rw (is, tested) h
+  where
+    tested : (j == k) ≡ false
+    tested = grind (arith, nat_tests)

@@ -4,3 +4,5 @@ pub mod Acts
 pub mod Forwarding
 pub mod Standing
 pub mod Plain
+pub mod Stepping
+pub mod Redirecting
