@@ -13,7 +13,7 @@ python3 - "$top/crates/unit_rows/out/unit_rows" <<'PY'
 import os, subprocess, sys
 
 NOP, COUNT = 0x13, 0xfff28293
-OTHERS = 'instructions lines tokens images sections words units files setups decode results'
+OTHERS = 'instructions lines tokens images sections words units files setups sources gnu longest decode results'
 
 
 def bne(offset):
@@ -38,6 +38,8 @@ def nests():
 def measure(name, answer, words, loops):
     for other in OTHERS.split():
         open(f'{other}.txt', 'w').close()
+    for example in 'drive.s', 'drive.fpx':
+        open(example, 'w').close()
     with open('bounds.txt', 'w') as table:
         table.write('%s\t00000000 0 0 %x\t%s\t31585046 1 0 %x %s\n' % (
             answer, 4 * len(words), ' '.join('%x %x 1048576' % j for j in loops), 4 * len(words), ' '.join('%08x' % w for w in words)))

@@ -47,7 +47,7 @@ fn push_image(
     text.push_str("written otherwise")
 }
 
-fn push_segments(text: &mut String, image: &Image) -> Result<(), AllocError> {
+pub fn push_segments(text: &mut String, image: &Image) -> Result<(), AllocError> {
     for segment in image.segments() {
         write!(text, "{:x}:", segment.address)?;
         push_bytes(text, segment.bytes.as_slice())?;

@@ -4,9 +4,10 @@
 //!
 //! The tables stand in the folder where it runs. A line of a table is an answer, a tab, and the call
 //! with what it is called with; in `setups.txt` a call is several lines after `=== `, and each line of its
-//! answer begins with `--- `. Standard output has each call at which the two differ, and for each table
-//! how many calls there are and how many differ; of `decode.txt` and `results.txt`, which other programs
-//! made, it has this for each kind of instruction.
+//! answer begins with `--- `. Beside them stands the source of an example, which is assembled to the bytes
+//! of its image. Standard output has each call at which the two differ, and for each table how many calls
+//! there are and how many differ; of `decode.txt` and `results.txt`, which other programs made, it has this
+//! for each kind of instruction.
 #![tactic(auto)]
 
 mod bounds;
@@ -20,6 +21,7 @@ mod numbers;
 mod sections;
 mod setups;
 mod slow;
+mod sources;
 mod steps;
 mod tokens;
 mod told;
@@ -30,7 +32,7 @@ mod words;
 use std::alloc::AllocError;
 use std::{fs, io};
 
-/// A table of calls.
+/// A table of calls, by what answers them.
 #[derive(Clone, Copy)]
 enum Table {
     Instructions,
@@ -43,37 +45,26 @@ enum Table {
     Files,
     Setups,
     Bounds,
+    Sources,
 }
 
-const TABLES: [Table; 10] = [
-    Table::Instructions,
-    Table::Lines,
-    Table::Tokens,
-    Table::Images,
-    Table::Sections,
-    Table::Words,
-    Table::Units,
-    Table::Files,
-    Table::Setups,
-    Table::Bounds,
+const TABLES: [(&str, Table); 13] = [
+    ("instructions.txt", Table::Instructions),
+    ("lines.txt", Table::Lines),
+    ("tokens.txt", Table::Tokens),
+    ("images.txt", Table::Images),
+    ("sections.txt", Table::Sections),
+    ("words.txt", Table::Words),
+    ("units.txt", Table::Units),
+    ("files.txt", Table::Files),
+    ("setups.txt", Table::Setups),
+    ("bounds.txt", Table::Bounds),
+    ("sources.txt", Table::Sources),
+    ("gnu.txt", Table::Sources),
+    ("longest.txt", Table::Sources),
 ];
 
 impl Table {
-    fn name(self) -> &'static str {
-        match self {
-            Table::Instructions => "instructions.txt",
-            Table::Lines => "lines.txt",
-            Table::Tokens => "tokens.txt",
-            Table::Images => "images.txt",
-            Table::Sections => "sections.txt",
-            Table::Words => "words.txt",
-            Table::Units => "units.txt",
-            Table::Files => "files.txt",
-            Table::Setups => "setups.txt",
-            Table::Bounds => "bounds.txt",
-        }
-    }
-
     /// What stands between two rows.
     fn separator(self) -> &'static str {
         match self {
@@ -105,6 +96,7 @@ impl Table {
             Table::Files => files::push_answer(text, rt, call),
             Table::Setups => setups::push_answer(text, rt, call),
             Table::Bounds => bounds::push_answer(text, alloc, call),
+            Table::Sources => sources::push_answer(text, alloc, call),
         }
     }
 }
@@ -126,8 +118,7 @@ fn agrees(rt: HostRuntime, table: Table, row: &str) -> io::Result<bool> {
 }
 
 /// Compares the calls of a table.
-fn compare(rt: HostRuntime, table: Table) -> io::Result<()> {
-    let name = table.name();
+fn compare(rt: HostRuntime, name: &str, table: Table) -> io::Result<()> {
     let text = fs::read_to_string(&rt, name)?;
     let mut calls = 0u32;
     let mut differ = 0u32;
@@ -143,9 +134,18 @@ fn compare(rt: HostRuntime, table: Table) -> io::Result<()> {
     println!(rt; "{name}: {calls} calls, {differ} differ")
 }
 
+/// Compares what the source of an example gives with the example's image.
+fn compare_example(rt: HostRuntime) -> io::Result<()> {
+    let source = fs::read(&rt, "drive.s")?;
+    let image = fs::read(&rt, "drive.fpx")?;
+    let same = sources::gives(rt.alloc(), &source, &image)?;
+    println!(rt; "drive.s gives drive.fpx: {same}")
+}
+
 fn main(rt: HostRuntime) -> io::Result<()> {
-    for table in TABLES {
-        compare(rt, table)?;
+    for (name, table) in &TABLES {
+        compare(rt, name, *table)?;
     }
+    compare_example(rt)?;
     vectors::compare(rt)
 }
