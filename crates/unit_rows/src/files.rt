@@ -14,7 +14,8 @@ pub fn push_answer(text: &mut String, rt: HostRuntime, call: &str) -> Result<(),
         "real" => push_real(text, rt, with),
         "slow" => push_slow(text, rt.alloc(), &numbers(with)),
         "out" => push_out(text, with),
-        _ => push_memory(text, rt.alloc(), name, with),
+        "files" => push_files(text, rt.alloc(), with),
+        _ => push_sink(text, rt.alloc(), with),
     }
 }
 
@@ -62,43 +63,24 @@ fn name_of(is_ok: bool) -> &'static str {
     if is_ok { "ok" } else { "failed" }
 }
 
-/// Files in memory and a sink in memory of eight bytes.
-#[derive(Drop)]
-struct Memory {
-    files: MemFiles,
-    sink: MemSink,
-}
-
-/// What steps tell, over files and a sink in memory.
-fn push_memory(
-    text: &mut String,
-    alloc: Global,
-    name: &str,
-    steps: &str,
-) -> Result<(), AllocError> {
-    let mut memory = Memory {
-        files: MemFiles::new(alloc),
-        sink: MemSink::new(alloc, 8)?,
-    };
+/// What steps tell over files in memory.
+fn push_files(text: &mut String, alloc: Global, steps: &str) -> Result<(), AllocError> {
+    let mut files = MemFiles::new(alloc);
     for step in steps.split(';') {
-        let (call, with) = head(step);
-        match name {
-            "files" => push_files(text, alloc, &mut memory.files, call, with)?,
-            _ => push_sink(text, &mut memory.sink, call, with)?,
-        }
+        push_files_step(text, alloc, &mut files, step)?;
     }
     Ok(())
 }
 
 /// `add NAME TEXT` gives a file, `fail CALL` lists a call as one that fails, `fetch NAME MOST` tells what is
 /// fetched.
-fn push_files(
+fn push_files_step(
     text: &mut String,
     alloc: Global,
     files: &mut MemFiles,
-    call: &str,
-    with: &str,
+    step: &str,
 ) -> Result<(), AllocError> {
+    let (call, with) = head(step);
     let (name, more) = head(with);
     match call {
         "add" => files.add(name, more.as_bytes()),
@@ -110,13 +92,18 @@ fn push_files(
     }
 }
 
+/// What steps tell over a sink in memory of eight bytes.
+fn push_sink(text: &mut String, alloc: Global, steps: &str) -> Result<(), AllocError> {
+    let mut sink = MemSink::new(alloc, 8)?;
+    for step in steps.split(';') {
+        push_sink_step(text, &mut sink, step)?;
+    }
+    Ok(())
+}
+
 /// `fail CALL TAKEN` lists a call as one that fails, `put TEXT` tells what the sink has then.
-fn push_sink(
-    text: &mut String,
-    sink: &mut MemSink,
-    call: &str,
-    with: &str,
-) -> Result<(), AllocError> {
+fn push_sink_step(text: &mut String, sink: &mut MemSink, step: &str) -> Result<(), AllocError> {
+    let (call, with) = head(step);
     if call == "fail" {
         let n = numbers(with);
         return sink.fail_at(u64::from(low_word(n[0])), low_word(n[1]) as usize);

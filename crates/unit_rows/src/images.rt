@@ -13,12 +13,18 @@ use std::fmt::Write;
 pub fn push_answer(text: &mut String, alloc: Global, call: &str) -> Result<(), AllocError> {
     let (name, with) = head(call);
     match name {
-        "small" => push_read(text, alloc, &unescaped(alloc, with)?, 16_384),
-        "large" => push_read(text, alloc, &unescaped(alloc, with)?, 65_536),
+        "small" | "large" => push_read(text, alloc, &unescaped(alloc, with)?, size_of(name)),
         "zeros" => push_zeros(text, alloc, with),
         "word" => push_word(text, alloc, with),
         _ => push_made(text, alloc),
     }
+}
+
+/// The size of scratchpads by its name.
+fn size_of(name: &str) -> u32
+    ensures { IsSize result }
+{
+    if name == "small" { 16_384 } else { 65_536 }
 }
 
 /// The image of some bytes, or its refusal.
@@ -66,8 +72,7 @@ fn push_bytes(text: &mut String, bytes: &[u8]) -> Result<(), AllocError> {
 fn push_zeros(text: &mut String, alloc: Global, with: &str) -> Result<(), AllocError> {
     let (size, count) = head(with);
     let bytes = vec![in alloc; 0; number(count) as usize]?;
-    let size = if size == "small" { 16_384 } else { 65_536 };
-    push_read(text, alloc, &bytes, size)
+    push_read(text, alloc, &bytes, size_of(size))
 }
 
 /// The word at an address of an image.

@@ -1,12 +1,21 @@
-//! Words, lags, outcomes, and loads and stores at each place.
+//! Words, lags, outcomes, loads and stores at each place, and runs.
+//!
+//! GNU as 2.40 made the words of `decode.txt` from text, which gave the answers, for the architecture
+//! `rv32im_zicsr_zifencei`; those that are illegal are words of other extensions, which were made for
+//! `rv64imafdh_zicsr_zifencei_zba_zbb_zbc_zbs_zicbom_zicboz`. It also made the words of `results.txt`, for
+//! the architecture `rv32im`, and qemu-riscv32 7.2 ran them in a static program: each stands at a place of
+//! its own, in a field of jumps that keep where they stand. Operands are the edges of ranges in about half
+//! of the rows, and random in the others. Numbers that a kind of instruction doesn't use are 0.
 
 use crate::numbers::{head, low_word, numbers};
+use crate::runs::push_run;
 use rv_decode::{Ins, LoadOp, StoreOp, decode, encode, lag_of};
 use rv_exec::{execute, load_value, size_of_load, size_of_store, store_lanes};
 use std::alloc::AllocError;
 use std::fmt::Write;
 
-/// `decode WORD`, `lag WORD TAKEN TRAPPED`, `execute WORD PC A B`, `memory WORD ADDRESS VALUE`.
+/// `decode WORD`, `lag WORD TAKEN TRAPPED`, `execute WORD PC A B`, `memory WORD ADDRESS VALUE`,
+/// `run WORD PC A B CONTENT`.
 pub fn push_answer(text: &mut String, call: &str) -> Result<(), AllocError> {
     let (name, with) = head(call);
     let n = numbers(with);
@@ -14,16 +23,16 @@ pub fn push_answer(text: &mut String, call: &str) -> Result<(), AllocError> {
     match name {
         "decode" => write!(text, "{:08x} {ins:?}", encode(&ins)),
         "lag" => write!(text, "{}", lag_of(&ins, n[1] != 0, n[2] != 0)),
-        "execute" => push_executed(text, &ins, n.map(low_word)),
+        "execute" => push_executed(text, &ins, low_word(n[1]), low_word(n[2]), low_word(n[3])),
         "memory" => push_moved(text, &ins, low_word(n[1]), low_word(n[2])),
+        "run" => push_run(text, &ins, &n),
         _ => text.push_str("no call"),
     }
 }
 
-/// The outcome of an instruction by the numbers of its call: value, address, target, whether it is taken,
-/// and trap.
-fn push_executed(text: &mut String, ins: &Ins, n: [u32; 8]) -> Result<(), AllocError> {
-    let done = execute(ins, n[1], n[2], n[3]);
+/// The outcome of an instruction: value, address, target, whether it is taken, and trap.
+fn push_executed(text: &mut String, ins: &Ins, pc: u32, a: u32, b: u32) -> Result<(), AllocError> {
+    let done = execute(ins, pc, a, b);
     write!(
         text,
         "{:x} {:x} {:x} {} {:?}",

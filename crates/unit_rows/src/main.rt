@@ -6,8 +6,7 @@
 //! with what it is called with; in `setups.txt` a call is several lines after `=== `, and each line of its
 //! answer begins with `--- `. Beside them stands the source of an example, which is assembled to the bytes
 //! of its image. Standard output has each call at which the two differ, and for each table how many calls
-//! there are and how many differ; of `decode.txt` and `results.txt`, which other programs made, it has this
-//! for each kind of instruction.
+//! there are and how many differ.
 #![tactic(auto)]
 
 mod bounds;
@@ -16,8 +15,8 @@ mod files;
 mod images;
 mod instructions;
 mod lines;
-mod mnemonics;
 mod numbers;
+mod runs;
 mod sections;
 mod setups;
 mod slow;
@@ -26,7 +25,6 @@ mod steps;
 mod tokens;
 mod told;
 mod units;
-mod vectors;
 mod words;
 
 use std::alloc::AllocError;
@@ -48,7 +46,7 @@ enum Table {
     Sources,
 }
 
-const TABLES: [(&str, Table); 13] = [
+const TABLES: [(&str, Table); 15] = [
     ("instructions.txt", Table::Instructions),
     ("lines.txt", Table::Lines),
     ("tokens.txt", Table::Tokens),
@@ -62,6 +60,8 @@ const TABLES: [(&str, Table); 13] = [
     ("sources.txt", Table::Sources),
     ("gnu.txt", Table::Sources),
     ("longest.txt", Table::Sources),
+    ("decode.txt", Table::Instructions),
+    ("results.txt", Table::Instructions),
 ];
 
 impl Table {
@@ -75,11 +75,13 @@ impl Table {
 
     /// The answer of a row, and its call.
     fn parts(self, row: &str) -> (&str, &str) {
-        let parts = match self {
-            Table::Setups => row.split_once("--- ").map(|(call, wanted)| (wanted, call)),
-            _ => row.split_once('\t'),
-        };
-        parts.unwrap_or((row, ""))
+        match self {
+            Table::Setups => {
+                let (call, wanted) = row.split_once("--- ").unwrap_or(("", row));
+                (wanted, call)
+            }
+            _ => row.split_once('\t').unwrap_or((row, "")),
+        }
     }
 
     /// Appends the answer to a call.
@@ -90,7 +92,7 @@ impl Table {
             Table::Lines => lines::push_answer(text, call),
             Table::Tokens => tokens::push_answer(text, alloc, call),
             Table::Images => images::push_answer(text, alloc, call),
-            Table::Sections => sections::push_answer(text, alloc, call),
+            Table::Sections => sections::push_answer(text, alloc),
             Table::Words => words::push_answer(text, alloc, call),
             Table::Units => units::push_answer(text, alloc, call),
             Table::Files => files::push_answer(text, rt, call),
@@ -146,6 +148,5 @@ fn main(rt: HostRuntime) -> io::Result<()> {
     for (name, table) in &TABLES {
         compare(rt, name, *table)?;
     }
-    compare_example(rt)?;
-    vectors::compare(rt)
+    compare_example(rt)
 }

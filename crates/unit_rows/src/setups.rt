@@ -65,22 +65,23 @@ fn push_place(text: &mut String, place: Place) -> Result<(), AllocError> {
         key,
         item,
     } = place;
+    let name = key_name(table, key);
     match table {
-        0 => text.push('-')?,
-        1 => text.push_str(if key == 0 { "top" } else { "" })?,
-        2 => write!(text, "thread[{row}]")?,
-        _ => write!(text, "loop[{row}]")?,
+        0 | 1 => text.push_str(name)?,
+        2 => write!(text, "thread[{row}]{name}")?,
+        _ => write!(text, "loop[{row}]{name}")?,
     }
-    text.push_str(if table > 1 && key > 0 { "." } else { "" })?;
-    text.push_str(key_name(table, key))?;
     if item == 0 {
         return Ok(());
     }
     write!(text, "[{}]", item - 1)
 }
 
+/// What follows the name of a table.
 fn key_name(table: u8, key: u8) -> &'static str {
     match (table, key) {
+        (0, _) => "-",
+        (1, 0) => "top",
         (1, 1) => "version",
         (1, 2) => "period",
         (1, 3) => "image",
@@ -89,17 +90,18 @@ fn key_name(table: u8, key: u8) -> &'static str {
         (1, 6) => "d_regions",
         (1, 7) => "thread",
         (1, 8) => "loop",
-        (2, 1) => "id",
-        (2, 2) => "mode",
-        (2, 3) => "entry",
-        (2, 4) => "confined",
-        (2, 5) => "permit",
-        (2, 6) => "unplug",
-        (2, 7) => "inputs",
-        (3, 1) => "head",
-        (3, 2) => "last",
-        (3, 3) => "bound",
-        _ => "",
+        (2, 1) => ".id",
+        (2, 2) => ".mode",
+        (2, 3) => ".entry",
+        (2, 4) => ".confined",
+        (2, 5) => ".permit",
+        (2, 6) => ".unplug",
+        (2, 7) => ".inputs",
+        (3, 1) => ".head",
+        (3, 2) => ".last",
+        (3, 3) => ".bound",
+        (_, 0) => "",
+        _ => ".",
     }
 }
 
@@ -122,19 +124,19 @@ fn push_registers(text: &mut String, setup: &Setup) -> Result<(), AllocError> {
         dregions,
         ..
     } = *setup;
-    writeln!(text, "version {version} period {period}")?;
-    writeln!(text, "--- slots {slots:08x} modes {modes:08x}")?;
     let image = setup.image.as_str();
     writeln!(
         text,
-        "--- regions {iregions:08x} {dregions:08x} image {image}"
+        "version {version} period {period}\n--- slots {slots:08x} modes {modes:08x}\n\
+         --- regions {iregions:08x} {dregions:08x} image {image}"
     )
 }
 
 fn push_thread(text: &mut String, number: u8, thread: &ThreadSetup) -> Result<(), AllocError> {
-    write!(text, "--- T{number} entry {}", thread.entry)?;
-    text.push_str(if thread.confined { " confined" } else { "" })?;
-    text.push_str(if thread.permit { " permit" } else { "" })?;
+    let confined = if thread.confined { " confined" } else { "" };
+    let permit = if thread.permit { " permit" } else { "" };
+    let entry = thread.entry;
+    write!(text, "--- T{number} entry {entry}{confined}{permit}")?;
     if let Some(cycle) = thread.unplug {
         write!(text, " unplug {cycle}")?;
     }

@@ -52,15 +52,24 @@ pub fn push_steps(text: &mut String, unit: &str, steps: &str) -> Result<(), Allo
         return text.push_str("no words");
     };
     for step in steps.split(';') {
-        let (call, with) = head(step);
-        let n = numbers(with);
-        match unit {
-            "timers" => push_timers(text, &mut units.timers, call, &n)?,
-            "bank" => push_bank(text, &mut units.bank, call, &n)?,
-            _ => push_traps(text, &mut units, call, &n)?,
-        }
+        push_step(text, &mut units, unit, step)?;
     }
     Ok(())
+}
+
+fn push_step(
+    text: &mut String,
+    units: &mut Units,
+    unit: &str,
+    step: &str,
+) -> Result<(), AllocError> {
+    let (call, with) = head(step);
+    let n = numbers(with);
+    match unit {
+        "timers" => push_timers(text, &mut units.timers, call, &n),
+        "bank" => push_bank(text, &mut units.bank, call, &n),
+        _ => push_traps(text, units, call, &n),
+    }
 }
 
 /// `arm THREAD MOMENT`, `disarm THREAD`, and what `low THREAD NOW`, `high THREAD`, `due THREAD NOW` and
@@ -75,10 +84,10 @@ fn push_timers(
     match call {
         "arm" => timers.arm(thread, n[1]),
         "disarm" => timers.disarm(thread),
-        "low" => push_hexadecimal(text, u64::from(timers.get_low(thread, n[1])))?,
-        "high" => push_hexadecimal(text, u64::from(timers.get_high(thread)))?,
-        "due" => push_value(text, timers.due(thread, n[1]))?,
-        _ => push_value(text, timers.armed(thread))?,
+        "low" => return push_hexadecimal(text, u64::from(timers.get_low(thread, n[1]))),
+        "high" => return push_hexadecimal(text, u64::from(timers.get_high(thread))),
+        "due" => return push_value(text, timers.due(thread, n[1])),
+        _ => return push_value(text, timers.armed(thread)),
     }
     Ok(())
 }

@@ -33,8 +33,13 @@ fn push_ask(text: &mut String, ask: &Ask) -> Result<(), AllocError> {
             thread,
             section,
         } => {
-            let numbers = [u32::from(*thread), section.from, section.to].map(u64::from);
-            push_asked(text, "bound ", setup.as_str(), &numbers)
+            let (from, to) = (u64::from(section.from), u64::from(section.to));
+            push_asked(
+                text,
+                "bound ",
+                setup.as_str(),
+                &[u64::from(*thread), from, to],
+            )
         }
         Ask::Selfrun { number } => push_asked(text, "selfrun", "", &[u64::from(*number)]),
     }
