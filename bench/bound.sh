@@ -1,19 +1,19 @@
 #!/usr/bin/env bash
 # Processor time and the most memory of the analyser over 200 loops in a row, and over 16,384 words
 # with 256 loops, each of bound 1,048,576, for a thread that has all eight slots. It is no part of the
-# gate. The program unit_rows reads each section as a table of one row, beside empty tables, and must find
+# gate. The program rows reads each section as a table of one row, beside empty tables, and must find
 # its answer. The memory is no less than that of the python that starts it, some 14 MB.
 set -eu
 top=$(cd "$(dirname "${BASH_SOURCE[0]}")/.." && pwd)
 work=$(mktemp -d)
 trap 'rm -rf "$work"' EXIT
-(cd "$top/crates/unit_rows" && rt run --jobs 1 >/dev/null 2>&1 || true)
+(cd "$top/crates/rows" && rt run --jobs 1 >/dev/null 2>&1 || true)
 cd "$work"
-python3 - "$top/crates/unit_rows/out/unit_rows" <<'PY'
+python3 - "$top/crates/rows/out/rows" <<'PY'
 import os, subprocess, sys
 
 NOP, COUNT = 0x13, 0xfff28293
-OTHERS = 'instructions lines tokens images sections words units files setups sources gnu longest decode results'
+OTHERS = 'instructions lines tokens images sections words units files setups sources gnu longest decode results programs commands worlds'
 
 
 def bne(offset):

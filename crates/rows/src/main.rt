@@ -1,21 +1,30 @@
-//! Compares what the lower crates answer to calls, by what these offer to all, with tables that were
-//! worked out apart from them. It stands apart so that none of those crates is proved a second time
-//! beside its tests.
+//! Compares what the crates answer to calls, by what these offer to all, and what the program answers to
+//! command lines, with tables that were worked out apart from them. It stands apart so that none of those
+//! crates is proved a second time beside its tests.
 //!
 //! The tables stand in the folder where it runs. A line of a table is an answer, a tab, and the call
 //! with what it is called with; in `setups.txt` a call is several lines after `=== `, and each line of its
-//! answer begins with `--- `. Beside them stands the source of an example, which is assembled to the bytes
-//! of its image. Standard output has each call at which the two differ, and for each table how many calls
-//! there are and how many differ.
+//! answer begins with `--- `; the tables of command lines say at their head how they are written. Beside
+//! them stands the source of an example, which is assembled to the bytes of its image. Standard output has
+//! each call and command at which the two differ, and for each table how many there are and how many differ.
 #![tactic(auto)]
 
+mod answer;
 mod bounds;
+mod cases;
+mod commands;
+mod devices;
 mod escapes;
+mod expanded;
 mod files;
 mod images;
 mod instructions;
 mod lines;
+mod machines;
 mod numbers;
+mod pipelines;
+mod ports;
+mod programs;
 mod runs;
 mod sections;
 mod setups;
@@ -44,9 +53,10 @@ enum Table {
     Setups,
     Bounds,
     Sources,
+    Programs,
 }
 
-const TABLES: [(&str, Table); 15] = [
+const TABLES: [(&str, Table); 16] = [
     ("instructions.txt", Table::Instructions),
     ("lines.txt", Table::Lines),
     ("tokens.txt", Table::Tokens),
@@ -62,6 +72,7 @@ const TABLES: [(&str, Table); 15] = [
     ("longest.txt", Table::Sources),
     ("decode.txt", Table::Instructions),
     ("results.txt", Table::Instructions),
+    ("programs.txt", Table::Programs),
 ];
 
 impl Table {
@@ -99,6 +110,7 @@ impl Table {
             Table::Setups => setups::push_answer(text, rt, call),
             Table::Bounds => bounds::push_answer(text, alloc, call),
             Table::Sources => sources::push_answer(text, alloc, call),
+            Table::Programs => programs::push_answer(text, alloc, call),
         }
     }
 }
@@ -148,5 +160,7 @@ fn main(rt: HostRuntime) -> io::Result<()> {
     for (name, table) in &TABLES {
         compare(rt, name, *table)?;
     }
-    compare_example(rt)
+    compare_example(rt)?;
+    commands::compare(rt, "commands.txt")?;
+    commands::compare(rt, "worlds.txt")
 }

@@ -1,8 +1,8 @@
 //! What the program answers to a command.
 
+use crate::cases::{Case, Command, Cut};
 use crate::devices::{DropPort, StepPort};
 use crate::ports::{half_of, left_at};
-use crate::table::{Case, Command, Cut};
 use flexpret_top::flexpret;
 use fp_io::{MemFiles, MemSink};
 use fp_ports::{HeldPort, Ports, WavePort};

@@ -1,0 +1,52 @@
+//! Compares what the program answers to command lines: its status, what it writes, and what is left of
+//! the devices at the ports. `commands.txt` says at its head how its tables are written.
+
+use crate::answer::{answer_to, is_wanted, push_answer};
+use crate::cases::{Case, Command, cases};
+use std::{fs, io};
+
+/// How many commands there are, and how many differ.
+#[derive(Clone, Copy)]
+struct Tally {
+    commands: u32,
+    differ: u32,
+}
+
+/// Whether a command has the answer that is wanted. One that differs is printed.
+fn agrees(rt: HostRuntime, case: &Case, command: &Command) -> io::Result<bool> {
+    let answer = answer_to(rt.alloc(), case, command)?;
+    if is_wanted(&answer, command) {
+        return Ok(true);
+    }
+    let mut text = String::new(rt.alloc());
+    push_answer(&mut text, &answer)?;
+    println!(rt; "{}, {}: {text}", case.name, command.line)?;
+    Ok(false)
+}
+
+/// The tally of a table.
+fn compared(rt: HostRuntime, table: &str) -> io::Result<Tally> {
+    let mut tally = Tally {
+        commands: 0,
+        differ: 0,
+    };
+    for case in &cases(rt.alloc(), table)? {
+        for command in &case.commands {
+            tally.commands = tally.commands.saturating_add(1);
+            if !agrees(rt, case, command)? {
+                tally.differ = tally.differ.saturating_add(1);
+            }
+        }
+    }
+    Ok(tally)
+}
+
+/// Compares the commands of a table.
+pub fn compare(rt: HostRuntime, name: &str) -> io::Result<()> {
+    let table = fs::read_to_string(&rt, name)?;
+    let tally = compared(rt, table.as_str())?;
+    println!(rt;
+        "{name}: {} commands, {} differ",
+        tally.commands, tally.differ
+    )
+}

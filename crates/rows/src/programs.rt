@@ -1,0 +1,13 @@
+//! Worked programs through the pipeline, and the trace of a machine that is put together from its fields.
+//! A call is the program; its answer is the events, each after its thread and with a semicolon at its end.
+
+use crate::{machines, pipelines};
+use std::alloc::{AllocError, Global};
+
+/// Appends the events of a program.
+pub fn push_answer(text: &mut String, alloc: Global, program: &str) -> Result<(), AllocError> {
+    match program {
+        "machine" => machines::push_trace(alloc, text),
+        _ => pipelines::push_program(alloc, text, program),
+    }
+}
