@@ -13,7 +13,7 @@ python3 - "$top/crates/rows/out/rows" <<'PY'
 import os, subprocess, sys
 
 NOP, COUNT = 0x13, 0xfff28293
-OTHERS = 'instructions lines tokens images sections words units files setups sources gnu longest decode results programs commands worlds'
+OTHERS = 'instructions lines tokens images sections words units files setups sources gnu longest decode results programs solo commands worlds'
 
 
 def bne(offset):

@@ -29,6 +29,7 @@ mod runs;
 mod sections;
 mod setups;
 mod slow;
+mod solo;
 mod sources;
 mod steps;
 mod tokens;
@@ -54,9 +55,10 @@ enum Table {
     Bounds,
     Sources,
     Programs,
+    Solo,
 }
 
-const TABLES: [(&str, Table); 16] = [
+const TABLES: [(&str, Table); 17] = [
     ("instructions.txt", Table::Instructions),
     ("lines.txt", Table::Lines),
     ("tokens.txt", Table::Tokens),
@@ -73,6 +75,7 @@ const TABLES: [(&str, Table); 16] = [
     ("decode.txt", Table::Instructions),
     ("results.txt", Table::Instructions),
     ("programs.txt", Table::Programs),
+    ("solo.txt", Table::Solo),
 ];
 
 impl Table {
@@ -111,6 +114,7 @@ impl Table {
             Table::Bounds => bounds::push_answer(text, alloc, call),
             Table::Sources => sources::push_answer(text, alloc, call),
             Table::Programs => programs::push_answer(text, alloc, call),
+            Table::Solo => solo::push_answer(text, rt, call),
         }
     }
 }
