@@ -1,5 +1,5 @@
 -- What a sink or a writer has taken of pieces, one after another.
-use Rattle.std.proofs.Common.{◌≡◌, ℕ, ◌+◌, List, [], ◌++◌, length, take, Option, Some, None, arith, ap, sym, ◌∙◌, append_assoc}
+use Rattle.std.proofs.Common.{◌≡◌, ℕ, ◌+◌, true, false, true≢false, Result, Ok, Err, is_ok, OnOk, OnErr, List, [], ◌++◌, length, take, Option, Some, None, arith, ap, sym, ◌∙◌, append_assoc}
 use Rattle.std.proofs.lemmas.List.{append-nil, length-append, take-append-le}
 use Rattle.std.proofs.Math.Seq.{take-append-add}
 use Rattle.std.specs.Io.KnownBytes.{Appends}
@@ -49,3 +49,18 @@ written_after None between after xs ys first second = tt
 written_after (Some told) None after xs ys first second = absurd first
 written_after (Some told) (Some more) None xs ys first second = absurd second
 written_after (Some told) (Some more) (Some most) xs ys first second = append-nil most ∙ second ∙ ap (λ zs. zs ++ ys) first
+
+-- bytes that are gathered after others
+pub gathered_after : (told : Option (List ℕ)) (xs ys : List ℕ) → Appends (followed told xs) (followed told (xs ++ ys)) ys
+gathered_after None xs ys = tt
+gathered_after (Some told) xs ys = sym (append_assoc told xs ys)
+
+-- what holds where there is a value, at a value
+pub at_value : {T E P : Type 0} (r : Result T E) → true ≡ is_ok r → OnOk r P → P
+at_value (Ok x) is holds = holds
+at_value (Err e) is holds = absurd (true≢false is)
+
+-- what holds where there is an error, at an error
+pub at_error : {T E P : Type 0} (r : Result T E) → false ≡ is_ok r → OnErr r P → P
+at_error (Ok x) is holds = absurd (true≢false (sym is))
+at_error (Err e) is holds = holds

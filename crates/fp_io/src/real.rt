@@ -185,7 +185,6 @@ fn read_up_to<F: Read>(alloc: Global, file: &mut F, most: usize) -> Result<Vec<u
 }
 
 /// Adds bytes to those gathered. Where there is no room for them, both are written.
-#[tactic(auto, using(crate::proofs::Fronts::front_after, crate::proofs::Fronts::front_of_more, crate::proofs::Fronts::written_after))]
 fn gather<W: Write, const N: usize>(
     to: &mut W,
     gathered: &mut ArrayVec<u8, N>,
