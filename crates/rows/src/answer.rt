@@ -5,7 +5,7 @@ use crate::devices::{DropPort, StepPort};
 use crate::ports::{half_of, left_at};
 use flexpret_top::flexpret;
 use fp_io::{MemFiles, MemSink};
-use fp_ports::{HeldPort, Ports, WavePort};
+use fp_ports::{HeldPort, Port, Ports, WavePort};
 use std::alloc::{AllocError, Global};
 use std::cell::Cell;
 use std::fmt::Write;
@@ -56,17 +56,11 @@ fn sink_of(alloc: Global, cut: Option<Cut>) -> Result<MemSink, AllocError> {
 }
 
 /// The program's status.
-fn status_of(
-    alloc: Global,
-    words: &[String],
-    files: &mut MemFiles,
-    out: &mut MemSink,
-    ports: &mut Ports,
-) -> u8 {
+fn status_of(alloc: Global, bench: &mut Bench, ports: &mut Ports) -> u8 {
     if ports.len() != 8 {
         return NO_PORTS;
     }
-    flexpret(alloc, words, files, out, ports)
+    flexpret(alloc, &bench.words, &mut bench.files, &mut bench.out, ports)
 }
 
 /// The program's status beside devices of some kinds, and what is left at the ports then. The kinds have
@@ -75,37 +69,50 @@ fn status_of(
 fn status_beside(
     alloc: Global,
     kinds: &str,
-    drops: &Rc<Cell<u32>>,
-    words: &[String],
-    files: &mut MemFiles,
-    out: &mut MemSink,
+    bench: &mut Bench,
 ) -> Result<(u8, String), AllocError> {
+    let drops = Rc::new(alloc, Cell::new(0))?;
     let mut ports: Ports = Vec::new(alloc);
     for kind in kinds.split(' ') {
         let half = half_of(kind);
-        match kind {
-            "h" => ports.push(Some(Box::new(alloc, HeldPort::new(alloc))?))?,
-            "step" => ports.push(Some(Box::new(alloc, StepPort::new())?))?,
-            "drop" => ports.push(Some(Box::new(alloc, DropPort::new(alloc, drops)?)?))?,
-            _ if half > 0 => ports.push(Some(Box::new(alloc, WavePort::new(alloc, half))?))?,
-            _ => ports.push(None)?,
-        }
+        let port: Option<Box<dyn Port>> = match kind {
+            "h" => Some(Box::new(alloc, HeldPort::new(alloc))?),
+            "step" => Some(Box::new(alloc, StepPort::new())?),
+            "drop" => Some(Box::new(alloc, DropPort::new(alloc, &drops)?)?),
+            _ if half > 0 => Some(Box::new(alloc, WavePort::new(alloc, half))?),
+            _ => None,
+        };
+        ports.push(port)?;
     }
-    let status = status_of(alloc, words, files, out, &mut ports);
-    Ok((status, left_at(alloc, ports, drops)?))
+    let status = status_of(alloc, bench, &mut ports);
+    Ok((status, left_at(alloc, ports, &drops)?))
+}
+
+/// What a command is run with, and what it writes to.
+#[derive(Drop)]
+struct Bench {
+    words: Vec<String>,
+    files: MemFiles,
+    out: MemSink,
+}
+
+impl Bench {
+    fn of(alloc: Global, case: &Case, command: &Command) -> Result<Bench, AllocError> {
+        Ok(Bench {
+            words: words_of(alloc, command.line.as_str())?,
+            files: files_of(alloc, case, command)?,
+            out: sink_of(alloc, command.fails.put)?,
+        })
+    }
 }
 
 /// The answer to a command of a case.
 pub fn answer_to(alloc: Global, case: &Case, command: &Command) -> Result<Answer, AllocError> {
-    let words = words_of(alloc, command.line.as_str())?;
-    let mut files = files_of(alloc, case, command)?;
-    let mut out = sink_of(alloc, command.fails.put)?;
-    let drops = Rc::new(alloc, Cell::new(0))?;
-    let kinds = case.ports.as_str();
-    let (status, ports) = status_beside(alloc, kinds, &drops, &words, &mut files, &mut out)?;
+    let mut bench = Bench::of(alloc, case, command)?;
+    let (status, ports) = status_beside(alloc, case.ports.as_str(), &mut bench)?;
     Ok(Answer {
         status,
-        text: Vec::from_slice(alloc, out.bytes())?,
+        text: Vec::from_slice(alloc, bench.out.bytes())?,
         ports,
     })
 }

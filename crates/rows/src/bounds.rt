@@ -40,20 +40,26 @@ impl Question {
     }
 }
 
+/// What stands before the first tab of a text, and what stands behind it.
+fn field(text: &str) -> (&str, &str) {
+    text.split_once('\t').unwrap_or((text, ""))
+}
+
 /// `bound` and the number, or `refused` with the number, the name and the place of the refusal; a
 /// dash where no bound may be asked.
 pub fn push_answer(text: &mut String, alloc: Global, call: &str) -> Result<(), AllocError> {
-    let mut parts = call.split('\t');
-    let Some(question) = Question::of_words(parts.next().unwrap_or("")) else {
+    let (words, rest) = field(call);
+    let (numbers, file) = field(rest);
+    let Some(question) = Question::of_words(words) else {
         return text.push_str("no question");
     };
-    let Some(loops) = loops_of(alloc, parts.next().unwrap_or(""))? else {
+    let Some(loops) = loops_of(alloc, numbers)? else {
         return text.push_str("no loops");
     };
-    match image_of(alloc, parts.next().unwrap_or(""))? {
-        Some(image) => push_asked(text, alloc, question, &image, &loops),
-        None => text.push_str("no image"),
-    }
+    let Some(image) = image_of(alloc, file)? else {
+        return text.push_str("no image");
+    };
+    push_asked(text, alloc, question, &image, &loops)
 }
 
 fn is_loop(j: &LoopSetup) -> bool

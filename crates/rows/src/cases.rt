@@ -201,20 +201,35 @@ impl Case {
     }
 }
 
-/// The cases of a table. Lines before the first are left out.
+/// Takes a line of a table, and says what the next ones belong to. Lines before the first case are left out.
+fn take_line(
+    alloc: Global,
+    cases: &mut Vec<Case>,
+    part: Part,
+    line: &str,
+) -> Result<Part, AllocError> {
+    if let Some(name) = line.strip_prefix("=== ") {
+        cases.push(Case::named(alloc, name)?)?;
+        return Ok(Part::Head);
+    }
+    let Some(case) = cases.last_mut() else {
+        return Ok(part);
+    };
+    match line.strip_prefix("--- ") {
+        Some(heading) => case.begin(alloc, heading),
+        None => {
+            case.take(alloc, part, line)?;
+            Ok(part)
+        }
+    }
+}
+
+/// The cases of a table.
 pub fn cases(alloc: Global, text: &str) -> Result<Vec<Case>, AllocError> {
-    let mut cases: Vec<Case> = Vec::new(alloc);
+    let mut cases = Vec::new(alloc);
     let mut part = Part::Head;
     for line in text.lines() {
-        if let Some(name) = line.strip_prefix("=== ") {
-            cases.push(Case::named(alloc, name)?)?;
-            part = Part::Head;
-        } else if let Some(case) = cases.last_mut() {
-            match line.strip_prefix("--- ") {
-                Some(heading) => part = case.begin(alloc, heading)?,
-                None => case.take(alloc, part, line)?,
-            }
-        }
+        part = take_line(alloc, &mut cases, part, line)?;
     }
     Ok(cases)
 }
