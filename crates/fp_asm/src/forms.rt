@@ -1,6 +1,6 @@
 //! The forms of operands.
 ghost use Rattle.std.specs.Prelude.{◌≡◌, ◌<◌, ◌^◌, IfOk, IfSome, Some, None, option_map, map, length};
-ghost use Rattle.fp_asm.specs.Operands.{register_in as register_in_of, number_in as number_in_of, target_in as target_in_of, csr_in as csr_in_of, memory_in as memory_in_of, filled, all_filled, all_targets, nothing_given as nothing_given_of, HasRegisters};
+ghost use Rattle.fp_asm.specs.Operands.{register_in as register_in_of, number_in as number_in_of, target_in as target_in_of, csr_in as csr_in_of, memory_in as memory_in_of, plain, filled, all_filled, all_targets, nothing_given as nothing_given_of, HasRegisters};
 ghost use Rattle.fp_asm.specs.Views.{piece_seen, operand_seen};
 ghost use Rattle.fp_asm.specs.Seen.{target_seen, operands_seen};
 
@@ -46,6 +46,16 @@ fn number_in(pieces: &[Piece]) -> Option<i64>
     }
 }
 
+// A number as a target.
+fn plain_in<'a>(pieces: &[Piece<'a>]) -> Option<Target<'a>>
+    ensures { option_map target_seen result ≡ option_map plain (number_in_of (map piece_seen pieces.now)) }
+{
+    match number_in(pieces) {
+        Some(number) => Some(Target::Plain { number }),
+        None => None,
+    }
+}
+
 #[tactic(auto, unfolding(crate::specs::Operands::target_in))]
 fn target_in<'a>(pieces: &[Piece<'a>]) -> Option<Target<'a>>
     ensures { option_map target_seen result ≡ target_in_of (map piece_seen pieces.now) }
@@ -63,10 +73,7 @@ fn target_in<'a>(pieces: &[Piece<'a>]) -> Option<Target<'a>>
             name: *text,
             plus: -i64::from(*value),
         }),
-        _ => match number_in(pieces) {
-            Some(number) => Some(Target::Plain { number }),
-            None => None,
-        },
+        _ => plain_in(pieces),
     }
 }
 

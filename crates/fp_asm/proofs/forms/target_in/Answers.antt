@@ -15,10 +15,6 @@ pub returns-in-Name-3 : goal.returns-in-Name-3
 unfolding target_in
 returns-in-Name-3 c = grind (arith, common_steps)
 
-pub returns-in-None : goal.returns-in-None
+pub returns-in_default : goal.returns-in_default
 unfolding target_in
-returns-in-None c = grind (arith, common_steps)
-
-pub returns-in-Some : goal.returns-in-Some
-unfolding target_in
-returns-in-Some c = grind (arith, common_steps)
+returns-in_default c = grind (arith, common_steps)
