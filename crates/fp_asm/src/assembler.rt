@@ -1,7 +1,10 @@
 //! From a source to an image.
-ghost use Rattle.std.specs.Prelude.{◌≡◌, ◌≤◌, ◌<◌, ◌^◌, IfOk, IfErr, Ok, map, length, All};
+ghost use Rattle.std.specs.Prelude.{◌≡◌, ◌≤◌, ◌<◌, ◌^◌, IfOk, IfErr, Ok, map, length, All, nat_lt};
 ghost use Rattle.fp_asm.specs.Source.{assembled, assembled_lines};
-ghost use Rattle.fp_asm.specs.Faults.{IsFaultOf};
+ghost use Rattle.fp_asm.specs.Faults.{IsFaultOf, holds};
+ghost use Rattle.fp_asm.specs.Runs.{runs_of as runs_of_addresses, segment_of, ArePlaced};
+ghost use Rattle.fp_asm.specs.declared.refusal.AsmNo.TheVariants as no;
+ghost use Rattle.fp_asm.specs.declared.refusal.AsmRefused.TheVariants as refused;
 
 use super::build::{image_of, rising};
 use super::first::First;
@@ -11,9 +14,31 @@ use super::runs::runs_of;
 use super::second::Second;
 use fp_image::Image;
 use std::alloc::Global;
+use std::collections::{BTreeMap, BTreeSet};
 
 /// How many bytes a source may have.
 const MOST_BYTES: usize = 1_048_576;
+
+// The image of the words at the addresses that were taken, of 16 runs at most.
+fn image_at(
+    alloc: Global,
+    memory: &BTreeMap<u32, u32>,
+    taken: &BTreeSet<u32>,
+) -> Result<Image, AsmRefused>
+    requires { ArePlaced 0 taken.now.keys }
+    ensures image { IfOk result (λ image. holds (nat_lt (length (runs_of_addresses taken.now.keys)) 17) (refused.Fault 0 no.TooManySegments) (Ok (map (segment_of memory.now.entries) (runs_of_addresses taken.now.keys))) ≡ Ok image) }
+    ensures refused { IfErr result (IsFaultOf (holds (nat_lt (length (runs_of_addresses taken.now.keys)) 17) (refused.Fault 0 no.TooManySegments) (Ok (map (segment_of memory.now.entries) (runs_of_addresses taken.now.keys))))) }
+{
+    let addresses = rising(alloc, taken)?;
+    let runs = runs_of(alloc, addresses.as_slice())?;
+    if runs.len() > 16 {
+        return Err(AsmRefused::Fault {
+            line: 0,
+            code: AsmNo::TooManySegments,
+        });
+    }
+    Ok(image_of(alloc, memory, runs.as_slice())?)
+}
 
 // The image of the lines.
 #[tactic(auto, unfolding(crate::specs::Source::assembled_lines))]
@@ -27,15 +52,7 @@ fn assemble_lines(alloc: Global, lines: &[&[u8]]) -> Result<Image, AsmRefused>
     first.pass(alloc, lines)?;
     let mut second = Second::new(alloc);
     second.pass(alloc, &first.labels, lines)?;
-    let addresses = rising(alloc, &first.taken)?;
-    let runs = runs_of(alloc, addresses.as_slice())?;
-    if runs.len() > 16 {
-        return Err(AsmRefused::Fault {
-            line: 0,
-            code: AsmNo::TooManySegments,
-        });
-    }
-    Ok(image_of(alloc, &second.memory, runs.as_slice())?)
+    image_at(alloc, &second.memory, &first.taken)
 }
 
 /// The image of a source text.
