@@ -117,3 +117,9 @@ run_stops grows s k n thread first m after rows new before between now event wit
       stands = subst Here (sym here) ticked.stands;
       left = λ i below. left_more (row_at first i) (row_at rows i) (row_at new i) (run.left i below) (ticked.left i below);
     }
+
+-- a run that has done its last cycle
+pub run_ends : {s : Start} {k n thread : ℕ} {first : List (Option Row)} {m : Machine} {rows : List (Option Row)} {before now : Option (List ℕ)} → k ≡ n → HasRun s k n thread first m rows before now → HasRun s n n thread first m rows before now
+run_ends {s} {k} {n} {thread} {first} {m} {rows} {before} {now} all run =
+    let Run : ℕ → Type 0 = λ c. HasRun s c n thread first m rows before now in
+    subst Run all run
