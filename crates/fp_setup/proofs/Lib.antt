@@ -5,3 +5,5 @@ pub mod TopTable
 pub mod PlainThreads
 pub mod PlaceLaws
 pub mod InputByInput
+pub mod TwoChecks
+pub mod ThreadTable
