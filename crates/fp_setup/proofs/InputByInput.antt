@@ -1,10 +1,11 @@
 -- The inputs of a list, input by input.
-use Rattle.std.proofs.Common.{◌≡◌, ℕ, ◌<◌, ◌+◌, true, arith, List, [], ◌∷◌, ◌++◌, length, get_or, take, drop, map, Option, Some, None, refl, sym, ap, ◌∙◌}
+use Rattle.std.proofs.Common.{◌≡◌, ℕ, ◌<◌, ◌≤◌, ◌+◌, true, arith, List, [], ◌∷◌, ◌++◌, length, get_or, take, drop, map, Option, Some, None, refl, sym, ap, ◌∙◌}
 use Rattle.std.specs.List.{All, AllPairs}
 use Rattle.std.proofs.lemmas.Bool.{ltb-true}
 use Rattle.std.proofs.lemmas.List.Elements.{All-push}
 use Rattle.std.proofs.lemmas.List.Quantifiers.{all_pairs_push}
-use Rattle.std.proofs.lemmas.List.{take_more, drop_more, map-append}
+use Rattle.std.proofs.lemmas.List.{take_more, drop_more, take_all, drop_all, length-take, length-map, map-append}
+use Rattle.fp_setup.specs.declared.refusal.Fault.{Fault}
 use Rattle.toml.specs.declared.value.Value.{Value}
 use Rattle.toml.specs.View.{view}
 use Rattle.fp_setup.specs.declared.refusal.Place.{Place}
@@ -13,6 +14,23 @@ use Rattle.fp_setup.specs.Faults.{element_of}
 use Rattle.fp_setup.specs.Values.{input_of}
 use Rattle.fp_setup.specs.Checks.{input_check, inputs_from, is_after}
 use Rattle.fp_setup.proofs.Lists.{IsReached}
+
+-- a fault of an input is the first of those that are left
+pub found-here : (items : List Value) (i : ℕ) (x : Value) → i < length items → x ≡ get_or items i x → (place : Place) (before : Option ℕ) (f : Fault)
+    → input_check before (element_of place i) (view x) ≡ Some f → inputs_from place i before (map view (drop i items)) ≡ Some f
+found-here items i x inside is place before f bad =
+    let rest : drop i items ≡ x ∷ drop (i + 1) items = drop_more items i x inside ∙ ap (λ y. y ∷ drop (i + 1) items) (sym is) in
+    rw (rest, bad) refl
+
+-- after the last input no fault is left, and each was read
+pub found-none : (items : List Value) (i : ℕ) → length items ≤ i → (place : Place) (before : Option ℕ) → inputs_from place i before (map view (drop i items)) ≡ None
+found-none items i past place before = rw (drop_all i items past) refl
+
+pub read-all : (items : List Value) (i : ℕ) → length items ≤ i → (read : List Input) → read ≡ map input_of (map view (take i items)) → read ≡ map input_of (map view items)
+read-all items i past read so_far = rw (take_all i items past) at so_far
+
+pub read-few : (items : List Value) (i : ℕ) (read : List Input) → length items ≤ 4096 → read ≡ map input_of (map view (take i items)) → length read ≤ 4096
+read-few items i read few so_far = rw so_far (simp (length-map, length-take) (omega arith))
 
 module _ (items : List Value) (i : ℕ) (x : Value) (new : Input) (inside : i < length items) (is : x ≡ get_or items i x) (same : new ≡ input_of (view x)) where
   -- the faults that are left, after one more input

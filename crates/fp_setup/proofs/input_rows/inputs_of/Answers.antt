@@ -1,9 +1,9 @@
-use Rattle.std.proofs.lemmas.Grind.{common_steps}
-use Rattle.std.proofs.Common.{rules, ◌∙◌, arith, ◌≤◌}
+use Rattle.std.proofs.Common.{rules, ◌∙◌, ◌≤◌}
+use Rattle.std.proofs.lemmas.Result.{err_from_is_err_and}
 use Rattle.std.proofs.lemmas.List.Elements.{All-push, All-same}
 use Rattle.fp_setup.specs.declared.input_list.Input.{Input}
 use Rattle.fp_setup.specs.Inputs.{last_cycle}
-use Rattle.fp_setup.proofs.InputByInput.{found-more, read-more, rising-more, reached-more}
+use Rattle.fp_setup.proofs.InputByInput.{found-more, found-here, found-none, read-more, read-all, read-few, rising-more, reached-more}
 use Rattle.fp_setup.proofs.input_rows.inputs_of.Goals as goal
 
 pub loop-index-preserved : goal.loop-index-preserved
@@ -23,10 +23,18 @@ loop-index-preserved c =
     }
 
 pub returns-in_err-input-clause-read : goal.returns-in_err-input-clause-read
-returns-in_err-input-clause-read c = grind (arith, common_steps)
+returns-in_err-input-clause-read c =
+    let before = c.loop-index.invariant in
+    let p = err_from_is_err_and c.from_residual.result c.from_residual.ensures.1 in
+    rw (p.1, p.2)
+    (before.found ∙ found-here c.args.items.now c.loop-index.index c.index-items-index.result c.loop-index-test.true c.index-items-index.is c.args.place c.loop-index.before _ (rw c.element.ensures at c.in_err-input.ensures.read))
 
 pub returns-clause-read : goal.returns-clause-read
-returns-clause-read c = grind (arith, common_steps)
+returns-clause-read c =
+    let before = c.loop-index.invariant in (
+      before.found ∙ found-none c.args.items.now c.loop-index.index c.loop-index-test.false c.args.place c.loop-index.before,
+      c.from_vec.ensures ∙ read-all c.args.items.now c.loop-index.index c.loop-index-test.false _ before.read,
+    )
 
 pub returns-clause-rules : goal.returns-clause-rules
 returns-clause-rules c = search rules
@@ -35,4 +43,6 @@ pub loop-index-init : goal.loop-index-init
 loop-index-init c = search rules
 
 pub from_vec-requires : goal.from_vec-requires
-from_vec-requires c = grind (arith, common_steps)
+from_vec-requires c =
+    let before = c.loop-index.invariant in
+    record { few = read-few c.args.items.now c.loop-index.index _ c.requires before.read; within = before.within; rising = before.rising }
