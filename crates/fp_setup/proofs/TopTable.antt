@@ -1,5 +1,6 @@
 -- The top table, once each of its keys is read.
-use Rattle.std.proofs.Common.{◌≡◌, ℕ, ◌+◌, List, [], map, drop, Option, codes, refl}
+use Rattle.std.proofs.Common.{◌≡◌, ℕ, ◌+◌, List, [], map, drop, Option, codes, refl, true, ◌≤◌, inl, inr, rules, arith}
+use Rattle.region_guard.specs.Regions.{IsSize}
 use Rattle.toml.specs.Data.{Members}
 use Rattle.fp_setup.specs.declared.refusal.Fault.{Fault}
 use Rattle.fp_setup.specs.declared.thread_list.ThreadSetup.{ThreadSetup}
@@ -8,7 +9,8 @@ use Rattle.fp_setup.specs.declared.vocabulary.Words.TheVariants.{Slots, Owners}
 use Rattle.fp_setup.specs.Faults.{first, top}
 use Rattle.fp_setup.specs.Keys.{names, top_keys}
 use Rattle.fp_setup.specs.Values.{number_at, text_at, elements_at}
-use Rattle.fp_setup.specs.Tables.{keys_fault, top_check, unknown_fault, top_fault}
+use Rattle.fp_setup.specs.Checks.{is_in}
+use Rattle.fp_setup.specs.Tables.{integers, keys_fault, top_check, unknown_fault, top_fault}
 use Rattle.fp_setup.specs.Meaning.{settings, version_at, nibble_word, word_of, modes_of, threads_of, loop_of, rows_at}
 
 module _ (size : ℕ) (ms : Members) where
@@ -24,6 +26,14 @@ module _ (size : ℕ) (ms : Members) where
   pub table_checks : top_fault size ms ≡ first (unknown_fault (names top_keys) top ms) (keys_from 0)
   unfolding top_fault
   table_checks = refl
+
+-- what the ranges of the period and of the size tell
+pub period_within : (n : ℕ) → is_in (integers 1 1000) n ≡ true → (1 ≤ n) × (n ≤ 1000)
+period_within n h = (search rules, search rules)
+
+pub size_within : (size : ℕ) → IsSize size → (4 ≤ size) × (size ≤ 65536)
+size_within size (inl small) = (omega arith, omega arith)
+size_within size (inr large) = (omega arith, omega arith)
 
 -- the values of the keys make the setup
 pub settings-from : (ms : Members) (v p sl m ir dr : ℕ) (im : List ℕ) (ts : List ThreadSetup) (ls : List LoopSetup)

@@ -74,7 +74,6 @@ fn document_of(alloc: Global, bytes: &[u8]) -> Result<Table, SetupRefused>
 }
 
 /// The setup of the top table.
-#[tactic(auto, unfolding(crate::specs::Tables::top_fault, crate::specs::Meaning::settings))]
 fn top_table(alloc: Global, table: &Table) -> Result<Setup, SetupRefused>
     ensures { IsReadInMemory result
         (top_fault (size_of (version_at (table_view table.now))) (table_view table.now))

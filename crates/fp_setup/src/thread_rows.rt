@@ -92,7 +92,6 @@ fn as_cycle(moment: Option<u32>) -> Option<u64>
 }
 
 /// What a table says of a thread, for scratchpads of a size in bytes, after the tables with some ids.
-#[tactic(auto, unfolding(crate::specs::Tables::thread_table_fault, crate::specs::Meaning::thread_of))]
 fn thread_table(
     alloc: Global,
     table: &Table,

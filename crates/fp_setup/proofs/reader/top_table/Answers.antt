@@ -1,12 +1,15 @@
-use Rattle.std.proofs.Common.{◌≡◌, ap, ◌∙◌, ℕ}
+use Rattle.std.proofs.Common.{◌≡◌, ◌<◌, ap, subst, ◌∙◌, ℕ}
+use Rattle.std.specs.List.{All}
 use Rattle.std.proofs.lemmas.Result.{err_from_is_err_and}
 use Rattle.toml.specs.Data.{Members}
 use Rattle.toml.specs.View.{table_view}
 use Rattle.fp_setup.specs.declared.thread_rows.ThreadRows.{ThreadRows}
+use Rattle.fp_setup.specs.declared.thread_list.ThreadSetup.{ThreadSetup}
+use Rattle.fp_setup.specs.declared.loop_list.LoopSetup.{LoopSetup}
 use Rattle.fp_setup.specs.Settings.{size_of}
 use Rattle.fp_setup.specs.Meaning.{version_at, word_of}
 use Rattle.fp_setup.proofs.TwoChecks.{past, found, found_in_memory}
-use Rattle.fp_setup.proofs.TopTable.{IsGoodTo, table_checks, settings-from}
+use Rattle.fp_setup.proofs.TopTable.{IsGoodTo, table_checks, period_within, size_within, settings-from}
 use Rattle.fp_setup.proofs.reader.top_table.Goals.{After-version, After-size_of_version-size, After-top_key-2, After-top_key-3, After-top_key-4, After-top_key-5, After-top_key-6, After-top_key-7, After-word_of_modes}
 use Rattle.fp_setup.proofs.reader.top_table.Goals as goal
 
@@ -102,3 +105,34 @@ pub returns-in_err-loops : goal.returns-in_err-loops
 returns-in_err-loops c =
     let p = err_from_is_err_and c.from_residual-in_err-loops.result c.from_residual-in_err-loops.ensures.1 in
     rw (p.1, p.2) (found_in_memory _ _ _ _ (threads (goal.at.returns-in_err-loops c).After-top_key-7) (rw (size (goal.at.returns-in_err-loops c).After-size_of_version-size, c.top_key-7.ensures) at c.in_err-loops.ensures.read))
+
+pub invariant_of-result : goal.invariant_of-result
+invariant_of-result c =
+    let period = period_within c.in_ok-period.period (rw c.integers.ensures at c.in_ok-period.ensures.within) in
+    let size = c.size_of_version-size.ensures.size in
+    record {
+      version = c.in_ok-version.ensures.one_of;
+      period_low = period.0;
+      period_high = period.1;
+      slots = c.in_ok-slots.ensures.values;
+      modes = c.word_of_modes.ensures.small;
+      iregions = c.in_ok-iregions.ensures.values;
+      dregions = c.in_ok-dregions.ensures.values;
+      named = c.in_ok-image.ensures.lengths.0;
+      name_short = c.in_ok-image.ensures.lengths.1;
+      threads = c.in_ok-rows.ensures.rules;
+      entries = subst (λ n. All (λ (t : ThreadSetup). t.entry < n) c.in_ok-rows.rows.threads) size c.in_ok-rows.ensures.inside;
+      loops = c.in_ok-loops.ensures.rules;
+      ends = subst (λ n. All (λ (l : LoopSetup). l.last < n) c.in_ok-loops.loops) size c.in_ok-loops.ensures.inside;
+    }
+
+pub threads_or_none-requires : goal.threads_or_none-requires
+threads_or_none-requires c =
+    let within = size_within _ c.size_of_version-size.ensures.one_of in
+    record { low = within.0; high = within.1 }
+
+pub loops_or_none-requires : goal.loops_or_none-requires
+loops_or_none-requires c = record { low = (size_within _ c.size_of_version-size.ensures.one_of).0 }
+
+pub word_of_modes-requires : goal.word_of_modes-requires
+word_of_modes-requires c = c.in_ok-rows.ensures.modes
