@@ -1,5 +1,5 @@
 -- What a machine that was prepared puts.
-use Rattle.std.proofs.Common.{◌≡◌, ℕ, List, Option, None, Result, Ok, Err, sym, subst}
+use Rattle.std.proofs.Common.{◌≡◌, ℕ, List, Option, None, Result, Ok, Err, sym, subst, ◌∙◌}
 use Rattle.std.specs.Prelude.{OnOk, OnErr}
 use Rattle.std.specs.Io.KnownBytes.{Appends}
 use Rattle.fp_io.specs.Content.{AppendsFront}
@@ -58,3 +58,19 @@ pub trace-err : {A E : Type 0} → (r : Ready) (thread : ℕ) (first rows : List
 trace-err r thread first rows m before after (Ok x) run = tt
 trace-err r thread first rows m before after (Err e) run =
     λ written runs. (let Told : List ℕ → Type 0 = AppendsFront before after in subst Told (sym runs.text_is) (run runs.start runs.stands).put)
+
+pub left-by : {A E : Type 0} → (put : Result A E) (r : Ready) (first rows : List (Option Row)) → ((s : Start) → StandsFor s 0 r.cycles r.machine first → PortsAfter s r.cycles first rows) →
+    OnOk put ((s : Start) → StandsFor s 0 r.cycles r.machine first → PortsAfter s r.cycles first rows)
+left-by (Ok x) r first rows left = left
+left-by (Err e) r first rows left = tt
+
+-- what one put of a text puts
+pub put-ok : {A E : Type 0} → (put : Result A E) (before after : Option (List ℕ)) (bytes text : List ℕ) → bytes ≡ text → OnOk put (Appends before after bytes) →
+    OnOk put ((written : List ℕ) → written ≡ text → Appends before after written)
+put-ok (Ok x) before after bytes text same puts = λ written is. (let Told : List ℕ → Type 0 = Appends before after in subst Told (same ∙ sym is) puts)
+put-ok (Err e) before after bytes text same puts = tt
+
+pub put-err : {A E : Type 0} → (put : Result A E) (before after : Option (List ℕ)) (bytes text : List ℕ) → bytes ≡ text → OnErr put (AppendsFront before after bytes) →
+    OnErr put ((written : List ℕ) → written ≡ text → AppendsFront before after written)
+put-err (Ok x) before after bytes text same puts = tt
+put-err (Err e) before after bytes text same puts = λ written is. (let Told : List ℕ → Type 0 = AppendsFront before after in subst Told (same ∙ sym is) puts)

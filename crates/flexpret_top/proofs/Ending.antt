@@ -1,6 +1,8 @@
 -- How a command ends, by what was prepared for it.
-use Rattle.std.proofs.Common.{◌≡◌, ◌⊎◌, ℕ, ◌<◌, List, Option, Some, None, inl, inr, refl, ap, sym, subst, ◌∙◌, arith}
-use Rattle.std.specs.Prelude.{IfSome}
+use Rattle.std.proofs.Common.{◌≡◌, ◌⊎◌, ℕ, ◌<◌, ◌==◌, if◌then◌else◌, List, Option, Some, None, inl, inr, refl, ap, sym, subst, ◌∙◌, arith}
+use Rattle.std.specs.Prelude.{IfSome, IsSomeAnd}
+use Rattle.std.specs.Io.KnownBytes.{Appends}
+use Rattle.fp_io.specs.Causes.{Rose}
 use Rattle.fp_io.specs.Content.{FileMap, AppendsFront}
 use Rattle.fp_ports.specs.Rows.{Row}
 use Rattle.ask_words.specs.Commands.{ask}
@@ -9,10 +11,10 @@ use Rattle.flexpret_top.specs.declared.ready.Prepared.{Prepared}
 use Rattle.flexpret_top.specs.declared.status.Status.{Status}
 use Rattle.flexpret_top.specs.declared.status.Status.TheVariants.{Ok, Usage, Setup, Image, Source, Bound, Read, Write, NoMemory}
 use Rattle.flexpret_top.specs.Answer.{IsAnswered}
-use Rattle.flexpret_top.specs.Answer.Answer.{Says}
-use Rattle.flexpret_top.specs.Command.{IsAnswer, IsAnswerIn, IsAnswerTo, Said, Began, Answered}
-use Rattle.flexpret_top.specs.Prepared.{Delivers, Prepares}
-use Rattle.flexpret_top.specs.Status.{number_of}
+use Rattle.flexpret_top.specs.Answer.Answer.{Says, Missing}
+use Rattle.flexpret_top.specs.Command.{IsAnswer, IsAnswerIn, IsAnswerTo, IsApart, IsApartBy, Leaves, LeavesBy, Said, Began, Answered}
+use Rattle.flexpret_top.specs.Prepared.{Delivers, LeavesPorts, Prepares}
+use Rattle.flexpret_top.specs.Status.{IsStatus, number_of}
 
 -- where the sink failed, a front of the answer was put
 pub front-of : (told : Option FileMap) (asked : Ask) (ports fed : List (Option Row)) (p : Prepared) (before after : Option (List ℕ)) →
@@ -22,48 +24,76 @@ front-of None asked ports fed p before after prepares puts = tt
 front-of (Some files) asked ports fed p before after prepares puts =
     record { answer = Says 0 prepares.written; is = prepares.is; front = puts prepares.written prepares.delivers }
 
+-- where it did not, the whole answer was put
+pub all-of : (told : Option FileMap) (asked : Ask) (ports fed : List (Option Row)) (p : Prepared) (before after : Option (List ℕ)) →
+    IfSome told (λ files. Prepares asked files ports fed p) → ((written : List ℕ) → Delivers p fed written → Appends before after written) →
+    IfSome told (λ files. Said (IsAnswerIn asked ports files) 0 before after)
+all-of None asked ports fed p before after prepares puts = tt
+all-of (Some files) asked ports fed p before after prepares puts =
+    record { answer = Says 0 prepares.written; is = prepares.is; said = (refl, puts prepares.written prepares.delivers) }
+
+-- and the ports are left as the command leaves them
+pub left-of : (told : Option FileMap) (asked : Ask) (ports fed last : List (Option Row)) (p : Prepared) → IfSome told (λ files. Prepares asked files ports fed p) → LeavesPorts p fed last →
+    IfSome told (λ files. Leaves asked files ports last)
+left-of None asked ports fed last p prepares left = tt
+left-of (Some files) asked ports fed last p prepares left = prepares.leaves last left
+
 -- a status by its number
-pub usage-of : (s : Status) → number_of s ≡ 2 → s ≡ Usage
-usage-of Ok e = absurd (omega (arith, e))
-usage-of Usage e = refl
-usage-of Setup e = absurd (omega (arith, e))
-usage-of Image e = absurd (omega (arith, e))
-usage-of Source e = absurd (omega (arith, e))
-usage-of Bound e = absurd (omega (arith, e))
-usage-of Read e = absurd (omega (arith, e))
-usage-of Write e = absurd (omega (arith, e))
-usage-of NoMemory e = absurd (omega (arith, e))
+status_by : ℕ → Status
+status_by n =
+    if n == 0 then Ok else if n == 2 then Usage else if n == 3 then Setup else if n == 4 then Image else if n == 5 then Source else if n == 6 then Bound else if n == 7 then Read else if n == 8 then Write else NoMemory
 
-read-of : (s : Status) → number_of s ≡ 7 → s ≡ Read
-read-of Ok e = absurd (omega (arith, e))
-read-of Usage e = absurd (omega (arith, e))
-read-of Setup e = absurd (omega (arith, e))
-read-of Image e = absurd (omega (arith, e))
-read-of Source e = absurd (omega (arith, e))
-read-of Bound e = absurd (omega (arith, e))
-read-of Read e = refl
-read-of Write e = absurd (omega (arith, e))
-read-of NoMemory e = absurd (omega (arith, e))
+by_number : (s : Status) → status_by (number_of s) ≡ s
+unfolding status_by
+by_number Ok = refl
+by_number Usage = refl
+by_number Setup = refl
+by_number Image = refl
+by_number Source = refl
+by_number Bound = refl
+by_number Read = refl
+by_number Write = refl
+by_number NoMemory = refl
 
-memory-of : (s : Status) → number_of s ≡ 9 → s ≡ NoMemory
-memory-of Ok e = absurd (omega (arith, e))
-memory-of Usage e = absurd (omega (arith, e))
-memory-of Setup e = absurd (omega (arith, e))
-memory-of Image e = absurd (omega (arith, e))
-memory-of Source e = absurd (omega (arith, e))
-memory-of Bound e = absurd (omega (arith, e))
-memory-of Read e = absurd (omega (arith, e))
-memory-of Write e = absurd (omega (arith, e))
-memory-of NoMemory e = refl
+pub status-of : (s other : Status) → number_of s ≡ number_of other → s ≡ other
+status-of s other e = sym (by_number s) ∙ (ap status_by e ∙ by_number other)
+
+is_status : (s : Status) → IsStatus (number_of s)
+is_status Ok = inl refl
+is_status Usage = inr (inl refl)
+is_status Setup = inr (inr (inl refl))
+is_status Image = inr (inr (inr (inl refl)))
+is_status Source = inr (inr (inr (inr (inl refl))))
+is_status Bound = inr (inr (inr (inr (inr (inl refl)))))
+is_status Read = inr (inr (inr (inr (inr (inr (inl refl))))))
+is_status Write = inr (inr (inr (inr (inr (inr (inr (inl refl)))))))
+is_status NoMemory = inr (inr (inr (inr (inr (inr (inr (inr refl)))))))
+
+pub number-of : (s : Status) (n : ℕ) → n ≡ number_of s → IsStatus n
+number-of s n is = let Is : ℕ → Type 0 = IsStatus in subst Is (sym is) (is_status s)
 
 pub nothing-of : (s : Status) → (s ≡ Usage → ⊥) → (number_of s ≡ 2) ⊎ ((number_of s ≡ 7) ⊎ (number_of s ≡ 9)) → (s ≡ Read) ⊎ (s ≡ NoMemory)
-nothing-of s asked (inl e) = absurd (asked (usage-of s e))
-nothing-of s asked (inr (inl e)) = inl (read-of s e)
-nothing-of s asked (inr (inr e)) = inr (memory-of s e)
+nothing-of s asked (inl e) = absurd (asked (status-of s Usage e))
+nothing-of s asked (inr (inl e)) = inl (status-of s Read e)
+nothing-of s asked (inr (inr e)) = inr (status-of s NoMemory e)
 
--- a command that ends well ends with no other status
+-- a command that ends well ends with no other status, and one whose sink failed too
 pub ok-no_write : Ok ≡ Write → ⊥
 ok-no_write e = cc
+
+pub ok-no_nothing : (Ok ≡ Read) ⊎ (Ok ≡ NoMemory) → ⊥
+ok-no_nothing (inl e) = cc
+ok-no_nothing (inr e) = cc
+
+pub write-no_ok : Write ≡ Ok → ⊥
+write-no_ok e = cc
+
+pub write-no_small : number_of Write < 7 → ⊥
+write-no_small small = omega (arith, small)
+
+pub write-no_nothing : (Write ≡ Read) ⊎ (Write ≡ NoMemory) → ⊥
+write-no_nothing (inl e) = cc
+write-no_nothing (inr e) = cc
 
 -- what was prepared is the answer of the command that is done
 pub answered-of : (told : Option FileMap) (asked : Ask) (ports fed : List (Option Row)) (p : Prepared) → IfSome told (λ files. Prepares asked files ports fed p) →
@@ -89,3 +119,25 @@ complete-of (Some files) words asked ports s n is number (inr a) =
     let Is : Option Ask → Type 0 = λ o. IsAnswerTo o files ports a.answer in
     let Ends : ℕ → Type 0 = λ m. IsAnswered m a.answer in
     inr (record { answer = a.answer; is = subst Is (sym is) a.is; answered = subst Ends (sym number) a.answered })
+
+-- what holds of a command holds of the words that ask it
+pub read-by : (told : Option FileMap) (words : List (List ℕ)) (asked : Ask) (ports : List (Option Row)) (s : Status) (n before after : ℕ) → ask words ≡ Some asked → n ≡ number_of s → n ≡ 7 →
+    (s ≡ Read → Rose before after ⊎ IsSomeAnd told (λ files. IsAnswerIn asked ports files Missing)) → Rose before after ⊎ IsSomeAnd told (λ files. IsAnswer words files ports Missing)
+read-by told words asked ports s n before after is number seven read =
+    let By : Option Ask → Type 0 = λ o. Rose before after ⊎ IsSomeAnd told (λ files. IsAnswerTo o files ports Missing) in subst By (sym is) (read (status-of s Read (sym number ∙ seven)))
+
+pub front-by : (told : Option FileMap) (words : List (List ℕ)) (asked : Ask) (ports : List (Option Row)) (s : Status) (n : ℕ) (before after : Option (List ℕ)) → ask words ≡ Some asked → n ≡ number_of s → n ≡ 8 →
+    (s ≡ Write → IfSome told (λ files. Began (IsAnswerIn asked ports files) before after)) → IfSome told (λ files. Began (IsAnswer words files ports) before after)
+front-by told words asked ports s n before after is number eight front =
+    let By : Option Ask → Type 0 = λ o. IfSome told (λ files. Began (IsAnswerTo o files ports) before after) in subst By (sym is) (front (status-of s Write (sym number ∙ eight)))
+
+pub leaves-by : (told : Option FileMap) (words : List (List ℕ)) (asked : Ask) (before after : List (Option Row)) (s : Status) (n : ℕ) → ask words ≡ Some asked → n ≡ number_of s → n ≡ 0 →
+    (s ≡ Ok → IfSome told (λ files. Leaves asked files before after)) → IfSome told (λ files. LeavesBy (ask words) files before after)
+leaves-by told words asked before after s n is number zero leaves =
+    let By : Option Ask → Type 0 = λ o. IfSome told (λ files. LeavesBy o files before after) in subst By (sym is) (leaves (status-of s Ok (sym number ∙ zero)))
+
+pub apart-by : (words : List (List ℕ)) (asked : Ask) → ask words ≡ Some asked → IsApartBy (ask words) → IsApart asked
+apart-by words asked is apart = let By : Option Ask → Type 0 = IsApartBy in subst By is apart
+
+pub asks-some : (words : List (List ℕ)) (asked : Ask) → ask words ≡ Some asked → ask words ≡ None → ⊥
+asks-some words asked is nothing = cc

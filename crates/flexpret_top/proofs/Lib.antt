@@ -4,4 +4,5 @@ mod Delivering
 mod Ending
 mod Headlines
 mod Preparing
+mod Stopping
 mod Usage

@@ -1,9 +1,10 @@
 use Rattle.std.proofs.Common.{◌≡◌, ◌⊎◌, ◌∙◌, ℕ, ap, sym, subst, arith, map}
 use Rattle.std.specs.Prelude.{string_bytes}
 use Rattle.fp_ports.specs.Rows.{rows_of}
-use Rattle.flexpret_top.proofs.Ending.{complete-of, said-of, nothing-of, usage-of}
+use Rattle.flexpret_top.proofs.Ending.{apart-by, asks-some, complete-of, front-by, leaves-by, nothing-of, number-of, read-by, said-of, status-of}
 use Rattle.ask_words.specs.Commands.{ask}
 use Rattle.flexpret_top.specs.Status.{number_of}
+use Rattle.flexpret_top.specs.declared.status.Status.TheVariants.{Usage, Write}
 use Rattle.flexpret_top.proofs.Headlines.{alone-of, said-zero, visits-of}
 use Rattle.flexpret_top.proofs.Usage.{usage-said, usage-answered}
 use Rattle.flexpret_top.proofs.command.flexpret.Goals as goal
@@ -21,7 +22,41 @@ returns-in-Err-Usage-clause-complete g c no_fetch_fault no_put_fault =
     usage-answered (g.F.Files.told c.args.files.now) (map string_bytes c.args.words.now) rows c.number-in-Err-Usage.result c.number-in-Err-Usage.ensures nothing
 
 pub returns-in-Ok-clause-usage : goal.returns-in-Ok-clause-usage
-returns-in-Ok-clause-usage g c two = absurd (c.answer.ensures.asked (usage-of c.answer.result (sym c.number.ensures ∙ two)))
+returns-in-Ok-clause-usage g c two = absurd (c.answer.ensures.asked (status-of c.answer.result Usage (sym c.number.ensures ∙ two)))
+
+pub returns-in-Ok-clause-asks : goal.returns-in-Ok-clause-asks
+returns-in-Ok-clause-asks g c nothing = absurd (asks-some (map string_bytes c.args.words.now) c.in-Ok.ask c.in-Ok.ensures.asked nothing)
+
+pub returns-in-Ok-clause-untouched : goal.returns-in-Ok-clause-untouched
+returns-in-Ok-clause-untouched g c nothing = absurd (asks-some (map string_bytes c.args.words.now) c.in-Ok.ask c.in-Ok.ensures.asked nothing)
+
+pub returns-in-Ok-clause-read : goal.returns-in-Ok-clause-read
+returns-in-Ok-clause-read g c seven =
+    let rows = rows_of (λ b. (goal.Port-dyn g (b.vtable, b.value)).latched b.value) (λ b. (goal.Port-dyn g (b.vtable, b.value)).word_at b.value) c.args.ports.now.items in
+    read-by (g.F.Files.told c.args.files.now) (map string_bytes c.args.words.now) c.in-Ok.ask rows c.answer.result c.number.result (g.F.Files.faults c.args.files.now) (g.F.Files.faults c.answer.new.files)
+    c.in-Ok.ensures.asked c.number.ensures seven c.answer.ensures.read
+
+pub returns-in-Ok-clause-write : goal.returns-in-Ok-clause-write
+returns-in-Ok-clause-write g c eight = c.answer.ensures.write (status-of c.answer.result Write (sym c.number.ensures ∙ eight))
+
+pub returns-in-Ok-clause-front : goal.returns-in-Ok-clause-front
+returns-in-Ok-clause-front g c eight =
+    let rows = rows_of (λ b. (goal.Port-dyn g (b.vtable, b.value)).latched b.value) (λ b. (goal.Port-dyn g (b.vtable, b.value)).word_at b.value) c.args.ports.now.items in
+    front-by (g.F.Files.told c.args.files.now) (map string_bytes c.args.words.now) c.in-Ok.ask rows c.answer.result c.number.result (g.K.Sink.taken c.args.out.now) (g.K.Sink.taken c.answer.new.out)
+    c.in-Ok.ensures.asked c.number.ensures eight c.answer.ensures.front
+
+pub returns-in-Ok-clause-statuses : goal.returns-in-Ok-clause-statuses
+returns-in-Ok-clause-statuses g c = number-of c.answer.result c.number.result c.number.ensures
+
+pub returns-in-Ok-clause-ports : goal.returns-in-Ok-clause-ports
+returns-in-Ok-clause-ports g c zero =
+    let rows = rows_of (λ b. (goal.Port-dyn g (b.vtable, b.value)).latched b.value) (λ b. (goal.Port-dyn g (b.vtable, b.value)).word_at b.value) c.args.ports.now.items in
+    let left = rows_of (λ b. (goal.Port-dyn g (b.vtable, b.value)).latched b.value) (λ b. (goal.Port-dyn g (b.vtable, b.value)).word_at b.value) c.answer.new.ports.items in
+    leaves-by (g.F.Files.told c.args.files.now) (map string_bytes c.args.words.now) c.in-Ok.ask rows left c.answer.result c.number.result
+    c.in-Ok.ensures.asked c.number.ensures zero c.answer.ensures.ports
+
+pub returns-in-Ok-clause-apart : goal.returns-in-Ok-clause-apart
+returns-in-Ok-clause-apart g c apart = c.answer.ensures.apart (apart-by (map string_bytes c.args.words.now) c.in-Ok.ask c.in-Ok.ensures.asked apart)
 
 pub returns-in-Ok-clause-nothing : goal.returns-in-Ok-clause-nothing
 returns-in-Ok-clause-nothing g c none =
