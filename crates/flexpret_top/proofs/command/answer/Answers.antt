@@ -6,6 +6,27 @@ use Rattle.flexpret_top.proofs.Ending.{all-of, answered-of, front-of, left-of, o
 use Rattle.flexpret_top.proofs.Stopping.{stop-said, stop-read, stop-write, stop-front, stop-complete, stop-leaves, stop-usage}
 use Rattle.flexpret_top.proofs.command.answer.Goals as goal
 
+pub prepare-requires-clause-limits : goal.prepare-requires-clause-limits
+prepare-requires-clause-limits g c = c.requires.limits
+
+pub prepare-requires-clause-eight : goal.prepare-requires-clause-eight
+prepare-requires-clause-eight g c = c.requires.eight
+
+pub deliver-requires-clause-thread : goal.deliver-requires-clause-thread
+deliver-requires-clause-thread g c = c.in-Ok.ensures.thread
+
+pub deliver-requires-clause-eight : goal.deliver-requires-clause-eight
+deliver-requires-clause-eight g c = c.prepare.ensures.eight
+
+pub returns-in-Ok-deliver-clause-told : goal.returns-in-Ok-deliver-clause-told
+returns-in-Ok-deliver-clause-told g c = c.prepare.ensures.told
+
+pub returns-in-Ok-deliver-clause-counted_files : goal.returns-in-Ok-deliver-clause-counted_files
+returns-in-Ok-deliver-clause-counted_files g c = c.prepare.ensures.counted
+
+pub returns-in-Ok-deliver-clause-counted_out : goal.returns-in-Ok-deliver-clause-counted_out
+returns-in-Ok-deliver-clause-counted_out g c = c.deliver.ensures.counted
+
 pub returns-in-Ok-deliver-clause-said : goal.returns-in-Ok-deliver-clause-said
 returns-in-Ok-deliver-clause-said g c small =
     all-of (g.F.Files.told c.args.files.now) c.args.ask.now _ _ c.in-Ok.prepared (g.K.Sink.taken c.args.out.now) (g.K.Sink.taken c.deliver.new.out)
@@ -31,11 +52,23 @@ pub returns-in-Ok-deliver-clause-ports : goal.returns-in-Ok-deliver-clause-ports
 returns-in-Ok-deliver-clause-ports g c ok =
     left-of (g.F.Files.told c.args.files.now) c.args.ask.now _ _ _ c.in-Ok.prepared c.in-Ok.ensures.ok c.in-Ok-deliver.ensures.left
 
+pub returns-in-Ok-deliver-clause-eight : goal.returns-in-Ok-deliver-clause-eight
+returns-in-Ok-deliver-clause-eight g c = c.deliver.ensures.eight
+
 pub returns-in-Ok-deliver-clause-kept : goal.returns-in-Ok-deliver-clause-kept
 returns-in-Ok-deliver-clause-kept g c ok write memory = absurd (ok refl)
 
 pub returns-in-Ok-deliver-clause-apart : goal.returns-in-Ok-deliver-clause-apart
 returns-in-Ok-deliver-clause-apart g c apart = c.deliver.ensures.apart (c.in-Ok.ensures.apart_from apart) ∙ c.prepare.ensures.apart apart
+
+pub returns-in-Err-deliver-clause-told : goal.returns-in-Err-deliver-clause-told
+returns-in-Err-deliver-clause-told g c = c.prepare.ensures.told
+
+pub returns-in-Err-deliver-clause-counted_files : goal.returns-in-Err-deliver-clause-counted_files
+returns-in-Err-deliver-clause-counted_files g c = c.prepare.ensures.counted
+
+pub returns-in-Err-deliver-clause-counted_out : goal.returns-in-Err-deliver-clause-counted_out
+returns-in-Err-deliver-clause-counted_out g c = c.deliver.ensures.counted
 
 pub returns-in-Err-deliver-clause-said : goal.returns-in-Err-deliver-clause-said
 returns-in-Err-deliver-clause-said g c small = absurd (write-no_small small)
@@ -60,11 +93,23 @@ returns-in-Err-deliver-clause-nothing g c nothing = absurd (write-no_nothing not
 pub returns-in-Err-deliver-clause-ports : goal.returns-in-Err-deliver-clause-ports
 returns-in-Err-deliver-clause-ports g c ok = absurd (write-no_ok ok)
 
+pub returns-in-Err-deliver-clause-eight : goal.returns-in-Err-deliver-clause-eight
+returns-in-Err-deliver-clause-eight g c = c.deliver.ensures.eight
+
 pub returns-in-Err-deliver-clause-kept : goal.returns-in-Err-deliver-clause-kept
 returns-in-Err-deliver-clause-kept g c ok write memory = absurd (write refl)
 
 pub returns-in-Err-deliver-clause-apart : goal.returns-in-Err-deliver-clause-apart
 returns-in-Err-deliver-clause-apart g c apart = c.deliver.ensures.apart (c.in-Ok.ensures.apart_from apart) ∙ c.prepare.ensures.apart apart
+
+pub returns-in-Err-clause-told : goal.returns-in-Err-clause-told
+returns-in-Err-clause-told g c = c.prepare.ensures.told
+
+pub returns-in-Err-clause-counted_files : goal.returns-in-Err-clause-counted_files
+returns-in-Err-clause-counted_files g c = c.prepare.ensures.counted
+
+pub returns-in-Err-clause-counted_out : goal.returns-in-Err-clause-counted_out
+returns-in-Err-clause-counted_out g c = c.end.ensures.counted
 
 pub returns-in-Err-clause-said : goal.returns-in-Err-clause-said
 returns-in-Err-clause-said g c small =
@@ -97,6 +142,9 @@ returns-in-Err-clause-complete g c no_fetch_fault no_put_fault =
 pub returns-in-Err-clause-asked : goal.returns-in-Err-clause-asked
 returns-in-Err-clause-asked g c usage =
     stop-usage c.in-Err.stop c.end.result (g.K.Sink.faults c.args.out.now) (g.K.Sink.faults c.end.new.out) (g.K.Sink.taken c.args.out.now) (g.K.Sink.taken c.end.new.out) c.end.ensures.ends usage
+
+pub returns-in-Err-clause-nothing : goal.returns-in-Err-clause-nothing
+returns-in-Err-clause-nothing g c = c.end.ensures.nothing
 
 pub returns-in-Err-clause-ports : goal.returns-in-Err-clause-ports
 returns-in-Err-clause-ports g c ok =
