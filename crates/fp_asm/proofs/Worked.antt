@@ -16,7 +16,7 @@ use Rattle.fp_asm.specs.Statements.{some_targets, statement_in, aligned_to, chec
 use Rattle.fp_asm.specs.First.{with_label, labelled, addresses, take_places, sized, placed_by, first_line, first_pass}
 use Rattle.fp_asm.specs.Second.{after_labels, resolved, all_resolved, jump, plain_word, branch_word, jal_word, address_words, value_words, words_of, with_words, written_by, second_line, second_pass}
 use Rattle.fp_asm.specs.Runs.{runs_from, runs_of, bytes_from}
-use Rattle.fp_asm.specs.Source.{assembled_lines, assembled}
+use Rattle.fp_asm.specs.Source.{segments_at, assembled_lines, assembled}
 use Rattle.fp_asm.specs.declared.refusal.AsmNo.TheVariants as no
 use Rattle.fp_asm.specs.declared.refusal.AsmRefused.{AsmRefused}
 use Rattle.fp_asm.specs.declared.refusal.AsmRefused.TheVariants as refused
@@ -71,7 +71,7 @@ rows =
     ∷ []
 
 worked : map (λ row. assembled row.0) rows ≡ map (λ row. row.1) rows
-unfolding rows words bytes run number_from number_of digits_at number_at token_at tokens_from tokens_of encoded between_from without_return lines_of piece pieces_of commas operands_of mnemonics mnemonic registers register csrs csr register_in number_in target_in csr_in memory_in filled all_filled all_targets signed_12 up_to instruction halves load_instructions some_targets statement_in aligned_to checked statement_named statement_of size_of place_after with_label labelled addresses take_places sized placed_by first_line first_pass after_labels resolved all_resolved jump plain_word branch_word jal_word address_words value_words words_of with_words written_by second_line second_pass runs_from runs_of bytes_from assembled_lines assembled
+unfolding rows words bytes run number_from number_of digits_at number_at token_at tokens_from tokens_of encoded between_from without_return lines_of piece pieces_of commas operands_of mnemonics mnemonic registers register csrs csr register_in number_in target_in csr_in memory_in filled all_filled all_targets signed_12 up_to instruction halves load_instructions some_targets statement_in aligned_to checked statement_named statement_of size_of place_after with_label labelled addresses take_places sized placed_by first_line first_pass after_labels resolved all_resolved jump plain_word branch_word jal_word address_words value_words words_of with_words written_by second_line second_pass runs_from runs_of bytes_from segments_at assembled_lines assembled
 worked = refl
 
 -- pseudo-instructions, and the instructions that they are
@@ -86,5 +86,5 @@ pseudo =
     ∷ []
 
 same : map (λ row. assembled row.0) pseudo ≡ map (λ row. assembled row.1) pseudo
-unfolding pseudo run number_from number_of digits_at number_at token_at tokens_from tokens_of encoded between_from without_return lines_of piece pieces_of commas operands_of mnemonics mnemonic registers register csrs csr register_in number_in target_in csr_in memory_in filled all_filled all_targets signed_12 up_to instruction halves load_instructions some_targets statement_in aligned_to checked statement_named statement_of size_of place_after with_label labelled addresses take_places sized placed_by first_line first_pass after_labels resolved all_resolved jump plain_word branch_word jal_word address_words value_words words_of with_words written_by second_line second_pass runs_from runs_of bytes_from assembled_lines assembled
+unfolding pseudo run number_from number_of digits_at number_at token_at tokens_from tokens_of encoded between_from without_return lines_of piece pieces_of commas operands_of mnemonics mnemonic registers register csrs csr register_in number_in target_in csr_in memory_in filled all_filled all_targets signed_12 up_to instruction halves load_instructions some_targets statement_in aligned_to checked statement_named statement_of size_of place_after with_label labelled addresses take_places sized placed_by first_line first_pass after_labels resolved all_resolved jump plain_word branch_word jal_word address_words value_words words_of with_words written_by second_line second_pass runs_from runs_of bytes_from segments_at assembled_lines assembled
 same = refl

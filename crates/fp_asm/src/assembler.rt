@@ -1,10 +1,8 @@
 //! From a source to an image.
-ghost use Rattle.std.specs.Prelude.{◌≡◌, ◌≤◌, ◌<◌, ◌^◌, IfOk, IfErr, Ok, map, length, All, nat_lt};
-ghost use Rattle.fp_asm.specs.Source.{assembled, assembled_lines};
-ghost use Rattle.fp_asm.specs.Faults.{IsFaultOf, holds};
-ghost use Rattle.fp_asm.specs.Runs.{runs_of as runs_of_addresses, segment_of, ArePlaced};
-ghost use Rattle.fp_asm.specs.declared.refusal.AsmNo.TheVariants as no;
-ghost use Rattle.fp_asm.specs.declared.refusal.AsmRefused.TheVariants as refused;
+ghost use Rattle.std.specs.Prelude.{◌≡◌, ◌≤◌, ◌<◌, ◌^◌, IfOk, IfErr, Ok, map, length, All};
+ghost use Rattle.fp_asm.specs.Source.{assembled, assembled_lines, segments_at};
+ghost use Rattle.fp_asm.specs.Faults.{IsFaultOf};
+ghost use Rattle.fp_asm.specs.Runs.{ArePlaced};
 
 use super::build::{image_of, rising};
 use super::first::First;
@@ -20,14 +18,15 @@ use std::collections::{BTreeMap, BTreeSet};
 const MOST_BYTES: usize = 1_048_576;
 
 // The image of the words at the addresses that were taken, of 16 runs at most.
+#[tactic(auto, unfolding(crate::specs::Source::segments_at))]
 fn image_at(
     alloc: Global,
     memory: &BTreeMap<u32, u32>,
     taken: &BTreeSet<u32>,
 ) -> Result<Image, AsmRefused>
     requires { ArePlaced 0 taken.now.keys }
-    ensures image { IfOk result (λ image. holds (nat_lt (length (runs_of_addresses taken.now.keys)) 17) (refused.Fault 0 no.TooManySegments) (Ok (map (segment_of memory.now.entries) (runs_of_addresses taken.now.keys))) ≡ Ok image) }
-    ensures refused { IfErr result (IsFaultOf (holds (nat_lt (length (runs_of_addresses taken.now.keys)) 17) (refused.Fault 0 no.TooManySegments) (Ok (map (segment_of memory.now.entries) (runs_of_addresses taken.now.keys))))) }
+    ensures image { IfOk result (λ image. segments_at memory.now.entries taken.now.keys ≡ Ok image) }
+    ensures refused { IfErr result (IsFaultOf (segments_at memory.now.entries taken.now.keys)) }
 {
     let addresses = rising(alloc, taken)?;
     let runs = runs_of(alloc, addresses.as_slice())?;
