@@ -5,7 +5,8 @@ use Rattle.std.proofs.Math.Seq.{take-append_seam, drop-append_seam, drop-append-
 use Rattle.std.specs.List.{flat_map}
 use Rattle.byteorder.specs.Endian.{little_bytes}
 use Rattle.byteorder.specs.Numbers.{little_number-reads_back}
-use Rattle.fp_image.specs.Rules.{IsSize, IsImage, Rises, is_placed, end_of}
+use Rattle.region_guard.specs.Regions.{IsSize}
+use Rattle.fp_image.specs.Rules.{IsImage, Rises, is_placed, end_of}
 use Rattle.fp_image.specs.Format.{image_of, count_of, segment_of, segments_of, segment_written, written, longest, number_at, check, first_fault, unless, and_then}
 use Rattle.fp_image.specs.declared.parts.Segment.{Segment}
 use Rattle.fp_image.specs.declared.refusals.ImageNo.{ImageNo}

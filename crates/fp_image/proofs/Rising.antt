@@ -1,7 +1,8 @@
 -- Segments that rise, and one more after them.
 use Rattle.std.proofs.Common.{◌≡◌, ◌⊎◌, ◌≤◌, ◌<◌, ℕ, zero, suc, ◌+◌, ◌-◌, ◌^◌, Bool, true, false, IsTrue, nat_le, List, [], ◌∷◌, ◌++◌, length, slice_index_or, inl, inr, refl, arith, length-append}
 use Rattle.std.proofs.lemmas.Bool.Decides.{nat_tests}
-use Rattle.fp_image.specs.Rules.{IsSize, is_placed, end_of, Rises, IsImage}
+use Rattle.region_guard.specs.Regions.{IsSize}
+use Rattle.fp_image.specs.Rules.{is_placed, end_of, Rises, IsImage}
 use Rattle.fp_image.specs.declared.parts.Segment.{Segment}
 
 -- the end of the last segment

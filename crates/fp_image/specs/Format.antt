@@ -4,7 +4,8 @@
 use Rattle.std.specs.Prelude.{◌≡◌, ◌⊎◌, ℕ, zero, suc, ◌+◌, ◌-◌, ◌==◌, nat_lt, nat_eq, Bool, not, if◌then◌else◌, List, [], ◌∷◌, ◌++◌, length, take, drop, codes, Option, Some, None, Result, Ok, Err}
 use Rattle.std.specs.List.{starts_with, flat_map}
 use Rattle.byteorder.specs.Endian.{little_number, little_bytes}
-use Rattle.fp_image.specs.Rules.{IsSize, IsImage, is_placed}
+use Rattle.region_guard.specs.Regions.{IsSize}
+use Rattle.fp_image.specs.Rules.{IsImage, is_placed}
 use Rattle.fp_image.specs.declared.parts.Segment.{Segment}
 use Rattle.fp_image.specs.declared.refusals.ImageNo.{ImageNo}
 use Rattle.fp_image.specs.declared.refusals.ImageNo.TheVariants.{TooLong, Magic, Truncated, BadSegment, Overlap, Trailing}

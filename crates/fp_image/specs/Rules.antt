@@ -1,12 +1,8 @@
 -- The rules that the segments of an image keep, and the words that they hold. Source: this project's
 -- profile (the memory map and the image format).
-use Rattle.std.specs.Prelude.{◌≡◌, ◌⊎◌, ◌≤◌, ℕ, ◌+◌, ◌-◌, ◌%◌, ◌==◌, nat_lt, nat_le, Bool, ◌&&◌, ◌||◌, if◌then◌else◌, IsTrue, List, [], ◌∷◌, length, drop, Option, Some, None, unwrap_or}
+use Rattle.std.specs.Prelude.{◌≡◌, ◌≤◌, ℕ, ◌+◌, ◌-◌, ◌%◌, ◌==◌, nat_lt, nat_le, Bool, ◌&&◌, ◌||◌, if◌then◌else◌, IsTrue, List, [], ◌∷◌, length, drop, Option, Some, None, unwrap_or}
 use Rattle.byteorder.specs.Endian.{little_number}
 use Rattle.fp_image.specs.declared.parts.Segment.{Segment}
-
--- the sizes of a scratchpad, in bytes
-abbrev pub IsSize : ℕ → Type 0
-IsSize size = (size ≡ 16384) ⊎ (size ≡ 65536)
 
 -- Whether so many bytes from the address on may be a segment: whole words, at least one, inside the
 -- instruction scratchpad, which starts at 0, or the data scratchpad, which starts at 0x20000000.

@@ -2,7 +2,8 @@
 
 ghost use Rattle.std.specs.Prelude.{◌≡◌, ◌⊎◌, ◌≤◌, ◌+◌, length, IsTrue, IfOk};
 ghost use Rattle.fp_image.specs.Format.{count_of, longest, segment_of, segments_of, image_of, IsUnlessMemory};
-ghost use Rattle.fp_image.specs.Rules.{IsImage, IsSize, is_placed};
+ghost use Rattle.fp_image.specs.Rules.{IsImage, is_placed};
+ghost use Rattle.region_guard.specs.Regions.{IsSize};
 
 use crate::images::Image;
 use crate::parts::{Bytes, Segment};

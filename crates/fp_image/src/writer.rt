@@ -3,7 +3,8 @@
 ghost use Rattle.std.specs.Prelude.{◌≡◌, ◌<◌, ◌^◌, ◌++◌, ℕ, length, Ok, OnOk, IfOk, is_ok, if◌then◌else◌};
 ghost use Rattle.byteorder.specs.Endian.{little_bytes};
 ghost use Rattle.fp_image.specs.Format.{IsReadBack, segment_written, written};
-ghost use Rattle.fp_image.specs.Rules.{IsImage, IsSize};
+ghost use Rattle.fp_image.specs.Rules.{IsImage};
+ghost use Rattle.region_guard.specs.Regions.{IsSize};
 
 use crate::images::Image;
 use crate::parts::Segment;
