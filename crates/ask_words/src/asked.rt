@@ -2,7 +2,7 @@
 
 ghost use Rattle.std.specs.Prelude.{◌≡◌};
 
-use crate::file_name::Name;
+use file_name::Name;
 use std::alloc::AllocError;
 
 /// Why words are no command.

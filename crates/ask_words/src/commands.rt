@@ -10,9 +10,9 @@ ghost use Rattle.ask_words.specs.Limits.{IsWithinLimits};
 
 use crate::asked::{Ask, Section, WordsNo};
 use crate::command::Command;
-use crate::file_name::Name;
 use crate::numbers::{address_of, number_of, thread_of};
 use crate::parse::texts_of;
+use file_name::Name;
 use std::alloc::Global;
 
 /// The most cycles of a run.

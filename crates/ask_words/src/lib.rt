@@ -4,7 +4,6 @@
 mod asked;
 mod command;
 mod commands;
-mod file_name;
 mod form;
 mod given;
 mod numbers;
@@ -12,4 +11,3 @@ mod parse;
 
 pub use asked::{Ask, Section, WordsNo};
 pub use commands::read_words;
-pub use file_name::Name;

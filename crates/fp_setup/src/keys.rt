@@ -15,11 +15,11 @@ ghost use Rattle.fp_setup.specs.Meaning.{named, nibble_word};
 ghost use Rattle.fp_setup.specs.Reading.{IsRead, IsReadInMemory};
 
 use crate::bounds::Range;
-use crate::file_name::Name;
 use crate::nibble_list::eight;
 use crate::refusal::{Fault, Place, SetupNo, SetupRefused};
 use crate::values::{fresh, integer, name, permit, truth_value, word};
 use crate::vocabulary::Words;
+use file_name::Name;
 use std::alloc::Global;
 use toml::{Table, Value};
 

@@ -5,7 +5,6 @@
 #![tactic(auto)]
 
 mod bounds;
-mod file_name;
 mod input_list;
 mod input_rows;
 mod keys;
@@ -20,7 +19,6 @@ mod values;
 mod vocabulary;
 mod whole;
 
-pub use file_name::Name;
 pub use input_list::{Input, Inputs};
 pub use loop_list::{LoopSetup, Loops};
 pub use reader::read_setup;

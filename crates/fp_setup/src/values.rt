@@ -10,9 +10,9 @@ ghost use Rattle.fp_setup.specs.Vocabulary.{is_value};
 ghost use Rattle.fp_setup.specs.Reading.{IsRead, IsReadInMemory};
 
 use crate::bounds::Range;
-use crate::file_name::Name;
 use crate::refusal::{Fault, Place, SetupNo, SetupRefused};
 use crate::vocabulary::Words;
+use file_name::Name;
 use std::alloc::Global;
 use toml::Value;
 

@@ -1,9 +1,9 @@
 //! A setup as a whole.
 
 use crate::bounds::size_of_version;
-use crate::file_name::Name;
 use crate::loop_list::Loops;
 use crate::thread_list::Threads;
+use file_name::Name;
 use std::alloc::{AllocError, Global};
 use std::marker::Model;
 

@@ -3,10 +3,10 @@
 
 use crate::escapes::unescaped;
 use crate::numbers::{low_word, number};
+use file_name::Name;
 use fp_io::{Files, RealFiles};
 use fp_setup::{
-    Input, Inputs, LoopSetup, Loops, Name, Place, Setup, SetupNo, SetupRefused, ThreadSetup,
-    read_setup,
+    Input, Inputs, LoopSetup, Loops, Place, Setup, SetupNo, SetupRefused, ThreadSetup, read_setup,
 };
 use std::alloc::{AllocError, Global};
 use std::fmt::Write;

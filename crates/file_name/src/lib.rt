@@ -1,4 +1,5 @@
-//! The name of a file.
+//! The name of a file, as the words of a command line and setups give it.
+#![tactic(auto)]
 
 ghost use Rattle.std.specs.Prelude.{◌≡◌, IfOk};
 
