@@ -1,5 +1,5 @@
 //! The adapters over the runtime's files and standard output.
-ghost use Rattle.std.specs.Prelude.{◌≡◌, ◌≢◌, ℕ, [], ◌++◌, ◌+◌, ◌-◌, ◌^◌, ◌<◌, ◌≤◌, None, take, is_err, IfOk, IfSome, OnOk, OnErr, vec_len};
+ghost use Rattle.std.specs.Prelude.{◌≡◌, ◌≢◌, ℕ, [], ◌++◌, ◌+◌, ◌-◌, ◌^◌, ◌<◌, ◌≤◌, None, length, take, is_err, IfOk, IfSome, OnOk, OnErr, vec_len};
 ghost use Rattle.std.specs.Io.KnownBytes.{Appends};
 ghost use Rattle.fp_io.specs.Causes.{risen_if};
 ghost use Rattle.fp_io.specs.Content.{AppendsFront};
@@ -192,6 +192,7 @@ fn gather<W: Write, const N: usize>(
 ) -> Result<(), PutFailed>
     ensures ok { OnOk result (Appends (followed (W.contents to.old) gathered.old.items) (followed (W.contents to.new) gathered.new.items) bytes.now) }
     ensures err { OnErr result (AppendsFront (W.contents to.old) (W.contents to.new) (gathered.old.items ++ bytes.now)) }
+    ensures full { OnErr result (N < length gathered.old.items + length bytes.now) }
 {
     if gathered.try_extend_from_slice(bytes).is_ok() {
         return Ok(());
@@ -207,6 +208,7 @@ fn write_gathered<W: Write, const N: usize>(
 ) -> Result<(), PutFailed>
     ensures ok { OnOk result (Appends (W.contents to.old) (W.contents to.new) gathered.old.items) }
     ensures err { OnErr result (AppendsFront (W.contents to.old) (W.contents to.new) gathered.old.items) }
+    ensures some { OnErr result (gathered.old.items ≢ []) }
     ensures gathered { gathered.new.items ≡ [] }
 {
     let result = write_whole(to, gathered.as_slice());
@@ -218,6 +220,7 @@ fn write_gathered<W: Write, const N: usize>(
 fn write_whole<W: Write>(to: &mut W, bytes: &[u8]) -> Result<(), PutFailed>
     ensures ok { OnOk result (Appends (W.contents to.old) (W.contents to.new) bytes.now) }
     ensures err { OnErr result (AppendsFront (W.contents to.old) (W.contents to.new) bytes.now) }
+    ensures some { OnErr result (bytes.now ≢ []) }
 {
     let mut at = 0;
     while at < bytes.len() {
