@@ -1,12 +1,12 @@
 -- Programs with their traces, worked out by hand: the definitions compute them.
-use Rattle.std.proofs.Common.{◌≡◌, ℕ, List, [], ◌∷◌, replicate, true, false, refl, None, ◌==◌, map}
+use Rattle.std.proofs.Common.{◌≡◌, ℕ, List, [], ◌∷◌, replicate, refl, ◌==◌, map}
 use Rattle.rv_decode.specs.Table.{ins, rows, lui_rows, auipc_rows, jal_rows, jalr_rows, branch_rows, load_rows, store_rows, imm_rows, op_rows, fence_rows, system_rows, time_rows}
 use Rattle.rv_exec.specs.Words.{bitwise}
 use Rattle.rv_exec.specs.Alu.{computed, computed_with, shifted, multiplied}
 use Rattle.rv_exec.specs.Access.{loaded, lanes_at, merged}
 use Rattle.rv_exec.specs.Result.{is_taken, result_of}
 use Rattle.rv_exec.specs.declared.outcome.Effect.{Effect}
-use Rattle.rv_exec.specs.declared.outcome.Effect.TheVariants.{Nothing, Reg, Store, Csr, Trap, Wait}
+use Rattle.rv_exec.specs.declared.outcome.Effect.TheVariants.{Reg, Trap}
 use Rattle.rv_exec.specs.declared.outcome.Event.{Event}
 use Rattle.region_guard.specs.Regions.{region_of, index_of}
 use Rattle.region_guard.specs.Regions.Standing.{ReadOnly}

@@ -1,5 +1,5 @@
 -- Control and status registers: a hart's own, and those of the machine.
-use Rattle.std.specs.Prelude.{ℕ, ◌-◌, ◌*◌, ◌/◌, ◌^◌, ◌==◌, nat_lt, nat_le, Bool, true, false, ◌&&◌, ◌||◌, if◌then◌else◌, Option, Some, None}
+use Rattle.std.specs.Prelude.{ℕ, ◌-◌, ◌*◌, ◌/◌, ◌^◌, ◌==◌, nat_le, Bool, true, false, ◌&&◌, ◌||◌, if◌then◌else◌, Option, Some, None}
 use Rattle.rv_decode.specs.declared.instruction.AluOp.TheVariants.{Or, And}
 use Rattle.rv_exec.specs.Alu.{computed}
 use Rattle.rv_exec.specs.declared.outcome.Effect.TheVariants.{Csr}

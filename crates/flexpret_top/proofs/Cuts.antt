@@ -1,5 +1,5 @@
 -- The first bytes of a file, one more than it may have, answer as the whole file does.
-use Rattle.std.proofs.Common.{refl, ◌≡◌, ◌⊎◌, ℕ, ◌+◌, ◌<◌, ◌≤◌, nat_lt, true, List, [], length, take, min, Option, Some, None, Result, Ok, Err, arith, ap, sym, subst, ◌∙◌, inl, inr}
+use Rattle.std.proofs.Common.{refl, ◌≡◌, ℕ, ◌+◌, ◌<◌, ◌≤◌, nat_lt, true, List, length, take, min, Option, Some, None, Result, Ok, Err, arith, ap, sym, subst, ◌∙◌, inl, inr}
 use Rattle.std.specs.Prelude.{IfSome, IsSomeAnd, IfOk, IfErr}
 use Rattle.std.proofs.lemmas.Bool.{cases_lt}
 use Rattle.std.proofs.lemmas.Bool.Decides.{nat_tests}
@@ -7,9 +7,7 @@ use Rattle.std.proofs.lemmas.List.{length-take, take_all}
 use Rattle.fp_io.specs.Content.{FileMap, Fetched}
 use Rattle.fp_setup.specs.Setup.{setup}
 use Rattle.fp_setup.specs.Faults.{no_place}
-use Rattle.fp_setup.specs.Settings.{Settings}
 use Rattle.fp_image.specs.Format.{longest, image_of, count_of}
-use Rattle.fp_image.specs.declared.parts.Segment.{Segment}
 use Rattle.fp_asm.specs.Source.{assembled}
 use Rattle.trace_print.specs.declared.refusals.Refusal.TheVariants.{Setup, Image, Source}
 use Rattle.flexpret_top.specs.declared.stop.Stop.{Stop}

@@ -1,5 +1,5 @@
 -- The promises for one hart, from what a command said.
-use Rattle.std.proofs.Common.{◌≡◌, ◌⊎◌, ℕ, ◌<◌, ◌≤◌, List, [], Option, Some, None, Result, Ok, Err, inl, inr, refl, ap, sym, subst, ◌∙◌, arith, nat_lt, true}
+use Rattle.std.proofs.Common.{◌≡◌, ℕ, ◌<◌, List, Option, Some, None, Result, inl, inr, refl, ap, sym, subst, ◌∙◌, arith, nat_lt, true}
 use Rattle.std.specs.Prelude.{IfSome, option_map}
 use Rattle.std.specs.Io.KnownBytes.{Appends}
 use Rattle.fp_io.specs.Content.{FileMap}
@@ -17,14 +17,12 @@ use Rattle.flexpret_top.specs.Bound.{IsBoundAnswer, IsSectionAnswer, section_fau
 use Rattle.flexpret_top.specs.Codes.{tree_refusal}
 use Rattle.flexpret_top.specs.declared.program.Program.{Program}
 use Rattle.flexpret_top.specs.Answer.{Answer, IsSaid, refused, then_by, ends}
-use Rattle.flexpret_top.specs.Answer.Answer.{Says, Missing}
 use Rattle.ask_words.specs.Commands.{ask}
 use Rattle.flexpret_top.specs.declared.status.Status.{Status}
 use Rattle.flexpret_top.specs.Status.{number_of}
 use Rattle.flexpret_top.specs.Command.{IsAnswerIn, IsAnswerTo, Said}
 use Rattle.flexpret_top.specs.Headline.{BoundsVisits, IsLongest, WritesAlone, machine_of}
-use Rattle.flexpret_top.specs.Program.{program}
-use Rattle.flexpret_top.specs.Run.{trace_of, run_answer}
+use Rattle.flexpret_top.specs.Run.{trace_of}
 
 -- over one map of files
 alone-over : TraceAlone → (asked : Option Ask) (files : FileMap) (ports : List (Option Row)) (before after : Option (List ℕ)) → Said (IsAnswerTo asked files ports) 0 before after → WritesAlone asked files ports before after

@@ -1,5 +1,5 @@
 -- What was prepared answers the command.
-use Rattle.std.proofs.Common.{refl, ◌≡◌, ℕ, ◌≤◌, ◌^◌, List, length, Option, Some, None, Result, Ok, Err, arith, ap, sym, subst, ◌∙◌}
+use Rattle.std.proofs.Common.{refl, ◌≡◌, ℕ, ◌≤◌, List, length, Option, Some, None, Result, Ok, arith, ap, sym, subst, ◌∙◌}
 use Rattle.std.specs.Prelude.{IfSome, IfErr}
 use Rattle.ask_words.specs.declared.asked.Ask.{Ask}
 use Rattle.flexpret_top.specs.Command.{IsAnswerIn}
@@ -8,8 +8,6 @@ use Rattle.flexpret_top.specs.declared.stop.Stop.{Stop}
 use Rattle.fp_io.specs.Content.{FileMap}
 use Rattle.fp_ports.specs.Rows.{Row, row_of, rows_of}
 use Rattle.std.proofs.lemmas.List.{length-map}
-use Rattle.fp_setup.specs.Settings.{Settings}
-use Rattle.fp_image.specs.declared.parts.Segment.{Segment}
 use Rattle.ask_words.specs.declared.asked.Ask.TheVariants.{Run, Dump, Asm, Bound}
 use Rattle.ask_words.specs.declared.asked.Section.{Section}
 use Rattle.flexpret_top.specs.Assembled.{asm_answer}
@@ -18,7 +16,6 @@ use Rattle.machine.specs.Feeding.{fed_all}
 use Rattle.machine.proofs.FedLemmas.{feeds}
 use Rattle.machine.specs.Meaning.{StandsFor, PortsAfter, start_beside}
 use Rattle.machine_model.specs.Seen.{seen}
-use Rattle.setup_model.specs.Start.{start}
 use Rattle.trace_print.specs.Text.{text}
 use Rattle.world_model.specs.World.{Start, events}
 use Rattle.flexpret_top.specs.declared.program.Program.{Program}

@@ -1,5 +1,5 @@
 -- What is answered where the words ask nothing.
-use Rattle.std.proofs.Common.{◌≡◌, ◌⊎◌, ℕ, List, [], Option, Some, None, inr, refl, ap, subst, sym}
+use Rattle.std.proofs.Common.{◌≡◌, ◌⊎◌, ℕ, List, [], Option, Some, None, inr, refl, subst, sym}
 use Rattle.std.specs.Prelude.{IfSome}
 use Rattle.fp_io.specs.Content.{FileMap}
 use Rattle.fp_ports.specs.Rows.{Row}

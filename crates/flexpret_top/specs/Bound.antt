@@ -1,7 +1,6 @@
 -- The bound of a section of a program.
-use Rattle.std.specs.Prelude.{◌≡◌, ◌⊎◌, ◌<◌, ◌≤◌, ◌^◌, ℕ, ◌==◌, ◌%◌, nat_le, nat_lt, not, ◌&&◌, if◌then◌else◌, Bool, Option, Some, None, Result, Ok, Err, option_map, List}
+use Rattle.std.specs.Prelude.{◌≡◌, ◌⊎◌, ◌<◌, ◌≤◌, ◌^◌, ℕ, ◌==◌, ◌%◌, nat_le, nat_lt, not, ◌&&◌, if◌then◌else◌, Bool, Option, Some, None, Result, Ok, Err, option_map}
 use Rattle.std.specs.List.{list_any}
-use Rattle.fp_io.specs.Content.{FileMap}
 use Rattle.nibble_word.specs.Nibbles.{nibbles}
 use Rattle.slot_scheduler.specs.ModeWord.{mode_of}
 use Rattle.fp_setup.specs.Settings.{Settings, size_of}
@@ -17,7 +16,6 @@ use Rattle.flexpret_top.specs.declared.program.Program.{Program}
 use Rattle.flexpret_top.specs.Codes.{tree_refusal}
 use Rattle.flexpret_top.specs.Answer.{Answer, refused}
 use Rattle.flexpret_top.specs.Answer.Answer.{Says}
-use Rattle.flexpret_top.specs.Program.{program}
 
 -- whether a slot of the register names a thread
 abbrev pub names : ℕ → ℕ → Bool

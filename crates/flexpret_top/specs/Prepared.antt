@@ -15,7 +15,6 @@ use Rattle.flexpret_top.specs.declared.ready.Ready.{Ready}
 use Rattle.flexpret_top.specs.declared.ready.Prepared.{Prepared}
 use Rattle.flexpret_top.specs.declared.ready.Prepared.TheVariants.{Trace, Dump, Image, Bound, Selfrun}
 use Rattle.selfrun.specs.Text.{tallies_text}
-use Rattle.flexpret_top.specs.Answer.{Answer}
 use Rattle.flexpret_top.specs.Answer.Answer.{Says}
 use Rattle.flexpret_top.specs.Command.{IsAnswerOf, Leaves}
 use Rattle.flexpret_top.specs.Program.{program}

@@ -1,5 +1,5 @@
 -- The trace of a thread and the dump over a setup, an image and eight ports.
-use Rattle.std.specs.Prelude.{ℕ, List, Option, Result, Ok, Err}
+use Rattle.std.specs.Prelude.{ℕ, List, Option, Result, Ok}
 use Rattle.fp_io.specs.Content.{FileMap}
 use Rattle.fp_ports.specs.Rows.{Row}
 use Rattle.machine_model.specs.Seen.{seen}

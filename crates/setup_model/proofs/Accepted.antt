@@ -1,6 +1,5 @@
 -- A register keeps the word that it accepts.
-use Rattle.std.proofs.Common.{◌≡◌, ℕ, Option, Some, None, Result, Ok, Err}
-use Rattle.slot_table.specs.declared.table.SlotTable.{SlotTable}
+use Rattle.std.proofs.Common.{◌≡◌, ℕ, Option, Some, None, Result, Ok}
 use Rattle.slot_table.specs.declared.frame.BadSlot.{BadSlot}
 use Rattle.slot_table.specs.Table as slots
 use Rattle.region_guard.specs.declared.register.BadRegion.{BadRegion}

@@ -1,5 +1,5 @@
 -- The start of the machine that a setup and an image give, beside eight ports as they are handed in.
-use Rattle.std.specs.Prelude.{ℕ, ◌+◌, ◌*◌, ◌/◌, Bool, true, false, List, [], ◌∷◌, slice_index_or, map, replicate, Option, Some, None}
+use Rattle.std.specs.Prelude.{ℕ, ◌+◌, ◌*◌, ◌/◌, Bool, true, false, List, slice_index_or, map, replicate, Option, Some, None}
 use Rattle.std.specs.List.{range_with_len}
 use Rattle.fp_image.specs.Rules.{word}
 use Rattle.fp_image.specs.declared.parts.Segment.{Segment}

@@ -1,4 +1,4 @@
-use Rattle.std.proofs.Common.{◌≡◌, List, ℕ, subst, sym}
+use Rattle.std.proofs.Common.{ℕ, subst, sym}
 use Rattle.std.specs.List.{Contains}
 use Rattle.slot_table.specs.Frame.{frame}
 use Rattle.flexpret_top.proofs.Bounds.{asked_for, named-there}

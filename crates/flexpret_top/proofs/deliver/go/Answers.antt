@@ -1,6 +1,5 @@
-use Rattle.std.proofs.Common.{◌≡◌, ◌+◌, ◌<◌, ◌≤◌, ℕ, None, arith, ap, subst, ◌∙◌}
+use Rattle.std.proofs.Common.{◌≡◌, ◌+◌, ◌<◌, None, arith, ap, ◌∙◌}
 use Rattle.pipe_model.proofs.Events.{grows}
-use Rattle.machine.specs.Meaning.{HasRun}
 use Rattle.machine.proofs.RunLemmas.{run_begins, run_on}
 use Rattle.flexpret_top.proofs.Delivering.{gone-after}
 use Rattle.flexpret_top.proofs.deliver.go.Goals as goal

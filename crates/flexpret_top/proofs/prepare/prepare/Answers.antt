@@ -1,5 +1,4 @@
-use Rattle.std.proofs.Common.{◌≡◌, ◌∙◌, ap, sym, List, ℕ}
-use Rattle.ask_words.specs.declared.asked.Ask.{Ask}
+use Rattle.std.proofs.Common.{◌∙◌, ap, sym, List, ℕ}
 use Rattle.ask_words.specs.declared.asked.Ask.TheVariants.{Asm, Bound}
 use Rattle.flexpret_top.proofs.Preparing.{stop-asm, stop-bound}
 use Rattle.flexpret_top.proofs.prepare.prepare.Goals as goal

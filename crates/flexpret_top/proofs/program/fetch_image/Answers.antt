@@ -1,4 +1,4 @@
-use Rattle.std.proofs.Common.{◌≡◌, ℕ, subst, sym}
+use Rattle.std.proofs.Common.{ℕ, subst, sym}
 use Rattle.flexpret_top.specs.Program.{image_in}
 use Rattle.flexpret_top.proofs.Cuts.{IsCut, image-cut, ok-over, stop-over}
 use Rattle.flexpret_top.proofs.program.fetch_image.Goals as goal
