@@ -3,7 +3,7 @@ ghost use Rattle.std.specs.Prelude.{◌≡◌, ◌≢◌, ℕ, [], ◌++◌, ◌
 ghost use Rattle.std.specs.Io.KnownBytes.{Appends};
 ghost use Rattle.fp_io.specs.Causes.{risen_if};
 ghost use Rattle.fp_io.specs.Content.{AppendsFront};
-ghost use Rattle.fp_io.specs.Real.{followed, has_failed};
+ghost use Rattle.fp_io.specs.Real.{followed, gathered_with, has_failed};
 
 use crate::files::{FetchFault, Files};
 use crate::sink::{PutFailed, Sink};
@@ -73,6 +73,8 @@ const GATHERED: usize = 8192;
 ///
 /// Bytes are gathered, and written many at a time: by [`OutSink::flush`], and by a `put` that finds no
 /// room for its own. The program flushes before it ends.
+///
+/// Contracts see the runtime, the bytes that are gathered, and the count of faults.
 #[derive(Drop)]
 pub struct OutSink<R> {
     rt: R,
@@ -81,20 +83,20 @@ pub struct OutSink<R> {
 }
 
 impl<R> Model for OutSink<R> {
-    ghost use Rattle.std.specs.Prelude.{ℕ};
-    ghost use Rattle.std.specs.Coded.{coded×, coded_ℕ};
+    ghost use Rattle.std.specs.Prelude.{ℕ, List};
+    ghost use Rattle.std.specs.Coded.{coded×, coded_ℕ, coded_list};
 
-    ghost Value = { R × ℕ };
+    ghost Value = { R × (List ℕ × ℕ) };
 
-    ghost coded = { coded× R.code coded_ℕ };
+    ghost coded = { coded× R.code (coded× (coded_list coded_ℕ) coded_ℕ) };
 
-    ghost view = { λ sink. (sink.rt, sink.faults) };
+    ghost view = { λ sink. (sink.rt, (sink.gathered.items, sink.faults)) };
 }
 
 impl<R: Print + Drop> OutSink<R> {
     /// The standard output of a runtime, with no fault so far.
     pub fn new(rt: R) -> OutSink<R>
-        ensures { result ≡ (rt, 0) }
+        ensures { result ≡ (rt, ([], 0)) }
     {
         OutSink {
             rt,
@@ -109,8 +111,9 @@ impl<R: Print + Drop> OutSink<R> {
     ///
     /// `PutFailed` where it could not all be written; what is left of it is gone then.
     pub fn flush(&mut self) -> Result<(), PutFailed>
-        ensures after { self.new ≡ (self.old.0, risen_if (is_err result) self.old.1) }
-        ensures counted { self.old.1 ≤ self.new.1 }
+        ensures after { self.new ≡ (self.old.0, ([], risen_if (is_err result) self.old.1.1)) }
+        ensures counted { self.old.1.1 ≤ self.new.1.1 }
+        ensures some { OnErr result (self.old.1.0 ≢ []) }
     {
         let put = write_gathered(&mut io::writer(&self.rt), &mut self.gathered);
         self.count(put)
@@ -118,8 +121,8 @@ impl<R: Print + Drop> OutSink<R> {
 
     /// Counts a fault of writing, if there was one, and hands it on.
     fn count(&mut self, put: Result<(), PutFailed>) -> Result<(), PutFailed>
-        ensures after { self.new ≡ (self.old.0, risen_if (is_err put) self.old.1) }
-        ensures counted { self.old.1 ≤ self.new.1 }
+        ensures after { self.new ≡ (self.old.0, (self.old.1.0, risen_if (is_err put) self.old.1.1)) }
+        ensures counted { self.old.1.1 ≤ self.new.1.1 }
         ensures same { result ≡ put }
     {
         if put.is_err() {
@@ -132,11 +135,12 @@ impl<R: Print + Drop> OutSink<R> {
 impl<R: Print + Drop> Sink for OutSink<R> {
     ghost taken = { λ _. None };
 
-    ghost faults = { λ sink. sink.1 };
+    ghost faults = { λ sink. sink.1.1 };
 
     fn put(&mut self, bytes: &[u8]) -> Result<(), PutFailed>
-        ensures after { self.new ≡ (self.old.0, risen_if (is_err result) self.old.1) }
-        ensures counted { self.old.1 ≤ self.new.1 }
+        ensures after { self.new ≡ (self.old.0, (gathered_with 8192 self.old.1.0 bytes.now, risen_if (is_err result) self.old.1.1)) }
+        ensures counted { self.old.1.1 ≤ self.new.1.1 }
+        ensures full { OnErr result (8192 < length self.old.1.0 + length bytes.now) }
     {
         let put = gather(&mut io::writer(&self.rt), &mut self.gathered, bytes);
         self.count(put)
@@ -192,6 +196,7 @@ fn gather<W: Write, const N: usize>(
 ) -> Result<(), PutFailed>
     ensures ok { OnOk result (Appends (followed (W.contents to.old) gathered.old.items) (followed (W.contents to.new) gathered.new.items) bytes.now) }
     ensures err { OnErr result (AppendsFront (W.contents to.old) (W.contents to.new) (gathered.old.items ++ bytes.now)) }
+    ensures gathered { gathered.new.items ≡ gathered_with N gathered.old.items bytes.now }
     ensures full { OnErr result (N < length gathered.old.items + length bytes.now) }
 {
     if gathered.try_extend_from_slice(bytes).is_ok() {
