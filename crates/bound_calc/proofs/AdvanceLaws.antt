@@ -1,12 +1,15 @@
 -- Rows and matrices a step further.
-use Rattle.std.proofs.Common.{◌≡◌, ◌≢◌, ℕ, ◌+◌, ◌<◌, ◌≤◌, ◌⊎◌, refl, arith, sym, ap, ◌∙◌, inl, inr, List, [], length, Option, Some, None, slice_index_or, slice_set, get_or-set_other, get_or-set_same, length-set}
+use Rattle.std.proofs.Common.{◌≡◌, ◌≢◌, ℕ, ◌+◌, ◌<◌, ◌≤◌, ◌⊎◌, refl, arith, min, subst, sym, ap, ◌∙◌, inl, inr, List, [], length, Option, Some, None, slice_index_or, slice_set, get_or-set_other, get_or-set_same, length-set}
 use Rattle.bound_calc.specs.declared.matrix.Matrix.{Matrix}
 use Rattle.bound_calc.specs.declared.hop.Hop.{Hop}
-use Rattle.bound_calc.specs.Best.{Covers, Among, IsBest, Either, Then, In}
+use Rattle.bound_calc.specs.Best.{Covers, Among, IsBest, Either, Then, In, ceiling}
 use Rattle.bound_calc.specs.Hops.{Hops, IsAdvanced, IsFarthest, IsLargest, IsLeft, raised}
 use Rattle.bound_calc.specs.Matrices.{cell, entry, larger_of}
 use Rattle.bound_calc.proofs.Embed.{is_or_not}
-use Rattle.bound_calc.proofs.Entries.{entry-range, entry-in, larger-left, larger-right, larger-from}
+use Rattle.bound_calc.proofs.Entries.{capped, min-under, entry-range, entry-in, larger-left, larger-right, larger-from}
+
+≤-step : (a b c : ℕ) → a ≤ b → b ≤ c → a ≤ c
+≤-step a b c h h' = omega arith
 
 pub advance-start : (row : List (Option ℕ)) (hops : List (Option Hop)) (old : List (Option ℕ)) → IsAdvanced row hops 0 old old
 advance-start row hops old = record {
@@ -25,34 +28,34 @@ advance-same row hops n old mid none a = record {
   from = λ q e is. elim (a.from q e is) [ inl o ↦ inl o | inr y ↦ inr (y.0, y.1, y.2, omega (arith, y.3), y.4, y.5, y.6) ];
 }
   where
-    there : (r x d q : ℕ) → slice_index_or row r None ≡ Some x → Hops hops r d q → (r < n) ⊎ (r ≡ n) → (e : ℕ) × (slice_index_or mid q None ≡ Some e) × (x + d ≤ e)
+    there : (r x d q : ℕ) → slice_index_or row r None ≡ Some x → Hops hops r d q → (r < n) ⊎ (r ≡ n) → (e : ℕ) × (slice_index_or mid q None ≡ Some e) × (min (x + d) ceiling ≤ e)
     there r x d q is h (inl below) = a.there r x d q below is h
     there r x d q is h (inr same) = absurd (none x d q (ap (λ k. slice_index_or row k None) (sym same) ∙ is) (ap (λ k. slice_index_or hops k None) (sym same) ∙ h))
 
 -- one sum taken in
 advance-one : (row : List (Option ℕ)) (hops : List (Option Hop)) (n x : ℕ) (h : Hop) (old mid : List (Option ℕ)) → slice_index_or row n None ≡ Some x → slice_index_or hops n None ≡ Some h → h.place < length mid → IsAdvanced row hops n old mid →
-    IsAdvanced row hops (n + 1) old (slice_set mid h.place (larger_of (slice_index_or mid h.place None) (Some (x + h.cost))))
+    IsAdvanced row hops (n + 1) old (slice_set mid h.place (larger_of (slice_index_or mid h.place None) (Some (min (x + h.cost) ceiling))))
 advance-one row hops n x h old mid is hop place a = record {
-  count = length-set mid h.place (larger_of (slice_index_or mid h.place None) (Some (x + h.cost))) ∙ a.count;
+  count = length-set mid h.place (larger_of (slice_index_or mid h.place None) (Some (min (x + h.cost) ceiling))) ∙ a.count;
   kept = λ q c o. let m = a.kept q c o in more q c m.0 m.2 m.1 (is_or_not q h.place);
   there = λ r y d q lt z hops_q. there r y d q z hops_q (let w : (r < n) ⊎ (r ≡ n) = grind arith in w);
   from = λ q e z. from q e z (is_or_not q h.place);
 }
   where
     new : List (Option ℕ)
-    new = slice_set mid h.place (larger_of (slice_index_or mid h.place None) (Some (x + h.cost)))
+    new = slice_set mid h.place (larger_of (slice_index_or mid h.place None) (Some (min (x + h.cost) ceiling)))
 
-    at : slice_index_or new h.place None ≡ larger_of (slice_index_or mid h.place None) (Some (x + h.cost))
-    at = get_or-set_same mid h.place (larger_of (slice_index_or mid h.place None) (Some (x + h.cost))) None place
+    at : slice_index_or new h.place None ≡ larger_of (slice_index_or mid h.place None) (Some (min (x + h.cost) ceiling))
+    at = get_or-set_same mid h.place (larger_of (slice_index_or mid h.place None) (Some (min (x + h.cost) ceiling))) None place
 
     more : (q c m : ℕ) → c ≤ m → slice_index_or mid q None ≡ Some m → (q ≡ h.place) ⊎ (q ≢ h.place) → (e : ℕ) × (slice_index_or new q None ≡ Some e) × (c ≤ e)
     more q c m le is_mid (inl same) =
-        let l = larger-left (slice_index_or mid h.place None) (Some (x + h.cost)) m (ap (λ k. slice_index_or mid k None) (sym same) ∙ is_mid) in
+        let l = larger-left (slice_index_or mid h.place None) (Some (min (x + h.cost) ceiling)) m (ap (λ k. slice_index_or mid k None) (sym same) ∙ is_mid) in
         (l.0, (ap (λ k. slice_index_or new k None) same ∙ at) ∙ l.1, omega (arith, l.2))
-    more q c m le is_mid (inr other) = (m, get_or-set_other mid h.place q (larger_of (slice_index_or mid h.place None) (Some (x + h.cost))) None other ∙ is_mid, le)
+    more q c m le is_mid (inr other) = (m, get_or-set_other mid h.place q (larger_of (slice_index_or mid h.place None) (Some (min (x + h.cost) ceiling))) None other ∙ is_mid, le)
 
-    there : (r y d q : ℕ) → slice_index_or row r None ≡ Some y → Hops hops r d q → (r < n) ⊎ (r ≡ n) → (e : ℕ) × (slice_index_or new q None ≡ Some e) × (y + d ≤ e)
-    there r y d q z hops_q (inl below) = let m = a.there r y d q below z hops_q in more q (y + d) m.0 m.2 m.1 (is_or_not q h.place)
+    there : (r y d q : ℕ) → slice_index_or row r None ≡ Some y → Hops hops r d q → (r < n) ⊎ (r ≡ n) → (e : ℕ) × (slice_index_or new q None ≡ Some e) × (min (y + d) ceiling ≤ e)
+    there r y d q z hops_q (inl below) = let m = a.there r y d q below z hops_q in more q (min (y + d) ceiling) m.0 m.2 m.1 (is_or_not q h.place)
     there r y d q z hops_q (inr same) =
         let sums : Some x ≡ Some y = sym is ∙ (ap (λ k. slice_index_or row k None) (sym same) ∙ z) in
         let sum : x ≡ y = cc in
@@ -60,16 +63,16 @@ advance-one row hops n x h old mid is hop place a = record {
         let step : h ≡ record { cost = d; place = q } = cc in
         let cost : h.cost ≡ d = ap (λ (k : Hop). k.cost) step in
         let to : h.place ≡ q = ap (λ (k : Hop). k.place) step in
-        let l = larger-right (slice_index_or mid h.place None) (Some (x + h.cost)) (x + h.cost) refl in
-        (l.0, (ap (λ k. slice_index_or new k None) (sym to) ∙ at) ∙ l.1, omega (arith, l.2))
+        let l = larger-right (slice_index_or mid h.place None) (Some (min (x + h.cost) ceiling)) (min (x + h.cost) ceiling) refl in
+        (l.0, (ap (λ k. slice_index_or new k None) (sym to) ∙ at) ∙ l.1, subst (λ n. min n ceiling ≤ l.0) (let both : x + h.cost ≡ y + d = omega arith in both) l.2)
 
-    from : (q e : ℕ) → slice_index_or new q None ≡ Some e → (q ≡ h.place) ⊎ (q ≢ h.place) → (slice_index_or old q None ≡ Some e) ⊎ ((r : ℕ) × (x : ℕ) × (d : ℕ) × (r < n + 1) × (slice_index_or row r None ≡ Some x) × Hops hops r d q × (e ≡ x + d))
-    from q e z (inl same) = came (larger-from (slice_index_or mid h.place None) (Some (x + h.cost)) e (sym at ∙ (ap (λ k. slice_index_or new k None) (sym same) ∙ z)))
+    from : (q e : ℕ) → slice_index_or new q None ≡ Some e → (q ≡ h.place) ⊎ (q ≢ h.place) → (slice_index_or old q None ≡ Some e) ⊎ ((r : ℕ) × (x : ℕ) × (d : ℕ) × (r < n + 1) × (slice_index_or row r None ≡ Some x) × Hops hops r d q × (e ≡ min (x + d) ceiling))
+    from q e z (inl same) = came (larger-from (slice_index_or mid h.place None) (Some (min (x + h.cost) ceiling)) e (sym at ∙ (ap (λ k. slice_index_or new k None) (sym same) ∙ z)))
       where
-        came : (slice_index_or mid h.place None ≡ Some e) ⊎ (Some (x + h.cost) ≡ Some e) → (slice_index_or old q None ≡ Some e) ⊎ ((r : ℕ) × (x : ℕ) × (d : ℕ) × (r < n + 1) × (slice_index_or row r None ≡ Some x) × Hops hops r d q × (e ≡ x + d))
+        came : (slice_index_or mid h.place None ≡ Some e) ⊎ (Some (min (x + h.cost) ceiling) ≡ Some e) → (slice_index_or old q None ≡ Some e) ⊎ ((r : ℕ) × (x : ℕ) × (d : ℕ) × (r < n + 1) × (slice_index_or row r None ≡ Some x) × Hops hops r d q × (e ≡ min (x + d) ceiling))
         came (inl m) = elim (a.from q e (ap (λ k. slice_index_or mid k None) same ∙ m)) [ inl o ↦ inl o | inr y ↦ inr (y.0, y.1, y.2, omega (arith, y.3), y.4, y.5, y.6) ]
-        came (inr s) = inr (n, x, h.cost, omega arith, is, hop ∙ (λ i. Some (record { cost = h.cost; place = sym same i })), (let k : x + h.cost ≡ e = cc in sym k))
-    from q e z (inr other) = elim (a.from q e (sym (get_or-set_other mid h.place q (larger_of (slice_index_or mid h.place None) (Some (x + h.cost))) None other) ∙ z)) [ inl o ↦ inl o | inr y ↦ inr (y.0, y.1, y.2, omega (arith, y.3), y.4, y.5, y.6) ]
+        came (inr s) = inr (n, x, h.cost, omega arith, is, hop ∙ (λ i. Some (record { cost = h.cost; place = sym same i })), (let k : min (x + h.cost) ceiling ≡ e = cc in sym k))
+    from q e z (inr other) = elim (a.from q e (sym (get_or-set_other mid h.place q (larger_of (slice_index_or mid h.place None) (Some (min (x + h.cost) ceiling))) None other) ∙ z)) [ inl o ↦ inl o | inr y ↦ inr (y.0, y.1, y.2, omega (arith, y.3), y.4, y.5, y.6) ]
 
 pub advance-more : (row : List (Option ℕ)) (hops : List (Option Hop)) (n : ℕ) (old mid : List (Option ℕ)) → ((p d q : ℕ) → Hops hops p d q → q < 8) → length mid ≡ 8 → IsAdvanced row hops n old mid → IsAdvanced row hops (n + 1) old (raised (slice_index_or row n None) (slice_index_or hops n None) mid)
 advance-more row hops n old mid places count a = go (slice_index_or row n None) (slice_index_or hops n None) refl refl
@@ -90,47 +93,47 @@ best-advanced here onto new hops places rows = (covers, among)
     covers p c q (inl e) =
         let r = entry-range onto p q c e in
         let k = (rows p r.0).kept q c (sym (entry-in onto p q r.0 r.1) ∙ e) in
-        (k.0, entry-in new p q r.0 r.1 ∙ k.1, k.2)
+        (k.0, entry-in new p q r.0 r.1 ∙ k.1, (let le = k.2 in min-under c k.0 ceiling le))
     covers p c q (inr t) =
         let r = entry-range here p t.at t.one t.first in
         let lt : q < 8 = (places t.at t.two q t.second).1 in
         let k = (rows p r.0).there t.at t.one t.two q r.1 (sym (entry-in here p t.at r.0 r.1) ∙ t.first) t.second in
-        (k.0, entry-in new p q r.0 lt ∙ k.1, omega (arith, k.2, t.cost))
+        (k.0, entry-in new p q r.0 lt ∙ k.1, subst (λ n. min n ceiling ≤ k.0) (sym t.cost) k.2)
 
     among : Among (entry new) (Either (In (entry onto)) (Then (In (entry here)) (Hops hops)))
     among p c q e =
         let r = entry-range new p q c e in
         elim ((rows p r.0).from q c (sym (entry-in new p q r.0 r.1) ∙ e)) [
-          | inl o ↦ inl (entry-in onto p q r.0 r.1 ∙ o)
-          | inr y ↦ inr (record { at = y.0; one = y.1; two = y.2; first = entry-in here p y.0 r.0 y.3 ∙ y.4; second = y.5; cost = y.6 })
+          | inl o ↦ (c, inl (entry-in onto p q r.0 r.1 ∙ o), refl)
+          | inr y ↦ (y.1 + y.2, inr (record { at = y.0; one = y.1; two = y.2; first = entry-in here p y.0 r.0 y.3 ∙ y.4; second = y.5; cost = refl }), capped c (y.1 + y.2) ceiling y.6)
         ]
 
 -- the farthest of one sum more
 pub farthest-more : (row : List (Option ℕ)) (hops : List (Option Hop)) (n old mid new : ℕ) → IsFarthest row hops n old mid → mid ≤ new →
-    ((x : ℕ) (h : Hop) → slice_index_or row n None ≡ Some x → slice_index_or hops n None ≡ Some h → x + h.cost ≤ new) →
-    ((new ≡ mid) ⊎ ((x : ℕ) × (h : Hop) × (slice_index_or row n None ≡ Some x) × (slice_index_or hops n None ≡ Some h) × (new ≡ x + h.cost))) → IsFarthest row hops (n + 1) old new
+    ((x : ℕ) (h : Hop) → slice_index_or row n None ≡ Some x → slice_index_or hops n None ≡ Some h → min (x + h.cost) ceiling ≤ new) →
+    ((new ≡ mid) ⊎ ((x : ℕ) × (h : Hop) × (slice_index_or row n None ≡ Some x) × (slice_index_or hops n None ≡ Some h) × (new ≡ min (x + h.cost) ceiling))) → IsFarthest row hops (n + 1) old new
 farthest-more row hops n old mid new f stays upper met = record {
   stays = omega (arith, f.stays);
   upper = λ r x d q lt is h. up r x d q is h (let z : (r < n) ⊎ (r ≡ n) = grind arith in z);
   met = found met;
 }
   where
-    up : (r x d q : ℕ) → slice_index_or row r None ≡ Some x → Hops hops r d q → (r < n) ⊎ (r ≡ n) → x + d ≤ new
-    up r x d q is h (inl below) = omega (arith, f.upper r x d q below is h)
+    up : (r x d q : ℕ) → slice_index_or row r None ≡ Some x → Hops hops r d q → (r < n) ⊎ (r ≡ n) → min (x + d) ceiling ≤ new
+    up r x d q is h (inl below) = ≤-step (min (x + d) ceiling) mid new (f.upper r x d q below is h) stays
     up r x d q is h (inr same) = upper x (record { cost = d; place = q }) (ap (λ k. slice_index_or row k None) (sym same) ∙ is) (ap (λ k. slice_index_or hops k None) (sym same) ∙ h)
 
     Met : ℕ → Type 0
-    Met c = (r : ℕ) × (x : ℕ) × (d : ℕ) × (q : ℕ) × (r < n + 1) × (slice_index_or row r None ≡ Some x) × Hops hops r d q × (c ≡ x + d)
+    Met c = (r : ℕ) × (x : ℕ) × (d : ℕ) × (q : ℕ) × (r < n + 1) × (slice_index_or row r None ≡ Some x) × Hops hops r d q × (c ≡ min (x + d) ceiling)
 
-    found : ((new ≡ mid) ⊎ ((x : ℕ) × (h : Hop) × (slice_index_or row n None ≡ Some x) × (slice_index_or hops n None ≡ Some h) × (new ≡ x + h.cost))) → (new ≡ old) ⊎ Met new
+    found : ((new ≡ mid) ⊎ ((x : ℕ) × (h : Hop) × (slice_index_or row n None ≡ Some x) × (slice_index_or hops n None ≡ Some h) × (new ≡ min (x + h.cost) ceiling))) → (new ≡ old) ⊎ Met new
     found (inl same) = elim f.met [ inl e ↦ inl (same ∙ e) | inr y ↦ inr (y.0, y.1, y.2, y.3, omega (arith, y.4), y.5, y.6, same ∙ y.7) ]
     found (inr (x, h, is, at, e)) = inr (n, x, h.cost, h.place, omega arith, is, at, e)
 
 -- over the rows below n
 pub record IsLeftBelow (here : Matrix) (hops : List (Option Hop)) (n old new : ℕ) : Type 0 where
   pub stays : old ≤ new
-  pub upper : (p r x d q : ℕ) → p < n → r < 8 → cell here p r ≡ Some x → Hops hops r d q → x + d ≤ new
-  pub met : (new ≡ old) ⊎ ((p : ℕ) × (r : ℕ) × (x : ℕ) × (d : ℕ) × (q : ℕ) × (p < n) × (r < 8) × (cell here p r ≡ Some x) × Hops hops r d q × (new ≡ x + d))
+  pub upper : (p r x d q : ℕ) → p < n → r < 8 → cell here p r ≡ Some x → Hops hops r d q → min (x + d) ceiling ≤ new
+  pub met : (new ≡ old) ⊎ ((p : ℕ) × (r : ℕ) × (x : ℕ) × (d : ℕ) × (q : ℕ) × (p < n) × (r < 8) × (cell here p r ≡ Some x) × Hops hops r d q × (new ≡ min (x + d) ceiling))
 
 pub left-start : (here : Matrix) (hops : List (Option Hop)) (old : ℕ) → IsLeftBelow here hops 0 old old
 left-start here hops old = record { stays = omega arith; upper = λ p r x d q lt a is h. absurd (omega arith); met = inl refl }
@@ -145,15 +148,15 @@ left-more here hops n old mid new l f = record {
   ];
 }
   where
-    up : (p r x d q : ℕ) → r < 8 → cell here p r ≡ Some x → Hops hops r d q → (p < n) ⊎ (p ≡ n) → x + d ≤ new
-    up p r x d q a is h (inl below) = omega (arith, l.upper p r x d q below a is h, f.stays)
+    up : (p r x d q : ℕ) → r < 8 → cell here p r ≡ Some x → Hops hops r d q → (p < n) ⊎ (p ≡ n) → min (x + d) ceiling ≤ new
+    up p r x d q a is h (inl below) = ≤-step (min (x + d) ceiling) mid new (l.upper p r x d q below a is h) f.stays
     up p r x d q a is h (inr same) = f.upper r x d q a (ap (λ k. cell here k r) (sym same) ∙ is) h
 
 pub left-all : (here : Matrix) (hops : List (Option Hop)) (n old new : ℕ) → 8 ≤ n → IsLeftBelow here hops n old new → n ≤ 8 → IsLeft here hops old new
 left-all here hops n old new all l most = record {
   stays = l.stays;
-  upper = λ p c q t. let r = entry-range here p t.at t.one t.first in omega (arith, l.upper p t.at t.one t.two q (omega (arith, r.0)) r.1 (sym (entry-in here p t.at r.0 r.1) ∙ t.first) t.second, t.cost);
-  met = elim l.met [ inl e ↦ inl e | inr y ↦ inr (y.0, y.4, record { at = y.1; one = y.2; two = y.3; first = entry-in here y.0 y.1 (omega (arith, y.5)) y.6 ∙ y.7; second = y.8; cost = y.9 }) ];
+  upper = λ p c q t. let r = entry-range here p t.at t.one t.first in subst (λ n. min n ceiling ≤ new) (sym t.cost) (l.upper p t.at t.one t.two q (omega (arith, r.0)) r.1 (sym (entry-in here p t.at r.0 r.1) ∙ t.first) t.second);
+  met = elim l.met [ inl e ↦ inl e | inr y ↦ inr (y.0, y.2 + y.3, y.4, record { at = y.1; one = y.2; two = y.3; first = entry-in here y.0 y.1 (omega (arith, y.5)) y.6 ∙ y.7; second = y.8; cost = refl }, y.9) ];
 }
 
 -- the largest entry of the rows below n

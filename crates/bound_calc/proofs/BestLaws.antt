@@ -1,57 +1,70 @@
 -- Matrices of largest costs: one after the other, either, and powers.
-use Rattle.std.proofs.Common.{◌≡◌, ℕ, zero, suc, ◌+◌, ◌≤◌, refl, arith, inl, inr, subst, Some}
-use Rattle.bound_calc.specs.Best.{Among, Costs, Covers, Either, Entries, In, IsBest, Power, Stays, Then}
+use Rattle.std.proofs.Common.{◌≡◌, ℕ, zero, suc, ◌+◌, ◌≤◌, ◌∙◌, min, refl, arith, inl, inr, subst, Some}
+use Rattle.bound_calc.specs.Best.{Costs, Covers, Either, Entries, In, IsBest, Power, Stays, Then, ceiling}
 
 -- sets that have the same elements
 abbrev pub Within : Costs → Costs → Type 0
 Within f g = (p c q : ℕ) → f p c q → g p c q
 
 pub best-same : {m : Entries} {f g : Costs} → Within f g → Within g f → IsBest m f → IsBest m g
-best-same fg gf b = ((λ p c q x. b.0 p c q (gf p c q x)), (λ p c q e. fg p c q (b.1 p c q e)))
+best-same fg gf b = ((λ p c q x. b.0 p c q (gf p c q x)), (λ p e q is. let z = b.1 p e q is in (z.0, fg p z.0 q z.1, z.2)))
+
+-- sums of what is told apart up to n
+sum-covers : (a b c one two e n : ℕ) → min a n ≤ one → min b n ≤ two → c ≡ a + b → min (one + two) n ≤ e → min c n ≤ e
+sum-covers a b c one two e n h1 h2 is h = omega arith
+
+sum-among : (a b c one two e n : ℕ) → min one n ≡ min a n → min two n ≡ min b n → c ≡ one + two → min e n ≡ min c n → min e n ≡ min (a + b) n
+sum-among a b c one two e n h1 h2 is h = omega arith
+
+once-covers : (c e s n : ℕ) → min c n ≤ e → min e n ≤ s → min c n ≤ s
+once-covers c e s n h h' = omega arith
 
 pub best-then : {a b c : Entries} {f g : Costs} → IsBest a f → IsBest b g → IsBest c (Then (In a) (In b)) → IsBest c (Then f g)
-best-then {a} {b} {c} {f} {g} x y z = (covers, among)
+best-then {a} {b} {c} {f} {g} x y z = (covers, λ p e q is. let t = z.1 p e q is in among p e q t.0 t.1 t.2)
   where
     covers : Covers c (Then f g)
     covers p n q t =
         let one = x.0 p t.one t.at t.first in
         let two = y.0 t.at t.two q t.second in
         let sum = z.0 p (one.0 + two.0) q (record { at = t.at; one = one.0; two = two.0; first = one.1; second = two.1; cost = refl }) in
-        (sum.0, sum.1, omega (arith, one.2, two.2, sum.2, t.cost))
+        (sum.0, sum.1, sum-covers t.one t.two n one.0 two.0 sum.0 ceiling one.2 two.2 t.cost sum.2)
 
-    among : Among c (Then f g)
-    among p n q e =
-        let t = z.1 p n q e in
-        record { at = t.at; one = t.one; two = t.two; first = x.1 p t.one t.at t.first; second = y.1 t.at t.two q t.second; cost = t.cost }
+    among : (p e q d : ℕ) → Then (In a) (In b) p d q → min e ceiling ≡ min d ceiling → (n : ℕ) × Then f g p n q × (min e ceiling ≡ min n ceiling)
+    among p e q d t is =
+        let one = x.1 p t.one t.at t.first in
+        let two = y.1 t.at t.two q t.second in
+        (one.0 + two.0, record { at = t.at; one = one.0; two = two.0; first = one.1; second = two.1; cost = refl }, sum-among one.0 two.0 d t.one t.two e ceiling one.2 two.2 t.cost is)
 
 pub best-either : {a b c : Entries} {f g : Costs} → IsBest a f → IsBest b g → IsBest c (Either (In a) (In b)) → IsBest c (Either f g)
-best-either {a} {b} {c} {f} {g} x y z = (covers, among)
+best-either {a} {b} {c} {f} {g} x y z = (covers, λ p e q is. let t = z.1 p e q is in among p e q t.0 t.1 t.2)
   where
-    over : (p n q : ℕ) → (e : ℕ) → n ≤ e → (s : ℕ) × (c p q ≡ Some s) × (e ≤ s) → (s : ℕ) × (c p q ≡ Some s) × (n ≤ s)
-    over p n q e h s = (s.0, s.1, omega (arith, s.2))
+    over : (p n q : ℕ) (e : ℕ) → min n ceiling ≤ e → (s : ℕ) × (c p q ≡ Some s) × (min e ceiling ≤ s) → (s : ℕ) × (c p q ≡ Some s) × (min n ceiling ≤ s)
+    over p n q e h s = (s.0, s.1, once-covers n e s.0 ceiling h s.2)
 
     covers : Covers c (Either f g)
     covers p n q (inl t) = let one = x.0 p n q t in over p n q one.0 one.2 (z.0 p one.0 q (inl one.1))
     covers p n q (inr t) = let two = y.0 p n q t in over p n q two.0 two.2 (z.0 p two.0 q (inr two.1))
 
-    among : Among c (Either f g)
-    among p n q e = elim (z.1 p n q e) [ inl t ↦ inl (x.1 p n q t) | inr t ↦ inr (y.1 p n q t) ]
+    among : (p e q d : ℕ) → Either (In a) (In b) p d q → min e ceiling ≡ min d ceiling → (n : ℕ) × Either f g p n q × (min e ceiling ≡ min n ceiling)
+    among p e q d (inl t) is = let one = x.1 p d q t in (one.0, inl one.1, is ∙ one.2)
+    among p e q d (inr t) is = let two = y.1 p d q t in (two.0, inr two.1, is ∙ two.2)
 
 -- the larger of one matrix, and of another with something after it
 pub best-either-then : {a h c : Entries} {f g k : Costs} → IsBest a f → IsBest h g → IsBest c (Either (In a) (Then (In h) k)) → IsBest c (Either f (Then g k))
-best-either-then {a} {h} {c} {f} {g} {k} x y z = (covers, among)
+best-either-then {a} {h} {c} {f} {g} {k} x y z = (covers, λ p e q is. let t = z.1 p e q is in among p e q t.0 t.1 t.2)
   where
-    over : (p n q e : ℕ) → n ≤ e → (s : ℕ) × (c p q ≡ Some s) × (e ≤ s) → (s : ℕ) × (c p q ≡ Some s) × (n ≤ s)
-    over p n q e le s = (s.0, s.1, omega (arith, s.2))
-
     covers : Covers c (Either f (Then g k))
-    covers p n q (inl t) = let one = x.0 p n q t in over p n q one.0 one.2 (z.0 p one.0 q (inl one.1))
+    covers p n q (inl t) = let one = x.0 p n q t in let s = z.0 p one.0 q (inl one.1) in (s.0, s.1, once-covers n one.0 s.0 ceiling one.2 s.2)
     covers p n q (inr t) =
         let one = y.0 p t.one t.at t.first in
-        over p n q (one.0 + t.two) (omega (arith, one.2, t.cost)) (z.0 p (one.0 + t.two) q (inr (record { at = t.at; one = one.0; two = t.two; first = one.1; second = t.second; cost = refl })))
+        let s = z.0 p (one.0 + t.two) q (inr (record { at = t.at; one = one.0; two = t.two; first = one.1; second = t.second; cost = refl })) in
+        (s.0, s.1, sum-covers t.one t.two n one.0 t.two s.0 ceiling one.2 (omega arith) t.cost s.2)
 
-    among : Among c (Either f (Then g k))
-    among p n q e = elim (z.1 p n q e) [ inl t ↦ inl (x.1 p n q t) | inr t ↦ inr (record { at = t.at; one = t.one; two = t.two; first = y.1 p t.one t.at t.first; second = t.second; cost = t.cost }) ]
+    among : (p e q d : ℕ) → Either (In a) (Then (In h) k) p d q → min e ceiling ≡ min d ceiling → (n : ℕ) × Either f (Then g k) p n q × (min e ceiling ≡ min n ceiling)
+    among p e q d (inl t) is = let one = x.1 p d q t in (one.0, inl one.1, is ∙ one.2)
+    among p e q d (inr t) is =
+        let one = y.1 p t.one t.at t.first in
+        (one.0 + t.two, inr (record { at = t.at; one = one.0; two = t.two; first = one.1; second = t.second; cost = refl }), sum-among one.0 t.two d t.one t.two e ceiling one.2 refl t.cost is)
 
 -- a set that ends at own positions
 abbrev pub Lands : (ℕ → Type 0) → Costs → Type 0

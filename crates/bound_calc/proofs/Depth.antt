@@ -11,7 +11,7 @@ use Rattle.bound_calc.proofs.Outermost.{cons-cases, outer-body, outer-whole}
 use Rattle.bound_calc.proofs.Sections.{net-nested, whole-part}
 use Rattle.bound_calc.specs.Context.{body}
 use Rattle.bound_calc.specs.Limit.{Shallow, room}
-use Rattle.bound_calc.specs.Section.{IsAccepted, IsModest, net, whole}
+use Rattle.bound_calc.specs.Section.{IsAccepted, IsModest, field, net, whole}
 use Rattle.bound_calc.specs.Ways.{Reaches, Round, Rounds}
 use Rattle.fp_setup.specs.declared.loop_list.LoopSetup.{LoopSetup}
 use Rattle.region_tree.specs.Graph.{Inside}
@@ -71,11 +71,11 @@ not-outside loops j known =
     zeros [] = refl
     zeros (x ∷ xs) = omega (arith, zeros xs)
 
-pub shallow-body : (x : Course) (h : ℕ) (j : LoopSetup) → IsAccepted x.graph → ((i : LoopSetup) → Contains x.graph.loops i → depth x.graph.loops i ≤ 4) → Contains x.graph.loops j → 4 ≤ depth x.graph.loops j + h → Shallow h (net x) (body (net x) j)
+pub shallow-body : (x : Course) (h : ℕ) (j : LoopSetup) → IsAccepted x.graph → ((i : LoopSetup) → Contains x.graph.loops i → depth x.graph.loops i ≤ 4) → Contains x.graph.loops j → 4 ≤ depth x.graph.loops j + h → Shallow h (net (field x)) (body (net (field x)) j)
 shallow-body x zero j a few known deep = λ i inner. let z = deeper x.graph.loops j i inner.0 inner.1 (a.ordered i inner.0).1 in let w = few i inner.0 in absurd (omega arith)
 shallow-body x (suc h) j a few known deep = λ i inner. let z = deeper x.graph.loops j i inner.0 inner.1 (a.ordered i inner.0).1 in shallow-body x h i a few inner.0 (omega arith)
 
-pub shallow-whole : (x : Course) → IsAccepted x.graph → ((i : LoopSetup) → Contains x.graph.loops i → depth x.graph.loops i ≤ 4) → Shallow 4 (net x) (whole x)
+pub shallow-whole : (x : Course) → IsAccepted x.graph → ((i : LoopSetup) → Contains x.graph.loops i → depth x.graph.loops i ≤ 4) → Shallow 4 (net (field x)) (whole (field x))
 shallow-whole x a few = λ j known. shallow-body x 3 j a few known (let z = not-outside x.graph.loops j known in omega arith)
 
 -- the longest step
@@ -91,32 +91,32 @@ step-short s lag p d q small len t = go (let z : (d ≤ 10) ⊎ (lag + length s.
         let w = t.own.within in
         absurd (t.first (d - length s.frame) (omega arith) (omega arith) own)
 
-net-small : (x : Course) → IsModest x → IsSmall (net x) 1048576
+net-small : (x : Course) → IsModest x → IsSmall (net (field x)) 1048576
 net-small x m = record {
   steps = λ {u} {p} {d} {v} {q} arc. step-short x.positions arc.lag p d q (m.lags u (record { to = v; lag = arc.lag }) arc.edge) m.frame arc.move;
   bounds = m.bounds;
   outer = λ j h v. outer-body x j v;
 }
 
-pub limit-whole : (x : Course) → IsAccepted x.graph → IsModest x → (p c q v : ℕ) → Reaches (net x) (whole x) v p c q → v < x.graph.to → c < 2 ^ 110
+pub limit-whole : (x : Course) → IsAccepted x.graph → IsModest x → (p c q v : ℕ) → Reaches (net (field x)) (whole (field x)) v p c q → v < x.graph.to → c < 2 ^ 110
 limit-whole x a m p c q v r lt =
-    let z : c + 10 ≤ 10 * (room 1048576 4 * (x.graph.to - x.graph.from)) = limit 1048576 4 (whole x) (net-nested x a) (net-small x m) (whole-part x a) (outer-whole x) (shallow-whole x a m.depths) p c q v r (omega (arith, m.order)) (x.graph.to - x.graph.from) (omega (arith, m.order)) in
+    let z : c + 10 ≤ 10 * (room 1048576 4 * (x.graph.to - x.graph.from)) = limit 1048576 4 (whole (field x)) (net-nested x a) (net-small x m) (whole-part x a) (outer-whole x) (shallow-whole x a m.depths) p c q v r (omega (arith, m.order)) (x.graph.to - x.graph.from) (omega (arith, m.order)) in
     omega (arith, m.end)
 
-limit-part : (x : Course) (j : LoopSetup) → IsAccepted x.graph → IsModest x → Contains x.graph.loops j → (p c q v : ℕ) → Reaches (net x) (body (net x) j) v p c q → v ≤ j.last → c + 10 ≤ 10 * (room 1048576 3 * ((j.last + 1) - j.head))
+limit-part : (x : Course) (j : LoopSetup) → IsAccepted x.graph → IsModest x → Contains x.graph.loops j → (p c q v : ℕ) → Reaches (net (field x)) (body (net (field x)) j) v p c q → v ≤ j.last → c + 10 ≤ 10 * (room 1048576 3 * ((j.last + 1) - j.head))
 limit-part x j a m known p c q v r le =
     let o = a.ordered j known in
-    limit 1048576 3 (body (net x) j) (net-nested x a) (net-small x m) (body-part (net-nested x a) j known) (outer-body x j) (shallow-body x 3 j a m.depths known (let z = not-outside x.graph.loops j known in omega arith)) p c q v r le ((j.last + 1) - j.head) (omega arith)
+    limit 1048576 3 (body (net (field x)) j) (net-nested x a) (net-small x m) (body-part (net-nested x a) j known) (outer-body x j) (shallow-body x 3 j a m.depths known (let z = not-outside x.graph.loops j known in omega arith)) p c q v r le ((j.last + 1) - j.head) (omega arith)
 
-pub limit-body : (x : Course) (j : LoopSetup) → IsAccepted x.graph → IsModest x → Contains x.graph.loops j → (p c q v : ℕ) → Reaches (net x) (body (net x) j) v p c q → v ≤ j.last → c < 2 ^ 110
+pub limit-body : (x : Course) (j : LoopSetup) → IsAccepted x.graph → IsModest x → Contains x.graph.loops j → (p c q v : ℕ) → Reaches (net (field x)) (body (net (field x)) j) v p c q → v ≤ j.last → c < 2 ^ 110
 limit-body x j a m known p c q v r le = let z = limit-part x j a m known p c q v r le in let o = a.ordered j known in omega (arith, m.end)
 
-pub limit-rounds : (x : Course) (j : LoopSetup) → IsAccepted x.graph → IsModest x → Contains x.graph.loops j → (n : ℕ) → n ≤ j.limit → (p c q : ℕ) → Rounds (net x) j n p c q → c < 2 ^ 110
+pub limit-rounds : (x : Course) (j : LoopSetup) → IsAccepted x.graph → IsModest x → Contains x.graph.loops j → (n : ℕ) → n ≤ j.limit → (p c q : ℕ) → Rounds (net (field x)) j n p c q → c < 2 ^ 110
 limit-rounds x j a m known n le p c q r =
     let o = a.ordered j known in
     let size : (j.last + 1) - j.head ≤ 65536 = omega (arith, m.end) in
     let b : j.limit ≤ 1048576 = m.bounds j known in
-    let z : c ≤ n * (10 * (room 1048576 3 * ((j.last + 1) - j.head))) = rounds_cost (IsOwn x.positions) (Round (net x) j) (10 * (room 1048576 3 * ((j.last + 1) - j.head)))
+    let z : c ≤ n * (10 * (room 1048576 3 * ((j.last + 1) - j.head))) = rounds_cost (IsOwn x.positions) (Round (net (field x)) j) (10 * (room 1048576 3 * ((j.last + 1) - j.head)))
     (λ p c q w. let y = limit-part x j a m known p w.one w.at w.from w.walk w.held.1 in let d : w.two ≤ 10 = (net-small x m).steps w.arc in omega (arith, w.cost)) n p c q r in
     let k : n * (10 * (room 1048576 3 * ((j.last + 1) - j.head))) ≤ 1048576 * (10 * (room 1048576 3 * ((j.last + 1) - j.head))) = mul-le-mul_right (10 * (room 1048576 3 * ((j.last + 1) - j.head))) (omega arith) in
     omega arith

@@ -1,8 +1,8 @@
 -- From cells to the best of a set.
-use Rattle.std.proofs.Common.{◌≡◌, ℕ, zero, suc, ◌+◌, ◌<◌, ◌≤◌, ◌⊎◌, max, Option, Some, None, nat_lt, ◌&&◌, if◌then◌else◌, refl, inl, inr, ap, sym, ◌∙◌, arith, Bool, true, false}
+use Rattle.std.proofs.Common.{◌≡◌, ℕ, zero, suc, ◌+◌, ◌<◌, ◌≤◌, ◌⊎◌, max, min, subst, Option, Some, None, nat_lt, ◌&&◌, if◌then◌else◌, refl, inl, inr, ap, sym, ◌∙◌, arith, Bool, true, false}
 use Rattle.std.proofs.lemmas.Bool.Decides.{nat_tests}
 use Rattle.bound_calc.proofs.BestLaws.{same}
-use Rattle.bound_calc.specs.Best.{Among, Covers, Either, In, IsBest, Then}
+use Rattle.bound_calc.specs.Best.{Among, Covers, Either, In, IsBest, Then, ceiling}
 use Rattle.bound_calc.specs.Matrices.{IsJoin, IsProduct, cell, entry, larger_of, over, sum_of}
 use Rattle.bound_calc.specs.declared.matrix.Matrix.{Matrix}
 
@@ -44,31 +44,41 @@ larger-from (Some x) (Some y) c h = go (let z : (max x y ≡ x) ⊎ (max x y ≡
     go (inl a) = inl (ap Some (sym a) ∙ h)
     go (inr b) = inr (ap Some (sym b) ∙ h)
 
+pub min-under : (c e n : ℕ) → c ≤ e → min c n ≤ e
+min-under c e n h = omega arith
+
+-- what was stopped is told apart no further
+pub capped : (e c n : ℕ) → e ≡ min c n → min e n ≡ min c n
+capped e c n h = omega arith
+
 pub best-join : (a b m : Matrix) → IsJoin a b m → IsBest (entry m) (Either (In (entry a)) (In (entry b)))
 best-join a b m cells = (covers, among)
   where
     at : (p q : ℕ) → p < 8 → q < 8 → entry m p q ≡ larger_of (entry a p q) (entry b p q)
     at p q h k = rw (entry-in m p q h k, entry-in a p q h k, entry-in b p q h k) (cells p q h k)
 
+    up : {o : Option ℕ} (c : ℕ) → (e : ℕ) × (o ≡ Some e) × (c ≤ e) → (e : ℕ) × (o ≡ Some e) × (min c ceiling ≤ e)
+    up c z = (z.0, z.1, min-under c z.0 ceiling z.2)
+
     covers : Covers (entry m) (Either (In (entry a)) (In (entry b)))
-    covers p c q (inl e) = let r = entry-range a p q c e in rw (at p q r.0 r.1) (larger-left (entry a p q) (entry b p q) c e)
-    covers p c q (inr e) = let r = entry-range b p q c e in rw (at p q r.0 r.1) (larger-right (entry a p q) (entry b p q) c e)
+    covers p c q (inl e) = let r = entry-range a p q c e in rw (at p q r.0 r.1) (up c (larger-left (entry a p q) (entry b p q) c e))
+    covers p c q (inr e) = let r = entry-range b p q c e in rw (at p q r.0 r.1) (up c (larger-right (entry a p q) (entry b p q) c e))
 
     among : Among (entry m) (Either (In (entry a)) (In (entry b)))
-    among p c q e = let r = entry-range m p q c e in larger-from (entry a p q) (entry b p q) c (sym (at p q r.0 r.1) ∙ e)
+    among p c q e = let r = entry-range m p q c e in (c, larger-from (entry a p q) (entry b p q) c (sym (at p q r.0 r.1) ∙ e), refl)
 
 -- the largest sum over the places between
-sum-from : (x y : Option ℕ) (c : ℕ) → sum_of x y ≡ Some c → (a : ℕ) × (b : ℕ) × (x ≡ Some a) × (y ≡ Some b) × (c ≡ a + b)
+sum-from : (x y : Option ℕ) (c : ℕ) → sum_of x y ≡ Some c → (a : ℕ) × (b : ℕ) × (x ≡ Some a) × (y ≡ Some b) × (c ≡ min (a + b) ceiling)
 unfolding sum_of
 sum-from None y c h = cc
 sum-from (Some x) None c h = cc
-sum-from (Some x) (Some y) c h = (x, y, refl, refl, (let e : x + y ≡ c = cc in sym e))
+sum-from (Some x) (Some y) c h = (x, y, refl, refl, (let e : min (x + y) ceiling ≡ c = cc in sym e))
 
-sum-is : (x y : Option ℕ) (a b : ℕ) → x ≡ Some a → y ≡ Some b → sum_of x y ≡ Some (a + b)
+sum-is : (x y : Option ℕ) (a b : ℕ) → x ≡ Some a → y ≡ Some b → sum_of x y ≡ Some (min (a + b) ceiling)
 unfolding sum_of
 sum-is None y a b h k = cc
 sum-is (Some x) None a b h k = cc
-sum-is (Some x) (Some y) a b h k = (let e : x ≡ a = cc in let f : y ≡ b = cc in ap Some (ap (λ n. n + y) e ∙ ap (λ n. a + n) f))
+sum-is (Some x) (Some y) a b h k = (let e : x ≡ a = cc in let f : y ≡ b = cc in ap (λ n. Some (min n ceiling)) (ap (λ n. n + y) e ∙ ap (λ n. a + n) f))
 
 over-covers : (n : ℕ) (f g : ℕ → Option ℕ) (r c : ℕ) → r < n → sum_of (f r) (g r) ≡ Some c → (e : ℕ) × (over n f g ≡ Some e) × (c ≤ e)
 unfolding over
@@ -99,12 +109,12 @@ best-chain a b m cells = (covers, among)
         let r = entry-range a p t.at t.one t.first in
         let k = entry-range b t.at q t.two t.second in
         let x = sum-is (cell a p t.at) (cell b t.at q) t.one t.two (sym (entry-in a p t.at r.0 r.1) ∙ t.first) (sym (entry-in b t.at q k.0 k.1) ∙ t.second) in
-        let y = over-covers 8 (λ r. cell a p r) (λ r. cell b r q) t.at (t.one + t.two) r.1 x in
-        (y.0, (entry-in m p q r.0 k.1 ∙ cells p q r.0 k.1) ∙ y.1, omega (arith, t.cost, y.2))
+        let y = over-covers 8 (λ r. cell a p r) (λ r. cell b r q) t.at (min (t.one + t.two) ceiling) r.1 x in
+        (y.0, (entry-in m p q r.0 k.1 ∙ cells p q r.0 k.1) ∙ y.1, subst (λ n. min n ceiling ≤ y.0) (sym t.cost) y.2)
 
     among : Among (entry m) (Then (In (entry a)) (In (entry b)))
     among p c q e =
         let r = entry-range m p q c e in
         let y = over-among 8 (λ r. cell a p r) (λ r. cell b r q) c (sym (entry-in m p q r.0 r.1 ∙ cells p q r.0 r.1) ∙ e) in
         let z = sum-from (cell a p y.0) (cell b y.0 q) c y.2 in
-        record { at = y.0; one = z.0; two = z.1; first = entry-in a p y.0 r.0 y.1 ∙ z.2; second = entry-in b y.0 q y.1 r.1 ∙ z.3; cost = z.4 }
+        (z.0 + z.1, record { at = y.0; one = z.0; two = z.1; first = entry-in a p y.0 r.0 y.1 ∙ z.2; second = entry-in b y.0 q y.1 r.1 ∙ z.3; cost = refl }, capped c (z.0 + z.1) ceiling z.4)

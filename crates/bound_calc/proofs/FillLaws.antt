@@ -1,5 +1,5 @@
 -- The powers of the loops from a place on are those of a part.
-use Rattle.std.proofs.Common.{◌≡◌, ◌≢◌, ℕ, zero, suc, ◌+◌, ◌-◌, ◌<◌, ◌≤◌, ◌⊎◌, ◌^◌, [], ◌∷◌, ◌++◌, arith, refl, subst, sym, ap, ◌∙◌, inl, inr, length, Some, None, slice_set, get_or-set_other, get_or-set_same, length-set, Contains, Box, Global}
+use Rattle.std.proofs.Common.{◌≡◌, ◌≢◌, ℕ, zero, suc, ◌+◌, ◌<◌, ◌≤◌, ◌⊎◌, [], ◌∷◌, ◌++◌, arith, refl, subst, sym, ap, ◌∙◌, inl, inr, length, Some, None, slice_set, get_or-set_other, get_or-set_same, length-set, Contains, Box, Global}
 use Rattle.std.specs.Option.{option_map}
 use Rattle.fp_setup.specs.declared.loop_list.LoopSetup.{LoopSetup}
 use Rattle.region_tree.specs.Graph.{Inside, Reachable}
@@ -13,13 +13,13 @@ use Rattle.bound_calc.specs.Best.{IsBest}
 use Rattle.bound_calc.specs.Context.{Net, Part, Walk, body}
 use Rattle.bound_calc.specs.Context.Walk.{start, step}
 use Rattle.bound_calc.specs.Matrices.{entry}
-use Rattle.bound_calc.specs.Passing.{HasRounds, IsFilled, IsPowers, IsReady, Powers, over, place, power_at}
+use Rattle.bound_calc.specs.Passing.{IsFilled, IsPowers, IsReady, Powers, AreWays, over, place, power_at, walks}
 use Rattle.bound_calc.specs.Section.{IsModest, net, whole}
 use Rattle.bound_calc.specs.Ways.{Rounds}
 use Rattle.bound_calc.proofs.Accepted.{accepted, modest}
-use Rattle.bound_calc.proofs.Depth.{limit-body, limit-rounds, limit-whole}
 use Rattle.bound_calc.proofs.Embed.{body-part, is_or_not, same_head}
-use Rattle.bound_calc.proofs.Sections.{net-nested, whole-part}
+use Rattle.bound_calc.proofs.PassLaws.{over-nested}
+use Rattle.bound_calc.proofs.Sections.{field-part}
 
 -- a walk stays below the end of its part
 pub below : {g : Net} {s : Part} {p n v q c : ℕ} {k : LoopSetup → ℕ} → s.low ≤ s.high → Walk g s p n v q c k → v ≤ s.high
@@ -33,8 +33,8 @@ head-place t is j h =
     place-address t is.draft j.head (is.draft.loops j h).head_aligned (record { low = o.0; high = omega arith })
 
 -- for the part of the loop whose head is at place k
-powers-body : (t : Tree) (o : Positions) (j : LoopSetup) (k : ℕ) (powers : Powers) → IsTree t → Contains t.loops j → address t k ≡ j.head → IsFilled (over t o) t (k + 1) powers → IsPowers (over t o) t (body (net (over t o)) j) powers
-powers-body t o j k powers is known head f = record {
+powers-body : (t : Tree) (o : Positions) (ways : Powers) (j : LoopSetup) (k : ℕ) (powers : Powers) → IsTree t → Contains t.loops j → address t k ≡ j.head → IsFilled (over t o ways) t (k + 1) powers → IsPowers (over t o ways) t (body (net (over t o ways)) j) powers
+powers-body t o ways j k powers is known head f = record {
   some = λ i inner r. f.some i inner.0 (let e = head-place t is i inner.0 in let y = inner.1.0 in omega arith) r;
   only = λ w m lo hi e. let y = f.only w m e in lift w lo hi y.0 y.1;
 }
@@ -47,16 +47,16 @@ powers-body t o j k powers is known head f = record {
         go (inr (inl inside)) = (i, (known_i, inside), e, r)
         go (inr (inr outside)) = absurd (omega (arith, outside.0))
 
-powers-whole : (t : Tree) (o : Positions) (powers : Powers) → IsFilled (over t o) t 0 powers → IsPowers (over t o) t (whole (over t o)) powers
-powers-whole t o powers f = record {
+powers-whole : (t : Tree) (o : Positions) (ways : Powers) (powers : Powers) → IsFilled (over t o ways) t 0 powers → IsPowers (over t o ways) t (whole (over t o ways)) powers
+powers-whole t o ways powers f = record {
   some = λ i known r. f.some i known (omega arith) r;
   only = λ w m lo hi e. (f.only w m e).1;
 }
 
 -- a loop's power put at its head
-pub filled-more : (t : Tree) (o : Positions) (j : LoopSetup) (k : ℕ) (powers : Powers) (b : Box Matrix Global) (m : Matrix) → IsTree t → Contains t.loops j → address t k ≡ j.head → Reachable (graph t) (address t k) → k < length t.words → IsFilled (over t o) t (k + 1) powers → b.value ≡ m → IsBest (entry m) (Rounds (net (over t o)) j j.limit) →
-    IsFilled (over t o) t k (slice_set powers k (Some b))
-filled-more t o j k powers b m is known head r within f boxed best = record {
+pub filled-more : (t : Tree) (o : Positions) (ways : Powers) (j : LoopSetup) (k : ℕ) (powers : Powers) (b : Box Matrix Global) (m : Matrix) → IsTree t → AreWays o ways → Contains t.loops j → address t k ≡ j.head → Reachable (graph t) (address t k) → k < length t.words → IsFilled (over t o ways) t (k + 1) powers → b.value ≡ m → IsBest (entry m) (Rounds (net (over t o ways)) j j.limit) →
+    IsFilled (over t o ways) t k (slice_set powers k (Some b))
+filled-more t o ways j k powers b m is are known head r within f boxed best = record {
   count = length-set powers k (Some b) ∙ f.count;
   some = λ i known_i le ri. some i known_i le ri (is_or_not (place t i.head) k);
   only = λ w n e. only w n e (is_or_not w k);
@@ -68,11 +68,11 @@ filled-more t o j k powers b m is known head r within f boxed best = record {
     other : (w : ℕ) → w ≢ k → power_at (slice_set powers k (Some b)) w ≡ power_at powers w
     other w ne = ap (λ y. option_map (λ (b : Box Matrix Global). b.value) y) (get_or-set_other powers k w (Some b) None ne)
 
-    some : (i : LoopSetup) → Contains t.loops i → k ≤ place t i.head → Reachable (graph t) i.head → (place t i.head ≡ k) ⊎ (place t i.head ≢ k) → (n : Matrix) × (power_at (slice_set powers k (Some b)) (place t i.head) ≡ Some n) × IsBest (entry n) (Rounds (net (over t o)) i i.limit)
+    some : (i : LoopSetup) → Contains t.loops i → k ≤ place t i.head → Reachable (graph t) i.head → (place t i.head ≡ k) ⊎ (place t i.head ≢ k) → (n : Matrix) × (power_at (slice_set powers k (Some b)) (place t i.head) ≡ Some n) × IsBest (entry n) (Rounds (net (over t o ways)) i i.limit)
     some i known_i le ri (inl e) =
         let heads : j.head ≡ i.head = sym head ∙ (ap (address t) (sym e) ∙ head-place t is i known_i) in
-        let same : j ≡ i = same_head (net-nested (over t o) (accepted t is)) j i known known_i heads in
-        (m, ap (power_at (slice_set powers k (Some b))) e ∙ put, subst (λ (i : LoopSetup). IsBest (entry m) (Rounds (net (over t o)) i i.limit)) same best)
+        let same : j ≡ i = same_head (over-nested t o ways is are) j i known known_i heads in
+        (m, ap (power_at (slice_set powers k (Some b))) e ∙ put, subst (λ (i : LoopSetup). IsBest (entry m) (Rounds (net (over t o ways)) i i.limit)) same best)
     some i known_i le ri (inr ne) = let y = f.some i known_i (omega arith) ri in (y.0, other (place t i.head) ne ∙ y.1, y.2)
 
     only : (w : ℕ) (n : Matrix) → power_at (slice_set powers k (Some b)) w ≡ Some n → (w ≡ k) ⊎ (w ≢ k) → (k ≤ w) × ((i : LoopSetup) × Contains t.loops i × (address t w ≡ i.head) × Reachable (graph t) (address t w))
@@ -80,55 +80,50 @@ filled-more t o j k powers b m is known head r within f boxed best = record {
     only w n e (inr ne) = let y = f.only w n (sym (other w ne) ∙ e) in (omega (arith, y.0), y.1)
 
 -- no loop to be put
-pub filled-same : (t : Tree) (o : Positions) (k : ℕ) (powers : Powers) → IsTree t → ((j : LoopSetup) → Contains t.loops j → address t k ≡ j.head → Reachable (graph t) (address t k) → ⊥) → IsFilled (over t o) t (k + 1) powers → IsFilled (over t o) t k powers
-filled-same t o k powers is none f = record {
+pub filled-same : (t : Tree) (o : Positions) (ways : Powers) (k : ℕ) (powers : Powers) → IsTree t → ((j : LoopSetup) → Contains t.loops j → address t k ≡ j.head → Reachable (graph t) (address t k) → ⊥) → IsFilled (over t o ways) t (k + 1) powers → IsFilled (over t o ways) t k powers
+filled-same t o ways k powers is none f = record {
   count = f.count;
   some = λ i known le r. go i known le r (is_or_not (place t i.head) k);
   only = λ w n e. let y = f.only w n e in (omega (arith, y.0), y.1);
 }
   where
-    go : (i : LoopSetup) → Contains t.loops i → k ≤ place t i.head → Reachable (graph t) i.head → (place t i.head ≡ k) ⊎ (place t i.head ≢ k) → (n : Matrix) × (power_at powers (place t i.head) ≡ Some n) × IsBest (entry n) (Rounds (net (over t o)) i i.limit)
+    go : (i : LoopSetup) → Contains t.loops i → k ≤ place t i.head → Reachable (graph t) i.head → (place t i.head ≡ k) ⊎ (place t i.head ≢ k) → (n : Matrix) × (power_at powers (place t i.head) ≡ Some n) × IsBest (entry n) (Rounds (net (over t o ways)) i i.limit)
     go i known le r (inl e) =
         let head : address t k ≡ i.head = ap (address t) (sym e) ∙ head-place t is i known in
         absurd (none i known head (subst (λ v. Reachable (graph t) v) (sym head) r))
     go i known le r (inr ne) = f.some i known (omega arith) r
 
 -- a tree whose frame has at most eight slots
-pub modest-over : (t : Tree) (o : Positions) → IsTree t → length o.frame ≤ 8 → IsModest (over t o)
+pub modest-over : (t : Tree) (o : Positions) → IsTree t → length o.frame ≤ 8 → IsModest (walks t o)
 modest-over t o is frame = let m = modest t 0 0 is in record { frame = frame; lags = m.lags; bounds = m.bounds; depths = m.depths; end = m.end; order = m.order }
 
-pub ready-body : (t : Tree) (o : Positions) (j : LoopSetup) (k : ℕ) (powers : Powers) → IsTree t → length o.frame ≤ 8 → Contains t.loops j → address t k ≡ j.head → Reachable (graph t) (address t k) → IsFilled (over t o) t (k + 1) powers → IsReady (over t o) t (body (net (over t o)) j) powers
-ready-body t o j k powers is frame known head r f =
+pub ready-body : (t : Tree) (o : Positions) (ways : Powers) (j : LoopSetup) (k : ℕ) (powers : Powers) → IsTree t → AreWays o ways → Contains t.loops j → address t k ≡ j.head → Reachable (graph t) (address t k) → IsFilled (over t o ways) t (k + 1) powers → IsReady (over t o ways) t (body (net (over t o ways)) j) powers
+ready-body t o ways j k powers is are known head r f =
     let a = accepted t is in
     let l = a.ordered j known in
     record {
-      nested = net-nested (over t o) a;
-      part = body-part (net-nested (over t o) a) j known;
+      nested = over-nested t o ways is are;
+      part = body-part (over-nested t o ways is are) j known;
       reached = subst (λ v. Reachable (graph t) v) head r;
-      rounds = powers-body t o j k powers is known head f;
+      rounds = powers-body t o ways j k powers is known head f;
       count = f.count;
-      limited = λ v p c q y. let z : c < 2 ^ 110 = limit-body (over t o) j a (modest-over t o is frame) known p c q v y (below l.1 y.walk) in omega arith;
     }
 
-pub ready-whole : (t : Tree) (o : Positions) (powers : Powers) → IsTree t → length o.frame ≤ 8 → IsFilled (over t o) t 0 powers → IsReady (over t o) t (whole (over t o)) powers
-ready-whole t o powers is frame f =
+pub ready-whole : (t : Tree) (o : Positions) (ways : Powers) (powers : Powers) → IsTree t → AreWays o ways → IsFilled (over t o ways) t 0 powers → IsReady (over t o ways) t (whole (over t o ways)) powers
+ready-whole t o ways powers is are f =
     let a = accepted t is in
     let order = is.draft.section.order in
     record {
-      nested = net-nested (over t o) a;
-      part = whole-part (over t o) a;
+      nested = over-nested t o ways is are;
+      part = field-part (over t o ways) a;
       reached = first;
-      rounds = powers-whole t o powers f;
+      rounds = powers-whole t o ways powers f;
       count = f.count;
-      limited = λ v p c q y. let k : v ≤ t.section.to - 1 = below (omega arith) y.walk in let z : c < 2 ^ 110 = limit-whole (over t o) a (modest-over t o is frame) p c q v y (omega arith) in omega arith;
     }
 
-pub has-rounds : (t : Tree) (o : Positions) (j : LoopSetup) → IsTree t → length o.frame ≤ 8 → Contains t.loops j → HasRounds (over t o) j
-has-rounds t o j is frame known n le p c q r = let z : c < 2 ^ 110 = limit-rounds (over t o) j (accepted t is) (modest-over t o is frame) known n le p c q r in omega arith
-
 -- no loop's head is past the last word
-pub filled-none : (t : Tree) (o : Positions) (powers : Powers) → IsTree t → length powers ≡ length t.words → ((k : ℕ) → power_at powers k ≡ None) → IsFilled (over t o) t (length t.words) powers
-filled-none t o powers is count none = record {
+pub filled-none : (t : Tree) (o : Positions) (ways : Powers) (powers : Powers) → IsTree t → length powers ≡ length t.words → ((k : ℕ) → power_at powers k ≡ None) → IsFilled (over t o ways) t (length t.words) powers
+filled-none t o ways powers is count none = record {
   count = count;
   some = λ j known le r. let l = (accepted t is).ordered j known in let w = is.draft.words in let e = head-place t is j known in absurd (omega (arith, l.1, l.2));
   only = λ k m e. let z : None ≡ Some m = sym (none k) ∙ e in cc;

@@ -18,3 +18,4 @@ mod TurnLaws
 mod FillLaws
 mod MostLaws
 mod RoundLaws
+mod ThroughLaws

@@ -5,7 +5,7 @@ use Rattle.std.proofs.lemmas.Bool.Decides.{nat_tests}
 use Rattle.bound_calc.proofs.BestLaws.{same}
 use Rattle.bound_calc.proofs.Limits.{Outer}
 use Rattle.bound_calc.specs.Context.{Part, body}
-use Rattle.bound_calc.specs.Section.{net, whole}
+use Rattle.bound_calc.specs.Section.{field, net, whole}
 use Rattle.fp_setup.specs.declared.loop_list.LoopSetup.{LoopSetup}
 use Rattle.region_tree.specs.Walk.{Course}
 
@@ -57,8 +57,8 @@ outermost xs s p there back v = go (lowest test xs)
         let z = is j e in
         inr (j, back j known z.0, (z.1, z.2), λ i h around. let w = least i (there i h).0 (passes i h (omega arith) (omega arith)) in omega arith)
 
-pub outer-whole : (x : Course) (v : ℕ) → Outer (whole x) v
-outer-whole x = outermost x.graph.loops (whole x) (λ i. true) (λ i h. (h, refl)) (λ i h e. h)
+pub outer-whole : (x : Course) (v : ℕ) → Outer (whole (field x)) v
+outer-whole x = outermost x.graph.loops (whole (field x)) (λ i. true) (λ i h. (h, refl)) (λ i h e. h)
 
-pub outer-body : (x : Course) (j : LoopSetup) (v : ℕ) → Outer (body (net x) j) v
-outer-body x j = outermost x.graph.loops (body (net x) j) (λ i. nat_lt j.head i.head && nat_le i.last j.last) (λ i h. (h.0, (let a = h.1 in grind (arith, nat_tests)))) (λ i h e. (h, (grind (arith, nat_tests), grind (arith, nat_tests))))
+pub outer-body : (x : Course) (j : LoopSetup) (v : ℕ) → Outer (body (net (field x)) j) v
+outer-body x j = outermost x.graph.loops (body (net (field x)) j) (λ i. nat_lt j.head i.head && nat_le i.last j.last) (λ i h. (h.0, (let a = h.1 in grind (arith, nat_tests)))) (λ i h e. (h, (grind (arith, nat_tests), grind (arith, nat_tests))))

@@ -1,5 +1,5 @@
 -- One word of a pass.
-use Rattle.std.proofs.Common.{◌≡◌, ◌≢◌, ℕ, zero, suc, ◌+◌, ◌-◌, ◌/◌, ◌%◌, ◌<◌, ◌≤◌, ◌⊎◌, ◌^◌, ◌&&◌, nat_lt, nat_le, refl, arith, subst, sym, ap, ◌∙◌, inl, inr, List, [], ◌++◌, length, Option, Some, None, slice_index_or, slice_set, MatchOption, replicate, get_or-set_other, get_or-set_same, length-set, Contains, Bool, true, false, if◌then◌else◌, Box, Global, IfSome}
+use Rattle.std.proofs.Common.{◌≡◌, ◌≢◌, ℕ, zero, suc, ◌+◌, ◌-◌, ◌/◌, ◌%◌, ◌<◌, ◌≤◌, ◌⊎◌, ◌&&◌, nat_lt, nat_le, refl, arith, subst, sym, ap, ◌∙◌, inl, inr, List, [], ◌++◌, length, Option, Some, None, slice_index_or, slice_set, MatchOption, replicate, get_or-set_other, get_or-set_same, length-set, Contains, Bool, true, false, if◌then◌else◌, Box, Global, IfSome}
 use Rattle.std.proofs.lemmas.List.Elements.{Contains-append_left, Contains-append_right, Contains-append_cases}
 use Rattle.std.proofs.lemmas.Bool.Decides.{nat_tests}
 use Rattle.std.proofs.lemmas.List.{get_or_default}
@@ -9,25 +9,26 @@ use Rattle.region_tree.specs.declared.edges.Edges.{Edges as EdgesOf}
 use Rattle.region_tree.specs.Graph.{Edge, Lies, Reachable, edge_to}
 use Rattle.region_tree.specs.Search.{address}
 use Rattle.region_tree.specs.Tree.{Tree, IsTree, graph, word_at}
-use Rattle.region_tree.specs.Walk.{Course, IsOwn, Positions}
+use Rattle.region_tree.specs.Walk.{IsOwn, Positions}
 use Rattle.region_tree.proofs.EdgeLaws.{edge-aligned, edge-is, is-edge, next-short}
 use Rattle.region_tree.proofs.GraphLaws.{reachable-aligned, place-address, address-lies, address-place}
 use Rattle.bound_calc.specs.declared.matrix.Matrix.{Matrix}
 use Rattle.bound_calc.specs.declared.hop.Hop.{Hop}
-use Rattle.bound_calc.specs.Best.{Costs, Stays, Either, Then, Entries, In, IsBest}
-use Rattle.bound_calc.specs.Context.{Part, IsPart, body}
+use Rattle.bound_calc.specs.Best.{Costs, Stays, Either, Then, Entries, In, IsBest, ceiling}
+use Rattle.bound_calc.specs.Context.{IsNested, Part, IsPart, body}
 use Rattle.bound_calc.specs.Hops.{Hops, IsHops}
 use Rattle.bound_calc.specs.Matrices.{entry}
-use Rattle.bound_calc.specs.Pass.{Edges, Below, And, AndTo, Steps, Brings, Comes}
-use Rattle.bound_calc.specs.Passing.{over, edges_at, place, no_matrix, matrix_at, Powers, power_at, IsSpan, up_of, IsBrought, IsPassed, IsReady}
-use Rattle.bound_calc.specs.Section.{net, whole}
+use Rattle.bound_calc.specs.Pass.{Edges, Below, And, AndTo, Brings, Comes}
+use Rattle.bound_calc.specs.Passing.{AreWays, moved, over, edges_at, place, no_matrix, matrix_at, Powers, power_at, IsSpan, up_of, IsBrought, IsPassed, IsReady}
+use Rattle.bound_calc.specs.Section.{Field, Steps, net, whole}
 use Rattle.bound_calc.specs.Ways.{Reaches, Enters, Rounds}
-use Rattle.bound_calc.proofs.BestLaws.{best-same, best-either-then}
+use Rattle.bound_calc.proofs.Accepted.{accepted}
+use Rattle.bound_calc.proofs.Sections.{field-nested}
+use Rattle.bound_calc.proofs.BestLaws.{best-either, best-same, best-either-then}
 use Rattle.bound_calc.proofs.Counters.{above}
-use Rattle.bound_calc.proofs.Depth.{step-short}
 use Rattle.bound_calc.proofs.Embed.{is_or_not}
-use Rattle.bound_calc.proofs.Entries.{entry-in, entry-range}
-use Rattle.bound_calc.proofs.Heads.{Fresh, Rounded, enter, from_below, go_round}
+use Rattle.bound_calc.proofs.Entries.{entry-in, entry-range, min-under}
+use Rattle.bound_calc.proofs.Heads.{Fresh, enter, from_below}
 use Rattle.bound_calc.proofs.Passes.{walk-reachable, comes-enters, enters-comes, reach-head, comes-more, comes-same}
 use Rattle.bound_calc.proofs.StepLaws.{nothing, get-none}
 
@@ -44,19 +45,30 @@ with-steps h b = best-same
 pub hops-places : (s : Positions) (lag : ℕ) (hops : List (Option Hop)) → length s.frame ≤ 8 → IsHops s lag hops → (p d q : ℕ) → Hops hops p d q → (p < 8) × (q < 8)
 hops-places s lag hops frame h p d q is = let t = h.found p d q is in let a = t.start.within in let b = t.own.within in (omega arith, omega arith)
 
-pub hops-fits : (s : Positions) (lag most : ℕ) (here : Matrix) (hops : List (Option Hop)) → IsHops s lag hops → ((p c q : ℕ) → Then (In (entry here)) (Steps s lag) p c q → c < most) → (p c q : ℕ) → Then (In (entry here)) (Hops hops) p c q → c < most
-hops-fits s lag most here hops h fits p c q t = fits p c q (record { at = t.at; one = t.one; two = t.two; first = t.first; second = h.found t.at t.two q t.second; cost = t.cost })
-
 -- a matrix put where an edge leads
-pub is-brought : (s : Positions) (to : Option ℕ) (k : ℕ) (here joined : Matrix) (lag : ℕ) (hops : List (Option Hop)) (old : List Matrix) → to ≡ Some k → k < length old → IsHops s lag hops → IsBest (entry joined) (Either (In (matrix_at old k)) (Then (In (entry here)) (Hops hops))) → IsBrought s to here lag old (slice_set old k joined)
-is-brought s to k here joined lag hops old is lt h best = record {
+pub is-brought : (to : Option ℕ) (k : ℕ) (here joined : Matrix) (f : Costs) (old : List Matrix) → to ≡ Some k → k < length old → IsBest (entry joined) (Either (In (matrix_at old k)) (Then (In (entry here)) f)) → IsBrought f to here old (slice_set old k joined)
+is-brought to k here joined f old is lt best = record {
   others = λ w none. get_or-set_other old k w joined no_matrix (λ same. none (is ∙ ap Some (sym same)));
   there = λ w is'.
       let both : Some k ≡ Some w = sym is ∙ is' in
       let same : k ≡ w = cc in
-      subst (λ w. IsBest (matrix_at (slice_set old k joined) w) (Either (In (matrix_at old w)) (Then (In (entry here)) (Steps s lag)))) same
-      (subst (λ m. IsBest (entry m) (Either (In (matrix_at old k)) (Then (In (entry here)) (Steps s lag)))) (sym (get_or-set_same old k joined no_matrix lt)) (with-steps h best));
+      subst (λ w. IsBest (matrix_at (slice_set old k joined) w) (Either (In (matrix_at old w)) (Then (In (entry here)) f))) same
+      (subst (λ m. IsBest (entry m) (Either (In (matrix_at old k)) (Then (In (entry here)) f))) (sym (get_or-set_same old k joined no_matrix lt)) best);
 }
+
+-- what a way costs leads to own positions
+pub moved-own : (o : Positions) (ways : Powers) → AreWays o ways → (k lag p d q : ℕ) (w : Option Matrix) → power_at ways k ≡ w → moved o w lag p d q → IsOwn o q
+moved-own o ways are k lag p d q None e m = m.own
+moved-own o ways are k lag p d q (Some w) e m = are k w e p d q m
+
+pub over-nested : (t : Tree) (o : Positions) (ways : Powers) → IsTree t → AreWays o ways → IsNested (net (over t o ways))
+over-nested t o ways is are = field-nested (over t o ways) (accepted t is) (λ u lag p d q m. moved-own o ways are (place t u) lag p d q (power_at ways (place t u)) refl m)
+
+pub along-matrix : (o : Positions) (w here back chained joined : Matrix) (lag : ℕ) → IsBest (entry chained) (Then (In (entry here)) (In (entry w))) → IsBest (entry joined) (Either (In (entry back)) (In (entry chained))) → IsBest (entry joined) (Either (In (entry back)) (Then (In (entry here)) (moved o (Some w) lag)))
+along-matrix o w here back chained joined lag a b = best-either (itself back) a b
+  where
+    itself : (m : Matrix) → IsBest (entry m) (In (entry m))
+    itself m = ((λ p c q z. (c, z, min-under c c ceiling (omega arith))), (λ p e q z. (e, z, refl)))
 
 -- the place of a target above
 up-some : (t : Tree) (k last v : ℕ) → address t k < v → v ≤ address t last → up_of t k last (Some v) ≡ Some (place t v)
@@ -76,8 +88,8 @@ target-is : (target : Option ℕ) (lag : ℕ) (e : Edge) → Contains (edge_to t
 target-is target lag e h = (edge-is target lag e h).0
 
 -- one edge of the word at a place
-pub brought : {x : Course} (t : Tree) {s : Part} {f : Edges} (k last : ℕ) (here : Matrix) (target : Option ℕ) (lag : ℕ) (old new : List Matrix) → IsTree t → Reachable x.graph s.low → address t last ≤ s.high → last < length t.words → x.graph ≡ graph t →
-    ((v : ℕ) → target ≡ Some v → v % 4 ≡ 0) → IsBest (entry here) (Reaches (net x) s (address t k)) → IsBrought x.positions (up_of t k last target) here lag old new → (w : ℕ) → k < w → w ≤ last →
+pub brought : {x : Field} (t : Tree) {s : Part} {f : Edges} (k last : ℕ) (here : Matrix) (target : Option ℕ) (lag : ℕ) (old new : List Matrix) → IsTree t → Reachable x.graph s.low → address t last ≤ s.high → last < length t.words → x.graph ≡ graph t →
+    ((v : ℕ) → target ≡ Some v → v % 4 ≡ 0) → IsBest (entry here) (Reaches (net x) s (address t k)) → IsBrought (x.move (address t k) lag) (up_of t k last target) here old new → (w : ℕ) → k < w → w ≤ last →
     IsBest (matrix_at old w) (Comes x s f (address t w)) → IsBest (matrix_at new w) (Comes x s (AndTo f (address t k) target lag) (address t w))
 brought {x} t {s} {f} k last here None lag old new is r top inside same aligned best b w up le before =
     let stays : slice_index_or old w no_matrix ≡ slice_index_or new w no_matrix = sym (b.others w (λ e. cc)) in
@@ -110,8 +122,8 @@ brought {x} t {s} {f} k last here (Some v) lag old new is r top inside same alig
         let below : v ≤ address t last = omega arith in
         let at : place t v ≡ w = ap (place t) e ∙ address-place t w in
         let joined = b.there w (up-some t k last v above below ∙ ap Some at) in
-        let all : IsBest (matrix_at new w) (Either (Comes x s f (address t w)) (Then (Reaches (net x) s (address t k)) (Steps x.positions lag))) = best-either-then before best joined in
-        let all_v : IsBest (matrix_at new w) (Either (Comes x s f v) (Then (Reaches (net x) s (address t k)) (Steps x.positions lag))) = subst (λ u. IsBest (matrix_at new w) (Either (Comes x s f u) (Then (Reaches (net x) s (address t k)) (Steps x.positions lag)))) (sym e) all in
+        let all : IsBest (matrix_at new w) (Either (Comes x s f (address t w)) (Then (Reaches (net x) s (address t k)) (x.move (address t k) lag))) = best-either-then before best joined in
+        let all_v : IsBest (matrix_at new w) (Either (Comes x s f v) (Then (Reaches (net x) s (address t k)) (x.move (address t k) lag))) = subst (λ u. IsBest (matrix_at new w) (Either (Comes x s f u) (Then (Reaches (net x) s (address t k)) (x.move (address t k) lag)))) (sym e) all in
         let more : IsBest (matrix_at new w) (Comes x s (And f (address t k) edge) v) = comes-more (address t k) edge above (omega arith) all_v in
         subst (λ u. IsBest (matrix_at new w) (Comes x s (AndTo f (address t k) (Some v) lag) u)) e
         (comes-same r
@@ -126,7 +138,7 @@ brought {x} t {s} {f} k last here (Some v) lag old new is r top inside same alig
     go (inr ne) = other ne
 
 -- both edges of the word at a place
-pub both_edges : {x : Course} (t : Tree) {s : Part} {m : Entries} (k w : ℕ) → IsTree t → x.graph ≡ graph t → Reachable x.graph s.low → let e = edges_at t k in
+pub both_edges : {x : Field} (t : Tree) {s : Part} {m : Entries} (k w : ℕ) → IsTree t → x.graph ≡ graph t → Reachable x.graph s.low → let e = edges_at t k in
     IsBest m (Comes x s (AndTo (AndTo (Below x (address t k)) (address t k) e.next e.next_lag) (address t k) e.jump 3) (address t w)) → IsBest m (Comes x s (Below x (address t (k + 1))) (address t w))
 both_edges {x} t {s} {m} k w is same r best = comes-same r there back best
   where
@@ -169,12 +181,12 @@ pub lag-small : (t : Tree) (k : ℕ) → (edges_at t k).next_lag ≤ 3
 lag-small t k = next-short (word_at t (address t k)) (address t k)
 
 -- what reaches the word at a place
-pub reached : (t : Tree) (o : Positions) (s : Part) (k : ℕ) (at : List Matrix) (powers : Powers) (here : Matrix) → IsTree t → IsReady (over t o) t s powers → IsPassed (over t o) t s k at → s.low ≤ address t k → address t k ≤ s.high → k < length t.words →
-    MatchOption (power_at powers k) (here ≡ slice_index_or at k no_matrix) (λ m. IsBest (entry here) (Then (In (matrix_at at k)) (In (entry m)))) → IsBest (entry here) (Reaches (net (over t o)) s (address t k))
-reached t o s k at powers here is y p low high within = go (power_at powers k) refl
+pub reached : (t : Tree) (o : Positions) (ways : Powers) (s : Part) (k : ℕ) (at : List Matrix) (powers : Powers) (here : Matrix) → IsTree t → IsReady (over t o ways) t s powers → IsPassed (over t o ways) t s k at → s.low ≤ address t k → address t k ≤ s.high → k < length t.words →
+    MatchOption (power_at powers k) (here ≡ slice_index_or at k no_matrix) (λ m. IsBest (entry here) (Then (In (matrix_at at k)) (In (entry m)))) → IsBest (entry here) (Reaches (net (over t o ways)) s (address t k))
+reached t o ways s k at powers here is y p low high within = go (power_at powers k) refl
   where
-    x : Course
-    x = over t o
+    x : Field
+    x = over t o ways
 
     entered : IsBest (matrix_at at k) (Enters (net x) s (address t k))
     entered = best-same (comes-enters y.reached (address-lies t is.draft k within)) enters-comes (p.ahead k (omega arith) high)
@@ -207,51 +219,26 @@ reached t o s k at powers here is y p low high within = go (power_at powers k) r
             let entered_j : IsBest (matrix_at at k) (Enters (net x) s j.head) = subst (λ u. IsBest (matrix_at at k) (Enters (net x) s u)) head entered in
             subst (λ u. IsBest (entry here) (Reaches (net x) s u)) (sym head) (reach-head j y.nested y.part y.reached known entered_j (λ _. rounds) best)
 
--- the sums at a head are costs of walks
-pub round-sums : (t : Tree) (o : Positions) (s : Part) (k : ℕ) (at : List Matrix) (powers : Powers) → IsTree t → IsReady (over t o) t s powers → IsPassed (over t o) t s k at → s.low ≤ address t k → address t k ≤ s.high → k < length t.words →
-    (m : Matrix) → power_at powers k ≡ Some m → (p c q : ℕ) → Then (In (matrix_at at k)) (In (entry m)) p c q → c < 2 ^ 127
-round-sums t o s k at powers is y ps low high within m e p c q z = go (y.rounds.only k m low high e)
-  where
-    x : Course
-    x = over t o
-
-    go : (j : LoopSetup) × s.loops j × (address t k ≡ j.head) × Reachable (graph t) (address t k) → c < 2 ^ 127
-    go (j, known, head, rv) =
-        let some = y.rounds.some j known (subst (λ v. Reachable (graph t) v) head rv) in
-        let at_head : power_at powers k ≡ Some some.0 = ap (power_at powers) (sym (ap (place t) (sym head) ∙ address-place t k)) ∙ some.1 in
-        let both : Some some.0 ≡ Some m = sym at_head ∙ e in
-        let same : some.0 ≡ m = cc in
-        let rounds : IsBest (entry m) (Rounds (net x) j j.limit) = subst (λ m. IsBest (entry m) (Rounds (net x) j j.limit)) same some.2 in
-        let entered : IsBest (matrix_at at k) (Enters (net x) s (address t k)) = best-same (comes-enters y.reached (address-lies t is.draft k within)) enters-comes (ps.ahead k (omega arith) high) in
-        let first : Enters (net x) s j.head p z.one z.at = subst (λ v. Enters (net x) s v p z.one z.at) head (entered.1 p z.one z.at z.first) in
-        let r : Rounded (net x) s j j.limit p c q = go_round j j.limit y.nested y.part known (omega arith) (record { at = z.at; one = z.one; two = z.two; first = first; second = rounds.1 z.at z.two q z.second; cost = z.cost }) in
-        let lim : c < 2 ^ 120 = y.limited j.head p c q (record { steps = r.steps; counters = r.counters; walk = r.walk }) in
-        omega arith
-
--- the sums of a step
-pub step-sums : (x : Course) (s : Part) (v : ℕ) (here : Matrix) (lag : ℕ) → ((v p c q : ℕ) → Reaches (net x) s v p c q → c < 2 ^ 120) → length x.positions.frame ≤ 8 → lag ≤ 3 → IsBest (entry here) (Reaches (net x) s v) → (p c q : ℕ) → Then (In (entry here)) (Steps x.positions lag) p c q → c < 2 ^ 127
-step-sums x s v here lag limited frame few best p c q z =
-    let lim : z.one < 2 ^ 120 = limited v p z.one z.at (best.1 p z.one z.at z.first) in
-    let d : z.two ≤ 10 = step-short x.positions lag z.at z.two q few frame z.second in
-    omega (arith, z.cost)
-
 -- the next word
-pub pass-step : (t : Tree) (o : Positions) (s : Part) (first last k : ℕ) (a0 a1 a2 a3 : List Matrix) (here : Matrix) → IsTree t → Reachable (graph t) s.low → IsSpan t s first last →
-    IsPassed (over t o) t s k a0 → first ≤ k → k ≤ last → IsBest (entry here) (Reaches (net (over t o)) s (address t k)) → length a3 ≡ length t.words →
-    a1 ≡ slice_set a0 k here → IsBrought o (up_of t k last (edges_at t k).next) here (edges_at t k).next_lag a1 a2 → IsBrought o (up_of t k last (edges_at t k).jump) here 3 a2 a3 → IsPassed (over t o) t s (k + 1) a3
-pass-step t o s first last k a0 a1 a2 a3 here is r sp p from le best count put n j = record {
+pub pass-step : (t : Tree) (o : Positions) (ways : Powers) (s : Part) (first last k : ℕ) (a0 a1 a2 a3 : List Matrix) (here : Matrix) → IsTree t → Reachable (graph t) s.low → IsSpan t s first last →
+    IsPassed (over t o ways) t s k a0 → first ≤ k → k ≤ last → IsBest (entry here) (Reaches (net (over t o ways)) s (address t k)) → length a3 ≡ length t.words →
+    a1 ≡ slice_set a0 k here → IsBrought (moved o (power_at ways k) (edges_at t k).next_lag) (up_of t k last (edges_at t k).next) here a1 a2 → IsBrought (moved o (power_at ways k) 3) (up_of t k last (edges_at t k).jump) here a2 a3 → IsPassed (over t o ways) t s (k + 1) a3
+pass-step t o ways s first last k a0 a1 a2 a3 here is r sp p from le best count put n j = record {
   count = count;
   done = λ w low lt. finished w low (let z : (w < k) ⊎ (w ≡ k) = grind arith in z);
   ahead = λ w up high. both_edges t k w is refl r
-      (brought t k last here e.jump 3 a2 a3 is r sp.within sp.inside refl (jump-aligned t is k) best j w (omega arith) (within w high)
-      (brought t k last here e.next e.next_lag a1 a2 is r sp.within sp.inside refl (next-aligned t is k) best n w (omega arith) (within w high) (old w up high)));
+      (brought t k last here e.jump 3 a2 a3 is r sp.within sp.inside refl (jump-aligned t is k) best (there 3 e.jump a2 a3 j) w (omega arith) (within w high)
+      (brought t k last here e.next e.next_lag a1 a2 is r sp.within sp.inside refl (next-aligned t is k) best (there e.next_lag e.next a1 a2 n) w (omega arith) (within w high) (old w up high)));
 }
   where
-    x : Course
-    x = over t o
+    x : Field
+    x = over t o ways
 
     e : EdgesOf
     e = edges_at t k
+
+    there : (lag : ℕ) (target : Option ℕ) (a b : List Matrix) → IsBrought (moved o (power_at ways k) lag) (up_of t k last target) here a b → IsBrought (x.move (address t k) lag) (up_of t k last target) here a b
+    there lag target a b y = subst (λ n. IsBrought (moved o (power_at ways n) lag) (up_of t k last target) here a b) (sym (address-place t k)) y
 
     within : (w : ℕ) → address t w ≤ s.high → w ≤ last
     within w high = let z : address t w ≤ address t last = sp.top (address t w) (place-aligned t is w) high in omega arith
@@ -281,16 +268,16 @@ pass-step t o s first last k a0 a1 a2 a3 here is r sp p from le best count put n
         subst (λ w. IsBest (matrix_at a3 w) (Reaches (net x) s (address t w))) (sym same) (subst (λ m. IsBest (entry m) (Reaches (net x) s (address t k))) (sym at) best)
 
 -- the pass begins
-pub pass-start : (t : Tree) (o : Positions) (s : Part) (first last : ℕ) (a : List Matrix) (one : Matrix) → IsTree t → IsPart (net (over t o)) s → IsSpan t s first last → length a ≡ length t.words →
-    ((w : ℕ) → first ≤ w → w ≤ last → (p q c : ℕ) → matrix_at a w p q ≡ Some c → ⊥) → IsBest (entry one) (Stays (IsOwn o)) → IsPassed (over t o) t s first (slice_set a first one)
-pass-start t o s first last a one is part sp count none best = record {
+pub pass-start : (t : Tree) (o : Positions) (ways : Powers) (s : Part) (first last : ℕ) (a : List Matrix) (one : Matrix) → IsTree t → IsPart (net (over t o ways)) s → IsSpan t s first last → length a ≡ length t.words →
+    ((w : ℕ) → first ≤ w → w ≤ last → (p q c : ℕ) → matrix_at a w p q ≡ Some c → ⊥) → IsBest (entry one) (Stays (IsOwn o)) → IsPassed (over t o ways) t s first (slice_set a first one)
+pass-start t o ways s first last a one is part sp count none best = record {
   count = length-set a first one ∙ count;
   done = λ w low lt. absurd (let e = sp.low in omega arith);
   ahead = λ w from high. go w from high (let y : (w ≡ first) ⊎ (first < w) = grind arith in y);
 }
   where
-    x : Course
-    x = over t o
+    x : Field
+    x = over t o ways
 
     nothing_yet : (v p c q : ℕ) → Brings x s (Below x (address t first)) v p c q → ⊥
     nothing_yet v p c q b = let z = above part b.walk.walk in let y = b.edge.0 in let e = sp.low in omega arith
@@ -326,13 +313,13 @@ cleared at k w lt (inl below) before p q c e = before below p q c (ap (λ m. ent
 cleared at k w lt (inr same) before p q c e = none-entry p q c (ap (λ m. entry m p q) (sym (get_or-set_same at w (record { best = replicate 8 (replicate 8 None) }) no_matrix lt)) ∙ (ap (λ i. entry (slice_index_or (slice_set at w (record { best = replicate 8 (replicate 8 None) })) i no_matrix) p q) (sym same) ∙ e))
 
 -- the span of a part
-pub span-whole : (t : Tree) (o : Positions) (last : ℕ) → IsTree t → last ≡ (t.section.to - t.section.from) / 4 - 1 → IsSpan t (whole (over t o)) 0 last
-span-whole t o last is e =
+pub span-whole : (t : Tree) (o : Positions) (ways : Powers) (last : ℕ) → IsTree t → last ≡ (t.section.to - t.section.from) / 4 - 1 → IsSpan t (whole (over t o ways)) 0 last
+span-whole t o ways last is e =
     let w = is.draft.words in let a = is.draft.section.from_aligned in let b = is.draft.section.to_aligned in let c = is.draft.section.order in
     record { low = omega arith; within = omega arith; top = λ v d h. (let h' : v ≤ t.section.to - 1 = h in omega arith); order = omega arith; inside = omega arith }
 
-pub span-body : (t : Tree) (o : Positions) (j : LoopSetup) → IsTree t → Contains t.loops j → IsSpan t (body (net (over t o)) j) ((j.head - t.section.from) / 4) ((j.last - t.section.from) / 4)
-span-body t o j is known =
+pub span-body : (t : Tree) (o : Positions) (ways : Powers) (j : LoopSetup) → IsTree t → Contains t.loops j → IsSpan t (body (net (over t o ways)) j) ((j.head - t.section.from) / 4) ((j.last - t.section.from) / 4)
+span-body t o ways j is known =
     let w = is.draft.words in let a = is.draft.section.from_aligned in let b = is.draft.section.to_aligned in
     let l = is.draft.loops j known in let c = is.draft.counting j known in
     let head = l.head_aligned in let last = l.last_aligned in let order = l.ordered in

@@ -8,13 +8,13 @@ use Rattle.slot_table.specs.Frame.{frame, turn, turn_in, turn_of_slot}
 use Rattle.region_tree.specs.Walk.{Positions, IsOwn, IsNextTurn}
 use Rattle.bound_calc.specs.declared.matrix.Matrix.{Matrix}
 use Rattle.bound_calc.specs.declared.hop.Hop.{Hop}
-use Rattle.bound_calc.specs.Best.{Covers, Among, IsBest, Stays}
+use Rattle.bound_calc.specs.Best.{Covers, Among, IsBest, Stays, ceiling}
 use Rattle.bound_calc.specs.Bound.{positions}
 use Rattle.bound_calc.specs.declared.hop.HopRow.{HopRow}
 use Rattle.bound_calc.specs.Hops.{Hops, IsHops, no_hops}
 use Rattle.bound_calc.specs.Matrices.{cell, entry}
 use Rattle.bound_calc.proofs.Embed.{is_or_not}
-use Rattle.bound_calc.proofs.Entries.{entry-range, entry-in}
+use Rattle.bound_calc.proofs.Entries.{min-under, entry-range, entry-in}
 
 -- whose turn a slot is
 slot-thread : (x n : ℕ) → turn_of_slot x ≡ Thread n → x ≡ n
@@ -148,10 +148,10 @@ pub best-stays : (s : Positions) (m : Matrix) → length s.frame ≤ 8 → ((p q
 best-stays s m frame there back = (covers, among)
   where
     covers : Covers (entry m) (Stays (IsOwn s))
-    covers p d q t = let a = t.0.within in let b = t.1 in (d, entry-in m p q (omega arith) (omega arith) ∙ back p q d (omega arith) t, omega arith)
+    covers p d q t = let a = t.0.within in let b = t.1 in (d, entry-in m p q (omega arith) (omega arith) ∙ back p q d (omega arith) t, (let le : d ≤ d = omega arith in min-under d d ceiling le))
 
     among : Among (entry m) (Stays (IsOwn s))
-    among p d q e = let r = entry-range m p q d e in there p q d r.0 r.1 (sym (entry-in m p q r.0 r.1) ∙ e)
+    among p d q e = let r = entry-range m p q d e in (d, there p q d r.0 r.1 (sym (entry-in m p q r.0 r.1) ∙ e), refl)
 
 -- a row of nones
 abbrev pub nothing : Option ℕ

@@ -1,39 +1,35 @@
 -- The edges back to a loop's head.
-use Rattle.std.proofs.Common.{◌≡◌, ℕ, ◌+◌, ◌%◌, ◌<◌, ◌≤◌, ◌⊎◌, ◌^◌, refl, arith, subst, sym, ap, ◌∙◌, inl, inr, List, Option, Some, None, Contains}
+use Rattle.std.proofs.Common.{◌≡◌, ℕ, ◌+◌, ◌%◌, ◌<◌, ◌≤◌, ◌⊎◌, refl, arith, subst, sym, ap, ◌∙◌, inl, inr, Option, Some, None, Contains}
 use Rattle.std.proofs.lemmas.List.Elements.{Contains-append_left, Contains-append_right, Contains-append_cases}
 use Rattle.fp_setup.specs.declared.loop_list.LoopSetup.{LoopSetup}
 use Rattle.region_tree.specs.declared.edges.Edges.{Edges as EdgesOf}
 use Rattle.region_tree.specs.Graph.{Edge, Reachable, edge_to}
 use Rattle.region_tree.specs.Search.{address}
 use Rattle.region_tree.specs.Tree.{Tree, IsTree, graph}
-use Rattle.region_tree.specs.Walk.{Course, IsOwn, Positions}
+use Rattle.region_tree.specs.Walk.{IsOwn, Positions}
 use Rattle.region_tree.proofs.EdgeLaws.{edge-is, is-edge}
 use Rattle.region_tree.proofs.GraphLaws.{reachable-aligned}
 use Rattle.bound_calc.specs.declared.matrix.Matrix.{Matrix}
-use Rattle.bound_calc.specs.declared.hop.Hop.{Hop}
-use Rattle.bound_calc.specs.Best.{Either, Entries, In, IsBest, Stays, Then}
+use Rattle.bound_calc.specs.Best.{Costs, Either, Entries, In, IsBest, Stays, Then}
 use Rattle.bound_calc.specs.Context.{IsPart, body}
-use Rattle.bound_calc.specs.Hops.{Hops, IsHops}
 use Rattle.bound_calc.specs.Matrices.{entry}
-use Rattle.bound_calc.specs.Pass.{AndTo, Below, Edges, Steps, Turns}
-use Rattle.bound_calc.specs.Passing.{HasPowers, HasRounds, IsSpan, IsTurned, edges_at, over}
-use Rattle.bound_calc.specs.Section.{net}
+use Rattle.bound_calc.specs.Pass.{AndTo, Below, Edges, Turns}
+use Rattle.bound_calc.specs.Passing.{AreWays, IsSpan, IsTurned, Powers, edges_at, over}
+use Rattle.bound_calc.specs.Section.{Field, net}
 use Rattle.bound_calc.specs.Ways.{Reaches, Round}
 use Rattle.bound_calc.proofs.Accepted.{accepted}
 use Rattle.bound_calc.proofs.BestLaws.{Within, best-either, best-either-then, best-same, either-lands}
 use Rattle.bound_calc.proofs.Counters.{above}
 use Rattle.bound_calc.proofs.Embed.{is_or_not}
-use Rattle.bound_calc.proofs.PassLaws.{place-aligned, with-steps}
+use Rattle.bound_calc.proofs.PassLaws.{over-nested, place-aligned}
 use Rattle.bound_calc.proofs.Passes.{round-lands, rounds-turns, walk-reachable}
-use Rattle.bound_calc.proofs.PowerLaws.{power-within}
-use Rattle.bound_calc.proofs.Sections.{net-nested}
 
 option-is : (target : Option ℕ) (v : ℕ) → (target ≡ Some v) ⊎ (target ≡ Some v → ⊥)
 option-is None v = inr (λ e. let z : None ≡ Some v = e in cc)
 option-is (Some u) v = elim (is_or_not u v) [ inl e ↦ inl (ap Some e) | inr ne ↦ inr (λ e. ne (let z : Some u ≡ Some v = e in cc)) ]
 
 -- the same turns, from another set
-turns-same : {x : Course} {f g : Edges} {m : Entries} (j : LoopSetup) → Reachable x.graph j.head → IsPart (net x) (body (net x) j) → ((u : ℕ) (e : Edge) → e.to ≡ j.head → j.head ≤ u → Reachable x.graph u → f u e → g u e) → ((u : ℕ) (e : Edge) → e.to ≡ j.head → j.head ≤ u → Reachable x.graph u → g u e → f u e) →
+turns-same : {x : Field} {f g : Edges} {m : Entries} (j : LoopSetup) → Reachable x.graph j.head → IsPart (net x) (body (net x) j) → ((u : ℕ) (e : Edge) → e.to ≡ j.head → j.head ≤ u → Reachable x.graph u → f u e → g u e) → ((u : ℕ) (e : Edge) → e.to ≡ j.head → j.head ≤ u → Reachable x.graph u → g u e → f u e) →
     IsBest m (Turns x j f) → IsBest m (Turns x j g)
 turns-same {x} {f} {g} j r part there back best = best-same (along f g there) (along g f back) best
   where
@@ -41,24 +37,24 @@ turns-same {x} {f} {g} j r part there back best = best-same (along f g there) (a
     along f g h p c q t = record { from = t.from; at = t.at; one = t.one; two = t.two; lag = t.lag; walk = t.walk; edge = h t.from (record { to = j.head; lag = t.lag }) refl (above part t.walk.walk) (walk-reachable r t.walk.walk) t.edge; move = t.move; cost = t.cost }
 
 -- one edge more, to the head
-turns-more : {x : Course} {f : Edges} {c : Entries} (j : LoopSetup) (v : ℕ) (target : Option ℕ) (lag : ℕ) → target ≡ Some j.head → IsBest c (Either (Turns x j f) (Then (Reaches (net x) (body (net x) j) v) (Steps x.positions lag))) → IsBest c (Turns x j (AndTo f v target lag))
+turns-more : {x : Field} {f : Edges} {c : Entries} (j : LoopSetup) (v : ℕ) (target : Option ℕ) (lag : ℕ) → target ≡ Some j.head → IsBest c (Either (Turns x j f) (Then (Reaches (net x) (body (net x) j) v) (x.move v lag))) → IsBest c (Turns x j (AndTo f v target lag))
 turns-more {x} {f} j v target lag is both = best-same there back both
   where
-    there : Within (Either (Turns x j f) (Then (Reaches (net x) (body (net x) j) v) (Steps x.positions lag))) (Turns x j (AndTo f v target lag))
+    there : Within (Either (Turns x j f) (Then (Reaches (net x) (body (net x) j) v) (x.move v lag))) (Turns x j (AndTo f v target lag))
     there p c q (inl t) = record { from = t.from; at = t.at; one = t.one; two = t.two; lag = t.lag; walk = t.walk; edge = inl t.edge; move = t.move; cost = t.cost }
     there p c q (inr t) = record { from = v; at = t.at; one = t.one; two = t.two; lag = lag; walk = t.first; edge = inr (refl, is-edge target lag j.head is); move = t.second; cost = t.cost }
 
-    last : {p c q : ℕ} → (t : Turns x j (AndTo f v target lag) p c q) → AndTo f v target lag t.from (record { to = j.head; lag = t.lag }) → Either (Turns x j f) (Then (Reaches (net x) (body (net x) j) v) (Steps x.positions lag)) p c q
+    last : {p c q : ℕ} → (t : Turns x j (AndTo f v target lag) p c q) → AndTo f v target lag t.from (record { to = j.head; lag = t.lag }) → Either (Turns x j f) (Then (Reaches (net x) (body (net x) j) v) (x.move v lag)) p c q
     last t (inl h) = inl (record { from = t.from; at = t.at; one = t.one; two = t.two; lag = t.lag; walk = t.walk; edge = h; move = t.move; cost = t.cost })
     last {p} {c} {q} t (inr h) =
         let lags : t.lag ≡ lag = (edge-is target lag (record { to = j.head; lag = t.lag }) h.1).1 in
-        inr (record { at = t.at; one = t.one; two = t.two; first = subst (λ u. Reaches (net x) (body (net x) j) u p t.one t.at) h.0 t.walk; second = subst (λ lag. Steps x.positions lag t.at t.two q) lags t.move; cost = t.cost })
+        inr (record { at = t.at; one = t.one; two = t.two; first = subst (λ u. Reaches (net x) (body (net x) j) u p t.one t.at) h.0 t.walk; second = subst (λ lag. x.move v lag t.at t.two q) lags (subst (λ u. x.move u t.lag t.at t.two q) h.0 t.move); cost = t.cost })
 
-    back : Within (Turns x j (AndTo f v target lag)) (Either (Turns x j f) (Then (Reaches (net x) (body (net x) j) v) (Steps x.positions lag)))
+    back : Within (Turns x j (AndTo f v target lag)) (Either (Turns x j f) (Then (Reaches (net x) (body (net x) j) v) (x.move v lag)))
     back p c q t = last t t.edge
 
 -- one edge of a word, whatever it is
-pub turned : {x : Course} {f : Edges} {back here new : Matrix} (j : LoopSetup) (v : ℕ) (target : Option ℕ) (lag : ℕ) → Reachable x.graph j.head → IsPart (net x) (body (net x) j) → IsBest (entry here) (Reaches (net x) (body (net x) j) v) → IsTurned x.positions back here target lag j.head new →
+pub turned : {x : Field} {f : Edges} {back here new : Matrix} (j : LoopSetup) (v : ℕ) (target : Option ℕ) (lag : ℕ) → Reachable x.graph j.head → IsPart (net x) (body (net x) j) → IsBest (entry here) (Reaches (net x) (body (net x) j) v) → IsTurned (x.move v lag) back here target j.head new →
     IsBest (entry back) (Turns x j f) → IsBest (entry new) (Turns x j (AndTo f v target lag))
 turned {x} {f} {back} {here} {new} j v target lag r part best t before = go (option-is target j.head)
   where
@@ -69,12 +65,12 @@ turned {x} {f} {back} {here} {new} j v target lag r part best t before = go (opt
         (turns-same j r part (λ u e a low ru y. inl y) (λ u e a low ru y. elim y [ inl z ↦ z | inr z ↦ absurd (other ((edge-is target lag e z.1).0 ∙ ap Some a)) ]) before)
 
 -- both edges of the word at a place
-pub turns-word : {m : Entries} (t : Tree) (o : Positions) (j : LoopSetup) (k : ℕ) → IsTree t → Reachable (graph t) j.head → IsPart (net (over t o)) (body (net (over t o)) j) → let e = edges_at t k in
-    IsBest m (Turns (over t o) j (AndTo (AndTo (Below (over t o) (address t k)) (address t k) e.next e.next_lag) (address t k) e.jump 3)) → IsBest m (Turns (over t o) j (Below (over t o) (address t (k + 1))))
-turns-word {m} t o j k is r part best = turns-same j r part there back best
+pub turns-word : {m : Entries} (t : Tree) (o : Positions) (ways : Powers) (j : LoopSetup) (k : ℕ) → IsTree t → Reachable (graph t) j.head → IsPart (net (over t o ways)) (body (net (over t o ways)) j) → let e = edges_at t k in
+    IsBest m (Turns (over t o ways) j (AndTo (AndTo (Below (over t o ways) (address t k)) (address t k) e.next e.next_lag) (address t k) e.jump 3)) → IsBest m (Turns (over t o ways) j (Below (over t o ways) (address t (k + 1))))
+turns-word {m} t o ways j k is r part best = turns-same j r part there back best
   where
-    x : Course
-    x = over t o
+    x : Field
+    x = over t o ways
 
     e : EdgesOf
     e = edges_at t k
@@ -96,16 +92,16 @@ turns-word {m} t o j k is r part best = turns-same j r part there back best
         go (inr here) = at here (Contains-append_cases (edge_to e.next e.next_lag) (edge_to e.jump 3) b (subst (λ u. Contains (x.graph.edges u) b) here z.1))
 
 -- no word yet
-pub turns-none : {x : Course} {m : Entries} (j : LoopSetup) (v : ℕ) → j.head ≡ v → IsPart (net x) (body (net x) j) → ((p q c : ℕ) → m p q ≡ Some c → ⊥) → IsBest m (Turns x j (Below x v))
+pub turns-none : {x : Field} {m : Entries} (j : LoopSetup) (v : ℕ) → j.head ≡ v → IsPart (net x) (body (net x) j) → ((p q c : ℕ) → m p q ≡ Some c → ⊥) → IsBest m (Turns x j (Below x v))
 turns-none j v e part none = ((λ p c q t. absurd (let z = above part t.walk.walk in let y = t.edge.0 in omega arith)), (λ p c q e. absurd (none p q c e)))
 
 -- all words of the loop
-pub turns-all : {m : Entries} (t : Tree) (o : Positions) (j : LoopSetup) (first last : ℕ) → IsTree t → Reachable (graph t) j.head → Contains t.loops j → IsPart (net (over t o)) (body (net (over t o)) j) → IsSpan t (body (net (over t o)) j) first last →
-    IsBest m (Turns (over t o) j (Below (over t o) (address t (last + 1)))) → IsBest m (Round (net (over t o)) j)
-turns-all {m} t o j first last is r h part sp best = best-same turning (rounds-turns j (Below x (address t (last + 1))) (λ u e a held edge. (omega (arith, held.1, top), edge))) best
+pub turns-all : {m : Entries} (t : Tree) (o : Positions) (ways : Powers) (j : LoopSetup) (first last : ℕ) → IsTree t → Reachable (graph t) j.head → Contains t.loops j → IsPart (net (over t o ways)) (body (net (over t o ways)) j) → IsSpan t (body (net (over t o ways)) j) first last →
+    IsBest m (Turns (over t o ways) j (Below (over t o ways) (address t (last + 1)))) → IsBest m (Round (net (over t o ways)) j)
+turns-all {m} t o ways j first last is r h part sp best = best-same turning (rounds-turns j (Below x (address t (last + 1))) (λ u e a held edge. (omega (arith, held.1, top), edge))) best
   where
-    x : Course
-    x = over t o
+    x : Field
+    x = over t o ways
 
     top : j.last ≤ address t last
     top = sp.top j.last (is.draft.loops j h).last_aligned (omega arith)
@@ -121,16 +117,13 @@ turns-all {m} t o j first last is r h part sp best = best-same turning (rounds-t
         record { from = z.from; at = z.at; one = z.one; two = z.two; walk = z.walk; arc = record { lag = z.lag; edge = z.edge.1; move = z.move; reached = ru; lies = record { low = l.0; high = omega arith } }; held = (above part z.walk.walk, (let y = z.edge.0 in omega arith)); cost = z.cost }
 
 -- a matrix taken along an edge that leads to the head
-pub is-turned : (s : Positions) (back here joined : Matrix) (target : Option ℕ) (lag head : ℕ) (hops : List (Option Hop)) → target ≡ Some head → IsHops s lag hops → IsBest (entry joined) (Either (In (entry back)) (Then (In (entry here)) (Hops hops))) → IsTurned s back here target lag head joined
-is-turned s back here joined target lag head hops is h best = record { other = λ never. absurd (never is); there = λ z. with-steps h best }
+pub is-turned : (f : Costs) (back here joined : Matrix) (target : Option ℕ) (head : ℕ) → target ≡ Some head → IsBest (entry joined) (Either (In (entry back)) (Then (In (entry here)) f)) → IsTurned f back here target head joined
+is-turned f back here joined target head is best = record { other = λ never. absurd (never is); there = λ z. best }
 
 -- one more round at most
-pub base-best : (t : Tree) (o : Positions) (j : LoopSetup) (first last k : ℕ) (one back base : Matrix) → IsTree t → Reachable (graph t) j.head → Contains t.loops j → IsPart (net (over t o)) (body (net (over t o)) j) → IsSpan t (body (net (over t o)) j) first last → k ≡ last + 1 →
-    IsBest (entry one) (Stays (IsOwn o)) → IsBest (entry back) (Turns (over t o) j (Below (over t o) (address t k))) → IsBest (entry base) (Either (In (entry one)) (In (entry back))) → IsBest (entry base) (Either (Stays (IsOwn o)) (Round (net (over t o)) j))
-base-best t o j first last k one back base is r h part sp e b1 b2 b3 = best-either b1 (turns-all t o j first last is r h part sp (subst (λ k. IsBest (entry back) (Turns (over t o) j (Below (over t o) (address t k)))) e b2)) b3
+pub base-best : (t : Tree) (o : Positions) (ways : Powers) (j : LoopSetup) (first last k : ℕ) (one back base : Matrix) → IsTree t → Reachable (graph t) j.head → Contains t.loops j → IsPart (net (over t o ways)) (body (net (over t o ways)) j) → IsSpan t (body (net (over t o ways)) j) first last → k ≡ last + 1 →
+    IsBest (entry one) (Stays (IsOwn o)) → IsBest (entry back) (Turns (over t o ways) j (Below (over t o ways) (address t k))) → IsBest (entry base) (Either (In (entry one)) (In (entry back))) → IsBest (entry base) (Either (Stays (IsOwn o)) (Round (net (over t o ways)) j))
+base-best t o ways j first last k one back base is r h part sp e b1 b2 b3 = best-either b1 (turns-all t o ways j first last is r h part sp (subst (λ k. IsBest (entry back) (Turns (over t o ways) j (Below (over t o ways) (address t k)))) e b2)) b3
 
-pub base-lands : (t : Tree) (o : Positions) (j : LoopSetup) (base : Matrix) → IsTree t → IsBest (entry base) (Either (Stays (IsOwn o)) (Round (net (over t o)) j)) → (p c q : ℕ) → In (entry base) p c q → IsOwn o q
-base-lands t o j base is best p c q e = either-lands (round-lands (net-nested (over t o) (accepted t is)) j) p c q (best.1 p c q e)
-
-pub base-sums : {x : Course} (j : LoopSetup) (base : Matrix) → HasRounds x j → IsBest (entry base) (Either (Stays (IsOwn x.positions)) (Round (net x) j)) → HasPowers (IsOwn x.positions) (In (entry base)) j.limit
-base-sums {x} j base h best m le p c q y = let z : c < 2 ^ 120 = h m le p c q (power-within (IsOwn x.positions) (In (entry base)) (Either (Stays (IsOwn x.positions)) (Round (net x) j)) best.1 m p c q y) in omega arith
+pub base-lands : (t : Tree) (o : Positions) (ways : Powers) (j : LoopSetup) (base : Matrix) → IsTree t → AreWays o ways → IsBest (entry base) (Either (Stays (IsOwn o)) (Round (net (over t o ways)) j)) → (p c q : ℕ) → In (entry base) p c q → IsOwn o q
+base-lands t o ways j base is are best p c q e = let z = best.1 p c q e in either-lands (round-lands (over-nested t o ways is are) j) p z.0 q z.1

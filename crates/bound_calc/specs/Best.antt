@@ -1,5 +1,6 @@
--- Costs between positions: sets of (start, cost, end), and matrices that hold the best of a set.
-use Rattle.std.specs.Prelude.{◌≡◌, ℕ, zero, suc, ◌+◌, ◌≤◌, ◌⊎◌, Option, Some}
+-- Costs between positions: sets of (start, cost, end), and matrices that hold the best of a set. Sums stop at a number,
+-- and what is at least that isn't told apart.
+use Rattle.std.specs.Prelude.{◌≡◌, ℕ, zero, suc, ◌+◌, ◌-◌, ◌^◌, ◌≤◌, ◌⊎◌, min, Option, Some}
 
 -- a set of (position at the start, cost, position at the end)
 abbrev pub Costs : Type 1
@@ -32,13 +33,17 @@ Entries = ℕ → ℕ → Option ℕ
 abbrev pub In : Entries → Costs
 In m p c q = m p q ≡ Some c
 
+-- where sums stop
+abbrev pub ceiling : ℕ
+ceiling = 2 ^ 128 - 1
+
 -- no cost of the set is above its entry
 abbrev pub Covers : Entries → Costs → Type 0
-Covers m f = (p c q : ℕ) → f p c q → (e : ℕ) × (m p q ≡ Some e) × (c ≤ e)
+Covers m f = (p c q : ℕ) → f p c q → (e : ℕ) × (m p q ≡ Some e) × (min c ceiling ≤ e)
 
 -- each entry is a cost of the set
 abbrev pub Among : Entries → Costs → Type 0
-Among m f = (p c q : ℕ) → m p q ≡ Some c → f p c q
+Among m f = (p e q : ℕ) → m p q ≡ Some e → (c : ℕ) × f p c q × (min e ceiling ≡ min c ceiling)
 
 -- each entry is the largest cost, and none where there is no cost
 abbrev pub IsBest : Entries → Costs → Type 0

@@ -1,7 +1,7 @@
 -- Matrices of the largest sums between eight frame positions.
-use Rattle.std.specs.Prelude.{◌≡◌, ℕ, zero, suc, ◌+◌, ◌<◌, ◌^◌, max, [], Option, Some, None, slice_index_or, nat_lt, ◌&&◌, if◌then◌else◌}
+use Rattle.std.specs.Prelude.{◌≡◌, ℕ, zero, suc, ◌+◌, ◌<◌, min, max, [], Option, Some, None, slice_index_or, nat_lt, ◌&&◌, if◌then◌else◌}
 use Rattle.bound_calc.specs.declared.matrix.Matrix.{Matrix}
-use Rattle.bound_calc.specs.Best.{Entries, In, Then}
+use Rattle.bound_calc.specs.Best.{Entries, ceiling}
 
 -- the entry for a position at the start and one at the end
 abbrev pub cell : Matrix → ℕ → ℕ → Option ℕ
@@ -21,7 +21,7 @@ larger_of (Some x) (Some y) = Some (max x y)
 unfoldable pub sum_of : Option ℕ → Option ℕ → Option ℕ
 sum_of None y = None
 sum_of (Some x) None = None
-sum_of (Some x) (Some y) = Some (x + y)
+sum_of (Some x) (Some y) = Some (min (x + y) ceiling)
 
 -- the largest sum of two over the places below n
 unfoldable pub over : ℕ → (ℕ → Option ℕ) → (ℕ → Option ℕ) → Option ℕ
@@ -35,7 +35,3 @@ IsJoin a b m = (p q : ℕ) → p < 8 → q < 8 → cell m p q ≡ larger_of (cel
 -- each entry is the largest sum over the place between
 abbrev pub IsProduct : Matrix → Matrix → Matrix → Type 0
 IsProduct a b m = (p q : ℕ) → p < 8 → q < 8 → cell m p q ≡ over 8 (λ r. cell a p r) (λ r. cell b r q)
-
--- every sum over a place between is below 2 ^ 127
-abbrev pub HasSums : Matrix → Matrix → Type 0
-HasSums a b = (p c q : ℕ) → Then (In (entry a)) (In (entry b)) p c q → c < 2 ^ 127

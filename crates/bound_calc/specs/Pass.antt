@@ -2,18 +2,17 @@
 use Rattle.std.specs.Prelude.{◌≡◌, ℕ, ◌+◌, ◌<◌, ◌≤◌, ◌⊎◌, Option, Contains}
 use Rattle.bound_calc.specs.Best.{Costs, Stays}
 use Rattle.bound_calc.specs.Context.{Part, body}
-use Rattle.bound_calc.specs.Section.{net}
+use Rattle.bound_calc.specs.Section.{Field, net}
 use Rattle.bound_calc.specs.Ways.{Reaches}
 use Rattle.fp_setup.specs.declared.loop_list.LoopSetup.{LoopSetup}
 use Rattle.region_tree.specs.Graph.{Edge, edge_to}
-use Rattle.region_tree.specs.Walk.{Course, IsOwn, IsNextTurn, Positions}
 
 -- a set of edges, each with the word that it leaves
 abbrev pub Edges : Type 1
 Edges = ℕ → Edge → Type 0
 
 -- the edges of the words below v
-abbrev pub Below : Course → ℕ → Edges
+abbrev pub Below : Field → ℕ → Edges
 Below x v u e = (u < v) × Contains (x.graph.edges u) e
 
 -- these edges and one more
@@ -24,11 +23,8 @@ And f v e u e' = f u e' ⊎ ((u ≡ v) × (e' ≡ e))
 abbrev pub AndTo : Edges → ℕ → Option ℕ → ℕ → Edges
 AndTo f v target lag u e = f u e ⊎ ((u ≡ v) × Contains (edge_to target lag) e)
 
-abbrev pub Steps : Positions → ℕ → Costs
-Steps s lag p d q = IsNextTurn s lag p d q
-
 -- a walk of the part and then one of the edges, up to word w
-pub record Brings (x : Course) (s : Part) (f : Edges) (w p c q : ℕ) : Type 0 where
+pub record Brings (x : Field) (s : Part) (f : Edges) (w p c q : ℕ) : Type 0 where
   pub from : ℕ
   pub at : ℕ
   pub one : ℕ
@@ -36,16 +32,16 @@ pub record Brings (x : Course) (s : Part) (f : Edges) (w p c q : ℕ) : Type 0 w
   pub lag : ℕ
   pub walk : Reaches (net x) s from p one at
   pub edge : f from (record { to = w; lag = lag })
-  pub move : IsNextTurn x.positions lag at two q
+  pub move : x.move from lag at two q
   pub up : from < w
   pub high : w ≤ s.high
   pub cost : c ≡ one + two
 
-abbrev pub Comes : Course → Part → Edges → ℕ → Costs
-Comes x s f w p c q = ((w ≡ s.low) × Stays (IsOwn x.positions) p c q) ⊎ Brings x s f w p c q
+abbrev pub Comes : Field → Part → Edges → ℕ → Costs
+Comes x s f w p c q = ((w ≡ s.low) × Stays x.own p c q) ⊎ Brings x s f w p c q
 
 -- a walk of a loop's own part and then one of the edges, back to the head
-pub record Turns (x : Course) (j : LoopSetup) (f : Edges) (p c q : ℕ) : Type 0 where
+pub record Turns (x : Field) (j : LoopSetup) (f : Edges) (p c q : ℕ) : Type 0 where
   pub from : ℕ
   pub at : ℕ
   pub one : ℕ
@@ -53,5 +49,5 @@ pub record Turns (x : Course) (j : LoopSetup) (f : Edges) (p c q : ℕ) : Type 0
   pub lag : ℕ
   pub walk : Reaches (net x) (body (net x) j) from p one at
   pub edge : f from (record { to = j.head; lag = lag })
-  pub move : IsNextTurn x.positions lag at two q
+  pub move : x.move from lag at two q
   pub cost : c ≡ one + two

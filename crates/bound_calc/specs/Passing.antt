@@ -1,5 +1,5 @@
 -- What the matrices of a section's words hold while they are worked out.
-use Rattle.std.specs.Prelude.{◌≡◌, ℕ, ◌-◌, ◌/◌, ◌<◌, ◌≤◌, ◌⊎◌, ◌^◌, ◌%◌, ◌&&◌, nat_lt, nat_le, not, if◌then◌else◌, Bool, true, false, List, [], length, Option, Some, None, slice_index_or, Contains, Box}
+use Rattle.std.specs.Prelude.{◌≡◌, ℕ, ◌-◌, ◌/◌, ◌<◌, ◌≤◌, ◌⊎◌, min, ◌%◌, ◌&&◌, nat_lt, nat_le, not, if◌then◌else◌, Bool, true, false, List, [], length, Option, Some, None, slice_index_or, Contains, Box}
 use Rattle.std.specs.Global.{Global}
 use Rattle.std.specs.Option.{option_map}
 use Rattle.fp_setup.specs.declared.loop_list.LoopSetup.{LoopSetup}
@@ -7,19 +7,19 @@ use Rattle.region_tree.specs.Edges.{edges_of}
 use Rattle.region_tree.specs.Graph.{Edge, Lies, Reachable}
 use Rattle.region_tree.specs.Search.{address}
 use Rattle.region_tree.specs.Tree.{Tree, graph, word_at}
-use Rattle.region_tree.specs.Walk.{Course, CostsOf, Positions}
+use Rattle.region_tree.specs.Walk.{Course, CostsOf, IsOwn, Positions}
 use Rattle.region_tree.specs.declared.edges.Edges.{Edges}
-use Rattle.bound_calc.specs.Best.{Costs, Either, Then, Power, Entries, In, IsBest}
+use Rattle.bound_calc.specs.Best.{Costs, Either, Then, Entries, In, IsBest, ceiling}
 use Rattle.bound_calc.specs.Context.{Part, body, IsPart, IsNested}
-use Rattle.bound_calc.specs.Section.{net, whole}
+use Rattle.bound_calc.specs.Section.{Field, Steps, net, whole}
 use Rattle.bound_calc.specs.Ways.{Reaches, Rounds}
-use Rattle.bound_calc.specs.Pass.{Below, Steps, Comes}
+use Rattle.bound_calc.specs.Pass.{Below, Comes}
 use Rattle.bound_calc.specs.Matrices.{entry}
 use Rattle.bound_calc.specs.declared.matrix.Matrix.{Matrix}
 
 -- what walks through a tree's section go over
-abbrev pub over : Tree → Positions → Course
-over t s = record { graph = graph t; positions = s }
+abbrev pub walks : Tree → Positions → Course
+walks t s = record { graph = graph t; positions = s }
 
 -- the edges of the word at a place
 abbrev pub edges_at : Tree → ℕ → Edges
@@ -43,8 +43,21 @@ Powers = List (Option (Box Matrix Global))
 abbrev pub power_at : Powers → ℕ → Option Matrix
 power_at powers k = option_map (λ b. b.value) (slice_index_or powers k None)
 
+-- what it costs to go on from a word: by the turns, or what a matrix says
+abbrev pub moved : Positions → Option Matrix → ℕ → Costs
+moved s None lag = Steps s lag
+moved s (Some m) lag = In (entry m)
+
+-- The same walks, where the words at some places are gone on from at the costs of a matrix.
+abbrev pub over : Tree → Positions → Powers → Field
+over t s ways = record { graph = graph t; own = IsOwn s; move = λ u lag. moved s (power_at ways (place t u)) lag }
+
+-- these matrices lead to the thread's own positions
+abbrev pub AreWays : Positions → Powers → Type 0
+AreWays s ways = (k : ℕ) (m : Matrix) → power_at ways k ≡ Some m → (p c q : ℕ) → In (entry m) p c q → IsOwn s q
+
 -- the part of a loop, or the whole section
-abbrev pub part_of : Course → Option LoopSetup → Part
+abbrev pub part_of : Field → Option LoopSetup → Part
 part_of x None = whole x
 part_of x (Some j) = body (net x) j
 
@@ -61,46 +74,37 @@ abbrev pub up_of : Tree → ℕ → ℕ → Option ℕ → Option ℕ
 up_of t k high None = None
 up_of t k high (Some v) = if nat_lt (address t k) v && nat_le v (address t high) then Some (place t v) else None
 
--- a matrix was taken along an edge
-pub record IsBrought (s : Positions) (to : Option ℕ) (here : Matrix) (lag : ℕ) (old new : List Matrix) : Type 0 where
+-- a matrix was taken along an edge, at these costs
+pub record IsBrought (f : Costs) (to : Option ℕ) (here : Matrix) (old new : List Matrix) : Type 0 where
   pub others : (w : ℕ) → (to ≡ Some w → ⊥) → slice_index_or new w no_matrix ≡ slice_index_or old w no_matrix
-  pub there : (w : ℕ) → to ≡ Some w → IsBest (matrix_at new w) (Either (In (matrix_at old w)) (Then (In (entry here)) (Steps s lag)))
+  pub there : (w : ℕ) → to ≡ Some w → IsBest (matrix_at new w) (Either (In (matrix_at old w)) (Then (In (entry here)) f))
 
 -- the powers of the loops of a part whose heads are reachable
-pub record IsPowers (x : Course) (t : Tree) (s : Part) (powers : Powers) : Type 0 where
+pub record IsPowers (x : Field) (t : Tree) (s : Part) (powers : Powers) : Type 0 where
   pub some : (j : LoopSetup) → s.loops j → Reachable x.graph j.head → (m : Matrix) × (power_at powers (place t j.head) ≡ Some m) × IsBest (entry m) (Rounds (net x) j j.limit)
   pub only : (k : ℕ) (m : Matrix) → s.low ≤ address t k → address t k ≤ s.high → power_at powers k ≡ Some m → (j : LoopSetup) × s.loops j × (address t k ≡ j.head) × Reachable x.graph (address t k)
 
 -- Before the word at place n: what reaches each word below it, and what comes from below it to the others.
-pub record IsPassed (x : Course) (t : Tree) (s : Part) (n : ℕ) (at : List Matrix) : Type 0 where
+pub record IsPassed (x : Field) (t : Tree) (s : Part) (n : ℕ) (at : List Matrix) : Type 0 where
   pub count : length at ≡ length t.words
   pub done : (k : ℕ) → s.low ≤ address t k → k < n → IsBest (matrix_at at k) (Reaches (net x) s (address t k))
   pub ahead : (k : ℕ) → n ≤ k → address t k ≤ s.high → IsBest (matrix_at at k) (Comes x s (Below x (address t n)) (address t k))
 
 -- what a pass over a part needs
-pub record IsReady (x : Course) (t : Tree) (s : Part) (powers : Powers) : Type 0 where
+pub record IsReady (x : Field) (t : Tree) (s : Part) (powers : Powers) : Type 0 where
   pub nested : IsNested (net x)
   pub part : IsPart (net x) s
   pub reached : Reachable x.graph s.low
   pub rounds : IsPowers x t s powers
   pub count : length powers ≡ length t.words
-  pub limited : (v p c q : ℕ) → Reaches (net x) s v p c q → c < 2 ^ 120
 
 -- a matrix was taken back to a head, where the edge leads there
-pub record IsTurned (s : Positions) (back here : Matrix) (target : Option ℕ) (lag head : ℕ) (new : Matrix) : Type 0 where
+pub record IsTurned (f : Costs) (back here : Matrix) (target : Option ℕ) (head : ℕ) (new : Matrix) : Type 0 where
   pub other : (target ≡ Some head → ⊥) → new ≡ back
-  pub there : target ≡ Some head → IsBest (entry new) (Either (In (entry back)) (Then (In (entry here)) (Steps s lag)))
-
--- no cost of rounds within the bound is too large
-abbrev pub HasRounds : Course → LoopSetup → Type 0
-HasRounds x j = (m : ℕ) → m ≤ j.limit → (p c q : ℕ) → Rounds (net x) j m p c q → c < 2 ^ 120
-
--- no cost of a power up to the n-th is too large
-abbrev pub HasPowers : (ℕ → Type 0) → Costs → ℕ → Type 0
-HasPowers own f n = (m : ℕ) → m ≤ n → (p c q : ℕ) → Power own f m p c q → c < 2 ^ 127
+  pub there : target ≡ Some head → IsBest (entry new) (Either (In (entry back)) (Then (In (entry here)) f))
 
 -- the powers of the loops whose heads are at place n or above
-pub record IsFilled (x : Course) (t : Tree) (n : ℕ) (powers : Powers) : Type 0 where
+pub record IsFilled (x : Field) (t : Tree) (n : ℕ) (powers : Powers) : Type 0 where
   pub count : length powers ≡ length t.words
   pub some : (j : LoopSetup) → Contains x.graph.loops j → n ≤ place t j.head → Reachable x.graph j.head → (m : Matrix) × (power_at powers (place t j.head) ≡ Some m) × IsBest (entry m) (Rounds (net x) j j.limit)
   pub only : (k : ℕ) (m : Matrix) → power_at powers k ≡ Some m → (n ≤ k) × ((j : LoopSetup) × Contains x.graph.loops j × (address t k ≡ j.head) × Reachable x.graph (address t k))
@@ -108,8 +112,8 @@ pub record IsFilled (x : Course) (t : Tree) (n : ℕ) (powers : Powers) : Type 0
 -- the most so far, with the step along an edge that leaves the section
 pub record IsOut (s : Positions) (here : Matrix) (leaves : Bool) (lag old new : ℕ) : Type 0 where
   pub stays : old ≤ new
-  pub upper : leaves ≡ true → (p c q : ℕ) → Then (In (entry here)) (Steps s lag) p c q → c ≤ new
-  pub met : (new ≡ old) ⊎ ((leaves ≡ true) × ((p : ℕ) × (q : ℕ) × Then (In (entry here)) (Steps s lag) p new q))
+  pub upper : leaves ≡ true → (p c q : ℕ) → Then (In (entry here)) (Steps s lag) p c q → min c ceiling ≤ new
+  pub met : (new ≡ old) ⊎ ((leaves ≡ true) × ((p : ℕ) × (c : ℕ) × (q : ℕ) × Then (In (entry here)) (Steps s lag) p c q × (new ≡ min c ceiling)))
 
 -- whether an edge leaves the section
 abbrev pub leaves : Tree → Option ℕ → Bool
@@ -118,6 +122,18 @@ leaves t (Some v) = not (nat_le t.section.from v && nat_lt v t.section.to)
 
 -- the most of the words at the places below n
 pub record IsMost (x : Course) (t : Tree) (n : ℕ) (at : List Matrix) (most : ℕ) : Type 0 where
-  pub met : CostsOf x most
+  pub met : (c : ℕ) × CostsOf x c × (min most ceiling ≡ min c ceiling)
   pub inside : (k p c q : ℕ) → k < n → matrix_at at k p q ≡ Some c → c ≤ most
-  pub out : (k p c q : ℕ) (e : Edge) → k < n → Contains (x.graph.edges (address t k)) e → (Lies x.graph e.to → ⊥) → Then (In (matrix_at at k)) (Steps x.positions e.lag) p c q → c ≤ most
+  pub out : (k p c q : ℕ) (e : Edge) → k < n → Contains (x.graph.edges (address t k)) e → (Lies x.graph e.to → ⊥) → Then (In (matrix_at at k)) (Steps x.positions e.lag) p c q → min c ceiling ≤ most
+
+-- what leads to the words below place n that are ends, and then a jump further
+pub record Ended (s : Positions) (ends : List Bool) (at : List Matrix) (n p c q : ℕ) : Type 0 where
+  pub place : ℕ
+  pub below : place < n
+  pub is : slice_index_or ends place false ≡ true
+  pub jump : Then (In (matrix_at at place)) (Steps s 3) p c q
+
+-- a matrix was taken a jump further, if its word is an end
+pub record EndedHere (s : Positions) (is_end : Bool) (here back new : Matrix) : Type 0 where
+  pub other : is_end ≡ false → new ≡ back
+  pub there : is_end ≡ true → IsBest (entry new) (Either (In (entry back)) (Then (In (entry here)) (Steps s 3)))

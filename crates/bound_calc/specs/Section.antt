@@ -1,10 +1,11 @@
 -- A course as a net, and what is known of one whose tree was accepted.
 use Rattle.std.specs.Prelude.{◌≡◌, ℕ, ◌-◌, ◌<◌, ◌≤◌, ◌⊎◌, length, Contains}
+use Rattle.bound_calc.specs.Best.{Costs}
 use Rattle.bound_calc.specs.Context.{Net, Part}
 use Rattle.fp_setup.specs.declared.loop_list.LoopSetup.{LoopSetup}
 use Rattle.region_tree.specs.Graph.{Edge, Graph, Holds, Inside, Lies, Reachable}
 use Rattle.region_tree.specs.Refusals.{depth}
-use Rattle.region_tree.specs.Walk.{Course, IsOwn, IsNextTurn}
+use Rattle.region_tree.specs.Walk.{Course, IsOwn, IsNextTurn, Positions}
 
 -- Loops are properly nested and entered at their heads alone, and every reachable edge down is to the head of a loop
 -- that holds its word.
@@ -24,16 +25,29 @@ pub record IsModest (x : Course) : Type 0 where
   pub end : x.graph.to ≤ 65536
   pub order : x.graph.from < x.graph.to
 
--- an edge of a reachable word, taken by the turns
-pub record Arc (x : Course) (u p d v q : ℕ) : Type 0 where
+abbrev pub Steps : Positions → ℕ → Costs
+Steps s lag p d q = IsNextTurn s lag p d q
+
+-- A control graph, a thread's own positions, and what it costs to go along the edges of word u with a lag.
+pub record Field : Type 1 where
+  pub graph : Graph
+  pub own : ℕ → Type 0
+  pub move : ℕ → ℕ → Costs
+
+-- by the turns alone
+abbrev pub field : Course → Field
+field x = record { graph = x.graph; own = IsOwn x.positions; move = λ u lag. Steps x.positions lag }
+
+-- an edge of a reachable word, gone along
+pub record Arc (x : Field) (u p d v q : ℕ) : Type 0 where
   pub lag : ℕ
   pub edge : Contains (x.graph.edges u) (record { to = v; lag = lag })
-  pub move : IsNextTurn x.positions lag p d q
+  pub move : x.move u lag p d q
   pub reached : Reachable x.graph u
   pub lies : Lies x.graph v
 
-abbrev pub net : Course → Net
-net x = record { own = IsOwn x.positions; arc = Arc x; loop = Contains x.graph.loops }
+abbrev pub net : Field → Net
+net x = record { own = x.own; arc = Arc x; loop = Contains x.graph.loops }
 
-abbrev pub whole : Course → Part
+abbrev pub whole : Field → Part
 whole x = record { low = x.graph.from; high = x.graph.to - 1; loops = Contains x.graph.loops }

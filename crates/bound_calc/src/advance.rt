@@ -1,7 +1,7 @@
 //! Matrices a step further.
 
-ghost use Rattle.std.specs.Prelude.{◌≡◌, ℕ, ◌+◌, ◌<◌, ◌≤◌, ◌^◌, ◌⊎◌, max, length, Option, Some, None, slice_index_or};
-ghost use Rattle.bound_calc.specs.Best.{Either, In, IsBest, Then};
+ghost use Rattle.std.specs.Prelude.{◌≡◌, ℕ, ◌+◌, ◌<◌, ◌≤◌, min, ◌⊎◌, max, length, Option, Some, None, slice_index_or};
+ghost use Rattle.bound_calc.specs.Best.{Either, In, IsBest, Then, ceiling};
 ghost use Rattle.bound_calc.specs.Hops.{Hops, IsAdvanced, IsFarthest, IsLargest, IsLeft, raised};
 ghost use Rattle.bound_calc.specs.Matrices.{cell, entry};
 
@@ -17,7 +17,6 @@ fn greater(a: u128, b: u128) -> u128
 /// Takes a sum into a row, a step longer.
 fn raise(row: &mut [Option<u128>; 8], sum: Option<u128>, hop: Option<Hop>)
     requires place { (h : _) → hop ≡ Some h → h.place < 8 }
-    requires fits { (x : ℕ) → (h : _) → sum ≡ Some x → hop ≡ Some h → x + h.cost < 2 ^ 127 }
     ensures { row.new ≡ raised sum hop row.old }
 {
     let Some(sum) = sum else {
@@ -26,7 +25,10 @@ fn raise(row: &mut [Option<u128>; 8], sum: Option<u128>, hop: Option<Hop>)
     let Some(hop) = hop else {
         return;
     };
-    row[hop.place] = larger(row[hop.place], Some(sum + u128::from(hop.cost)));
+    row[hop.place] = larger(
+        row[hop.place],
+        Some(sum.saturating_add(u128::from(hop.cost))),
+    );
 }
 
 /// Takes the sums of a row into another, each a step longer.
@@ -36,7 +38,6 @@ fn advance_row(
     onto: &[Option<u128>; 8],
 ) -> [Option<u128>; 8]
     requires places { (p d q : ℕ) → Hops hops.now.hops p d q → q < 8 }
-    requires fits { (r x d q : ℕ) → r < 8 → slice_index_or row.now r None ≡ Some x → Hops hops.now.hops r d q → x + d < 2 ^ 127 }
     ensures { IsAdvanced row.now hops.now.hops 8 onto.now result }
 {
     let mut out = *onto;
@@ -49,7 +50,6 @@ fn advance_row(
 /// Joins a matrix with another that is taken a step further.
 pub fn advance(here: &Matrix, hops: &HopRow, onto: &Matrix) -> Matrix
     requires places { (p d q : ℕ) → Hops hops.now.hops p d q → (p < 8) × (q < 8) }
-    requires fits { (p c q : ℕ) → Then (In (entry here.now)) (Hops hops.now.hops) p c q → c < 2 ^ 127 }
     ensures { IsBest (entry result) (Either (In (entry onto.now)) (Then (In (entry here.now)) (Hops hops.now.hops))) }
 {
     let mut best = [[None; 8]; 8];
@@ -61,10 +61,9 @@ pub fn advance(here: &Matrix, hops: &HopRow, onto: &Matrix) -> Matrix
 
 /// The larger of a number and a sum that is a step longer.
 fn leave_one(sum: Option<u128>, hop: Option<Hop>, most: u128) -> u128
-    requires { (x : ℕ) → (h : _) → sum ≡ Some x → hop ≡ Some h → x + h.cost < 2 ^ 127 }
     ensures stays { most ≤ result }
-    ensures upper { (x : ℕ) → (h : _) → sum ≡ Some x → hop ≡ Some h → x + h.cost ≤ result }
-    ensures met { (result ≡ most) ⊎ ((x : ℕ) × (h : _) × (sum ≡ Some x) × (hop ≡ Some h) × (result ≡ x + h.cost)) }
+    ensures upper { (x : ℕ) → (h : _) → sum ≡ Some x → hop ≡ Some h → min (x + h.cost) ceiling ≤ result }
+    ensures met { (result ≡ most) ⊎ ((x : ℕ) × (h : _) × (sum ≡ Some x) × (hop ≡ Some h) × (result ≡ min (x + h.cost) ceiling)) }
 {
     let Some(sum) = sum else {
         return most;
@@ -72,11 +71,10 @@ fn leave_one(sum: Option<u128>, hop: Option<Hop>, most: u128) -> u128
     let Some(hop) = hop else {
         return most;
     };
-    greater(most, sum + u128::from(hop.cost))
+    greater(most, sum.saturating_add(u128::from(hop.cost)))
 }
 
 fn leave_row(row: &[Option<u128>; 8], hops: &HopRow, most: u128) -> u128
-    requires { (r x d q : ℕ) → r < 8 → slice_index_or row.now r None ≡ Some x → Hops hops.now.hops r d q → x + d < 2 ^ 127 }
     ensures { IsFarthest row.now hops.now.hops 8 most result }
 {
     let mut farthest = most;
@@ -89,7 +87,6 @@ fn leave_row(row: &[Option<u128>; 8], hops: &HopRow, most: u128) -> u128
 /// The largest of a number and the sums of a matrix, each a step longer.
 pub fn leave(here: &Matrix, hops: &HopRow, most: u128) -> u128
     requires places { (p d q : ℕ) → Hops hops.now.hops p d q → (p < 8) × (q < 8) }
-    requires fits { (p c q : ℕ) → Then (In (entry here.now)) (Hops hops.now.hops) p c q → c < 2 ^ 127 }
     ensures { IsLeft here.now hops.now.hops most result }
 {
     let mut farthest = most;

@@ -8,11 +8,10 @@ ghost use Rattle.region_tree.specs.Walk.{IsOwn};
 ghost use Rattle.bound_calc.specs.Best.{In, IsBest, Then};
 ghost use Rattle.bound_calc.specs.Bound.{IsBound, IsTooLarge, course};
 ghost use Rattle.bound_calc.specs.declared.cycle_bound.BoundNo.TheVariants.{Overflow};
-ghost use Rattle.bound_calc.specs.Section.{net, whole};
+ghost use Rattle.bound_calc.specs.Section.{Steps as StepsAfter, field, net, whole};
 ghost use Rattle.bound_calc.specs.Ways.{Reaches};
-ghost use Rattle.bound_calc.specs.Pass.{Steps as StepsAfter};
 ghost use Rattle.bound_calc.specs.Matrices.{entry};
-ghost use Rattle.bound_calc.specs.Passing.{IsFilled, IsOut, leaves, matrix_at, over, power_at};
+ghost use Rattle.bound_calc.specs.Passing.{IsFilled, IsOut, leaves, matrix_at, power_at, walks};
 
 use crate::advance::{largest, leave};
 use crate::fill::{empty, fill};
@@ -60,7 +59,6 @@ fn is_out(tree: &LoopTree, target: Option<u32>) -> bool
 /// The largest of a number and the steps along an edge that leaves the section.
 fn most_out(steps: &Steps, here: &Matrix, out: bool, lag: u64, most: u128) -> u128
     requires lag { lag ≤ 3 }
-    requires fits { (p c q : ℕ) → Then (In (entry here.now)) (StepsAfter steps.now lag) p c q → c < 2 ^ 127 }
     ensures { IsOut steps.now here.now out lag most result }
 {
     if out {
@@ -76,8 +74,8 @@ fn most(tree: &LoopTree, steps: &Steps, at: &[Matrix]) -> u128
     requires frame { length steps.now.frame ≤ 8 }
     requires slot { (p : ℕ) × IsOwn steps.now p }
     requires room { length at.now ≡ length tree.now.words }
-    requires best { (k : ℕ) → k < length tree.now.words → IsBest (matrix_at at.now k) (Reaches (net (over tree.now steps.now)) (whole (over tree.now steps.now)) (address tree.now k)) }
-    ensures { IsBound (over tree.now steps.now) result }
+    requires best { (k : ℕ) → k < length tree.now.words → IsBest (matrix_at at.now k) (Reaches (net (field (walks tree.now steps.now))) (whole (field (walks tree.now steps.now))) (address tree.now k)) }
+    ensures { IsBound (walks tree.now steps.now) result }
 {
     let mut most = 0;
     for place in 0..at.len() {
@@ -100,19 +98,22 @@ fn cost_in(
     alloc: Global,
     tree: &LoopTree,
     steps: &Steps,
+    ways: &[Option<Box<Matrix>>],
     powers: &mut [Option<Box<Matrix>>],
     at: &mut [Matrix],
 ) -> Result<u128, AllocError>
     requires tree { IsTree tree.now }
     requires frame { length steps.now.frame ≤ 8 }
     requires slot { (p : ℕ) × IsOwn steps.now p }
+    requires ways { length ways.now ≡ length tree.now.words }
+    requires none { (k : ℕ) → power_at ways.now k ≡ None }
     requires count { length powers.old ≡ length tree.now.words }
     requires empty { (k : ℕ) → power_at powers.old k ≡ None }
     requires room { length at.old ≡ length tree.now.words }
-    ensures { IfOk result (IsBound (over tree.now steps.now)) }
+    ensures { IfOk result (IsBound (walks tree.now steps.now)) }
 {
-    fill(alloc, tree, steps, powers, at)?;
-    pass(tree, steps, powers, None, at);
+    fill(alloc, tree, steps, ways, powers, at)?;
+    pass(tree, steps, ways, powers, None, at);
     Ok(most(tree, steps, at))
 }
 
@@ -120,13 +121,14 @@ fn cost_in(
 fn largest_cost(alloc: Global, tree: &LoopTree, steps: &Steps) -> Result<u128, AllocError>
     requires frame { length steps.now.frame ≤ 8 }
     requires slot { (p : ℕ) × IsOwn steps.now p }
-    ensures { IfOk result (IsBound (over tree.now steps.now)) }
+    ensures { IfOk result (IsBound (walks tree.now steps.now)) }
 {
     let section = tree.section();
     let count = ((section.to - section.from) / 4) as usize;
     let mut at = vec![in alloc; Matrix::NONE; count]?;
     let mut powers = empty(alloc, count)?;
-    cost_in(alloc, tree, steps, &mut powers, &mut at)
+    let ways = empty(alloc, count)?;
+    cost_in(alloc, tree, steps, &ways, &mut powers, &mut at)
 }
 
 /// A bound in 64 bits, if it has no more.

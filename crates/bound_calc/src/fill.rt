@@ -1,7 +1,7 @@
 //! The powers of all loops, from the last head to the first.
 
 ghost use Rattle.std.specs.Prelude.{◌≡◌, ◌≢◌, ℕ, ◌+◌, ◌<◌, ◌≤◌, length, MatchOption, Contains, OnOk, IfOk};
-ghost use Rattle.bound_calc.specs.Passing.{IsFilled, Powers, over, power_at};
+ghost use Rattle.bound_calc.specs.Passing.{AreWays, IsFilled, Powers, over, power_at};
 
 use crate::matrix::Matrix;
 use crate::rounds::rounds;
@@ -38,15 +38,17 @@ fn fill_word(
     alloc: Global,
     tree: &LoopTree,
     steps: &Steps,
+    ways: &[Option<Box<Matrix>>],
     place: usize,
     powers: &mut [Option<Box<Matrix>>],
     at: &mut [Matrix],
 ) -> Result<(), AllocError>
-    requires frame { length steps.now.frame ≤ 8 }
+    requires ways { length ways.now ≡ length tree.now.words }
+    requires own { AreWays steps.now ways.now }
     requires place { place < length tree.now.words }
-    requires filled { IsFilled (over tree.now steps.now) tree.now (place + 1) powers.old }
+    requires filled { IsFilled (over tree.now steps.now ways.now) tree.now (place + 1) powers.old }
     requires room { length at.old ≡ length tree.now.words }
-    ensures { OnOk result (IsFilled (over tree.now steps.now) tree.now place powers.new) }
+    ensures { OnOk result (IsFilled (over tree.now steps.now ways.now) tree.now place powers.new) }
 {
     let address = tree.section().from + 4 * place as u32;
     if !tree.is_reachable(address) {
@@ -55,7 +57,7 @@ fn fill_word(
     let Some(j) = loop_at(tree.loops(), address) else {
         return Ok(());
     };
-    let power = rounds(tree, steps, powers, j, at);
+    let power = rounds(tree, steps, ways, powers, j, at);
     powers[place] = Some(Box::new(alloc, power)?);
     Ok(())
 }
@@ -65,18 +67,20 @@ pub fn fill(
     alloc: Global,
     tree: &LoopTree,
     steps: &Steps,
+    ways: &[Option<Box<Matrix>>],
     powers: &mut [Option<Box<Matrix>>],
     at: &mut [Matrix],
 ) -> Result<(), AllocError>
-    requires frame { length steps.now.frame ≤ 8 }
-    requires filled { IsFilled (over tree.now steps.now) tree.now (length tree.now.words) powers.old }
+    requires ways { length ways.now ≡ length tree.now.words }
+    requires own { AreWays steps.now ways.now }
+    requires filled { IsFilled (over tree.now steps.now ways.now) tree.now (length tree.now.words) powers.old }
     requires room { length at.old ≡ length tree.now.words }
-    ensures { OnOk result (IsFilled (over tree.now steps.now) tree.now 0 powers.new) }
+    ensures { OnOk result (IsFilled (over tree.now steps.now ways.now) tree.now 0 powers.new) }
 {
     let mut place = at.len();
     while place > 0 {
         place -= 1;
-        fill_word(alloc, tree, steps, place, powers, at)?;
+        fill_word(alloc, tree, steps, ways, place, powers, at)?;
     }
     Ok(())
 }

@@ -9,10 +9,12 @@ mod laws;
 mod matrix;
 mod pass;
 mod powers;
+mod returns;
 mod rounds;
 mod steps;
 
 pub use cycle_bound::{BoundNo, bound};
 pub use laws::{rounds_are_steps, stays_in_rounds};
 pub use matrix::Matrix;
+pub use returns::through;
 pub use steps::has_slot;

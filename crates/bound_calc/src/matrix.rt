@@ -27,11 +27,10 @@ pub fn larger(a: Option<u128>, b: Option<u128>) -> Option<u128>
 
 #[tactic(auto, unfolding(crate::specs::Matrices::sum_of))]
 fn sum(a: Option<u128>, b: Option<u128>) -> Option<u128>
-    requires { (x y : ℕ) → a ≡ Some x → b ≡ Some y → x + y < 2 ^ 127 }
     ensures { result ≡ sum_of a b }
 {
     match (a, b) {
-        (Some(x), Some(y)) => Some(x + y),
+        (Some(x), Some(y)) => Some(x.saturating_add(y)),
         _ => None,
     }
 }
@@ -45,7 +44,7 @@ fn join_row(a: &[Option<u128>; 8], b: &[Option<u128>; 8]) -> [Option<u128>; 8]
 impl Matrix {
     ghost use Rattle.std.specs.Prelude.{◌≡◌, ℕ, ◌+◌, ◌<◌, ◌^◌, Option, Some, None, slice_index_or};
     ghost use Rattle.bound_calc.specs.Best.{Either, In, IsBest, Then};
-    ghost use Rattle.bound_calc.specs.Matrices.{HasSums, IsJoin, IsProduct, cell, entry, over};
+    ghost use Rattle.bound_calc.specs.Matrices.{IsJoin, IsProduct, cell, entry, over};
 
     /// No sum for any pair.
     pub const NONE: Matrix = Matrix {
@@ -64,10 +63,8 @@ impl Matrix {
         Matrix { best }
     }
 
-    /// The largest sum over the place between, for each pair of positions. The sums stay below
-    /// 2^127.
+    /// The largest sum over the place between, for each pair of positions.
     pub fn chain(&self, other: &Matrix) -> Matrix
-        requires sums { HasSums self.now other.now }
         ensures largest { IsProduct self.now other.now result }
         ensures best { IsBest (entry result) (Then (In (entry self.now)) (In (entry other.now))) }
     {
@@ -80,7 +77,6 @@ impl Matrix {
 
     /// A row chained with the matrix.
     fn chain_row(&self, row: &[Option<u128>; 8]) -> [Option<u128>; 8]
-        requires sums { (q r x y : ℕ) → q < 8 → r < 8 → slice_index_or row.now r None ≡ Some x → cell self.now r q ≡ Some y → x + y < 2 ^ 127 }
         ensures { (q : ℕ) → q < 8 → slice_index_or result q None ≡ over 8 (λ r. slice_index_or row.now r None) (λ r. cell self.now r q) }
     {
         let mut out = [None; 8];
@@ -94,7 +90,6 @@ impl Matrix {
     #[tactic(auto, unfolding(crate::specs::Matrices::over))]
     fn chain_entry(&self, row: &[Option<u128>; 8], q: usize) -> Option<u128>
         requires q { q < 8 }
-        requires sums { (r x y : ℕ) → r < 8 → slice_index_or row.now r None ≡ Some x → cell self.now r q ≡ Some y → x + y < 2 ^ 127 }
         ensures { result ≡ over 8 (λ r. slice_index_or row.now r None) (λ r. cell self.now r q) }
     {
         let mut best = None;

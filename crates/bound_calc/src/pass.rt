@@ -4,12 +4,11 @@ ghost use Rattle.std.specs.Prelude.{◌≡◌, ℕ, ◌+◌, ◌*◌, ◌<◌, �
 ghost use Rattle.std.specs.Option.{option_map};
 ghost use Rattle.region_tree.specs.Search.{address};
 ghost use Rattle.region_tree.specs.Tree.{IsTree};
-ghost use Rattle.bound_calc.specs.Best.{In, IsBest, Then};
+ghost use Rattle.bound_calc.specs.Best.{Either, In, IsBest, Then};
 ghost use Rattle.bound_calc.specs.Section.{net};
 ghost use Rattle.bound_calc.specs.Ways.{Reaches};
-ghost use Rattle.bound_calc.specs.Pass.{Steps as StepsAfter};
-ghost use Rattle.bound_calc.specs.Matrices.{HasSums, entry};
-ghost use Rattle.bound_calc.specs.Passing.{IsBrought, IsReady, IsSpan, edges_at, matrix_at, over, part_of, up_of};
+ghost use Rattle.bound_calc.specs.Matrices.{entry};
+ghost use Rattle.bound_calc.specs.Passing.{IsBrought, IsReady, IsSpan, edges_at, matrix_at, moved, over, part_of, up_of};
 
 use crate::advance::advance;
 use crate::matrix::Matrix;
@@ -27,7 +26,7 @@ pub struct Span {
 /// The places of a loop, or of the whole section.
 pub fn places_of(tree: &LoopTree, around: Option<LoopSetup>) -> Span
     requires { IfSome around (λ j. Contains tree.now.loops j) }
-    ensures span { (s : _) → IsSpan tree.now (part_of (over tree.now s) around) result.first result.last }
+    ensures span { (s : _) → (ways : _) → IsSpan tree.now (part_of (over tree.now s ways) around) result.first result.last }
     ensures order { result.first ≤ result.last }
     ensures inside { result.last < length tree.now.words }
     ensures rules { IsTree tree.now }
@@ -71,7 +70,6 @@ fn up_to(tree: &LoopTree, place: usize, last: usize, target: Option<u32>) -> Opt
 
 /// What holds at a word, from what comes to it and the power of the loop whose head it is.
 fn with_rounds(here: &Matrix, power: &Option<Box<Matrix>>) -> Matrix
-    requires { (m : _) → option_map (λ b. b.value) power.now ≡ Some m → HasSums here.now m }
     ensures { MatchOption (option_map (λ b. b.value) power.now) (result ≡ here.now) (λ m. IsBest (entry result) (Then (In (entry here.now)) (In (entry m)))) }
 {
     match power {
@@ -80,17 +78,44 @@ fn with_rounds(here: &Matrix, power: &Option<Box<Matrix>>) -> Matrix
     }
 }
 
+/// Joins a matrix with another that goes on from a word: by the turns after a lag, or by the way
+/// of the word, if it has one.
+pub fn along(
+    steps: &Steps,
+    way: &Option<Box<Matrix>>,
+    here: &Matrix,
+    lag: u64,
+    onto: &Matrix,
+) -> Matrix
+    requires lag { lag ≤ 3 }
+    ensures { IsBest (entry result) (Either (In (entry onto.now)) (Then (In (entry here.now)) (moved steps.now (option_map (λ b. b.value) way.now) lag))) }
+{
+    match way {
+        None => advance(here, steps.hops(lag), onto),
+        Some(way) => {
+            let chained = here.chain(way);
+            onto.join(&chained)
+        }
+    }
+}
+
 /// Takes a matrix along an edge to a place.
-fn bring(steps: &Steps, to: Option<usize>, here: &Matrix, lag: u64, at: &mut [Matrix])
+fn bring(
+    steps: &Steps,
+    way: &Option<Box<Matrix>>,
+    to: Option<usize>,
+    here: &Matrix,
+    lag: u64,
+    at: &mut [Matrix],
+)
     requires lag { lag ≤ 3 }
     requires within { IfSome to (λ k. k < length at.old) }
-    requires fits { IfSome to (λ _. (p c q : ℕ) → Then (In (entry here.now)) (StepsAfter steps.now lag) p c q → c < 2 ^ 127) }
-    ensures { IsBrought steps.now to here.now lag at.old at.new }
+    ensures { IsBrought (moved steps.now (option_map (λ b. b.value) way.now) lag) to here.now at.old at.new }
 {
     let Some(to) = to else {
         return;
     };
-    let joined = advance(here, steps.hops(lag), &at[to]);
+    let joined = along(steps, way, here, lag, &at[to]);
     at[to] = joined;
 }
 
@@ -109,14 +134,16 @@ fn clear(at: &mut [Matrix], span: Span)
 pub fn pass(
     tree: &LoopTree,
     steps: &Steps,
+    ways: &[Option<Box<Matrix>>],
     powers: &[Option<Box<Matrix>>],
     around: Option<LoopSetup>,
     at: &mut [Matrix],
 )
     requires known { IfSome around (λ j. Contains tree.now.loops j) }
-    requires ready { IsReady (over tree.now steps.now) tree.now (part_of (over tree.now steps.now) around) powers.now }
+    requires ready { IsReady (over tree.now steps.now ways.now) tree.now (part_of (over tree.now steps.now ways.now) around) powers.now }
     requires room { length at.old ≡ length tree.now.words }
-    ensures { let s = part_of (over tree.now steps.now) around in (k : ℕ) → s.low ≤ address tree.now k → address tree.now k ≤ s.high → IsBest (matrix_at at.new k) (Reaches (net (over tree.now steps.now)) s (address tree.now k)) }
+    requires ways { length ways.now ≡ length tree.now.words }
+    ensures { let s = part_of (over tree.now steps.now ways.now) around in (k : ℕ) → s.low ≤ address tree.now k → address tree.now k ≤ s.high → IsBest (matrix_at at.new k) (Reaches (net (over tree.now steps.now ways.now)) s (address tree.now k)) }
 {
     let span = places_of(tree, around);
     clear(at, span);
@@ -126,8 +153,8 @@ pub fn pass(
         at[place] = here;
         let edges = edges_at(tree, place);
         let next = up_to(tree, place, span.last, edges.next);
-        bring(steps, next, &here, edges.next_lag, at);
+        bring(steps, &ways[place], next, &here, edges.next_lag, at);
         let jump = up_to(tree, place, span.last, edges.jump);
-        bring(steps, jump, &here, JUMP_LAG, at);
+        bring(steps, &ways[place], jump, &here, JUMP_LAG, at);
     }
 }

@@ -4,7 +4,6 @@ ghost use Rattle.std.specs.Prelude.{◌≡◌, ℕ, ◌<◌, ◌≤◌};
 ghost use Rattle.region_tree.specs.Walk.{IsOwn};
 ghost use Rattle.bound_calc.specs.Best.{In, IsBest, Power};
 ghost use Rattle.bound_calc.specs.Matrices.{entry};
-ghost use Rattle.bound_calc.specs.Passing.{HasPowers};
 
 use crate::matrix::Matrix;
 use crate::steps::Steps;
@@ -12,7 +11,6 @@ use crate::steps::Steps;
 /// A matrix chained with itself so many times, by squaring.
 pub fn power(steps: &Steps, base: &Matrix, times: u32) -> Matrix
     requires lands { (p c q : ℕ) → In (entry base.now) p c q → IsOwn steps.now q }
-    requires sums { HasPowers (IsOwn steps.now) (In (entry base.now)) times }
     ensures { IsBest (entry result) (Power (IsOwn steps.now) (In (entry base.now)) times) }
 {
     if times == 0 {

@@ -9,7 +9,7 @@ use Rattle.fp_setup.specs.Loops.{AreLoops, IsLoop}
 use Rattle.region_tree.specs.declared.section.Section.{Section}
 use Rattle.region_tree.specs.Tree.{IsSection, IsDraft, counts, tree_of, words_of}
 
-words-length : (memory : ℕ → ℕ) (s : Section) → IsSection s → s.to ≡ s.from + 4 * length (words_of memory s)
+pub words-length : (memory : ℕ → ℕ) (s : Section) → IsSection s → s.to ≡ s.from + 4 * length (words_of memory s)
 unfolding words_of
 words-length memory s is =
     let n = length-map-range_with_len (λ k. memory (s.from + 4 * k)) 0 ((s.to - s.from) / 4) in
@@ -34,6 +34,17 @@ pub draft-of : (memory : ℕ → ℕ) (s : Section) (loops : List LoopSetup) (wo
 draft-of memory s loops words counting w c is rules =
     subst (λ l. IsDraft (record { section = s; words = words; loops = l })) (sym c)
     (subst (λ l. IsDraft (record { section = s; words = l; loops = filter (counts s) loops })) (sym w) (draft-is memory s loops is rules))
+
+-- the same, with any words that are as many
+pub draft-with : (s : Section) (loops : List LoopSetup) (words : List ℕ) (counting : List LoopSetup) → s.to ≡ s.from + 4 * length words → counting ≡ filter (counts s) loops → IsSection s → AreLoops loops → IsDraft (record { section = s; words = words; loops = counting })
+draft-with s loops words counting count c is rules =
+    subst (λ l. IsDraft (record { section = s; words = words; loops = l })) (sym c)
+    (record {
+      section = is;
+      words = count;
+      loops = λ j h. All-contains IsLoop (filter (counts s) loops) j (All-filter (counts s) IsLoop loops rules.each) h;
+      counting = λ j h. counting-is s j (All-contains (λ i. counts s i ≡ true) (filter (counts s) loops) j (filter_passes (counts s) loops) h);
+    })
 
 -- one word more
 pub words-more : (memory : ℕ → ℕ) (from n w : ℕ) (words words' : List ℕ) → words' ≡ words ++ w ∷ [] → w ≡ memory (from + 4 * n) → words ≡ map (λ k. memory (from + 4 * k)) (range_with_len 0 n) → words' ≡ map (λ k. memory (from + 4 * k)) (range_with_len 0 (n + 1))

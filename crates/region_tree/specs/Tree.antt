@@ -28,9 +28,13 @@ words_of memory s = map (λ k. memory (s.from + 4 * k)) (range_with_len 0 ((s.to
 abbrev pub counts : Section → LoopSetup → Bool
 counts s j = (nat_le s.from j.head && nat_lt j.head s.to) && (nat_le s.from j.last && nat_lt j.last s.to)
 
+-- the tree of a section, its words and loops
+abbrev pub tree_with : Section → List ℕ → List LoopSetup → Tree
+tree_with s words loops = record { section = s; words = words; loops = filter (counts s) loops }
+
 -- the tree of a memory, a section and loops
 abbrev pub tree_of : (ℕ → ℕ) → Section → List LoopSetup → Tree
-tree_of memory s loops = record { section = s; words = words_of memory s; loops = filter (counts s) loops }
+tree_of memory s loops = tree_with s (words_of memory s) loops
 
 -- a tree's word at an address of its section
 abbrev pub word_at : Tree → ℕ → ℕ

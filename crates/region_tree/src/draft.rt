@@ -70,7 +70,26 @@ impl Draft {
     ghost use Rattle.fp_image.specs.Rules.{word};
     ghost use Rattle.region_tree.specs.Edges.{edges_of};
     ghost use Rattle.region_tree.specs.Search.{address, place_of};
-    ghost use Rattle.region_tree.specs.Tree.{IsDraft, IsSection, tree_of, word_at};
+    ghost use Rattle.region_tree.specs.Tree.{IsDraft, IsSection, tree_of, tree_with, word_at};
+
+    /// A section with these words, and with those of the loops that count in it.
+    pub fn from_words(
+        alloc: Global,
+        section: Section,
+        words: Vec<u32>,
+        loops: &Loops,
+    ) -> Result<Draft, AllocError>
+        requires section { IsSection section }
+        requires count { section.to ≡ section.from + 4 * length words.items }
+        ensures { IfOk result (λ draft. draft ≡ tree_with section words.items loops.now) }
+    {
+        let loops = counting(alloc, section, loops.as_slice())?;
+        Ok(Draft {
+            section,
+            words,
+            loops,
+        })
+    }
 
     /// A section of an image, with those of the loops that count in it.
     pub fn new(
@@ -83,12 +102,7 @@ impl Draft {
         ensures { IfOk result (λ draft. draft ≡ tree_of (word image.now) section loops.now) }
     {
         let words = words(alloc, image, section)?;
-        let loops = counting(alloc, section, loops.as_slice())?;
-        Ok(Draft {
-            section,
-            words,
-            loops,
-        })
+        Draft::from_words(alloc, section, words, loops)
     }
 
     /// The section.

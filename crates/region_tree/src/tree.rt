@@ -63,11 +63,11 @@ impl Model for LoopTree {
 }
 
 impl LoopTree {
-    ghost use Rattle.std.specs.Prelude.{◌≡◌, ◌≤◌, ◌<◌, ◌%◌, ◌↔◌, IfOk, IfErr, OnOk, IsTrue};
+    ghost use Rattle.std.specs.Prelude.{◌≡◌, ◌≤◌, ◌<◌, ◌%◌, ◌+◌, ◌*◌, ◌↔◌, length, IfOk, IfErr, OnOk, IsTrue};
     ghost use Rattle.fp_image.specs.Rules.{word};
     ghost use Rattle.region_tree.specs.Graph.{Reachable};
     ghost use Rattle.region_tree.specs.Refusals.{IsAllowed, IsRefused};
-    ghost use Rattle.region_tree.specs.Tree.{IsSection, IsTree, graph, tree_of, word_at};
+    ghost use Rattle.region_tree.specs.Tree.{IsSection, IsTree, graph, tree_of, tree_with, word_at};
 
     /// The tree of a section of an image and of the loops that count in it: those of the listed
     /// loops whose head and last word lie in the section. The section isn't empty, its ends are
@@ -90,6 +90,31 @@ impl LoopTree {
         ensures refused { IfErr result (IsRefused (graph (tree_of (word image.now) section loops.now))) }
     {
         let draft = Draft::new(alloc, image, section, loops)?;
+        let met = reachable(alloc, &draft)?;
+        check(&draft, met.as_slice())?;
+        Ok(LoopTree { draft, met })
+    }
+
+    /// The tree of a section with these words, as many as it holds, and of the loops that count in
+    /// it.
+    ///
+    /// # Errors
+    ///
+    /// As of [`LoopTree::build`].
+    pub fn from_words(
+        alloc: Global,
+        section: Section,
+        words: Vec<u32>,
+        loops: &Loops,
+    ) -> Result<LoopTree, TreeNo>
+        requires section { IsSection section }
+        requires count { section.to ≡ section.from + 4 * length words.items }
+        ensures tree { IfOk result (λ tree. tree ≡ tree_with section words.items loops.now) }
+        ensures allowed { OnOk result (IsAllowed (graph (tree_with section words.items loops.now))) }
+        ensures rules { IfOk result IsTree }
+        ensures refused { IfErr result (IsRefused (graph (tree_with section words.items loops.now))) }
+    {
+        let draft = Draft::from_words(alloc, section, words, loops)?;
         let met = reachable(alloc, &draft)?;
         check(&draft, met.as_slice())?;
         Ok(LoopTree { draft, met })

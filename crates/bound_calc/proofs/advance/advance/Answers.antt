@@ -1,13 +1,9 @@
-use Rattle.std.proofs.Common.{◌≢◌, ◌+◌, ◌<◌, arith, refl, ◌∙◌, length, length-set, get_or-set_other, get_or-set_same, below_more}
+use Rattle.std.proofs.Common.{◌≢◌, ◌<◌, arith, length, length-set, get_or-set_other, get_or-set_same, below_more}
 use Rattle.bound_calc.proofs.AdvanceLaws.{best-advanced}
-use Rattle.bound_calc.proofs.Entries.{entry-in}
 use Rattle.bound_calc.proofs.advance.advance.Goals as goal
 
-pub advance_row-requires-clause-places : goal.advance_row-requires-clause-places
-advance_row-requires-clause-places c = λ p d q h. (c.requires.places p d q h).1
-
-pub advance_row-requires-clause-fits : goal.advance_row-requires-clause-fits
-advance_row-requires-clause-fits c = λ r x d q lt is h. c.requires.fits c.loop-p.p (x + d) q (record { at = r; one = x; two = d; first = entry-in c.args.here.now c.loop-p.p r (omega arith) lt ∙ is; second = h; cost = refl })
+pub advance_row-requires : goal.advance_row-requires
+advance_row-requires c = record { places = λ p d q h. (c.requires.places p d q h).1 }
 
 pub loop-p-preserved : goal.loop-p-preserved
 loop-p-preserved c =

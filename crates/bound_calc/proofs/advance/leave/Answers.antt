@@ -1,13 +1,9 @@
-use Rattle.std.proofs.Common.{◌+◌, arith, refl, ◌∙◌}
+use Rattle.std.proofs.Common.{arith}
 use Rattle.bound_calc.proofs.AdvanceLaws.{left-all, left-more, left-start}
-use Rattle.bound_calc.proofs.Entries.{entry-in}
 use Rattle.bound_calc.proofs.advance.leave.Goals as goal
 
 pub loop-p-init : goal.loop-p-init
 loop-p-init c = left-start c.args.here.now c.args.hops.now.hops c.args.most
-
-pub leave_row-farthest-requires : goal.leave_row-farthest-requires
-leave_row-farthest-requires c = λ r x d q lt is h. c.requires.fits c.loop-p.p (x + d) q (record { at = r; one = x; two = d; first = entry-in c.args.here.now c.loop-p.p r (omega arith) lt ∙ is; second = h; cost = refl })
 
 pub loop-p-preserved : goal.loop-p-preserved
 loop-p-preserved c = left-more c.args.here.now c.args.hops.now.hops c.loop-p.p c.args.most c.loop-p.farthest c.leave_row-farthest.result c.loop-p.invariant c.leave_row-farthest.ensures

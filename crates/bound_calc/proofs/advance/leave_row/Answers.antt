@@ -6,9 +6,6 @@ use Rattle.bound_calc.proofs.advance.leave_row.Goals as goal
 pub loop-r-init : goal.loop-r-init
 loop-r-init c = record { stays = omega arith; upper = λ r x d q lt is h. absurd (omega arith); met = inl refl }
 
-pub leave_one-farthest-requires : goal.leave_one-farthest-requires
-leave_one-farthest-requires c = λ x h is at. c.requires c.loop-r.r x h.cost h.place (omega arith) is at
-
 pub loop-r-preserved : goal.loop-r-preserved
 loop-r-preserved c = farthest-more c.args.row.now c.args.hops.now.hops c.loop-r.r c.args.most c.loop-r.farthest c.leave_one-farthest.result c.loop-r.invariant c.leave_one-farthest.ensures.stays c.leave_one-farthest.ensures.upper c.leave_one-farthest.ensures.met
 

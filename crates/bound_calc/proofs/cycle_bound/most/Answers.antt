@@ -1,20 +1,14 @@
 use Rattle.std.proofs.Common.{◌≤◌, arith, subst, sym, slice_index_or}
-use Rattle.bound_calc.specs.Passing.{IsOut, leaves, no_matrix, over}
-use Rattle.bound_calc.proofs.MostLaws.{most-all, most-first, most-more, most-sums}
+use Rattle.bound_calc.specs.Passing.{IsOut, leaves, no_matrix, walks}
+use Rattle.bound_calc.proofs.MostLaws.{most-all, most-first, most-more}
 use Rattle.bound_calc.proofs.PassLaws.{lag-small}
 use Rattle.bound_calc.proofs.cycle_bound.most.Goals as goal
 
 pub loop-place-init : goal.loop-place-init
-loop-place-init c = most-first (over c.args.tree.now c.args.steps.now) c.args.tree.now c.args.at.now c.requires.slot
+loop-place-init c = most-first (walks c.args.tree.now c.args.steps.now) c.args.tree.now c.args.at.now c.requires.slot
 
-pub most_out-next-requires-clause-lag : goal.most_out-next-requires-clause-lag
-most_out-next-requires-clause-lag c = subst (λ e. e.next_lag ≤ 3) (sym c.edges_at-edges.ensures) (lag-small c.args.tree.now c.loop-place.place)
-
-pub most_out-next-requires-clause-fits : goal.most_out-next-requires-clause-fits
-most_out-next-requires-clause-fits c = most-sums c.args.tree.now c.args.steps.now c.loop-place.place (slice_index_or c.args.at.now c.loop-place.place no_matrix) c.edges_at-edges.result.next_lag c.requires.tree c.requires.frame (omega (arith, c.requires.room)) (c.requires.best c.loop-place.place (omega (arith, c.requires.room))) (subst (λ e. e.next_lag ≤ 3) (sym c.edges_at-edges.ensures) (lag-small c.args.tree.now c.loop-place.place))
-
-pub most_out-most-requires-clause-fits : goal.most_out-most-requires-clause-fits
-most_out-most-requires-clause-fits c = most-sums c.args.tree.now c.args.steps.now c.loop-place.place (slice_index_or c.args.at.now c.loop-place.place no_matrix) 3 c.requires.tree c.requires.frame (omega (arith, c.requires.room)) (c.requires.best c.loop-place.place (omega (arith, c.requires.room))) (omega arith)
+pub most_out-next-requires : goal.most_out-next-requires
+most_out-next-requires c = record { lag = subst (λ e. e.next_lag ≤ 3) (sym c.edges_at-edges.ensures) (lag-small c.args.tree.now c.loop-place.place) }
 
 pub loop-place-preserved : goal.loop-place-preserved
 loop-place-preserved c =
@@ -27,4 +21,4 @@ loop-place-preserved c =
     most-more t o k c.args.at.now c.loop-place.most c.largest-inside.result c.most_out-next.result c.most_out-most.result (c.requires.best k (omega (arith, c.requires.room))) c.loop-place.invariant c.largest-inside.ensures next jump
 
 pub returns : goal.returns
-returns c = most-all c.args.tree.now c.args.steps.now c.loop-place.place c.args.at.now c.loop-place.most c.requires.tree (omega (arith, c.requires.room)) c.requires.best c.loop-place.invariant
+returns c = most-all c.args.tree.now c.args.steps.now c.loop-place.place c.args.at.now c.loop-place.most c.requires.tree c.requires.frame (omega (arith, c.requires.room)) c.requires.best c.loop-place.invariant

@@ -19,16 +19,16 @@ overflow_sub-result-in-Some-2 c =
     omega (arith, z.0, o, ap (λ s. s.from) c.section-section.ensures.value)
 
 pub returns-in-Some-clause-span : goal.returns-in-Some-clause-span
-returns-in-Some-clause-span c = λ s.
+returns-in-Some-clause-span c = λ s ways.
     let t = c.args.tree.now in
     let j = c.in-Some.j in
-    subst (λ o. IsSpan t (part_of (over t s) o) ((j.head - c.section-section.result.from) / 4) ((j.last - c.section-section.result.from) / 4)) (sym c.in-Some.is)
-    (subst (λ r. IsSpan t (part_of (over t s) (Some j)) ((j.head - r.from) / 4) ((j.last - r.from) / 4)) (sym c.section-section.ensures.value)
-    (span-body t s j c.section-section.ensures.rules (known (goal.at.returns-in-Some-clause-span c).In-Some)))
+    subst (λ o. IsSpan t (part_of (over t s ways) o) ((j.head - c.section-section.result.from) / 4) ((j.last - c.section-section.result.from) / 4)) (sym c.in-Some.is)
+    (subst (λ r. IsSpan t (part_of (over t s ways) (Some j)) ((j.head - r.from) / 4) ((j.last - r.from) / 4)) (sym c.section-section.ensures.value)
+    (span-body t s ways j c.section-section.ensures.rules (known (goal.at.returns-in-Some-clause-span c).In-Some)))
 
 pub returns-in-Some-clause-inside : goal.returns-in-Some-clause-inside
 returns-in-Some-clause-inside c =
     let t = c.args.tree.now in
     let j = c.in-Some.j in
-    let s = span-body t (record { frame = []; thread = 0 }) j c.section-section.ensures.rules (known (goal.at.returns-in-Some-clause-inside c).In-Some) in
+    let s = span-body t (record { frame = []; thread = 0 }) [] j c.section-section.ensures.rules (known (goal.at.returns-in-Some-clause-inside c).In-Some) in
     subst (λ r. (j.last - r.from) / 4 < length t.words) (sym c.section-section.ensures.value) s.inside

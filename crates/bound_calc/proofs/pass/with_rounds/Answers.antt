@@ -1,6 +1,10 @@
-use Rattle.std.proofs.Common.{ap, sym, ◌∙◌, Some}
+use Rattle.std.proofs.Common.{◌≡◌, sym, subst, MatchOption}
 use Rattle.std.specs.Option.{option_map}
+use Rattle.bound_calc.specs.Best.{In, IsBest, Then}
+use Rattle.bound_calc.specs.Matrices.{entry}
 use Rattle.bound_calc.proofs.pass.with_rounds.Goals as goal
 
-pub chain-requires : goal.chain-requires
-chain-requires c = record { sums = c.requires c.deref.result.now (ap (λ o. option_map (λ b. b.value) o) c.in-Some.is ∙ ap Some (sym c.deref.ensures)) }
+pub returns-in-Some : goal.returns-in-Some
+returns-in-Some c =
+    subst (λ o. MatchOption (option_map (λ b. b.value) o) (c.chain.result ≡ c.args.here.now) (λ m. IsBest (entry c.chain.result) (Then (In (entry c.args.here.now)) (In (entry m))))) (sym c.in-Some.is)
+    (subst (λ m. IsBest (entry c.chain.result) (Then (In (entry c.args.here.now)) (In (entry m)))) c.deref.ensures c.chain.ensures.best)

@@ -2,25 +2,11 @@ use Rattle.std.proofs.Common.{ℕ, ◌+◌, ◌/◌, arith}
 use Rattle.region_tree.specs.Walk.{IsOwn}
 use Rattle.bound_calc.specs.Best.{In}
 use Rattle.bound_calc.specs.Matrices.{entry}
-use Rattle.bound_calc.proofs.PowerLaws.{double-sums, fewer, more-sums, once_more, squared}
+use Rattle.bound_calc.proofs.PowerLaws.{once_more, squared}
 use Rattle.bound_calc.proofs.powers.+power.Goals as goal
-
-pub power-half-requires : goal.power-half-requires
-power-half-requires t c = (omega arith, (c.requires.lands, fewer (c.args.times / 2) c.args.times (omega arith) c.requires.sums))
-
-pub chain-square-requires : goal.chain-square-requires
-chain-square-requires t c = record { sums = double-sums (IsOwn c.args.steps.now) (In (entry c.args.base.now)) c.power-half.result (c.args.times / 2) c.args.times (omega arith) c.requires.sums c.power-half.ensures }
 
 pub returns-then-times-eq0-2 : goal.returns-then-times-eq0-2
 returns-then-times-eq0-2 t c = squared (IsOwn c.args.steps.now) (In (entry c.args.base.now)) c.power-half.result c.chain-square.result (c.args.times / 2) c.args.times (omega arith) c.requires.lands c.power-half.ensures c.chain-square.ensures.best
-
-pub chain-requires : goal.chain-requires
-chain-requires t c =
-    let twice : ℕ = (c.args.times / 2) + (c.args.times / 2) in
-    record {
-      sums = more-sums (IsOwn c.args.steps.now) c.chain-square.result c.args.base.now twice c.args.times (omega arith) c.requires.sums
-          (squared (IsOwn c.args.steps.now) (In (entry c.args.base.now)) c.power-half.result c.chain-square.result (c.args.times / 2) twice (omega arith) c.requires.lands c.power-half.ensures c.chain-square.ensures.best);
-    }
 
 pub returns : goal.returns
 returns t c =

@@ -6,4 +6,4 @@ use Rattle.region_tree.specs.Search.{address}
 use Rattle.bound_calc.proofs.rounds.rounds.Given as goal
 
 abbrev pub invariant-loop-place : goal.invariant-loop-place
-invariant-loop-place l = IsBest (entry l.back) (Turns (over l.tree l.steps) l.j (Below (over l.tree l.steps) (address l.tree l.place)))
+invariant-loop-place l = IsBest (entry l.back) (Turns (over l.tree l.steps l.ways) l.j (Below (over l.tree l.steps l.ways) (address l.tree l.place)))

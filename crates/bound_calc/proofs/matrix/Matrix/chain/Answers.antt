@@ -1,6 +1,6 @@
-use Rattle.std.proofs.Common.{◌<◌, ◌≢◌, length, arith, get_or-set_other, get_or-set_same, below_more, ◌+◌, refl, length-set, ◌∙◌}
+use Rattle.std.proofs.Common.{◌<◌, ◌≢◌, length, arith, get_or-set_other, get_or-set_same, below_more, length-set}
 use Rattle.bound_calc.specs.Matrices.{IsProduct}
-use Rattle.bound_calc.proofs.Entries.{best-chain, entry-in}
+use Rattle.bound_calc.proofs.Entries.{best-chain}
 use Rattle.bound_calc.proofs.matrix.Matrix.chain.Goals as goal
 
 pub loop-p-preserved : goal.loop-p-preserved
@@ -12,9 +12,6 @@ loop-p-preserved c =
           (λ k h. let ne : k ≢ c.loop-p.p = omega arith in rw get_or-set_other (c.loop-p.invariant.rows k h))
           (rw get_or-set_same (c.chain_row.ensures));
     }
-
-pub chain_row-requires : goal.chain_row-requires
-chain_row-requires c = record { sums = λ q r x y h k e f. c.requires.sums c.loop-p.p (x + y) q (record { at = r; one = x; two = y; first = entry-in c.args.self.now c.loop-p.p r (omega arith) k ∙ e; second = entry-in c.args.other.now r q k h ∙ f; cost = refl }) }
 
 pub returns : goal.returns
 returns c =

@@ -1,0 +1,21 @@
+use Rattle.std.proofs.Common.{sym, subst}
+use Rattle.std.specs.Option.{option_map}
+use Rattle.bound_calc.specs.Best.{Either, In, IsBest, Then}
+use Rattle.bound_calc.specs.Matrices.{entry}
+use Rattle.bound_calc.specs.Passing.{moved}
+use Rattle.bound_calc.proofs.PassLaws.{along-matrix, hops-places, with-steps}
+use Rattle.bound_calc.proofs.pass.along.Goals as goal
+
+pub advance-requires : goal.advance-requires
+advance-requires c = record { places = hops-places c.args.steps.now c.args.lag c.hops.result.now.hops c.hops.ensures.frame c.hops.ensures.hops }
+
+pub returns-in-None : goal.returns-in-None
+returns-in-None c =
+    subst (λ w. IsBest (entry c.advance.result) (Either (In (entry c.args.onto.now)) (Then (In (entry c.args.here.now)) (moved c.args.steps.now (option_map (λ b. b.value) w) c.args.lag)))) (sym c.in-None.is)
+    (with-steps c.hops.ensures.hops c.advance.ensures)
+
+pub returns-in-Some : goal.returns-in-Some
+returns-in-Some c =
+    subst (λ w. IsBest (entry c.join.result) (Either (In (entry c.args.onto.now)) (Then (In (entry c.args.here.now)) (moved c.args.steps.now (option_map (λ b. b.value) w) c.args.lag)))) (sym c.in-Some.is)
+    (along-matrix c.args.steps.now c.in-Some.way.value c.args.here.now c.args.onto.now c.chain-chained.result c.join.result c.args.lag
+    (subst (λ m. IsBest (entry c.chain-chained.result) (Then (In (entry c.args.here.now)) (In (entry m)))) c.deref.ensures c.chain-chained.ensures.best) c.join.ensures.best)

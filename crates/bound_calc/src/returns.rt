@@ -1,0 +1,34 @@
+//! What leads through a routine.
+
+ghost use Rattle.std.specs.Prelude.{◌≡◌, ℕ, ◌≤◌, length};
+ghost use Rattle.bound_calc.specs.Best.{IsBest};
+ghost use Rattle.bound_calc.specs.Matrices.{entry};
+ghost use Rattle.bound_calc.specs.Passing.{Ended, EndedHere};
+
+use crate::advance::advance;
+use crate::matrix::Matrix;
+use crate::steps::Steps;
+use region_tree::JUMP_LAG;
+
+/// What leads to some words and then a jump further.
+pub fn through(steps: &Steps, at: &[Matrix], ends: &[bool]) -> Matrix
+    requires count { length ends.now ≡ length at.now }
+    ensures { IsBest (entry result) (Ended steps.now ends.now at.now (length at.now)) }
+{
+    let mut back = Matrix::NONE;
+    for place in 0..at.len() {
+        back = end(steps, ends[place], &at[place], &back);
+    }
+    back
+}
+
+/// Joins a matrix with another that is taken a jump further, if it is one to be taken.
+fn end(steps: &Steps, is_end: bool, here: &Matrix, back: &Matrix) -> Matrix
+    ensures { EndedHere steps.now is_end here.now back.now result }
+{
+    if is_end {
+        advance(here, steps.hops(JUMP_LAG), back)
+    } else {
+        *back
+    }
+}
