@@ -6,3 +6,4 @@ mod Latches
 mod Views
 mod Random
 mod Wide
+mod Phases
