@@ -145,7 +145,7 @@ reg-no_trap rd value = go (rd == 0)
     go true = refl
     go false = refl
 
-filled-trap : (o : Option ℕ) (v : ℕ) (e : Option Effect) → is_trap (filled o v e) ≡ is_trap e
+pub filled-trap : (o : Option ℕ) (v : ℕ) (e : Option Effect) → is_trap (filled o v e) ≡ is_trap e
 filled-trap None v e = refl
 filled-trap (Some rd) v None = refl
 filled-trap (Some rd) v (Some Nothing) = reg-no_trap rd v

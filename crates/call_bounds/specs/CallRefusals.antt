@@ -1,0 +1,69 @@
+-- The sections and routines of which no bound is told, and why.
+use Rattle.std.specs.Prelude.{◌≡◌, ℕ, ◌<◌, ◌≤◌, ◌%◌, List, [], ◌∷◌, length, Some, Contains}
+use Rattle.fp_setup.specs.Loops.{AreLoops}
+use Rattle.region_tree.specs.Tree.{IsSection}
+use Rattle.region_tree.specs.Graph.{Edge, Graph, Lies, Reachable}
+use Rattle.region_tree.specs.Refusals.{IndirectAt, NestingAt, Nowhere, TimedAt, UnboundedAt}
+use Rattle.call_bounds.specs.Calls.{Calls, CallsLead, IsReached, Part, Routine, part}
+
+-- a routine that has a word in common with the section
+pub record OverlapAt (x : Calls) (a : ℕ) : Type 0 where
+  pub routine : Routine
+  pub listed : Contains x.routines routine
+  pub below : routine.head < x.section.to
+  pub above : x.section.from ≤ routine.last
+  pub address : a ≡ routine.head
+
+-- a reached routine from which calls lead back to it
+pub record RecursionAt (x : Calls) (a : ℕ) : Type 0 where
+  pub routine : Routine
+  pub again : CallsLead x (Some routine) (Some routine)
+  pub address : a ≡ routine.head
+
+-- what holds in some reached part
+pub record InParts (x : Calls) (P : Graph → ℕ → Type 0) (a : ℕ) : Type 0 where
+  pub place : Part
+  pub reached : IsReached x place
+  pub holds : P (part x place) a
+
+-- a reachable word of a reached routine with an edge out of it, or with a call that would come back out of it
+pub record EscapeAt (x : Calls) (u : ℕ) : Type 0 where
+  pub routine : Routine
+  pub from : IsReached x (Some routine)
+  pub word : Reachable (part x (Some routine)) u
+  pub by : Edge
+  pub edge : Contains ((part x (Some routine)).edges u) by
+  pub out : Lies (part x (Some routine)) by.to → ⊥
+
+-- None of the rows holds anywhere.
+pub record IsCallable (x : Calls) : Type 0 where
+  pub overlap : Nowhere (OverlapAt x)
+  pub recursion : Nowhere (RecursionAt x)
+  pub nesting : Nowhere (InParts x NestingAt)
+  pub indirect : Nowhere (InParts x IndirectAt)
+  pub timed : Nowhere (InParts x TimedAt)
+  pub unbounded : Nowhere (InParts x UnboundedAt)
+  pub escape : Nowhere (EscapeAt x)
+
+-- each routine begins above the one before it
+abbrev pub Rise : List Routine → Type 0
+Rise [] = Unit {0}
+Rise (r ∷ rs) = ((t : Routine) → Contains rs t → r.last < t.head) × Rise rs
+
+-- what is known of a list of routines by itself
+pub record IsRoutine (r : Routine) : Type 0 where
+  pub head_aligned : r.head % 4 ≡ 0
+  pub last_aligned : r.last % 4 ≡ 0
+  pub order : r.head ≤ r.last
+  pub end : r.last ≤ 65532
+
+pub record AreRoutines (rs : List Routine) : Type 0 where
+  pub few : length rs ≤ 64
+  pub each : (r : Routine) → Contains rs r → IsRoutine r
+  pub rise : Rise rs
+
+-- what is asked of a section, its routines and its loops
+pub record IsListing (x : Calls) : Type 0 where
+  pub section : IsSection x.section
+  pub routines : AreRoutines x.routines
+  pub loops : AreLoops x.loops

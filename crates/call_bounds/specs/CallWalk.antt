@@ -1,0 +1,51 @@
+-- Walks through a section and the routines that it calls, which come back to where they were called from.
+use Rattle.std.specs.Prelude.{◌≡◌, ℕ, ◌+◌, ◌≤◌, ◌==◌, if◌then◌else◌, true, Some, None, List, [], ◌∷◌, Contains}
+use Rattle.fp_setup.specs.declared.loop_list.LoopSetup.{LoopSetup}
+use Rattle.region_tree.specs.Graph.{Edge, Lies}
+use Rattle.region_tree.specs.Walk.{IsNextTurn, IsOwn, Positions, counted}
+use Rattle.call_bounds.specs.Calls.{Calls, Counts, Part, Routine, callee, is_back, part, plain}
+
+-- what call walks go over
+pub record Route : Type 0 where
+  pub calls : Calls
+  pub positions : Positions
+
+-- the part in which a walk is that has these calls open, the newest first
+abbrev pub part_in : Calls → List ℕ → Part
+part_in x [] = None
+part_in x (w ∷ open_calls) = callee x w
+
+-- a loop's counter after a call of a routine: 0 where its head is the loop's
+unfoldable pub called : Routine → LoopSetup → ℕ → ℕ
+called r j n = if r.head == j.head then 0 else n
+
+-- no counter of a loop that counts is above its loop's bound
+abbrev pub WithinBounds : Calls → (LoopSetup → ℕ) → Type 0
+WithinBounds x k = (j : LoopSetup) → Counts x j → k j ≤ j.limit
+
+-- A call walk that keeps the bounds, from the section's first word at own position p: the word and position that it
+-- has come to, the calls that are open there, the newest first, its cost, and the counters.
+pub data CallWalk (x : Route) (p : ℕ) : ℕ → ℕ → List ℕ → ℕ → (LoopSetup → ℕ) → Type 0 where
+  start : IsOwn x.positions p → CallWalk x p x.calls.section.from p [] 0 (λ _. 0)
+  along : {u q c d r : ℕ} {s : List ℕ} {k : LoopSetup → ℕ} (e : Edge) → CallWalk x p u q s c k →
+      Contains (plain x.calls u) e → Lies (part x.calls (part_in x.calls s)) e.to → IsNextTurn x.positions e.lag q d r →
+      WithinBounds x.calls (λ j. counted u e.to j (k j)) → CallWalk x p e.to r s (c + d) (λ j. counted u e.to j (k j))
+  enter : {u q c d r : ℕ} {s : List ℕ} {k : LoopSetup → ℕ} {t : Routine} → CallWalk x p u q s c k →
+      callee x.calls u ≡ Some t → IsNextTurn x.positions 3 q d r →
+      CallWalk x p t.head r (u ∷ s) (c + d) (λ j. called t j (k j))
+  come_back : {u q w c d r : ℕ} {s : List ℕ} {k : LoopSetup → ℕ} → CallWalk x p u q (w ∷ s) c k →
+      is_back (x.calls.word u) ≡ true → Lies (part x.calls (part_in x.calls s)) (w + 4) → IsNextTurn x.positions 3 q d r →
+      WithinBounds x.calls (λ j. counted w (w + 4) j (k j)) → CallWalk x p (w + 4) r s (c + d) (λ j. counted w (w + 4) j (k j))
+
+-- What call walks cost: one may end anywhere, and a step out of the section ends it, also one that comes back to there.
+pub data CostsOf (x : Route) : ℕ → Type 0 where
+  ends : {p u q c : ℕ} {s : List ℕ} {k : LoopSetup → ℕ} → CallWalk x p u q s c k → CostsOf x c
+  leaves : {p u q c d r : ℕ} {k : LoopSetup → ℕ} (e : Edge) → CallWalk x p u q [] c k → Contains (plain x.calls u) e →
+      (Lies (part x.calls None) e.to → ⊥) → IsNextTurn x.positions e.lag q d r → CostsOf x (c + d)
+  goes_back : {p u q w c d r : ℕ} {k : LoopSetup → ℕ} → CallWalk x p u q (w ∷ []) c k → is_back (x.calls.word u) ≡ true →
+      (Lies (part x.calls None) (w + 4) → ⊥) → IsNextTurn x.positions 3 q d r → CostsOf x (c + d)
+
+-- The largest cost of a call walk that keeps the bounds: some walk costs it, and none costs more.
+pub record IsCallBound (x : Route) (b : ℕ) : Type 0 where
+  pub met : CostsOf x b
+  pub kept : (c : ℕ) → CostsOf x c → c ≤ b

@@ -1,0 +1,103 @@
+-- A section of code with the routines that it may call: its parts, and which of them are reached.
+use Rattle.std.specs.Prelude.{◌≡◌, ℕ, ◌+◌, ◌==◌, if◌then◌else◌, Bool, true, false, Option, Some, None, List, [], ◌∷◌, filter, Contains}
+use Rattle.fp_setup.specs.declared.loop_list.LoopSetup.{LoopSetup}
+use Rattle.rv_decode.specs.Table.{ins}
+use Rattle.rv_decode.specs.declared.instruction.Ins.{Ins}
+use Rattle.rv_decode.specs.declared.instruction.Ins.TheVariants.{Jal}
+use Rattle.region_tree.specs.Edges.{aligned, edges_of, offset}
+use Rattle.region_tree.specs.Graph.{Edge, Graph, Reachable, edge_list}
+use Rattle.region_tree.specs.Tree.{counts}
+use Rattle.region_tree.specs.declared.edges.Stop.{Stop}
+use Rattle.region_tree.specs.declared.edges.Stop.TheVariants.{No}
+use Rattle.region_tree.specs.declared.section.Section.{Section}
+
+-- a listed routine: the addresses of its first and of its last word
+pub record Routine : Type 0 where
+  pub head : ℕ
+  pub last : ℕ
+
+-- A section, the listed routines, the words of memory, and the listed loops.
+pub record Calls : Type 0 where
+  pub section : Section
+  pub routines : List Routine
+  pub word : ℕ → ℕ
+  pub loops : List LoopSetup
+
+-- A part: the section itself, or a routine.
+abbrev pub Part : Type 0
+Part = Option Routine
+
+-- its words, from the first to below the one after the last
+abbrev pub range : Calls → Part → Section
+range x None = x.section
+range x (Some r) = record { from = r.head; to = r.last + 4 }
+
+-- the first of the routines with this head
+unfoldable pub routine_at : List Routine → ℕ → Option Routine
+routine_at [] a = None
+routine_at (r ∷ rs) a = if r.head == a then Some r else routine_at rs a
+
+-- where a jump that keeps the address after it in register 1 leads, if it is one
+unfoldable pub linked : ℕ → Ins → Option ℕ
+linked address (Jal rd off) = if rd == 1 then aligned (offset address off) else None
+linked address i = None
+
+abbrev pub routine_to : List Routine → Option ℕ → Option Routine
+routine_to routines None = None
+routine_to routines (Some a) = routine_at routines a
+
+-- the routine that the word at an address calls, if it is a call
+abbrev pub callee : Calls → ℕ → Option Routine
+callee x u = routine_to x.routines (linked u (ins (x.word u)))
+
+-- the word that goes back to where its routine was called from
+abbrev pub is_back : ℕ → Bool
+is_back w = w == 0x00008067
+
+-- whether the word at an address of a part is a return: only routines have returns
+abbrev pub returns : Calls → Part → ℕ → Bool
+returns x None u = false
+returns x (Some r) u = is_back (x.word u)
+
+-- the edges of a word that are no calls
+abbrev pub plain_unless : Option Routine → List Edge → List Edge
+plain_unless None edges = edges
+plain_unless (Some r) edges = []
+
+abbrev pub plain : Calls → ℕ → List Edge
+plain x u = plain_unless (callee x u) (edge_list (edges_of (x.word u) u))
+
+-- The edges inside one part: a call leads on to the word after it, where it comes back; the lag says the jump alone.
+abbrev pub onward : Option Routine → ℕ → List Edge → List Edge
+onward None u edges = edges
+onward (Some r) u edges = record { to = u + 4; lag = 3 } ∷ []
+
+abbrev pub stop_unless : Bool → Stop → Stop
+stop_unless true s = No
+stop_unless false s = s
+
+-- the control graph of a part, with the loops whose head and last word both lie in it
+abbrev pub part : Calls → Part → Graph
+part x p = record {
+  from = (range x p).from;
+  to = (range x p).to;
+  edges = λ u. onward (callee x u) u (edge_list (edges_of (x.word u) u));
+  stop = λ u. stop_unless (returns x p u) (edges_of (x.word u) u).stop;
+  loops = filter (counts (range x p)) x.loops;
+}
+
+-- The parts that are reached: the section, and each routine that a reachable word of a reached part calls.
+pub data IsReached (x : Calls) : Part → Type 0 where
+  first : IsReached x None
+  next : {p : Part} {u : ℕ} {r : Routine} → IsReached x p → Reachable (part x p) u → callee x u ≡ Some r → IsReached x (Some r)
+
+-- Calls lead from one part to another: one or more, each from a reachable word of a reached part.
+pub data CallsLead (x : Calls) (p : Part) : Part → Type 0 where
+  one : {u : ℕ} {r : Routine} → IsReached x p → Reachable (part x p) u → callee x u ≡ Some r → CallsLead x p (Some r)
+  more : {q : Part} {u : ℕ} {r : Routine} → CallsLead x p q → IsReached x q → Reachable (part x q) u → callee x u ≡ Some r → CallsLead x p (Some r)
+
+-- the loops that count: those of the reached parts
+pub record Counts (x : Calls) (j : LoopSetup) : Type 0 where
+  pub place : Part
+  pub reached : IsReached x place
+  pub known : Contains (part x place).loops j
