@@ -1,0 +1,8 @@
+//! The law of an executable's image.
+
+ghost use Rattle.fp_elf.specs.Law.{ReadsBack};
+
+/// The file of the image of an executable is read, for scratchpads of 65,536 bytes, as this image.
+pub fn reads_back()
+    ensures { ReadsBack }
+{}
