@@ -32,7 +32,7 @@ impl Model for Draft {
 
 /// The words of an image in a section.
 #[tactic(auto, unfolding(crate::specs::Tree::words_of))]
-fn words(alloc: Global, image: &Image, section: Section) -> Result<Vec<u32>, AllocError>
+pub fn words(alloc: Global, image: &Image, section: Section) -> Result<Vec<u32>, AllocError>
     requires { IsSection section }
     ensures { IfOk result (λ words. words.items ≡ words_of (word image.now) section) }
 {

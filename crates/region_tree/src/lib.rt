@@ -9,6 +9,9 @@ mod refusals;
 mod section;
 mod tree;
 
+pub use draft::{Draft, words};
 pub use edges::{Edges, JUMP_LAG, Stop, edges_of};
+pub use reach::reachable;
+pub use refusals::lower;
 pub use section::Section;
 pub use tree::{LoopTree, TreeNo};

@@ -70,7 +70,7 @@ impl Frontier {
     }
 }
 
-/// Which words are reachable, by their places.
+/// Which words edges inside the section lead to from its first word, by their places.
 pub fn reachable(alloc: Global, draft: &Draft) -> Result<Vec<bool>, AllocError>
     ensures { IfOk result (λ met. IsMet draft.now met.items) }
 {

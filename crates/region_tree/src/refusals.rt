@@ -13,7 +13,7 @@ use fp_setup::LoopSetup;
 
 /// The lower of two addresses, where there are any.
 #[tactic(auto, unfolding(crate::specs::Search::lower_of))]
-fn lower(a: Option<u32>, b: Option<u32>) -> Option<u32>
+pub fn lower(a: Option<u32>, b: Option<u32>) -> Option<u32>
     ensures { result ≡ lower_of a b }
 {
     match (a, b) {
