@@ -10,10 +10,9 @@ use Rattle.bound_calc.proofs.Outermost.{cons-cases, cons-first, cons-rest}
 use Rattle.bound_calc.specs.Bound.{course}
 use Rattle.bound_calc.specs.Section.{IsAccepted, IsModest}
 use Rattle.fp_setup.specs.declared.loop_list.LoopSetup.{LoopSetup}
-use Rattle.region_tree.specs.Graph.{Edge, Holds, Inside, Lies, Reachable}
-use Rattle.region_tree.specs.Refusals.{Crosses, depth, loop_at}
+use Rattle.region_tree.specs.Graph.{Edge, Graph, Holds, Inside, Lies, Reachable}
+use Rattle.region_tree.specs.Refusals.{Crosses, IsAllowed, depth, loop_at}
 use Rattle.region_tree.specs.Tree.{IsTree, Tree, graph, word_at}
-use Rattle.nibble_word.specs.Nibbles.{nibbles}
 use Rattle.region_tree.proofs.EdgeLaws.{lag-short}
 
 -- a loop of the list is the one at its place
@@ -53,22 +52,23 @@ returns (y ∷ ys) u v = go (returns ys u v) (is_or_not v y.head) (holds-or y u)
     go (inr rest) (inl e) (inr out) = none rest (λ e held. out held)
     go (inr rest) (inr other) b = none rest (λ e held. other e)
 
-pub accepted : (t : Tree) → IsTree t → IsAccepted (graph t)
-accepted t is = record {
-  ordered = λ j h. ((is.draft.counting j h).0, (is.draft.loops j h).ordered, (is.draft.counting j h).1);
+-- where nothing refuses a graph whose loops lie in it
+pub accepted-of : (g : Graph) → ((j : LoopSetup) → Contains g.loops j → (g.from ≤ j.head) × (j.head ≤ j.last) × (j.last < g.to)) → IsAllowed g → IsAccepted g
+accepted-of g ordered is = record {
+  ordered = ordered;
   nested = λ j i a b low high. nest j i a b low high (let z : (a.0 < b.0) ⊎ ((a.0 ≡ b.0) ⊎ (b.0 < a.0)) = grind arith in z);
   entered = λ u e j r a b held. enter u e j r a b held (holds-or j u) (is_or_not e.to j.head);
-  back = λ u e r a l le. back u e r a l le (returns t.loops u e.to);
+  back = λ u e r a l le. back u e r a l le (returns g.loops u e.to);
 }
   where
-    crossed : (j i : LoopSetup) (a : Contains t.loops j) (b : Contains t.loops i) → a.0 < b.0 → j.head ≤ i.last → i.head ≤ j.last → (Inside j i → ⊥) → (Inside i j → ⊥) → ⊥
+    crossed : (j i : LoopSetup) (a : Contains g.loops j) (b : Contains g.loops i) → a.0 < b.0 → j.head ≤ i.last → i.head ≤ j.last → (Inside j i → ⊥) → (Inside i j → ⊥) → ⊥
     crossed j i a b order low high out out' =
-        let crosses : Crosses (loop_at t.loops a.0) (loop_at t.loops b.0) =
-        subst (λ k. Crosses k (loop_at t.loops b.0)) (sym (at-place t.loops j a)) (subst (λ k. Crosses j k) (sym (at-place t.loops i b)) (record { below = low; above = high; apart = out; apart' = out' })) in
-        is.allowed.nesting (loop_at t.loops b.0).head (inl (record { earlier = a.0; later = b.0; order = order; within = b.1; crosses = crosses; address = refl }))
+        let crosses : Crosses (loop_at g.loops a.0) (loop_at g.loops b.0) =
+        subst (λ k. Crosses k (loop_at g.loops b.0)) (sym (at-place g.loops j a)) (subst (λ k. Crosses j k) (sym (at-place g.loops i b)) (record { below = low; above = high; apart = out; apart' = out' })) in
+        is.nesting (loop_at g.loops b.0).head (inl (record { earlier = a.0; later = b.0; order = order; within = b.1; crosses = crosses; address = refl }))
 
-    nest : (j i : LoopSetup) (a : Contains t.loops j) (b : Contains t.loops i) → j.head ≤ i.last → i.head ≤ j.last → (a.0 < b.0) ⊎ ((a.0 ≡ b.0) ⊎ (b.0 < a.0)) → (j ≡ i) ⊎ (Inside j i ⊎ Inside i j)
-    nest j i a b low high (inr (inl same)) = inl (sym (at-place t.loops j a) ∙ (ap (loop_at t.loops) same ∙ at-place t.loops i b))
+    nest : (j i : LoopSetup) (a : Contains g.loops j) (b : Contains g.loops i) → j.head ≤ i.last → i.head ≤ j.last → (a.0 < b.0) ⊎ ((a.0 ≡ b.0) ⊎ (b.0 < a.0)) → (j ≡ i) ⊎ (Inside j i ⊎ Inside i j)
+    nest j i a b low high (inr (inl same)) = inl (sym (at-place g.loops j a) ∙ (ap (loop_at g.loops) same ∙ at-place g.loops i b))
     nest j i a b low high (inl order) = inr (go (inside-or j i) (inside-or i j))
       where
         go : (Inside j i) ⊎ (Inside j i → ⊥) → (Inside i j) ⊎ (Inside i j → ⊥) → Inside j i ⊎ Inside i j
@@ -82,14 +82,17 @@ accepted t is = record {
         go (inr out) (inl in_i) = inr in_i
         go (inr out) (inr out') = absurd (crossed i j b a order high low out' out)
 
-    enter : (u : ℕ) (e : Edge) (j : LoopSetup) → Reachable (graph t) u → Contains ((graph t).edges u) e → Contains t.loops j → Holds j e.to → (Holds j u) ⊎ (Holds j u → ⊥) → (e.to ≡ j.head) ⊎ (e.to ≢ j.head) → (Holds j u) ⊎ (e.to ≡ j.head)
+    enter : (u : ℕ) (e : Edge) (j : LoopSetup) → Reachable g u → Contains (g.edges u) e → Contains g.loops j → Holds j e.to → (Holds j u) ⊎ (Holds j u → ⊥) → (e.to ≡ j.head) ⊎ (e.to ≢ j.head) → (Holds j u) ⊎ (e.to ≡ j.head)
     enter u e j r a b held (inl held_u) d = inl held_u
     enter u e j r a b held (inr out) (inl head) = inr head
-    enter u e j r a b held (inr out) (inr other) = absurd (is.allowed.nesting j.head (inr (inr (record { entered = j; known = b; from = u; by = e; reached = r; edge = a; inner = held; outer = out; other = other; address = refl }))))
+    enter u e j r a b held (inr out) (inr other) = absurd (is.nesting j.head (inr (inr (record { entered = j; known = b; from = u; by = e; reached = r; edge = a; inner = held; outer = out; other = other; address = refl }))))
 
-    back : (u : ℕ) (e : Edge) → Reachable (graph t) u → Contains ((graph t).edges u) e → Lies (graph t) e.to → e.to ≤ u → Returns t.loops u e.to → (j : LoopSetup) × Contains t.loops j × (e.to ≡ j.head) × Holds j u
+    back : (u : ℕ) (e : Edge) → Reachable g u → Contains (g.edges u) e → Lies g e.to → e.to ≤ u → Returns g.loops u e.to → (j : LoopSetup) × Contains g.loops j × (e.to ≡ j.head) × Holds j u
     back u e r a l le (inl found) = found
-    back u e r a l le (inr none) = absurd (is.allowed.unbounded u (record { by = e; reached = r; edge = a; inside = l; down = le; unbounded = none }))
+    back u e r a l le (inr none) = absurd (is.unbounded u (record { by = e; reached = r; edge = a; inside = l; down = le; unbounded = none }))
+
+pub accepted : (t : Tree) → IsTree t → IsAccepted (graph t)
+accepted t is = accepted-of (graph t) (λ j h. ((is.draft.counting j h).0, (is.draft.loops j h).ordered, (is.draft.counting j h).1)) is.allowed
 
 -- a frame has at most eight slots
 pub frame-short : (slots : ℕ) → length (frame slots) ≤ 8

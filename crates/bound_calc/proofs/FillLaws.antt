@@ -13,7 +13,7 @@ use Rattle.bound_calc.specs.Best.{IsBest}
 use Rattle.bound_calc.specs.Context.{Net, Part, Walk, body}
 use Rattle.bound_calc.specs.Context.Walk.{start, step}
 use Rattle.bound_calc.specs.Matrices.{entry}
-use Rattle.bound_calc.specs.Passing.{IsFilled, IsPowers, IsReady, Powers, AreWays, over, place, power_at, walks}
+use Rattle.bound_calc.specs.Passing.{IsFilled, IsPowers, IsReady, Powers, AreWays, over, place, power_at, walks, WaysOn}
 use Rattle.bound_calc.specs.Section.{IsModest, net, whole}
 use Rattle.bound_calc.specs.Ways.{Rounds}
 use Rattle.bound_calc.proofs.Accepted.{accepted, modest}
@@ -33,7 +33,7 @@ head-place t is j h =
     place-address t is.draft j.head (is.draft.loops j h).head_aligned (record { low = o.0; high = omega arith })
 
 -- for the part of the loop whose head is at place k
-powers-body : (t : Tree) (o : Positions) (ways : Powers) (j : LoopSetup) (k : ℕ) (powers : Powers) → IsTree t → Contains t.loops j → address t k ≡ j.head → IsFilled (over t o ways) t (k + 1) powers → IsPowers (over t o ways) t (body (net (over t o ways)) j) powers
+powers-body : (t : Tree) (o : Positions) (ways : WaysOn) (j : LoopSetup) (k : ℕ) (powers : Powers) → IsTree t → Contains t.loops j → address t k ≡ j.head → IsFilled (over t o ways) t (k + 1) powers → IsPowers (over t o ways) t (body (net (over t o ways)) j) powers
 powers-body t o ways j k powers is known head f = record {
   some = λ i inner r. f.some i inner.0 (let e = head-place t is i inner.0 in let y = inner.1.0 in omega arith) r;
   only = λ w m lo hi e. let y = f.only w m e in lift w lo hi y.0 y.1;
@@ -47,14 +47,14 @@ powers-body t o ways j k powers is known head f = record {
         go (inr (inl inside)) = (i, (known_i, inside), e, r)
         go (inr (inr outside)) = absurd (omega (arith, outside.0))
 
-powers-whole : (t : Tree) (o : Positions) (ways : Powers) (powers : Powers) → IsFilled (over t o ways) t 0 powers → IsPowers (over t o ways) t (whole (over t o ways)) powers
+powers-whole : (t : Tree) (o : Positions) (ways : WaysOn) (powers : Powers) → IsFilled (over t o ways) t 0 powers → IsPowers (over t o ways) t (whole (over t o ways)) powers
 powers-whole t o ways powers f = record {
   some = λ i known r. f.some i known (omega arith) r;
   only = λ w m lo hi e. (f.only w m e).1;
 }
 
 -- a loop's power put at its head
-pub filled-more : (t : Tree) (o : Positions) (ways : Powers) (j : LoopSetup) (k : ℕ) (powers : Powers) (b : Box Matrix Global) (m : Matrix) → IsTree t → AreWays o ways → Contains t.loops j → address t k ≡ j.head → Reachable (graph t) (address t k) → k < length t.words → IsFilled (over t o ways) t (k + 1) powers → b.value ≡ m → IsBest (entry m) (Rounds (net (over t o ways)) j j.limit) →
+pub filled-more : (t : Tree) (o : Positions) (ways : WaysOn) (j : LoopSetup) (k : ℕ) (powers : Powers) (b : Box Matrix Global) (m : Matrix) → IsTree t → AreWays o ways → Contains t.loops j → address t k ≡ j.head → Reachable (graph t) (address t k) → k < length t.words → IsFilled (over t o ways) t (k + 1) powers → b.value ≡ m → IsBest (entry m) (Rounds (net (over t o ways)) j j.limit) →
     IsFilled (over t o ways) t k (slice_set powers k (Some b))
 filled-more t o ways j k powers b m is are known head r within f boxed best = record {
   count = length-set powers k (Some b) ∙ f.count;
@@ -80,7 +80,7 @@ filled-more t o ways j k powers b m is are known head r within f boxed best = re
     only w n e (inr ne) = let y = f.only w n (sym (other w ne) ∙ e) in (omega (arith, y.0), y.1)
 
 -- no loop to be put
-pub filled-same : (t : Tree) (o : Positions) (ways : Powers) (k : ℕ) (powers : Powers) → IsTree t → ((j : LoopSetup) → Contains t.loops j → address t k ≡ j.head → Reachable (graph t) (address t k) → ⊥) → IsFilled (over t o ways) t (k + 1) powers → IsFilled (over t o ways) t k powers
+pub filled-same : (t : Tree) (o : Positions) (ways : WaysOn) (k : ℕ) (powers : Powers) → IsTree t → ((j : LoopSetup) → Contains t.loops j → address t k ≡ j.head → Reachable (graph t) (address t k) → ⊥) → IsFilled (over t o ways) t (k + 1) powers → IsFilled (over t o ways) t k powers
 filled-same t o ways k powers is none f = record {
   count = f.count;
   some = λ i known le r. go i known le r (is_or_not (place t i.head) k);
@@ -97,7 +97,7 @@ filled-same t o ways k powers is none f = record {
 pub modest-over : (t : Tree) (o : Positions) → IsTree t → length o.frame ≤ 8 → IsModest (walks t o)
 modest-over t o is frame = let m = modest t 0 0 is in record { frame = frame; lags = m.lags; bounds = m.bounds; depths = m.depths; end = m.end; order = m.order }
 
-pub ready-body : (t : Tree) (o : Positions) (ways : Powers) (j : LoopSetup) (k : ℕ) (powers : Powers) → IsTree t → AreWays o ways → Contains t.loops j → address t k ≡ j.head → Reachable (graph t) (address t k) → IsFilled (over t o ways) t (k + 1) powers → IsReady (over t o ways) t (body (net (over t o ways)) j) powers
+pub ready-body : (t : Tree) (o : Positions) (ways : WaysOn) (j : LoopSetup) (k : ℕ) (powers : Powers) → IsTree t → AreWays o ways → Contains t.loops j → address t k ≡ j.head → Reachable (graph t) (address t k) → IsFilled (over t o ways) t (k + 1) powers → IsReady (over t o ways) t (body (net (over t o ways)) j) powers
 ready-body t o ways j k powers is are known head r f =
     let a = accepted t is in
     let l = a.ordered j known in
@@ -109,7 +109,7 @@ ready-body t o ways j k powers is are known head r f =
       count = f.count;
     }
 
-pub ready-whole : (t : Tree) (o : Positions) (ways : Powers) (powers : Powers) → IsTree t → AreWays o ways → IsFilled (over t o ways) t 0 powers → IsReady (over t o ways) t (whole (over t o ways)) powers
+pub ready-whole : (t : Tree) (o : Positions) (ways : WaysOn) (powers : Powers) → IsTree t → AreWays o ways → IsFilled (over t o ways) t 0 powers → IsReady (over t o ways) t (whole (over t o ways)) powers
 ready-whole t o ways powers is are f =
     let a = accepted t is in
     let order = is.draft.section.order in
@@ -122,7 +122,7 @@ ready-whole t o ways powers is are f =
     }
 
 -- no loop's head is past the last word
-pub filled-none : (t : Tree) (o : Positions) (ways : Powers) (powers : Powers) → IsTree t → length powers ≡ length t.words → ((k : ℕ) → power_at powers k ≡ None) → IsFilled (over t o ways) t (length t.words) powers
+pub filled-none : (t : Tree) (o : Positions) (ways : WaysOn) (powers : Powers) → IsTree t → length powers ≡ length t.words → ((k : ℕ) → power_at powers k ≡ None) → IsFilled (over t o ways) t (length t.words) powers
 filled-none t o ways powers is count none = record {
   count = count;
   some = λ j known le r. let l = (accepted t is).ordered j known in let w = is.draft.words in let e = head-place t is j known in absurd (omega (arith, l.1, l.2));

@@ -16,6 +16,6 @@ pub mod PassLaws
 mod PowerLaws
 mod TurnLaws
 mod FillLaws
-mod MostLaws
+pub mod MostLaws
 mod RoundLaws
 mod ThroughLaws

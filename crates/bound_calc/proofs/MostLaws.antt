@@ -16,7 +16,7 @@ use Rattle.bound_calc.specs.declared.matrix.Matrix.{Matrix}
 use Rattle.bound_calc.specs.Best.{Entries, In, IsBest, Then, ceiling}
 use Rattle.bound_calc.specs.Bound.{IsBound}
 use Rattle.bound_calc.specs.Hops.{IsHops, IsLargest, IsLeft}
-use Rattle.bound_calc.specs.Passing.{IsMost, IsOut, edges_at, leaves, matrix_at, no_matrix, place, walks, over, moved, Powers, power_at, AreWays}
+use Rattle.bound_calc.specs.Passing.{IsMost, IsOut, edges_at, leaves, matrix_at, no_matrix, place, walks, over, moved, AreWays, WaysOn}
 use Rattle.bound_calc.specs.Section.{Steps, field, net, whole}
 use Rattle.bound_calc.specs.Ways.{Reaches}
 use Rattle.bound_calc.proofs.Accepted.{accepted}
@@ -37,10 +37,10 @@ pub out-none : (s : Positions) (here : Matrix) (lag old : ℕ) → IsOut s here 
 out-none s here lag old = record { stays = omega arith; upper = λ out p c q t. cc; met = inl refl }
 
 -- an edge that leaves the section, and one that doesn't
-leaves-not : (t : Tree) (v : ℕ) → leaves t (Some v) ≡ true → Lies (graph t) v → ⊥
+pub leaves-not : (t : Tree) (v : ℕ) → leaves t (Some v) ≡ true → Lies (graph t) v → ⊥
 leaves-not t v e l = let a : nat_le t.section.from v ≡ true = grind (arith, nat_tests, l.low) in let b : nat_lt v t.section.to ≡ true = grind (arith, nat_tests, l.high) in let z : leaves t (Some v) ≡ false = rw (a, b) refl in cc
 
-not-leaves : (t : Tree) (v : ℕ) → (Lies (graph t) v → ⊥) → leaves t (Some v) ≡ true
+pub not-leaves : (t : Tree) (v : ℕ) → (Lies (graph t) v → ⊥) → leaves t (Some v) ≡ true
 not-leaves t v far = go (nat_le t.section.from v) (nat_lt v t.section.to) refl refl
   where
     go : (a b : Bool) → nat_le t.section.from v ≡ a → nat_lt v t.section.to ≡ b → leaves t (Some v) ≡ true
@@ -172,11 +172,11 @@ most-all t o n at most is frame top best m = is_bound x most (accepted t is) (le
         exact-≤ c most (let s = step-small t o is frame v p c q e known r in omega arith) (out-≤ r.one y.0 r.two c most ceiling y.2 r.cost z)
 
 -- where no word has a way of its own, all is by the turns
-pub ways-none : (t : Tree) (o : Positions) (ways : Powers) (m : Entries) (v : ℕ) → ((k : ℕ) → power_at ways k ≡ None) → IsBest m (Reaches (net (over t o ways)) (whole (over t o ways)) v) → IsBest m (Reaches (net (field (walks t o))) (whole (field (walks t o))) v)
+pub ways-none : (t : Tree) (o : Positions) (ways : WaysOn) (m : Entries) (v : ℕ) → ((k : ℕ) → ways k ≡ None) → IsBest m (Reaches (net (over t o ways)) (whole (over t o ways)) v) → IsBest m (Reaches (net (field (walks t o))) (whole (field (walks t o))) v)
 ways-none t o ways m v none best = subst (λ f. IsBest m (Reaches (net f) (whole f) v)) same best
   where
     same : over t o ways ≡ field (walks t o)
     same = λ i. record { graph = graph t; own = IsOwn o; move = λ u lag. moved o (none (place t u) i) lag }
 
-pub no-ways : (o : Positions) (ways : Powers) → ((k : ℕ) → power_at ways k ≡ None) → AreWays o ways
+pub no-ways : (o : Positions) (ways : WaysOn) → ((k : ℕ) → ways k ≡ None) → AreWays o ways
 no-ways o ways none k m e p c q i = let z : None ≡ Some m = sym (none k) ∙ e in cc

@@ -19,7 +19,7 @@ use Rattle.bound_calc.specs.Context.{IsNested, Part, IsPart, body}
 use Rattle.bound_calc.specs.Hops.{Hops, IsHops}
 use Rattle.bound_calc.specs.Matrices.{entry}
 use Rattle.bound_calc.specs.Pass.{Edges, Below, And, AndTo, Brings, Comes}
-use Rattle.bound_calc.specs.Passing.{AreWays, moved, over, edges_at, place, no_matrix, matrix_at, Powers, power_at, IsSpan, up_of, IsBrought, IsPassed, IsReady}
+use Rattle.bound_calc.specs.Passing.{AreWays, moved, over, edges_at, place, no_matrix, matrix_at, Powers, power_at, IsSpan, up_of, IsBrought, IsPassed, IsReady, WaysOn}
 use Rattle.bound_calc.specs.Section.{Field, Steps, net, whole}
 use Rattle.bound_calc.specs.Ways.{Reaches, Enters, Rounds}
 use Rattle.bound_calc.proofs.Accepted.{accepted}
@@ -57,12 +57,12 @@ is-brought to k here joined f old is lt best = record {
 }
 
 -- what a way costs leads to own positions
-pub moved-own : (o : Positions) (ways : Powers) → AreWays o ways → (k lag p d q : ℕ) (w : Option Matrix) → power_at ways k ≡ w → moved o w lag p d q → IsOwn o q
+pub moved-own : (o : Positions) (ways : WaysOn) → AreWays o ways → (k lag p d q : ℕ) (w : Option Matrix) → ways k ≡ w → moved o w lag p d q → IsOwn o q
 moved-own o ways are k lag p d q None e m = m.own
 moved-own o ways are k lag p d q (Some w) e m = are k w e p d q m
 
-pub over-nested : (t : Tree) (o : Positions) (ways : Powers) → IsTree t → AreWays o ways → IsNested (net (over t o ways))
-over-nested t o ways is are = field-nested (over t o ways) (accepted t is) (λ u lag p d q m. moved-own o ways are (place t u) lag p d q (power_at ways (place t u)) refl m)
+pub over-nested : (t : Tree) (o : Positions) (ways : WaysOn) → IsTree t → AreWays o ways → IsNested (net (over t o ways))
+over-nested t o ways is are = field-nested (over t o ways) (accepted t is) (λ u lag p d q m. moved-own o ways are (place t u) lag p d q (ways (place t u)) refl m)
 
 pub along-matrix : (o : Positions) (w here back chained joined : Matrix) (lag : ℕ) → IsBest (entry chained) (Then (In (entry here)) (In (entry w))) → IsBest (entry joined) (Either (In (entry back)) (In (entry chained))) → IsBest (entry joined) (Either (In (entry back)) (Then (In (entry here)) (moved o (Some w) lag)))
 along-matrix o w here back chained joined lag a b = best-either (itself back) a b
@@ -181,7 +181,7 @@ pub lag-small : (t : Tree) (k : ℕ) → (edges_at t k).next_lag ≤ 3
 lag-small t k = next-short (word_at t (address t k)) (address t k)
 
 -- what reaches the word at a place
-pub reached : (t : Tree) (o : Positions) (ways : Powers) (s : Part) (k : ℕ) (at : List Matrix) (powers : Powers) (here : Matrix) → IsTree t → IsReady (over t o ways) t s powers → IsPassed (over t o ways) t s k at → s.low ≤ address t k → address t k ≤ s.high → k < length t.words →
+pub reached : (t : Tree) (o : Positions) (ways : WaysOn) (s : Part) (k : ℕ) (at : List Matrix) (powers : Powers) (here : Matrix) → IsTree t → IsReady (over t o ways) t s powers → IsPassed (over t o ways) t s k at → s.low ≤ address t k → address t k ≤ s.high → k < length t.words →
     MatchOption (power_at powers k) (here ≡ slice_index_or at k no_matrix) (λ m. IsBest (entry here) (Then (In (matrix_at at k)) (In (entry m)))) → IsBest (entry here) (Reaches (net (over t o ways)) s (address t k))
 reached t o ways s k at powers here is y p low high within = go (power_at powers k) refl
   where
@@ -220,9 +220,9 @@ reached t o ways s k at powers here is y p low high within = go (power_at powers
             subst (λ u. IsBest (entry here) (Reaches (net x) s u)) (sym head) (reach-head j y.nested y.part y.reached known entered_j (λ _. rounds) best)
 
 -- the next word
-pub pass-step : (t : Tree) (o : Positions) (ways : Powers) (s : Part) (first last k : ℕ) (a0 a1 a2 a3 : List Matrix) (here : Matrix) → IsTree t → Reachable (graph t) s.low → IsSpan t s first last →
+pub pass-step : (t : Tree) (o : Positions) (ways : WaysOn) (s : Part) (first last k : ℕ) (a0 a1 a2 a3 : List Matrix) (here : Matrix) → IsTree t → Reachable (graph t) s.low → IsSpan t s first last →
     IsPassed (over t o ways) t s k a0 → first ≤ k → k ≤ last → IsBest (entry here) (Reaches (net (over t o ways)) s (address t k)) → length a3 ≡ length t.words →
-    a1 ≡ slice_set a0 k here → IsBrought (moved o (power_at ways k) (edges_at t k).next_lag) (up_of t k last (edges_at t k).next) here a1 a2 → IsBrought (moved o (power_at ways k) 3) (up_of t k last (edges_at t k).jump) here a2 a3 → IsPassed (over t o ways) t s (k + 1) a3
+    a1 ≡ slice_set a0 k here → IsBrought (moved o (ways k) (edges_at t k).next_lag) (up_of t k last (edges_at t k).next) here a1 a2 → IsBrought (moved o (ways k) 3) (up_of t k last (edges_at t k).jump) here a2 a3 → IsPassed (over t o ways) t s (k + 1) a3
 pass-step t o ways s first last k a0 a1 a2 a3 here is r sp p from le best count put n j = record {
   count = count;
   done = λ w low lt. finished w low (let z : (w < k) ⊎ (w ≡ k) = grind arith in z);
@@ -237,8 +237,8 @@ pass-step t o ways s first last k a0 a1 a2 a3 here is r sp p from le best count 
     e : EdgesOf
     e = edges_at t k
 
-    there : (lag : ℕ) (target : Option ℕ) (a b : List Matrix) → IsBrought (moved o (power_at ways k) lag) (up_of t k last target) here a b → IsBrought (x.move (address t k) lag) (up_of t k last target) here a b
-    there lag target a b y = subst (λ n. IsBrought (moved o (power_at ways n) lag) (up_of t k last target) here a b) (sym (address-place t k)) y
+    there : (lag : ℕ) (target : Option ℕ) (a b : List Matrix) → IsBrought (moved o (ways k) lag) (up_of t k last target) here a b → IsBrought (x.move (address t k) lag) (up_of t k last target) here a b
+    there lag target a b y = subst (λ n. IsBrought (moved o (ways n) lag) (up_of t k last target) here a b) (sym (address-place t k)) y
 
     within : (w : ℕ) → address t w ≤ s.high → w ≤ last
     within w high = let z : address t w ≤ address t last = sp.top (address t w) (place-aligned t is w) high in omega arith
@@ -268,7 +268,7 @@ pass-step t o ways s first last k a0 a1 a2 a3 here is r sp p from le best count 
         subst (λ w. IsBest (matrix_at a3 w) (Reaches (net x) s (address t w))) (sym same) (subst (λ m. IsBest (entry m) (Reaches (net x) s (address t k))) (sym at) best)
 
 -- the pass begins
-pub pass-start : (t : Tree) (o : Positions) (ways : Powers) (s : Part) (first last : ℕ) (a : List Matrix) (one : Matrix) → IsTree t → IsPart (net (over t o ways)) s → IsSpan t s first last → length a ≡ length t.words →
+pub pass-start : (t : Tree) (o : Positions) (ways : WaysOn) (s : Part) (first last : ℕ) (a : List Matrix) (one : Matrix) → IsTree t → IsPart (net (over t o ways)) s → IsSpan t s first last → length a ≡ length t.words →
     ((w : ℕ) → first ≤ w → w ≤ last → (p q c : ℕ) → matrix_at a w p q ≡ Some c → ⊥) → IsBest (entry one) (Stays (IsOwn o)) → IsPassed (over t o ways) t s first (slice_set a first one)
 pass-start t o ways s first last a one is part sp count none best = record {
   count = length-set a first one ∙ count;
@@ -313,12 +313,12 @@ cleared at k w lt (inl below) before p q c e = before below p q c (ap (λ m. ent
 cleared at k w lt (inr same) before p q c e = none-entry p q c (ap (λ m. entry m p q) (sym (get_or-set_same at w (record { best = replicate 8 (replicate 8 None) }) no_matrix lt)) ∙ (ap (λ i. entry (slice_index_or (slice_set at w (record { best = replicate 8 (replicate 8 None) })) i no_matrix) p q) (sym same) ∙ e))
 
 -- the span of a part
-pub span-whole : (t : Tree) (o : Positions) (ways : Powers) (last : ℕ) → IsTree t → last ≡ (t.section.to - t.section.from) / 4 - 1 → IsSpan t (whole (over t o ways)) 0 last
+pub span-whole : (t : Tree) (o : Positions) (ways : WaysOn) (last : ℕ) → IsTree t → last ≡ (t.section.to - t.section.from) / 4 - 1 → IsSpan t (whole (over t o ways)) 0 last
 span-whole t o ways last is e =
     let w = is.draft.words in let a = is.draft.section.from_aligned in let b = is.draft.section.to_aligned in let c = is.draft.section.order in
     record { low = omega arith; within = omega arith; top = λ v d h. (let h' : v ≤ t.section.to - 1 = h in omega arith); order = omega arith; inside = omega arith }
 
-pub span-body : (t : Tree) (o : Positions) (ways : Powers) (j : LoopSetup) → IsTree t → Contains t.loops j → IsSpan t (body (net (over t o ways)) j) ((j.head - t.section.from) / 4) ((j.last - t.section.from) / 4)
+pub span-body : (t : Tree) (o : Positions) (ways : WaysOn) (j : LoopSetup) → IsTree t → Contains t.loops j → IsSpan t (body (net (over t o ways)) j) ((j.head - t.section.from) / 4) ((j.last - t.section.from) / 4)
 span-body t o ways j is known =
     let w = is.draft.words in let a = is.draft.section.from_aligned in let b = is.draft.section.to_aligned in
     let l = is.draft.loops j known in let c = is.draft.counting j known in

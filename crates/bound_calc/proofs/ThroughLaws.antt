@@ -1,13 +1,16 @@
 -- Words that end a routine, one by one.
-use Rattle.std.proofs.Common.{◌≡◌, ℕ, ◌+◌, ◌<◌, ◌⊎◌, refl, arith, inl, inr, sym, subst, ap, ◌∙◌, List, Bool, true, false, Some, slice_index_or}
-use Rattle.region_tree.specs.Walk.{Positions}
+use Rattle.std.proofs.Common.{◌≡◌, ℕ, ◌+◌, ◌<◌, ◌⊎◌, refl, arith, inl, inr, sym, subst, ap, ◌∙◌, List, Bool, true, false, Option, Some, None, slice_index_or, replicate}
+use Rattle.region_tree.specs.Walk.{IsOwn, Positions}
 use Rattle.bound_calc.specs.declared.matrix.Matrix.{Matrix}
-use Rattle.bound_calc.specs.Best.{Either, In, IsBest, Then, ceiling}
+use Rattle.bound_calc.specs.Best.{Either, In, IsBest, Stays, Then, ceiling}
+use Rattle.bound_calc.specs.declared.hop.Hop.{Hop}
+use Rattle.bound_calc.specs.Hops.{Hops, IsHops}
 use Rattle.bound_calc.specs.Matrices.{entry}
 use Rattle.bound_calc.specs.Passing.{Ended, EndedHere, matrix_at, no_matrix}
 use Rattle.bound_calc.specs.Section.{Steps}
 use Rattle.bound_calc.proofs.BestLaws.{Within, best-either-then, best-same}
 use Rattle.bound_calc.proofs.Entries.{min-under}
+use Rattle.bound_calc.proofs.PassLaws.{none-entry, with-steps}
 
 pub ended-none : (s : Positions) (ends : List Bool) (at : List Matrix) (m : Matrix) → ((p q c : ℕ) → entry m p q ≡ Some c → ⊥) → IsBest (entry m) (Ended s ends at 0)
 ended-none s ends at m none = ((λ p c q e. absurd (let b = e.below in omega arith)), (λ p e q i. absurd (none p q e i)))
@@ -36,3 +39,17 @@ ended-more s ends at n true back new e h best = best-same there away (best-eithe
 
     away : Within (Ended s ends at (n + 1)) (Either (Ended s ends at n) (Then (In (matrix_at at n)) (Steps s 3)))
     away p c q z = sorted p c q z (let y : (z.place < n) ⊎ (z.place ≡ n) = (let b = z.below in grind arith) in y)
+
+-- a step from where the thread stands still
+pub jump-best : (s : Positions) (one : Matrix) (hops : List (Option Hop)) (m : Matrix) → IsBest (entry one) (Stays (IsOwn s)) → IsHops s 3 hops → IsBest (entry m) (Either (In (entry (record { best = replicate 8 (replicate 8 None) }))) (Then (In (entry one)) (Hops hops))) → IsBest (entry m) (Steps s 3)
+jump-best s one hops m still are best = best-same there away (best-either-then nothing still (with-steps are best))
+  where
+    nothing : IsBest (entry (record { best = replicate 8 (replicate 8 None) })) (λ p c q. ⊥)
+    nothing = ((λ p c q x. absurd x), (λ p e q is. absurd (none-entry p q e is)))
+
+    there : Within (Either (λ p c q. ⊥) (Then (Stays (IsOwn s)) (Steps s 3))) (Steps s 3)
+    there p c q (inl x) = absurd x
+    there p c q (inr t) = subst (λ p. Steps s 3 p c q) (sym t.first.1) (subst (λ c. Steps s 3 t.at c q) (omega (arith, t.cost, t.first.2)) t.second)
+
+    away : Within (Steps s 3) (Either (λ p c q. ⊥) (Then (Stays (IsOwn s)) (Steps s 3)))
+    away p c q t = inr (record { at = p; one = 0; two = c; first = (t.start, refl, refl); second = t; cost = omega arith })

@@ -14,7 +14,7 @@ use Rattle.bound_calc.specs.Best.{Costs, Either, Entries, In, IsBest, Stays, The
 use Rattle.bound_calc.specs.Context.{IsPart, body}
 use Rattle.bound_calc.specs.Matrices.{entry}
 use Rattle.bound_calc.specs.Pass.{AndTo, Below, Edges, Turns}
-use Rattle.bound_calc.specs.Passing.{AreWays, IsSpan, IsTurned, Powers, edges_at, over}
+use Rattle.bound_calc.specs.Passing.{AreWays, IsSpan, IsTurned, edges_at, over, WaysOn}
 use Rattle.bound_calc.specs.Section.{Field, net}
 use Rattle.bound_calc.specs.Ways.{Reaches, Round}
 use Rattle.bound_calc.proofs.Accepted.{accepted}
@@ -65,7 +65,7 @@ turned {x} {f} {back} {here} {new} j v target lag r part best t before = go (opt
         (turns-same j r part (λ u e a low ru y. inl y) (λ u e a low ru y. elim y [ inl z ↦ z | inr z ↦ absurd (other ((edge-is target lag e z.1).0 ∙ ap Some a)) ]) before)
 
 -- both edges of the word at a place
-pub turns-word : {m : Entries} (t : Tree) (o : Positions) (ways : Powers) (j : LoopSetup) (k : ℕ) → IsTree t → Reachable (graph t) j.head → IsPart (net (over t o ways)) (body (net (over t o ways)) j) → let e = edges_at t k in
+pub turns-word : {m : Entries} (t : Tree) (o : Positions) (ways : WaysOn) (j : LoopSetup) (k : ℕ) → IsTree t → Reachable (graph t) j.head → IsPart (net (over t o ways)) (body (net (over t o ways)) j) → let e = edges_at t k in
     IsBest m (Turns (over t o ways) j (AndTo (AndTo (Below (over t o ways) (address t k)) (address t k) e.next e.next_lag) (address t k) e.jump 3)) → IsBest m (Turns (over t o ways) j (Below (over t o ways) (address t (k + 1))))
 turns-word {m} t o ways j k is r part best = turns-same j r part there back best
   where
@@ -96,7 +96,7 @@ pub turns-none : {x : Field} {m : Entries} (j : LoopSetup) (v : ℕ) → j.head 
 turns-none j v e part none = ((λ p c q t. absurd (let z = above part t.walk.walk in let y = t.edge.0 in omega arith)), (λ p c q e. absurd (none p q c e)))
 
 -- all words of the loop
-pub turns-all : {m : Entries} (t : Tree) (o : Positions) (ways : Powers) (j : LoopSetup) (first last : ℕ) → IsTree t → Reachable (graph t) j.head → Contains t.loops j → IsPart (net (over t o ways)) (body (net (over t o ways)) j) → IsSpan t (body (net (over t o ways)) j) first last →
+pub turns-all : {m : Entries} (t : Tree) (o : Positions) (ways : WaysOn) (j : LoopSetup) (first last : ℕ) → IsTree t → Reachable (graph t) j.head → Contains t.loops j → IsPart (net (over t o ways)) (body (net (over t o ways)) j) → IsSpan t (body (net (over t o ways)) j) first last →
     IsBest m (Turns (over t o ways) j (Below (over t o ways) (address t (last + 1)))) → IsBest m (Round (net (over t o ways)) j)
 turns-all {m} t o ways j first last is r h part sp best = best-same turning (rounds-turns j (Below x (address t (last + 1))) (λ u e a held edge. (omega (arith, held.1, top), edge))) best
   where
@@ -121,9 +121,9 @@ pub is-turned : (f : Costs) (back here joined : Matrix) (target : Option ℕ) (h
 is-turned f back here joined target head is best = record { other = λ never. absurd (never is); there = λ z. best }
 
 -- one more round at most
-pub base-best : (t : Tree) (o : Positions) (ways : Powers) (j : LoopSetup) (first last k : ℕ) (one back base : Matrix) → IsTree t → Reachable (graph t) j.head → Contains t.loops j → IsPart (net (over t o ways)) (body (net (over t o ways)) j) → IsSpan t (body (net (over t o ways)) j) first last → k ≡ last + 1 →
+pub base-best : (t : Tree) (o : Positions) (ways : WaysOn) (j : LoopSetup) (first last k : ℕ) (one back base : Matrix) → IsTree t → Reachable (graph t) j.head → Contains t.loops j → IsPart (net (over t o ways)) (body (net (over t o ways)) j) → IsSpan t (body (net (over t o ways)) j) first last → k ≡ last + 1 →
     IsBest (entry one) (Stays (IsOwn o)) → IsBest (entry back) (Turns (over t o ways) j (Below (over t o ways) (address t k))) → IsBest (entry base) (Either (In (entry one)) (In (entry back))) → IsBest (entry base) (Either (Stays (IsOwn o)) (Round (net (over t o ways)) j))
 base-best t o ways j first last k one back base is r h part sp e b1 b2 b3 = best-either b1 (turns-all t o ways j first last is r h part sp (subst (λ k. IsBest (entry back) (Turns (over t o ways) j (Below (over t o ways) (address t k)))) e b2)) b3
 
-pub base-lands : (t : Tree) (o : Positions) (ways : Powers) (j : LoopSetup) (base : Matrix) → IsTree t → AreWays o ways → IsBest (entry base) (Either (Stays (IsOwn o)) (Round (net (over t o ways)) j)) → (p c q : ℕ) → In (entry base) p c q → IsOwn o q
+pub base-lands : (t : Tree) (o : Positions) (ways : WaysOn) (j : LoopSetup) (base : Matrix) → IsTree t → AreWays o ways → IsBest (entry base) (Either (Stays (IsOwn o)) (Round (net (over t o ways)) j)) → (p c q : ℕ) → In (entry base) p c q → IsOwn o q
 base-lands t o ways j base is are best p c q e = let z = best.1 p c q e in either-lands (round-lands (over-nested t o ways is are) j) p z.0 q z.1

@@ -48,13 +48,30 @@ abbrev pub moved : Positions → Option Matrix → ℕ → Costs
 moved s None lag = Steps s lag
 moved s (Some m) lag = In (entry m)
 
+-- the matrices of the words that are gone on from at costs of their own, by place
+abbrev pub WaysOn : Type 0
+WaysOn = ℕ → Option Matrix
+
+-- the matrix with an index, if there is one
+abbrev pub picked : List Matrix → Option ℕ → Option Matrix
+picked costs None = None
+picked costs (Some i) = if nat_lt i (length costs) then Some (slice_index_or costs i no_matrix) else None
+
+-- matrices, and by place the index of the one of its word
+pub record WayTable : Type 0 where
+  pub indices : List (Option ℕ)
+  pub costs : List Matrix
+
+abbrev pub ways_on : WayTable → WaysOn
+ways_on w k = picked w.costs (slice_index_or w.indices k None)
+
 -- The same walks, where the words at some places are gone on from at the costs of a matrix.
-abbrev pub over : Tree → Positions → Powers → Field
-over t s ways = record { graph = graph t; own = IsOwn s; move = λ u lag. moved s (power_at ways (place t u)) lag }
+abbrev pub over : Tree → Positions → WaysOn → Field
+over t s ways = record { graph = graph t; own = IsOwn s; move = λ u lag. moved s (ways (place t u)) lag }
 
 -- these matrices lead to the thread's own positions
-abbrev pub AreWays : Positions → Powers → Type 0
-AreWays s ways = (k : ℕ) (m : Matrix) → power_at ways k ≡ Some m → (p c q : ℕ) → In (entry m) p c q → IsOwn s q
+abbrev pub AreWays : Positions → WaysOn → Type 0
+AreWays s ways = (k : ℕ) (m : Matrix) → ways k ≡ Some m → (p c q : ℕ) → In (entry m) p c q → IsOwn s q
 
 -- the part of a loop, or the whole section
 abbrev pub part_of : Field → Option LoopSetup → Part
@@ -83,6 +100,11 @@ pub record IsBrought (f : Costs) (to : Option ℕ) (here : Matrix) (old new : Li
 pub record IsPowers (x : Field) (t : Tree) (s : Part) (powers : Powers) : Type 0 where
   pub some : (j : LoopSetup) → s.loops j → Reachable x.graph j.head → (m : Matrix) × (power_at powers (place t j.head) ≡ Some m) × IsBest (entry m) (Rounds (net x) j j.limit)
   pub only : (k : ℕ) (m : Matrix) → s.low ≤ address t k → address t k ≤ s.high → power_at powers k ≡ Some m → (j : LoopSetup) × s.loops j × (address t k ≡ j.head) × Reachable x.graph (address t k)
+
+-- by place what reaches each word of the section
+pub record AreReached (t : Tree) (s : Positions) (ways : WaysOn) (at : List Matrix) : Type 0 where
+  pub count : length at ≡ length t.words
+  pub best : (k : ℕ) → k < length t.words → IsBest (matrix_at at k) (Reaches (net (over t s ways)) (whole (over t s ways)) (address t k))
 
 -- Before the word at place n: what reaches each word below it, and what comes from below it to the others.
 pub record IsPassed (x : Field) (t : Tree) (s : Part) (n : ℕ) (at : List Matrix) : Type 0 where

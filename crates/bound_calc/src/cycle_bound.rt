@@ -11,13 +11,14 @@ ghost use Rattle.bound_calc.specs.declared.cycle_bound.BoundNo.TheVariants.{Over
 ghost use Rattle.bound_calc.specs.Section.{Steps as StepsAfter, field, net, whole};
 ghost use Rattle.bound_calc.specs.Ways.{Reaches};
 ghost use Rattle.bound_calc.specs.Matrices.{entry};
-ghost use Rattle.bound_calc.specs.Passing.{IsFilled, IsOut, leaves, matrix_at, power_at, walks};
+ghost use Rattle.bound_calc.specs.Passing.{IsOut, leaves, matrix_at, walks};
 
 use crate::advance::{largest, leave};
-use crate::fill::{empty, fill};
 use crate::matrix::Matrix;
-use crate::pass::{edges_at, pass};
+use crate::pass::edges_at;
+use crate::reached::reach;
 use crate::steps::Steps;
+use crate::ways::Ways;
 use region_tree::{JUMP_LAG, LoopTree};
 use slot_table::SlotTable;
 use std::alloc::{AllocError, Global};
@@ -46,7 +47,7 @@ impl From<AllocError> for BoundNo {
 }
 
 /// Whether an edge leaves the section.
-fn is_out(tree: &LoopTree, target: Option<u32>) -> bool
+pub fn is_out(tree: &LoopTree, target: Option<u32>) -> bool
     ensures { result ≡ leaves tree.now target }
 {
     let section = tree.section();
@@ -93,42 +94,14 @@ fn most(tree: &LoopTree, steps: &Steps, at: &[Matrix]) -> u128
     most
 }
 
-/// The largest cost of a walk, in the given room.
-fn cost_in(
-    alloc: Global,
-    tree: &LoopTree,
-    steps: &Steps,
-    ways: &[Option<Box<Matrix>>],
-    powers: &mut [Option<Box<Matrix>>],
-    at: &mut [Matrix],
-) -> Result<u128, AllocError>
-    requires tree { IsTree tree.now }
-    requires frame { length steps.now.frame ≤ 8 }
-    requires slot { (p : ℕ) × IsOwn steps.now p }
-    requires ways { length ways.now ≡ length tree.now.words }
-    requires none { (k : ℕ) → power_at ways.now k ≡ None }
-    requires count { length powers.old ≡ length tree.now.words }
-    requires empty { (k : ℕ) → power_at powers.old k ≡ None }
-    requires room { length at.old ≡ length tree.now.words }
-    ensures { IfOk result (IsBound (walks tree.now steps.now)) }
-{
-    fill(alloc, tree, steps, ways, powers, at)?;
-    pass(tree, steps, ways, powers, None, at);
-    Ok(most(tree, steps, at))
-}
-
 /// The largest cost of a walk.
 fn largest_cost(alloc: Global, tree: &LoopTree, steps: &Steps) -> Result<u128, AllocError>
     requires frame { length steps.now.frame ≤ 8 }
     requires slot { (p : ℕ) × IsOwn steps.now p }
     ensures { IfOk result (IsBound (walks tree.now steps.now)) }
 {
-    let section = tree.section();
-    let count = ((section.to - section.from) / 4) as usize;
-    let mut at = vec![in alloc; Matrix::NONE; count]?;
-    let mut powers = empty(alloc, count)?;
-    let ways = empty(alloc, count)?;
-    cost_in(alloc, tree, steps, &ways, &mut powers, &mut at)
+    let at = reach(alloc, tree, steps, &Ways::new(&[], &[]))?;
+    Ok(most(tree, steps, &at))
 }
 
 /// A bound in 64 bits, if it has no more.

@@ -1,11 +1,12 @@
 //! The powers of all loops, from the last head to the first.
 
 ghost use Rattle.std.specs.Prelude.{◌≡◌, ◌≢◌, ℕ, ◌+◌, ◌<◌, ◌≤◌, length, MatchOption, Contains, OnOk, IfOk};
-ghost use Rattle.bound_calc.specs.Passing.{AreWays, IsFilled, Powers, over, power_at};
+ghost use Rattle.bound_calc.specs.Passing.{AreWays, IsFilled, Powers, over, power_at, ways_on};
 
 use crate::matrix::Matrix;
 use crate::rounds::rounds;
 use crate::steps::Steps;
+use crate::ways::Ways;
 use fp_setup::LoopSetup;
 use region_tree::LoopTree;
 use std::alloc::{AllocError, Global};
@@ -38,17 +39,16 @@ fn fill_word(
     alloc: Global,
     tree: &LoopTree,
     steps: &Steps,
-    ways: &[Option<Box<Matrix>>],
+    ways: &Ways,
     place: usize,
     powers: &mut [Option<Box<Matrix>>],
     at: &mut [Matrix],
 ) -> Result<(), AllocError>
-    requires ways { length ways.now ≡ length tree.now.words }
-    requires own { AreWays steps.now ways.now }
+    requires own { AreWays steps.now (ways_on ways.now) }
     requires place { place < length tree.now.words }
-    requires filled { IsFilled (over tree.now steps.now ways.now) tree.now (place + 1) powers.old }
+    requires filled { IsFilled (over tree.now steps.now (ways_on ways.now)) tree.now (place + 1) powers.old }
     requires room { length at.old ≡ length tree.now.words }
-    ensures { OnOk result (IsFilled (over tree.now steps.now ways.now) tree.now place powers.new) }
+    ensures { OnOk result (IsFilled (over tree.now steps.now (ways_on ways.now)) tree.now place powers.new) }
 {
     let address = tree.section().from + 4 * place as u32;
     if !tree.is_reachable(address) {
@@ -67,15 +67,14 @@ pub fn fill(
     alloc: Global,
     tree: &LoopTree,
     steps: &Steps,
-    ways: &[Option<Box<Matrix>>],
+    ways: &Ways,
     powers: &mut [Option<Box<Matrix>>],
     at: &mut [Matrix],
 ) -> Result<(), AllocError>
-    requires ways { length ways.now ≡ length tree.now.words }
-    requires own { AreWays steps.now ways.now }
-    requires filled { IsFilled (over tree.now steps.now ways.now) tree.now (length tree.now.words) powers.old }
+    requires own { AreWays steps.now (ways_on ways.now) }
+    requires filled { IsFilled (over tree.now steps.now (ways_on ways.now)) tree.now (length tree.now.words) powers.old }
     requires room { length at.old ≡ length tree.now.words }
-    ensures { OnOk result (IsFilled (over tree.now steps.now ways.now) tree.now 0 powers.new) }
+    ensures { OnOk result (IsFilled (over tree.now steps.now (ways_on ways.now)) tree.now 0 powers.new) }
 {
     let mut place = at.len();
     while place > 0 {

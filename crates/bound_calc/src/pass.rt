@@ -8,11 +8,12 @@ ghost use Rattle.bound_calc.specs.Best.{Either, In, IsBest, Then};
 ghost use Rattle.bound_calc.specs.Section.{net};
 ghost use Rattle.bound_calc.specs.Ways.{Reaches};
 ghost use Rattle.bound_calc.specs.Matrices.{entry};
-ghost use Rattle.bound_calc.specs.Passing.{IsBrought, IsReady, IsSpan, edges_at, matrix_at, moved, over, part_of, up_of};
+ghost use Rattle.bound_calc.specs.Passing.{IsBrought, IsReady, IsSpan, edges_at, matrix_at, moved, over, part_of, up_of, ways_on};
 
 use crate::advance::advance;
 use crate::matrix::Matrix;
 use crate::steps::Steps;
+use crate::ways::Ways;
 use fp_setup::LoopSetup;
 use region_tree::{Edges, JUMP_LAG, LoopTree, edges_of};
 
@@ -80,15 +81,9 @@ fn with_rounds(here: &Matrix, power: &Option<Box<Matrix>>) -> Matrix
 
 /// Joins a matrix with another that goes on from a word: by the turns after a lag, or by the way
 /// of the word, if it has one.
-pub fn along(
-    steps: &Steps,
-    way: &Option<Box<Matrix>>,
-    here: &Matrix,
-    lag: u64,
-    onto: &Matrix,
-) -> Matrix
+pub fn along(steps: &Steps, way: Option<&Matrix>, here: &Matrix, lag: u64, onto: &Matrix) -> Matrix
     requires lag { lag ≤ 3 }
-    ensures { IsBest (entry result) (Either (In (entry onto.now)) (Then (In (entry here.now)) (moved steps.now (option_map (λ b. b.value) way.now) lag))) }
+    ensures { IsBest (entry result) (Either (In (entry onto.now)) (Then (In (entry here.now)) (moved steps.now (option_map (λ m. m.now) way.entry) lag))) }
 {
     match way {
         None => advance(here, steps.hops(lag), onto),
@@ -102,7 +97,7 @@ pub fn along(
 /// Takes a matrix along an edge to a place.
 fn bring(
     steps: &Steps,
-    way: &Option<Box<Matrix>>,
+    way: Option<&Matrix>,
     to: Option<usize>,
     here: &Matrix,
     lag: u64,
@@ -110,7 +105,7 @@ fn bring(
 )
     requires lag { lag ≤ 3 }
     requires within { IfSome to (λ k. k < length at.old) }
-    ensures { IsBrought (moved steps.now (option_map (λ b. b.value) way.now) lag) to here.now at.old at.new }
+    ensures { IsBrought (moved steps.now (option_map (λ m. m.now) way.entry) lag) to here.now at.old at.new }
 {
     let Some(to) = to else {
         return;
@@ -134,16 +129,15 @@ fn clear(at: &mut [Matrix], span: Span)
 pub fn pass(
     tree: &LoopTree,
     steps: &Steps,
-    ways: &[Option<Box<Matrix>>],
+    ways: &Ways,
     powers: &[Option<Box<Matrix>>],
     around: Option<LoopSetup>,
     at: &mut [Matrix],
 )
     requires known { IfSome around (λ j. Contains tree.now.loops j) }
-    requires ready { IsReady (over tree.now steps.now ways.now) tree.now (part_of (over tree.now steps.now ways.now) around) powers.now }
+    requires ready { IsReady (over tree.now steps.now (ways_on ways.now)) tree.now (part_of (over tree.now steps.now (ways_on ways.now)) around) powers.now }
     requires room { length at.old ≡ length tree.now.words }
-    requires ways { length ways.now ≡ length tree.now.words }
-    ensures { let s = part_of (over tree.now steps.now ways.now) around in (k : ℕ) → s.low ≤ address tree.now k → address tree.now k ≤ s.high → IsBest (matrix_at at.new k) (Reaches (net (over tree.now steps.now ways.now)) s (address tree.now k)) }
+    ensures { let s = part_of (over tree.now steps.now (ways_on ways.now)) around in (k : ℕ) → s.low ≤ address tree.now k → address tree.now k ≤ s.high → IsBest (matrix_at at.new k) (Reaches (net (over tree.now steps.now (ways_on ways.now))) s (address tree.now k)) }
 {
     let span = places_of(tree, around);
     clear(at, span);
@@ -153,8 +147,8 @@ pub fn pass(
         at[place] = here;
         let edges = edges_at(tree, place);
         let next = up_to(tree, place, span.last, edges.next);
-        bring(steps, &ways[place], next, &here, edges.next_lag, at);
+        bring(steps, ways.at(place), next, &here, edges.next_lag, at);
         let jump = up_to(tree, place, span.last, edges.jump);
-        bring(steps, &ways[place], jump, &here, JUMP_LAG, at);
+        bring(steps, ways.at(place), jump, &here, JUMP_LAG, at);
     }
 }

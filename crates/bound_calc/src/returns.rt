@@ -4,11 +4,19 @@ ghost use Rattle.std.specs.Prelude.{◌≡◌, ℕ, ◌≤◌, length};
 ghost use Rattle.bound_calc.specs.Best.{IsBest};
 ghost use Rattle.bound_calc.specs.Matrices.{entry};
 ghost use Rattle.bound_calc.specs.Passing.{Ended, EndedHere};
+ghost use Rattle.bound_calc.specs.Section.{Steps as StepsAfter};
 
 use crate::advance::advance;
 use crate::matrix::Matrix;
 use crate::steps::Steps;
 use region_tree::JUMP_LAG;
+
+/// A jump: the steps to the thread's first turns that are at least three cycles later.
+pub fn jump(steps: &Steps) -> Matrix
+    ensures { IsBest (entry result) (StepsAfter steps.now 3) }
+{
+    advance(steps.one(), steps.hops(JUMP_LAG), &Matrix::NONE)
+}
 
 /// What leads to some words and then a jump further.
 pub fn through(steps: &Steps, at: &[Matrix], ends: &[bool]) -> Matrix

@@ -9,19 +9,20 @@ ghost use Rattle.bound_calc.specs.Context.{body};
 ghost use Rattle.bound_calc.specs.Section.{net};
 ghost use Rattle.bound_calc.specs.Ways.{Rounds};
 ghost use Rattle.bound_calc.specs.Matrices.{entry};
-ghost use Rattle.bound_calc.specs.Passing.{AreWays, IsReady, IsTurned, moved, over};
+ghost use Rattle.bound_calc.specs.Passing.{AreWays, IsReady, IsTurned, moved, over, ways_on};
 
 use crate::matrix::Matrix;
 use crate::pass::{along, edges_at, pass, places_of};
 use crate::powers::power;
 use crate::steps::Steps;
+use crate::ways::Ways;
 use fp_setup::LoopSetup;
 use region_tree::{JUMP_LAG, LoopTree};
 
 /// Joins what an edge brings back to a head.
 fn turn(
     steps: &Steps,
-    way: &Option<Box<Matrix>>,
+    way: Option<&Matrix>,
     back: &Matrix,
     here: &Matrix,
     target: Option<u32>,
@@ -29,7 +30,7 @@ fn turn(
     head: u32,
 ) -> Matrix
     requires lag { lag ≤ 3 }
-    ensures { IsTurned (moved steps.now (option_map (λ b. b.value) way.now) lag) back.now here.now target head result }
+    ensures { IsTurned (moved steps.now (option_map (λ m. m.now) way.entry) lag) back.now here.now target head result }
 {
     match target {
         Some(to) if to == head => along(steps, way, here, lag, back),
@@ -41,18 +42,17 @@ fn turn(
 pub fn rounds(
     tree: &LoopTree,
     steps: &Steps,
-    ways: &[Option<Box<Matrix>>],
+    ways: &Ways,
     powers: &[Option<Box<Matrix>>],
     j: LoopSetup,
     at: &mut [Matrix],
 ) -> Matrix
-    requires ways { length ways.now ≡ length tree.now.words }
-    requires own { AreWays steps.now ways.now }
+    requires own { AreWays steps.now (ways_on ways.now) }
     requires known { Contains tree.now.loops j }
     requires reached { Reachable (graph tree.now) j.head }
-    requires ready { IsReady (over tree.now steps.now ways.now) tree.now (body (net (over tree.now steps.now ways.now)) j) powers.now }
+    requires ready { IsReady (over tree.now steps.now (ways_on ways.now)) tree.now (body (net (over tree.now steps.now (ways_on ways.now))) j) powers.now }
     requires room { length at.old ≡ length tree.now.words }
-    ensures { IsBest (entry result) (Rounds (net (over tree.now steps.now ways.now)) j j.limit) }
+    ensures { IsBest (entry result) (Rounds (net (over tree.now steps.now (ways_on ways.now))) j j.limit) }
 {
     pass(tree, steps, ways, powers, Some(j), at);
     let span = places_of(tree, Some(j));
@@ -61,7 +61,7 @@ pub fn rounds(
         let edges = edges_at(tree, place);
         let next = turn(
             steps,
-            &ways[place],
+            ways.at(place),
             &back,
             &at[place],
             edges.next,
@@ -70,7 +70,7 @@ pub fn rounds(
         );
         back = turn(
             steps,
-            &ways[place],
+            ways.at(place),
             &next,
             &at[place],
             edges.jump,

@@ -11,11 +11,11 @@ advance-requires c = record { places = hops-places c.args.steps.now c.args.lag c
 
 pub returns-in-None : goal.returns-in-None
 returns-in-None c =
-    subst (λ w. IsBest (entry c.advance.result) (Either (In (entry c.args.onto.now)) (Then (In (entry c.args.here.now)) (moved c.args.steps.now (option_map (λ b. b.value) w) c.args.lag)))) (sym c.in-None.is)
+    subst (λ w. IsBest (entry c.advance.result) (Either (In (entry c.args.onto.now)) (Then (In (entry c.args.here.now)) (moved c.args.steps.now (option_map (λ m. m.now) w) c.args.lag)))) (sym c.in-None.is)
     (with-steps c.hops.ensures.hops c.advance.ensures)
 
 pub returns-in-Some : goal.returns-in-Some
 returns-in-Some c =
-    subst (λ w. IsBest (entry c.join.result) (Either (In (entry c.args.onto.now)) (Then (In (entry c.args.here.now)) (moved c.args.steps.now (option_map (λ b. b.value) w) c.args.lag)))) (sym c.in-Some.is)
-    (along-matrix c.args.steps.now c.in-Some.way.value c.args.here.now c.args.onto.now c.chain-chained.result c.join.result c.args.lag
-    (subst (λ m. IsBest (entry c.chain-chained.result) (Then (In (entry c.args.here.now)) (In (entry m)))) c.deref.ensures c.chain-chained.ensures.best) c.join.ensures.best)
+    subst (λ w. IsBest (entry c.join.result) (Either (In (entry c.args.onto.now)) (Then (In (entry c.args.here.now)) (moved c.args.steps.now (option_map (λ m. m.now) w) c.args.lag)))) (sym c.in-Some.is)
+    (along-matrix c.args.steps.now c.in-Some.way.now c.args.here.now c.args.onto.now c.chain-chained.result c.join.result c.args.lag
+    c.chain-chained.ensures.best c.join.ensures.best)

@@ -1,4 +1,4 @@
-use Rattle.std.proofs.Common.{◌-◌, ◌/◌, ◌<◌, arith, ap, subst, sym, [], length, Contains, IfSome, Some}
+use Rattle.std.proofs.Common.{◌-◌, ◌/◌, ◌<◌, arith, ap, subst, sym, [], length, None, Contains, IfSome, Some}
 use Rattle.bound_calc.specs.Passing.{IsSpan, over, part_of}
 use Rattle.bound_calc.proofs.PassLaws.{span-body}
 use Rattle.bound_calc.proofs.pass.places_of.Goals as goal
@@ -30,5 +30,5 @@ pub returns-in-Some-clause-inside : goal.returns-in-Some-clause-inside
 returns-in-Some-clause-inside c =
     let t = c.args.tree.now in
     let j = c.in-Some.j in
-    let s = span-body t (record { frame = []; thread = 0 }) [] j c.section-section.ensures.rules (known (goal.at.returns-in-Some-clause-inside c).In-Some) in
+    let s = span-body t (record { frame = []; thread = 0 }) (λ k. None) j c.section-section.ensures.rules (known (goal.at.returns-in-Some-clause-inside c).In-Some) in
     subst (λ r. (j.last - r.from) / 4 < length t.words) (sym c.section-section.ensures.value) s.inside

@@ -6,25 +6,25 @@ use Rattle.region_tree.specs.Walk.{IsOwn}
 use Rattle.bound_calc.specs.Best.{Either, IsBest, Stays}
 use Rattle.bound_calc.specs.Context.{body}
 use Rattle.bound_calc.specs.Matrices.{entry}
-use Rattle.bound_calc.specs.Passing.{IsTurned, edges_at, matrix_at, moved, no_matrix, over, power_at}
+use Rattle.bound_calc.specs.Passing.{IsTurned, edges_at, matrix_at, moved, no_matrix, over, ways_on}
 use Rattle.bound_calc.specs.Section.{net}
 use Rattle.bound_calc.specs.Ways.{Reaches, Round}
-use Rattle.bound_calc.proofs.PassLaws.{lag-small, none-entry, read-power}
+use Rattle.bound_calc.proofs.PassLaws.{lag-small, none-entry}
 use Rattle.bound_calc.proofs.PowerLaws.{power-best}
 use Rattle.bound_calc.proofs.TurnLaws.{base-best, base-lands, turned, turns-none, turns-word}
 use Rattle.bound_calc.proofs.rounds.rounds.Goals as goal
 use Rattle.bound_calc.proofs.rounds.rounds.Goals.{After-edges_at-edges, After-join-base}
 
 -- what reaches the present word
-here : (c : After-edges_at-edges) → IsBest (matrix_at c.pass.new.at c.loop-place.place) (Reaches (net (over c.args.tree.now c.args.steps.now c.args.ways.now)) (body (net (over c.args.tree.now c.args.steps.now c.args.ways.now)) c.args.j) (address c.args.tree.now c.loop-place.place))
+here : (c : After-edges_at-edges) → IsBest (matrix_at c.pass.new.at c.loop-place.place) (Reaches (net (over c.args.tree.now c.args.steps.now (ways_on c.args.ways.now))) (body (net (over c.args.tree.now c.args.steps.now (ways_on c.args.ways.now))) c.args.j) (address c.args.tree.now c.loop-place.place))
 here c =
-    let sp = c.places_of-span.ensures.span c.args.steps.now c.args.ways.now in
+    let sp = c.places_of-span.ensures.span c.args.steps.now (ways_on c.args.ways.now) in
     let low = sp.low in let high = sp.within in
     c.pass.ensures c.loop-place.place (omega arith) (omega arith)
 
 pub loop-place-init : goal.loop-place-init
 loop-place-init c =
-    let sp = c.places_of-span.ensures.span c.args.steps.now c.args.ways.now in
+    let sp = c.places_of-span.ensures.span c.args.steps.now (ways_on c.args.ways.now) in
     turns-none c.args.j (address c.args.tree.now c.places_of-span.result.first) sp.low c.requires.ready.part none-entry
 
 pub turn-next-requires : goal.turn-next-requires
@@ -37,26 +37,26 @@ loop-place-preserved c =
     let k = c.loop-place.place in
     let now = slice_index_or c.pass.new.at k no_matrix in
     let best = here (goal.at.loop-place-preserved c).After-edges_at-edges in
-    let h = c.args.ways.now in
+    let h = ways_on c.args.ways.now in
     let within = (c.places_of-span.ensures.span o h).inside in
-    let way = ap (λ n. power_at h n) (address-place t k) ∙ read-power h k c.index-ways-place.result c.index-ways-place.is (omega (arith, c.requires.ways)) in
-    let way' = ap (λ n. power_at h n) (address-place t k) ∙ read-power h k c.index-ways-place-in-loop-place.result c.index-ways-place-in-loop-place.is (omega (arith, c.requires.ways)) in
+    let way = ap (λ n. h n) (address-place t k) ∙ sym c.at.ensures in
+    let way' = ap (λ n. h n) (address-place t k) ∙ sym c.at-in-loop-place.ensures in
     let next = subst (λ w. IsTurned (moved o w (edges_at t k).next_lag) c.loop-place.back now (edges_at t k).next c.args.j.head c.turn-next.result) (sym way)
-    (subst (λ e. IsTurned (moved o (option_map (λ b. b.value) c.index-ways-place.result) e.next_lag) c.loop-place.back now e.next c.args.j.head c.turn-next.result) c.edges_at-edges.ensures c.turn-next.ensures) in
+    (subst (λ e. IsTurned (moved o (option_map (λ m. m.now) c.at.result) e.next_lag) c.loop-place.back now e.next c.args.j.head c.turn-next.result) c.edges_at-edges.ensures c.turn-next.ensures) in
     let jump = subst (λ w. IsTurned (moved o w 3) c.turn-next.result now (edges_at t k).jump c.args.j.head c.turn-back.result) (sym way')
-    (subst (λ e. IsTurned (moved o (option_map (λ b. b.value) c.index-ways-place-in-loop-place.result) 3) c.turn-next.result now e.jump c.args.j.head c.turn-back.result) c.edges_at-edges.ensures c.turn-back.ensures) in
-    turns-word t o c.args.ways.now c.args.j k c.places_of-span.ensures.rules c.requires.reached c.requires.ready.part
+    (subst (λ e. IsTurned (moved o (option_map (λ m. m.now) c.at-in-loop-place.result) 3) c.turn-next.result now e.jump c.args.j.head c.turn-back.result) c.edges_at-edges.ensures c.turn-back.ensures) in
+    turns-word t o (ways_on c.args.ways.now) c.args.j k c.places_of-span.ensures.rules c.requires.reached c.requires.ready.part
     (turned c.args.j (address t k) (edges_at t k).jump 3 c.requires.reached c.requires.ready.part best jump
     (turned c.args.j (address t k) (edges_at t k).next (edges_at t k).next_lag c.requires.reached c.requires.ready.part best next c.loop-place.invariant))
 
 -- at most one round
-base : (c : After-join-base) → IsBest (entry c.join-base.result) (Either (Stays (IsOwn c.args.steps.now)) (Round (net (over c.args.tree.now c.args.steps.now c.args.ways.now)) c.args.j))
+base : (c : After-join-base) → IsBest (entry c.join-base.result) (Either (Stays (IsOwn c.args.steps.now)) (Round (net (over c.args.tree.now c.args.steps.now (ways_on c.args.ways.now))) c.args.j))
 base c =
-    let sp = c.places_of-span.ensures.span c.args.steps.now c.args.ways.now in
-    base-best c.args.tree.now c.args.steps.now c.args.ways.now c.args.j c.places_of-span.result.first c.places_of-span.result.last c.loop-place.place c.one.result.now c.loop-place.back c.join-base.result c.places_of-span.ensures.rules c.requires.reached c.requires.known c.requires.ready.part sp (omega arith) c.one.ensures.one c.loop-place.invariant c.join-base.ensures.best
+    let sp = c.places_of-span.ensures.span c.args.steps.now (ways_on c.args.ways.now) in
+    base-best c.args.tree.now c.args.steps.now (ways_on c.args.ways.now) c.args.j c.places_of-span.result.first c.places_of-span.result.last c.loop-place.place c.one.result.now c.loop-place.back c.join-base.result c.places_of-span.ensures.rules c.requires.reached c.requires.known c.requires.ready.part sp (omega arith) c.one.ensures.one c.loop-place.invariant c.join-base.ensures.best
 
 pub power-requires : goal.power-requires
-power-requires c = record { lands = base-lands c.args.tree.now c.args.steps.now c.args.ways.now c.args.j c.join-base.result c.places_of-span.ensures.rules c.requires.own (base (goal.at.power-requires c).After-join-base) }
+power-requires c = record { lands = base-lands c.args.tree.now c.args.steps.now (ways_on c.args.ways.now) c.args.j c.join-base.result c.places_of-span.ensures.rules c.requires.own (base (goal.at.power-requires c).After-join-base) }
 
 pub returns : goal.returns
-returns c = power-best (IsOwn c.args.steps.now) (Either (Stays (IsOwn c.args.steps.now)) (Round (net (over c.args.tree.now c.args.steps.now c.args.ways.now)) c.args.j)) (entry c.join-base.result) (entry c.power.result) c.args.j.limit (base (goal.at.returns c).After-join-base) c.power.ensures
+returns c = power-best (IsOwn c.args.steps.now) (Either (Stays (IsOwn c.args.steps.now)) (Round (net (over c.args.tree.now c.args.steps.now (ways_on c.args.ways.now))) c.args.j)) (entry c.join-base.result) (entry c.power.result) c.args.j.limit (base (goal.at.returns c).After-join-base) c.power.ensures
