@@ -30,7 +30,7 @@ reach {from} {to} {loops} {edges} {edges'} {stop} {stop'} a (next {u = v} e r ed
     go : Reachable (graph_of from to loops edges' stop') v × (v % 4 ≡ 0) × (from ≤ v) × (v < to) → Reachable (graph_of from to loops edges' stop') e.to × (e.to % 4 ≡ 0) × (from ≤ e.to) × (e.to < to)
     go z = (next e z.0 (subst (λ l. Contains l e) (a.same v z.1 z.2 z.3) edge) (record { low = lies.low; high = lies.high }), a.aligned v e z.1 edge, lies.low, lies.high)
 
-back : {from to : ℕ} {edges edges' : ℕ → List Edge} {stop stop' : ℕ → Stop} (loops : List LoopSetup) → Agree from to edges edges' stop stop' → {u : ℕ} → Reachable (graph_of from to loops edges' stop') u →
+pub back : {from to : ℕ} {edges edges' : ℕ → List Edge} {stop stop' : ℕ → Stop} (loops : List LoopSetup) → Agree from to edges edges' stop stop' → {u : ℕ} → Reachable (graph_of from to loops edges' stop') u →
     Reachable (graph_of from to loops edges stop) u × (u % 4 ≡ 0) × (from ≤ u) × (u < to)
 back loops a first = (first, a.start, omega arith, a.order)
 back {from} {to} {edges} {edges'} {stop} {stop'} loops a (next {u = v} e r edge lies) = go (back loops a r)

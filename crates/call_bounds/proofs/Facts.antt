@@ -10,9 +10,11 @@ use Rattle.region_tree.specs.Graph.{Lies}
 use Rattle.region_tree.specs.Refusals.{IsAllowed}
 use Rattle.region_tree.specs.Tree.{counts}
 use Rattle.bound_calc.proofs.Outermost.{cons-cases, cons-first, cons-rest}
-use Rattle.call_bounds.specs.CallRefusals.{IsCallable, IsListing, IsRoutine, Rise}
-use Rattle.call_bounds.specs.Calls.{Calls, CallsLead, IsReached, Part, Routine, callee, linked, part, range, routine_at, routine_to}
-use Rattle.call_bounds.proofs.AcceptedOf.{accepted-of}
+use Rattle.call_bounds.specs.CallRefusals.{IsCallable, IsListing}
+use Rattle.call_bounds.specs.Routines.{IsRoutine, Rise}
+use Rattle.call_bounds.specs.Calls.{Calls, CallsLead, IsReached, Part, callee, linked, part, range, routine_at, routine_to}
+use Rattle.call_bounds.specs.declared.routines.Routine.{Routine}
+use Rattle.bound_calc.proofs.Accepted.{accepted-of}
 use Rattle.call_bounds.proofs.Parts.{AreParts}
 
 at-listed : (rs : List Routine) (a : ℕ) (r : Routine) → routine_at rs a ≡ Some r → Contains rs r

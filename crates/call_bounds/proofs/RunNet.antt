@@ -9,7 +9,8 @@ use Rattle.bound_calc.specs.Context.{IsNested, IsPart, May, Walk}
 use Rattle.bound_calc.specs.Section.{IsAccepted, net, whole}
 use Rattle.bound_calc.proofs.Counters.{counted-in, counted-other, kept}
 use Rattle.bound_calc.proofs.Embed.{is_or_not}
-use Rattle.call_bounds.specs.Calls.{Calls, Part, Routine, callee, onward, part, plain, plain_unless}
+use Rattle.call_bounds.specs.Calls.{Calls, Part, callee, onward, part, plain, plain_unless}
+use Rattle.call_bounds.specs.declared.routines.Routine.{Routine}
 use Rattle.call_bounds.specs.CallWalk.{Route}
 use Rattle.call_bounds.specs.Field.{field, moves}
 use Rattle.call_bounds.specs.Runs.{Run}
@@ -41,7 +42,7 @@ pub record Netted (x : Route) (a : Part) (p u q c : ℕ) (k : LoopSetup → ℕ)
   pub walk : Walk (net (field x a)) (whole (field x a)) p steps u q c k
   pub word : Reachable (part x.calls a) u
 
-plain-move : (x : Route) (o : Option Routine) (edges : List Edge) (e : Edge) {p d q : ℕ} → Contains (plain_unless o edges) e → IsNextTurn x.positions e.lag p d q → moves x o e.lag p d q
+pub plain-move : (x : Route) (o : Option Routine) (edges : List Edge) (e : Edge) {p d q : ℕ} → Contains (plain_unless o edges) e → IsNextTurn x.positions e.lag p d q → moves x o e.lag p d q
 plain-move x None edges e h t = t
 plain-move x (Some r) edges e h t = absurd (omega (arith, h.1))
 
@@ -91,7 +92,7 @@ netted x {a} {p} is (Run.through {u = u} {q = q} {c = c} {d = d} {k = k} {t = t}
         bound j le (inr other) = let z = counted-other u (u + 4) j (k j) other in omega arith
 
 -- the one edge of a call
-call-is : (x : Calls) (a : Part) (u : ℕ) (t : Routine) (e : Edge) → callee x u ≡ Some t → Contains ((part x a).edges u) e → e.to ≡ u + 4
+pub call-is : (x : Calls) (a : Part) (u : ℕ) (t : Routine) (e : Edge) → callee x u ≡ Some t → Contains ((part x a).edges u) e → e.to ≡ u + 4
 call-is x a u t e to h = go (callee x u) to h
   where
     go : (o : Option Routine) → o ≡ Some t → Contains (onward o u (edge_list (edges_of (x.word u) u))) e → e.to ≡ u + 4

@@ -2,32 +2,37 @@
 use Rattle.std.proofs.Common.{◌≡◌, ℕ, ◌≤◌, refl, arith, sym, subst, Option, Some, None, min, Contains}
 use Rattle.region_tree.specs.Graph.{Reachable}
 use Rattle.region_tree.specs.Walk.{IsOwn}
-use Rattle.bound_calc.specs.Best.{Entries, IsBest, Then, ceiling}
+use Rattle.bound_calc.specs.Best.{Costs, Entries, IsBest, Then, ceiling}
 use Rattle.bound_calc.specs.Context.{Part as Piece}
 use Rattle.bound_calc.specs.Matrices.{entry}
 use Rattle.bound_calc.specs.Passing.{moved}
 use Rattle.bound_calc.specs.Section.{Arc, Field, Steps, net}
 use Rattle.bound_calc.specs.Ways.{Reaches}
 use Rattle.bound_calc.specs.declared.matrix.Matrix.{Matrix}
-use Rattle.call_bounds.specs.Calls.{Part, Routine, callee, part}
+use Rattle.call_bounds.specs.Calls.{Part, callee, part}
+use Rattle.call_bounds.specs.declared.routines.Routine.{Routine}
 use Rattle.call_bounds.specs.CallWalk.{Route}
 use Rattle.call_bounds.specs.Field.{field, moves}
 use Rattle.call_bounds.specs.Runs.{Through}
 use Rattle.call_bounds.proofs.Dominance.{Stands, stands}
 
--- the way of a word: none where it is no call, and else the best of what the call costs
-abbrev pub IsWay : Route → Option Routine → Option Matrix → Type 0
-IsWay x None w = w ≡ None
-IsWay x (Some t) w = (m : Matrix) × (w ≡ Some m) × IsBest (entry m) (Then (Steps x.positions 3) (Through x t))
+-- the matrix of a word: none where it is no call, and else the best of the jump and what its routine costs
+abbrev pub IsWayOf : Route → (Routine → Costs) → Option Routine → Option Matrix → Type 0
+IsWayOf x f None w = w ≡ None
+IsWayOf x f (Some t) w = (m : Matrix) × (w ≡ Some m) × IsBest (entry m) (Then (Steps x.positions 3) (f t))
 
-covered : (x : Route) (o : Option Routine) (w : Option Matrix) (lag p d q : ℕ) → IsWay x o w → moves x o lag p d q → (e : ℕ) × moved x.positions w lag p e q × (min d ceiling ≤ e)
+-- of going on to the word after it
+abbrev pub IsWay : Route → Option Routine → Option Matrix → Type 0
+IsWay x = IsWayOf x (Through x)
+
+pub covered : (x : Route) (o : Option Routine) (w : Option Matrix) (lag p d q : ℕ) → IsWay x o w → moves x o lag p d q → (e : ℕ) × moved x.positions w lag p e q × (min d ceiling ≤ e)
 covered x None w lag p d q is m = (d, subst (λ w. moved x.positions w lag p d q) (sym is) m, (let le : d ≤ d = omega arith in under d d ceiling le))
   where
     under : (d e n : ℕ) → d ≤ e → min d n ≤ e
     under d e n h = omega arith
 covered x (Some t) w lag p d q is m = let z = is.2.0 p d q m in (z.0, subst (λ w. moved x.positions w lag p z.0 q) (sym is.1) z.1, z.2)
 
-found : (x : Route) (o : Option Routine) (w : Option Matrix) (lag p e q : ℕ) → IsWay x o w → moved x.positions w lag p e q → (d : ℕ) × moves x o lag p d q × (min e ceiling ≡ min d ceiling)
+pub found : (x : Route) (o : Option Routine) (w : Option Matrix) (lag p e q : ℕ) → IsWay x o w → moved x.positions w lag p e q → (d : ℕ) × moves x o lag p d q × (min e ceiling ≡ min d ceiling)
 found x None w lag p e q is m = (e, subst (λ w. moved x.positions w lag p e q) is m, refl)
 found x (Some t) w lag p e q is m = is.2.1 p e q (subst (λ w. moved x.positions w lag p e q) is.1 m)
 

@@ -1,10 +1,12 @@
 -- The sections and routines of which no bound is told, and why.
-use Rattle.std.specs.Prelude.{◌≡◌, ℕ, ◌<◌, ◌≤◌, ◌%◌, List, [], ◌∷◌, length, Some, Contains}
+use Rattle.std.specs.Prelude.{◌≡◌, ℕ, ◌<◌, ◌≤◌, Some, Contains}
 use Rattle.fp_setup.specs.Loops.{AreLoops}
 use Rattle.region_tree.specs.Tree.{IsSection}
 use Rattle.region_tree.specs.Graph.{Edge, Graph, Lies, Reachable}
 use Rattle.region_tree.specs.Refusals.{IndirectAt, NestingAt, Nowhere, TimedAt, UnboundedAt}
-use Rattle.call_bounds.specs.Calls.{Calls, CallsLead, IsReached, Part, Routine, part}
+use Rattle.call_bounds.specs.Calls.{Calls, CallsLead, IsReached, Part, part}
+use Rattle.call_bounds.specs.declared.routines.Routine.{Routine}
+use Rattle.call_bounds.specs.Routines.{AreRoutines}
 
 -- a routine that has a word in common with the section
 pub record OverlapAt (x : Calls) (a : ℕ) : Type 0 where
@@ -44,23 +46,6 @@ pub record IsCallable (x : Calls) : Type 0 where
   pub timed : Nowhere (InParts x TimedAt)
   pub unbounded : Nowhere (InParts x UnboundedAt)
   pub escape : Nowhere (EscapeAt x)
-
--- each routine begins above the one before it
-abbrev pub Rise : List Routine → Type 0
-Rise [] = Unit {0}
-Rise (r ∷ rs) = ((t : Routine) → Contains rs t → r.last < t.head) × Rise rs
-
--- what is known of a list of routines by itself
-pub record IsRoutine (r : Routine) : Type 0 where
-  pub head_aligned : r.head % 4 ≡ 0
-  pub last_aligned : r.last % 4 ≡ 0
-  pub order : r.head ≤ r.last
-  pub end : r.last ≤ 65532
-
-pub record AreRoutines (rs : List Routine) : Type 0 where
-  pub few : length rs ≤ 64
-  pub each : (r : Routine) → Contains rs r → IsRoutine r
-  pub rise : Rise rs
 
 -- what is asked of a section, its routines and its loops
 pub record IsListing (x : Calls) : Type 0 where

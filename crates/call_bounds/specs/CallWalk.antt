@@ -1,9 +1,12 @@
 -- Walks through a section and the routines that it calls, which come back to where they were called from.
-use Rattle.std.specs.Prelude.{◌≡◌, ℕ, ◌+◌, ◌≤◌, ◌==◌, if◌then◌else◌, true, Some, None, List, [], ◌∷◌, Contains}
+use Rattle.std.specs.Prelude.{◌≡◌, ℕ, ◌+◌, ◌≤◌, ◌^◌, ◌==◌, if◌then◌else◌, true, Some, None, List, [], ◌∷◌, Contains}
+use Rattle.bound_calc.specs.declared.cycle_bound.BoundNo.{BoundNo}
+use Rattle.bound_calc.specs.declared.cycle_bound.BoundNo.TheVariants.{NoMemory, Overflow}
 use Rattle.fp_setup.specs.declared.loop_list.LoopSetup.{LoopSetup}
 use Rattle.region_tree.specs.Graph.{Edge, Lies}
 use Rattle.region_tree.specs.Walk.{IsNextTurn, IsOwn, Positions, counted}
-use Rattle.call_bounds.specs.Calls.{Calls, Counts, Part, Routine, callee, is_back, part, plain}
+use Rattle.call_bounds.specs.Calls.{Calls, Counts, Part, callee, is_back, part, plain}
+use Rattle.call_bounds.specs.declared.routines.Routine.{Routine}
 
 -- what call walks go over
 pub record Route : Type 0 where
@@ -49,3 +52,8 @@ pub data CostsOf (x : Route) : ℕ → Type 0 where
 pub record IsCallBound (x : Route) (b : ℕ) : Type 0 where
   pub met : CostsOf x b
   pub kept : (c : ℕ) → CostsOf x c → c ≤ b
+
+-- Why none is answered: some walk costs 2 ^ 64 or more, which the value says, or memory was refused.
+abbrev pub IsTooCostly : Route → BoundNo → Type 0
+IsTooCostly x (Overflow value) = (value ≡ 2 ^ 64) × ((c : ℕ) × CostsOf x c × (2 ^ 64 ≤ c))
+IsTooCostly x NoMemory = Unit {0}

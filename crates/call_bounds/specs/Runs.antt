@@ -1,9 +1,10 @@
 -- Walks of one part alone, in which a call is a whole walk of the routine, from its head to a return.
-use Rattle.std.specs.Prelude.{◌≡◌, ℕ, ◌+◌, ◌≤◌, true, Some, None, Contains}
+use Rattle.std.specs.Prelude.{◌≡◌, ℕ, ◌+◌, ◌≤◌, ◌⊎◌, true, Some, None, Contains}
 use Rattle.fp_setup.specs.declared.loop_list.LoopSetup.{LoopSetup}
 use Rattle.region_tree.specs.Graph.{Edge, Lies}
 use Rattle.region_tree.specs.Walk.{IsNextTurn, IsOwn, counted}
-use Rattle.call_bounds.specs.Calls.{Part, Routine, callee, is_back, part, plain, range}
+use Rattle.call_bounds.specs.Calls.{Part, callee, is_back, part, plain, range}
+use Rattle.call_bounds.specs.declared.routines.Routine.{Routine}
 use Rattle.call_bounds.specs.CallWalk.{Route}
 
 -- A walk of a part that keeps the bounds of its loops, from its first word at position p: the word and the position
@@ -30,15 +31,22 @@ pub record Through (x : Route) (t : Routine) (p c q : ℕ) : Type 0 where
   pub turn : IsNextTurn x.positions 3 at two q
   pub cost : c ≡ one + two
 
--- what walks that begin a part at position p and end in it, or in a routine below it, cost
-pub data Deep (x : Route) : Part → ℕ → ℕ → Type 0 where
-  ends : {a : Part} {p u q c : ℕ} {k : LoopSetup → ℕ} → Run x a p u q c k → Deep x a p c
-  enters : {a : Part} {p u q c d r i : ℕ} {k : LoopSetup → ℕ} {t : Routine} → Run x a p u q c k → callee x.calls u ≡ Some t →
-      IsNextTurn x.positions 3 q d r → Deep x (Some t) r i → Deep x a p (c + (d + i))
+-- what walks that begin a part at one position and end in it, or in a routine below it, at another cost
+pub data Deep (x : Route) : Part → ℕ → ℕ → ℕ → Type 0 where
+  ends : {a : Part} {p u q c : ℕ} {k : LoopSetup → ℕ} → Run x a p u q c k → Deep x a p c q
+  enters : {a : Part} {p u q c d r i n : ℕ} {k : LoopSetup → ℕ} {t : Routine} → Run x a p u q c k → callee x.calls u ≡ Some t →
+      IsNextTurn x.positions 3 q d r → Deep x (Some t) r i n → Deep x a p (c + (d + i)) n
 
--- what walks that leave the section cost
-pub data Leaving (x : Route) (p : ℕ) : ℕ → Type 0 where
+-- what walks that leave the section cost, from one position to another
+pub data Leaving (x : Route) (p : ℕ) : ℕ → ℕ → Type 0 where
   leaves : {u q c d r : ℕ} {k : LoopSetup → ℕ} (e : Edge) → Run x None p u q c k → Contains (plain x.calls u) e →
-      (Lies (part x.calls None) e.to → ⊥) → IsNextTurn x.positions e.lag q d r → Leaving x p (c + d)
+      (Lies (part x.calls None) e.to → ⊥) → IsNextTurn x.positions e.lag q d r → Leaving x p (c + d) r
   comes_out : {u q c d m i r : ℕ} {k : LoopSetup → ℕ} {t : Routine} → Run x None p u q c k → callee x.calls u ≡ Some t →
-      (Lies (part x.calls None) (u + 4) → ⊥) → IsNextTurn x.positions 3 q d m → Through x t m i r → Leaving x p (c + (d + i))
+      (Lies (part x.calls None) (u + 4) → ⊥) → IsNextTurn x.positions 3 q d m → Through x t m i r → Leaving x p (c + (d + i)) r
+
+-- what walks of the section cost, from one of the thread's own positions
+pub record Nested (x : Route) (c : ℕ) : Type 0 where
+  pub at : ℕ
+  pub own : IsOwn x.positions at
+  pub end : ℕ
+  pub costs : Deep x None at c end ⊎ Leaving x at c end

@@ -1,0 +1,7 @@
+use Rattle.call_bounds.specs.Listing.{calls, part_at}
+use Rattle.call_bounds.specs.Patched.{patched}
+use Rattle.region_tree.proofs.DraftLaws.{words-more}
+use Rattle.call_bounds.proofs.code.Code.part_words.Goals as goal
+
+pub loop-place-preserved : goal.loop-place-preserved
+loop-place-preserved c = words-more (patched (calls c.args.self.now) (part_at c.args.self.now c.args.part)) c.range-section.result.from c.loop-place.place c.patched.result c.loop-place.words.items c.push.new.self.items c.in_ok-push.ensures.items c.patched.ensures c.loop-place.invariant

@@ -1,0 +1,8 @@
+use Rattle.std.proofs.Common.{◌≡◌, ◌+◌, ◌*◌, map}
+use Rattle.std.specs.List.{range_with_len}
+use Rattle.call_bounds.specs.Listing.{calls, part_at}
+use Rattle.call_bounds.specs.Patched.{patched}
+use Rattle.call_bounds.proofs.code.Code.part_words.Given as goal
+
+abbrev pub invariant-loop-place : goal.invariant-loop-place
+invariant-loop-place l = l.words.items ≡ map (λ k. patched (calls l.self) (part_at l.self l.part) (l.section.from + 4 * k)) (range_with_len 0 l.place)

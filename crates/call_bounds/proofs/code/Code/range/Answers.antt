@@ -1,0 +1,17 @@
+use Rattle.std.proofs.Common.{◌-◌, ◌<◌, arith, ap, length}
+use Rattle.call_bounds.proofs.CodeLaws.{routine-is}
+use Rattle.call_bounds.proofs.Numbers.{routine-section}
+use Rattle.call_bounds.proofs.code.Code.range.Goals as goal
+
+pub overflow_add-result : goal.overflow_add-result
+overflow_add-result c =
+    let same = ap length c.routines.ensures.value in
+    let lt : c.args.part - 1 < length c.routines.result.now = omega (arith, c.if-part-eq0.false) in
+    let e = (routine-is c.routines.result.now (c.args.part - 1) (record { head = 0; last = 0 }) c.routines.ensures.rules lt).end in
+    omega arith
+
+pub returns-clause-rules : goal.returns-clause-rules
+returns-clause-rules c =
+    let same = ap length c.routines.ensures.value in
+    let lt : c.args.part - 1 < length c.routines.result.now = omega (arith, c.if-part-eq0.false) in
+    routine-section _ (routine-is c.routines.result.now (c.args.part - 1) (record { head = 0; last = 0 }) c.routines.ensures.rules lt)

@@ -1,0 +1,19 @@
+use Rattle.std.proofs.Common.{Option, subst}
+use Rattle.bound_calc.specs.Best.{Either, In, IsBest}
+use Rattle.bound_calc.specs.Matrices.{entry}
+use Rattle.bound_calc.specs.Passing.{matrix_at, ways_on}
+use Rattle.bound_calc.specs.declared.matrix.Matrix.{Matrix}
+use Rattle.bound_calc.proofs.PassLaws.{none-entry}
+use Rattle.call_bounds.specs.Summaries.{EndsAt}
+use Rattle.call_bounds.proofs.AnyLaws.{any-more, any-none}
+use Rattle.call_bounds.proofs.summary.deep.Goals as goal
+
+pub loop-place-init : goal.loop-place-init
+loop-place-init c = any-none none-entry
+
+pub loop-place-preserved : goal.loop-place-preserved
+loop-place-preserved c =
+    let into = ways_on c.args.into.now in
+    let at = c.args.at.now in
+    any-more (λ k. EndsAt (into k) (matrix_at at k)) c.loop-place.place c.loop-place.invariant
+    (subst (λ (w : Option Matrix). IsBest (entry c.end_at-deep.result) (Either (In (entry c.loop-place.deep)) (EndsAt w (matrix_at at c.loop-place.place)))) c.at.ensures c.end_at-deep.ensures)

@@ -1,0 +1,8 @@
+use Rattle.bound_calc.specs.Best.{IsBest}
+use Rattle.bound_calc.specs.Matrices.{entry}
+use Rattle.bound_calc.specs.Passing.{ways_on}
+use Rattle.call_bounds.specs.Summaries.{Ending}
+use Rattle.call_bounds.proofs.summary.deep.Given as goal
+
+abbrev pub invariant-loop-place : goal.invariant-loop-place
+invariant-loop-place l = IsBest (entry l.deep) (Ending (ways_on l.into) l.at l.place)

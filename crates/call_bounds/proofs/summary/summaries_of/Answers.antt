@@ -1,0 +1,12 @@
+use Rattle.std.proofs.Common.{arith}
+use Rattle.call_bounds.proofs.DoneLaws.{known-all, known-none, summaries-none}
+use Rattle.call_bounds.proofs.summary.summaries_of.Goals as goal
+
+pub loop-rank-init : goal.loop-rank-init
+loop-rank-init c = record {
+  all = summaries-none c.args.tree.now c.args.steps.now c.part_count-count.result c.in_ok-vec.field-0.items c.in_ok-vec-2.field-0.items c.part_count-count.ensures.listing c.part_count-count.ensures.callable c.part_count-count.ensures.value (c.in_ok-vec.ensures.items_if_clones_equal (λ y h. h)) (c.in_ok-vec-2.ensures.items_if_clones_equal (λ y h. h));
+  known = known-none c.args.tree.now c.args.steps.now c.ranks-ranks.result.now c.in_ok-vec.field-0.items c.in_ok-vec-2.field-0.items;
+}
+
+pub returns-clause-known : goal.returns-clause-known
+returns-clause-known c = known-all c.args.tree.now c.args.steps.now c.ranks-ranks.result.now c.loop-rank.rank c.loop-rank.done.through.items c.loop-rank.done.deep.items c.ranks-ranks.ensures (omega (arith, c.loop-rank-test.false, c.part_count-count.ensures.value)) c.loop-rank.invariant.known

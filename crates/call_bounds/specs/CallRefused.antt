@@ -1,0 +1,32 @@
+-- What is answered where a section with routines is refused.
+use Rattle.region_tree.specs.Refusals.{IndirectAt, IsLowest, NestingAt, Nowhere, TimedAt, UnboundedAt}
+use Rattle.call_bounds.specs.CallRefusals.{EscapeAt, InParts, OverlapAt, RecursionAt}
+use Rattle.call_bounds.specs.Calls.{Calls}
+use Rattle.call_bounds.specs.declared.tree.CallNo.{CallNo}
+use Rattle.call_bounds.specs.declared.tree.CallNo.TheVariants.{Escape, IndirectJump, Nesting, NoMemory, Overlap, Recursion, TimedWait, UnboundedBackEdge}
+
+-- Neither of the first two rows holds anywhere.
+abbrev pub AreCallsAllowed : Calls → Type 0
+AreCallsAllowed x = Nowhere (OverlapAt x) × Nowhere (RecursionAt x)
+
+-- none of the rows of a part by itself holds in a reached part
+abbrev pub ArePartsAllowed : Calls → Type 0
+ArePartsAllowed x = Nowhere (InParts x NestingAt) × Nowhere (InParts x IndirectAt) × Nowhere (InParts x TimedAt) × Nowhere (InParts x UnboundedAt)
+
+-- Why some reached part is refused: the first of its rows that holds anywhere, with the lowest address.
+abbrev pub IsTreeRefused : Calls → CallNo → Type 0
+IsTreeRefused x (Nesting a) = IsLowest (InParts x NestingAt) a
+IsTreeRefused x (IndirectJump a) = Nowhere (InParts x NestingAt) × IsLowest (InParts x IndirectAt) a
+IsTreeRefused x (TimedWait a) = Nowhere (InParts x NestingAt) × Nowhere (InParts x IndirectAt) × IsLowest (InParts x TimedAt) a
+IsTreeRefused x (UnboundedBackEdge a) =
+    Nowhere (InParts x NestingAt) × Nowhere (InParts x IndirectAt) × Nowhere (InParts x TimedAt) × IsLowest (InParts x UnboundedAt) a
+IsTreeRefused x NoMemory = Unit {0}
+IsTreeRefused x _ = ⊥
+
+-- The first row that holds anywhere, with the lowest address. Memory may be refused whatever holds.
+abbrev pub IsCallRefused : Calls → CallNo → Type 0
+IsCallRefused x (Overlap a) = IsLowest (OverlapAt x) a
+IsCallRefused x (Recursion a) = Nowhere (OverlapAt x) × IsLowest (RecursionAt x) a
+IsCallRefused x (Escape a) = AreCallsAllowed x × ArePartsAllowed x × IsLowest (EscapeAt x) a
+IsCallRefused x NoMemory = Unit {0}
+IsCallRefused x refusal = AreCallsAllowed x × IsTreeRefused x refusal

@@ -1,0 +1,78 @@
+-- A section with its routines, words and loops, as plain data, and its parts by number.
+use Rattle.std.specs.Prelude.{◌≡◌, ℕ, ◌+◌, ◌/◌, ◌<◌, ◌≤◌, Option, Some, None, List, ◌∷◌, length, map, slice_index, slice_index_or}
+use Rattle.fp_setup.specs.declared.loop_list.LoopSetup.{LoopSetup}
+use Rattle.region_tree.specs.Graph.{Reachable}
+use Rattle.region_tree.specs.Tree.{Tree, words_of}
+use Rattle.region_tree.specs.declared.section.Section.{Section}
+use Rattle.call_bounds.specs.declared.routines.Routine.{Routine}
+use Rattle.call_bounds.specs.Calls.{Calls, IsReached, Part, callee, part}
+use Rattle.call_bounds.specs.CallRefusals.{IsCallable, IsListing}
+use Rattle.call_bounds.specs.Patched.{part_tree}
+
+-- A section, the listed routines, the words of memory from address 0 on, and the listed loops.
+pub record Listing : Type 0 where
+  pub section : Section
+  pub routines : List Routine
+  pub words : List ℕ
+  pub loops : List LoopSetup
+
+-- the largest scratchpad, as a section
+abbrev pub scratchpad : Section
+scratchpad = record { from = 0; to = 65536 }
+
+-- of a memory that is told by its words
+abbrev pub listing_of : (ℕ → ℕ) → Section → List Routine → List LoopSetup → Listing
+listing_of memory s routines loops = record { section = s; routines = routines; words = words_of memory scratchpad; loops = loops }
+
+abbrev pub calls : Listing → Calls
+calls l = record { section = l.section; routines = l.routines; word = λ u. slice_index l.words (u / 4); loops = l.loops }
+
+-- The parts by number: the section is number 0, and the routines follow in their order.
+abbrev pub part_count : Listing → ℕ
+part_count l = length l.routines + 1
+
+abbrev pub part_at : Listing → ℕ → Part
+part_at l k = slice_index_or (None ∷ map Some l.routines) k None
+
+-- a reachable word of one part calls the other
+pub record DoesCall (x : Calls) (p q : Part) : Type 0 where
+  pub routine : Routine
+  pub word : ℕ
+  pub known : Reachable (part x p) word
+  pub call : callee x word ≡ Some routine
+  pub to : q ≡ Some routine
+
+abbrev pub rank_at : List ℕ → ℕ → ℕ
+rank_at ranks k = slice_index ranks k
+
+-- A rank for each part, so that what a reached part calls has a lower one.
+pub record AreRanks (l : Listing) (ranks : List ℕ) : Type 0 where
+  pub count : length ranks ≡ part_count l
+  pub few : (k : ℕ) → k < part_count l → rank_at ranks k ≤ part_count l
+  pub rise : (j k : ℕ) → j < part_count l → k < part_count l → IsReached (calls l) (part_at l j) → DoesCall (calls l) (part_at l j) (part_at l k) →
+      rank_at ranks k < rank_at ranks j
+
+abbrev pub tree_at : List (Option Tree) → ℕ → Option Tree
+tree_at trees k = slice_index_or trees k None
+
+-- the tree of a part, where it is reached
+pub data IsTreeOf (x : Calls) (p : Part) : Option Tree → Type 0 where
+  reached : IsReached x p → IsTreeOf x p (Some (part_tree x p))
+  other : (IsReached x p → ⊥) → IsTreeOf x p None
+
+-- the trees of the parts
+pub record ArePartTrees (l : Listing) (trees : List (Option Tree)) : Type 0 where
+  pub count : length trees ≡ part_count l
+  pub each : (k : ℕ) → k < part_count l → IsTreeOf (calls l) (part_at l k) (tree_at trees k)
+
+-- a listing that keeps the rules, with as many words as the largest scratchpad has
+pub record IsCode (l : Listing) : Type 0 where
+  pub listing : IsListing (calls l)
+  pub words : length l.words ≡ 16384
+
+-- What holds of every tree of calls that was built.
+pub record IsCallTree (l : Listing) (trees : List (Option Tree)) (ranks : List ℕ) : Type 0 where
+  pub listing : IsListing (calls l)
+  pub callable : IsCallable (calls l)
+  pub parts : ArePartTrees l trees
+  pub order : AreRanks l ranks

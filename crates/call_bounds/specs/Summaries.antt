@@ -1,0 +1,105 @@
+-- What is worked out of parts: matrices of the largest costs between frame positions.
+use Rattle.std.specs.Prelude.{◌≡◌, ℕ, ◌+◌, ◌*◌, ◌<◌, ◌≤◌, Bool, true, false, Option, Some, None, List, length, slice_index_or, min, MatchOption}
+use Rattle.region_tree.specs.Tree.{Tree}
+use Rattle.region_tree.specs.Walk.{IsOwn, Positions}
+use Rattle.region_tree.specs.declared.section.Section.{Section}
+use Rattle.bound_calc.specs.Best.{Costs, Either, Entries, In, IsBest, Then, ceiling}
+use Rattle.bound_calc.specs.Matrices.{entry}
+use Rattle.bound_calc.specs.Passing.{WaysOn, edges_at, leaves, matrix_at, moved, no_matrix}
+use Rattle.bound_calc.specs.Section.{Steps}
+use Rattle.bound_calc.specs.declared.matrix.Matrix.{Matrix}
+use Rattle.call_bounds.specs.declared.routines.Routine.{Routine}
+use Rattle.call_bounds.specs.CallRefusals.{IsCallable, IsListing}
+use Rattle.call_bounds.specs.Calls.{IsReached, callee, returns}
+use Rattle.call_bounds.specs.CallWalk.{Route}
+use Rattle.call_bounds.specs.Listing.{DoesCall, Listing, calls, part_at, part_count}
+use Rattle.call_bounds.specs.Runs.{Deep, Nested, Through}
+
+-- the number of the part that the word at an address calls
+abbrev pub IsCallee : Listing → ℕ → Option ℕ → Type 0
+IsCallee l u k = MatchOption k (callee (calls l) u ≡ None) (λ k. (0 < k) × (k < part_count l) × (callee (calls l) u ≡ part_at l k))
+
+-- of the first words of a section, by place
+pub record AreCallees (l : Listing) (s : Section) (n : ℕ) (callees : List (Option ℕ)) : Type 0 where
+  pub count : length callees ≡ n
+  pub each : (k : ℕ) → k < n → IsCallee l (s.from + 4 * k) (slice_index_or callees k None)
+
+-- whether the words of a part are returns, by place
+pub record AreReturns (l : Listing) (part : ℕ) (s : Section) (n : ℕ) (ends : List Bool) : Type 0 where
+  pub count : length ends ≡ n
+  pub each : (k : ℕ) → k < n → slice_index_or ends k false ≡ returns (calls l) (part_at l part) (s.from + 4 * k)
+
+-- what holds at one of the places below n
+abbrev pub Any : (ℕ → Costs) → ℕ → Costs
+Any f n p c q = (k : ℕ) × (k < n) × f k p c q
+
+-- what leads to a word, and from there on by a matrix, if there is one
+abbrev pub EndsAt : Option Matrix → Entries → Costs
+EndsAt None here = In here
+EndsAt (Some m) here = Either (In here) (Then (In here) (In (entry m)))
+
+-- what leads to the words, and from there on by their matrices
+abbrev pub Ending : WaysOn → List Matrix → ℕ → Costs
+Ending into at = Any (λ k. EndsAt (into k) (matrix_at at k))
+
+-- these costs, if a test holds
+abbrev pub When : Bool → Costs → Costs
+When true f = f
+When false f = λ p c q. ⊥
+
+-- what leads to the word at a place and from there out of the section
+abbrev pub LeavesAt : Tree → Positions → WaysOn → List Matrix → ℕ → Costs
+LeavesAt t s ways at k =
+    let e = edges_at t k in
+    Either (When (leaves t e.next) (Then (In (matrix_at at k)) (moved s (ways k) e.next_lag)))
+    (When (leaves t e.jump) (Then (In (matrix_at at k)) (moved s (ways k) 3)))
+
+-- calls of a listing, by the turns of a thread
+abbrev pub route : Listing → Positions → Route
+route l s = record { calls = calls l; positions = s }
+
+-- The matrices of calls of a routine: from the call to the word after it, and from the call to where a walk may end.
+pub record IsSummary (x : Route) (t : Routine) (through deep : Matrix) : Type 0 where
+  pub back : IsBest (entry through) (Then (Steps x.positions 3) (Through x t))
+  pub ends : IsBest (entry deep) (Then (Steps x.positions 3) (Deep x (Some t)))
+
+-- those of the part with a number, if it is a routine
+abbrev pub IsSummaryOf : Listing → Positions → ℕ → Matrix → Matrix → Type 0
+IsSummaryOf l s k through deep = (t : Routine) → part_at l k ≡ Some t → IsSummary (route l s) t through deep
+
+abbrev pub IsSummaryAt : Listing → Positions → ℕ → List Matrix → List Matrix → Type 0
+IsSummaryAt l s k through deep = IsSummaryOf l s k (slice_index_or through k no_matrix) (slice_index_or deep k no_matrix)
+
+-- matrices that lead to the thread's own positions
+abbrev pub Lands : Positions → List Matrix → Type 0
+Lands s ms = (k p c q : ℕ) → matrix_at ms k p q ≡ Some c → IsOwn s q
+
+-- by the number of the part, as many as there are parts, where nothing refuses the parts
+pub record AreSummaries (l : Listing) (s : Positions) (through deep : List Matrix) : Type 0 where
+  pub listing : IsListing (calls l)
+  pub callable : IsCallable (calls l)
+  pub count : length through ≡ part_count l
+  pub count' : length deep ≡ part_count l
+  pub own : Lands s through
+
+-- those of the parts that a part calls are known
+abbrev pub KnowsCallees : Listing → Positions → ℕ → List Matrix → List Matrix → Type 0
+KnowsCallees l s part through deep =
+    (k : ℕ) → k < part_count l → DoesCall (calls l) (part_at l part) (part_at l k) → IsSummaryAt l s k through deep
+
+-- those of a part were worked out, if it is reached, and the others are as they were
+pub record IsAdded (l : Listing) (s : Positions) (number : ℕ) (through deep through' deep' : List Matrix) : Type 0 where
+  pub all : AreSummaries l s through' deep'
+  pub known : IsReached (calls l) (part_at l number) → IsSummaryAt l s number through' deep'
+  pub other : (k : ℕ) → (k ≡ number → ⊥) → slice_index_or through' k no_matrix ≡ slice_index_or through k no_matrix
+  pub other' : (k : ℕ) → (k ≡ number → ⊥) → slice_index_or deep' k no_matrix ≡ slice_index_or deep k no_matrix
+
+-- those of the reached parts for which a condition on the number holds are known
+abbrev pub AreKnown : Listing → Positions → (ℕ → Type 0) → List Matrix → List Matrix → Type 0
+AreKnown l s known through deep =
+    (k : ℕ) → k < part_count l → IsReached (calls l) (part_at l k) → known k → IsSummaryAt l s k through deep
+
+-- the largest cost of walks of the parts, as far as sums go
+pub record IsMost (x : Route) (b : ℕ) : Type 0 where
+  pub covers : (c : ℕ) → Nested x c → min c ceiling ≤ b
+  pub among : (c : ℕ) × Nested x c × (min b ceiling ≡ min c ceiling)

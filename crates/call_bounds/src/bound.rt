@@ -1,0 +1,107 @@
+//! The bound of a section through its calls.
+
+ghost use Rattle.std.specs.Prelude.{◌≡◌, ℕ, ◌<◌, ◌≤◌, ◌^◌, length, Contains, IfOk, IfErr, MatchResult};
+ghost use Rattle.std.specs.Option.{option_map};
+ghost use Rattle.slot_table.specs.Frame.{frame};
+ghost use Rattle.region_tree.specs.Walk.{IsOwn};
+ghost use Rattle.bound_calc.specs.Best.{Either, In, IsBest, Then};
+ghost use Rattle.bound_calc.specs.Bound.{positions};
+ghost use Rattle.bound_calc.specs.declared.cycle_bound.BoundNo.TheVariants.{Overflow};
+ghost use Rattle.bound_calc.specs.Matrices.{entry};
+ghost use Rattle.bound_calc.specs.Passing.{leaves, moved, ways_on};
+ghost use Rattle.call_bounds.specs.CallWalk.{IsCallBound, IsTooCostly};
+ghost use Rattle.call_bounds.specs.Summaries.{Any, AreKnown, AreSummaries, IsMost, LeavesAt, When, route};
+
+use crate::summary::{Summaries, callees, deep, summaries_of};
+use crate::tree::CallTree;
+use bound_calc::{BoundNo, Matrix, Steps, Ways, along, edges_at, is_out, largest, reach};
+use region_tree::{JUMP_LAG, LoopTree};
+use slot_table::SlotTable;
+use std::alloc::{AllocError, Global};
+
+/// Joins a matrix with what leads to a word and on along an edge, if that leaves the section.
+fn leave_by(
+    part: &LoopTree,
+    steps: &Steps,
+    way: Option<&Matrix>,
+    here: &Matrix,
+    target: Option<u32>,
+    lag: u64,
+    onto: &Matrix,
+) -> Matrix
+    requires lag { lag ≤ 3 }
+    ensures { IsBest (entry result) (Either (In (entry onto.now)) (When (leaves part.now target) (Then (In (entry here.now)) (moved steps.now (option_map (λ m. m.now) way.entry) lag)))) }
+{
+    if is_out(part, target) {
+        along(steps, way, here, lag, onto)
+    } else {
+        *onto
+    }
+}
+
+/// Joins a matrix with what leads out of the section.
+fn leaving(part: &LoopTree, steps: &Steps, ways: &Ways, at: &[Matrix], onto: &Matrix) -> Matrix
+    requires room { length at.now ≡ length part.now.words }
+    ensures { IsBest (entry result) (Either (In (entry onto.now)) (Any (LeavesAt part.now steps.now (ways_on ways.now) at.now) (length at.now))) }
+{
+    let mut out = *onto;
+    for place in 0..at.len() {
+        let edges = edges_at(part, place);
+        let here = &at[place];
+        let way = ways.at(place);
+        let next = leave_by(part, steps, way, here, edges.next, edges.next_lag, &out);
+        out = leave_by(part, steps, way, here, edges.jump, JUMP_LAG, &next);
+    }
+    out
+}
+
+/// The largest cost of a walk of the section, from what calls cost.
+fn most(alloc: Global, tree: &CallTree, steps: &Steps, done: &Summaries) -> Result<u128, AllocError>
+    requires slot { (p : ℕ) × IsOwn steps.now p }
+    requires done { AreSummaries tree.now steps.now done.now.through.items done.now.deep.items }
+    requires known { AreKnown tree.now steps.now (λ k. Unit {0}) done.now.through.items done.now.deep.items }
+    ensures { IfOk result (IsMost (route tree.now steps.now)) }
+{
+    let Some(part) = tree.tree(0) else {
+        return Ok(0);
+    };
+    let callees = callees(alloc, tree, part.section())?;
+    let ways = Ways::new(&callees, &done.through);
+    let at = reach(alloc, part, steps, &ways)?;
+    let ended = deep(&Ways::new(&callees, &done.deep), &at);
+    Ok(largest(&leaving(part, steps, &ways, &at, &ended), 0))
+}
+
+/// A bound in 64 bits, if it has no more.
+fn in_64_bits(most: u128) -> Result<u64, BoundNo>
+    ensures { MatchResult result (λ bound. (bound ≡ most) × (most < 2 ^ 64)) (λ no. (no ≡ Overflow (2 ^ 64)) × (2 ^ 64 ≤ most)) }
+{
+    match u64::try_from(most) {
+        Ok(bound) => Ok(bound),
+        Err(_) => Err(BoundNo::Overflow { value: 1 << 64 }),
+    }
+}
+
+/// The bound of a section through its calls for a thread: the largest number of cycles that a call
+/// walk takes, by the turns of the thread, where no loop goes back to its head more often than its
+/// bound allows. The thread is 0 to 7 and has a slot.
+///
+/// # Errors
+///
+/// [`BoundNo::Overflow`] with 2^64 exactly where the bound is above 2^64 - 1. Besides, memory may be
+/// refused.
+pub fn call_bound(
+    alloc: Global,
+    tree: &CallTree,
+    slots: &SlotTable,
+    thread: u8,
+) -> Result<u64, BoundNo>
+    requires thread { thread < 8 }
+    requires slot { Contains (frame slots.now) thread }
+    ensures bound { IfOk result (IsCallBound (route tree.now (positions slots.now thread))) }
+    ensures refused { IfErr result (IsTooCostly (route tree.now (positions slots.now thread))) }
+{
+    let steps = Steps::new(*slots, thread);
+    let done = summaries_of(alloc, tree, &steps)?;
+    in_64_bits(most(alloc, tree, &steps, &done)?)
+}

@@ -1,0 +1,80 @@
+//! Which parts call which.
+
+ghost use Rattle.std.specs.Prelude.{◌≡◌, ℕ, ◌<◌, ◌↔◌, length, false, IfOk, IfSome, Some};
+ghost use Rattle.led_parts.specs.Led.{is_met};
+ghost use Rattle.region_tree.specs.Search.{IsMet};
+ghost use Rattle.region_tree.specs.Tree.{IsDraft};
+ghost use Rattle.call_bounds.specs.Build.{CallsAt, IsRow, IsRowTo, IsTable, Marked};
+ghost use Rattle.call_bounds.specs.CallRefusals.{IsListing};
+ghost use Rattle.call_bounds.specs.Listing.{calls, part_count};
+
+use crate::code::Code;
+use region_tree::{Draft, reachable};
+use std::alloc::{AllocError, Global};
+
+/// The number of the part that the word at a place calls, if the word is reachable and a call.
+fn callee_at(code: &Code, draft: &Draft, met: &[bool], place: usize) -> Option<usize>
+    requires listing { IsListing (calls code.now) }
+    requires rules { IsDraft draft.now }
+    requires met { IsMet draft.now met.now }
+    requires within { place < length draft.now.words }
+    ensures { (k : ℕ) → (result ≡ Some k) ↔ CallsAt code.now draft.now place k }
+{
+    if !met[place] {
+        return None;
+    }
+    code.called(draft.address(place))
+}
+
+/// Marks a part, if there is one.
+fn mark(row: &mut Vec<bool>, part: Option<usize>)
+    requires { IfSome part (λ k. k < length row.old.items) }
+    ensures { Marked part row.old.items row.new.items }
+{
+    if let Some(part) = part {
+        row[part] = true;
+    }
+}
+
+/// No part is marked.
+fn unmarked(alloc: Global, count: usize) -> Result<Vec<bool>, AllocError>
+    ensures { IfOk result (λ row. (length row.items ≡ count) × ((k : ℕ) → is_met row.items k ≡ false)) }
+{
+    vec![in alloc; false; count]
+}
+
+/// Which parts the reachable words of a part call.
+fn row_of(alloc: Global, code: &Code, draft: &Draft, met: &[bool]) -> Result<Vec<bool>, AllocError>
+    requires { IsMet draft.now met.now }
+    ensures { IfOk result (λ row. IsRowTo code.now draft.now (length draft.now.words) row.items) }
+{
+    let mut row = unmarked(alloc, code.part_count())?;
+    for place in 0..draft.len() {
+        let callee = callee_at(code, draft, met, place);
+        mark(&mut row, callee);
+    }
+    Ok(row)
+}
+
+/// Which parts one part calls.
+fn callees(alloc: Global, code: &Code, part: usize) -> Result<Vec<bool>, AllocError>
+    requires listing { IsListing (calls code.now) }
+    requires part { part < part_count code.now }
+    ensures { IfOk result (λ row. IsRow code.now part row.items) }
+{
+    let draft = code.draft(alloc, part)?;
+    let met = reachable(alloc, &draft)?;
+    row_of(alloc, code, &draft, met.as_slice())
+}
+
+/// Which parts call which: a row for each part, with a mark for each part that it calls.
+pub fn call_table(alloc: Global, code: &Code) -> Result<Vec<bool>, AllocError>
+    ensures { IfOk result (λ table. IsTable code.now table.items) }
+{
+    let mut table = Vec::new(alloc);
+    for part in 0..code.part_count() {
+        let row = callees(alloc, code, part)?;
+        table.extend_from_slice(row.as_slice())?;
+    }
+    Ok(table)
+}

@@ -1,0 +1,164 @@
+//! Why parts are refused.
+
+ghost use Rattle.std.specs.Prelude.{◌≡◌, ◌<◌, IfOk, IfErr, OnOk, MatchResult};
+ghost use Rattle.call_bounds.specs.Build.{AreReached, AreTreesTo, IsCauseOf, IsFirst, IsTried, joined, no_causes};
+ghost use Rattle.call_bounds.specs.CallRefused.{ArePartsAllowed, IsTreeRefused};
+ghost use Rattle.call_bounds.specs.Listing.{ArePartTrees, calls, part_count};
+ghost use Rattle.call_bounds.specs.declared.tree.CallNo.TheVariants.{NoMemory};
+
+use crate::code::Code;
+use crate::tree::CallNo;
+use region_tree::{LoopTree, TreeNo, lower};
+use std::alloc::{AllocError, Global};
+
+/// The lowest address of each cause for a refusal.
+#[derive(Clone, Copy)]
+pub struct Causes {
+    nesting: Option<u32>,
+    indirect: Option<u32>,
+    timed: Option<u32>,
+    unbounded: Option<u32>,
+}
+
+impl Causes {
+    /// None.
+    const NONE: Causes = Causes {
+        nesting: None,
+        indirect: None,
+        timed: None,
+        unbounded: None,
+    };
+
+    /// That of one refusal.
+    ///
+    /// # Errors
+    ///
+    /// Exactly where memory was refused.
+    fn of(no: TreeNo) -> Result<Causes, CallNo>
+        ensures known { IfOk result (IsCauseOf no) }
+        ensures memory { IfErr result (λ no. no ≡ NoMemory) }
+    {
+        let none = Causes::NONE;
+        match no {
+            TreeNo::Nesting { address } => Ok(Causes {
+                nesting: Some(address),
+                ..none
+            }),
+            TreeNo::IndirectJump { address } => Ok(Causes {
+                indirect: Some(address),
+                ..none
+            }),
+            TreeNo::TimedWait { address } => Ok(Causes {
+                timed: Some(address),
+                ..none
+            }),
+            TreeNo::UnboundedBackEdge { address } => Ok(Causes {
+                unbounded: Some(address),
+                ..none
+            }),
+            TreeNo::NoMemory => Err(CallNo::NoMemory),
+        }
+    }
+
+    /// The lower address of each.
+    fn join(self, other: Causes) -> Causes
+        ensures { result ≡ joined self other }
+    {
+        Causes {
+            nesting: lower(self.nesting, other.nesting),
+            indirect: lower(self.indirect, other.indirect),
+            timed: lower(self.timed, other.timed),
+            unbounded: lower(self.unbounded, other.unbounded),
+        }
+    }
+}
+
+/// The tree of a part, where the part is reached and nothing refuses it, and what refuses it.
+#[derive(Drop)]
+struct Tried {
+    tree: Option<LoopTree>,
+    causes: Causes,
+}
+
+/// Builds the tree of a part, if the part is reached.
+fn try_part(alloc: Global, code: &Code, reached: &[bool], part: usize) -> Result<Tried, CallNo>
+    requires reached { AreReached code.now reached.now }
+    requires part { part < part_count code.now }
+    ensures tried { IfOk result (λ tried. IsTried code.now part tried.tree tried.causes) }
+    ensures memory { IfErr result (λ no. no ≡ NoMemory) }
+{
+    if !reached[part] {
+        return Ok(Tried {
+            tree: None,
+            causes: Causes::NONE,
+        });
+    }
+    match code.tree(alloc, part) {
+        Ok(tree) => Ok(Tried {
+            tree: Some(tree),
+            causes: Causes::NONE,
+        }),
+        Err(no) => Ok(Tried {
+            tree: None,
+            causes: Causes::of(no)?,
+        }),
+    }
+}
+
+/// The parts' trees, and what refuses parts.
+#[derive(Drop)]
+struct Trees {
+    trees: Vec<Option<LoopTree>>,
+    causes: Causes,
+}
+
+/// Builds the trees of the reached parts.
+fn try_parts(alloc: Global, code: &Code, reached: &[bool]) -> Result<Trees, CallNo>
+    requires { AreReached code.now reached.now }
+    ensures trees { IfOk result (λ r. AreTreesTo code.now (part_count code.now) r.trees.items r.causes) }
+    ensures memory { IfErr result (λ no. no ≡ NoMemory) }
+{
+    let mut trees = Vec::new(alloc);
+    let mut causes = Causes::NONE;
+    for part in 0..code.part_count() {
+        let tried = try_part(alloc, code, reached, part)?;
+        causes = causes.join(tried.causes);
+        trees.push(tried.tree).map_err(AllocError::from)?;
+    }
+    Ok(Trees { trees, causes })
+}
+
+/// The first of the causes that is known.
+fn refuse(causes: Causes) -> Result<(), CallNo>
+    ensures { MatchResult result (λ _. causes ≡ no_causes) (IsFirst causes) }
+{
+    if let Some(address) = causes.nesting {
+        return Err(CallNo::Nesting { address });
+    }
+    if let Some(address) = causes.indirect {
+        return Err(CallNo::IndirectJump { address });
+    }
+    if let Some(address) = causes.timed {
+        return Err(CallNo::TimedWait { address });
+    }
+    if let Some(address) = causes.unbounded {
+        return Err(CallNo::UnboundedBackEdge { address });
+    }
+    Ok(())
+}
+
+/// The trees of the reached parts, or why one of them is refused.
+pub fn part_trees(
+    alloc: Global,
+    code: &Code,
+    reached: &[bool],
+) -> Result<Vec<Option<LoopTree>>, CallNo>
+    requires { AreReached code.now reached.now }
+    ensures trees { IfOk result (λ trees. ArePartTrees code.now trees.items) }
+    ensures allowed { OnOk result (ArePartsAllowed (calls code.now)) }
+    ensures refused { IfErr result (IsTreeRefused (calls code.now)) }
+{
+    let tried = try_parts(alloc, code, reached)?;
+    refuse(tried.causes)?;
+    Ok(tried.trees)
+}

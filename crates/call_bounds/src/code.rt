@@ -1,0 +1,233 @@
+//! A section with the routines that it may call, and its words.
+
+ghost use Rattle.std.specs.Prelude.{◌≡◌, ◌==◌, position};
+ghost use Rattle.rv_decode.specs.Table.{ins};
+ghost use Rattle.call_bounds.specs.Calls.{linked};
+
+use crate::routines::{Routine, Routines};
+use fp_image::Image;
+use fp_setup::{LoopSetup, Loops};
+use region_tree::{Draft, LoopTree, Section, TreeNo, edges_of, words};
+use rv_decode::{Ins, decode};
+use std::alloc::{AllocError, Global};
+use std::marker::Model;
+
+/// The largest scratchpad, as a section.
+const SCRATCHPAD: Section = Section { from: 0, to: 65536 };
+
+/// The word that goes back to where its routine was called from: a jump to the address in x1.
+const RETURN: u32 = 0x0000_8067;
+
+/// A word that leads on to the next one with the lag of a jump: a read of the cycle counter.
+const LEADS_ON: u32 = 0xc000_2073;
+
+/// A word that leads nowhere: ECALL.
+const LEADS_NOWHERE: u32 = 0x0000_0073;
+
+/// A section, the routines that it may call, the words of memory, and the listed loops.
+#[derive(Drop)]
+pub struct Code {
+    section: Section,
+    routines: Routines,
+    words: Vec<u32>,
+    loops: Loops,
+}
+
+impl Model for Code {
+    ghost use Rattle.call_bounds.specs.Listing.{IsCode, Listing};
+
+    ghost Value = { Listing };
+
+    ghost view = { λ c. record { section = c.section; routines = c.routines; words = c.words.items; loops = c.loops } };
+
+    ghost invariant = { λ c. IsCode (record { section = c.section; routines = c.routines; words = c.words.items; loops = c.loops }) };
+}
+
+/// Where the word at an address jumps to, if it keeps the address after it in x1.
+fn linked(address: u32, word: u32) -> Option<u32>
+    ensures { result ≡ linked address (ins word) }
+{
+    match decode(word) {
+        Ins::Jal { rd, .. } => {
+            if rd == 1 {
+                edges_of(word, address).jump
+            } else {
+                None
+            }
+        }
+        _ => None,
+    }
+}
+
+/// The place of the first routine with this head.
+fn place_of(routines: &[Routine], head: u32) -> Option<usize>
+    ensures { result ≡ position (λ r. r.head == head) routines.now }
+{
+    routines.iter().position(|r| r.head == head)
+}
+
+impl Code {
+    ghost use Rattle.std.specs.Prelude.{◌≡◌, ℕ, ◌+◌, ◌*◌, ◌/◌, ◌<◌, ◌≤◌, ◌%◌, length, IfOk, IfErr, OnOk};
+    ghost use Rattle.fp_image.specs.Rules.{word};
+    ghost use Rattle.region_tree.specs.Refusals.{IsAllowed, IsRefused};
+    ghost use Rattle.region_tree.specs.Tree.{IsSection, graph};
+    ghost use Rattle.fp_setup.specs.Loops.{AreLoops};
+    ghost use Rattle.call_bounds.specs.CallRefusals.{IsListing};
+    ghost use Rattle.call_bounds.specs.Routines.{AreRoutines};
+    ghost use Rattle.call_bounds.specs.Calls.{returns};
+    ghost use Rattle.call_bounds.specs.Listing.{calls, listing_of, part_at, part_count};
+    ghost use Rattle.call_bounds.specs.Parts.{IsCallee, range_of_part, tree_of_part, words_of_part};
+    ghost use Rattle.call_bounds.specs.Patched.{patched};
+
+    /// A section of an image with its routines and loops.
+    pub fn new(
+        alloc: Global,
+        image: &Image,
+        section: Section,
+        routines: &Routines,
+        loops: &Loops,
+    ) -> Result<Code, AllocError>
+        requires { IsSection section }
+        ensures { IfOk result (λ code. code ≡ listing_of (word image.now) section routines.now loops.now) }
+    {
+        let words = words(alloc, image, SCRATCHPAD)?;
+        let routines = Routines::from_vec(routines.as_slice().to_vec(alloc)?);
+        let loops = Loops::from_vec(loops.as_slice().to_vec(alloc)?);
+        Ok(Code {
+            section,
+            routines,
+            words,
+            loops,
+        })
+    }
+
+    /// The section.
+    pub fn section(&self) -> Section
+        ensures value { result ≡ self.now.section }
+        ensures rules { IsSection result }
+    {
+        self.section
+    }
+
+    /// The listed routines.
+    pub fn routines(&self) -> &[Routine]
+        ensures value { result.now ≡ self.now.routines }
+        ensures rules { AreRoutines result.now }
+    {
+        self.routines.as_slice()
+    }
+
+    /// The listed loops.
+    pub fn loops(&self) -> &[LoopSetup]
+        ensures value { result.now ≡ self.now.loops }
+        ensures rules { AreLoops result.now }
+    {
+        self.loops.as_slice()
+    }
+
+    /// How many parts there are: the section and the routines.
+    pub fn part_count(&self) -> usize
+        ensures value { result ≡ part_count self.now }
+        ensures few { result ≤ 65 }
+        ensures rules { IsListing (calls self.now) }
+    {
+        let _section = &self.section;
+        self.routines().len() + 1
+    }
+
+    /// The words of a part, as a section.
+    pub fn range(&self, part: usize) -> Section
+        requires { part < part_count self.now }
+        ensures value { result ≡ range_of_part self.now part }
+        ensures rules { IsSection result }
+    {
+        if part == 0 {
+            return self.section;
+        }
+        let routine = self.routines()[part - 1];
+        Section {
+            from: routine.head,
+            to: routine.last + 4,
+        }
+    }
+
+    /// The word at an address.
+    pub fn word(&self, address: u32) -> u32
+        requires { address < 65536 }
+        ensures { result ≡ (calls self.now).word address }
+    {
+        self.words[(address / 4) as usize]
+    }
+
+    /// The number of the part that the word at an address calls, if it is a call.
+    pub fn called(&self, address: u32) -> Option<usize>
+        requires { address < 65536 }
+        ensures { IsCallee self.now address result }
+    {
+        let head = linked(address, self.word(address))?;
+        let place = place_of(self.routines(), head)?;
+        Some(place + 1)
+    }
+
+    /// Whether the word at an address of a part is a return.
+    pub fn is_return(&self, part: usize, address: u32) -> bool
+        requires part { part < part_count self.now }
+        requires address { address < 65536 }
+        ensures { result ≡ returns (calls self.now) (part_at self.now part) address }
+    {
+        part != 0 && self.word(address) == RETURN
+    }
+
+    /// The word at an address of a part, or one that leads on in the place of a call, and one that
+    /// leads nowhere in the place of a return.
+    fn patched(&self, part: usize, address: u32) -> u32
+        requires part { part < part_count self.now }
+        requires address { address < 65536 }
+        ensures { result ≡ patched (calls self.now) (part_at self.now part) address }
+    {
+        if self.called(address).is_some() {
+            return LEADS_ON;
+        }
+        if self.is_return(part, address) {
+            return LEADS_NOWHERE;
+        }
+        self.word(address)
+    }
+
+    /// The words of a part, with its calls and returns out of the way.
+    #[tactic(auto, unfolding(region_tree::specs::Tree::words_of))]
+    fn part_words(&self, alloc: Global, part: usize) -> Result<Vec<u32>, AllocError>
+        requires { part < part_count self.now }
+        ensures { IfOk result (λ words. words.items ≡ words_of_part self.now part) }
+    {
+        let section = self.range(part);
+        let mut words = Vec::new(alloc);
+        for place in 0..(section.to - section.from) / 4 {
+            words.push(self.patched(part, section.from + 4 * place))?;
+        }
+        Ok(words)
+    }
+
+    /// A part as a section of its own.
+    pub fn draft(&self, alloc: Global, part: usize) -> Result<Draft, AllocError>
+        requires { part < part_count self.now }
+        ensures { IfOk result (λ draft. draft ≡ tree_of_part self.now part) }
+    {
+        let section = self.range(part);
+        let words = self.part_words(alloc, part)?;
+        Draft::from_words(alloc, section, words, &self.loops)
+    }
+
+    /// The tree of a part.
+    pub fn tree(&self, alloc: Global, part: usize) -> Result<LoopTree, TreeNo>
+        requires { part < part_count self.now }
+        ensures tree { IfOk result (λ tree. tree ≡ tree_of_part self.now part) }
+        ensures allowed { OnOk result (IsAllowed (graph (tree_of_part self.now part))) }
+        ensures refused { IfErr result (IsRefused (graph (tree_of_part self.now part))) }
+        ensures section { IsSection (range_of_part self.now part) }
+    {
+        let section = self.range(part);
+        let words = self.part_words(alloc, part)?;
+        LoopTree::from_words(alloc, section, words, &self.loops)
+    }
+}

@@ -1,0 +1,101 @@
+//! In which order parts call each other.
+
+ghost use Rattle.std.specs.Prelude.{◌≡◌, ℕ, ◌<◌, ◌↔◌, ◌≤◌, ◌*◌, length, true, IfOk, IsTrue};
+ghost use Rattle.led_parts.specs.Led.{Led, is_met};
+ghost use Rattle.region_tree.specs.Refusals.{Nowhere};
+ghost use Rattle.region_tree.specs.Search.{LowestOf};
+ghost use Rattle.call_bounds.specs.Build.{AreReached, IsRankOf, IsTable};
+ghost use Rattle.call_bounds.specs.CallRefusals.{RecursionAt};
+ghost use Rattle.call_bounds.specs.Listing.{AreRanks, calls, part_count};
+
+use crate::code::Code;
+use led_parts::led_to;
+use std::alloc::{AllocError, Global};
+
+/// Which parts are reached.
+pub fn reached_parts(alloc: Global, code: &Code, table: &[bool]) -> Result<Vec<bool>, AllocError>
+    requires { IsTable code.now table.now }
+    ensures { IfOk result (λ reached. AreReached code.now reached.items) }
+{
+    let mut reached = led_to(alloc, table, code.part_count(), 0)?;
+    reached[0] = true;
+    Ok(reached)
+}
+
+/// Whether calls lead from a part back to itself.
+fn leads_back(alloc: Global, table: &[bool], count: usize, part: usize) -> Result<bool, AllocError>
+    requires few { count ≤ 65 }
+    requires part { part < count }
+    requires table { length table.now ≡ count * count }
+    ensures { IfOk result (λ back. IsTrue back ↔ Led count table.now part part) }
+{
+    let led = led_to(alloc, table, count, part)?;
+    Ok(led[part])
+}
+
+/// Whether a part is reached and calls lead from it back to itself.
+fn recurs(
+    alloc: Global,
+    table: &[bool],
+    reached: &[bool],
+    count: usize,
+    part: usize,
+) -> Result<bool, AllocError>
+    requires few { count ≤ 65 }
+    requires part { part < count }
+    requires table { length table.now ≡ count * count }
+    requires reached { length reached.now ≡ count }
+    ensures { IfOk result (λ back. IsTrue back ↔ ((is_met reached.now part ≡ true) × Led count table.now part part)) }
+{
+    if !reached[part] {
+        return Ok(false);
+    }
+    leads_back(alloc, table, count, part)
+}
+
+/// The lowest head of a reached routine from which calls lead back to it.
+pub fn recursion(
+    alloc: Global,
+    code: &Code,
+    table: &[bool],
+    reached: &[bool],
+) -> Result<Option<u32>, AllocError>
+    requires table { IsTable code.now table.now }
+    requires reached { AreReached code.now reached.now }
+    ensures { IfOk result (LowestOf (RecursionAt (calls code.now))) }
+{
+    let count = code.part_count();
+    for part in 1..count {
+        let back = recurs(alloc, table, reached, count, part)?;
+        if back {
+            return Ok(Some(code.range(part).from));
+        }
+    }
+    Ok(None)
+}
+
+/// How many parts calls lead to from one.
+fn rank_of(alloc: Global, table: &[bool], count: usize, part: usize) -> Result<usize, AllocError>
+    requires few { count ≤ 65 }
+    requires part { part < count }
+    requires table { length table.now ≡ count * count }
+    ensures { IfOk result (IsRankOf count table.now part) }
+{
+    let led = led_to(alloc, table, count, part)?;
+    Ok(led.iter().filter(|is_led| **is_led).count())
+}
+
+/// For each part how many parts calls lead to from it.
+pub fn part_ranks(alloc: Global, code: &Code, table: &[bool]) -> Result<Vec<usize>, AllocError>
+    requires table { IsTable code.now table.now }
+    requires recursion { Nowhere (RecursionAt (calls code.now)) }
+    ensures { IfOk result (λ ranks. AreRanks code.now ranks.items) }
+{
+    let count = code.part_count();
+    let mut ranks = Vec::new(alloc);
+    for part in 0..count {
+        let rank = rank_of(alloc, table, count, part)?;
+        ranks.push(rank)?;
+    }
+    Ok(ranks)
+}

@@ -1,0 +1,179 @@
+//! What walks of routines cost, between the frame positions at which they begin and end.
+
+ghost use Rattle.std.specs.Prelude.{◌≡◌, ℕ, ◌+◌, ◌-◌, ◌*◌, ◌/◌, ◌<◌, ◌≤◌, length, IfOk, OnOk};
+ghost use Rattle.std.specs.Option.{option_map};
+ghost use Rattle.region_tree.specs.Tree.{IsSection};
+ghost use Rattle.bound_calc.specs.Best.{Either, In, IsBest};
+ghost use Rattle.bound_calc.specs.Matrices.{entry};
+ghost use Rattle.bound_calc.specs.Passing.{ways_on};
+ghost use Rattle.call_bounds.specs.Calls.{IsReached};
+ghost use Rattle.call_bounds.specs.Listing.{AreRanks, calls, part_at, part_count, rank_at};
+ghost use Rattle.call_bounds.specs.Patched.{part_tree};
+ghost use Rattle.call_bounds.specs.Summaries.{AreCallees, AreKnown, AreReturns, AreSummaries, EndsAt, Ending, IsAdded, IsSummaryOf, KnowsCallees};
+
+use crate::tree::CallTree;
+use bound_calc::{Matrix, Steps, Ways, jump, reach, through};
+use region_tree::{LoopTree, Section};
+use std::alloc::{AllocError, Global};
+
+/// What calls of a part cost.
+#[derive(Clone, Copy, Debug)]
+pub struct Summary {
+    /// From a call to the word after it: the jump, a walk of the routine to a return, the jump back.
+    pub through: Matrix,
+    /// From a call to where a walk may end: the jump, and a walk that ends in the routine or in one
+    /// that is called from it.
+    pub deep: Matrix,
+}
+
+/// What calls cost, by the number of the part that they call, as far as it was worked out.
+#[derive(Drop)]
+pub struct Summaries {
+    pub through: Vec<Matrix>,
+    pub deep: Vec<Matrix>,
+}
+
+/// For each word of a section the number of the part that it calls, if it is a call.
+pub fn callees(
+    alloc: Global,
+    tree: &CallTree,
+    section: Section,
+) -> Result<Vec<Option<usize>>, AllocError>
+    requires { IsSection section }
+    ensures { IfOk result (λ callees. AreCallees tree.now section ((section.to - section.from) / 4) callees.items) }
+{
+    let mut callees = Vec::new(alloc);
+    for place in 0..(section.to - section.from) / 4 {
+        callees.push(tree.called(section.from + 4 * place))?;
+    }
+    Ok(callees)
+}
+
+/// For each word of a part whether it is a return.
+fn returns(
+    alloc: Global,
+    tree: &CallTree,
+    number: usize,
+    section: Section,
+) -> Result<Vec<bool>, AllocError>
+    requires number { number < part_count tree.now }
+    requires section { IsSection section }
+    ensures { IfOk result (λ returns. AreReturns tree.now number section ((section.to - section.from) / 4) returns.items) }
+{
+    let mut returns = Vec::new(alloc);
+    for place in 0..(section.to - section.from) / 4 {
+        returns.push(tree.is_return(number, section.from + 4 * place))?;
+    }
+    Ok(returns)
+}
+
+/// Joins a matrix with what leads to a word, and with what leads on from there by a call.
+fn end_at(into: Option<&Matrix>, here: &Matrix, onto: &Matrix) -> Matrix
+    ensures { IsBest (entry result) (Either (In (entry onto.now)) (EndsAt (option_map (λ m. m.now) into.entry) (entry here.now))) }
+{
+    let ended = onto.join(here);
+    match into {
+        None => ended,
+        Some(into) => ended.join(&here.chain(into)),
+    }
+}
+
+/// What leads to any of some words, or from one of them on into a routine that it calls.
+pub fn deep(into: &Ways, at: &[Matrix]) -> Matrix
+    ensures { IsBest (entry result) (Ending (ways_on into.now) at.now (length at.now)) }
+{
+    let mut deep = Matrix::NONE;
+    for place in 0..at.len() {
+        deep = end_at(into.at(place), &at[place], &deep);
+    }
+    deep
+}
+
+/// What calls of a routine cost, from what calls of the parts that it calls cost.
+fn summary_of(
+    alloc: Global,
+    tree: &CallTree,
+    number: usize,
+    part: &LoopTree,
+    steps: &Steps,
+    done: &Summaries,
+) -> Result<Summary, AllocError>
+    requires number { number < part_count tree.now }
+    requires reached { IsReached (calls tree.now) (part_at tree.now number) }
+    requires part { part.now ≡ part_tree (calls tree.now) (part_at tree.now number) }
+    requires done { AreSummaries tree.now steps.now done.now.through.items done.now.deep.items }
+    requires known { KnowsCallees tree.now steps.now number done.now.through.items done.now.deep.items }
+    ensures { IfOk result (λ s. IsSummaryOf tree.now steps.now number s.through s.deep) }
+{
+    let callees = callees(alloc, tree, part.section())?;
+    let ends = returns(alloc, tree, number, part.section())?;
+    let at = reach(alloc, part, steps, &Ways::new(&callees, &done.through))?;
+    let jump = jump(steps);
+    Ok(Summary {
+        through: jump.chain(&through(steps, &at, &ends)),
+        deep: jump.chain(&deep(&Ways::new(&callees, &done.deep), &at)),
+    })
+}
+
+/// Works out what calls of a routine cost, if it is reached.
+fn summarise(
+    alloc: Global,
+    tree: &CallTree,
+    steps: &Steps,
+    number: usize,
+    done: &mut Summaries,
+) -> Result<(), AllocError>
+    requires routine { 0 < number }
+    requires number { number < part_count tree.now }
+    requires done { AreSummaries tree.now steps.now done.old.through.items done.old.deep.items }
+    requires known { IsReached (calls tree.now) (part_at tree.now number) → KnowsCallees tree.now steps.now number done.old.through.items done.old.deep.items }
+    ensures { OnOk result (IsAdded tree.now steps.now number done.old.through.items done.old.deep.items done.new.through.items done.new.deep.items) }
+{
+    let Some(part) = tree.tree(number) else {
+        return Ok(());
+    };
+    let summary = summary_of(alloc, tree, number, part, steps, done)?;
+    done.through[number] = summary.through;
+    done.deep[number] = summary.deep;
+    Ok(())
+}
+
+/// Works out what calls of the routines of a rank cost.
+fn summarise_rank(
+    alloc: Global,
+    tree: &CallTree,
+    steps: &Steps,
+    ranks: &[usize],
+    rank: usize,
+    done: &mut Summaries,
+) -> Result<(), AllocError>
+    requires ranks { AreRanks tree.now ranks.now }
+    requires done { AreSummaries tree.now steps.now done.old.through.items done.old.deep.items }
+    requires below { AreKnown tree.now steps.now (λ k. rank_at ranks.now k < rank) done.old.through.items done.old.deep.items }
+    ensures done { OnOk result (AreSummaries tree.now steps.now done.new.through.items done.new.deep.items) }
+    ensures known { OnOk result (AreKnown tree.now steps.now (λ k. rank_at ranks.now k < rank + 1) done.new.through.items done.new.deep.items) }
+{
+    for number in 1..ranks.len() {
+        if ranks[number] == rank {
+            summarise(alloc, tree, steps, number, done)?;
+        }
+    }
+    Ok(())
+}
+
+/// What calls of the reached routines cost: those first that call no other.
+pub fn summaries_of(alloc: Global, tree: &CallTree, steps: &Steps) -> Result<Summaries, AllocError>
+    ensures done { IfOk result (λ done. AreSummaries tree.now steps.now done.through.items done.deep.items) }
+    ensures known { IfOk result (λ done. AreKnown tree.now steps.now (λ k. Unit {0}) done.through.items done.deep.items) }
+{
+    let count = tree.part_count();
+    let ranks = tree.ranks();
+    let mut done = Summaries {
+        through: vec![in alloc; Matrix::NONE; count]?,
+        deep: vec![in alloc; Matrix::NONE; count]?,
+    };
+    for rank in 0..count + 1 {
+        summarise_rank(alloc, tree, steps, ranks, rank, &mut done)?;
+    }
+    Ok(done)
+}

@@ -1,0 +1,216 @@
+//! A section with its routines, of which a bound through calls is told.
+
+ghost use Rattle.std.specs.Prelude.{◌≡◌};
+ghost use Rattle.region_tree.specs.Search.{LowestOf};
+ghost use Rattle.call_bounds.specs.CallRefusals.{OverlapAt};
+ghost use Rattle.call_bounds.specs.Listing.{calls};
+
+use crate::call_table::call_table;
+use crate::causes::part_trees;
+use crate::code::Code;
+use crate::escape::escape;
+use crate::order::{part_ranks, reached_parts, recursion};
+use crate::routines::{Routine, Routines};
+use fp_image::Image;
+use fp_setup::{LoopSetup, Loops};
+use region_tree::{LoopTree, Section};
+use std::alloc::{AllocError, Global};
+use std::marker::Model;
+use thiserror::Error;
+
+/// Why a section with routines has no bound through calls. The numbers that a refusal line shows
+/// are 1 to 5 and 8 to 10.
+#[derive(Clone, Copy, Debug, PartialEq, Eq, Error)]
+pub enum CallNo {
+    /// Loops of a reached part overlap, lie too deep or are entered not at their head; the head of
+    /// such a loop.
+    #[error("loops are nested badly at {address:#010x}")]
+    Nesting { address: u32 },
+    /// A reachable word of a reached part jumps to an address out of a register, and isn't a
+    /// return; the word's address.
+    #[error("an indirect jump at {address:#010x}")]
+    IndirectJump { address: u32 },
+    /// A reachable word of a reached part waits for a moment; the word's address.
+    #[error("a timed wait at {address:#010x}")]
+    TimedWait { address: u32 },
+    /// A reachable word of a reached part leads back to a word of the part that is no head of a
+    /// counting loop around it; the word's address.
+    #[error("a way back without a bound at {address:#010x}")]
+    UnboundedBackEdge { address: u32 },
+    /// Memory was refused.
+    #[error("out of memory")]
+    NoMemory,
+    /// A listed routine has a word in common with the section; the routine's head.
+    #[error("the routine at {address:#010x} overlaps the section")]
+    Overlap { address: u32 },
+    /// Calls lead from a reached routine back to itself; the routine's head.
+    #[error("calls lead from the routine at {address:#010x} back to it")]
+    Recursion { address: u32 },
+    /// A reachable word of a reached routine leads out of the routine, or is a call at its last
+    /// word; the word's address.
+    #[error("a way out of a routine at {address:#010x}")]
+    Escape { address: u32 },
+}
+
+impl From<AllocError> for CallNo {
+    ghost use Rattle.std.specs.Prelude.{◌≡◌};
+    ghost use Rattle.call_bounds.specs.declared.tree.CallNo.TheVariants.{NoMemory};
+
+    ghost from_gives = { λ _ no. no ≡ NoMemory };
+
+    fn from(_error: AllocError) -> CallNo {
+        CallNo::NoMemory
+    }
+}
+
+/// A section of code with the routines that it may call, of which a bound through calls is told.
+/// The parts are numbered: the section is number 0, and the routines follow in their order.
+#[derive(Drop)]
+pub struct CallTree {
+    code: Code,
+    trees: Vec<Option<LoopTree>>,
+    ranks: Vec<usize>,
+}
+
+impl Model for CallTree {
+    ghost use Rattle.call_bounds.specs.Listing.{Listing, IsCallTree};
+
+    ghost Value = { Listing };
+
+    ghost view = { λ t. t.code };
+
+    ghost invariant = { λ t. IsCallTree t.code t.trees.items t.ranks.items };
+}
+
+/// The lowest head of a routine that has a word in common with the section.
+fn overlap(code: &Code) -> Option<u32>
+    ensures { LowestOf (OverlapAt (calls code.now)) result }
+{
+    let section = code.section();
+    for routine in code.routines() {
+        if routine.head < section.to && section.from <= routine.last {
+            return Some(routine.head);
+        }
+    }
+    None
+}
+
+impl CallTree {
+    ghost use Rattle.std.specs.Prelude.{◌≡◌, ℕ, ◌<◌, ◌≤◌, MatchOption, None, IfOk, OnOk, IfErr};
+    ghost use Rattle.fp_image.specs.Rules.{word};
+    ghost use Rattle.region_tree.specs.Tree.{IsSection};
+    ghost use Rattle.call_bounds.specs.CallRefused.{IsCallRefused};
+    ghost use Rattle.call_bounds.specs.CallRefusals.{IsCallable, IsListing};
+    ghost use Rattle.call_bounds.specs.Calls.{returns};
+    ghost use Rattle.call_bounds.specs.Listing.{AreRanks, calls, listing_of, part_at, part_count};
+    ghost use Rattle.call_bounds.specs.Parts.{IsCallee, IsPartReached, calls_of, tree_of_part};
+
+    /// The tree of a section of an image, with the listed routines and loops. The section isn't
+    /// empty, its ends are multiples of four, and it ends at most at 65,536.
+    ///
+    /// A call is a JAL that keeps the address after it in x1 and leads to the head of a listed
+    /// routine; in its part it leads on to the word after it. A return is the word 0x00008067 in a
+    /// routine. The section is a reached part, and each routine that a reachable word of a reached
+    /// part calls.
+    ///
+    /// # Errors
+    ///
+    /// [`CallNo`] exactly where one of its causes holds: the first that holds anywhere, with the
+    /// lowest address at which it holds. `Overlap` comes first, then `Recursion`, then the four
+    /// causes of [`region_tree::TreeNo`] in their order, each over all reached parts, and `Escape`
+    /// last. Besides, memory may be refused.
+    pub fn build(
+        alloc: Global,
+        image: &Image,
+        section: Section,
+        routines: &Routines,
+        loops: &Loops,
+    ) -> Result<CallTree, CallNo>
+        requires { IsSection section }
+        ensures tree { IfOk result (λ tree. tree ≡ listing_of (word image.now) section routines.now loops.now) }
+        ensures allowed { OnOk result (IsCallable (calls_of (word image.now) section routines.now loops.now)) }
+        ensures refused { IfErr result (IsCallRefused (calls_of (word image.now) section routines.now loops.now)) }
+    {
+        let code = Code::new(alloc, image, section, routines, loops)?;
+        if let Some(address) = overlap(&code) {
+            return Err(CallNo::Overlap { address });
+        }
+        let table = call_table(alloc, &code)?;
+        let reached = reached_parts(alloc, &code, table.as_slice())?;
+        if let Some(address) = recursion(alloc, &code, table.as_slice(), reached.as_slice())? {
+            return Err(CallNo::Recursion { address });
+        }
+        let trees = part_trees(alloc, &code, reached.as_slice())?;
+        if let Some(address) = escape(&code, trees.as_slice()) {
+            return Err(CallNo::Escape { address });
+        }
+        let ranks = part_ranks(alloc, &code, table.as_slice())?;
+        Ok(CallTree { code, trees, ranks })
+    }
+
+    /// The section.
+    pub fn section(&self) -> Section
+        ensures { result ≡ self.now.section }
+    {
+        self.code.section()
+    }
+
+    /// The listed routines.
+    pub fn routines(&self) -> &[Routine]
+        ensures { result.now ≡ self.now.routines }
+    {
+        self.code.routines()
+    }
+
+    /// The listed loops.
+    pub fn loops(&self) -> &[LoopSetup]
+        ensures { result.now ≡ self.now.loops }
+    {
+        self.code.loops()
+    }
+
+    /// How many parts there are: the section and the routines.
+    pub fn part_count(&self) -> usize
+        ensures value { result ≡ part_count self.now }
+        ensures few { result ≤ 65 }
+        ensures listing { IsListing (calls self.now) }
+        ensures callable { IsCallable (calls self.now) }
+    {
+        let _ranks = &self.ranks;
+        self.code.part_count()
+    }
+
+    /// The tree of a part, where the part is reached: its words with calls and returns out of the
+    /// way.
+    pub fn tree(&self, part: usize) -> Option<&LoopTree>
+        requires { part < part_count self.now }
+        ensures { MatchOption result (IsPartReached self.now part → ⊥) (λ tree. IsPartReached self.now part × (tree.now ≡ tree_of_part self.now part)) }
+    {
+        self.trees[part].as_ref()
+    }
+
+    /// The number of the part that the word at an address calls, if it is a call.
+    pub fn called(&self, address: u32) -> Option<usize>
+        requires { address < 65536 }
+        ensures { IsCallee self.now address result }
+    {
+        self.code.called(address)
+    }
+
+    /// Whether the word at an address of a part is a return.
+    pub fn is_return(&self, part: usize, address: u32) -> bool
+        requires part { part < part_count self.now }
+        requires address { address < 65536 }
+        ensures { result ≡ returns (calls self.now) (part_at self.now part) address }
+    {
+        self.code.is_return(part, address)
+    }
+
+    /// A rank for each part: what a reached part calls has a lower one. No rank is above the number
+    /// of the parts.
+    pub fn ranks(&self) -> &[usize]
+        ensures { AreRanks self.now result.now }
+    {
+        self.ranks.as_slice()
+    }
+}
