@@ -1,46 +1,33 @@
 -- No call visit that keeps returns and bounds is longer than what call walks can cost.
 use Rattle.std.proofs.Common.{◌≡◌, ℕ, ◌+◌, ◌-◌, ◌%◌, ◌<◌, ◌≤◌, ◌⊎◌, inl, inr, refl, arith, ap, sym, subst, ◌∙◌, Bool, true, false, Option, Some, None, List, [], ◌∷◌, ◌++◌, length, Contains}
-use Rattle.std.specs.Prelude.{nat_lt, slice_index_or}
-use Rattle.std.proofs.lemmas.Bool.Decides.{nat_tests}
+use Rattle.std.specs.Prelude.{slice_index_or}
 use Rattle.fp_setup.specs.declared.loop_list.LoopSetup.{LoopSetup}
 use Rattle.core_model.specs.Memory.{code_at}
 use Rattle.core_model.specs.Thread.{Thread}
-use Rattle.isolation.proofs.Picks.{both}
-use Rattle.region_guard.specs.Regions.{may_fetch, may_read}
 use Rattle.region_tree.proofs.EdgeLaws.{edge-aligned}
 use Rattle.region_tree.specs.Edges.{edges_of}
 use Rattle.region_tree.specs.Graph.{Edge, Graph, Lies, Reachable, edge_list}
 use Rattle.region_tree.specs.Graph.Reachable.{first, next}
-use Rattle.region_tree.specs.Walk.{IsNextTurn, IsOwn, Positions}
-use Rattle.region_tree.specs.declared.edges.Stop.{Stop}
-use Rattle.region_tree.specs.declared.edges.Stop.TheVariants.{No, Indirect, Timed}
+use Rattle.region_tree.specs.Walk.{IsNextTurn}
+use Rattle.region_tree.specs.declared.edges.Stop.TheVariants.{No}
 use Rattle.bound_calc.specs.Bound.{positions}
-use Rattle.world_model.specs.World.{Start, World, around, contents, issue_of, recent, surroundings, thread_of, world}
-use Rattle.visit_bound.proofs.Instructions.{issue-fetches, issue-goes}
+use Rattle.world_model.specs.World.{Start, contents, issue_of, recent, surroundings, thread_of, world}
+use Rattle.visit_bound.proofs.Instructions.{Gone, issue-fetches, issue-goes}
+use Rattle.visit_bound.proofs.Linking.{Went, linked-after, linked-own, linked_all}
+use Rattle.visit_bound.proofs.Links.{fetch-inside, stop-no}
+use Rattle.visit_bound.specs.Laws.{Along, AreLinked}
 use Rattle.visit_bound.specs.Visits.{Issued, first_of, issues_of}
-use Rattle.call_bounds.specs.Calls.{Calls, IsReached, Part, Routine, callee, is_back, onward, part, returns, stop_unless}
+use Rattle.call_bounds.specs.Calls.{Calls, IsReached, Part, callee, is_back, onward, part, returns, stop_unless}
+use Rattle.call_bounds.specs.declared.routines.Routine.{Routine}
 use Rattle.call_bounds.specs.CallRefusals.{IsCallable, IsListing}
 use Rattle.call_bounds.specs.CallWalk.{CallWalk, CostsOf, Route, part_in}
 use Rattle.call_bounds.proofs.Facts.{parts, reached-listed}
 use Rattle.call_bounds.proofs.Nested.{Top, opened, top}
 use Rattle.call_bounds.proofs.Parts.{AreParts}
 use Rattle.call_visits.specs.CallVisits.{ComesBack, GoOn, KeepsBounds, KeepsReturns, counted_after, counter_at, open_at}
-use Rattle.call_visits.specs.Laws.{Along, AreLinked, CallVisitsAreBounded, IsHost, IsMet, Way, route}
-use Rattle.call_visits.proofs.Linking.{Gone, Went, linked_all}
+use Rattle.call_visits.specs.Laws.{CallVisitsAreBounded, IsHost, IsMet, route}
 use Rattle.call_visits.proofs.Returns.{issue-returns}
-use Rattle.call_visits.proofs.Visited.{ends, goes}
-
-linked-rest : (known : ℕ → Type 0) (way : ℕ → Edge → Type 0) (s : Positions) (a : Issued) (l : List Issued) → AreLinked known way s (a ∷ l) → AreLinked known way s l
-linked-rest known way s a [] h = tt
-linked-rest known way s a (b ∷ more) h = h.0
-
-linked-after : (known : ℕ → Type 0) (way : ℕ → Edge → Type 0) (s : Positions) (later l : List Issued) → AreLinked known way s (later ++ l) → AreLinked known way s l
-linked-after known way s [] l h = h
-linked-after known way s (a ∷ later) l h = linked-after known way s later l (linked-rest known way s a (later ++ l) h)
-
-linked-own : (known : ℕ → Type 0) (way : ℕ → Edge → Type 0) (s : Positions) (a : Issued) (l : List Issued) → AreLinked known way s (a ∷ l) → IsOwn s (a.cycle % length s.frame)
-linked-own known way s a [] h = h
-linked-own known way s a (b ∷ more) h = h.1
+use Rattle.call_visits.proofs.Visited.{Way, ends, goes}
 
 abbrev at : Route → Issued → ℕ
 at x i = i.cycle % length x.positions.frame
@@ -139,16 +126,6 @@ part-aligned : (x : Calls) (a : Part) (u : ℕ) → IsListing x → IsReached x 
 part-aligned x None u is r first = is.section.from_aligned
 part-aligned x (Some t) u is r first = (is.routines.each t (reached-listed x t r)).head_aligned
 part-aligned x a u is r (next {u = v} e word edge lies) = onward-aligned (callee x v) (x.word v) v e (part-aligned x a v is r word) edge
-
--- what is fetched is in the scratchpad
-fetch-inside : (s : Start) (c : ℕ) (w : World) (i pc : ℕ) → (surroundings s c w i).fetch pc ≡ true → pc < s.size
-unfolding around may_fetch
-fetch-inside s c w i pc h = let low : nat_lt pc s.size ≡ true = (both (nat_lt pc s.size) (may_read i s.size (slice_index_or s.confined i true) w.registers.iregions pc) h).0 in grind (arith, nat_tests)
-
-stop-no : (s : Stop) → (s ≡ Indirect → ⊥) → (s ≡ Timed → ⊥) → s ≡ No
-stop-no No a b = refl
-stop-no Indirect a b = absurd (a refl)
-stop-no Timed a b = absurd (b refl)
 
 -- a reachable word stops nothing, or is a return
 stops : (x : Calls) (u : ℕ) → IsCallable x → IsMet x u → ((edges_of (x.word u) u).stop ≡ No) ⊎ (is_back (x.word u) ≡ true)

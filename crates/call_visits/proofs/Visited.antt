@@ -1,5 +1,5 @@
 -- The issues of a call visit are a call walk, whose cost is the visit's length.
-use Rattle.std.proofs.Common.{◌≡◌, ℕ, ◌+◌, ◌≤◌, ◌==◌, inl, inr, refl, arith, ap, sym, subst, ◌∙◌, Bool, true, false, if◌then◌else◌, Option, Some, None, List, [], ◌∷◌, Contains}
+use Rattle.std.proofs.Common.{◌≡◌, ◌⊎◌, ℕ, ◌+◌, ◌≤◌, ◌==◌, inl, inr, refl, arith, ap, sym, subst, ◌∙◌, Bool, true, false, if◌then◌else◌, Option, Some, None, List, [], ◌∷◌, Contains}
 use Rattle.std.proofs.lemmas.Bool.Decides.{nat_tests}
 use Rattle.fp_setup.specs.declared.loop_list.LoopSetup.{LoopSetup}
 use Rattle.rv_decode.specs.Table.{ins}
@@ -11,14 +11,18 @@ use Rattle.region_tree.specs.Graph.{Edge, Lies, Reachable, edge_list}
 use Rattle.region_tree.specs.Walk.{IsNextTurn, counted}
 use Rattle.region_tree.specs.declared.edges.Stop.{Stop}
 use Rattle.region_tree.specs.declared.edges.Stop.TheVariants.{No, Indirect, Timed}
-use Rattle.call_bounds.specs.Calls.{Calls, Counts, IsReached, Part, Routine, callee, is_back, linked, part, plain, plain_unless, routine_at, routine_to}
+use Rattle.call_bounds.specs.Calls.{Calls, Counts, IsReached, Part, callee, is_back, linked, part, plain, plain_unless, routine_at, routine_to}
+use Rattle.call_bounds.specs.declared.routines.Routine.{Routine}
 use Rattle.call_bounds.specs.CallRefusals.{IsCallable}
 use Rattle.call_bounds.specs.CallWalk.{CallWalk, CostsOf, Route, called, part_in}
 use Rattle.call_bounds.proofs.Nested.{Open, Top, opened, top}
 use Rattle.call_bounds.proofs.Parts.{AreParts, call-edge, plain-edge}
 use Rattle.call_visits.specs.CallVisits.{ComesBack, counted_after, open_after}
-use Rattle.call_visits.specs.Laws.{Way}
 use Rattle.call_visits.proofs.Returns.{back-is, ins-back}
+
+-- the ways on from a word: its edges, and from a return to anywhere
+abbrev pub Way : Calls → ℕ → Edge → Type 0
+Way x u e = (((edges_of (x.word u) u).stop ≡ No) × Contains (edge_list (edges_of (x.word u) u)) e) ⊎ ((is_back (x.word u) ≡ true) × (e.lag ≡ 3))
 
 -- a return stops the control graph of a part that isn't a routine, and is no call
 pub back-stop : (w u : ℕ) → is_back w ≡ true → (edges_of w u).stop ≡ Indirect

@@ -1,10 +1,11 @@
--- The visits of a section by one hart, through the routines that it calls.
+-- The visits of a section by one thread, through the routines that it calls.
 use Rattle.std.specs.Prelude.{◌≡◌, ◌⊎◌, ℕ, ◌+◌, ◌≤◌, Bool, true, false, cond, Option, Some, None, List, [], ◌∷◌, ◌++◌}
 use Rattle.fp_setup.specs.declared.loop_list.LoopSetup.{LoopSetup}
 use Rattle.region_tree.specs.Graph.{Lies}
 use Rattle.region_tree.specs.Walk.{counted}
 use Rattle.visit_bound.specs.Visits.{Issued, first_of}
-use Rattle.call_bounds.specs.Calls.{Calls, Counts, Routine, callee, is_back, part}
+use Rattle.call_bounds.specs.Calls.{Calls, Counts, callee, is_back, part}
+use Rattle.call_bounds.specs.declared.routines.Routine.{Routine}
 use Rattle.call_bounds.specs.CallWalk.{called, part_in}
 
 -- the open calls after a word, the newest first, from those before it: a call is added, and a return takes one away
@@ -26,8 +27,8 @@ abbrev pub GoOn : Calls → List Issued → Type 0
 GoOn x [] = Unit {0}
 GoOn x (i ∷ before) = GoOn x before × Lies (part x (part_in x (open_at x before))) i.pc × (i.traps ≡ false)
 
--- A call visit: issues in order, the newest first, among all those of the hart. The first is at the section's first word.
--- The last is the first of them that is outside its part or traps; where there is none, it is the hart's last one.
+-- A call visit: issues in order, the newest first, among all those of the thread. The first is at the section's first word.
+-- The last is the first of them that is outside its part or traps; where there is none, it is the thread's last one.
 pub record IsCallVisit (x : Calls) (issues : List Issued) (last : Issued) (before : List Issued) : Type 0 where
   pub earlier : List Issued
   pub later : List Issued

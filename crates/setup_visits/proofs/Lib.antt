@@ -1,1 +1,2 @@
-mod Starts
+pub mod Starts
+mod CallStarts

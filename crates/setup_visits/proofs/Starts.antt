@@ -19,7 +19,7 @@ use Rattle.setup_visits.specs.Laws.{IsAlike, VisitsStayBounded, tree_in}
 use Rattle.visit_bound.specs.Laws.{IsHost, VisitsAreBounded}
 
 -- a word of the instruction scratchpad at the start
-code-word : (image : List Segment) (size u : ℕ) → size % 4 ≡ 0 → u % 4 ≡ 0 → u < size → code_at size (words_from image 0 size) u ≡ word image u
+pub code-word : (image : List Segment) (size u : ℕ) → size % 4 ≡ 0 → u % 4 ≡ 0 → u < size → code_at size (words_from image 0 size) u ≡ word image u
 unfolding code_at words_from index_of
 code-word image size u z a lt = go (nat_lt u size) (let e : nat_lt u size ≡ true = grind (arith, nat_tests) in e)
   where
@@ -43,7 +43,7 @@ section-word image s loops u f t a low high =
     get_or-map-range_with_len (λ k. word image (s.from + 4 * k)) 0 ((s.to - s.from) / 4) ((u - s.from) / 4) ((u - s.from) / 4) 0 (omega arith) (omega arith)
     ∙ ap (word image) (let e : s.from + 4 * ((u - s.from) / 4) ≡ u = omega arith in e)
 
-size-even : (version : ℕ) → (version ≡ 1) ⊎ (version ≡ 2) → size_of version % 4 ≡ 0
+pub size-even : (version : ℕ) → (version ≡ 1) ⊎ (version ≡ 2) → size_of version % 4 ≡ 0
 size-even version (inl e) = rw e refl
 size-even version (inr e) = rw e refl
 

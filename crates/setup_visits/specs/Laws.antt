@@ -14,11 +14,11 @@ use Rattle.setup_model.specs.Start.{start}
 use Rattle.setup_laws.specs.Laws.{IsQuiet, Machine}
 use Rattle.visit_bound.specs.Visits.{Issued, IsVisit, KeepsBounds, first_of, issues_of}
 
--- the issues of hart i in n cycles, the newest first
+-- the issues of thread i in n cycles, the newest first
 abbrev pub issues : Machine → ℕ → ℕ → List Issued
 issues m i n = issues_of i (world (start m.setup m.image m.ports n) n).turns
 
--- a machine with these slots, in which hart i is hard and active at the start, and whose image has the same words in
+-- a machine with these slots, in which thread i is hard and active at the start, and whose image has the same words in
 -- a section as this one
 pub record IsAlike (m : Machine) (i slots : ℕ) (image : List Segment) (s : Section) : Type 0 where
   pub rules : KeepsRules m.setup
@@ -31,7 +31,7 @@ pub record IsAlike (m : Machine) (i slots : ℕ) (image : List Segment) (s : Sec
 abbrev pub tree_in : Settings → List Segment → Section → Tree
 tree_in setup image s = tree_of (word image) s setup.loops
 
--- Where no walk through a section of a setup's image costs more than a number, no visit of hart i that keeps the bounds
+-- Where no walk through a section of a setup's image costs more than a number, no visit of thread i that keeps the bounds
 -- of the setup's loops is longer: in every quiet run of every machine that is alike in the slots, in i's mode and in
 -- the section's words, whatever else its setup says, its image holds and its ports show.
 abbrev pub VisitsStayBounded : Type 0

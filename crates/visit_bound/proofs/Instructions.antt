@@ -155,17 +155,17 @@ filled-trap (Some rd) v (Some (Csr n x y z)) = refl
 filled-trap (Some rd) v (Some (Trap x y)) = refl
 filled-trap (Some rd) v (Some Wait) = refl
 
--- a whole issue in cycle c
-pub record Gone (c sleep : ℕ) (edges : Edges) (t : Thread) : Type 0 where
+-- where a whole issue in cycle c leads
+pub record Gone (way : Edge → Type 0) (c sleep : ℕ) (t : Thread) : Type 0 where
   pub edge : Edge
-  pub known : Contains (edge_list edges) edge
+  pub known : way edge
   pub to : t.pc ≡ edge.to
   pub ready : t.ready ≡ c + edge.lag
   pub sleeps : t.own.sleep ≡ sleep
   pub later : 1 ≤ edge.lag
 
 pub issue-goes : (a : Around) (m : Contents) (c : ℕ) (t : Thread) → (edges_of (m.code t.pc) t.pc).stop ≡ No → is_trap (issue a m c t).effect ≡ false →
-    Gone c t.own.sleep (edges_of (m.code t.pc) t.pc) (issue a m c t).thread
+    Gone (Contains (edge_list (edges_of (m.code t.pc) t.pc))) c t.own.sleep (issue a m c t).thread
 unfolding issue effect_of acts_on
 issue-goes a m c t s h =
     let w : ℕ = m.code t.pc in

@@ -4,24 +4,17 @@ use Rattle.fp_setup.specs.declared.loop_list.LoopSetup.{LoopSetup}
 use Rattle.region_tree.specs.Graph.{Graph, Lies, Reachable}
 use Rattle.region_tree.specs.Graph.Reachable.{first, next}
 use Rattle.region_tree.specs.Tree.{graph}
-use Rattle.region_tree.specs.Walk.{CostsOf, Course, IsOwn, IsStep, IsWalk, Step, cost, counted, counter}
+use Rattle.region_tree.specs.Walk.{CostsOf, Course, IsStep, IsWalk, Step, cost, counted, counter}
 use Rattle.region_tree.specs.Walk.CostsOf.{ends, leaves}
 use Rattle.bound_calc.specs.Bound.{course}
 use Rattle.visit_bound.proofs.Links.{issues_follow_edges}
-use Rattle.visit_bound.specs.Laws.{AreLinked, Follows, VisitsAreBounded}
+use Rattle.visit_bound.proofs.Linking.{linked-after, linked-own}
+use Rattle.visit_bound.specs.Laws.{Along, EdgeOf, FollowEdges, VisitsAreBounded}
 use Rattle.visit_bound.specs.Visits.{GoOn, Issued, KeepsBounds, counter_at, first_of}
 
-linked-rest : (x : Course) (a : Issued) (l : List Issued) → AreLinked x (a ∷ l) → AreLinked x l
-linked-rest x a [] h = tt
-linked-rest x a (b ∷ more) h = h.0
-
-linked-after : (x : Course) (later l : List Issued) → AreLinked x (later ++ l) → AreLinked x l
-linked-after x [] l h = h
-linked-after x (a ∷ later) l h = linked-after x later l (linked-rest x a (later ++ l) h)
-
-linked-own : (x : Course) (a : Issued) (l : List Issued) → AreLinked x (a ∷ l) → IsOwn x.positions (a.cycle % length x.positions.frame)
-linked-own x a [] h = h
-linked-own x a (b ∷ more) h = h.1
+-- ways along the edges of a course
+abbrev Follows : Course → Issued → Issued → Type 0
+Follows x h i = Along (EdgeOf x.graph) x.positions h i
 
 -- the step from an issue to the one that follows it
 step_of : (x : Course) (h i : Issued) → Follows x h i → Step
@@ -39,11 +32,11 @@ record Walked (x : Course) (i : Issued) (before : List Issued) : Type 0 where
   counters : (j : LoopSetup) → counter j 0 steps ≡ counter_at j i before
   reached : Reachable x.graph i.pc
 
-walked : (x : Course) (i : Issued) (before earlier : List Issued) → AreLinked x (i ∷ (before ++ earlier)) → (first_of i before).pc ≡ x.graph.from → GoOn x.graph before → Lies x.graph i.pc →
+walked : (x : Course) (i : Issued) (before earlier : List Issued) → FollowEdges x (i ∷ (before ++ earlier)) → (first_of i before).pc ≡ x.graph.from → GoOn x.graph before → Lies x.graph i.pc →
     KeepsBounds x.graph.loops i before → Walked x i before
 walked x i [] earlier l starts on lies keeps = record {
   steps = [];
-  walk = record { own = linked-own x i earlier l; leads = (starts, refl); keeps = tt };
+  walk = record { own = linked-own (Reachable x.graph) (EdgeOf x.graph) x.positions i earlier l; leads = (starts, refl); keeps = tt };
   order = omega arith;
   long = omega arith;
   counters = λ j. refl;
@@ -76,7 +69,7 @@ lies-or g u = go (let z : (g.from ≤ u) ⊎ (u < g.from) = grind arith in z) (l
     go (inl a) (inr b) = inr (λ l. omega (arith, l.high))
     go (inr a) b = inr (λ l. omega (arith, l.low))
 
-bounded : (x : Course) (b : ℕ) → ((c : ℕ) → CostsOf x c → c ≤ b) → (last : Issued) (before earlier : List Issued) → AreLinked x (last ∷ (before ++ earlier)) → (first_of last before).pc ≡ x.graph.from →
+bounded : (x : Course) (b : ℕ) → ((c : ℕ) → CostsOf x c → c ≤ b) → (last : Issued) (before earlier : List Issued) → FollowEdges x (last ∷ (before ++ earlier)) → (first_of last before).pc ≡ x.graph.from →
     GoOn x.graph before → KeepsBounds x.graph.loops last before → Lies x.graph last.pc ⊎ (Lies x.graph last.pc → ⊥) → last.cycle - (first_of last before).cycle ≤ b
 bounded x b most last before earlier l starts on keeps (inl lies) =
     let w = walked x last before earlier l starts on lies keeps in
@@ -92,5 +85,5 @@ bounded x b most last (h ∷ before) earlier l starts on keeps (inr out) =
 pub visits_are_bounded : VisitsAreBounded
 visits_are_bounded t slots thread b s n is most host quiet last before v keeps =
     let x : Course = course t slots thread in
-    let links = subst (λ l. AreLinked x l) v.among (issues_follow_edges t slots thread s n is host quiet) in
-    bounded x b most last before v.earlier (linked-after x v.later (last ∷ (before ++ v.earlier)) links) v.starts v.goes_on keeps (lies-or (graph t) last.pc)
+    let links = subst (λ l. FollowEdges x l) v.among (issues_follow_edges t slots thread s n is host quiet) in
+    bounded x b most last before v.earlier (linked-after (Reachable x.graph) (EdgeOf x.graph) x.positions v.later (last ∷ (before ++ v.earlier)) links) v.starts v.goes_on keeps (lies-or (graph t) last.pc)

@@ -1,10 +1,10 @@
 -- In a quiet run the issues of a hard hart follow the ways of the words that are known.
-use Rattle.std.proofs.Common.{◌≡◌, ℕ, zero, suc, ◌+◌, ◌-◌, ◌*◌, ◌/◌, ◌%◌, ◌<◌, ◌≤◌, inl, inr, ◌⊎◌, true, false, List, [], ◌∷◌, length, ap, sym, ◌∙◌, subst, arith}
+use Rattle.std.proofs.Common.{◌≡◌, ℕ, zero, suc, ◌+◌, ◌-◌, ◌*◌, ◌/◌, ◌%◌, ◌<◌, ◌≤◌, inl, inr, ◌⊎◌, true, false, List, [], ◌∷◌, ◌++◌, length, ap, sym, ◌∙◌, subst, arith}
 use Rattle.std.specs.List.{list_all}
 use Rattle.std.proofs.Math.Nat.{add-mul-mod_self_right, mod-add-div', mul-le-mul_left}
 use Rattle.core_model.specs.Thread.{Thread}
 use Rattle.region_tree.specs.Graph.{Edge}
-use Rattle.region_tree.specs.Walk.{IsOwn}
+use Rattle.region_tree.specs.Walk.{IsOwn, Positions}
 use Rattle.slot_scheduler.specs.ModeWord.{mode_of}
 use Rattle.slot_table.specs.Frame.{frame}
 use Rattle.timer_unit.specs.Time.{time}
@@ -12,17 +12,9 @@ use Rattle.bound_calc.specs.Bound.{positions}
 use Rattle.world_model.specs.World.{Start, issue_of, leaves_registers, recent, thread_of, is_quiet, world}
 use Rattle.isolation.proofs.Induction.{quiet_before}
 use Rattle.visit_bound.proofs.Cycles.{Goes, Going, Stays, begins, cycles, goes_on}
-use Rattle.call_visits.specs.Laws.{Along, AreLinked}
+use Rattle.visit_bound.proofs.Instructions.{Gone}
+use Rattle.visit_bound.specs.Laws.{Along, AreLinked}
 use Rattle.visit_bound.specs.Visits.{Issued, is_trap, issues_of}
-
--- where an issue leads
-pub record Gone (way : Edge → Type 0) (c sleep : ℕ) (t : Thread) : Type 0 where
-  pub edge : Edge
-  pub known : way edge
-  pub to : t.pc ≡ edge.to
-  pub ready : t.ready ≡ c + edge.lag
-  pub sleeps : t.own.sleep ≡ sleep
-  pub later : 1 ≤ edge.lag
 
 -- at known words issues that don't trap go along a way
 abbrev pub Went : (ℕ → Type 0) → (ℕ → Edge → Type 0) → Start → ℕ → Type 0
@@ -163,3 +155,16 @@ pub linked_all : (known : ℕ → Type 0) (way : ℕ → Edge → Type 0) (s : S
     AreLinked known way (positions s.registers.slots i) (issues_of i (world s n).turns)
 unfolding world
 linked_all known way s i n went number eight hard quiet = (linked known way s i n went number eight hard quiet).links
+
+-- parts of linked issues
+pub linked-rest : (known : ℕ → Type 0) (way : ℕ → Edge → Type 0) (s : Positions) (a : Issued) (l : List Issued) → AreLinked known way s (a ∷ l) → AreLinked known way s l
+linked-rest known way s a [] h = tt
+linked-rest known way s a (b ∷ more) h = h.0
+
+pub linked-after : (known : ℕ → Type 0) (way : ℕ → Edge → Type 0) (s : Positions) (later l : List Issued) → AreLinked known way s (later ++ l) → AreLinked known way s l
+linked-after known way s [] l h = h
+linked-after known way s (a ∷ later) l h = linked-after known way s later l (linked-rest known way s a (later ++ l) h)
+
+pub linked-own : (known : ℕ → Type 0) (way : ℕ → Edge → Type 0) (s : Positions) (a : Issued) (l : List Issued) → AreLinked known way s (a ∷ l) → IsOwn s (a.cycle % length s.frame)
+linked-own known way s a [] h = h
+linked-own known way s a (b ∷ more) h = h.1
