@@ -3,9 +3,9 @@ use Rattle.std.specs.Prelude.{ℕ, ◌==◌, List, Option, Some, None, option_ma
 use Rattle.std.specs.Option.{option_map_or}
 use Rattle.std.specs.Str.{bytes_eq}
 use Rattle.ask_words.specs.Forms.{Text, Pairs, Form, gives, opens, bad, pairs, each_once, count_of}
-use Rattle.ask_words.specs.Commands.{CommandRow, run_row, dump_row, asm_row, bound_row, selfrun_row}
+use Rattle.ask_words.specs.Commands.{CommandRow, run_row, dump_row, asm_row, bound_row, selfrun_row, phases_row, solo_row, check_row, elf_row, calls_row}
 use Rattle.ask_words.specs.declared.command.Command.{Command}
-use Rattle.ask_words.specs.declared.command.Command.TheVariants.{Run, Dump, Asm, Bound, Selfrun}
+use Rattle.ask_words.specs.declared.command.Command.TheVariants.{Run, Dump, Asm, Bound, Selfrun, Phases, Solo, Check, Elf, Calls}
 use Rattle.ask_words.specs.declared.form.Form.{Form as CodeForm}
 use Rattle.ask_words.specs.declared.form.Form.TheVariants as code
 
@@ -16,6 +16,11 @@ row_of Dump = dump_row
 row_of Asm = asm_row
 row_of Bound = bound_row
 row_of Selfrun = selfrun_row
+row_of Phases = phases_row
+row_of Solo = solo_row
+row_of Check = check_row
+row_of Elf = elf_row
+row_of Calls = calls_row
 
 -- the form that the code found
 abbrev pub form_value : CodeForm → Form

@@ -4,7 +4,7 @@ use Rattle.std.specs.Str.{bytes_eq}
 use Rattle.ask_words.specs.Forms.{Text, texts_in}
 use Rattle.ask_words.specs.Numbers.{thread_in, number_in, address_in}
 use Rattle.ask_words.specs.declared.asked.Ask.{Ask}
-use Rattle.ask_words.specs.declared.asked.Ask.TheVariants.{Run, Dump, Asm, Bound, Selfrun}
+use Rattle.ask_words.specs.declared.asked.Ask.TheVariants.{Run, Dump, Asm, Bound, Selfrun, Phases, Solo, Check, Elf, Calls}
 
 -- a command: its name, its options in order, and what it asks by the file name (of `selfrun`: the number,
 -- which is given as a file name is) and the options' values in that order
@@ -50,6 +50,36 @@ abbrev pub selfrun_asks : List Text → Option Ask
 selfrun_asks (number ∷ []) = option_map Selfrun (number_in 4294967295 number)
 selfrun_asks _ = None
 
+abbrev pub phases_asks : List Text → Option Ask
+phases_asks (setup ∷ cycles ∷ []) = option_map (Phases setup) (cycles_in cycles)
+phases_asks _ = None
+
+abbrev pub solo_asks : List Text → Option Ask
+solo_asks (setup ∷ thread ∷ cycles ∷ []) = of_two (Solo setup) (thread_in thread) (cycles_in cycles)
+solo_asks _ = None
+
+-- a number of cycles that a trace is compared over, at most 1,000,000
+abbrev pub checked_cycles_in : Text → Option ℕ
+checked_cycles_in = number_in 1000000
+
+abbrev pub check_of : Text → Text → ℕ → ℕ → Ask
+check_of setup trace thread cycles = Check setup thread cycles trace
+
+abbrev pub check_asks : List Text → Option Ask
+check_asks (setup ∷ thread ∷ cycles ∷ trace ∷ []) = of_two (check_of setup trace) (thread_in thread) (checked_cycles_in cycles)
+check_asks _ = None
+
+abbrev pub elf_asks : List Text → Option Ask
+elf_asks (file ∷ []) = Some (Elf file)
+elf_asks _ = None
+
+abbrev pub calls_of : Text → Text → ℕ → ℕ → ℕ → Ask
+calls_of setup routines thread from to = Calls setup thread (record { from = from; to = to }) routines
+
+abbrev pub calls_asks : List Text → Option Ask
+calls_asks (setup ∷ thread ∷ from ∷ to ∷ routines ∷ []) = of_three (calls_of setup routines) (thread_in thread) (address_in from) (address_in to)
+calls_asks _ = None
+
 abbrev pub run_row : CommandRow
 run_row = record { name = codes "run"; options = codes "thread" ∷ codes "cycles" ∷ []; asks = run_asks }
 
@@ -65,8 +95,23 @@ bound_row = record { name = codes "bound"; options = codes "thread" ∷ codes "f
 abbrev pub selfrun_row : CommandRow
 selfrun_row = record { name = codes "selfrun"; options = []; asks = selfrun_asks }
 
+abbrev pub phases_row : CommandRow
+phases_row = record { name = codes "phases"; options = codes "cycles" ∷ []; asks = phases_asks }
+
+abbrev pub solo_row : CommandRow
+solo_row = record { name = codes "solo"; options = codes "thread" ∷ codes "cycles" ∷ []; asks = solo_asks }
+
+abbrev pub check_row : CommandRow
+check_row = record { name = codes "check"; options = codes "thread" ∷ codes "cycles" ∷ codes "trace" ∷ []; asks = check_asks }
+
+abbrev pub elf_row : CommandRow
+elf_row = record { name = codes "elf"; options = []; asks = elf_asks }
+
+abbrev pub calls_row : CommandRow
+calls_row = record { name = codes "calls"; options = codes "thread" ∷ codes "from" ∷ codes "to" ∷ codes "routines" ∷ []; asks = calls_asks }
+
 abbrev pub commands : List CommandRow
-commands = run_row ∷ dump_row ∷ asm_row ∷ bound_row ∷ selfrun_row ∷ []
+commands = run_row ∷ dump_row ∷ asm_row ∷ bound_row ∷ selfrun_row ∷ phases_row ∷ solo_row ∷ check_row ∷ elf_row ∷ calls_row ∷ []
 
 -- what the words after a command's name ask
 unfoldable pub asked : CommandRow → List Text → Option Ask

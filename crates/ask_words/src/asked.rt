@@ -51,6 +51,36 @@ pub enum Ask {
     Selfrun {
         number: u32,
     },
+    /// `phases SETUP --cycles n`: the settings of the scheduling in a run.
+    Phases {
+        setup: Name,
+        cycles: u64,
+    },
+    /// `solo SETUP --thread i --cycles n`: the trace of a thread from its view alone.
+    Solo {
+        setup: Name,
+        thread: u8,
+        cycles: u64,
+    },
+    /// `check SETUP --thread i --cycles n --trace FILE`: whether a file is that trace.
+    Check {
+        setup: Name,
+        thread: u8,
+        cycles: u64,
+        trace: Name,
+    },
+    /// `elf FILE`: the image of a static executable.
+    Elf {
+        file: Name,
+    },
+    /// `calls SETUP --thread i --from a --to b --routines FILE`: the bound of a section through the
+    /// routines of a file.
+    Calls {
+        setup: Name,
+        thread: u8,
+        section: Section,
+        routines: Name,
+    },
 }
 
 impl From<AllocError> for WordsNo {

@@ -8,4 +8,9 @@ pub enum Command {
     Asm,
     Bound,
     Selfrun,
+    Phases,
+    Solo,
+    Check,
+    Elf,
+    Calls,
 }

@@ -3,7 +3,7 @@
 ghost use Rattle.std.specs.Prelude.{◌≡◌, map, string_bytes, IfOk, IfErr, Some, option_map, find};
 ghost use Rattle.std.specs.Str.{bytes_eq};
 ghost use Rattle.ask_words.specs.Forms.{texts_in};
-ghost use Rattle.ask_words.specs.Commands.{ask, asked, commands, run_asks, dump_asks, asm_asks, bound_asks, selfrun_asks};
+ghost use Rattle.ask_words.specs.Commands.{ask, asked, commands, run_asks, dump_asks, asm_asks, bound_asks, selfrun_asks, phases_asks, solo_asks, check_asks, elf_asks, calls_asks};
 ghost use Rattle.ask_words.specs.Code.{row_of};
 ghost use Rattle.ask_words.specs.Causes.{IsCauseOf};
 ghost use Rattle.ask_words.specs.Limits.{IsWithinLimits};
@@ -18,6 +18,9 @@ use std::alloc::Global;
 /// The most cycles of a run.
 const MOST_CYCLES: u64 = 4_000_000_000;
 
+/// The most cycles of a run that a trace is compared with.
+const MOST_CHECKED_CYCLES: u64 = 1_000_000;
+
 /// The largest number of a large run.
 const MOST_NUMBER: u64 = 4_294_967_295;
 
@@ -31,6 +34,11 @@ fn command_named(name: &str) -> Option<Command>
         "asm" => Some(Command::Asm),
         "bound" => Some(Command::Bound),
         "selfrun" => Some(Command::Selfrun),
+        "phases" => Some(Command::Phases),
+        "solo" => Some(Command::Solo),
+        "check" => Some(Command::Check),
+        "elf" => Some(Command::Elf),
+        "calls" => Some(Command::Calls),
         _ => None,
     }
 }
@@ -50,6 +58,11 @@ fn texts_for<'a>(
         Command::Asm => texts_of(alloc, "asm", &[], words),
         Command::Bound => texts_of(alloc, "bound", &["thread", "from", "to"], words),
         Command::Selfrun => texts_of(alloc, "selfrun", &[], words),
+        Command::Phases => texts_of(alloc, "phases", &["cycles"], words),
+        Command::Solo => texts_of(alloc, "solo", &["thread", "cycles"], words),
+        Command::Check => texts_of(alloc, "check", &["thread", "cycles", "trace"], words),
+        Command::Elf => texts_of(alloc, "elf", &[], words),
+        Command::Calls => { texts_of(alloc, "calls", &["thread", "from", "to", "routines"], words) }
     }
 }
 
@@ -144,6 +157,104 @@ fn selfrun(texts: &[&str]) -> Result<Ask, WordsNo>
     }
 }
 
+/// `phases SETUP --cycles n`
+fn phases(alloc: Global, texts: &[&str]) -> Result<Ask, WordsNo>
+    ensures asked { IfOk result (λ a. phases_asks (map (λ t. t.now) texts.now) ≡ Some a) }
+    ensures refused { IfErr result (IsCauseOf (phases_asks (map (λ t. t.now) texts.now))) }
+    ensures limits { IfOk result IsWithinLimits }
+{
+    if texts.len() != 2 {
+        return Err(WordsNo::Usage);
+    }
+    match number_of(MOST_CYCLES, texts[1]) {
+        Some(cycles) => Ok(Ask::Phases {
+            setup: Name::from_str(alloc, texts[0])?,
+            cycles,
+        }),
+        None => Err(WordsNo::Usage),
+    }
+}
+
+/// `solo SETUP --thread i --cycles n`
+fn solo(alloc: Global, texts: &[&str]) -> Result<Ask, WordsNo>
+    ensures asked { IfOk result (λ a. solo_asks (map (λ t. t.now) texts.now) ≡ Some a) }
+    ensures refused { IfErr result (IsCauseOf (solo_asks (map (λ t. t.now) texts.now))) }
+    ensures limits { IfOk result IsWithinLimits }
+{
+    if texts.len() != 3 {
+        return Err(WordsNo::Usage);
+    }
+    match (thread_of(texts[1]), number_of(MOST_CYCLES, texts[2])) {
+        (Some(thread), Some(cycles)) => Ok(Ask::Solo {
+            setup: Name::from_str(alloc, texts[0])?,
+            thread,
+            cycles,
+        }),
+        _ => Err(WordsNo::Usage),
+    }
+}
+
+/// `check SETUP --thread i --cycles n --trace FILE`
+fn check(alloc: Global, texts: &[&str]) -> Result<Ask, WordsNo>
+    ensures asked { IfOk result (λ a. check_asks (map (λ t. t.now) texts.now) ≡ Some a) }
+    ensures refused { IfErr result (IsCauseOf (check_asks (map (λ t. t.now) texts.now))) }
+    ensures limits { IfOk result IsWithinLimits }
+{
+    if texts.len() != 4 {
+        return Err(WordsNo::Usage);
+    }
+    match (
+        thread_of(texts[1]),
+        number_of(MOST_CHECKED_CYCLES, texts[2]),
+    ) {
+        (Some(thread), Some(cycles)) => Ok(Ask::Check {
+            setup: Name::from_str(alloc, texts[0])?,
+            thread,
+            cycles,
+            trace: Name::from_str(alloc, texts[3])?,
+        }),
+        _ => Err(WordsNo::Usage),
+    }
+}
+
+/// `elf FILE`
+fn elf(alloc: Global, texts: &[&str]) -> Result<Ask, WordsNo>
+    ensures asked { IfOk result (λ a. elf_asks (map (λ t. t.now) texts.now) ≡ Some a) }
+    ensures refused { IfErr result (IsCauseOf (elf_asks (map (λ t. t.now) texts.now))) }
+    ensures limits { IfOk result IsWithinLimits }
+{
+    if texts.len() != 1 {
+        return Err(WordsNo::Usage);
+    }
+    Ok(Ask::Elf {
+        file: Name::from_str(alloc, texts[0])?,
+    })
+}
+
+/// `calls SETUP --thread i --from a --to b --routines FILE`
+fn calls(alloc: Global, texts: &[&str]) -> Result<Ask, WordsNo>
+    ensures asked { IfOk result (λ a. calls_asks (map (λ t. t.now) texts.now) ≡ Some a) }
+    ensures refused { IfErr result (IsCauseOf (calls_asks (map (λ t. t.now) texts.now))) }
+    ensures limits { IfOk result IsWithinLimits }
+{
+    if texts.len() != 5 {
+        return Err(WordsNo::Usage);
+    }
+    match (
+        thread_of(texts[1]),
+        address_of(texts[2]),
+        address_of(texts[3]),
+    ) {
+        (Some(thread), Some(from), Some(to)) => Ok(Ask::Calls {
+            setup: Name::from_str(alloc, texts[0])?,
+            thread,
+            section: Section { from, to },
+            routines: Name::from_str(alloc, texts[4])?,
+        }),
+        _ => Err(WordsNo::Usage),
+    }
+}
+
 /// What a command asks by its texts: the file name or number, and the options' values in order.
 fn ask_by(alloc: Global, command: Command, texts: &[&str]) -> Result<Ask, WordsNo>
     ensures asked { IfOk result (λ a. (row_of command).asks (map (λ t. t.now) texts.now) ≡ Some a) }
@@ -156,6 +267,11 @@ fn ask_by(alloc: Global, command: Command, texts: &[&str]) -> Result<Ask, WordsN
         Command::Asm => asm(alloc, texts),
         Command::Bound => bound(alloc, texts),
         Command::Selfrun => selfrun(texts),
+        Command::Phases => phases(alloc, texts),
+        Command::Solo => solo(alloc, texts),
+        Command::Check => check(alloc, texts),
+        Command::Elf => elf(alloc, texts),
+        Command::Calls => calls(alloc, texts),
     }
 }
 

@@ -11,10 +11,13 @@ use Rattle.fp_image.specs.Format.{longest, image_of, count_of}
 use Rattle.fp_asm.specs.Source.{assembled}
 use Rattle.trace_print.specs.declared.refusals.Refusal.TheVariants.{Setup, Image, Source}
 use Rattle.flexpret_top.specs.declared.stop.Stop.{Stop}
-use Rattle.flexpret_top.specs.declared.stop.Stop.TheVariants.{Refused, Read, NoMemory}
+use Rattle.flexpret_top.specs.declared.stop.Stop.TheVariants.{Refused, Differs, Read, NoMemory}
 use Rattle.flexpret_top.specs.Answer.{Answer, refused, over_file}
 use Rattle.flexpret_top.specs.Program.{setup_in, image_in}
+use Rattle.fp_elf.specs.Elf.{elf_of, loads_of}
+use Rattle.fp_elf.specs.Loads.{count_of as header_count}
 use Rattle.flexpret_top.specs.Assembled.{source_in}
+use Rattle.flexpret_top.specs.Elf.{elf_in}
 use Rattle.flexpret_top.specs.Stops.{IsStop, IsStopOf}
 
 -- a step over the first bytes, one more than the most, is that over the whole
@@ -55,6 +58,13 @@ source-long bytes past = let is : nat_lt 1048576 (length bytes) ≡ true = grind
 pub source-cut : IsCut source_in 1048576
 source-cut = cut_by source_in 1048576 (Err (refused (Source 0 1))) source-long
 
+elf-long : (bytes : List ℕ) → 4194304 < length bytes → elf_in bytes ≡ Err (refused (Image 31 0))
+unfolding elf_in elf_of loads_of header_count
+elf-long bytes past = let is : nat_lt 4194304 (length bytes) ≡ true = grind (arith, nat_tests) in rw is refl
+
+pub elf-cut : IsCut elf_in 4194304
+elf-cut = cut_by elf_in 4194304 (Err (refused (Image 31 0))) elf-long
+
 ok_over : {A : Type 0} → (over : List ℕ → Result A Answer) → (bytes : List ℕ) (most : ℕ) (r : Result A Answer) → IsCut over most → (o : Option (List ℕ)) →
     IsSomeAnd o (λ whole. bytes ≡ take (most + 1) whole) → over bytes ≡ r → over_file over o ≡ r
 ok_over over bytes most r cut None found is = absurd found
@@ -69,6 +79,7 @@ fetched-over (Some files) name over bytes most r cut fetched is = ok_over over b
 pub fetched-stop : {A : Type 0} → (told : Option FileMap) (name : List ℕ) (over : List ℕ → Result A Answer) (bytes : List ℕ) (most before after : ℕ) (stop : Stop) →
     IsCut over most → Fetched told name most bytes → IsStopOf (over bytes) stop → IsStop told (λ files x. over_file over (files name) ≡ Err x) before after stop
 fetched-stop told name over bytes most before after (Refused cause refusal) cut fetched is = fetched-over told name over bytes most _ cut fetched is
+fetched-stop told name over bytes most before after (Differs line) cut fetched is = fetched-over told name over bytes most _ cut fetched is
 fetched-stop told name over bytes most before after Read cut fetched is = absurd is
 fetched-stop told name over bytes most before after NoMemory cut fetched is = tt
 

@@ -7,11 +7,14 @@ use Rattle.fp_ports.specs.Rows.{Row}
 use Rattle.trace_print.specs.Text.{text}
 use Rattle.world_model.specs.World.{Start, events}
 use Rattle.machine.specs.declared.state.Machine.{Machine}
-use Rattle.machine.specs.Meaning.{StandsFor, HasRun, Stopped, AreLeft, PortsAfter}
+use Rattle.machine.specs.Meaning.{StandsFor, HasRun, Stopped, AreLeft}
 use Rattle.machine.proofs.WordLemmas.{ports_after}
 use Rattle.machine_model.specs.Seen.{seen}
 use Rattle.flexpret_top.specs.declared.ready.Ready.{Ready}
-use Rattle.flexpret_top.specs.Prepared.{Gone, Runs}
+use Rattle.phase_log.specs.Meaning.{HasLogged, LogStopped, StartsAs}
+use Rattle.phase_log.specs.Text.{phases_text}
+use Rattle.phase_model.specs.Phases.{phases}
+use Rattle.flexpret_top.specs.Prepared.{Gone, LeavesRun, Runs}
 
 abbrev pub Passes : Ready → List (Option Row) → Machine → List (Option Row) → Type 0
 Passes r first m rows = (s : Start) → StandsFor s 0 r.cycles r.machine first → Gone s r.cycles first m rows
@@ -35,13 +38,13 @@ pub gone-after : (s : Start) (k n : ℕ) (first : List (Option Row)) (m : Machin
 gone-after s k n first m rows end run = let Run : ℕ → Type 0 = λ c. HasRun s c n 0 first m rows None None in let whole = subst Run end run in record { stands = whole.stands; left = whole.left }
 
 -- what stands in the ports then
-pub ports-gone : (r : Ready) (first rows : List (Option Row)) (m : Machine) → Passes r first m rows → (s : Start) → StandsFor s 0 r.cycles r.machine first → PortsAfter s r.cycles first rows
-ports-gone r first rows m passes s st = let gone = passes s st in ports_after s r.cycles r.cycles m first rows gone.stands gone.left
+pub ports-gone : (r : Ready) (first rows : List (Option Row)) (m : Machine) → Passes r first m rows → LeavesRun r first rows
+ports-gone r first rows m passes s st starts = let gone = passes s st in ports_after s r.cycles r.cycles m first rows gone.stands gone.left
 
 pub ports-run : {A E : Type 0} → (r : Ready) (thread : ℕ) (first rows : List (Option Row)) (m : Machine) (before after : Option (List ℕ)) (put : Result A E) → AreLeft first rows →
     OnOk put ((s : Start) → StandsFor s 0 r.cycles r.machine first → HasRun s r.cycles r.cycles thread first m rows before after) →
-    OnOk put ((s : Start) → StandsFor s 0 r.cycles r.machine first → PortsAfter s r.cycles first rows)
-ports-run r thread first rows m before after (Ok x) words runs = λ s st. ports_after s r.cycles r.cycles m first rows (runs s st).stands words
+    OnOk put (LeavesRun r first rows)
+ports-run r thread first rows m before after (Ok x) words runs = λ s st starts. ports_after s r.cycles r.cycles m first rows (runs s st).stands words
 ports-run r thread first rows m before after (Err e) words runs = tt
 
 -- what a run puts
@@ -59,8 +62,30 @@ trace-err r thread first rows m before after (Ok x) run = tt
 trace-err r thread first rows m before after (Err e) run =
     λ written runs. (let Told : List ℕ → Type 0 = AppendsFront before after in subst Told (sym runs.text_is) (run runs.start runs.stands).put)
 
-pub left-by : {A E : Type 0} → (put : Result A E) (r : Ready) (first rows : List (Option Row)) → ((s : Start) → StandsFor s 0 r.cycles r.machine first → PortsAfter s r.cycles first rows) →
-    OnOk put ((s : Start) → StandsFor s 0 r.cycles r.machine first → PortsAfter s r.cycles first rows)
+-- what a run puts of its settings
+abbrev pub HasLoggedAll : Ready → List (Option Row) → Machine → List (Option Row) → Option (List ℕ) → Option (List ℕ) → Type 0
+HasLoggedAll r first m rows before after = (s : Start) → StartsAs s r.setup → StandsFor s 0 r.cycles r.machine first → HasLogged s r.cycles r.cycles first m rows before after
+
+pub phases-ok : {A E : Type 0} → (r : Ready) (first rows : List (Option Row)) (m : Machine) (before after : Option (List ℕ)) (put : Result A E) →
+    OnOk put (HasLoggedAll r first m rows before after) →
+    OnOk put ((written : List ℕ) → Runs r first (λ s. phases_text (phases s r.cycles)) written → Appends before after written)
+phases-ok r first rows m before after (Ok x) logs =
+    λ written runs. (let Told : List ℕ → Type 0 = Appends before after in subst Told (sym runs.text_is) (logs runs.start runs.starts runs.stands).put)
+phases-ok r first rows m before after (Err e) logs = tt
+
+pub phases-err : {A E : Type 0} → (r : Ready) (first rows : List (Option Row)) (m : Machine) (before after : Option (List ℕ)) (put : Result A E) →
+    OnErr put ((s : Start) → StartsAs s r.setup → StandsFor s 0 r.cycles r.machine first → LogStopped s r.cycles first m rows before after) →
+    OnErr put ((written : List ℕ) → Runs r first (λ s. phases_text (phases s r.cycles)) written → AppendsFront before after written)
+phases-err r first rows m before after (Ok x) logs = tt
+phases-err r first rows m before after (Err e) logs =
+    λ written runs. (let Told : List ℕ → Type 0 = AppendsFront before after in subst Told (sym runs.text_is) (logs runs.start runs.starts runs.stands).put)
+
+pub phases-left : {A E : Type 0} → (r : Ready) (first rows : List (Option Row)) (m : Machine) (before after : Option (List ℕ)) (put : Result A E) → AreLeft first rows →
+    OnOk put (HasLoggedAll r first m rows before after) → OnOk put (LeavesRun r first rows)
+phases-left r first rows m before after (Ok x) words logs = λ s st starts. ports_after s r.cycles r.cycles m first rows (logs s starts st).stands words
+phases-left r first rows m before after (Err e) words logs = tt
+
+pub left-by : {A E : Type 0} → (put : Result A E) (r : Ready) (first rows : List (Option Row)) → LeavesRun r first rows → OnOk put (LeavesRun r first rows)
 left-by (Ok x) r first rows left = left
 left-by (Err e) r first rows left = tt
 

@@ -9,10 +9,10 @@ use Rattle.ask_words.specs.Commands.{ask}
 use Rattle.ask_words.specs.declared.asked.Ask.{Ask}
 use Rattle.flexpret_top.specs.declared.ready.Prepared.{Prepared}
 use Rattle.flexpret_top.specs.declared.status.Status.{Status}
-use Rattle.flexpret_top.specs.declared.status.Status.TheVariants.{Ok, Usage, Setup, Image, Source, Bound, Read, Write, NoMemory}
+use Rattle.flexpret_top.specs.declared.status.Status.TheVariants.{Ok, Differs, Usage, Setup, Image, Source, Bound, Read, Write, NoMemory, Routines}
 use Rattle.flexpret_top.specs.Answer.{IsAnswered}
 use Rattle.flexpret_top.specs.Answer.Answer.{Says, Missing}
-use Rattle.flexpret_top.specs.Command.{IsAnswer, IsAnswerIn, IsAnswerTo, IsApart, IsApartBy, Leaves, LeavesBy, Said, Began, Answered}
+use Rattle.flexpret_top.specs.Command.{IsAnswer, IsAnswerIn, IsAnswerTo, IsApart, IsApartBy, OnlyReads, OnlyReadsBy, Leaves, LeavesBy, Said, Began, Answered}
 use Rattle.flexpret_top.specs.Prepared.{Delivers, LeavesPorts, Prepares}
 use Rattle.flexpret_top.specs.Status.{IsStatus, number_of}
 
@@ -41,11 +41,12 @@ left-of (Some files) asked ports fed last p prepares left = prepares.leaves last
 -- a status by its number
 status_by : ℕ → Status
 status_by n =
-    if n == 0 then Ok else if n == 2 then Usage else if n == 3 then Setup else if n == 4 then Image else if n == 5 then Source else if n == 6 then Bound else if n == 7 then Read else if n == 8 then Write else NoMemory
+    if n == 0 then Ok else if n == 1 then Differs else if n == 2 then Usage else if n == 3 then Setup else if n == 4 then Image else if n == 5 then Source else if n == 6 then Bound else if n == 7 then Read else if n == 8 then Write else if n == 9 then NoMemory else Routines
 
 by_number : (s : Status) → status_by (number_of s) ≡ s
 unfolding status_by
 by_number Ok = refl
+by_number Differs = refl
 by_number Usage = refl
 by_number Setup = refl
 by_number Image = refl
@@ -54,20 +55,23 @@ by_number Bound = refl
 by_number Read = refl
 by_number Write = refl
 by_number NoMemory = refl
+by_number Routines = refl
 
 pub status-of : (s other : Status) → number_of s ≡ number_of other → s ≡ other
 status-of s other e = sym (by_number s) ∙ (ap status_by e ∙ by_number other)
 
 is_status : (s : Status) → IsStatus (number_of s)
 is_status Ok = inl refl
-is_status Usage = inr (inl refl)
-is_status Setup = inr (inr (inl refl))
-is_status Image = inr (inr (inr (inl refl)))
-is_status Source = inr (inr (inr (inr (inl refl))))
-is_status Bound = inr (inr (inr (inr (inr (inl refl)))))
-is_status Read = inr (inr (inr (inr (inr (inr (inl refl))))))
-is_status Write = inr (inr (inr (inr (inr (inr (inr (inl refl)))))))
-is_status NoMemory = inr (inr (inr (inr (inr (inr (inr (inr refl)))))))
+is_status Differs = inr (inl refl)
+is_status Usage = inr (inr (inl refl))
+is_status Setup = inr (inr (inr (inl refl)))
+is_status Image = inr (inr (inr (inr (inl refl))))
+is_status Source = inr (inr (inr (inr (inr (inl refl)))))
+is_status Bound = inr (inr (inr (inr (inr (inr (inl refl))))))
+is_status Read = inr (inr (inr (inr (inr (inr (inr (inl refl)))))))
+is_status Write = inr (inr (inr (inr (inr (inr (inr (inr (inl refl))))))))
+is_status NoMemory = inr (inr (inr (inr (inr (inr (inr (inr (inr (inl refl)))))))))
+is_status Routines = inr (inr (inr (inr (inr (inr (inr (inr (inr (inr refl)))))))))
 
 pub number-of : (s : Status) (n : ℕ) → n ≡ number_of s → IsStatus n
 number-of s n is = let Is : ℕ → Type 0 = IsStatus in subst Is (sym is) (is_status s)
@@ -88,9 +92,6 @@ ok-no_nothing (inr e) = cc
 pub write-no_ok : Write ≡ Ok → ⊥
 write-no_ok e = cc
 
-pub write-no_small : number_of Write < 7 → ⊥
-write-no_small small = omega (arith, small)
-
 pub write-no_nothing : (Write ≡ Read) ⊎ (Write ≡ NoMemory) → ⊥
 write-no_nothing (inl e) = cc
 write-no_nothing (inr e) = cc
@@ -102,13 +103,13 @@ answered-of None asked ports fed p prepares = tt
 answered-of (Some files) asked ports fed p prepares = inr (record { answer = Says 0 prepares.written; is = prepares.is; answered = refl })
 
 -- what a command said is what the words that ask it say
-pub said-of : (told : Option FileMap) (words : List (List ℕ)) (asked : Ask) (ports : List (Option Row)) (s : Status) (n : ℕ) (before after : Option (List ℕ)) → ask words ≡ Some asked → n ≡ number_of s → n < 7 →
-    (number_of s < 7 → IfSome told (λ files. Said (IsAnswerIn asked ports files) (number_of s) before after)) → IfSome told (λ files. Said (IsAnswer words files ports) n before after)
-said-of told words asked ports s n before after is number small said =
-    let Small : ℕ → Type 0 = λ k. k < 7 in
+pub said-of : (told : Option FileMap) (words : List (List ℕ)) (asked : Ask) (ports : List (Option Row)) (s : Status) (n : ℕ) (before after : Option (List ℕ)) → ask words ≡ Some asked → n ≡ number_of s →
+    (n ≡ 7 → ⊥) → (n ≡ 8 → ⊥) → (n ≡ 9 → ⊥) → ((s ≡ Read → ⊥) → (s ≡ Write → ⊥) → (s ≡ NoMemory → ⊥) → IfSome told (λ files. Said (IsAnswerIn asked ports files) (number_of s) before after)) → IfSome told (λ files. Said (IsAnswer words files ports) n before after)
+said-of told words asked ports s n before after is number read write memory said =
+    let told_by = said (λ e. read (number ∙ ap number_of e)) (λ e. write (number ∙ ap number_of e)) (λ e. memory (number ∙ ap number_of e)) in
     let Of : ℕ → Type 0 = λ k. IfSome told (λ files. Said (IsAnswerIn asked ports files) k before after) in
     let By : Option Ask → Type 0 = λ o. IfSome told (λ files. Said (IsAnswerTo o files ports) n before after) in
-    subst By (sym is) (subst Of (sym number) (said (subst Small number small)))
+    subst By (sym is) (subst Of (sym number) told_by)
 
 -- the answer of a command is that of the words that ask it
 pub complete-of : (told : Option FileMap) (words : List (List ℕ)) (asked : Ask) (ports : List (Option Row)) (s : Status) (n : ℕ) → ask words ≡ Some asked → n ≡ number_of s →
@@ -141,3 +142,12 @@ apart-by words asked is apart = let By : Option Ask → Type 0 = IsApartBy in su
 
 pub asks-some : (words : List (List ℕ)) (asked : Ask) → ask words ≡ Some asked → ask words ≡ None → ⊥
 asks-some words asked is nothing = cc
+
+pub reads-by : (words : List (List ℕ)) (asked : Ask) → ask words ≡ Some asked → OnlyReadsBy (ask words) → OnlyReads asked
+reads-by words asked is reads = let By : Option Ask → Type 0 = OnlyReadsBy in subst By is reads
+
+pub ok-no_difference : Ok ≡ Differs → ⊥
+ok-no_difference e = cc
+
+pub write-no_difference : Write ≡ Differs → ⊥
+write-no_difference e = cc

@@ -1,27 +1,46 @@
 -- The promises for one hart, from what a command said.
-use Rattle.std.proofs.Common.{◌≡◌, ℕ, ◌<◌, List, Option, Some, None, Result, inl, inr, refl, ap, sym, subst, ◌∙◌, arith, nat_lt, true}
+use Rattle.std.proofs.Common.{◌≡◌, ℕ, ◌<◌, List, Option, Some, None, Result, Ok, Err, inl, inr, refl, ap, sym, subst, ◌∙◌, arith, nat_lt, true}
 use Rattle.std.specs.Prelude.{IfSome, option_map}
 use Rattle.std.specs.Io.KnownBytes.{Appends}
 use Rattle.fp_io.specs.Content.{FileMap}
 use Rattle.fp_ports.specs.Rows.{Row}
 use Rattle.ask_words.specs.declared.asked.Ask.{Ask}
-use Rattle.ask_words.specs.declared.asked.Ask.TheVariants.{Run, Dump, Asm, Bound, Selfrun}
+use Rattle.ask_words.specs.declared.asked.Ask.TheVariants.{Run, Dump, Asm, Bound, Selfrun, Phases, Solo, Check, Elf, Calls}
+use Rattle.call_bounds.specs.Listing.{calls}
+use Rattle.call_bounds.specs.RoutinesFile.{routines_of}
+use Rattle.call_bounds.specs.declared.refusals.RoutinesRefused.{RoutinesRefused}
+use Rattle.call_bounds.specs.declared.refusals.RoutinesRefused.TheVariants as in_list
+use Rattle.call_bounds.specs.declared.routines.Routine.{Routine}
+use Rattle.call_bounds.specs.declared.tree.CallNo.{CallNo}
+use Rattle.call_bounds.specs.declared.tree.CallNo.TheVariants as in_calls
+use Rattle.fp_elf.specs.Elf.{elf_of}
+use Rattle.fp_elf.specs.Law.{ReadsBack}
+use Rattle.fp_elf.specs.declared.refusals.ElfRefused.{ElfRefused}
+use Rattle.fp_elf.specs.declared.refusals.ElfRefused.TheVariants.{Fault, NoMemory}
+use Rattle.fp_image.specs.Format.{written}
+use Rattle.fp_image.specs.declared.parts.Segment.{Segment}
 use Rattle.region_tree.specs.Tree.{Tree}
 use Rattle.region_tree.specs.declared.section.Section.{Section}
 use Rattle.region_tree.specs.declared.tree.TreeNo.{TreeNo}
 use Rattle.region_tree.specs.declared.tree.TreeNo.TheVariants as in_tree
-use Rattle.setup_laws.specs.Laws.{TraceAlone}
+use Rattle.setup_laws.specs.Laws.{IsConfinedHard, TraceAlone, TraceByPhases}
+use Rattle.fp_setup.specs.Settings.{size_of}
+use Rattle.setup_visits.specs.CallLaws.{CallVisitsStayBounded}
 use Rattle.setup_visits.specs.Laws.{VisitsStayBounded}
 use Rattle.trace_print.specs.declared.refusals.Refusal.TheVariants as refusal
 use Rattle.flexpret_top.specs.Bound.{IsBoundAnswer, IsSectionAnswer, section_fault, section_tree}
-use Rattle.flexpret_top.specs.Codes.{tree_refusal}
+use Rattle.flexpret_top.specs.Calls.{IsCallsAnswer, IsRoutinesAnswer, IsSectionCallsAnswer, of_routines, routines_in, section_listing}
+use Rattle.flexpret_top.specs.Codes.{call_refusal, tree_refusal}
 use Rattle.flexpret_top.specs.declared.program.Program.{Program}
-use Rattle.flexpret_top.specs.Answer.{Answer, IsSaid, refused, then_by, ends}
+use Rattle.flexpret_top.specs.Answer.{Answer, IsSaid, refused, then_by, over_file, ends}
+use Rattle.flexpret_top.specs.Alone.{alone_fault, alone_in, alone_of, alone_program}
+use Rattle.flexpret_top.specs.Elf.{elf_in, of_elf}
 use Rattle.ask_words.specs.Commands.{ask}
 use Rattle.flexpret_top.specs.declared.status.Status.{Status}
+use Rattle.flexpret_top.specs.declared.status.Status.TheVariants.{Read, Write, NoMemory as OutOfMemory}
 use Rattle.flexpret_top.specs.Status.{number_of}
 use Rattle.flexpret_top.specs.Command.{IsAnswerIn, IsAnswerTo, Said}
-use Rattle.flexpret_top.specs.Headline.{BoundsVisits, IsLongest, WritesAlone, machine_of}
+use Rattle.flexpret_top.specs.Headline.{BoundsCallVisits, BoundsVisits, IsImported, IsLongest, IsLongestByCalls, WritesAlone, WritesAsRun, WritesByPhases, WritesImage, machine_of}
 use Rattle.flexpret_top.specs.Run.{trace_of}
 
 -- over one map of files
@@ -38,15 +57,107 @@ alone-over law (Some (Dump setup n)) files ports before after said = tt
 alone-over law (Some (Asm source)) files ports before after said = tt
 alone-over law (Some (Bound setup i section)) files ports before after said = tt
 alone-over law (Some (Selfrun number)) files ports before after said = tt
+alone-over law (Some (Phases setup n)) files ports before after said = tt
+alone-over law (Some (Solo setup i n)) files ports before after said = tt
+alone-over law (Some (Check setup i n trace)) files ports before after said = tt
+alone-over law (Some (Elf file)) files ports before after said = tt
+alone-over law (Some (Calls setup i section routines)) files ports before after said = tt
 
 pub alone-of : TraceAlone → (told : Option FileMap) (asked : Option Ask) (ports : List (Option Row)) (before after : Option (List ℕ)) →
     IfSome told (λ files. Said (IsAnswerTo asked files ports) 0 before after) → IfSome told (λ files. WritesAlone asked files ports before after)
 alone-of law None asked ports before after said = tt
 alone-of law (Some files) asked ports before after said = alone-over law asked files ports before after said
 
+-- a hard and confined thread has no fault
+no-fault : (p : Program) (i : ℕ) (ports : List (Option Row)) → IsConfinedHard (machine_of p ports) i → alone_in i p ≡ Ok p
+unfolding alone_fault
+no-fault p i ports hard = rw (hard.hard, hard.confined) refl
+
+as-run-over : TraceAlone → (asked : Option Ask) (files : FileMap) (ports : List (Option Row)) (before after : Option (List ℕ)) → Said (IsAnswerTo asked files ports) 0 before after → WritesAsRun asked files ports before after
+as-run-over law None files ports before after said = tt
+as-run-over law (Some (Solo setup i n)) files ports before after said =
+    λ p is hard quiet. (
+    let accepted : alone_program files setup i ≡ Ok p = ap (λ (q : Result Program Answer). then_by q (alone_in i)) is ∙ no-fault p i ports hard in
+    let answers = ap (λ (q : Result Program Answer). ends (then_by q (alone_of ports i n))) accepted in
+    let Tells : Answer → Type 0 = IsSaid 0 before after in
+    let told = subst Tells (said.is ∙ answers) said.said in
+    let Told : List ℕ → Type 0 = Appends before after in
+    subst Told (sym (law (machine_of p ports) i n hard quiet)) told.1)
+as-run-over law (Some (Run setup i n)) files ports before after said = tt
+as-run-over law (Some (Dump setup n)) files ports before after said = tt
+as-run-over law (Some (Asm source)) files ports before after said = tt
+as-run-over law (Some (Bound setup i section)) files ports before after said = tt
+as-run-over law (Some (Selfrun number)) files ports before after said = tt
+as-run-over law (Some (Phases setup n)) files ports before after said = tt
+as-run-over law (Some (Check setup i n trace)) files ports before after said = tt
+as-run-over law (Some (Elf file)) files ports before after said = tt
+as-run-over law (Some (Calls setup i section routines)) files ports before after said = tt
+
+pub as-run-of : TraceAlone → (told : Option FileMap) (asked : Option Ask) (ports : List (Option Row)) (before after : Option (List ℕ)) →
+    IfSome told (λ files. Said (IsAnswerTo asked files ports) 0 before after) → IfSome told (λ files. WritesAsRun asked files ports before after)
+as-run-of law None asked ports before after said = tt
+as-run-of law (Some files) asked ports before after said = as-run-over law asked files ports before after said
+
+phased-over : TraceByPhases → (asked : Option Ask) (files : FileMap) (ports : List (Option Row)) (before after : Option (List ℕ)) → Said (IsAnswerTo asked files ports) 0 before after → WritesByPhases asked files ports before after
+phased-over law None files ports before after said = tt
+phased-over law (Some (Run setup i n)) files ports before after said =
+    λ p is confined kept. (
+    let answers = ap (λ (q : Result Program Answer). ends (then_by q (trace_of ports i n))) is in
+    let Tells : Answer → Type 0 = IsSaid 0 before after in
+    let told = subst Tells (said.is ∙ answers) said.said in
+    let Told : List ℕ → Type 0 = Appends before after in
+    subst Told (law (machine_of p ports) i n confined kept) told.1)
+phased-over law (Some (Dump setup n)) files ports before after said = tt
+phased-over law (Some (Asm source)) files ports before after said = tt
+phased-over law (Some (Bound setup i section)) files ports before after said = tt
+phased-over law (Some (Selfrun number)) files ports before after said = tt
+phased-over law (Some (Phases setup n)) files ports before after said = tt
+phased-over law (Some (Solo setup i n)) files ports before after said = tt
+phased-over law (Some (Check setup i n trace)) files ports before after said = tt
+phased-over law (Some (Elf file)) files ports before after said = tt
+phased-over law (Some (Calls setup i section routines)) files ports before after said = tt
+
+pub phased-of : TraceByPhases → (told : Option FileMap) (asked : Option Ask) (ports : List (Option Row)) (before after : Option (List ℕ)) →
+    IfSome told (λ files. Said (IsAnswerTo asked files ports) 0 before after) → IfSome told (λ files. WritesByPhases asked files ports before after)
+phased-of law None asked ports before after said = tt
+phased-of law (Some files) asked ports before after said = phased-over law asked files ports before after said
+
 -- a refusal isn't status 0
 no-zero : (status : ℕ) → 0 ≡ status → (nat_lt 0 status ≡ true) → ⊥
 no-zero status is more = let e : nat_lt 0 0 ≡ true = rw (sym is) at more in cc
+
+-- the image of an executable, by what its definition gives
+elf-imported : ReadsBack → (file : List ℕ) (before after : Option (List ℕ)) (image : Result (List Segment) ElfRefused) → elf_of file ≡ image →
+    IsSaid 0 before after (ends (then_by (of_elf image) (λ segments. Ok (written segments)))) → IsImported file before after
+elf-imported law file before after (Ok image) is said = record { image = image; defined = is; bytes = written image; wrote = said.1; read_back = law file image is }
+elf-imported law file before after (Err (Fault code offset)) is said = absurd (no-zero 4 said.0 refl)
+elf-imported law file before after (Err NoMemory) is said = absurd (no-zero 9 said.0 refl)
+
+file-imported : ReadsBack → (bytes : List ℕ) (before after : Option (List ℕ)) → IsSaid 0 before after (ends (then_by (elf_in bytes) (λ segments. Ok (written segments)))) → IsImported bytes before after
+unfolding elf_in
+file-imported law bytes before after said = elf-imported law bytes before after (elf_of bytes) refl said
+
+imported-over : ReadsBack → (asked : Option Ask) (files : FileMap) (ports : List (Option Row)) (before after : Option (List ℕ)) → Said (IsAnswerTo asked files ports) 0 before after → WritesImage asked files before after
+imported-over law None files ports before after said = tt
+imported-over law (Some (Run setup i n)) files ports before after said = tt
+imported-over law (Some (Dump setup n)) files ports before after said = tt
+imported-over law (Some (Asm source)) files ports before after said = tt
+imported-over law (Some (Bound setup i section)) files ports before after said = tt
+imported-over law (Some (Selfrun number)) files ports before after said = tt
+imported-over law (Some (Phases setup n)) files ports before after said = tt
+imported-over law (Some (Solo setup i n)) files ports before after said = tt
+imported-over law (Some (Check setup i n trace)) files ports before after said = tt
+imported-over law (Some (Calls setup i section routines)) files ports before after said = tt
+imported-over law (Some (Elf name)) files ports before after said =
+    λ bytes there. (
+    let answers = ap (λ (file : Option (List ℕ)). ends (then_by (over_file elf_in file) (λ segments. Ok (written segments)))) there in
+    let Tells : Answer → Type 0 = IsSaid 0 before after in
+    file-imported law bytes before after (subst Tells (said.is ∙ answers) said.said))
+
+pub imported-of : ReadsBack → (told : Option FileMap) (asked : Option Ask) (ports : List (Option Row)) (before after : Option (List ℕ)) →
+    IfSome told (λ files. Said (IsAnswerTo asked files ports) 0 before after) → IfSome told (λ files. WritesImage asked files before after)
+imported-of law None asked ports before after said = tt
+imported-of law (Some files) asked ports before after said = imported-over law asked files ports before after said
 
 refused-said : (x : Answer) (code address : ℕ) (before after : Option (List ℕ)) → Some x ≡ Some (refused (refusal.Bound code address)) → IsSaid 0 before after x → ⊥
 refused-said x code address before after line said =
@@ -84,6 +195,11 @@ visits-over law (Some (Run setup i n)) files ports before after said = tt
 visits-over law (Some (Dump setup n)) files ports before after said = tt
 visits-over law (Some (Asm source)) files ports before after said = tt
 visits-over law (Some (Selfrun number)) files ports before after said = tt
+visits-over law (Some (Phases setup n)) files ports before after said = tt
+visits-over law (Some (Solo setup i n)) files ports before after said = tt
+visits-over law (Some (Check setup i n trace)) files ports before after said = tt
+visits-over law (Some (Elf file)) files ports before after said = tt
+visits-over law (Some (Calls setup i section routines)) files ports before after said = tt
 visits-over law (Some (Bound setup i section)) files ports before after said =
     λ p is. (
     let s : Section = record { from = section.from; to = section.to } in
@@ -95,13 +211,81 @@ pub visits-of : VisitsStayBounded → (told : Option FileMap) (asked : Option As
 visits-of law None asked ports before after said = tt
 visits-of law (Some files) asked ports before after said = visits-over law asked files ports before after said
 
+call-refused : (no : CallNo) (x : Answer) (before after : Option (List ℕ)) → Some x ≡ option_map refused (call_refusal no) → IsSaid 0 before after x → ⊥
+call-refused (in_calls.Nesting a) x before after line said = refused-said x 1 a before after line said
+call-refused (in_calls.IndirectJump a) x before after line said = refused-said x 2 a before after line said
+call-refused (in_calls.TimedWait a) x before after line said = refused-said x 3 a before after line said
+call-refused (in_calls.UnboundedBackEdge a) x before after line said = refused-said x 4 a before after line said
+call-refused (in_calls.Overlap a) x before after line said = refused-said x 8 a before after line said
+call-refused (in_calls.Recursion a) x before after line said = refused-said x 9 a before after line said
+call-refused (in_calls.Escape a) x before after line said = refused-said x 10 a before after line said
+call-refused in_calls.NoMemory x before after line said = cc
+
+-- over the routines of a file
+listed-longest : CallVisitsStayBounded → (p : Program) (i : ℕ) (section : Section) (file : List ℕ) (before after : Option (List ℕ)) (x : Answer) (r : Result (List Routine) RoutinesRefused) →
+    routines_of (size_of p.setup.version) file ≡ r → IsRoutinesAnswer p i section (of_routines r) x → IsSaid 0 before after x → IsLongestByCalls p i section file before after
+listed-longest law p i section file before after x (Ok routines) listed (inl bad) said = absurd (call-refused bad.no x before after bad.line said)
+listed-longest law p i section file before after x (Ok routines) listed (inr (inl large)) said =
+    let Tells : Answer → Type 0 = IsSaid 0 before after in absurd (no-zero 6 (subst Tells large.line said).0 refl)
+listed-longest law p i section file before after x (Ok routines) listed (inr (inr bounded)) said =
+    let Tells : Answer → Type 0 = IsSaid 0 before after in
+    record {
+      routines = routines;
+      listed = listed;
+      cycles = bounded.cycles;
+      wrote = (subst Tells bounded.line said).1;
+      met = bounded.is;
+      longest = λ m n alike quiet last earlier visit returns keeps.
+          law (calls (section_listing p section routines)) p.setup.slots i bounded.cycles m n bounded.listing bounded.accepted bounded.is.kept alike quiet last earlier visit returns keeps;
+    }
+listed-longest law p i section file before after x (Err (in_list.Fault line code)) listed same said =
+    let Tells : Answer → Type 0 = IsSaid 0 before after in absurd (no-zero 10 (subst Tells same said).0 refl)
+listed-longest law p i section file before after x (Err in_list.NoMemory) listed same said =
+    let Tells : Answer → Type 0 = IsSaid 0 before after in absurd (no-zero 9 (subst Tells same said).0 refl)
+
+routines-longest : CallVisitsStayBounded → (p : Program) (i : ℕ) (section : Section) (file : List ℕ) (before after : Option (List ℕ)) (x : Answer) →
+    IsRoutinesAnswer p i section (routines_in (size_of p.setup.version) file) x → IsSaid 0 before after x → IsLongestByCalls p i section file before after
+unfolding routines_in
+routines-longest law p i section file before after x is said = listed-longest law p i section file before after x (routines_of (size_of p.setup.version) file) refl is said
+
+calls-longest : CallVisitsStayBounded → (p : Program) (i : ℕ) (section : Section) (file : List ℕ) (before after : Option (List ℕ)) (fault : Option ℕ) (x : Answer) →
+    IsSectionCallsAnswer p i section (Some file) fault x → IsSaid 0 before after x → IsLongestByCalls p i section file before after
+calls-longest law p i section file before after (Some code) x is said =
+    let Tells : Answer → Type 0 = IsSaid 0 before after in absurd (no-zero 3 (subst Tells is said).0 refl)
+calls-longest law p i section file before after None x is said = routines-longest law p i section file before after x is said
+
+call-visits-over : CallVisitsStayBounded → (asked : Option Ask) (files : FileMap) (ports : List (Option Row)) (before after : Option (List ℕ)) → Said (IsAnswerTo asked files ports) 0 before after → BoundsCallVisits asked files before after
+call-visits-over law None files ports before after said = tt
+call-visits-over law (Some (Run setup i n)) files ports before after said = tt
+call-visits-over law (Some (Dump setup n)) files ports before after said = tt
+call-visits-over law (Some (Asm source)) files ports before after said = tt
+call-visits-over law (Some (Bound setup i section)) files ports before after said = tt
+call-visits-over law (Some (Selfrun number)) files ports before after said = tt
+call-visits-over law (Some (Phases setup n)) files ports before after said = tt
+call-visits-over law (Some (Solo setup i n)) files ports before after said = tt
+call-visits-over law (Some (Check setup i n trace)) files ports before after said = tt
+call-visits-over law (Some (Elf file)) files ports before after said = tt
+call-visits-over law (Some (Calls setup i section routines)) files ports before after said =
+    λ p file is there. (
+    let s : Section = record { from = section.from; to = section.to } in
+    let Answers : Result Program Answer → Type 0 = λ q. IsCallsAnswer q i s (files routines) said.answer in
+    let In : Option (List ℕ) → Type 0 = λ o. IsCallsAnswer (Ok p) i s o said.answer in
+    calls-longest law p i s file before after (section_fault p.setup i s) said.answer (subst In there (subst Answers is said.is)) said.said)
+
+pub call-visits-of : CallVisitsStayBounded → (told : Option FileMap) (asked : Option Ask) (ports : List (Option Row)) (before after : Option (List ℕ)) →
+    IfSome told (λ files. Said (IsAnswerTo asked files ports) 0 before after) → IfSome told (λ files. BoundsCallVisits asked files before after)
+call-visits-of law None asked ports before after said = tt
+call-visits-of law (Some files) asked ports before after said = call-visits-over law asked files ports before after said
+
 -- what the words' command said with status 0
 pub said-zero : (told : Option FileMap) (words : List (List ℕ)) (asked : Ask) (ports : List (Option Row)) (s : Status) (n : ℕ) (before after : Option (List ℕ)) → ask words ≡ Some asked → n ≡ number_of s → n ≡ 0 →
-    (number_of s < 7 → IfSome told (λ files. Said (IsAnswerIn asked ports files) (number_of s) before after)) →
+    ((s ≡ Read → ⊥) → (s ≡ Write → ⊥) → (s ≡ OutOfMemory → ⊥) → IfSome told (λ files. Said (IsAnswerIn asked ports files) (number_of s) before after)) →
     IfSome told (λ files. Said (IsAnswerTo (ask words) files ports) 0 before after)
 said-zero told words asked ports s n before after is number zero said =
     let nought : number_of s ≡ 0 = sym number ∙ zero in
-    let small : number_of s < 7 = omega (arith, nought) in
+    let read : s ≡ Read → ⊥ = λ e. (let n = ap number_of e in omega (arith, nought, n)) in
+    let write : s ≡ Write → ⊥ = λ e. (let n = ap number_of e in omega (arith, nought, n)) in
+    let memory : s ≡ OutOfMemory → ⊥ = λ e. (let n = ap number_of e in omega (arith, nought, n)) in
     let First : ℕ → Type 0 = λ k. IfSome told (λ files. Said (IsAnswerIn asked ports files) k before after) in
     let Then : Option Ask → Type 0 = λ o. IfSome told (λ files. Said (IsAnswerTo o files ports) 0 before after) in
-    subst Then (sym is) (subst First nought (said small))
+    subst Then (sym is) (subst First nought (said read write memory))

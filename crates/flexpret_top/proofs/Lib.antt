@@ -1,8 +1,12 @@
+mod AloneCommands
 mod Bounds
+mod CallAnswers
 mod Cuts
 mod Delivering
 mod Ending
 mod Headlines
+mod ListCut
+mod OneThread
 mod Preparing
 mod Stopping
 mod Usage

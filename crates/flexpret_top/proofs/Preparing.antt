@@ -2,40 +2,63 @@
 use Rattle.std.proofs.Common.{refl, ◌≡◌, ℕ, ◌≤◌, List, length, Option, Some, None, Result, Ok, arith, ap, sym, subst, ◌∙◌}
 use Rattle.std.specs.Prelude.{IfSome, IfErr}
 use Rattle.ask_words.specs.declared.asked.Ask.{Ask}
-use Rattle.flexpret_top.specs.Command.{IsAnswerIn}
+use Rattle.flexpret_top.specs.Command.{IsAnswerIn, LeavesMachine}
+use Rattle.flexpret_top.specs.Elf.{elf_answer}
 use Rattle.flexpret_top.specs.Stops.{IsStop}
 use Rattle.flexpret_top.specs.declared.stop.Stop.{Stop}
 use Rattle.fp_io.specs.Content.{FileMap}
 use Rattle.fp_ports.specs.Rows.{Row, row_of, rows_of}
 use Rattle.std.proofs.lemmas.List.{length-map}
-use Rattle.ask_words.specs.declared.asked.Ask.TheVariants.{Run, Dump, Asm, Bound}
+use Rattle.ask_words.specs.declared.asked.Ask.TheVariants.{Run, Dump, Asm, Bound, Calls, Elf, Phases}
 use Rattle.ask_words.specs.declared.asked.Section.{Section}
 use Rattle.flexpret_top.specs.Assembled.{asm_answer}
 use Rattle.flexpret_top.specs.Bound.{IsBoundAnswer}
+use Rattle.flexpret_top.specs.Calls.{IsCallsAnswer}
 use Rattle.machine.specs.Feeding.{fed_all}
 use Rattle.machine.proofs.FedLemmas.{feeds}
 use Rattle.machine.specs.Meaning.{StandsFor, PortsAfter, start_beside}
 use Rattle.machine_model.specs.Seen.{seen}
+use Rattle.fp_setup.specs.Settings.{Settings}
+use Rattle.phase_log.specs.Meaning.{StartsAs}
+use Rattle.phase_log.specs.Text.{phases_text}
+use Rattle.phase_model.specs.Phases.{phases}
+use Rattle.setup_model.specs.Start.{start}
 use Rattle.trace_print.specs.Text.{text}
 use Rattle.world_model.specs.World.{Start, events}
 use Rattle.flexpret_top.specs.declared.program.Program.{Program}
 use Rattle.flexpret_top.specs.declared.ready.Ready.{Ready}
 use Rattle.flexpret_top.specs.declared.ready.Prepared.TheVariants as prepared
 use Rattle.flexpret_top.specs.Answer.{Answer, then_by, ends}
-use Rattle.flexpret_top.specs.Prepared.{IsReady, Prepares}
+use Rattle.flexpret_top.specs.Prepared.{IsReady, LeavesRun, Prepares, Runs}
 use Rattle.flexpret_top.specs.Program.{program}
-use Rattle.flexpret_top.specs.Run.{start_of, trace_of, dump_of}
+use Rattle.flexpret_top.specs.Run.{start_of, trace_of, dump_of, phases_of}
+
+-- the world of a program starts with the slots and modes of its setup
+starts-as : (p : Program) (ports : List (Option Row)) (n : ℕ) (s : Settings) → p.setup ≡ s → StartsAs (start_of p ports n) s
+unfolding start
+starts-as p ports n s is = record { slots = ap (λ (s : Settings). s.slots) is; modes = ap (λ (s : Settings). s.modes) is }
 
 pub ready-is : (told : Option FileMap) (name : List ℕ) (before after : List (Option Row)) (p : Program) (r : Ready) →
-    IfSome told (λ files. program files name ≡ Ok p) → after ≡ fed_all p.setup before → length before ≡ 8 → length after ≡ 8 → r.cycles ≤ 4000000000 →
+    IfSome told (λ files. program files name ≡ Ok p) → after ≡ fed_all p.setup before → p.setup ≡ r.setup → length before ≡ 8 → length after ≡ 8 → r.cycles ≤ 4000000000 →
     ((ports : List (Option Row)) (n : ℕ) → length ports ≡ 8 → StandsFor (start_beside p.setup p.image ports n) 0 n r.machine ports) →
     IfSome told (λ files. IsReady files name before after r)
-ready-is None name before after p r is fed eight eight' few stands = tt
-ready-is (Some files) name before after p r is fed eight eight' few stands =
+ready-is None name before after p r is fed same eight eight' few stands = tt
+ready-is (Some files) name before after p r is fed setup eight eight' few stands =
     let Stands : Start → Type 0 = λ s. StandsFor s 0 r.cycles r.machine after in
     let same : start_beside p.setup p.image after r.cycles ≡ start_of p before r.cycles =
     ap (λ ports. start_beside p.setup p.image ports r.cycles) fed ∙ feeds p.setup p.image before r.cycles eight (omega arith) in
-    record { made = p; is = is; fed = fed; stands = subst Stands same (stands after r.cycles eight') }
+    record { made = p; is = is; fed = fed; stands = subst Stands same (stands after r.cycles eight'); starts = starts-as p before r.cycles r.setup setup }
+
+-- what a run leaves in the ports of a machine that was ready
+ready-leaves : (files : FileMap) (name : List ℕ) (before after last : List (Option Row)) (r : Ready) → IsReady files name before after r → LeavesRun r after last → LeavesMachine files name r.cycles before last
+ready-leaves files name before after last r ready leaves =
+    let s : Start = start_of ready.made before r.cycles in
+    let After : List (Option Row) → Type 0 = λ ports. PortsAfter s r.cycles ports last in
+    record { made = ready.made; is = ready.is; ports = subst After ready.fed (leaves s ready.stands ready.starts) }
+
+-- a text of its world
+ready-runs : (files : FileMap) (name : List ℕ) (before after : List (Option Row)) (r : Ready) (told : Start → List ℕ) → (ready : IsReady files name before after r) → Runs r after told (told (start_of ready.made before r.cycles))
+ready-runs files name before after r told ready = record { start = start_of ready.made before r.cycles; stands = ready.stands; starts = ready.starts; text_is = refl }
 
 pub trace-prepares : (told : Option FileMap) (name : List ℕ) (i n : ℕ) (before after : List (Option Row)) (r : Ready) → r.cycles ≡ n →
     IfSome told (λ files. IsReady files name before after r) → IfSome told (λ files. Prepares (Run name i n) files before after (prepared.Trace r i))
@@ -44,9 +67,9 @@ trace-prepares (Some files) name i n before after r same ready =
     let Answers : ℕ → Type 0 = λ n. Prepares (Run name i n) files before after (prepared.Trace r i) in
     subst Answers same (record {
       written = text (events (start_of ready.made before r.cycles) i r.cycles);
-      delivers = record { start = start_of ready.made before r.cycles; stands = ready.stands; text_is = refl };
+      delivers = ready-runs files name before after r (λ s. text (events s i r.cycles)) ready;
       is = sym (ap (λ (q : Result Program Answer). ends (then_by q (trace_of before i r.cycles))) ready.is);
-      leaves = λ last leaves. record { made = ready.made; is = ready.is; ports = subst (λ (ports : List (Option Row)). PortsAfter (start_of ready.made before r.cycles) r.cycles ports last) ready.fed (leaves (start_of ready.made before r.cycles) ready.stands) };
+      leaves = λ last. ready-leaves files name before after last r ready;
     })
 
 pub dump-prepares : (told : Option FileMap) (name : List ℕ) (n : ℕ) (before after : List (Option Row)) (r : Ready) → r.cycles ≡ n →
@@ -56,9 +79,21 @@ dump-prepares (Some files) name n before after r same ready =
     let Answers : ℕ → Type 0 = λ n. Prepares (Dump name n) files before after (prepared.Dump r) in
     subst Answers same (record {
       written = seen (start_of ready.made before r.cycles) r.cycles;
-      delivers = record { start = start_of ready.made before r.cycles; stands = ready.stands; text_is = refl };
+      delivers = ready-runs files name before after r (λ s. seen s r.cycles) ready;
       is = sym (ap (λ (q : Result Program Answer). ends (then_by q (dump_of before r.cycles))) ready.is);
-      leaves = λ last leaves. record { made = ready.made; is = ready.is; ports = subst (λ (ports : List (Option Row)). PortsAfter (start_of ready.made before r.cycles) r.cycles ports last) ready.fed (leaves (start_of ready.made before r.cycles) ready.stands) };
+      leaves = λ last. ready-leaves files name before after last r ready;
+    })
+
+pub phases-prepares : (told : Option FileMap) (name : List ℕ) (n : ℕ) (before after : List (Option Row)) (r : Ready) → r.cycles ≡ n →
+    IfSome told (λ files. IsReady files name before after r) → IfSome told (λ files. Prepares (Phases name n) files before after (prepared.Phases r))
+phases-prepares None name n before after r same ready = tt
+phases-prepares (Some files) name n before after r same ready =
+    let Answers : ℕ → Type 0 = λ n. Prepares (Phases name n) files before after (prepared.Phases r) in
+    subst Answers same (record {
+      written = phases_text (phases (start_of ready.made before r.cycles) r.cycles);
+      delivers = ready-runs files name before after r (λ s. phases_text (phases s r.cycles)) ready;
+      is = sym (ap (λ (q : Result Program Answer). ends (then_by q (phases_of before r.cycles))) ready.is);
+      leaves = λ last. ready-leaves files name before after last r ready;
     })
 
 -- the stops of commands that don't hang on the ports
@@ -66,16 +101,26 @@ pub stop-asm : {A : Type 0} → (told : Option FileMap) (source : List ℕ) (ask
     IfErr r (IsStop told (λ files x. x ≡ asm_answer files source) before after) → IfErr r (IsStop told (IsAnswerIn asked ports) before after)
 stop-asm told source asked ports before after r same stop = let Stops : Ask → Type 0 = λ a. IfErr r (IsStop told (IsAnswerIn a ports) before after) in subst Stops same stop
 
+pub stop-elf : {A : Type 0} → (told : Option FileMap) (file : List ℕ) (asked : Ask) (ports : List (Option Row)) (before after : ℕ) (r : Result A Stop) → Elf file ≡ asked →
+    IfErr r (IsStop told (λ files x. x ≡ elf_answer files file) before after) → IfErr r (IsStop told (IsAnswerIn asked ports) before after)
+stop-elf told file asked ports before after r same stop = let Stops : Ask → Type 0 = λ a. IfErr r (IsStop told (IsAnswerIn a ports) before after) in subst Stops same stop
+
 pub stop-bound : {A : Type 0} → (told : Option FileMap) (setup : List ℕ) (thread : ℕ) (section : Section) (asked : Ask) (ports : List (Option Row)) (before after : ℕ) (r : Result A Stop) →
     Bound setup thread section ≡ asked →
     IfErr r (IsStop told (λ files x. IsBoundAnswer (program files setup) thread (record { from = section.from; to = section.to }) x) before after) →
     IfErr r (IsStop told (IsAnswerIn asked ports) before after)
 stop-bound told setup thread section asked ports before after r same stop = let Stops : Ask → Type 0 = λ a. IfErr r (IsStop told (IsAnswerIn a ports) before after) in subst Stops same stop
 
+pub stop-calls : {A : Type 0} → (told : Option FileMap) (setup : List ℕ) (thread : ℕ) (section : Section) (routines : List ℕ) (asked : Ask) (ports : List (Option Row)) (before after : ℕ) (r : Result A Stop) →
+    Calls setup thread section routines ≡ asked →
+    IfErr r (IsStop told (λ files x. IsCallsAnswer (program files setup) thread (record { from = section.from; to = section.to }) (files routines) x) before after) →
+    IfErr r (IsStop told (IsAnswerIn asked ports) before after)
+stop-calls told setup thread section routines asked ports before after r same stop = let Stops : Ask → Type 0 = λ a. IfErr r (IsStop told (IsAnswerIn a ports) before after) in subst Stops same stop
+
 pub ready-beside : {B : Type 0} → (latched : B → ℕ) (word_at : B → ℕ → ℕ) (told : Option FileMap) (name : List ℕ) (before after : List (Option B)) (p : Program) (r : Ready) →
-    IfSome told (λ files. program files name ≡ Ok p) → rows_of latched word_at after ≡ fed_all p.setup (rows_of latched word_at before) → length before ≡ 8 → length after ≡ 8 → r.cycles ≤ 4000000000 →
+    IfSome told (λ files. program files name ≡ Ok p) → rows_of latched word_at after ≡ fed_all p.setup (rows_of latched word_at before) → p.setup ≡ r.setup → length before ≡ 8 → length after ≡ 8 → r.cycles ≤ 4000000000 →
     ((ports : List (Option Row)) (n : ℕ) → length ports ≡ 8 → StandsFor (start_beside p.setup p.image ports n) 0 n r.machine ports) →
     IfSome told (λ files. IsReady files name (rows_of latched word_at before) (rows_of latched word_at after) r)
-ready-beside latched word_at told name before after p r is fed eight eight' few stands =
-    ready-is told name (rows_of latched word_at before) (rows_of latched word_at after) p r is fed
+ready-beside latched word_at told name before after p r is fed same eight eight' few stands =
+    ready-is told name (rows_of latched word_at before) (rows_of latched word_at after) p r is fed same
     (length-map before (row_of latched word_at) ∙ eight) (length-map after (row_of latched word_at) ∙ eight') few stands

@@ -6,24 +6,33 @@ use Rattle.flexpret_top.specs.declared.program.Program.{Program}
 use Rattle.fp_io.specs.Content.{FileMap}
 use Rattle.ask_words.specs.Commands.{ask}
 use Rattle.ask_words.specs.declared.asked.Ask.{Ask}
-use Rattle.ask_words.specs.declared.asked.Ask.TheVariants.{Run, Dump, Asm, Bound, Selfrun}
+use Rattle.ask_words.specs.declared.asked.Ask.TheVariants.{Run, Dump, Asm, Bound, Selfrun, Phases, Solo, Check, Elf, Calls}
 use Rattle.selfrun.specs.Text.{selfrun_text}
 use Rattle.flexpret_top.specs.Answer.{Answer, IsSaid, WritesFront, IsAnswered}
 use Rattle.flexpret_top.specs.Answer.Answer.{Says}
+use Rattle.flexpret_top.specs.Alone.{solo_answer, check_answer}
 use Rattle.flexpret_top.specs.Assembled.{asm_answer}
 use Rattle.flexpret_top.specs.Bound.{IsBoundAnswer}
+use Rattle.flexpret_top.specs.Calls.{IsCallsAnswer}
+use Rattle.flexpret_top.specs.Elf.{elf_answer}
 use Rattle.flexpret_top.specs.Program.{program}
-use Rattle.flexpret_top.specs.Run.{start_of, run_answer, dump_answer}
+use Rattle.flexpret_top.specs.Run.{start_of, run_answer, dump_answer, phases_answer}
 use Rattle.fp_ports.specs.Rows.{Row}
 
--- The answer of a command over the files and the ports as they are handed in. That of `bound` is a relation: a bound is
--- the largest cost of a walk.
+-- The answer of a command over the files and the ports as they are handed in. That of `bound` is a relation, and that of
+-- `calls`: a bound is the largest cost of a walk.
 abbrev pub IsAnswerOf : Ask → FileMap → List (Option Row) → Answer → Type 0
 IsAnswerOf (Run setup thread cycles) files ports x = x ≡ run_answer files ports setup thread cycles
 IsAnswerOf (Dump setup cycles) files ports x = x ≡ dump_answer files ports setup cycles
 IsAnswerOf (Asm source) files ports x = x ≡ asm_answer files source
 IsAnswerOf (Bound setup thread section) files ports x = IsBoundAnswer (program files setup) thread (record { from = section.from; to = section.to }) x
 IsAnswerOf (Selfrun number) files ports x = x ≡ Says 0 (selfrun_text number)
+IsAnswerOf (Phases setup cycles) files ports x = x ≡ phases_answer files ports setup cycles
+IsAnswerOf (Solo setup thread cycles) files ports x = x ≡ solo_answer files ports setup thread cycles
+IsAnswerOf (Check setup thread cycles trace) files ports x = x ≡ check_answer files ports setup thread cycles trace
+IsAnswerOf (Elf file) files ports x = x ≡ elf_answer files file
+IsAnswerOf (Calls setup thread section routines) files ports x =
+    IsCallsAnswer (program files setup) thread (record { from = section.from; to = section.to }) (files routines) x
 
 abbrev pub IsAnswerIn : Ask → List (Option Row) → FileMap → Answer → Type 0
 IsAnswerIn asked ports files x = IsAnswerOf asked files ports x
@@ -50,6 +59,11 @@ Leaves (Dump setup cycles) files before after = LeavesMachine files setup cycles
 Leaves (Asm source) files before after = after ≡ before
 Leaves (Bound setup thread section) files before after = after ≡ before
 Leaves (Selfrun number) files before after = after ≡ before
+Leaves (Phases setup cycles) files before after = LeavesMachine files setup cycles before after
+Leaves (Solo setup thread cycles) files before after = after ≡ before
+Leaves (Check setup thread cycles trace) files before after = after ≡ before
+Leaves (Elf file) files before after = after ≡ before
+Leaves (Calls setup thread section routines) files before after = after ≡ before
 
 abbrev pub LeavesBy : Option Ask → FileMap → List (Option Row) → List (Option Row) → Type 0
 LeavesBy None files before after = after ≡ before
@@ -59,7 +73,20 @@ LeavesBy (Some asked) files before after = Leaves asked files before after
 abbrev pub IsApart : Ask → Type 0
 IsApart (Run setup thread cycles) = ⊥
 IsApart (Dump setup cycles) = ⊥
+IsApart (Phases setup cycles) = ⊥
+IsApart (Solo setup thread cycles) = ⊥
+IsApart (Check setup thread cycles trace) = ⊥
 IsApart _ = Unit {0}
+
+-- a command that only reads a port
+abbrev pub OnlyReads : Ask → Type 0
+OnlyReads (Solo setup thread cycles) = Unit {0}
+OnlyReads (Check setup thread cycles trace) = Unit {0}
+OnlyReads _ = ⊥
+
+abbrev pub OnlyReadsBy : Option Ask → Type 0
+OnlyReadsBy None = ⊥
+OnlyReadsBy (Some asked) = OnlyReads asked
 
 abbrev pub IsApartBy : Option Ask → Type 0
 IsApartBy None = Unit {0}

@@ -4,18 +4,31 @@ use Rattle.std.specs.Io.KnownBytes.{Appends}
 use Rattle.fp_io.specs.Content.{FileMap}
 use Rattle.fp_ports.specs.Rows.{Row}
 use Rattle.ask_words.specs.declared.asked.Ask.{Ask}
-use Rattle.ask_words.specs.declared.asked.Ask.TheVariants.{Run, Bound}
+use Rattle.ask_words.specs.declared.asked.Ask.TheVariants.{Run, Bound, Solo, Elf, Calls}
 use Rattle.bound_calc.specs.Bound.{IsBound, course}
+use Rattle.call_bounds.specs.CallWalk.{IsCallBound}
+use Rattle.call_bounds.specs.Listing.{calls}
+use Rattle.call_bounds.specs.RoutinesFile.{routines_of}
+use Rattle.call_bounds.specs.declared.routines.Routine.{Routine}
+use Rattle.call_visits.specs.CallVisits.{IsCallVisit, KeepsReturns, KeepsBounds as KeepsCallBounds}
+use Rattle.call_visits.specs.Laws.{route}
 use Rattle.core_model.specs.Solo.{solo}
+use Rattle.fp_elf.specs.Elf.{elf_of}
+use Rattle.fp_setup.specs.Settings.{size_of}
+use Rattle.fp_image.specs.Format.{image_of}
+use Rattle.fp_image.specs.declared.parts.Segment.{Segment}
 use Rattle.region_tree.specs.Tree.{graph}
 use Rattle.region_tree.specs.declared.section.Section.{Section}
-use Rattle.setup_laws.specs.Laws.{Machine, IsConfinedHard, IsQuiet, view_of}
+use Rattle.phase_model.specs.Phased.{phased}
+use Rattle.setup_laws.specs.Laws.{Machine, IsConfinedHard, IsConfinedThrough, IsQuiet, KeepsRegions, phases_in, trace, view_of}
+use Rattle.setup_visits.specs.CallLaws.{IsAlikeInParts}
 use Rattle.setup_visits.specs.Laws.{IsAlike, issues}
 use Rattle.trace_print.specs.Bounds.{bound_text}
 use Rattle.trace_print.specs.Text.{text}
 use Rattle.visit_bound.specs.Visits.{Issued, IsVisit, KeepsBounds, first_of}
 use Rattle.flexpret_top.specs.declared.program.Program.{Program}
 use Rattle.flexpret_top.specs.Bound.{section_tree}
+use Rattle.flexpret_top.specs.Calls.{section_listing}
 use Rattle.flexpret_top.specs.Program.{program}
 
 -- the machine of a program beside the ports as they are handed in
@@ -29,6 +42,22 @@ WritesAlone (Some (Run setup i n)) files ports before after =
     (p : Program) → program files setup ≡ Ok p → IsConfinedHard (machine_of p ports) i → IsQuiet (machine_of p ports) n →
     Appends before after (text (solo (view_of (machine_of p ports) i n) n))
 WritesAlone _ files ports before after = Unit {0}
+
+-- In such a run what `solo` wrote is the trace that the machine has, which `run` writes.
+abbrev pub WritesAsRun : Option Ask → FileMap → List (Option Row) → Option (List ℕ) → Option (List ℕ) → Type 0
+WritesAsRun (Some (Solo setup i n)) files ports before after =
+    (p : Program) → program files setup ≡ Ok p → IsConfinedHard (machine_of p ports) i → IsQuiet (machine_of p ports) n →
+    Appends before after (trace (machine_of p ports) i n)
+WritesAsRun _ files ports before after = Unit {0}
+
+-- For every confined hart that no setting of the run makes soft active, in a run that writes no region register, what
+-- `run` wrote is the text of the one-thread definition over the thread's view and these settings, whose lines `phases`
+-- writes.
+abbrev pub WritesByPhases : Option Ask → FileMap → List (Option Row) → Option (List ℕ) → Option (List ℕ) → Type 0
+WritesByPhases (Some (Run setup i n)) files ports before after =
+    (p : Program) → program files setup ≡ Ok p → IsConfinedThrough (machine_of p ports) i n → KeepsRegions (machine_of p ports) n →
+    Appends before after (text (phased (view_of (machine_of p ports) i n) (phases_in (machine_of p ports) n) n))
+WritesByPhases _ files ports before after = Unit {0}
 
 -- What `bound` wrote is the line of a number of cycles which some walk through the section costs, and which no visit of
 -- the section takes longer than: in no quiet run of any machine with the thread hard, the same slots and the same words
@@ -45,3 +74,36 @@ abbrev pub BoundsVisits : Option Ask → FileMap → Option (List ℕ) → Optio
 BoundsVisits (Some (Bound setup i section)) files before after =
     (p : Program) → program files setup ≡ Ok p → IsLongest p i (record { from = section.from; to = section.to }) before after
 BoundsVisits _ files before after = Unit {0}
+
+-- What `calls` wrote is the line of a number of cycles which some call walk through the section and its routines costs that
+-- keeps the loops' bounds, and which no call visit of the section takes longer than: in no quiet run of any machine with the
+-- thread hard, the same slots and the same words in all reached parts, while the visit keeps returns and the stated loop
+-- bounds.
+pub record IsLongestByCalls (p : Program) (i : ℕ) (section : Section) (file : List ℕ) (before after : Option (List ℕ)) : Type 0 where
+  pub routines : List Routine
+  pub listed : routines_of (size_of p.setup.version) file ≡ Ok routines
+  pub cycles : ℕ
+  pub wrote : Appends before after (bound_text cycles)
+  pub met : IsCallBound (route (calls (section_listing p section routines)) p.setup.slots i) cycles
+  pub longest : (m : Machine) (n : ℕ) → IsAlikeInParts m i p.setup.slots (calls (section_listing p section routines)) → IsQuiet m n →
+      (last : Issued) (earlier : List Issued) → IsCallVisit (calls (section_listing p section routines)) (issues m i n) last earlier →
+      KeepsReturns (calls (section_listing p section routines)) last earlier →
+      KeepsCallBounds (calls (section_listing p section routines)) last earlier → last.cycle - (first_of last earlier).cycle ≤ cycles
+
+abbrev pub BoundsCallVisits : Option Ask → FileMap → Option (List ℕ) → Option (List ℕ) → Type 0
+BoundsCallVisits (Some (Calls setup i section routines)) files before after =
+    (p : Program) (file : List ℕ) → program files setup ≡ Ok p → files routines ≡ Some file →
+    IsLongestByCalls p i (record { from = section.from; to = section.to }) file before after
+BoundsCallVisits _ files before after = Unit {0}
+
+-- What `elf` wrote is a file that is read, for scratchpads of 65,536 bytes, as the image that the executable defines.
+pub record IsImported (file : List ℕ) (before after : Option (List ℕ)) : Type 0 where
+  pub image : List Segment
+  pub defined : elf_of file ≡ Ok image
+  pub bytes : List ℕ
+  pub wrote : Appends before after bytes
+  pub read_back : image_of 65536 bytes ≡ Ok image
+
+abbrev pub WritesImage : Option Ask → FileMap → Option (List ℕ) → Option (List ℕ) → Type 0
+WritesImage (Some (Elf name)) files before after = (file : List ℕ) → files name ≡ Some file → IsImported file before after
+WritesImage _ files before after = Unit {0}

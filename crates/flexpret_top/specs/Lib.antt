@@ -3,7 +3,10 @@ pub mod Answer
 pub mod Program
 pub mod Run
 pub mod Assembled
+pub mod Elf
 pub mod Bound
+pub mod Calls
+pub mod Alone
 pub mod Command
 pub mod Stops
 pub mod Prepared

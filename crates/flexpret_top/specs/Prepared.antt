@@ -7,14 +7,18 @@ use Rattle.machine.specs.Meaning.{StandsFor, AreLeft, PortsAfter}
 use Rattle.machine.specs.Feeding.{fed_all}
 use Rattle.machine.specs.declared.state.Machine.{Machine}
 use Rattle.machine_model.specs.Seen.{seen}
+use Rattle.phase_log.specs.Meaning.{StartsAs}
+use Rattle.phase_log.specs.Text.{phases_text}
+use Rattle.phase_model.specs.Phases.{phases}
 use Rattle.trace_print.specs.Bounds.{bound_text}
 use Rattle.trace_print.specs.Text.{text}
 use Rattle.world_model.specs.World.{Start, events}
 use Rattle.flexpret_top.specs.declared.program.Program.{Program}
 use Rattle.flexpret_top.specs.declared.ready.Ready.{Ready}
 use Rattle.flexpret_top.specs.declared.ready.Prepared.{Prepared}
-use Rattle.flexpret_top.specs.declared.ready.Prepared.TheVariants.{Trace, Dump, Image, Bound, Selfrun}
+use Rattle.flexpret_top.specs.declared.ready.Prepared.TheVariants.{Trace, Dump, Phases, Solo, Same, Image, Bound, Selfrun}
 use Rattle.selfrun.specs.Text.{tallies_text}
+use Rattle.flexpret_top.specs.Alone.{same_text, told_alone}
 use Rattle.flexpret_top.specs.Answer.Answer.{Says}
 use Rattle.flexpret_top.specs.Command.{IsAnswerOf, Leaves}
 use Rattle.flexpret_top.specs.Program.{program}
@@ -22,22 +26,27 @@ use Rattle.flexpret_top.specs.Run.{start_of}
 use Rattle.std.specs.Prelude.{Ok}
 
 -- a machine at its start that stands, beside the ports that were fed, for the world of a program and the ports as they
--- were handed in
+-- were handed in; that world starts with the slots and modes of the setup
 pub record IsReady (files : FileMap) (name : List ℕ) (before after : List (Option Row)) (r : Ready) : Type 0 where
   pub made : Program
   pub is : program files name ≡ Ok made
   pub fed : after ≡ fed_all made.setup before
   pub stands : StandsFor (start_of made before r.cycles) 0 r.cycles r.machine after
+  pub starts : StartsAs (start_of made before r.cycles) r.setup
 
--- a machine at its start, which stands for a world beside these ports, and a text that this world defines
+-- a machine at its start, which stands for a world of its setup beside these ports, and a text that this world defines
 pub record Runs (r : Ready) (ports : List (Option Row)) (told : Start → List ℕ) (written : List ℕ) : Type 0 where
   pub start : Start
   pub stands : StandsFor start 0 r.cycles r.machine ports
+  pub starts : StartsAs start r.setup
   pub text_is : written ≡ told start
 
 abbrev pub Delivers : Prepared → List (Option Row) → List ℕ → Type 0
 Delivers (Trace r thread) ports written = Runs r ports (λ s. text (events s thread r.cycles)) written
 Delivers (Dump r) ports written = Runs r ports (λ s. seen s r.cycles) written
+Delivers (Phases r) ports written = Runs r ports (λ s. phases_text (phases s r.cycles)) written
+Delivers (Solo alone) ports written = written ≡ told_alone alone ports
+Delivers Same ports written = written ≡ same_text
 Delivers (Image bytes) ports written = written ≡ bytes.items
 Delivers (Bound cycles) ports written = written ≡ bound_text cycles
 Delivers (Selfrun run) ports written = written ≡ tallies_text run.tallies
@@ -47,10 +56,17 @@ abbrev pub IsThread : Prepared → Type 0
 IsThread (Trace r thread) = thread < 8
 IsThread _ = Unit {0}
 
+-- what a run of a machine leaves in the ports
+abbrev pub LeavesRun : Ready → List (Option Row) → List (Option Row) → Type 0
+LeavesRun r before after = (s : Start) → StandsFor s 0 r.cycles r.machine before → StartsAs s r.setup → PortsAfter s r.cycles before after
+
 -- what stands in the ports once it was written
 abbrev pub LeavesPorts : Prepared → List (Option Row) → List (Option Row) → Type 0
-LeavesPorts (Trace r thread) before after = (s : Start) → StandsFor s 0 r.cycles r.machine before → PortsAfter s r.cycles before after
-LeavesPorts (Dump r) before after = (s : Start) → StandsFor s 0 r.cycles r.machine before → PortsAfter s r.cycles before after
+LeavesPorts (Trace r thread) before after = LeavesRun r before after
+LeavesPorts (Dump r) before after = LeavesRun r before after
+LeavesPorts (Phases r) before after = LeavesRun r before after
+LeavesPorts (Solo alone) before after = after ≡ before
+LeavesPorts Same before after = after ≡ before
 LeavesPorts (Image bytes) before after = after ≡ before
 LeavesPorts (Bound cycles) before after = after ≡ before
 LeavesPorts (Selfrun run) before after = after ≡ before
@@ -59,7 +75,15 @@ LeavesPorts (Selfrun run) before after = after ≡ before
 abbrev pub IsApartFrom : Prepared → Type 0
 IsApartFrom (Trace r thread) = ⊥
 IsApartFrom (Dump r) = ⊥
+IsApartFrom (Phases r) = ⊥
+IsApartFrom (Solo alone) = ⊥
 IsApartFrom _ = Unit {0}
+
+-- it does no more to a port than read it
+abbrev pub OnlyReadsFor : Prepared → Type 0
+OnlyReadsFor (Solo alone) = Unit {0}
+OnlyReadsFor Same = Unit {0}
+OnlyReadsFor _ = ⊥
 
 -- it will write a text that answers the command, and leave the ports as the command does
 pub record Prepares (asked : Ask) (files : FileMap) (before after : List (Option Row)) (p : Prepared) : Type 0 where

@@ -1,8 +1,10 @@
--- The trace of a thread and the dump over a setup, an image and eight ports.
+-- The trace of a thread, the dump, and the settings of the scheduling, over a setup, an image and eight ports.
 use Rattle.std.specs.Prelude.{ℕ, List, Option, Result, Ok}
 use Rattle.fp_io.specs.Content.{FileMap}
 use Rattle.fp_ports.specs.Rows.{Row}
 use Rattle.machine_model.specs.Seen.{seen}
+use Rattle.phase_log.specs.Text.{phases_text}
+use Rattle.phase_model.specs.Phases.{phases}
 use Rattle.trace_print.specs.Text.{text}
 use Rattle.world_model.specs.World.{Start, events}
 use Rattle.setup_model.specs.Start.{start}
@@ -27,3 +29,10 @@ dump_of ports n p = Ok (seen (start_of p ports n) n)
 
 abbrev pub dump_answer : FileMap → List (Option Row) → List ℕ → ℕ → Answer
 dump_answer files ports name n = ends (then_by (program files name) (dump_of ports n))
+
+-- the lines of the settings that picking goes by in n cycles
+abbrev pub phases_of : List (Option Row) → ℕ → Program → Result (List ℕ) Answer
+phases_of ports n p = Ok (phases_text (phases (start_of p ports n) n))
+
+abbrev pub phases_answer : FileMap → List (Option Row) → List ℕ → ℕ → Answer
+phases_answer files ports name n = ends (then_by (program files name) (phases_of ports n))

@@ -27,7 +27,7 @@ fn names(slots: &SlotTable, thread: u8) -> bool
 
 /// Why no bound is told of a section, by the code of its fault, if so.
 #[tactic(auto, unfolding(crate::specs::Bound::section_fault))]
-fn section_fault(setup: &Setup, thread: u8, section: Section) -> Option<u8>
+pub fn section_fault(setup: &Setup, thread: u8, section: Section) -> Option<u8>
     requires { thread < 8 }
     ensures { result ≡ section_fault setup.now thread section }
 {
@@ -67,7 +67,7 @@ fn tree_stop(no: TreeNo) -> Stop
 }
 
 /// Why no bound was answered.
-fn bound_stop(no: BoundNo) -> Stop
+pub fn bound_stop(no: BoundNo) -> Stop
     ensures { result ≡ stop_of_bound no }
 {
     match no {

@@ -7,13 +7,15 @@ ghost use Rattle.fp_io.specs.Content.{AppendsFront};
 ghost use Rattle.fp_ports.specs.Rows.{rows_of};
 ghost use Rattle.world_model.specs.World.{Start};
 ghost use Rattle.machine.specs.Meaning.{StandsFor};
-ghost use Rattle.flexpret_top.specs.Prepared.{Delivers, Gone, IsApartFrom, IsThread, LeavesPorts};
+ghost use Rattle.flexpret_top.specs.Prepared.{Delivers, Gone, IsApartFrom, OnlyReadsFor, IsThread, LeavesPorts};
 ghost use Rattle.flexpret_top.specs.declared.ready.Prepared.{Prepared};
 
+use crate::alone::put_alone;
 use crate::ready::{Prepared, Ready};
 use fp_io::{PutFailed, Sink};
 use fp_ports::Ports;
 use machine::Machine;
+use phase_log::run_phases;
 use trace_print::bound_line;
 
 /// Does so many cycles, and puts nothing.
@@ -65,6 +67,20 @@ fn put_dump<K: Sink>(ready: Ready, ports: &mut Ports, out: &mut K) -> Result<(),
     machine.dump(ports, out)
 }
 
+/// Runs a machine, and puts the lines of its settings.
+fn put_phases<K: Sink>(ready: Ready, ports: &mut Ports, out: &mut K) -> Result<(), PutFailed>
+    requires eight { vec_len ports.old ≡ 8 }
+    ensures ok { OnOk result ((written : List ℕ) → Delivers (Prepared.Phases ready) (rows_of latched word_at ports.old.items) written → Appends (K.taken out.old) (K.taken out.new) written) }
+    ensures err { OnErr result ((written : List ℕ) → Delivers (Prepared.Phases ready) (rows_of latched word_at ports.old.items) written → AppendsFront (K.taken out.old) (K.taken out.new) written) }
+    ensures failed { OnErr result (Rose (K.faults out.old) (K.faults out.new)) }
+    ensures counted { K.faults out.old ≤ K.faults out.new }
+    ensures left { OnOk result (LeavesPorts (Prepared.Phases ready) (rows_of latched word_at ports.old.items) (rows_of latched word_at ports.new.items)) }
+    ensures eight { vec_len ports.new ≡ 8 }
+{
+    let mut machine = ready.machine;
+    run_phases(&ready.setup, &mut machine, ready.cycles, ports, out)
+}
+
 /// Writes what was prepared.
 pub fn deliver<K: Sink>(prepared: Prepared, ports: &mut Ports, out: &mut K) -> Result<(), PutFailed>
     requires thread { IsThread prepared }
@@ -75,11 +91,15 @@ pub fn deliver<K: Sink>(prepared: Prepared, ports: &mut Ports, out: &mut K) -> R
     ensures counted { K.faults out.old ≤ K.faults out.new }
     ensures left { OnOk result (LeavesPorts prepared (rows_of latched word_at ports.old.items) (rows_of latched word_at ports.new.items)) }
     ensures apart { IsApartFrom prepared → ports.new ≡ ports.old }
+    ensures reads { OnlyReadsFor prepared → rows_of latched word_at ports.new.items ≡ rows_of latched word_at ports.old.items }
     ensures eight { vec_len ports.new ≡ 8 }
 {
     match prepared {
         Prepared::Trace { ready, thread } => put_trace(ready, thread, ports, out),
         Prepared::Dump(ready) => put_dump(ready, ports, out),
+        Prepared::Phases(ready) => put_phases(ready, ports, out),
+        Prepared::Solo(alone) => put_alone(alone, ports, out),
+        Prepared::Same => out.put(b"same\n"),
         Prepared::Image(bytes) => out.put(&bytes),
         Prepared::Bound(cycles) => out.put(bound_line(cycles).as_bytes()),
         Prepared::Selfrun(run) => run.put(out),

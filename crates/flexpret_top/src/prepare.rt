@@ -1,22 +1,30 @@
 //! What a command will write, before the first byte of it is written.
 
-ghost use Rattle.std.specs.Prelude.{◌≡◌, ◌≢◌, ◌⊎◌, ◌≤◌, ◌<◌, ℕ, Ok, Err, IfOk, IfErr, OnOk, IfSome, List, Option, length, vec_len};
+ghost use Rattle.std.specs.Prelude.{◌≡◌, ◌≢◌, ◌⊎◌, ◌≤◌, ◌<◌, ℕ, false, Ok, Err, IfOk, IfErr, OnOk, IfSome, List, Option, length, vec_len};
 ghost use Rattle.fp_io.specs.Content.{FileMap};
 ghost use Rattle.fp_ports.specs.Rows.{Row, rows_of};
 ghost use Rattle.ask_words.specs.Limits.{IsWithinLimits};
 ghost use Rattle.ask_words.specs.declared.asked.Ask.{Ask};
 ghost use Rattle.machine.specs.Feeding.{fed_all};
 ghost use Rattle.machine.specs.Meaning.{StandsFor, start_beside};
+ghost use Rattle.flexpret_top.specs.Alone.{alone_program, same_text};
+ghost use Rattle.flexpret_top.specs.Answer.Answer.{Says};
+ghost use Rattle.flexpret_top.specs.declared.ready.Prepared.{Prepared};
 ghost use Rattle.flexpret_top.specs.Assembled.{asm_answer};
 ghost use Rattle.flexpret_top.specs.Bound.{IsBoundAnswer};
-ghost use Rattle.flexpret_top.specs.Command.{IsAnswerIn, IsApart};
+ghost use Rattle.flexpret_top.specs.Calls.{IsCallsAnswer};
+ghost use Rattle.flexpret_top.specs.Command.{IsAnswerIn, IsApart, OnlyReads};
+ghost use Rattle.flexpret_top.specs.Elf.{elf_answer};
 ghost use Rattle.flexpret_top.specs.Program.{program};
-ghost use Rattle.flexpret_top.specs.Prepared.{IsApartFrom, IsReady, IsThread, Prepares};
-ghost use Rattle.flexpret_top.specs.Stops.{IsStop};
+ghost use Rattle.flexpret_top.specs.Prepared.{IsApartFrom, IsReady, IsThread, OnlyReadsFor, Prepares};
+ghost use Rattle.flexpret_top.specs.Stops.{IsStop, is_difference};
 ghost use Rattle.flexpret_top.specs.declared.stop.Stop.TheVariants.{NoMemory};
 
+use crate::alone::{compare_alone, load_alone};
 use crate::assembling::image_bytes;
 use crate::bound::section_bound;
+use crate::calls::calls_bound;
+use crate::elf::imported_bytes;
 use crate::program::{Program, load};
 use crate::ready::{Prepared, Ready};
 use crate::stop::Stop;
@@ -68,7 +76,11 @@ fn ready<F: Files>(
 {
     match load(alloc, setup, files) {
         Ok(program) => match machine_beside(alloc, &program, ports) {
-            Ok(machine) => Ok(Ready { machine, cycles }),
+            Ok(machine) => Ok(Ready {
+                setup: program.setup,
+                machine,
+                cycles,
+            }),
             Err(AllocError) => Err(Stop::NoMemory),
         },
         Err(stop) => Err(stop),
@@ -120,6 +132,27 @@ fn dump<F: Files>(
     Ok(Prepared::Dump(ready(alloc, setup, cycles, files, ports)?))
 }
 
+/// `phases SETUP --cycles n`
+fn phases<F: Files>(
+    alloc: Global,
+    setup: &str,
+    cycles: u64,
+    files: &mut F,
+    ports: &mut Ports,
+) -> Result<Prepared, Stop>
+    requires limit { cycles ≤ 4000000000 }
+    requires eight { vec_len ports.old ≡ 8 }
+    ensures told { F.told files.new ≡ F.told files.old }
+    ensures counted { F.faults files.old ≤ F.faults files.new }
+    ensures ok { IfOk result (λ p. IfSome (F.told files.old) (λ told. Prepares (Ask.Phases setup.now cycles) told (rows_of latched word_at ports.old.items) (rows_of latched word_at ports.new.items) p)) }
+    ensures thread { IfOk result IsThread }
+    ensures stop { IfErr result (IsStop (F.told files.old) (IsAnswerIn (Ask.Phases setup.now cycles) (rows_of latched word_at ports.old.items)) (F.faults files.old) (F.faults files.new)) }
+    ensures kept { IfErr result (λ stop. stop ≢ NoMemory → ports.new ≡ ports.old) }
+    ensures eight { vec_len ports.new ≡ 8 }
+{
+    Ok(Prepared::Phases(ready(alloc, setup, cycles, files, ports)?))
+}
+
 /// `asm SOURCE`
 fn image<F: Files>(alloc: Global, source: &str, files: &mut F) -> Result<Prepared, Stop>
     ensures told { F.told files.new ≡ F.told files.old }
@@ -130,6 +163,72 @@ fn image<F: Files>(alloc: Global, source: &str, files: &mut F) -> Result<Prepare
     ensures stop { IfErr result (IsStop (F.told files.old) (λ told x. x ≡ asm_answer told source.now) (F.faults files.old) (F.faults files.new)) }
 {
     Ok(Prepared::Image(image_bytes(alloc, source, files)?))
+}
+
+/// `elf FILE`
+fn imported<F: Files>(alloc: Global, file: &str, files: &mut F) -> Result<Prepared, Stop>
+    ensures told { F.told files.new ≡ F.told files.old }
+    ensures counted { F.faults files.old ≤ F.faults files.new }
+    ensures ok { IfOk result (λ p. IfSome (F.told files.old) (λ told. (ports : List (Option Row)) → Prepares (Ask.Elf file.now) told ports ports p)) }
+    ensures thread { IfOk result IsThread }
+    ensures apart { IfOk result IsApartFrom }
+    ensures stop { IfErr result (IsStop (F.told files.old) (λ told x. x ≡ elf_answer told file.now) (F.faults files.old) (F.faults files.new)) }
+{
+    Ok(Prepared::Image(imported_bytes(alloc, file, files)?))
+}
+
+/// `solo SETUP --thread i --cycles n`
+fn solo<F: Files>(
+    alloc: Global,
+    setup: &str,
+    thread: u8,
+    cycles: u64,
+    files: &mut F,
+) -> Result<Prepared, Stop>
+    requires limit { cycles ≤ 4000000000 }
+    requires thread { thread < 8 }
+    ensures told { F.told files.new ≡ F.told files.old }
+    ensures counted { F.faults files.old ≤ F.faults files.new }
+    ensures ok { IfOk result (λ p. IfSome (F.told files.old) (λ told. (ports : List (Option Row)) → Prepares (Ask.Solo setup.now thread cycles) told ports ports p)) }
+    ensures thread { IfOk result IsThread }
+    ensures reads { IfOk result OnlyReadsFor }
+    ensures stop { IfErr result (IsStop (F.told files.old) (λ told x. alone_program told setup.now thread ≡ Err x) (F.faults files.old) (F.faults files.new)) }
+{
+    match load_alone(alloc, setup, thread, cycles, files) {
+        Ok(alone) => Ok(Prepared::Solo(alone)),
+        Err(stop) => Err(stop),
+    }
+}
+
+/// `check SETUP --thread i --cycles n --trace FILE`
+fn check<F: Files>(
+    alloc: Global,
+    setup: &str,
+    thread: u8,
+    cycles: u64,
+    trace: &str,
+    files: &mut F,
+    ports: &mut Ports,
+) -> Result<Prepared, Stop>
+    requires limit { cycles ≤ 4000000000 }
+    requires thread { thread < 8 }
+    requires eight { vec_len ports.old ≡ 8 }
+    ensures told { F.told files.new ≡ F.told files.old }
+    ensures counted { F.faults files.old ≤ F.faults files.new }
+    ensures same { IfOk result (λ p. p ≡ Prepared.Same) }
+    ensures ok { IfOk result (λ p. IfSome (F.told files.old) (λ told. IsAnswerIn (Ask.Check setup.now thread cycles trace.now) (rows_of latched word_at ports.old.items) told (Says 0 same_text))) }
+    ensures stop { IfErr result (IsStop (F.told files.old) (IsAnswerIn (Ask.Check setup.now thread cycles trace.now) (rows_of latched word_at ports.old.items)) (F.faults files.old) (F.faults files.new)) }
+    ensures kept { IfErr result (λ stop. is_difference stop ≡ false → ports.new ≡ ports.old) }
+    ensures rows { rows_of latched word_at ports.new.items ≡ rows_of latched word_at ports.old.items }
+    ensures eight { vec_len ports.new ≡ 8 }
+{
+    match load_alone(alloc, setup, thread, cycles, files) {
+        Ok(alone) => match compare_alone(alloc, alone, trace, files, ports) {
+            Ok(()) => Ok(Prepared::Same),
+            Err(stop) => Err(stop),
+        },
+        Err(stop) => Err(stop),
+    }
 }
 
 /// `bound SETUP --thread i --from a --to b`
@@ -161,6 +260,36 @@ fn bound<F: Files>(
     }
 }
 
+/// `calls SETUP --thread i --from a --to b --routines FILE`
+fn calls<F: Files>(
+    alloc: Global,
+    setup: &str,
+    thread: u8,
+    section: Section,
+    routines: &str,
+    files: &mut F,
+) -> Result<Prepared, Stop>
+    requires thread { thread < 8 }
+    ensures told { F.told files.new ≡ F.told files.old }
+    ensures counted { F.faults files.old ≤ F.faults files.new }
+    ensures ok { IfOk result (λ p. IfSome (F.told files.old) (λ told. (ports : List (Option Row)) → Prepares (Ask.Calls setup.now thread section routines.now) told ports ports p)) }
+    ensures thread { IfOk result IsThread }
+    ensures apart { IfOk result IsApartFrom }
+    ensures stop { IfErr result (IsStop (F.told files.old) (λ told x. IsCallsAnswer (program told setup.now) thread (record { from = section.from; to = section.to }) (told routines.now) x) (F.faults files.old) (F.faults files.new)) }
+{
+    let section = region_tree::Section {
+        from: section.from,
+        to: section.to,
+    };
+    match load(alloc, setup, files) {
+        Ok(program) => match calls_bound(alloc, &program, thread, section, routines, files) {
+            Ok(cycles) => Ok(Prepared::Bound(cycles)),
+            Err(stop) => Err(stop),
+        },
+        Err(stop) => Err(stop),
+    }
+}
+
 /// `selfrun NUMBER`
 fn own_run(alloc: Global, number: u32) -> Result<Prepared, Stop>
     ensures ok { IfOk result (λ p. (told : FileMap) (ports : List (Option Row)) → Prepares (Ask.Selfrun number) told ports ports p) }
@@ -185,7 +314,10 @@ pub fn prepare<F: Files>(
     ensures ok { IfOk result (λ p. IfSome (F.told files.old) (λ told. Prepares ask.now told (rows_of latched word_at ports.old.items) (rows_of latched word_at ports.new.items) p)) }
     ensures thread { IfOk result IsThread }
     ensures stop { IfErr result (IsStop (F.told files.old) (IsAnswerIn ask.now (rows_of latched word_at ports.old.items)) (F.faults files.old) (F.faults files.new)) }
-    ensures kept { IfErr result (λ stop. stop ≢ NoMemory → ports.new ≡ ports.old) }
+    ensures kept { IfErr result (λ stop. stop ≢ NoMemory → is_difference stop ≡ false → ports.new ≡ ports.old) }
+    ensures others { IfErr result (λ stop. stop ≢ NoMemory → OnlyReads ask.now ⊎ (ports.new ≡ ports.old)) }
+    ensures reads { OnlyReads ask.now → rows_of latched word_at ports.new.items ≡ rows_of latched word_at ports.old.items }
+    ensures reads_for { IfOk result (λ p. OnlyReads ask.now → OnlyReadsFor p) }
     ensures apart { IsApart ask.now → ports.new ≡ ports.old }
     ensures apart_from { IfOk result (λ p. IsApart ask.now → IsApartFrom p) }
     ensures eight { vec_len ports.new ≡ 8 }
@@ -204,5 +336,39 @@ pub fn prepare<F: Files>(
             section,
         } => bound(alloc, setup.as_str(), *thread, *section, files),
         Ask::Selfrun { number } => own_run(alloc, *number),
+        Ask::Phases { setup, cycles } => phases(alloc, setup.as_str(), *cycles, files, ports),
+        Ask::Solo {
+            setup,
+            thread,
+            cycles,
+        } => solo(alloc, setup.as_str(), *thread, *cycles, files),
+        Ask::Check {
+            setup,
+            thread,
+            cycles,
+            trace,
+        } => check(
+            alloc,
+            setup.as_str(),
+            *thread,
+            *cycles,
+            trace.as_str(),
+            files,
+            ports,
+        ),
+        Ask::Elf { file } => imported(alloc, file.as_str(), files),
+        Ask::Calls {
+            setup,
+            thread,
+            section,
+            routines,
+        } => calls(
+            alloc,
+            setup.as_str(),
+            *thread,
+            *section,
+            routines.as_str(),
+            files,
+        ),
     }
 }

@@ -1,16 +1,30 @@
 //! A machine that is ready to run.
 
 ghost use Rattle.std.specs.Prelude.{◌≡◌, ◌≤◌};
+ghost use Rattle.solo_run.specs.View.{IsView};
 
+use fp_setup::Setup;
 use machine::Machine;
 use selfrun::Selfrun;
+use solo_run::SoloView;
 
-/// A machine at its start, and the number of cycles that are asked for.
+/// A setup, its machine at its start, and the number of cycles that are asked for.
 #[derive(Drop)]
 pub struct Ready {
+    pub setup: Setup,
     pub machine: Machine,
     pub cycles: u64,
     ghost start: { machine.at ≡ 0 },
+    ghost limit: { cycles ≤ 4000000000 },
+}
+
+/// A thread's view, the setup that it is of, and the number of cycles that are asked for.
+#[derive(Drop)]
+pub struct Alone {
+    pub setup: Setup,
+    pub view: SoloView,
+    pub cycles: u64,
+    ghost rules: { IsView view },
     ghost limit: { cycles ≤ 4000000000 },
 }
 
@@ -21,6 +35,12 @@ pub enum Prepared {
     Trace { ready: Ready, thread: u8 },
     /// The machine after its cycles.
     Dump(Ready),
+    /// The lines of the settings of the scheduling.
+    Phases(Ready),
+    /// The lines of a thread's events, from its view alone.
+    Solo(Alone),
+    /// The line of a trace that is the defined one.
+    Same,
     /// The bytes of an image.
     Image(Vec<u8>),
     /// The line of a bound, in cycles.

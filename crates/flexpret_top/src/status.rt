@@ -7,11 +7,13 @@ ghost use Rattle.std.specs.Prelude.{◌≡◌};
 pub enum Status {
     /// The command's text was written.
     Ok = 0,
+    /// The recorded trace isn't the defined one; the line that tells where was written.
+    Differs = 1,
     /// The words ask no command.
     Usage = 2,
-    /// The setup has a fault, or the section that is asked for is none; its line was written.
+    /// The setup has a fault, or the section or thread that is asked for is none; its line was written.
     Setup = 3,
-    /// The image has a fault; its line was written.
+    /// The image, or the executable, has a fault; its line was written.
     Image = 4,
     /// The source has a fault; its line was written.
     Source = 5,
@@ -23,6 +25,8 @@ pub enum Status {
     Write = 8,
     /// Memory was refused; nothing was written.
     NoMemory = 9,
+    /// The list of routines has a fault; its line was written.
+    Routines = 10,
 }
 
 impl Status {

@@ -7,14 +7,16 @@ use trace_print::Refusal;
 /// What a refusal speaks of.
 #[derive(Clone, Copy)]
 pub enum Cause {
-    /// The setup, or the section that a bound is asked for.
+    /// The setup, or the section or thread that is asked for.
     Setup,
-    /// The image.
+    /// The image, or the executable that is to become one.
     Image,
     /// The source of an image.
     Source,
     /// The bound of a section.
     Bound,
+    /// The list of the routines that a section may call.
+    Routines,
 }
 
 impl Cause {
@@ -31,6 +33,7 @@ impl Cause {
             Cause::Image => Status::Image,
             Cause::Source => Status::Source,
             Cause::Bound => Status::Bound,
+            Cause::Routines => Status::Routines,
         }
     }
 }
@@ -40,6 +43,8 @@ impl Cause {
 pub enum Stop {
     /// Something has a fault.
     Refused(Cause, Refusal),
+    /// A recorded trace isn't the defined one, and first differs in this line.
+    Differs { line: u64 },
     /// A file isn't there, or could not be read.
     Read,
     /// Memory was refused.

@@ -31,3 +31,33 @@ returns-in-Bound-clause-refused c = grind (arith, common_steps)
 
 pub returns-in-Selfrun-clause-refused : goal.returns-in-Selfrun-clause-refused
 returns-in-Selfrun-clause-refused c = grind (arith, common_steps)
+
+pub returns-in-Phases-clause-given : goal.returns-in-Phases-clause-given
+returns-in-Phases-clause-given c = grind (arith, common_steps)
+
+pub returns-in-Phases-clause-refused : goal.returns-in-Phases-clause-refused
+returns-in-Phases-clause-refused c = grind (arith, common_steps)
+
+pub returns-in-Elf-clause-given : goal.returns-in-Elf-clause-given
+returns-in-Elf-clause-given c = grind (arith, common_steps)
+
+pub returns-in-Elf-clause-refused : goal.returns-in-Elf-clause-refused
+returns-in-Elf-clause-refused c = grind (arith, common_steps)
+
+pub returns-in-Solo-clause-given : goal.returns-in-Solo-clause-given
+returns-in-Solo-clause-given c = grind (arith, common_steps)
+
+pub returns-in-Solo-clause-refused : goal.returns-in-Solo-clause-refused
+returns-in-Solo-clause-refused c = rw c.in-Solo.is c.texts_of-in-Solo.ensures.refused
+
+pub returns-in-Check-clause-given : goal.returns-in-Check-clause-given
+returns-in-Check-clause-given c = grind (arith, common_steps)
+
+pub returns-in-Check-clause-refused : goal.returns-in-Check-clause-refused
+returns-in-Check-clause-refused c = rw c.in-Check.is c.texts_of-in-Check.ensures.refused
+
+pub returns-in-Calls-clause-given : goal.returns-in-Calls-clause-given
+returns-in-Calls-clause-given c = grind (arith, common_steps)
+
+pub returns-in-Calls-clause-refused : goal.returns-in-Calls-clause-refused
+returns-in-Calls-clause-refused c = rw c.in-Calls.is c.texts_of-in-Calls.ensures.refused

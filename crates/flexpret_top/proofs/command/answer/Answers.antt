@@ -1,9 +1,9 @@
-use Rattle.std.proofs.Common.{◌∙◌, inl, refl, subst}
+use Rattle.std.proofs.Common.{◌∙◌, ap, inl, inr, refl, subst}
 use Rattle.fp_ports.specs.Rows.{rows_of}
 use Rattle.flexpret_top.specs.Stops.{Ends}
 use Rattle.flexpret_top.specs.declared.stop.Stop.{Stop}
-use Rattle.flexpret_top.proofs.Ending.{all-of, answered-of, front-of, left-of, ok-no_nothing, ok-no_write, write-no_nothing, write-no_ok, write-no_small}
-use Rattle.flexpret_top.proofs.Stopping.{stop-said, stop-read, stop-write, stop-front, stop-complete, stop-leaves, stop-usage}
+use Rattle.flexpret_top.proofs.Ending.{all-of, answered-of, front-of, left-of, ok-no_difference, ok-no_nothing, ok-no_write, write-no_difference, write-no_nothing, write-no_ok}
+use Rattle.flexpret_top.proofs.Stopping.{difference-no_memory, no-difference, stop-said, stop-read, stop-write, stop-front, stop-complete, stop-leaves, stop-usage}
 use Rattle.flexpret_top.proofs.command.answer.Goals as goal
 
 pub prepare-requires-clause-limits : goal.prepare-requires-clause-limits
@@ -28,7 +28,7 @@ pub returns-in-Ok-deliver-clause-counted_out : goal.returns-in-Ok-deliver-clause
 returns-in-Ok-deliver-clause-counted_out g c = c.deliver.ensures.counted
 
 pub returns-in-Ok-deliver-clause-said : goal.returns-in-Ok-deliver-clause-said
-returns-in-Ok-deliver-clause-said g c small =
+returns-in-Ok-deliver-clause-said g c read write memory =
     all-of (g.F.Files.told c.args.files.now) c.args.ask.now _ _ c.in-Ok.prepared (g.K.Sink.taken c.args.out.now) (g.K.Sink.taken c.deliver.new.out)
     c.in-Ok.ensures.ok c.in-Ok-deliver.ensures.ok
 
@@ -56,7 +56,7 @@ pub returns-in-Ok-deliver-clause-eight : goal.returns-in-Ok-deliver-clause-eight
 returns-in-Ok-deliver-clause-eight g c = c.deliver.ensures.eight
 
 pub returns-in-Ok-deliver-clause-kept : goal.returns-in-Ok-deliver-clause-kept
-returns-in-Ok-deliver-clause-kept g c ok write memory = absurd (ok refl)
+returns-in-Ok-deliver-clause-kept g c ok differs write memory = absurd (ok refl)
 
 pub returns-in-Ok-deliver-clause-apart : goal.returns-in-Ok-deliver-clause-apart
 returns-in-Ok-deliver-clause-apart g c apart = c.deliver.ensures.apart (c.in-Ok.ensures.apart_from apart) ∙ c.prepare.ensures.apart apart
@@ -71,7 +71,7 @@ pub returns-in-Err-deliver-clause-counted_out : goal.returns-in-Err-deliver-clau
 returns-in-Err-deliver-clause-counted_out g c = c.deliver.ensures.counted
 
 pub returns-in-Err-deliver-clause-said : goal.returns-in-Err-deliver-clause-said
-returns-in-Err-deliver-clause-said g c small = absurd (write-no_small small)
+returns-in-Err-deliver-clause-said g c read write memory = absurd (write refl)
 
 pub returns-in-Err-deliver-clause-read : goal.returns-in-Err-deliver-clause-read
 returns-in-Err-deliver-clause-read g c read = absurd (write-no_nothing (inl read))
@@ -97,7 +97,7 @@ pub returns-in-Err-deliver-clause-eight : goal.returns-in-Err-deliver-clause-eig
 returns-in-Err-deliver-clause-eight g c = c.deliver.ensures.eight
 
 pub returns-in-Err-deliver-clause-kept : goal.returns-in-Err-deliver-clause-kept
-returns-in-Err-deliver-clause-kept g c ok write memory = absurd (write refl)
+returns-in-Err-deliver-clause-kept g c ok differs write memory = absurd (write refl)
 
 pub returns-in-Err-deliver-clause-apart : goal.returns-in-Err-deliver-clause-apart
 returns-in-Err-deliver-clause-apart g c apart = c.deliver.ensures.apart (c.in-Ok.ensures.apart_from apart) ∙ c.prepare.ensures.apart apart
@@ -112,10 +112,10 @@ pub returns-in-Err-clause-counted_out : goal.returns-in-Err-clause-counted_out
 returns-in-Err-clause-counted_out g c = c.end.ensures.counted
 
 pub returns-in-Err-clause-said : goal.returns-in-Err-clause-said
-returns-in-Err-clause-said g c small =
+returns-in-Err-clause-said g c read write memory =
     let rows = rows_of (λ b. (goal.Port-dyn g (b.vtable, b.value)).latched b.value) (λ b. (goal.Port-dyn g (b.vtable, b.value)).word_at b.value) c.args.ports.now.items in
     stop-said (g.F.Files.told c.args.files.now) c.args.ask.now rows (g.F.Files.faults c.args.files.now) (g.F.Files.faults c.prepare.new.files) c.in-Err.stop c.end.result
-    (g.K.Sink.faults c.args.out.now) (g.K.Sink.faults c.end.new.out) (g.K.Sink.taken c.args.out.now) (g.K.Sink.taken c.end.new.out) c.in-Err.ensures.stop c.end.ensures.ends small
+    (g.K.Sink.faults c.args.out.now) (g.K.Sink.faults c.end.new.out) (g.K.Sink.taken c.args.out.now) (g.K.Sink.taken c.end.new.out) c.in-Err.ensures.stop c.end.ensures.ends read write memory
 
 pub returns-in-Err-clause-read : goal.returns-in-Err-clause-read
 returns-in-Err-clause-read g c read =
@@ -152,12 +152,34 @@ returns-in-Err-clause-ports g c ok =
     (g.K.Sink.faults c.args.out.now) (g.K.Sink.faults c.end.new.out) (g.K.Sink.taken c.args.out.now) (g.K.Sink.taken c.end.new.out) c.end.ensures.ends ok
 
 pub returns-in-Err-clause-kept : goal.returns-in-Err-clause-kept
-returns-in-Err-clause-kept g c ok write memory =
+returns-in-Err-clause-kept g c ok differs write memory =
     let Stops : Stop → Type 0 = λ s. Ends s (g.K.Sink.faults c.args.out.now) (g.K.Sink.faults c.end.new.out) (g.K.Sink.taken c.args.out.now) (g.K.Sink.taken c.end.new.out) c.end.result in
-    c.in-Err.ensures.kept (λ none. memory (subst Stops none c.end.ensures.ends))
+    c.in-Err.ensures.kept (λ none. memory (subst Stops none c.end.ensures.ends)) (no-difference c.in-Err.stop c.end.result _ _ _ _ c.end.ensures.ends differs write)
 
 pub returns-in-Err-clause-apart : goal.returns-in-Err-clause-apart
 returns-in-Err-clause-apart g c apart = c.prepare.ensures.apart apart
 
 pub returns-in-Err-clause-eight : goal.returns-in-Err-clause-eight
 returns-in-Err-clause-eight g c = c.prepare.ensures.eight
+
+pub returns-in-Ok-deliver-clause-reads : goal.returns-in-Ok-deliver-clause-reads
+returns-in-Ok-deliver-clause-reads g c reads = c.deliver.ensures.reads (c.in-Ok.ensures.reads_for reads) ∙ c.prepare.ensures.reads reads
+
+pub returns-in-Err-deliver-clause-reads : goal.returns-in-Err-deliver-clause-reads
+returns-in-Err-deliver-clause-reads g c reads = c.deliver.ensures.reads (c.in-Ok.ensures.reads_for reads) ∙ c.prepare.ensures.reads reads
+
+pub returns-in-Err-clause-reads : goal.returns-in-Err-clause-reads
+returns-in-Err-clause-reads g c reads = c.prepare.ensures.reads reads
+
+pub returns-in-Ok-deliver-clause-differs : goal.returns-in-Ok-deliver-clause-differs
+returns-in-Ok-deliver-clause-differs g c differs = absurd (ok-no_difference differs)
+
+pub returns-in-Err-deliver-clause-differs : goal.returns-in-Err-deliver-clause-differs
+returns-in-Err-deliver-clause-differs g c differs = absurd (write-no_difference differs)
+
+pub returns-in-Err-clause-differs : goal.returns-in-Err-clause-differs
+returns-in-Err-clause-differs g c differs =
+    elim (c.in-Err.ensures.others (difference-no_memory c.in-Err.stop c.end.result _ _ _ _ c.end.ensures.ends differs)) [
+      | inl reads ↦ c.prepare.ensures.reads reads
+      | inr same ↦ ap (λ ports. rows_of (λ b. (goal.Port-dyn g (b.vtable, b.value)).latched b.value) (λ b. (goal.Port-dyn g (b.vtable, b.value)).word_at b.value) ports.items) same
+    ]

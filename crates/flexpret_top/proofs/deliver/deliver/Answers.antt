@@ -24,11 +24,11 @@ returns-in-Dump-clause-left g c = rw c.in-Dump.is (left-by c.put_dump.result c.i
 
 pub returns-in-Image-clause-ok : goal.returns-in-Image-clause-ok
 returns-in-Image-clause-ok g c =
-    rw c.in-Image.is (put-ok c.put.result (g.K.Sink.taken c.args.out.now) (g.K.Sink.taken c.put.new.self) c.deref.result.now c.in-Image.bytes.items c.deref.ensures.value c.put.ensures.ok)
+    rw c.in-Image.is (put-ok c.put-in-Image.result (g.K.Sink.taken c.args.out.now) (g.K.Sink.taken c.put-in-Image.new.self) c.deref.result.now c.in-Image.bytes.items c.deref.ensures.value c.put-in-Image.ensures.ok)
 
 pub returns-in-Image-clause-err : goal.returns-in-Image-clause-err
 returns-in-Image-clause-err g c =
-    rw c.in-Image.is (put-err c.put.result (g.K.Sink.taken c.args.out.now) (g.K.Sink.taken c.put.new.self) c.deref.result.now c.in-Image.bytes.items c.deref.ensures.value c.put.ensures.err)
+    rw c.in-Image.is (put-err c.put-in-Image.result (g.K.Sink.taken c.args.out.now) (g.K.Sink.taken c.put-in-Image.new.self) c.deref.result.now c.in-Image.bytes.items c.deref.ensures.value c.put-in-Image.ensures.err)
 
 pub returns-in-Bound-clause-ok : goal.returns-in-Bound-clause-ok
 returns-in-Bound-clause-ok g c =
@@ -47,3 +47,12 @@ returns-in-Selfrun-clause-ok g c =
 pub returns-in-Selfrun-clause-err : goal.returns-in-Selfrun-clause-err
 returns-in-Selfrun-clause-err g c =
     rw c.in-Selfrun.is (put-err c.put-in-Selfrun.result (g.K.Sink.taken c.args.out.now) (g.K.Sink.taken c.put-in-Selfrun.new.out) (tallies_text c.in-Selfrun.run'.tallies) (tallies_text c.in-Selfrun.run'.tallies) refl c.put-in-Selfrun.ensures.err)
+
+pub returns-in-Phases-clause-ok : goal.returns-in-Phases-clause-ok
+returns-in-Phases-clause-ok g c = rw c.in-Phases.is c.put_phases.ensures.ok
+
+pub returns-in-Phases-clause-err : goal.returns-in-Phases-clause-err
+returns-in-Phases-clause-err g c = rw c.in-Phases.is c.put_phases.ensures.err
+
+pub returns-in-Phases-clause-left : goal.returns-in-Phases-clause-left
+returns-in-Phases-clause-left g c = rw c.in-Phases.is c.put_phases.ensures.left

@@ -1,9 +1,9 @@
-use Rattle.std.proofs.Common.{sym, ◌∙◌}
+use Rattle.std.proofs.Common.{refl, sym, ◌∙◌}
 use Rattle.flexpret_top.proofs.Preparing.{ready-beside}
 use Rattle.flexpret_top.proofs.prepare.ready.Goals as goal
 
 pub returns-in-Ok-machine_beside-clause-ok : goal.returns-in-Ok-machine_beside-clause-ok
 returns-in-Ok-machine_beside-clause-ok g c =
     ready-beside _ _ (g.F.Files.told c.args.files.now) c.args.setup.now c.args.ports.now.items c.machine_beside.new.ports.items c.in-Ok.program _
-    c.in-Ok.ensures.ok c.in-Ok-machine_beside.ensures.fed (sym c.args.ports.now.ok.0 ∙ c.requires.eight) (sym c.machine_beside.new.ports.ok.0 ∙ c.in-Ok-machine_beside.ensures.eight)
+    c.in-Ok.ensures.ok c.in-Ok-machine_beside.ensures.fed refl (sym c.args.ports.now.ok.0 ∙ c.requires.eight) (sym c.machine_beside.new.ports.ok.0 ∙ c.in-Ok-machine_beside.ensures.eight)
     c.requires.limit c.in-Ok-machine_beside.ensures.stands

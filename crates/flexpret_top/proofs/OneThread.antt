@@ -1,0 +1,154 @@
+-- What a run of one thread alone has to do with the definition of its command.
+use Rattle.std.proofs.Common.{◌≡◌, ℕ, ◌+◌, ◌*◌, ◌<◌, ◌≤◌, Bool, true, false, cond, nat_eq, if◌then◌else◌, List, [], ◌∷◌, ◌++◌, length, take, drop, map, get_or, set, take-append-drop, find, is_some, nat_le, option_map, reverse, ap₂, Option, Some, None, Result, Ok, Err, refl, ap, sym, subst, ◌∙◌, arith, inl, inr}
+use Rattle.std.specs.Prelude.{IfSome, IsSomeAnd}
+use Rattle.std.specs.Str.{bytes_eq}
+use Rattle.std.proofs.lemmas.Bool.{cases_lt}
+use Rattle.std.proofs.lemmas.List.{get_or-map, length-take, take_all, take-append-le}
+use Rattle.std.proofs.lemmas.Bool.Decides.{nat_tests}
+use Rattle.std.proofs.lemmas.List.FromFn.{get_or-range_with_len}
+use Rattle.std.proofs.lemmas.Slice.Eq.{bytes_eq-Decides}
+use Rattle.fp_ports.proofs.RowLemmas.{rows_stay}
+use Rattle.std.proofs.lemmas.List.{reverse-append, set-set}
+use Rattle.std.proofs.lemmas.List.Folds.{find-append}
+use Rattle.std.specs.Option.{option_or}
+use Rattle.core_model.specs.View.{View}
+use Rattle.fp_ports.specs.Rows.{row_of, rows_of, word_seen}
+use Rattle.fp_ports.specs.Shown.{input_at, is_gone, shown_at}
+use Rattle.fp_setup.specs.declared.input_list.Input.{Input}
+use Rattle.fp_image.specs.declared.parts.Segment.{Segment}
+use Rattle.fp_io.specs.Content.{FileMap, Fetched}
+use Rattle.fp_ports.specs.Rows.{Row}
+use Rattle.fp_setup.specs.Meaning.{the_threads}
+use Rattle.fp_setup.specs.Settings.{Settings}
+use Rattle.setup_model.specs.Start.{start, shown_to}
+use Rattle.solo_run.specs.Checked.{IsChecked, first_differing_line, line_feeds}
+use Rattle.solo_run.specs.declared.checked.Checked.{Checked}
+use Rattle.solo_run.specs.declared.checked.Checked.TheVariants.{Same, Differs}
+use Rattle.solo_run.specs.Setup.{setup_view}
+use Rattle.solo_run.proofs.Compare.{front}
+use Rattle.world_model.specs.Viewed.{view, setting_of}
+use Rattle.solo_run.specs.View.{view_with}
+use Rattle.solo_run.specs.declared.view.SoloView.{SoloView}
+use Rattle.flexpret_top.specs.Alone.{compared, differs_text, same_text}
+use Rattle.flexpret_top.specs.Answer.{Answer, over_file}
+use Rattle.flexpret_top.specs.Answer.Answer.{Says}
+
+-- one of the threads stands at its own place
+thread-at : (i : ℕ) → i < 8 → get_or the_threads i 0 ≡ i
+thread-at i small = get_or-range_with_len 0 8 i 0 small ∙ omega arith
+
+-- the view of a setup's thread beside ports is the one that the code makes, with what it is shown
+pub view-beside : (s : Settings) (image : List Segment) (ports : List (Option Row)) (i n : ℕ) → i < 8 → setup_view s image i (shown_to s ports n i) ≡ view (start s image ports n) i
+unfolding setup_view start view setting_of
+view-beside s image ports i n small =
+    let shown : get_or (map (shown_to s ports n) the_threads) i [] ≡ shown_to s ports n i =
+    get_or-map (shown_to s ports n) the_threads i 0 [] small ∙ ap (shown_to s ports n) (thread-at i small) in
+    ap (λ shown. record (view (start s image ports n) i) { shown = shown }) (sym shown)
+
+-- a view of a setup's thread is that thread's
+pub view-thread : (v : SoloView) (s : Settings) (image : List Segment) (i : ℕ) → ((shown : List ℕ) → view_with v shown ≡ setup_view s image i shown) → v.thread ≡ i
+unfolding setup_view view setting_of
+view-thread v s image i views = ap (λ (v : View). v.setting.thread) (views [])
+
+itself : (x : ℕ) → nat_eq x x ≡ true
+itself x = grind (arith, nat_tests)
+
+-- what agrees within the first bytes
+front-left : (e rest xs : List ℕ) → front e xs < length e → front (e ++ rest) xs ≡ front e xs
+front-left [] rest xs l = absurd (omega (arith, l))
+front-left (y ∷ e) rest [] l = refl
+front-left (y ∷ e) rest (x ∷ xs) l = go (nat_eq y x) (λ k. front-left e rest xs k) l
+  where
+    go : (b : Bool) → (front e xs < length e → front (e ++ rest) xs ≡ front e xs) → cond b (1 + front e xs) 0 < length (y ∷ e) → cond b (1 + front (e ++ rest) xs) 0 ≡ cond b (1 + front e xs) 0
+    go true on l = let less : front e xs < length e = omega arith in ap (λ n. 1 + n) (on less)
+    go false on l = refl
+
+front-same : (xs : List ℕ) → front xs xs ≡ length xs
+front-same [] = refl
+front-same (x ∷ xs) = rw (itself x, front-same xs) (omega arith)
+
+-- the answer over the first bytes is that over the file, where these agree with the text no further than within them
+checked-long : (file given text rest : List ℕ) (answer : Checked) → file ≡ given ++ rest → front given text < length given → length given < length file → IsChecked given text answer → IsChecked file text answer
+checked-long file given text rest Same whole less longer is =
+    absurd (let all : front given text ≡ length given = ap (front given) (sym is) ∙ front-same given in omega (arith, all, less))
+checked-long file given text rest (Differs line) whole less longer is =
+    let at : front file text ≡ front given text = ap (λ xs. front xs text) whole ∙ front-left given rest text less in
+    let within : front given text ≤ length given = omega (arith, less) in
+    let same : take (front file text) file ≡ take (front given text) given =
+    ap (λ n. take n file) at ∙ ap (take (front given text)) whole ∙ take-append-le (front given text) given rest within in (
+      λ equal. (let all : front file text ≡ length file = ap (front file) (sym equal) ∙ front-same file in absurd (omega (arith, all, at, less, longer))),
+      is.1 ∙ ap (λ bytes. 1 + line_feeds bytes) (sym same),
+    )
+
+pub checked-file : (file given text : List ℕ) (n : ℕ) (answer : Checked) → given ≡ take (60 * n + 1) file → front given text ≤ 59 * n → IsChecked given text answer → IsChecked file text answer
+checked-file file given text n answer cut few is =
+    elim (cases_lt (60 * n + 1) (length file)) [
+      | inl past ↦
+          let long : length given ≡ 60 * n + 1 = ap length cut ∙ (let part = length-take (60 * n + 1) file in omega (arith, part, past)) in
+          let whole : file ≡ given ++ drop (60 * n + 1) file = sym (take-append-drop (60 * n + 1) file) ∙ ap (λ bytes. bytes ++ drop (60 * n + 1) file) (sym cut) in
+          checked-long file given text (drop (60 * n + 1) file) answer whole (omega (arith, few, long)) (omega (arith, long, past)) is
+      | inr short ↦ (let Is : List ℕ → Type 0 = λ bytes. IsChecked bytes text answer in subst Is (cut ∙ take_all (60 * n + 1) file short) is)
+    ]
+
+-- what a comparison answers
+abbrev pub said_by : Checked → Result (List ℕ) Answer
+said_by Same = Ok same_text
+said_by (Differs line) = Err (Says 1 (differs_text line))
+
+not-true : (b : Bool) → (b ≡ true → ⊥) → b ≡ false
+not-true true never = absurd (never refl)
+not-true false never = refl
+
+compared-by : (file text : List ℕ) (b : Bool) (answer : Result (List ℕ) Answer) → bytes_eq file text ≡ b →
+    (if b then Ok same_text else Err (Says 1 (differs_text (first_differing_line file text)))) ≡ answer → compared text file ≡ answer
+compared-by file text b answer is by =
+    ap (λ (b : Bool). if b then Ok same_text else Err (Says 1 (differs_text (first_differing_line file text)))) is ∙ by
+
+compared-is : (file text : List ℕ) (answer : Checked) → IsChecked file text answer → compared text file ≡ said_by answer
+compared-is file text Same is = compared-by file text true (Ok same_text) ((bytes_eq-Decides file text).1 is) refl
+compared-is file text (Differs line) is =
+    compared-by file text false (Err (Says 1 (differs_text line))) (not-true (bytes_eq file text) (λ equal. is.0 ((bytes_eq-Decides file text).0 equal)))
+    (ap (λ (l : ℕ). Err (Says 1 (differs_text l))) (sym is.1))
+
+-- over the file that the bytes were fetched of
+pub compared-file : (told : Option FileMap) (name bytes items text : List ℕ) (n most : ℕ) (answer : Checked) → most ≡ 60 * n → Fetched told name most items → bytes ≡ items →
+    front bytes text ≤ 59 * n → IsChecked bytes text answer → IfSome told (λ files. over_file (compared text) (files name) ≡ said_by answer)
+compared-file None name bytes items text n most answer limit fetched same few is = tt
+compared-file (Some files) name bytes items text n most answer limit fetched same few is = found (files name) fetched
+  where
+    found : (o : Option (List ℕ)) → IsSomeAnd o (λ whole. items ≡ take (most + 1) whole) → over_file (compared text) o ≡ said_by answer
+    found None there = absurd there
+    found (Some whole) there = compared-is whole text answer (checked-file whole bytes text n answer (same ∙ there ∙ ap (λ m. take (m + 1) whole) limit) few is)
+
+or-map : {A B : Type 0} → (g : A → B) (o p : Option A) → option_map g (option_or o p) ≡ option_or (option_map g o) (option_map g p)
+or-map g None p = refl
+or-map g (Some x) p = refl
+
+-- the last input's word
+pub last-word : (inputs : List Input) (c : ℕ) → option_map (λ (input : Input). input.word) (find (λ (input : Input). nat_le input.at c) (reverse inputs)) ≡
+    input_at (map (λ (input : Input). (input.at, input.word)) inputs) c
+last-word [] c = refl
+last-word (x ∷ inputs) c =
+    let pair : Input → ℕ × ℕ = λ input. (input.at, input.word) in
+    let early : Input → Bool = λ input. nat_le input.at c in
+    let soon : ℕ × ℕ → Bool = λ input. nat_le input.0 c in
+    let word : Input → ℕ = λ input. input.word in
+    let second : ℕ × ℕ → ℕ = λ input. input.1 in
+    let one : option_map word (find early (x ∷ [])) ≡ option_map second (find soon (pair x ∷ [])) = same_found (nat_le x.at c) in
+    ap (λ xs. option_map word (find early xs)) (reverse-append (x ∷ []) inputs)
+    ∙ ap (option_map word) (find-append early (reverse inputs) (x ∷ []))
+    ∙ or-map word (find early (reverse inputs)) (find early (x ∷ []))
+    ∙ ap₂ (λ (o p : Option ℕ). option_or o p) (last-word inputs c) one
+    ∙ sym (or-map second (find soon (reverse (map pair inputs))) (find soon (pair x ∷ [])))
+    ∙ sym (ap (option_map second) (find-append soon (reverse (map pair inputs)) (pair x ∷ [])))
+    ∙ sym (ap (λ xs. option_map second (find soon xs)) (reverse-append (pair x ∷ []) (map pair inputs)))
+  where
+    same_found : (b : Bool) → option_map (λ (input : Input). input.word) (cond b (Some x) None) ≡ option_map (λ (input : ℕ × ℕ). input.1) (cond b (Some (x.at, x.word)) None)
+    same_found true = refl
+    same_found false = refl
+
+-- a port that was taken out and is put back as it was leaves all as they were
+pub rows-back : {B : Type 0} → (latched : B → ℕ) (word_at : B → ℕ → ℕ) (ports : List (Option B)) (thread : ℕ) (gone x taken y : Option B) → x ≡ get_or ports thread x → thread < length ports → taken ≡ x →
+    row_of latched word_at y ≡ row_of latched word_at taken → rows_of latched word_at (set (set ports thread gone) thread y) ≡ rows_of latched word_at ports
+rows-back latched word_at ports thread gone x taken y read inside is same =
+    ap (rows_of latched word_at) (set-set ports thread gone y) ∙ rows_stay latched word_at ports thread x y read inside (same ∙ ap (row_of latched word_at) is)

@@ -1,0 +1,13 @@
+use Rattle.flexpret_top.proofs.AloneCommands.{check-differs, check-same}
+use Rattle.flexpret_top.proofs.prepare.check.Goals as goal
+
+pub returns-in-Ok-compare_alone-clause-ok : goal.returns-in-Ok-compare_alone-clause-ok
+returns-in-Ok-compare_alone-clause-ok g c =
+    check-same (g.F.Files.told c.args.files.now) (g.F.Files.told c.load_alone.new.files) c.args.setup.now c.args.thread c.args.cycles c.args.trace.now c.in-Ok.alone _ c.load_alone.ensures.told c.requires.thread
+    c.in-Ok.ensures.ok c.in-Ok-compare_alone.ensures.ok
+
+pub returns-in-Err-compare_alone-clause-stop : goal.returns-in-Err-compare_alone-clause-stop
+returns-in-Err-compare_alone-clause-stop g c =
+    check-differs (g.F.Files.told c.args.files.now) (g.F.Files.told c.load_alone.new.files) c.args.setup.now c.args.thread c.args.cycles c.args.trace.now c.in-Ok.alone _ c.load_alone.ensures.told c.requires.thread
+    (g.F.Files.faults c.args.files.now) (g.F.Files.faults c.load_alone.new.files) (g.F.Files.faults c.compare_alone.new.files) _ c.load_alone.ensures.counted
+    c.in-Ok.ensures.ok c.in-Err-compare_alone.ensures.stop

@@ -1,0 +1,8 @@
+use Rattle.std.proofs.Common.{nat_le, rules, tests}
+use Rattle.std.proofs.lemmas.Iterator.Adapters.{YieldsList-from_rev_slice}
+use Rattle.std.proofs.lemmas.Iterator.Search.{find_from_yields_List}
+use Rattle.flexpret_top.proofs.shown.last_input.Goals as goal
+
+pub returns : goal.returns
+returns c =
+    find_from_yields_List (λ input. nat_le input.at c.args.at) _ _ _ c.find.ensures.ran (YieldsList-from_rev_slice c.args.inputs.now (search rules)) (λ x b q k. search (rules, tests))

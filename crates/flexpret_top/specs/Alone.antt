@@ -1,0 +1,83 @@
+-- One thread of a program from its view alone, and a recorded trace beside the text of it.
+use Rattle.std.specs.Prelude.{◌≡◌, ℕ, ◌==◌, ◌++◌, not, if◌then◌else◌, List, Option, Some, None, Result, Ok, Err, codes, decimal}
+use Rattle.std.specs.Str.{bytes_eq}
+use Rattle.core_model.specs.Solo.{solo}
+use Rattle.fp_io.specs.Content.{FileMap}
+use Rattle.fp_ports.specs.Rows.{Row}
+use Rattle.fp_setup.specs.Settings.{Settings}
+use Rattle.setup_model.specs.Start.{shown_to, thread_of}
+use Rattle.slot_scheduler.specs.ModeWord.{mode_of}
+use Rattle.solo_run.specs.Checked.{first_differing_line}
+use Rattle.solo_run.specs.Setup.{setup_view}
+use Rattle.solo_run.specs.View.{view_with}
+use Rattle.trace_print.specs.Text.{text}
+use Rattle.trace_print.specs.declared.refusals.Refusal.TheVariants.{Section}
+use Rattle.world_model.specs.Viewed.{view}
+use Rattle.flexpret_top.specs.declared.ready.Alone.{Alone}
+use Rattle.flexpret_top.specs.declared.program.Program.{Program}
+use Rattle.flexpret_top.specs.Answer.{Answer, refused, then_by, over_file, ends}
+use Rattle.flexpret_top.specs.Answer.Answer.{Says}
+use Rattle.flexpret_top.specs.Program.{program}
+use Rattle.flexpret_top.specs.Run.{start_of}
+
+-- why a thread isn't run from its view alone, if so: it isn't hard, or else it isn't confined
+unfoldable pub alone_fault : Settings → ℕ → Option ℕ
+alone_fault s i =
+    if not (mode_of s.modes i == 0) then Some 1
+    else if not (thread_of s i).confined then Some 6
+    else None
+
+abbrev pub unless_fault : Program → Option ℕ → Result Program Answer
+unless_fault p None = Ok p
+unless_fault p (Some code) = Err (refused (Section code))
+
+-- a program whose thread i is run from its view alone
+abbrev pub alone_in : ℕ → Program → Result Program Answer
+alone_in i p = unless_fault p (alone_fault p.setup i)
+
+abbrev pub alone_program : FileMap → List ℕ → ℕ → Result Program Answer
+alone_program files name i = then_by (program files name) (alone_in i)
+
+-- the text of the one-thread definition over the thread's view in n cycles
+abbrev pub alone_text : List (Option Row) → ℕ → ℕ → Program → List ℕ
+alone_text ports i n p = text (solo (view (start_of p ports n) i) n)
+
+abbrev pub alone_of : List (Option Row) → ℕ → ℕ → Program → Result (List ℕ) Answer
+alone_of ports i n p = Ok (alone_text ports i n p)
+
+abbrev pub solo_answer : FileMap → List (Option Row) → List ℕ → ℕ → ℕ → Answer
+solo_answer files ports name i n = ends (then_by (alone_program files name i) (alone_of ports i n))
+
+abbrev pub same_text : List ℕ
+same_text = codes "same\n"
+
+-- a line, counted from 1, in decimal
+unfoldable pub differs_text : ℕ → List ℕ
+differs_text line = codes "differs line " ++ (decimal line ++ codes "\n")
+
+-- whether a recorded trace is the text, and else in which line they first differ
+abbrev pub compared : List ℕ → List ℕ → Result (List ℕ) Answer
+compared text given =
+    if bytes_eq given text then Ok same_text else Err (Says 1 (differs_text (first_differing_line given text)))
+
+abbrev pub checked_of : FileMap → List (Option Row) → ℕ → ℕ → List ℕ → Program → Result (List ℕ) Answer
+checked_of files ports i n trace p = over_file (compared (alone_text ports i n p)) (files trace)
+
+abbrev pub check_answer : FileMap → List (Option Row) → List ℕ → ℕ → ℕ → List ℕ → Answer
+check_answer files ports name i n trace = ends (then_by (alone_program files name i) (checked_of files ports i n trace))
+
+-- a view of the thread in the machine of a program, but for the words of its port
+pub record IsAloneOf (p : Program) (i n : ℕ) (a : Alone) : Type 0 where
+  pub setup : a.setup ≡ p.setup
+  pub thread : a.view.thread ≡ i
+  pub cycles : a.cycles ≡ n
+  pub views : (shown : List ℕ) → view_with a.view shown ≡ setup_view p.setup p.image i shown
+
+pub record IsAlone (files : FileMap) (name : List ℕ) (i n : ℕ) (a : Alone) : Type 0 where
+  pub made : Program
+  pub is : alone_program files name i ≡ Ok made
+  pub alone : IsAloneOf made i n a
+
+-- the text of its run beside the ports
+abbrev pub told_alone : Alone → List (Option Row) → List ℕ
+told_alone a ports = text (solo (view_with a.view (shown_to a.setup ports a.cycles a.view.thread)) a.cycles)

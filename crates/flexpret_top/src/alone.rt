@@ -1,0 +1,162 @@
+//! One thread of a program from its view alone.
+
+ghost use Rattle.std.specs.Prelude.{◌≡◌, ◌*◌, ◌<◌, ◌≤◌, nat_eq, false, Ok, Err, OnOk, OnErr, IfOk, IfErr, IfSome, vec_len};
+ghost use Rattle.std.specs.Io.KnownBytes.{Appends};
+ghost use Rattle.std.specs.List.{common_prefix_len};
+ghost use Rattle.fp_io.specs.Causes.{Rose};
+ghost use Rattle.fp_io.specs.Content.{AppendsFront};
+ghost use Rattle.fp_ports.specs.Rows.{rows_of};
+ghost use Rattle.solo_run.specs.Checked.{IsChecked};
+ghost use Rattle.flexpret_top.specs.Alone.{IsAlone, IsAloneOf, alone_fault, alone_in, alone_program, compared, same_text, told_alone};
+ghost use Rattle.flexpret_top.specs.Answer.{over_file};
+ghost use Rattle.flexpret_top.specs.Stops.{IsAnswerStop, IsStop, is_difference};
+
+use crate::program::{Program, fetch, load};
+use crate::ready::Alone;
+use crate::shown::ReadPort;
+use crate::stop::{Cause, Stop};
+use fp_io::{Files, PutFailed, Sink};
+use fp_ports::Ports;
+use fp_setup::Setup;
+use setup_model::modes;
+use solo_run::{Checked, SoloRun, SoloView};
+use std::alloc::Global;
+use trace_print::Refusal;
+
+/// More bytes than the line of an event has.
+const MOST_OF_A_LINE: usize = 60;
+
+/// Why a thread isn't run from its view alone, by the code of its fault, if so.
+#[tactic(auto, unfolding(crate::specs::Alone::alone_fault))]
+fn alone_fault(setup: &Setup, thread: u8) -> Option<u8>
+    requires { thread < 8 }
+    ensures { result ≡ alone_fault setup.now thread }
+{
+    if modes(setup).mode(thread) != 0 {
+        Some(1)
+    } else if !setup.threads.get(thread).confined {
+        Some(6)
+    } else {
+        None
+    }
+}
+
+/// A thread of a program, from its view alone.
+fn alone_in(alloc: Global, program: Program, thread: u8, cycles: u64) -> Result<Alone, Stop>
+    requires thread { thread < 8 }
+    requires limit { cycles ≤ 4000000000 }
+    ensures ok { IfOk result (IsAloneOf program thread cycles) }
+    ensures accepted { IfOk result (λ a. alone_in thread program ≡ Ok program) }
+    ensures stop { IfErr result (IsAnswerStop (λ x. alone_in thread program ≡ Err x)) }
+{
+    let Program { setup, image } = program;
+    if let Some(code) = alone_fault(&setup, thread) {
+        return Err(Stop::Refused(Cause::Setup, Refusal::Section { code }));
+    }
+    let view = SoloView::of(alloc, &setup, &image, thread)?;
+    Ok(Alone {
+        setup,
+        view,
+        cycles,
+    })
+}
+
+/// A thread of the program of a setup and the image that it names, from its view alone.
+pub fn load_alone<F: Files>(
+    alloc: Global,
+    name: &str,
+    thread: u8,
+    cycles: u64,
+    files: &mut F,
+) -> Result<Alone, Stop>
+    requires thread { thread < 8 }
+    requires limit { cycles ≤ 4000000000 }
+    ensures told { F.told files.new ≡ F.told files.old }
+    ensures counted { F.faults files.old ≤ F.faults files.new }
+    ensures ok { IfOk result (λ a. IfSome (F.told files.old) (λ told. IsAlone told name.now thread cycles a)) }
+    ensures cycles { IfOk result (λ a. a.cycles ≡ cycles) }
+    ensures stop { IfErr result (IsStop (F.told files.old) (λ told x. alone_program told name.now thread ≡ Err x) (F.faults files.old) (F.faults files.new)) }
+{
+    match load(alloc, name, files) {
+        Ok(program) => alone_in(alloc, program, thread, cycles),
+        Err(stop) => Err(stop),
+    }
+}
+
+/// Puts the lines of the thread's events.
+pub fn put_alone<K: Sink>(alone: Alone, ports: &mut Ports, out: &mut K) -> Result<(), PutFailed>
+    requires { vec_len ports.old ≡ 8 }
+    ensures ok { OnOk result (Appends (K.taken out.old) (K.taken out.new) (told_alone alone (rows_of latched word_at ports.old.items))) }
+    ensures err { OnErr result (AppendsFront (K.taken out.old) (K.taken out.new) (told_alone alone (rows_of latched word_at ports.old.items))) }
+    ensures failed { OnErr result (Rose (K.faults out.old) (K.faults out.new)) }
+    ensures counted { K.faults out.old ≤ K.faults out.new }
+    ensures rows { rows_of latched word_at ports.new.items ≡ rows_of latched word_at ports.old.items }
+    ensures eight { vec_len ports.new ≡ 8 }
+{
+    let Alone {
+        setup,
+        view,
+        cycles,
+    } = alone;
+    let thread = view.thread;
+    let mut port = ReadPort {
+        device: ports[thread as usize].take(),
+        thread: setup.threads.get(thread),
+    };
+    let put = SoloRun::new(view).run(cycles, &mut port, out);
+    ports[thread as usize] = port.device;
+    put
+}
+
+/// Compares a recorded trace with the lines of the thread's events.
+pub fn check_alone(alone: Alone, ports: &mut Ports, given: &[u8]) -> Checked
+    requires { vec_len ports.old ≡ 8 }
+    ensures checked { IsChecked given.now (told_alone alone (rows_of latched word_at ports.old.items)) result }
+    ensures front { common_prefix_len nat_eq given.now (told_alone alone (rows_of latched word_at ports.old.items)) ≤ 59 * alone.cycles }
+    ensures rows { rows_of latched word_at ports.new.items ≡ rows_of latched word_at ports.old.items }
+    ensures eight { vec_len ports.new ≡ 8 }
+{
+    let Alone {
+        setup,
+        view,
+        cycles,
+    } = alone;
+    let thread = view.thread;
+    let mut port = ReadPort {
+        device: ports[thread as usize].take(),
+        thread: setup.threads.get(thread),
+    };
+    let checked = SoloRun::new(view).check(cycles, &mut port, given);
+    ports[thread as usize] = port.device;
+    checked
+}
+
+/// Fetches a recorded trace, and compares it with the lines of the thread's events.
+///
+/// # Errors
+///
+/// Where they differ, with the line; where the trace isn't there or can't be read.
+pub fn compare_alone<F: Files>(
+    alloc: Global,
+    alone: Alone,
+    trace: &str,
+    files: &mut F,
+    ports: &mut Ports,
+) -> Result<(), Stop>
+    requires { vec_len ports.old ≡ 8 }
+    ensures told { F.told files.new ≡ F.told files.old }
+    ensures counted { F.faults files.old ≤ F.faults files.new }
+    ensures ok { OnOk result (IfSome (F.told files.old) (λ told. over_file (compared (told_alone alone (rows_of latched word_at ports.old.items))) (told trace.now) ≡ Ok same_text)) }
+    ensures stop { IfErr result (IsStop (F.told files.old) (λ told x. over_file (compared (told_alone alone (rows_of latched word_at ports.old.items))) (told trace.now) ≡ Err x) (F.faults files.old) (F.faults files.new)) }
+    ensures kept { IfErr result (λ stop. is_difference stop ≡ false → ports.new ≡ ports.old) }
+    ensures rows { rows_of latched word_at ports.new.items ≡ rows_of latched word_at ports.old.items }
+    ensures eight { vec_len ports.new ≡ 8 }
+{
+    match fetch(alloc, trace, MOST_OF_A_LINE * alone.cycles as usize, files) {
+        Ok(given) => match check_alone(alone, ports, &given) {
+            Checked::Same => Ok(()),
+            Checked::Differs { line } => Err(Stop::Differs { line }),
+        },
+        Err(stop) => Err(stop),
+    }
+}

@@ -1,0 +1,80 @@
+//! What a run of one thread alone finds at the thread's port.
+
+ghost use Rattle.std.specs.Prelude.{◌≡◌, Option, List, find, map, nat_le, option_copied, reverse};
+ghost use Rattle.fp_ports.specs.Rows.{Row, row_of, word_seen};
+ghost use Rattle.fp_ports.specs.Shown.{input_at, is_gone, shown_at};
+ghost use Rattle.fp_setup.specs.declared.input_list.Input.{Input};
+ghost use Rattle.setup_model.specs.Start.{inputs_of};
+
+use fp_ports::Port;
+use fp_setup::{Input, ThreadSetup};
+use solo_run::Shown;
+
+/// A thread's port that is read, and neither fed nor written: before what the device shows come the
+/// setup's inputs, and from its unplugging on it isn't there.
+#[derive(Drop)]
+pub struct ReadPort<'a> {
+    pub device: Option<Box<dyn Port>>,
+    pub thread: &'a ThreadSetup,
+}
+
+impl Shown for ReadPort<'_> {
+    ghost word_at = { λ s. shown_at (row_of (λ b. (Port-box b).latched b.value) (λ b. (Port-box b).word_at b.value) s.device) (inputs_of s.thread.now) s.thread.now.unplug };
+
+    ghost Kept = { Option Row };
+
+    ghost kept = { λ s. row_of (λ b. (Port-box b).latched b.value) (λ b. (Port-box b).word_at b.value) s.device };
+
+    fn word(&mut self, at: u64) -> u32 {
+        word_beside(&mut self.device, self.thread, at)
+    }
+}
+
+/// The word that a thread with a device at its port finds there in a cycle.
+fn word_beside(device: &mut Option<Box<dyn Port>>, thread: &ThreadSetup, at: u64) -> u32
+    ensures value { result ≡ shown_at (row_of latched word_at device.old) (inputs_of thread.now) thread.now.unplug at }
+    ensures row { row_of latched word_at device.new ≡ row_of latched word_at device.old }
+{
+    if is_gone(thread.unplug, at) {
+        return u32::MAX;
+    }
+    match input_at(thread.inputs.as_slice(), at) {
+        Some(word) => { if device.is_some() { word } else { u32::MAX } }
+        None => read_device(device, at),
+    }
+}
+
+/// Whether a port is taken away by a cycle.
+fn is_gone(unplug: Option<u64>, at: u64) -> bool
+    ensures { result ≡ is_gone unplug at }
+{
+    match unplug {
+        Some(unplug) => unplug <= at,
+        None => false,
+    }
+}
+
+/// The last input whose cycle is at most `at`, if there is one.
+fn last_input(inputs: &[Input], at: u64) -> Option<&Input>
+    ensures { option_copied result ≡ find (λ input. nat_le input.at at) (reverse inputs.entry.now) }
+{
+    inputs.iter().rev().find(|input| input.at <= at)
+}
+
+/// Its word.
+fn input_at(inputs: &[Input], at: u64) -> Option<u32>
+    ensures { result ≡ input_at (map (λ (input : Input). (input.at, input.word)) inputs.now) at }
+{
+    last_input(inputs, at).map(|input| input.word)
+}
+
+/// The word that a device shows in a cycle; one that isn't there shows ones.
+fn read_device(device: &mut Option<Box<dyn Port>>, at: u64) -> u32
+    ensures value { result ≡ word_seen (row_of latched word_at device.old) at }
+    ensures row { row_of latched word_at device.new ≡ row_of latched word_at device.old }
+{
+    match device {
+        Some(device) => device.read(at),
+        None => u32::MAX,
+    }
+}
