@@ -1,7 +1,7 @@
 //! What the program answers to a command.
 
 use crate::cases::{Case, Command, Cut};
-use crate::devices::{DropPort, StepPort};
+use crate::devices::{CountPort, DropPort, StepPort};
 use crate::ports::{half_of, left_at};
 use flexpret_top::flexpret;
 use fp_io::{MemFiles, MemSink};
@@ -65,19 +65,21 @@ fn status_of(alloc: Global, bench: &mut Bench, ports: &mut Ports) -> u8 {
 
 /// The program's status beside devices of some kinds, and what is left at the ports then. The kinds have
 /// a space between two: `h` is a device that holds what it is fed, `wN` a square wave, `step` one that
-/// shows the cycle, `drop` one that counts its drops in `drops`, `-` none.
+/// shows the cycle, `drop` one that counts its drops, `count` one whose calls are counted, `-` none.
 fn status_beside(
     alloc: Global,
     kinds: &str,
     bench: &mut Bench,
 ) -> Result<(u8, String), AllocError> {
     let drops = Rc::new(alloc, Cell::new(0))?;
+    let calls = Rc::new(alloc, Cell::new(0))?;
     let mut ports: Ports = Vec::new(alloc);
     for kind in kinds.split(' ') {
         let half = half_of(kind);
         let port: Option<Box<dyn Port>> = match kind {
             "h" => Some(Box::new(alloc, HeldPort::new(alloc))?),
             "step" => Some(Box::new(alloc, StepPort::new())?),
+            "count" => Some(Box::new(alloc, CountPort::new(&calls)?)?),
             "drop" => Some(Box::new(alloc, DropPort::new(alloc, &drops)?)?),
             _ if half > 0 => Some(Box::new(alloc, WavePort::new(alloc, half))?),
             _ => None,
@@ -85,7 +87,12 @@ fn status_beside(
         ports.push(port)?;
     }
     let status = status_of(alloc, bench, &mut ports);
-    Ok((status, left_at(alloc, ports, &drops)?))
+    let called = calls.get();
+    let mut left = left_at(alloc, ports, &drops)?;
+    if kinds.contains("count") {
+        write!(left, " called {called}")?;
+    }
+    Ok((status, left))
 }
 
 /// What a command is run with, and what it writes to.

@@ -29,7 +29,7 @@ pub struct Fails {
 enum Style {
     /// As they are. No line end follows a line whose last byte is a backslash, and that isn't written.
     Plain,
-    /// With the abbreviations of a dump, or of a trace.
+    /// With the abbreviations of a dump, or of a trace, as those of settings.
     Dump,
     Trace,
     /// In hexadecimal digits.
@@ -70,11 +70,14 @@ enum Part {
 fn style_of(status: u8, line: &str) -> Style {
     if status != 0 {
         Style::Plain
-    } else if line.starts_with("run") {
+    } else if ["run", "solo", "phases"]
+        .iter()
+        .any(|name| line.starts_with(*name))
+    {
         Style::Trace
     } else if line.starts_with("dump") {
         Style::Dump
-    } else if line.starts_with("asm") {
+    } else if line.starts_with("asm") || line.starts_with("elf") {
         Style::Digits
     } else {
         Style::Plain
@@ -124,7 +127,8 @@ fn status_of(head: &str) -> u8 {
 }
 
 impl Case {
-    fn named(alloc: Global, name: &str) -> Result<Case, AllocError> {
+    /// The case of a name, with nothing else yet.
+    pub fn named(alloc: Global, name: &str) -> Result<Case, AllocError> {
         Ok(Case {
             name: String::from_str(alloc, name)?,
             ports: String::new(alloc),
@@ -175,7 +179,20 @@ impl Case {
                 self.begin_file(alloc, name)?;
                 Ok(Part::File(Style::Digits))
             }
+            Some(("written", name)) => {
+                self.begin_file(alloc, name)?;
+                self.copy_written()?;
+                Ok(Part::File(Style::Plain))
+            }
             _ => Ok(Part::Ports),
+        }
+    }
+
+    /// Gives the last file what the last command writes.
+    fn copy_written(&mut self) -> Result<(), AllocError> {
+        match (self.files.last_mut(), self.commands.last()) {
+            (Some(file), Some(command)) => file.bytes.extend_from_slice(&command.text),
+            _ => Ok(()),
         }
     }
 

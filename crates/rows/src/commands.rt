@@ -24,13 +24,13 @@ fn agrees(rt: HostRuntime, case: &Case, command: &Command) -> io::Result<bool> {
     Ok(false)
 }
 
-/// The tally of a table.
-fn compared(rt: HostRuntime, table: &str) -> io::Result<Tally> {
+/// The tally of cases.
+fn tally_of(rt: HostRuntime, cases: &[Case]) -> io::Result<Tally> {
     let mut tally = Tally {
         commands: 0,
         differ: 0,
     };
-    for case in &cases(rt.alloc(), table)? {
+    for case in cases {
         for command in &case.commands {
             tally.commands = tally.commands.saturating_add(1);
             if !agrees(rt, case, command)? {
@@ -44,7 +44,12 @@ fn compared(rt: HostRuntime, table: &str) -> io::Result<Tally> {
 /// Compares the commands of a table.
 pub fn compare(rt: HostRuntime, name: &str) -> io::Result<()> {
     let table = fs::read_to_string(&rt, name)?;
-    let tally = compared(rt, table.as_str())?;
+    compare_cases(rt, name, &cases(rt.alloc(), table.as_str())?)
+}
+
+/// Compares the commands of cases.
+pub fn compare_cases(rt: HostRuntime, name: &str, cases: &[Case]) -> io::Result<()> {
+    let tally = tally_of(rt, cases)?;
     println!(rt;
         "{name}: {} commands, {} differ",
         tally.commands, tally.differ

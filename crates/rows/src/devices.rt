@@ -60,6 +60,52 @@ impl Port for StepPort {
     }
 }
 
+/// Counts the calls that are made of it in a shared counter, and shows 0.
+#[derive(Drop)]
+pub struct CountPort {
+    latch: u32,
+    calls: Rc<Cell<u32>>,
+}
+
+impl CountPort {
+    pub fn new(calls: &Rc<Cell<u32>>) -> Result<CountPort, AllocError> {
+        Ok(CountPort {
+            latch: 0,
+            calls: calls.clone()?,
+        })
+    }
+
+    fn count(&self) {
+        self.calls.set(self.calls.get().wrapping_add(1));
+    }
+}
+
+impl Port for CountPort {
+    ghost word_at = { λ _ c. 0 };
+
+    ghost latched = { λ port. port.latch };
+
+    fn feed(&mut self, _at: u64, _word: u32) -> Result<(), AllocError> {
+        self.count();
+        Err(AllocError)
+    }
+
+    fn read(&mut self, _at: u64) -> u32 {
+        self.count();
+        0
+    }
+
+    fn write(&mut self, word: u32) {
+        self.count();
+        self.latch = word;
+    }
+
+    fn latch(&self) -> u32 {
+        self.count();
+        self.latch
+    }
+}
+
 /// Counts its drops in a shared counter.
 pub struct DropPort {
     held: HeldPort,

@@ -5,8 +5,9 @@
 //! The tables stand in the folder where it runs. A line of a table is an answer, a tab, and the call
 //! with what it is called with; in `setups.txt` a call is several lines after `=== `, and each line of its
 //! answer begins with `--- `; the tables of command lines say at their head how they are written. Beside
-//! them stands the source of an example, which is assembled to the bytes of its image. Standard output has
-//! each call and command at which the two differ, and for each table how many there are and how many differ.
+//! them stand files of examples: a source and an executable, each with its image, and a setup with what
+//! commands over it write. Standard output has each call and command at which the two differ, and for each
+//! table how many there are and how many differ.
 #![tactic(auto)]
 
 mod answer;
@@ -14,7 +15,9 @@ mod bounds;
 mod cases;
 mod commands;
 mod devices;
+mod elf;
 mod escapes;
+mod examples;
 mod expanded;
 mod files;
 mod images;
@@ -25,6 +28,7 @@ mod numbers;
 mod pipelines;
 mod ports;
 mod programs;
+mod routines;
 mod runs;
 mod sections;
 mod setups;
@@ -47,6 +51,7 @@ enum Table {
     Lines,
     Tokens,
     Images,
+    Executables,
     Sections,
     Words,
     Units,
@@ -56,13 +61,15 @@ enum Table {
     Sources,
     Programs,
     Solo,
+    Routines,
 }
 
-const TABLES: [(&str, Table); 17] = [
+const TABLES: [(&str, Table); 19] = [
     ("instructions.txt", Table::Instructions),
     ("lines.txt", Table::Lines),
     ("tokens.txt", Table::Tokens),
     ("images.txt", Table::Images),
+    ("elf.txt", Table::Executables),
     ("sections.txt", Table::Sections),
     ("words.txt", Table::Words),
     ("units.txt", Table::Units),
@@ -76,6 +83,16 @@ const TABLES: [(&str, Table); 17] = [
     ("results.txt", Table::Instructions),
     ("programs.txt", Table::Programs),
     ("solo.txt", Table::Solo),
+    ("routines.txt", Table::Routines),
+];
+
+/// The tables of command lines.
+const COMMANDS: [&str; 5] = [
+    "commands.txt",
+    "worlds.txt",
+    "settings.txt",
+    "worked.txt",
+    "calls.txt",
 ];
 
 impl Table {
@@ -106,6 +123,7 @@ impl Table {
             Table::Lines => lines::push_answer(text, call),
             Table::Tokens => tokens::push_answer(text, alloc, call),
             Table::Images => images::push_answer(text, alloc, call),
+            Table::Executables => elf::push_answer(text, alloc, call),
             Table::Sections => sections::push_answer(text, alloc),
             Table::Words => words::push_answer(text, alloc, call),
             Table::Units => units::push_answer(text, alloc, call),
@@ -115,6 +133,7 @@ impl Table {
             Table::Sources => sources::push_answer(text, alloc, call),
             Table::Programs => programs::push_answer(text, alloc, call),
             Table::Solo => solo::push_answer(text, rt, call),
+            Table::Routines => routines::push_answer(text, alloc, call),
         }
     }
 }
@@ -153,7 +172,7 @@ fn compare(rt: HostRuntime, name: &str, table: Table) -> io::Result<()> {
 }
 
 /// Compares what the source of an example gives with the example's image.
-fn compare_example(rt: HostRuntime) -> io::Result<()> {
+fn compare_image(rt: HostRuntime) -> io::Result<()> {
     let source = fs::read(&rt, "drive.s")?;
     let image = fs::read(&rt, "drive.fpx")?;
     let same = sources::gives(rt.alloc(), &source, &image)?;
@@ -164,7 +183,10 @@ fn main(rt: HostRuntime) -> io::Result<()> {
     for (name, table) in &TABLES {
         compare(rt, name, *table)?;
     }
-    compare_example(rt)?;
-    commands::compare(rt, "commands.txt")?;
-    commands::compare(rt, "worlds.txt")
+    compare_image(rt)?;
+    examples::compare(rt)?;
+    for name in COMMANDS {
+        commands::compare(rt, name)?;
+    }
+    Ok(())
 }

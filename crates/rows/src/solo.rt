@@ -3,7 +3,7 @@
 //! bytes the thread's trace has. The trace itself goes nowhere, so that what takes time is the engine.
 
 ghost use Rattle.std.specs.Prelude.{◌≤◌};
-ghost use Rattle.solo_run.specs.Solo.{IsView};
+ghost use Rattle.solo_run.specs.View.{IsView};
 
 use crate::numbers::{head, number, thread_of};
 use fp_image::read_image;

@@ -42,6 +42,43 @@ fn push_ask(text: &mut String, ask: &Ask) -> Result<(), AllocError> {
             )
         }
         Ask::Selfrun { number } => push_asked(text, "selfrun", "", &[u64::from(*number)]),
+        Ask::Phases { setup, cycles } => push_asked(text, "phases ", setup.as_str(), &[*cycles]),
+        Ask::Solo {
+            setup,
+            thread,
+            cycles,
+        } => push_asked(
+            text,
+            "solo ",
+            setup.as_str(),
+            &[u64::from(*thread), *cycles],
+        ),
+        Ask::Check {
+            setup,
+            thread,
+            cycles,
+            trace,
+        } => {
+            let numbers = [u64::from(*thread), *cycles];
+            push_asked(text, "check ", setup.as_str(), &numbers)?;
+            write!(text, " {}", trace.as_str())
+        }
+        Ask::Elf { file } => push_asked(text, "elf ", file.as_str(), &[]),
+        Ask::Calls {
+            setup,
+            thread,
+            section,
+            routines,
+        } => {
+            let (from, to) = (u64::from(section.from), u64::from(section.to));
+            push_asked(
+                text,
+                "calls ",
+                setup.as_str(),
+                &[u64::from(*thread), from, to],
+            )?;
+            write!(text, " {}", routines.as_str())
+        }
     }
 }
 

@@ -1,0 +1,77 @@
+//! The examples of the repository: commands over their files, of which copies stand in the folder where it
+//! runs.
+
+use crate::cases::{Case, Command, Fails, File};
+use crate::commands;
+use std::{fs, io};
+
+/// The names of files in commands and setups, each with its copy.
+const FILES: [(&str, &str); 7] = [
+    ("examples/calls.s", "calls.s"),
+    ("examples/calls.fpx", "calls.fpx"),
+    ("examples/calls.toml", "calls.toml"),
+    ("examples/calls.routines", "calls.routines"),
+    ("examples/c/pid.elf", "pid.elf"),
+    ("examples/c/pid.fpx", "pid.fpx"),
+    ("examples/c/pid.toml", "pid.toml"),
+];
+
+/// Commands, each with the file that has what it writes.
+const COMMANDS: [(&str, &str); 6] = [
+    ("asm examples/calls.s", "calls.fpx"),
+    (
+        "run examples/calls.toml --thread 0 --cycles 200",
+        "calls.trace",
+    ),
+    (
+        "calls examples/calls.toml --thread 0 --from 0x8 --to 0x18 --routines examples/calls.routines",
+        "calls.bound",
+    ),
+    ("elf examples/c/pid.elf", "pid.fpx"),
+    (
+        "run examples/c/pid.toml --thread 0 --cycles 1250",
+        "pid.trace",
+    ),
+    (
+        "bound examples/c/pid.toml --thread 0 --from 0xb4 --to 0x1a4",
+        "pid.bound",
+    ),
+];
+
+/// Compares what the commands write.
+pub fn compare(rt: HostRuntime) -> io::Result<()> {
+    let mut case = Case::named(rt.alloc(), "examples")?;
+    case.ports.push_str("h h h h h h h h")?;
+    for (name, copy) in &FILES {
+        add_file(rt, &mut case, name, copy)?;
+    }
+    for (line, wanted) in &COMMANDS {
+        add_command(rt, &mut case, line, wanted)?;
+    }
+    commands::compare_cases(rt, "examples", &vec![in rt.alloc(); case]?)
+}
+
+/// Adds a file with the bytes of its copy.
+fn add_file(rt: HostRuntime, case: &mut Case, name: &str, copy: &str) -> io::Result<()> {
+    case.files.push(File {
+        name: String::from_str(rt.alloc(), name)?,
+        bytes: fs::read(&rt, copy)?,
+    })?;
+    Ok(())
+}
+
+/// Adds a command that is to write what a file has.
+fn add_command(rt: HostRuntime, case: &mut Case, line: &str, wanted: &str) -> io::Result<()> {
+    case.commands.push(Command {
+        line: String::from_str(rt.alloc(), line)?,
+        files: case.files.len(),
+        fails: Fails {
+            fetch: None,
+            put: None,
+        },
+        status: 0,
+        text: fs::read(&rt, wanted)?,
+        ports: None,
+    })?;
+    Ok(())
+}
