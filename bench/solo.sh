@@ -1,27 +1,41 @@
 #!/usr/bin/env bash
-# Cycles a second of the engine of one thread, over plain arithmetic with four slots: one thread from
-# its view alone, whose trace is made and counted, and written nowhere. It is no part of the gate. The
-# program rows reads the run as a table of one row, beside empty tables, and tells how many bytes the
-# trace has.
+# Cycles a second of `run`, `solo` and `check` over the same setups, called in turn: the example of a control loop with
+# thread 0, and four hard threads of plain arithmetic. `check` compares the trace that `solo` wrote, over the most
+# cycles that it takes. Medians of five. It is no part of the gate.
 set -eu
 top=$(cd "$(dirname "${BASH_SOURCE[0]}")/.." && pwd)
 work=$(mktemp -d)
 trap 'rm -rf "$work"' EXIT
-(cd "$top/crates/rows" && rt run --jobs 1 >/dev/null 2>&1 || true)
+mkdir "$work/examples"
+cp "$top"/examples/drive.* "$work/examples"
 cp "$top"/crates/rows/data/plain.toml "$top"/crates/rows/data/plain.fpx "$work"
+"$top/flexpret" asm "$top/examples/drive.s" >/dev/null
 cd "$work"
-for table in "$top"/crates/rows/data/*.txt drive.s drive.fpx; do
-    : >"$(basename "$table")"
-done
-for cycles in 1000000 10000000 50000000; do
-    printf 'measured\tplain.toml plain.fpx 0 %s\n' "$cycles" >solo.txt
-    python3 - "$top/crates/rows/out/rows" "$cycles" <<'PY'
-import resource, subprocess, sys
-program, cycles = sys.argv[1:]
-told = subprocess.run([program], stdout=subprocess.PIPE, text=True, check=True).stdout.splitlines()
-said = next(line for line in told if line.startswith('plain.toml'))
-used = resource.getrusage(resource.RUSAGE_CHILDREN)
-busy = used.ru_utime + used.ru_stime
-print(f'{said}: {int(cycles) / busy / 1e6:.2f} million cycles a second of processor time, {busy:.2f} s, {used.ru_maxrss} KB')
+python3 - "$top/crates/flexpret_cli/out/flexpret_cli" <<'PY'
+import resource, statistics, subprocess, sys
+
+program, cycles, rounds = sys.argv[1], 1_000_000, 5
+
+
+def busy(*words):
+    before = resource.getrusage(resource.RUSAGE_CHILDREN)
+    with open('written', 'wb') as written:
+        subprocess.run([program, *words, '--thread', '0', '--cycles', str(cycles)], stdout=written, check=True)
+    after = resource.getrusage(resource.RUSAGE_CHILDREN)
+    return after.ru_utime + after.ru_stime - before.ru_utime - before.ru_stime
+
+
+for setup in ('examples/drive.toml', 'plain.toml'):
+    busy('solo', setup)
+    subprocess.run(['cp', 'written', 'recorded'], check=True)
+    took = {'run': [], 'solo': [], 'check': []}
+    for _ in range(rounds):
+        took['run'].append(busy('run', setup))
+        took['solo'].append(busy('solo', setup))
+        took['check'].append(busy('check', setup, '--trace', 'recorded'))
+    median = {command: statistics.median(times) for command, times in took.items()}
+    for command, seconds in median.items():
+        print(f'{setup} {command}: {cycles / seconds / 1e6:.2f} million cycles a second of processor time')
+    print(f"{setup}: solo takes {median['solo'] / median['run']:.2f} of run's time, "
+          f"check {median['check'] / median['solo']:.2f} of solo's")
 PY
-done
