@@ -1,4 +1,4 @@
-//! Eight threads with 31 words each.
+//! Eight threads with 31 registers each, and x0.
 
 ghost use Rattle.std.specs.Prelude.{◌≡◌, ◌<◌, length, replicate, slice_set};
 ghost use Rattle.regfile_bank.specs.Registers.{register, registers_of, with_register};
@@ -9,17 +9,23 @@ use std::marker::Model;
 /// 0 to 7, and a register 0 to 31.
 #[derive(Clone, Copy, Debug)]
 pub struct Bank {
-    rows: [[u32; 31]; 8],
+    // A row of 32 words for each thread. The first is x0's and stays 0, so that a read needs no test.
+    rows: [[u32; 32]; 8],
 }
 
 impl Model for Bank {
-    ghost use Rattle.std.specs.Prelude.{List, ℕ};
+    ghost use Rattle.std.specs.Prelude.{List, ℕ, All, map, drop};
+    ghost use Rattle.regfile_bank.specs.Kept.{IsRow, with_x0, rows_again};
 
     ghost Value = { List (List ℕ) };
 
-    ghost view = { λ b. b.rows };
+    ghost view = { λ b. map (drop 1) b.rows };
 
-    ghost inverse = { λ rows. record { rows = rows } };
+    ghost invariant = { λ b. All IsRow b.rows };
+
+    ghost inverse = { λ registers. record { rows = map with_x0 registers } };
+
+    ghost inverse_ok = { λ b all i. record { rows = rows_again b.rows all i } };
 }
 
 impl Bank {
@@ -27,7 +33,7 @@ impl Bank {
     pub fn new() -> Bank
         ensures { result ≡ replicate 8 (replicate 31 0) }
     {
-        Bank { rows: [[0; 31]; 8] }
+        Bank { rows: [[0; 32]; 8] }
     }
 
     /// The word of a thread's register.
@@ -38,7 +44,7 @@ impl Bank {
         ensures words { length (registers_of self.now thread) ≡ 31 }
     {
         let row = &self.rows[thread as usize];
-        if x == 0 { 0 } else { row[x as usize - 1] }
+        row[x as usize]
     }
 
     /// Gives a thread's register a word.
@@ -49,9 +55,8 @@ impl Bank {
         ensures words { length (registers_of self.new thread) ≡ 31 }
         ensures eight { length self.new ≡ 8 }
     {
-        let row = &mut self.rows[thread as usize];
         if x != 0 {
-            row[x as usize - 1] = v;
+            self.rows[thread as usize][x as usize] = v;
         }
     }
 }
