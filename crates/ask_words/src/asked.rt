@@ -4,13 +4,16 @@ ghost use Rattle.std.specs.Prelude.{◌≡◌};
 
 use file_name::Name;
 use std::alloc::AllocError;
+use thiserror::Error;
 
 /// Why words are no command.
-#[derive(Clone, Copy, Debug, PartialEq, Eq, Drop)]
+#[derive(Clone, Copy, Debug, PartialEq, Eq, Drop, Error)]
 pub enum WordsNo {
     /// The words ask nothing.
+    #[error("the words ask nothing")]
     Usage = 1,
     /// Memory was refused.
+    #[error("out of memory")]
     NoMemory = 2,
 }
 

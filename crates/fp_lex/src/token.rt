@@ -2,9 +2,8 @@
 ghost use Rattle.std.specs.Prelude.{◌≡◌};
 
 use std::alloc::AllocFailed;
-use std::error::Error;
-use std::fmt;
 use std::marker::Model;
+use thiserror::Error;
 
 /// What a token is.
 #[derive(Clone, Copy, Debug)]
@@ -28,31 +27,22 @@ pub struct Token {
 }
 
 /// Why a line was refused. A column is the index of a byte in the line, from 0.
-#[derive(Clone, Copy, Debug, PartialEq, Eq)]
+#[derive(Clone, Copy, Debug, PartialEq, Eq, Error)]
 pub enum LexNo {
     /// A byte that stands outside comments and begins no token.
+    #[error("byte {column} begins no token")]
     BadChar { column: u32 },
     /// A number that begins at the column and passes 2^32 - 1, has no digit after `0x`, or has a
     /// letter, `_` or `.` directly after it.
+    #[error("byte {column} begins a bad number")]
     BadNumber { column: u32 },
     /// More than 64 tokens.
+    #[error("more than 64 tokens")]
     TooMany,
     /// Memory was refused.
+    #[error("out of memory")]
     NoMemory,
 }
-
-impl fmt::Display for LexNo {
-    fn fmt<W: fmt::Write>(&self, f: &mut fmt::Formatter<W>) -> fmt::Result {
-        match self {
-            LexNo::BadChar { column } => write!(f, "byte {column} begins no token"),
-            LexNo::BadNumber { column } => write!(f, "byte {column} begins a bad number"),
-            LexNo::TooMany => write!(f, "more than 64 tokens"),
-            LexNo::NoMemory => write!(f, "out of memory"),
-        }
-    }
-}
-
-impl Error for LexNo {}
 
 impl From<AllocFailed<Token>> for LexNo {
     ghost use Rattle.fp_lex.specs.declared.token.LexNo.{LexNo};

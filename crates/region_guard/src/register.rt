@@ -7,6 +7,7 @@ ghost use Rattle.region_guard.specs.Register.{is_regions, regions_of};
 
 use nibble_word::{nibble, nibbles_of};
 use std::marker::Model;
+use thiserror::Error;
 
 /// A word of a region register: a nibble for each of a scratchpad's eight regions, which names the
 /// thread that owns it (0 to 7), or is 8 for a shared and 12 for a read only region.
@@ -16,7 +17,8 @@ pub struct Regions {
 }
 
 /// A region whose nibble is none of 0 to 8 and 12.
-#[derive(Clone, Copy, Debug, PartialEq, Eq)]
+#[derive(Clone, Copy, Debug, PartialEq, Eq, Error)]
+#[error("region {index} belongs to no thread, and is neither shared nor read only")]
 pub struct BadRegion {
     /// The lowest such region, 0 to 7.
     pub index: u8,

@@ -1,5 +1,5 @@
 -- The search for a soft thread, thread by thread.
-use Rattle.std.proofs.Common.{◌≡◌, ◌<◌, ℕ, suc, ◌+◌, ◌-◌, ◌%◌, Bool, false, List, ◌∷◌, map, find, refl, arith}
+use Rattle.std.proofs.Common.{◌≡◌, ◌<◌, ℕ, suc, ◌+◌, ◌-◌, ◌%◌, Bool, false, List, ◌∷◌, map, find, None, refl, arith}
 use Rattle.std.specs.List.{range_with_len}
 use Rattle.slot_scheduler.specs.Picking.{after_last}
 
@@ -19,3 +19,10 @@ rest-next last d more =
 -- the thread at the step doesn't take the slot, and the search goes on
 pub find-on : (p : ℕ → Bool) (last d : ℕ) → d < 9 → p ((last + d) % 8) ≡ false → find p (rest last d) ≡ find p (rest last (d + 1))
 find-on p last d more takes = rw (rest-next last d more, takes) refl
+
+-- where no thread takes the slot, the search finds none
+pub find-none : (p : ℕ → Bool) (last : ℕ) → ((thread : ℕ) → thread < 8 → p thread ≡ false) → find p (after_last last) ≡ None
+unfolding after_last
+find-none p last none =
+    let out : (d : ℕ) → p ((last + d) % 8) ≡ false = λ d. none ((last + d) % 8) (omega arith) in
+    rw (out 1, out 2, out 3, out 4, out 5, out 6, out 7, out 8) refl

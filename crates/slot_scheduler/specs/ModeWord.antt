@@ -1,5 +1,6 @@
 -- The modes register: two bits for each thread.
-use Rattle.std.specs.Prelude.{ℕ, ◌/◌, ◌%◌, ◌^◌, nat_lt, Bool, if◌then◌else◌, Result, Ok, Err}
+use Rattle.std.specs.Prelude.{ℕ, ◌/◌, ◌%◌, ◌^◌, ◌==◌, nat_lt, Bool, if◌then◌else◌, List, [], ◌∷◌, map, Result, Ok, Err}
+use Rattle.std.specs.List.{list_any}
 use Rattle.slot_scheduler.specs.declared.mode_word.BadMode.{BadMode}
 
 -- whether a word may stand in the register: its bits above 15 are 0
@@ -13,3 +14,11 @@ modes_of word = if is_modes word then Ok word else Err (record {})
 -- the mode of a thread: 0 is hard active, 1 hard asleep, 2 soft active, 3 soft asleep
 abbrev pub mode_of : ℕ → ℕ → ℕ
 mode_of modes thread = modes / 4 ^ thread % 4
+
+-- the modes of the eight threads
+abbrev pub mode_list : ℕ → List ℕ
+mode_list modes = map (mode_of modes) (0 ∷ 1 ∷ 2 ∷ 3 ∷ 4 ∷ 5 ∷ 6 ∷ 7 ∷ [])
+
+-- whether any thread is soft and active
+unfoldable pub has_soft : ℕ → Bool
+has_soft modes = list_any (λ mode. mode == 2) (mode_list modes)

@@ -3,7 +3,7 @@
 ghost use Rattle.std.specs.Prelude.{◌≡◌, ◌<◌, IfSome, find};
 ghost use Rattle.slot_scheduler.specs.Picking.{IsPick, after_last, donated, is_awake, pick, takes_donated};
 
-use crate::mode_word::Modes;
+use crate::mode_word::{Modes, SOFT};
 use slot_table::{SlotTable, Turn};
 use std::marker::Model;
 
@@ -45,8 +45,6 @@ impl Model for Scheduler {
 
 const HARD: u8 = 0;
 
-const SOFT: u8 = 2;
-
 impl Sched {
     // Whether a thread is active and the time, in nanoseconds, has reached its sleep moment.
     #[tactic(auto, unfolding(crate::specs::Picking::is_awake))]
@@ -72,6 +70,9 @@ impl Sched {
         ensures first { result ≡ find (takes_donated self.now now) (after_last last) }
         ensures thread { IfSome result (λ thread. thread < 8) }
     {
+        if !self.modes.has_soft() {
+            return None;
+        }
         for step in 1..9 {
             let thread = (last + step) % 8;
             if self.takes_donated(thread, now) {

@@ -4,6 +4,8 @@ ghost use Rattle.std.specs.Prelude.{◌≡◌, ◌<◌, ◌≤◌, ◌%◌, ◌=
 ghost use Rattle.slot_table.specs.Frame.{is_slot, is_used, turn_of_slot};
 ghost use Rattle.slot_table.specs.Table.{laid_out};
 
+use thiserror::Error;
+
 /// Whose turn a cycle is, by the frame of slots.
 #[derive(Clone, Copy, Debug)]
 pub enum Turn {
@@ -16,7 +18,8 @@ pub enum Turn {
 }
 
 /// A slot that names neither a thread nor the soft threads nor nobody (a nibble from 8 to 13).
-#[derive(Clone, Copy, Debug, PartialEq, Eq)]
+#[derive(Clone, Copy, Debug, PartialEq, Eq, Error)]
+#[error("slot {index} names no thread, nor the soft threads, nor nobody")]
 pub struct BadSlot {
     /// The lowest such slot, 0 to 7.
     pub index: u8,

@@ -11,6 +11,7 @@ use hart_exec::{can_hold, change, keep, put, value_of};
 use region_guard::Guard;
 use slot_scheduler::Sched;
 use std::marker::Model;
+use thiserror::Error;
 
 /// What an access has done: the old value, and the value that was written, as the register keeps it.
 #[derive(Clone, Copy, Debug)]
@@ -20,16 +21,20 @@ pub struct CsrDone {
 }
 
 /// Why an access was refused.
-#[derive(Clone, Copy, Debug, PartialEq, Eq)]
+#[derive(Clone, Copy, Debug, PartialEq, Eq, Error)]
 pub enum CsrNo {
     /// The number is none of a register.
-    Unknown,
+    #[error("no register has the number")]
+    Unknown = 1,
     /// The register is one of the machine's, and the thread has no permit.
-    NoPermit,
+    #[error("the thread has no permit for the register")]
+    NoPermit = 2,
     /// The register, mhartid, takes no write.
-    ReadOnly,
+    #[error("the register takes no write")]
+    ReadOnly = 3,
     /// The register doesn't take the new word.
-    BadValue,
+    #[error("the register doesn't take the word")]
+    BadValue = 4,
 }
 
 /// The trap registers mtvec, mscratch, mepc and mcause of the eight hardware threads (RISC-V
