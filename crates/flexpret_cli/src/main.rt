@@ -2,7 +2,7 @@
 #![tactic(auto)]
 
 use flexpret_top::flexpret;
-use fp_io::{OutSink, PutFailed, RealFiles};
+use fp_io::{Gathered, OutSink, PutFailed, RealFiles};
 use fp_ports::{HeldPort, Ports};
 use std::alloc::AllocError;
 use std::process::ExitCode;
@@ -47,7 +47,7 @@ fn answer(rt: HostRuntime, words: &[String]) -> Result<u8, AllocError> {
         ports.push(Some(Box::new(alloc, HeldPort::new(alloc))?))?;
     }
     let mut files = RealFiles::new(rt);
-    let mut out = OutSink::new(rt);
+    let mut out = Gathered::new(OutSink::new(rt));
     let status = flexpret(alloc, words, &mut files, &mut out, &mut ports);
     Ok(match out.flush() {
         Ok(()) => status,

@@ -3,3 +3,4 @@ pub mod Content
 pub mod Listed
 pub mod Memory
 pub mod Real
+pub mod Gathered

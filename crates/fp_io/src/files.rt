@@ -4,15 +4,19 @@ ghost use Rattle.fp_io.specs.Causes.{Rose};
 ghost use Rattle.fp_io.specs.Content.{FileMap, Fetched, Lacks};
 
 use std::alloc::Global;
+use thiserror::Error;
 
 /// Why a file was not fetched.
-#[derive(Clone, Copy, Debug, PartialEq, Eq)]
+#[derive(Clone, Copy, Debug, PartialEq, Eq, Error)]
 pub enum FetchFault {
     /// No file has the name.
+    #[error("no file has the name")]
     Missing = 1,
     /// The file could not be read.
+    #[error("the file could not be read")]
     Failed = 2,
     /// Memory was refused.
+    #[error("out of memory")]
     NoMemory = 3,
 }
 

@@ -6,12 +6,14 @@
 #![tactic(auto)]
 
 mod files;
+mod gathered;
 mod memory_files;
 mod memory_sink;
 mod real;
 mod sink;
 
 pub use files::{FetchFault, Files};
+pub use gathered::Gathered;
 pub use memory_files::MemFiles;
 pub use memory_sink::MemSink;
 pub use real::{OutSink, RealFiles};

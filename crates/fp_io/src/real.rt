@@ -1,13 +1,12 @@
 //! The adapters over the runtime's files and standard output.
-ghost use Rattle.std.specs.Prelude.{◌≡◌, ◌≢◌, ℕ, [], ◌++◌, ◌+◌, ◌-◌, ◌^◌, ◌<◌, ◌≤◌, None, length, take, is_err, IfOk, IfSome, OnOk, OnErr, vec_len};
+ghost use Rattle.std.specs.Prelude.{◌≡◌, ◌≢◌, [], ◌+◌, ◌-◌, ◌^◌, ◌<◌, ◌≤◌, None, take, is_err, IfOk, IfSome, OnOk, OnErr, vec_len};
 ghost use Rattle.std.specs.Io.KnownBytes.{Appends};
 ghost use Rattle.fp_io.specs.Causes.{risen_if};
 ghost use Rattle.fp_io.specs.Content.{AppendsFront};
-ghost use Rattle.fp_io.specs.Real.{followed, gathered_with, has_failed};
+ghost use Rattle.fp_io.specs.Real.{has_failed};
 
 use crate::files::{FetchFault, Files};
 use crate::sink::{PutFailed, Sink};
-use arrayvec::ArrayVec;
 use std::alloc::Global;
 use std::io::{Read, Write};
 use std::marker::Model;
@@ -65,85 +64,49 @@ impl<R: rt::Files + Drop> Files for RealFiles<R> {
     }
 }
 
-/// How many bytes are gathered at most before they are written.
-const GATHERED: usize = 8192;
-
 /// The runtime's standard output. It tells no bytes: nothing is claimed of what a terminal or a pipe
-/// takes.
-///
-/// Bytes are gathered, and written many at a time: by [`OutSink::flush`], and by a `put` that finds no
-/// room for its own. The program flushes before it ends.
-///
-/// Contracts see the runtime, the bytes that are gathered, and the count of faults.
+/// takes. Each `put` is written at once.
 #[derive(Drop)]
 pub struct OutSink<R> {
     rt: R,
-    gathered: ArrayVec<u8, GATHERED>,
     faults: u64,
 }
 
 impl<R> Model for OutSink<R> {
-    ghost use Rattle.std.specs.Prelude.{ℕ, List};
-    ghost use Rattle.std.specs.Coded.{coded×, coded_ℕ, coded_list};
+    ghost use Rattle.std.specs.Prelude.{ℕ};
+    ghost use Rattle.std.specs.Coded.{coded×, coded_ℕ};
 
-    ghost Value = { R × (List ℕ × ℕ) };
+    ghost Value = { R × ℕ };
 
-    ghost coded = { coded× R.code (coded× (coded_list coded_ℕ) coded_ℕ) };
+    ghost coded = { coded× R.code coded_ℕ };
 
-    ghost view = { λ sink. (sink.rt, (sink.gathered.items, sink.faults)) };
+    ghost view = { λ sink. (sink.rt, sink.faults) };
 }
 
 impl<R: Print + Drop> OutSink<R> {
     /// The standard output of a runtime, with no fault so far.
     pub fn new(rt: R) -> OutSink<R>
-        ensures { result ≡ (rt, ([], 0)) }
+        ensures { result ≡ (rt, 0) }
     {
-        OutSink {
-            rt,
-            gathered: ArrayVec::new(),
-            faults: 0,
-        }
-    }
-
-    /// Writes what is gathered.
-    ///
-    /// # Errors
-    ///
-    /// `PutFailed` where it could not all be written; what is left of it is gone then.
-    pub fn flush(&mut self) -> Result<(), PutFailed>
-        ensures after { self.new ≡ (self.old.0, ([], risen_if (is_err result) self.old.1.1)) }
-        ensures counted { self.old.1.1 ≤ self.new.1.1 }
-        ensures some { OnErr result (self.old.1.0 ≢ []) }
-    {
-        let put = write_gathered(&mut io::writer(&self.rt), &mut self.gathered);
-        self.count(put)
-    }
-
-    /// Counts a fault of writing, if there was one, and hands it on.
-    fn count(&mut self, put: Result<(), PutFailed>) -> Result<(), PutFailed>
-        ensures after { self.new ≡ (self.old.0, (self.old.1.0, risen_if (is_err put) self.old.1.1)) }
-        ensures counted { self.old.1.1 ≤ self.new.1.1 }
-        ensures same { result ≡ put }
-    {
-        if put.is_err() {
-            self.faults = self.faults.saturating_add(1);
-        }
-        put
+        OutSink { rt, faults: 0 }
     }
 }
 
 impl<R: Print + Drop> Sink for OutSink<R> {
     ghost taken = { λ _. None };
 
-    ghost faults = { λ sink. sink.1.1 };
+    ghost faults = { λ sink. sink.1 };
 
     fn put(&mut self, bytes: &[u8]) -> Result<(), PutFailed>
-        ensures after { self.new ≡ (self.old.0, (gathered_with 8192 self.old.1.0 bytes.now, risen_if (is_err result) self.old.1.1)) }
-        ensures counted { self.old.1.1 ≤ self.new.1.1 }
-        ensures full { OnErr result (8192 < length self.old.1.0 + length bytes.now) }
+        ensures after { self.new ≡ (self.old.0, risen_if (is_err result) self.old.1) }
+        ensures counted { self.old.1 ≤ self.new.1 }
+        ensures some { OnErr result (bytes.now ≢ []) }
     {
-        let put = gather(&mut io::writer(&self.rt), &mut self.gathered, bytes);
-        self.count(put)
+        let put = write_whole(&mut io::writer(&self.rt), bytes);
+        if put.is_err() {
+            self.faults = self.faults.saturating_add(1);
+        }
+        put
     }
 }
 
@@ -186,39 +149,6 @@ fn read_up_to<F: Read>(alloc: Global, file: &mut F, most: usize) -> Result<Vec<u
             .map_err(|_| FetchFault::NoMemory)?;
     }
     Ok(bytes)
-}
-
-/// Adds bytes to those gathered. Where there is no room for them, both are written.
-fn gather<W: Write, const N: usize>(
-    to: &mut W,
-    gathered: &mut ArrayVec<u8, N>,
-    bytes: &[u8],
-) -> Result<(), PutFailed>
-    ensures ok { OnOk result (Appends (followed (W.contents to.old) gathered.old.items) (followed (W.contents to.new) gathered.new.items) bytes.now) }
-    ensures err { OnErr result (AppendsFront (W.contents to.old) (W.contents to.new) (gathered.old.items ++ bytes.now)) }
-    ensures gathered { gathered.new.items ≡ gathered_with N gathered.old.items bytes.now }
-    ensures full { OnErr result (N < length gathered.old.items + length bytes.now) }
-{
-    if gathered.try_extend_from_slice(bytes).is_ok() {
-        return Ok(());
-    }
-    write_gathered(to, gathered)?;
-    write_whole(to, bytes)
-}
-
-/// Writes the bytes gathered, and gathers anew.
-fn write_gathered<W: Write, const N: usize>(
-    to: &mut W,
-    gathered: &mut ArrayVec<u8, N>,
-) -> Result<(), PutFailed>
-    ensures ok { OnOk result (Appends (W.contents to.old) (W.contents to.new) gathered.old.items) }
-    ensures err { OnErr result (AppendsFront (W.contents to.old) (W.contents to.new) gathered.old.items) }
-    ensures some { OnErr result (gathered.old.items ≢ []) }
-    ensures gathered { gathered.new.items ≡ [] }
-{
-    let result = write_whole(to, gathered.as_slice());
-    gathered.clear();
-    result
 }
 
 /// Writes all bytes. A write that takes nothing of a piece is an error, since no piece is empty.

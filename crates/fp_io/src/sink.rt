@@ -4,8 +4,11 @@ ghost use Rattle.std.specs.Io.KnownBytes.{Appends};
 ghost use Rattle.fp_io.specs.Causes.{Rose};
 ghost use Rattle.fp_io.specs.Content.{AppendsFront};
 
+use thiserror::Error;
+
 /// Bytes were not all taken.
-#[derive(Clone, Copy, Debug, PartialEq, Eq)]
+#[derive(Clone, Copy, Debug, PartialEq, Eq, Error)]
+#[error("not all bytes were taken")]
 pub struct PutFailed;
 
 /// The bytes taken so far, in order, and a count of the faults met in taking them.
