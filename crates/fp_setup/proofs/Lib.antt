@@ -7,3 +7,7 @@ pub mod PlaceLaws
 pub mod InputByInput
 pub mod TwoChecks
 pub mod ThreadTable
+pub mod LoopTable
+mod ValuesKept
+mod RowsKept
+mod Accepted

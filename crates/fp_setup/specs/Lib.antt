@@ -15,3 +15,4 @@ pub mod Reading
 pub mod Rows
 pub mod Plain
 pub mod Places
+pub mod Laws

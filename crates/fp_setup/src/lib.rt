@@ -21,7 +21,7 @@ mod whole;
 
 pub use input_list::{Input, Inputs};
 pub use loop_list::{LoopSetup, Loops};
-pub use reader::read_setup;
+pub use reader::{accepted_keep_rules, read_setup};
 pub use refusal::{Fault, Place, SetupNo, SetupRefused};
 pub use thread_list::{ThreadSetup, Threads};
 pub use whole::Setup;

@@ -7,6 +7,7 @@ ghost use Rattle.fp_setup.specs.Settings.{size_of};
 ghost use Rattle.fp_setup.specs.Faults.{key_of, top};
 ghost use Rattle.fp_setup.specs.Checks.{integer_check};
 ghost use Rattle.fp_setup.specs.Tables.{integers, key_fault, top_fault};
+ghost use Rattle.fp_setup.specs.Laws.{AcceptedKeepRules};
 ghost use Rattle.fp_setup.specs.Meaning.{settings, version_at};
 ghost use Rattle.fp_setup.specs.Places.{IsPlaced};
 ghost use Rattle.fp_setup.specs.Reading.{IsRead, IsReadInMemory};
@@ -127,6 +128,12 @@ pub fn read_setup(alloc: Global, bytes: &[u8]) -> Result<Setup, SetupRefused>
 {
     setup_in_bytes(alloc, bytes)
 }
+
+/// A setup that is accepted keeps the rules of its values. The contract is the law; the call does
+/// nothing.
+pub fn accepted_keep_rules()
+    ensures { AcceptedKeepRules }
+{}
 
 /// The setup of the bytes of a file.
 #[tactic(auto, unfolding(crate::specs::Setup::setup))]

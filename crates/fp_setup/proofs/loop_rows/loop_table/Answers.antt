@@ -1,17 +1,8 @@
-use Rattle.std.proofs.Common.{◌≡◌, ℕ, ◌<◌, ◌≤◌, true, rules}
-use Rattle.fp_setup.specs.Checks.{is_in}
-use Rattle.fp_setup.specs.Loops.{IsLoop}
-use Rattle.fp_setup.specs.Tables.{integers, addresses, loop_table_fault}
+use Rattle.std.proofs.Common.{rules}
+use Rattle.fp_setup.specs.Tables.{loop_table_fault}
 use Rattle.fp_setup.specs.Meaning.{loop_of}
+use Rattle.fp_setup.proofs.LoopTable.{is_loop, last_inside}
 use Rattle.fp_setup.proofs.loop_rows.loop_table.Goals as goal
-
--- what the ranges of the keys tell
-is_loop : (size head last limit : ℕ) → is_in (addresses 0 size) head ≡ true → is_in (addresses head size) last ≡ true
-    → is_in (integers 0 1048576) limit ≡ true → IsLoop (record { head = head; last = last; limit = limit })
-is_loop size head last limit is_head is_last is_limit = search rules
-
-last_inside : (size head last : ℕ) → 4 ≤ size → is_in (addresses head size) last ≡ true → last < size
-last_inside size head last low is_last = search rules
 
 pub returns-clause-rules : goal.returns-clause-rules
 returns-clause-rules c =
