@@ -161,7 +161,7 @@ went s x slots i is ok host c m calm = go (stops x th.pc ok m)
 pub call_visits_are_bounded : CallVisitsAreBounded
 call_visits_are_bounded x slots thread b s n is ok most host quiet last before v comes keeps =
     let r : Route = route x slots thread in
-    let all = linked_all (IsMet x) (Way x) s thread n (went s x slots thread is ok host) host.number host.eight host.hard quiet in
+    let all = linked_all (IsMet x) (Way x) s thread n (went s x slots thread is ok host) host.eight host.hard quiet in
     let here = subst (λ z. AreLinked (IsMet x) (Way x) (positions z thread) (issues_of thread (world s n).turns)) host.same_slots all in
     let links = subst (λ l. AreLinked (IsMet x) (Way x) r.positions l) v.among here in
     bounded r b most (parts x is ok) ok last before v.earlier (linked-after (IsMet x) (Way x) r.positions v.later (last ∷ (before ++ v.earlier)) links) v.starts v.goes_on comes keeps (lies-or (part x (part_in x (open_at x before))) last.pc)

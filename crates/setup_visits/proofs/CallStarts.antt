@@ -3,22 +3,22 @@ use Rattle.std.proofs.Common.{ℕ, ◌∙◌}
 use Rattle.std.proofs.lemmas.List.{length-map}
 use Rattle.call_bounds.specs.Calls.{Calls}
 use Rattle.call_visits.specs.Laws.{CallVisitsAreBounded, IsHost}
+use Rattle.fp_setup.specs.Rules.{KeepsRules}
 use Rattle.fp_setup.specs.Settings.{size_of}
 use Rattle.setup_laws.specs.Laws.{Machine}
 use Rattle.setup_model.specs.Start.{start}
 use Rattle.setup_visits.proofs.Starts.{code-word, size-even}
 use Rattle.setup_visits.specs.CallLaws.{CallVisitsStayBounded, IsAlikeInParts}
 
-alike-start : (x : Calls) (slots i : ℕ) (m : Machine) (n : ℕ) → IsAlikeInParts m i slots x → IsHost (start m.setup m.image m.ports n) x slots i
+alike-start : (x : Calls) (slots i : ℕ) (m : Machine) (n : ℕ) → KeepsRules m.setup → IsAlikeInParts m i slots x → IsHost (start m.setup m.image m.ports n) x slots i
 unfolding start
-alike-start x slots i m n h = record {
-  number = h.number;
-  eight = length-map m.setup.threads _ ∙ h.rules.threads.eight;
+alike-start x slots i m n rules h = record {
+  eight = length-map m.setup.threads _ ∙ rules.threads.eight;
   hard = h.hard;
   same_slots = h.same_slots;
-  same_words = λ u a met lt. code-word m.image (size_of m.setup.version) u (size-even m.setup.version h.rules.version) a lt ∙ h.same_words u a met;
+  same_words = λ u a met lt. code-word m.image (size_of m.setup.version) u (size-even m.setup.version rules.version) a lt ∙ h.same_words u a met;
 }
 
 pub call_visits_stay_bounded : CallVisitsAreBounded → CallVisitsStayBounded
-call_visits_stay_bounded law x slots i b m n is ok most h quiet last before v comes keeps =
-    law x slots i b (start m.setup m.image m.ports n) n is ok most (alike-start x slots i m n h) quiet last before v comes keeps
+call_visits_stay_bounded law x slots i b m n is ok most rules h quiet last before v comes keeps =
+    law x slots i b (start m.setup m.image m.ports n) n is ok most (alike-start x slots i m n rules h) quiet last before v comes keeps

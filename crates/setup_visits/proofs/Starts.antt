@@ -8,6 +8,7 @@ use Rattle.std.proofs.lemmas.List.{length-map}
 use Rattle.std.proofs.lemmas.List.FromFn.{get_or-map-range_with_len}
 use Rattle.fp_image.specs.Rules.{word}
 use Rattle.fp_image.specs.declared.parts.Segment.{Segment}
+use Rattle.fp_setup.specs.Rules.{KeepsRules}
 use Rattle.fp_setup.specs.Settings.{Settings, size_of}
 use Rattle.core_model.specs.Memory.{code_at}
 use Rattle.region_guard.specs.Regions.{index_of}
@@ -47,19 +48,18 @@ pub size-even : (version : ℕ) → (version ≡ 1) ⊎ (version ≡ 2) → size
 size-even version (inl e) = rw e refl
 size-even version (inr e) = rw e refl
 
-alike-start : (setup : Settings) (image : List Segment) (s : Section) (i : ℕ) (m : Machine) (n : ℕ) → IsTree (tree_in setup image s) → IsAlike m i setup.slots image s →
+alike-start : (setup : Settings) (image : List Segment) (s : Section) (i : ℕ) (m : Machine) (n : ℕ) → IsTree (tree_in setup image s) → KeepsRules m.setup → IsAlike m i setup.slots image s →
     IsHost (start m.setup m.image m.ports n) (tree_in setup image s) setup.slots i
 unfolding start
-alike-start setup image s i m n is h = record {
-  number = h.number;
-  eight = length-map m.setup.threads _ ∙ h.rules.threads.eight;
+alike-start setup image s i m n is rules h = record {
+  eight = length-map m.setup.threads _ ∙ rules.threads.eight;
   hard = h.hard;
   same_slots = h.same_slots;
   same_words = λ u a l lt.
-      code-word m.image (size_of m.setup.version) u (size-even m.setup.version h.rules.version) a lt
+      code-word m.image (size_of m.setup.version) u (size-even m.setup.version rules.version) a lt
       ∙ (h.same_words u a l.low l.high ∙ sym (section-word image s setup.loops u is.draft.section.from_aligned is.draft.section.to_aligned a l.low l.high));
 }
 
 pub visits_stay_bounded : VisitsAreBounded → VisitsStayBounded
-visits_stay_bounded law setup image s i b m n is most h quiet last before v keeps =
-    law (tree_in setup image s) setup.slots i b (start m.setup m.image m.ports n) n is most (alike-start setup image s i m n is h) quiet last before v keeps
+visits_stay_bounded law setup image s i b m n is most rules h quiet last before v keeps =
+    law (tree_in setup image s) setup.slots i b (start m.setup m.image m.ports n) n is most (alike-start setup image s i m n is rules h) quiet last before v keeps

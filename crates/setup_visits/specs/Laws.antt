@@ -21,8 +21,6 @@ issues m i n = issues_of i (world (start m.setup m.image m.ports n) n).turns
 -- a machine with these slots, in which thread i is hard and active at the start, and whose image has the same words in
 -- a section as this one
 pub record IsAlike (m : Machine) (i slots : ℕ) (image : List Segment) (s : Section) : Type 0 where
-  pub rules : KeepsRules m.setup
-  pub number : i < 8
   pub hard : mode_of m.setup.modes i ≡ 0
   pub same_slots : m.setup.slots ≡ slots
   pub same_words : (u : ℕ) → u % 4 ≡ 0 → s.from ≤ u → u < s.to → word m.image u ≡ word image u
@@ -32,12 +30,13 @@ abbrev pub tree_in : Settings → List Segment → Section → Tree
 tree_in setup image s = tree_of (word image) s setup.loops
 
 -- Where no walk through a section of a setup's image costs more than a number, no visit of thread i that keeps the bounds
--- of the setup's loops is longer: in every quiet run of every machine that is alike in the slots, in i's mode and in
--- the section's words, whatever else its setup says, its image holds and its ports show.
+-- of the setup's loops is longer: in every quiet run of every machine whose setup keeps the rules, as each accepted one
+-- does, and that is alike in the slots, in i's mode and in the section's words, whatever else its setup says, its image
+-- holds and its ports show.
 abbrev pub VisitsStayBounded : Type 0
 VisitsStayBounded =
     (setup : Settings) (image : List Segment) (s : Section) (i b : ℕ) (m : Machine) (n : ℕ) →
     IsTree (tree_in setup image s) → ((c : ℕ) → CostsOf (course (tree_in setup image s) setup.slots i) c → c ≤ b) →
-    IsAlike m i setup.slots image s → IsQuiet m n → (last : Issued) (before : List Issued) →
+    KeepsRules m.setup → IsAlike m i setup.slots image s → IsQuiet m n → (last : Issued) (before : List Issued) →
     IsVisit (graph (tree_in setup image s)) (issues m i n) last before → KeepsBounds (tree_in setup image s).loops last before →
     last.cycle - (first_of last before).cycle ≤ b

@@ -1,5 +1,7 @@
 -- In a quiet run the issues of a hard hart follow the ways of the words that are known.
-use Rattle.std.proofs.Common.{◌≡◌, ℕ, zero, suc, ◌+◌, ◌-◌, ◌*◌, ◌/◌, ◌%◌, ◌<◌, ◌≤◌, inl, inr, ◌⊎◌, true, false, List, [], ◌∷◌, ◌++◌, length, ap, sym, ◌∙◌, subst, arith}
+use Rattle.std.proofs.Common.{◌≡◌, ℕ, zero, suc, ◌+◌, ◌-◌, ◌*◌, ◌/◌, ◌%◌, ◌<◌, ◌≤◌, inl, inr, ◌⊎◌, true, false, List, [], ◌∷◌, ◌++◌, length, refl, ap, sym, ◌∙◌, subst, arith, ne_eqb}
+use Rattle.std.specs.Prelude.{◌==◌}
+use Rattle.std.proofs.lemmas.Bool.{cases_lt}
 use Rattle.std.specs.List.{list_all}
 use Rattle.std.proofs.Math.Nat.{add-mul-mod_self_right, mod-add-div', mul-le-mul_left}
 use Rattle.core_model.specs.Thread.{Thread}
@@ -9,12 +11,14 @@ use Rattle.slot_scheduler.specs.ModeWord.{mode_of}
 use Rattle.slot_table.specs.Frame.{frame}
 use Rattle.timer_unit.specs.Time.{time}
 use Rattle.bound_calc.specs.Bound.{positions}
-use Rattle.world_model.specs.World.{Start, issue_of, leaves_registers, recent, thread_of, is_quiet, world}
+use Rattle.world_model.proofs.Turns.{Turned, nexts}
+use Rattle.world_model.specs.World.{Start, Took, issue_of, leaves_registers, newest, recent, thread_of, is_quiet, world}
+use Rattle.world_model.specs.World.Took.{Idle, Lost, Ran}
 use Rattle.isolation.proofs.Induction.{quiet_before}
 use Rattle.visit_bound.proofs.Cycles.{Goes, Going, Stays, begins, cycles, goes_on}
 use Rattle.visit_bound.proofs.Instructions.{Gone}
 use Rattle.visit_bound.specs.Laws.{Along, AreLinked}
-use Rattle.visit_bound.specs.Visits.{Issued, is_trap, issues_of}
+use Rattle.visit_bound.specs.Visits.{Issued, is_trap, issue_in, issues_of}
 
 -- at known words issues that don't trap go along a way
 abbrev pub Went : (ℕ → Type 0) → (ℕ → Edge → Type 0) → Start → ℕ → Type 0
@@ -151,10 +155,27 @@ linked known way s i (suc c) went number eight hard quiet = onto (linked known w
               (subst (λ u. Pending known way s i (suc c) l u) (sym g.thread) (pending-same known way s i c g l y.pending));
         }
 
-pub linked_all : (known : ℕ → Type 0) (way : ℕ → Edge → Type 0) (s : Start) (i n : ℕ) → Went known way s i → i < 8 → length s.threads ≡ 8 → mode_of s.registers.modes i ≡ 0 → is_quiet s n ≡ true →
+-- a hart that isn't one of the eight never issues
+no-issues : (s : Start) (i n : ℕ) → 8 ≤ i → issues_of i (world s n).turns ≡ []
+unfolding world recent
+no-issues s i zero past = refl
+no-issues s i (suc c) past = ap (issues_of i) (nexts s c).turns ∙ go (newest (world s (suc c))) (nexts s c).turned (no-issues s i c past)
+  where
+    go : (took : Took) → Turned s c (world s c) took (world s (suc c)) → issues_of i (world s c).turns ≡ [] → issue_in i (length (world s c).turns) took ++ issues_of i (world s c).turns ≡ []
+    go Idle turned before = before
+    go (Lost k) turned before = before
+    go (Ran k pc word effect) turned before =
+        let other : (k == i) ≡ false = ne_eqb k i (λ same. omega (arith, turned.below, same, past)) in
+        rw other before
+
+pub linked_all : (known : ℕ → Type 0) (way : ℕ → Edge → Type 0) (s : Start) (i n : ℕ) → Went known way s i → length s.threads ≡ 8 → mode_of s.registers.modes i ≡ 0 → is_quiet s n ≡ true →
     AreLinked known way (positions s.registers.slots i) (issues_of i (world s n).turns)
 unfolding world
-linked_all known way s i n went number eight hard quiet = (linked known way s i n went number eight hard quiet).links
+linked_all known way s i n went eight hard quiet = go (cases_lt i 8)
+  where
+    go : (i < 8) ⊎ (8 ≤ i) → AreLinked known way (positions s.registers.slots i) (issues_of i (world s n).turns)
+    go (inl number) = (linked known way s i n went number eight hard quiet).links
+    go (inr past) = subst (λ l. AreLinked known way (positions s.registers.slots i) l) (sym (no-issues s i n past)) tt
 
 -- parts of linked issues
 pub linked-rest : (known : ℕ → Type 0) (way : ℕ → Edge → Type 0) (s : Positions) (a : Issued) (l : List Issued) → AreLinked known way s (a ∷ l) → AreLinked known way s l

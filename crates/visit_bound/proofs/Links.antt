@@ -40,4 +40,4 @@ went t s i is words c reach calm =
 pub issues_follow_edges : IssuesFollowEdges
 issues_follow_edges t slots thread s n is h quiet =
     subst (λ z. FollowEdges (course t z thread) (issues_of thread (world s n).turns)) h.same_slots
-    (linked_all (Reachable (graph t)) (EdgeOf (graph t)) s thread n (went t s thread is h.same_words) h.number h.eight h.hard quiet)
+    (linked_all (Reachable (graph t)) (EdgeOf (graph t)) s thread n (went t s thread is h.same_words) h.eight h.hard quiet)

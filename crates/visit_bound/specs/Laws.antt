@@ -13,7 +13,6 @@ use Rattle.visit_bound.specs.Visits.{Issued, IsVisit, KeepsBounds, first_of, iss
 -- words as far as the scratchpad goes. What the other harts run, what they and this one may do, and what else there is
 -- in memory plays no part.
 pub record IsHost (s : Start) (t : Tree) (slots thread : ℕ) : Type 0 where
-  pub number : thread < 8
   pub eight : length s.threads ≡ 8
   pub hard : mode_of s.registers.modes thread ≡ 0
   pub same_slots : s.registers.slots ≡ slots
