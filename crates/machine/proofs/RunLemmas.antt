@@ -1,5 +1,5 @@
 -- A cycle of the machine, and the text of a run.
-use Rattle.std.proofs.Common.{◌≡◌, ℕ, zero, suc, ◌+◌, ◌-◌, ◌<◌, List, [], ◌++◌, get_or, length, Bool, true, false, Option, Some, None, arith, refl, ap, sym, subst, ◌∙◌, add-one, add-zero, append_assoc}
+use Rattle.std.proofs.Common.{◌≡◌, ℕ, zero, suc, ◌+◌, ◌-◌, ◌<◌, List, [], ◌++◌, get_or, take, length, Bool, true, false, Option, Some, None, arith, refl, ap, sym, subst, ◌∙◌, add-one, add-zero, append_assoc}
 use Rattle.std.specs.Prelude.{if◌then◌else◌}
 use Rattle.std.proofs.lemmas.List.{append-nil}
 use Rattle.std.proofs.lemmas.Grind.{flat_map-append}
@@ -17,8 +17,8 @@ use Rattle.machine_model.specs.Relation.{Standing, kept_in}
 use Rattle.machine_model.specs.Laws.{Unplugged, with_kept}
 use Rattle.machine_model.proofs.PortLemmas.{unplugs, goes_on, kept-row}
 use Rattle.machine.specs.declared.state.Machine.{Machine}
-use Rattle.machine.specs.Meaning.{StandsFor, IsLeft, AreLeft, Ticks, HasRun, Stopped}
-use Rattle.fp_io.proofs.Fronts.{appends_nothing, appends_more, appends_front}
+use Rattle.machine.specs.Meaning.{StandsFor, IsLeft, AreLeft, Ticks, AppendsBeyond, HasRun, Stopped}
+use Rattle.fp_io.proofs.Fronts.{appends_nothing, appends_more, appends_front, front_after}
 
 left_words : (before after : Option Row) (stays : Bool) → words_of after ≡ words_of (if stays then before else None) → IsLeft before after
 left_words before None stays h = tt
@@ -98,6 +98,13 @@ run_on grows s k n thread first m after rows new before between now event run at
     let Run : ℕ → Type 0 = λ c. HasRun s c n thread first after new before now in
     subst Run (sym (add-one k)) done
 
+-- bytes, and then a front of others
+pub beyond : (before between now : Option (List ℕ)) (xs ys : List ℕ) → Appends before between xs → AppendsFront between now ys → AppendsBeyond before now xs
+beyond None between now xs ys first second = tt
+beyond (Some told) None now xs ys first second = absurd first
+beyond (Some told) (Some more) None xs ys first second = absurd second
+beyond (Some told) (Some more) (Some most) xs ys first (n, within, taken) = (take n ys, taken ∙ ap (λ zs. zs ++ take n ys) first)
+
 -- a run that stops in a cycle
 pub run_stops : EventsGrow → (s : Start) (k n thread : ℕ) (first : List (Option Row)) (m after : Machine) (rows new : List (Option Row)) (before between now : Option (List ℕ)) (event : Option Event) → k < n → HasRun s k n thread first m rows before between → m.at ≡ k →
     (StandsFor s m.at n m rows → Ticks s m.at n rows after new event) → AppendsFront between now (text (of_hart thread event)) → Stopped s n thread first after new before now
@@ -111,8 +118,15 @@ run_stops grows s k n thread first m after rows new before between now event wit
     let whole : text (events s thread n) ≡ (text (events s thread k) ++ text (of_hart thread event)) ++ rest =
     ap (λ c. text (events s thread c)) end ∙ goes ∙ ap (λ zs. zs ++ rest) (text-next grows s thread k event ticked.event_is) in
     let Here : ℕ → Type 0 = λ c. StandsFor s c n after new in
+    let last : k ≡ after.at - 1 = omega (arith, here) in
+    let Beyond : ℕ → Type 0 = λ c. AppendsBeyond before now (text (events s thread c)) in
+    let Front : List ℕ → Type 0 = λ x. AppendsFront before now x in
+    let grown : text (events s thread k) ++ text (of_hart thread event) ≡ text (events s thread after.at) =
+    sym (ap (λ c. text (events s thread c)) here ∙ text-next grows s thread k event ticked.event_is) in
     record {
       put = appends_front before between now (text (events s thread k)) (text (of_hart thread event)) rest (text (events s thread n)) whole run.put put;
+      before_last = subst Beyond last (beyond before between now (text (events s thread k)) (text (of_hart thread event)) run.put put);
+      with_last = subst Front grown (front_after before between now (text (events s thread k)) (text (of_hart thread event)) run.put put);
       within = omega (arith, here);
       stands = subst Here (sym here) ticked.stands;
       left = λ i below. left_more (row_at first i) (row_at rows i) (row_at new i) (run.left i below) (ticked.left i below);

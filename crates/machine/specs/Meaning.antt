@@ -1,5 +1,5 @@
 -- The machine and the ports as what stands for a cycle of a world.
-use Rattle.std.specs.Prelude.{◌≡◌, ℕ, suc, ◌-◌, ◌<◌, ◌≤◌, false, ◌&&◌, if◌then◌else◌, List, [], slice_index_or, map, replicate, Option, Some, None}
+use Rattle.std.specs.Prelude.{◌≡◌, ℕ, suc, ◌-◌, ◌<◌, ◌≤◌, false, ◌&&◌, if◌then◌else◌, List, [], ◌++◌, slice_index_or, map, replicate, Option, Some, None, ⊤}
 use Rattle.std.specs.Io.KnownBytes.{Appends}
 use Rattle.fp_io.specs.Content.{AppendsFront}
 use Rattle.trace_print.specs.Text.{text}
@@ -50,9 +50,18 @@ pub record HasRun (s : Start) (k n thread : ℕ) (first : List (Option Row)) (m 
   pub stands : StandsFor s k n m ports
   pub left : AreLeft first ports
 
--- a run that was stopped has put a front of the text of all, and machine and ports stand for the cycles done
+-- bytes were appended that begin with these
+abbrev pub AppendsBeyond : Option (List ℕ) → Option (List ℕ) → List ℕ → Type 0
+AppendsBeyond None after bytes = ⊤
+AppendsBeyond (Some xs) None bytes = ⊥
+AppendsBeyond (Some xs) (Some ys) bytes = (rest : List ℕ) × (ys ≡ (xs ++ bytes) ++ rest)
+
+-- a run that was stopped has put a front of the text of all, and machine and ports stand for the cycles done: what was put
+-- begins with the text of all of them but the last one, and is a front of the text of all of them
 pub record Stopped (s : Start) (n thread : ℕ) (first : List (Option Row)) (m : Machine) (ports : List (Option Row)) (before after : Option (List ℕ)) : Type 0 where
   pub put : AppendsFront before after (text (events s thread n))
+  pub before_last : AppendsBeyond before after (text (events s thread (m.at - 1)))
+  pub with_last : AppendsFront before after (text (events s thread m.at))
   pub within : m.at ≤ n
   pub stands : StandsFor s m.at n m ports
   pub left : AreLeft first ports

@@ -240,7 +240,7 @@ impl Machine {
 
     /// The line of a number; empty where it isn't shown.
     #[tactic(auto, unfolding(machine_model::specs::Fields::dump_line))]
-    pub fn line(&self, ports: &Ports, k: u32) -> ArrayString<96>
+    pub(crate) fn line(&self, ports: &Ports, k: u32) -> ArrayString<96>
         requires eight { vec_len ports.now ≡ 8 }
         requires number { k < 66 + self.now.units.guard.size / 32 }
         ensures { result.bytes ≡ dump_line (latches_by self.now.pipe) (state_by self.now.units (rows_of latched word_at ports.now.items)) self.now.at k }
