@@ -4,7 +4,8 @@ use Rattle.std.proofs.lemmas.List.{get_or_append_left, get_or_push, length_push}
 use Rattle.region_tree.specs.declared.section.Section.{Section}
 use Rattle.call_bounds.specs.Calls.{returns}
 use Rattle.call_bounds.specs.Listing.{Listing, calls, part_at}
-use Rattle.call_bounds.specs.Summaries.{AreCallees, AreReturns, IsCallee}
+use Rattle.call_bounds.specs.Parts.{IsCallee}
+use Rattle.call_bounds.specs.Summaries.{AreCallees, AreReturns}
 
 -- the element at a place of a list that got one more
 each-more : {X : Type 0} (P : ℕ → X → Type 0) (xs : List X) (y d : X) (n : ℕ) → length xs ≡ n → ((k : ℕ) → k < n → P k (slice_index_or xs k d)) → P n y → (k : ℕ) → k < n + 1 → P k (slice_index_or (xs ++ y ∷ []) k d)

@@ -19,7 +19,8 @@ use Rattle.call_bounds.specs.CallWalk.{Route}
 use Rattle.call_bounds.specs.Listing.{DoesCall, Listing, calls, part_at, part_count}
 use Rattle.call_bounds.specs.Patched.{part_tree}
 use Rattle.call_bounds.specs.Runs.{Deep, Through}
-use Rattle.call_bounds.specs.Summaries.{AreCallees, AreReturns, AreSummaries, Ending, EndsAt, IsCallee, IsSummaryOf, KnowsCallees, route}
+use Rattle.call_bounds.specs.Parts.{IsCallee}
+use Rattle.call_bounds.specs.Summaries.{AreCallees, AreReturns, AreSummaries, Ending, EndsAt, IsSummaryOf, KnowsCallees, route}
 use Rattle.call_bounds.proofs.Agree.{reach}
 use Rattle.call_bounds.proofs.AnyLaws.{Alike, best-alike}
 use Rattle.call_bounds.proofs.Composed.{RunsTo, agrees-back, best-runs}

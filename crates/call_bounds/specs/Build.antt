@@ -35,12 +35,15 @@ pub record IsRowTo (l : Listing) (t : Tree) (c : ℕ) (row : List Bool) : Type 0
 -- the parts that one part calls
 pub record IsRow (l : Listing) (j : ℕ) (row : List Bool) : Type 0 where
   pub count : length row ≡ part_count l
-  pub exact : (k : ℕ) → k < part_count l → (is_met row k ≡ true) ↔ DoesCall (calls l) (part_at l j) (part_at l k)
+  pub exact : (k : ℕ) → k < part_count l → (is_met row k ≡ true) ↔
+      DoesCall (calls l) (part_at l j) (part_at l k)
 
 -- who calls whom, of the parts below c
 pub record IsTableTo (l : Listing) (c : ℕ) (table : List Bool) : Type 0 where
   pub count : length table ≡ c * part_count l
-  pub exact : (j k : ℕ) → j < c → k < part_count l → (slice_index_or table (j * part_count l + k) false ≡ true) ↔ DoesCall (calls l) (part_at l j) (part_at l k)
+  pub exact : (j k : ℕ) → j < c → k < part_count l →
+      (slice_index_or table (j * part_count l + k) false ≡ true) ↔
+      DoesCall (calls l) (part_at l j) (part_at l k)
 
 abbrev pub IsTable : Listing → List Bool → Type 0
 IsTable l table = IsTableTo l (part_count l) table
@@ -48,7 +51,8 @@ IsTable l table = IsTableTo l (part_count l) table
 -- exactly the reached parts are marked
 pub record AreReached (l : Listing) (reached : List Bool) : Type 0 where
   pub count : length reached ≡ part_count l
-  pub exact : (k : ℕ) → k < part_count l → (is_met reached k ≡ true) ↔ IsReached (calls l) (part_at l k)
+  pub exact : (k : ℕ) → k < part_count l → (is_met reached k ≡ true) ↔
+      IsReached (calls l) (part_at l k)
 
 -- what holds in a part, where it is reached
 abbrev pub InPart : Listing → (Graph → ℕ → Type 0) → ℕ → ℕ → Type 0
@@ -59,7 +63,8 @@ pub record AreCauses (D : (Graph → ℕ → Type 0) → ℕ → Type 0) (f : Ca
   pub nesting : LowestOf (D NestingAt) f.nesting
   pub indirect : f.nesting ≡ None → LowestOf (D IndirectAt) f.indirect
   pub timed : f.nesting ≡ None → f.indirect ≡ None → LowestOf (D TimedAt) f.timed
-  pub unbounded : f.nesting ≡ None → f.indirect ≡ None → f.timed ≡ None → LowestOf (D UnboundedAt) f.unbounded
+  pub unbounded : f.nesting ≡ None → f.indirect ≡ None → f.timed ≡ None →
+      LowestOf (D UnboundedAt) f.unbounded
 
 abbrev pub no_causes : Causes
 no_causes = record { nesting = None; indirect = None; timed = None; unbounded = None }
@@ -118,5 +123,6 @@ abbrev pub IsFirst : Causes → CallNo → Type 0
 IsFirst f (Nesting a) = f.nesting ≡ Some a
 IsFirst f (IndirectJump a) = (f.nesting ≡ None) × (f.indirect ≡ Some a)
 IsFirst f (TimedWait a) = (f.nesting ≡ None) × (f.indirect ≡ None) × (f.timed ≡ Some a)
-IsFirst f (UnboundedBackEdge a) = (f.nesting ≡ None) × (f.indirect ≡ None) × (f.timed ≡ None) × (f.unbounded ≡ Some a)
+IsFirst f (UnboundedBackEdge a) = (f.nesting ≡ None) × (f.indirect ≡ None) × (f.timed ≡ None) ×
+    (f.unbounded ≡ Some a)
 IsFirst f _ = ⊥

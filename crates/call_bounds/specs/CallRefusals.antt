@@ -28,7 +28,8 @@ pub record InParts (x : Calls) (P : Graph → ℕ → Type 0) (a : ℕ) : Type 0
   pub reached : IsReached x place
   pub holds : P (part x place) a
 
--- a reachable word of a reached routine with an edge out of it, or with a call that would come back out of it
+-- a reachable word of a reached routine with an edge out of it, or with a call that would come back
+-- out of it
 pub record EscapeAt (x : Calls) (u : ℕ) : Type 0 where
   pub routine : Routine
   pub from : IsReached x (Some routine)

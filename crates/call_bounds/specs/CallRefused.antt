@@ -11,15 +11,19 @@ AreCallsAllowed x = Nowhere (OverlapAt x) × Nowhere (RecursionAt x)
 
 -- none of the rows of a part by itself holds in a reached part
 abbrev pub ArePartsAllowed : Calls → Type 0
-ArePartsAllowed x = Nowhere (InParts x NestingAt) × Nowhere (InParts x IndirectAt) × Nowhere (InParts x TimedAt) × Nowhere (InParts x UnboundedAt)
+ArePartsAllowed x = Nowhere (InParts x NestingAt) × Nowhere (InParts x IndirectAt) ×
+    Nowhere (InParts x TimedAt) × Nowhere (InParts x UnboundedAt)
 
--- Why some reached part is refused: the first of its rows that holds anywhere, with the lowest address.
+-- Why some reached part is refused: the first of its rows that holds anywhere, with the lowest
+-- address.
 abbrev pub IsTreeRefused : Calls → CallNo → Type 0
 IsTreeRefused x (Nesting a) = IsLowest (InParts x NestingAt) a
 IsTreeRefused x (IndirectJump a) = Nowhere (InParts x NestingAt) × IsLowest (InParts x IndirectAt) a
-IsTreeRefused x (TimedWait a) = Nowhere (InParts x NestingAt) × Nowhere (InParts x IndirectAt) × IsLowest (InParts x TimedAt) a
+IsTreeRefused x (TimedWait a) = Nowhere (InParts x NestingAt) × Nowhere (InParts x IndirectAt) ×
+    IsLowest (InParts x TimedAt) a
 IsTreeRefused x (UnboundedBackEdge a) =
-    Nowhere (InParts x NestingAt) × Nowhere (InParts x IndirectAt) × Nowhere (InParts x TimedAt) × IsLowest (InParts x UnboundedAt) a
+    Nowhere (InParts x NestingAt) × Nowhere (InParts x IndirectAt) × Nowhere (InParts x TimedAt) ×
+    IsLowest (InParts x UnboundedAt) a
 IsTreeRefused x NoMemory = Unit {0}
 IsTreeRefused x _ = ⊥
 

@@ -1,4 +1,5 @@
--- Walks through a section and the routines that it calls, which come back to where they were called from.
+-- Walks through a section and the routines that it calls, which come back to where they were called
+-- from.
 use Rattle.std.specs.Prelude.{◌≡◌, ℕ, ◌+◌, ◌≤◌, ◌^◌, ◌==◌, if◌then◌else◌, true, Some, None, List, [], ◌∷◌, Contains}
 use Rattle.bound_calc.specs.declared.cycle_bound.BoundNo.{BoundNo}
 use Rattle.bound_calc.specs.declared.cycle_bound.BoundNo.TheVariants.{NoMemory, Overflow}
@@ -26,26 +27,34 @@ called r j n = if r.head == j.head then 0 else n
 abbrev pub WithinBounds : Calls → (LoopSetup → ℕ) → Type 0
 WithinBounds x k = (j : LoopSetup) → Counts x j → k j ≤ j.limit
 
--- A call walk that keeps the bounds, from the section's first word at own position p: the word and position that it
--- has come to, the calls that are open there, the newest first, its cost, and the counters.
+-- A call walk that keeps the bounds, from the section's first word at own position p: the word and
+-- position that it has come to, the calls that are open there, the newest first, its cost, and the
+-- counters.
 pub data CallWalk (x : Route) (p : ℕ) : ℕ → ℕ → List ℕ → ℕ → (LoopSetup → ℕ) → Type 0 where
   start : IsOwn x.positions p → CallWalk x p x.calls.section.from p [] 0 (λ _. 0)
   along : {u q c d r : ℕ} {s : List ℕ} {k : LoopSetup → ℕ} (e : Edge) → CallWalk x p u q s c k →
-      Contains (plain x.calls u) e → Lies (part x.calls (part_in x.calls s)) e.to → IsNextTurn x.positions e.lag q d r →
-      WithinBounds x.calls (λ j. counted u e.to j (k j)) → CallWalk x p e.to r s (c + d) (λ j. counted u e.to j (k j))
+      Contains (plain x.calls u) e → Lies (part x.calls (part_in x.calls s)) e.to →
+      IsNextTurn x.positions e.lag q d r →
+      WithinBounds x.calls (λ j. counted u e.to j (k j)) →
+      CallWalk x p e.to r s (c + d) (λ j. counted u e.to j (k j))
   enter : {u q c d r : ℕ} {s : List ℕ} {k : LoopSetup → ℕ} {t : Routine} → CallWalk x p u q s c k →
       callee x.calls u ≡ Some t → IsNextTurn x.positions 3 q d r →
       CallWalk x p t.head r (u ∷ s) (c + d) (λ j. called t j (k j))
   come_back : {u q w c d r : ℕ} {s : List ℕ} {k : LoopSetup → ℕ} → CallWalk x p u q (w ∷ s) c k →
-      is_back (x.calls.word u) ≡ true → Lies (part x.calls (part_in x.calls s)) (w + 4) → IsNextTurn x.positions 3 q d r →
-      WithinBounds x.calls (λ j. counted w (w + 4) j (k j)) → CallWalk x p (w + 4) r s (c + d) (λ j. counted w (w + 4) j (k j))
+      is_back (x.calls.word u) ≡ true → Lies (part x.calls (part_in x.calls s)) (w + 4) →
+      IsNextTurn x.positions 3 q d r →
+      WithinBounds x.calls (λ j. counted w (w + 4) j (k j)) →
+      CallWalk x p (w + 4) r s (c + d) (λ j. counted w (w + 4) j (k j))
 
--- What call walks cost: one may end anywhere, and a step out of the section ends it, also one that comes back to there.
+-- What call walks cost: one may end anywhere, and a step out of the section ends it, also one that
+-- comes back to there.
 pub data CostsOf (x : Route) : ℕ → Type 0 where
   ends : {p u q c : ℕ} {s : List ℕ} {k : LoopSetup → ℕ} → CallWalk x p u q s c k → CostsOf x c
-  leaves : {p u q c d r : ℕ} {k : LoopSetup → ℕ} (e : Edge) → CallWalk x p u q [] c k → Contains (plain x.calls u) e →
+  leaves : {p u q c d r : ℕ} {k : LoopSetup → ℕ} (e : Edge) → CallWalk x p u q [] c k →
+      Contains (plain x.calls u) e →
       (Lies (part x.calls None) e.to → ⊥) → IsNextTurn x.positions e.lag q d r → CostsOf x (c + d)
-  goes_back : {p u q w c d r : ℕ} {k : LoopSetup → ℕ} → CallWalk x p u q (w ∷ []) c k → is_back (x.calls.word u) ≡ true →
+  goes_back : {p u q w c d r : ℕ} {k : LoopSetup → ℕ} → CallWalk x p u q (w ∷ []) c k →
+      is_back (x.calls.word u) ≡ true →
       (Lies (part x.calls None) (w + 4) → ⊥) → IsNextTurn x.positions 3 q d r → CostsOf x (c + d)
 
 -- The largest cost of a call walk that keeps the bounds: some walk costs it, and none costs more.
@@ -53,7 +62,8 @@ pub record IsCallBound (x : Route) (b : ℕ) : Type 0 where
   pub met : CostsOf x b
   pub kept : (c : ℕ) → CostsOf x c → c ≤ b
 
--- Why none is answered: some walk costs 2 ^ 64 or more, which the value says, or memory was refused.
+-- Why none is answered: some walk costs 2 ^ 64 or more, which the value says, or memory was
+-- refused.
 abbrev pub IsTooCostly : Route → BoundNo → Type 0
 IsTooCostly x (Overflow value) = (value ≡ 2 ^ 64) × ((c : ℕ) × CostsOf x c × (2 ^ 64 ≤ c))
 IsTooCostly x NoMemory = Unit {0}

@@ -63,7 +63,8 @@ plain_unless (Some r) edges = []
 abbrev pub plain : Calls → ℕ → List Edge
 plain x u = plain_unless (callee x u) (edge_list (edges_of (x.word u) u))
 
--- The edges inside one part: a call leads on to the word after it, where it comes back; the lag says the jump alone.
+-- The edges inside one part: a call leads on to the word after it, where it comes back; the lag
+-- says the jump alone.
 abbrev pub onward : Option Routine → ℕ → List Edge → List Edge
 onward None u edges = edges
 onward (Some r) u edges = record { to = u + 4; lag = 3 } ∷ []
@@ -82,15 +83,19 @@ part x p = record {
   loops = filter (counts (range x p)) x.loops;
 }
 
--- The parts that are reached: the section, and each routine that a reachable word of a reached part calls.
+-- The parts that are reached: the section, and each routine that a reachable word of a reached part
+-- calls.
 pub data IsReached (x : Calls) : Part → Type 0 where
   first : IsReached x None
-  next : {p : Part} {u : ℕ} {r : Routine} → IsReached x p → Reachable (part x p) u → callee x u ≡ Some r → IsReached x (Some r)
+  next : {p : Part} {u : ℕ} {r : Routine} → IsReached x p → Reachable (part x p) u →
+      callee x u ≡ Some r → IsReached x (Some r)
 
 -- Calls lead from one part to another: one or more, each from a reachable word of a reached part.
 pub data CallsLead (x : Calls) (p : Part) : Part → Type 0 where
-  one : {u : ℕ} {r : Routine} → IsReached x p → Reachable (part x p) u → callee x u ≡ Some r → CallsLead x p (Some r)
-  more : {q : Part} {u : ℕ} {r : Routine} → CallsLead x p q → IsReached x q → Reachable (part x q) u → callee x u ≡ Some r → CallsLead x p (Some r)
+  one : {u : ℕ} {r : Routine} → IsReached x p → Reachable (part x p) u → callee x u ≡ Some r →
+      CallsLead x p (Some r)
+  more : {q : Part} {u : ℕ} {r : Routine} → CallsLead x p q → IsReached x q →
+      Reachable (part x q) u → callee x u ≡ Some r → CallsLead x p (Some r)
 
 -- the loops that count: those of the reached parts
 pub record Counts (x : Calls) (j : LoopSetup) : Type 0 where

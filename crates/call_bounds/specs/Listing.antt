@@ -22,10 +22,16 @@ scratchpad = record { from = 0; to = 65536 }
 
 -- of a memory that is told by its words
 abbrev pub listing_of : (ℕ → ℕ) → Section → List Routine → List LoopSetup → Listing
-listing_of memory s routines loops = record { section = s; routines = routines; words = words_of memory scratchpad; loops = loops }
+listing_of memory s routines loops =
+    record { section = s; routines = routines; words = words_of memory scratchpad; loops = loops }
 
 abbrev pub calls : Listing → Calls
-calls l = record { section = l.section; routines = l.routines; word = λ u. slice_index l.words (u / 4); loops = l.loops }
+calls l = record {
+  section = l.section;
+  routines = l.routines;
+  word = λ u. slice_index l.words (u / 4);
+  loops = l.loops;
+}
 
 -- The parts by number: the section is number 0, and the routines follow in their order.
 abbrev pub part_count : Listing → ℕ
@@ -49,7 +55,8 @@ rank_at ranks k = slice_index ranks k
 pub record AreRanks (l : Listing) (ranks : List ℕ) : Type 0 where
   pub count : length ranks ≡ part_count l
   pub few : (k : ℕ) → k < part_count l → rank_at ranks k ≤ part_count l
-  pub rise : (j k : ℕ) → j < part_count l → k < part_count l → IsReached (calls l) (part_at l j) → DoesCall (calls l) (part_at l j) (part_at l k) →
+  pub rise : (j k : ℕ) → j < part_count l → k < part_count l → IsReached (calls l) (part_at l j) →
+      DoesCall (calls l) (part_at l j) (part_at l k) →
       rank_at ranks k < rank_at ranks j
 
 abbrev pub tree_at : List (Option Tree) → ℕ → Option Tree

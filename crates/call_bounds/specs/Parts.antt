@@ -8,7 +8,8 @@ use Rattle.call_bounds.specs.Calls.{Calls, IsReached, callee, range}
 use Rattle.call_bounds.specs.Listing.{Listing, calls, listing_of, part_at, part_count}
 use Rattle.call_bounds.specs.Patched.{part_tree, patched}
 
--- A part by its number: whether it is reached, its range, its words with calls and returns out of the way, and its tree.
+-- A part by its number: whether it is reached, its range, its words with calls and returns out of
+-- the way, and its tree.
 abbrev pub IsPartReached : Listing → ℕ → Type 0
 IsPartReached l k = IsReached (calls l) (part_at l k)
 
@@ -23,7 +24,9 @@ tree_of_part l k = part_tree (calls l) (part_at l k)
 
 -- the number of the part that the word at an address calls, if it is a call
 abbrev pub IsCallee : Listing → ℕ → Option ℕ → Type 0
-IsCallee l u r = MatchOption r (callee (calls l) u ≡ None) (λ k. (0 < k) × (k < part_count l) × (callee (calls l) u ≡ part_at l k))
+IsCallee l u r =
+    MatchOption r (callee (calls l) u ≡ None)
+    (λ k. (0 < k) × (k < part_count l) × (callee (calls l) u ≡ part_at l k))
 
 -- a section of a memory that is told by its words, with the listed routines and loops
 abbrev pub calls_of : (ℕ → ℕ) → Section → List Routine → List LoopSetup → Calls

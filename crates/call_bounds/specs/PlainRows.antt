@@ -4,7 +4,9 @@ use Rattle.region_tree.specs.Refusals.{EnteredAt, UnboundedAt}
 use Rattle.call_bounds.specs.CallRefusals.{IsListing}
 use Rattle.call_bounds.specs.Calls.{Calls, IsReached, Part, part, plain}
 
--- An edge that enters a loop, but not at its head, and one that leads back without a bound are no calls.
+-- An edge that enters a loop, but not at its head, and one that leads back without a bound are no
+-- calls.
 abbrev pub RowsNamePlainEdges : Type 0
 RowsNamePlainEdges = (x : Calls) → IsListing x → (p : Part) → IsReached x p →
-    ((a : ℕ) → (h : EnteredAt (part x p) a) → Contains (plain x h.from) h.by) × ((u : ℕ) → (h : UnboundedAt (part x p) u) → Contains (plain x u) h.by)
+    ((a : ℕ) → (h : EnteredAt (part x p) a) → Contains (plain x h.from) h.by) ×
+    ((u : ℕ) → (h : UnboundedAt (part x p) u) → Contains (plain x u) h.by)

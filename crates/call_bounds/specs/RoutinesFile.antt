@@ -1,4 +1,5 @@
--- The file of routines: a line for each, with its head and the address of its last word. Source: this project's profile.
+-- The file of routines: a line for each, with its head and the address of its last word. Source:
+-- this project's profile.
 use Rattle.std.specs.Prelude.{◌≡◌, ℕ, suc, ◌+◌, ◌-◌, ◌*◌, ◌%◌, ◌==◌, nat_lt, nat_le, Bool, true, not, ◌&&◌, ◌||◌, if◌then◌else◌, List, [], ◌∷◌, length, take, drop, slice_index_or, Option, Some, None, Result, Ok, Err}
 use Rattle.std.specs.List.{list_all}
 use Rattle.call_bounds.specs.declared.refusals.RoutinesNo.{RoutinesNo}
@@ -12,10 +13,12 @@ abbrev pub in_front : ℕ → List (List ℕ) → List (List ℕ)
 in_front byte [] = (byte ∷ []) ∷ []
 in_front byte (line ∷ lines) = (byte ∷ line) ∷ lines
 
--- the lines of a file: each ends with a line feed (10), and what stands after the last line feed is a line too
+-- the lines of a file: each ends with a line feed (10), and what stands after the last line feed is
+-- a line too
 unfoldable pub lines_of : List ℕ → List (List ℕ)
 lines_of [] = []
-lines_of (byte ∷ bytes) = if byte == 10 then (byte ∷ []) ∷ lines_of bytes else in_front byte (lines_of bytes)
+lines_of (byte ∷ bytes) =
+    if byte == 10 then (byte ∷ []) ∷ lines_of bytes else in_front byte (lines_of bytes)
 
 -- a hexadecimal digit: 0 (48) to 9, a (97) to f
 abbrev pub is_digit : ℕ → Bool
@@ -43,11 +46,13 @@ has_form line = length line == 18
     && list_all is_digit (last_digits line) && slice_index_or line 17 0 == 10
 
 abbrev pub routine_in : List ℕ → Routine
-routine_in line = record { head = number_from 0 (head_digits line); last = number_from 0 (last_digits line) }
+routine_in line =
+    record { head = number_from 0 (head_digits line); last = number_from 0 (last_digits line) }
 
 -- whether a routine may stand in a scratchpad of this size, in bytes
 abbrev pub is_placed : ℕ → Routine → Bool
-is_placed size r = r.head % 4 == 0 && r.last % 4 == 0 && nat_le r.head r.last && nat_le r.last (size - 4)
+is_placed size r =
+    r.head % 4 == 0 && r.last % 4 == 0 && nat_le r.head r.last && nat_le r.last (size - 4)
 
 -- whether a routine begins above the one before it, if there is one
 abbrev pub is_above : Option Routine → Routine → Bool
@@ -65,7 +70,8 @@ check fails code = record { fails = fails; code = code }
 -- the fault of the first check that fails
 abbrev pub first_fault : ℕ → List Check → Option RoutinesRefused
 first_fault number [] = None
-first_fault number (c ∷ more) = if c.fails then Some (Fault number c.code) else first_fault number more
+first_fault number (c ∷ more) =
+    if c.fails then Some (Fault number c.code) else first_fault number more
 
 -- the checks of a line, in their order: lines are numbered from 1
 abbrev pub line_checks : ℕ → ℕ → Option Routine → List ℕ → List Check
@@ -82,16 +88,19 @@ unless (Some fault) value = Err fault
 unless None value = Ok value
 
 -- a result that goes on from another
-abbrev pub and_then : {A B : Type 0} → Result A RoutinesRefused → (A → Result B RoutinesRefused) → Result B RoutinesRefused
+abbrev pub and_then : {A B : Type 0} → Result A RoutinesRefused → (A → Result B RoutinesRefused) →
+    Result B RoutinesRefused
 and_then (Ok value) next = next value
 and_then (Err fault) next = Err fault
 
 -- the routine of a line, or its fault
 unfoldable pub routine_at : ℕ → ℕ → Option Routine → List ℕ → Result Routine RoutinesRefused
-routine_at size number before line = unless (first_fault number (line_checks size number before line)) (routine_in line)
+routine_at size number before line =
+    unless (first_fault number (line_checks size number before line)) (routine_in line)
 
 -- those of lines from this number on
-unfoldable pub routines_from : ℕ → ℕ → Option Routine → List (List ℕ) → Result (List Routine) RoutinesRefused
+unfoldable pub routines_from : ℕ → ℕ → Option Routine → List (List ℕ) →
+    Result (List Routine) RoutinesRefused
 routines_from size number before [] = Ok []
 routines_from size number before (line ∷ lines) =
     and_then (routine_at size number before line) (λ r.

@@ -1,4 +1,5 @@
--- Walks of one part alone, in which a call is a whole walk of the routine, from its head to a return.
+-- Walks of one part alone, in which a call is a whole walk of the routine, from its head to a
+-- return.
 use Rattle.std.specs.Prelude.{◌≡◌, ℕ, ◌+◌, ◌≤◌, ◌⊎◌, true, Some, None, Contains}
 use Rattle.fp_setup.specs.declared.loop_list.LoopSetup.{LoopSetup}
 use Rattle.region_tree.specs.Graph.{Edge, Lies}
@@ -7,14 +8,17 @@ use Rattle.call_bounds.specs.Calls.{Part, callee, is_back, part, plain, range}
 use Rattle.call_bounds.specs.declared.routines.Routine.{Routine}
 use Rattle.call_bounds.specs.CallWalk.{Route}
 
--- A walk of a part that keeps the bounds of its loops, from its first word at position p: the word and the position
--- that it has come to, its cost, and the counters, each being 0 at first.
+-- A walk of a part that keeps the bounds of its loops, from its first word at position p: the word
+-- and the position that it has come to, its cost, and the counters, each being 0 at first.
 pub data Run (x : Route) : Part → ℕ → ℕ → ℕ → ℕ → (LoopSetup → ℕ) → Type 0 where
   start : {a : Part} {p : ℕ} → IsOwn x.positions p → Run x a p (range x.calls a).from p 0 (λ _. 0)
   along : {a : Part} {p u q c d r : ℕ} {k : LoopSetup → ℕ} (e : Edge) → Run x a p u q c k →
-      Contains (plain x.calls u) e → Lies (part x.calls a) e.to → IsNextTurn x.positions e.lag q d r →
-      ((j : LoopSetup) → Contains (part x.calls a).loops j → counted u e.to j (k j) ≤ j.limit) → Run x a p e.to r (c + d) (λ j. counted u e.to j (k j))
-  through : {a : Part} {p u q c d : ℕ} {k : LoopSetup → ℕ} {t : Routine} {m w n i f r : ℕ} {l : LoopSetup → ℕ} → Run x a p u q c k →
+      Contains (plain x.calls u) e → Lies (part x.calls a) e.to →
+      IsNextTurn x.positions e.lag q d r →
+      ((j : LoopSetup) → Contains (part x.calls a).loops j → counted u e.to j (k j) ≤ j.limit) →
+      Run x a p e.to r (c + d) (λ j. counted u e.to j (k j))
+  through : {a : Part} {p u q c d : ℕ} {k : LoopSetup → ℕ} {t : Routine} {m w n i f r : ℕ}
+      {l : LoopSetup → ℕ} → Run x a p u q c k →
       callee x.calls u ≡ Some t → Lies (part x.calls a) (u + 4) → IsNextTurn x.positions 3 q d m →
       Run x (Some t) m w n i l → is_back (x.calls.word w) ≡ true → IsNextTurn x.positions 3 n f r →
       Run x a p (u + 4) r (c + (d + (i + f))) (λ j. counted u (u + 4) j (k j))
@@ -31,18 +35,24 @@ pub record Through (x : Route) (t : Routine) (p c q : ℕ) : Type 0 where
   pub turn : IsNextTurn x.positions 3 at two q
   pub cost : c ≡ one + two
 
--- what walks that begin a part at one position and end in it, or in a routine below it, at another cost
+-- what walks that begin a part at one position and end in it, or in a routine below it, at another
+-- cost
 pub data Deep (x : Route) : Part → ℕ → ℕ → ℕ → Type 0 where
   ends : {a : Part} {p u q c : ℕ} {k : LoopSetup → ℕ} → Run x a p u q c k → Deep x a p c q
-  enters : {a : Part} {p u q c d r i n : ℕ} {k : LoopSetup → ℕ} {t : Routine} → Run x a p u q c k → callee x.calls u ≡ Some t →
+  enters : {a : Part} {p u q c d r i n : ℕ} {k : LoopSetup → ℕ} {t : Routine} → Run x a p u q c k →
+      callee x.calls u ≡ Some t →
       IsNextTurn x.positions 3 q d r → Deep x (Some t) r i n → Deep x a p (c + (d + i)) n
 
 -- what walks that leave the section cost, from one position to another
 pub data Leaving (x : Route) (p : ℕ) : ℕ → ℕ → Type 0 where
-  leaves : {u q c d r : ℕ} {k : LoopSetup → ℕ} (e : Edge) → Run x None p u q c k → Contains (plain x.calls u) e →
-      (Lies (part x.calls None) e.to → ⊥) → IsNextTurn x.positions e.lag q d r → Leaving x p (c + d) r
-  comes_out : {u q c d m i r : ℕ} {k : LoopSetup → ℕ} {t : Routine} → Run x None p u q c k → callee x.calls u ≡ Some t →
-      (Lies (part x.calls None) (u + 4) → ⊥) → IsNextTurn x.positions 3 q d m → Through x t m i r → Leaving x p (c + (d + i)) r
+  leaves : {u q c d r : ℕ} {k : LoopSetup → ℕ} (e : Edge) → Run x None p u q c k →
+      Contains (plain x.calls u) e →
+      (Lies (part x.calls None) e.to → ⊥) → IsNextTurn x.positions e.lag q d r →
+      Leaving x p (c + d) r
+  comes_out : {u q c d m i r : ℕ} {k : LoopSetup → ℕ} {t : Routine} → Run x None p u q c k →
+      callee x.calls u ≡ Some t →
+      (Lies (part x.calls None) (u + 4) → ⊥) → IsNextTurn x.positions 3 q d m → Through x t m i r →
+      Leaving x p (c + (d + i)) r
 
 -- what walks of the section cost, from one of the thread's own positions
 pub record Nested (x : Route) (c : ℕ) : Type 0 where

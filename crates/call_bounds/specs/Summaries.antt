@@ -1,5 +1,5 @@
 -- What is worked out of parts: matrices of the largest costs between frame positions.
-use Rattle.std.specs.Prelude.{◌≡◌, ℕ, ◌+◌, ◌*◌, ◌<◌, ◌≤◌, Bool, true, false, Option, Some, None, List, length, slice_index_or, min, MatchOption}
+use Rattle.std.specs.Prelude.{◌≡◌, ℕ, ◌+◌, ◌*◌, ◌<◌, ◌≤◌, Bool, true, false, Option, Some, None, List, length, slice_index_or, min}
 use Rattle.region_tree.specs.Tree.{Tree}
 use Rattle.region_tree.specs.Walk.{IsOwn, Positions}
 use Rattle.region_tree.specs.declared.section.Section.{Section}
@@ -10,14 +10,11 @@ use Rattle.bound_calc.specs.Section.{Steps}
 use Rattle.bound_calc.specs.declared.matrix.Matrix.{Matrix}
 use Rattle.call_bounds.specs.declared.routines.Routine.{Routine}
 use Rattle.call_bounds.specs.CallRefusals.{IsCallable, IsListing}
-use Rattle.call_bounds.specs.Calls.{IsReached, callee, returns}
+use Rattle.call_bounds.specs.Calls.{IsReached, returns}
 use Rattle.call_bounds.specs.CallWalk.{Route}
 use Rattle.call_bounds.specs.Listing.{DoesCall, Listing, calls, part_at, part_count}
+use Rattle.call_bounds.specs.Parts.{IsCallee}
 use Rattle.call_bounds.specs.Runs.{Deep, Nested, Through}
-
--- the number of the part that the word at an address calls
-abbrev pub IsCallee : Listing → ℕ → Option ℕ → Type 0
-IsCallee l u k = MatchOption k (callee (calls l) u ≡ None) (λ k. (0 < k) × (k < part_count l) × (callee (calls l) u ≡ part_at l k))
 
 -- of the first words of a section, by place
 pub record AreCallees (l : Listing) (s : Section) (n : ℕ) (callees : List (Option ℕ)) : Type 0 where
@@ -25,9 +22,11 @@ pub record AreCallees (l : Listing) (s : Section) (n : ℕ) (callees : List (Opt
   pub each : (k : ℕ) → k < n → IsCallee l (s.from + 4 * k) (slice_index_or callees k None)
 
 -- whether the words of a part are returns, by place
-pub record AreReturns (l : Listing) (part : ℕ) (s : Section) (n : ℕ) (ends : List Bool) : Type 0 where
+pub record AreReturns (l : Listing) (part : ℕ) (s : Section) (n : ℕ)
+    (ends : List Bool) : Type 0 where
   pub count : length ends ≡ n
-  pub each : (k : ℕ) → k < n → slice_index_or ends k false ≡ returns (calls l) (part_at l part) (s.from + 4 * k)
+  pub each : (k : ℕ) → k < n →
+      slice_index_or ends k false ≡ returns (calls l) (part_at l part) (s.from + 4 * k)
 
 -- what holds at one of the places below n
 abbrev pub Any : (ℕ → Costs) → ℕ → Costs
@@ -58,17 +57,20 @@ LeavesAt t s ways at k =
 abbrev pub route : Listing → Positions → Route
 route l s = record { calls = calls l; positions = s }
 
--- The matrices of calls of a routine: from the call to the word after it, and from the call to where a walk may end.
+-- The matrices of calls of a routine: from the call to the word after it, and from the call to
+-- where a walk may end.
 pub record IsSummary (x : Route) (t : Routine) (through deep : Matrix) : Type 0 where
   pub back : IsBest (entry through) (Then (Steps x.positions 3) (Through x t))
   pub ends : IsBest (entry deep) (Then (Steps x.positions 3) (Deep x (Some t)))
 
 -- those of the part with a number, if it is a routine
 abbrev pub IsSummaryOf : Listing → Positions → ℕ → Matrix → Matrix → Type 0
-IsSummaryOf l s k through deep = (t : Routine) → part_at l k ≡ Some t → IsSummary (route l s) t through deep
+IsSummaryOf l s k through deep = (t : Routine) → part_at l k ≡ Some t →
+    IsSummary (route l s) t through deep
 
 abbrev pub IsSummaryAt : Listing → Positions → ℕ → List Matrix → List Matrix → Type 0
-IsSummaryAt l s k through deep = IsSummaryOf l s k (slice_index_or through k no_matrix) (slice_index_or deep k no_matrix)
+IsSummaryAt l s k through deep =
+    IsSummaryOf l s k (slice_index_or through k no_matrix) (slice_index_or deep k no_matrix)
 
 -- matrices that lead to the thread's own positions
 abbrev pub Lands : Positions → List Matrix → Type 0
@@ -85,19 +87,24 @@ pub record AreSummaries (l : Listing) (s : Positions) (through deep : List Matri
 -- those of the parts that a part calls are known
 abbrev pub KnowsCallees : Listing → Positions → ℕ → List Matrix → List Matrix → Type 0
 KnowsCallees l s part through deep =
-    (k : ℕ) → k < part_count l → DoesCall (calls l) (part_at l part) (part_at l k) → IsSummaryAt l s k through deep
+    (k : ℕ) → k < part_count l → DoesCall (calls l) (part_at l part) (part_at l k) →
+    IsSummaryAt l s k through deep
 
 -- those of a part were worked out, if it is reached, and the others are as they were
-pub record IsAdded (l : Listing) (s : Positions) (number : ℕ) (through deep through' deep' : List Matrix) : Type 0 where
+pub record IsAdded (l : Listing) (s : Positions) (number : ℕ)
+    (through deep through' deep' : List Matrix) : Type 0 where
   pub all : AreSummaries l s through' deep'
   pub known : IsReached (calls l) (part_at l number) → IsSummaryAt l s number through' deep'
-  pub other : (k : ℕ) → (k ≡ number → ⊥) → slice_index_or through' k no_matrix ≡ slice_index_or through k no_matrix
-  pub other' : (k : ℕ) → (k ≡ number → ⊥) → slice_index_or deep' k no_matrix ≡ slice_index_or deep k no_matrix
+  pub other : (k : ℕ) → (k ≡ number → ⊥) →
+      slice_index_or through' k no_matrix ≡ slice_index_or through k no_matrix
+  pub other' : (k : ℕ) → (k ≡ number → ⊥) →
+      slice_index_or deep' k no_matrix ≡ slice_index_or deep k no_matrix
 
 -- those of the reached parts for which a condition on the number holds are known
 abbrev pub AreKnown : Listing → Positions → (ℕ → Type 0) → List Matrix → List Matrix → Type 0
 AreKnown l s known through deep =
-    (k : ℕ) → k < part_count l → IsReached (calls l) (part_at l k) → known k → IsSummaryAt l s k through deep
+    (k : ℕ) → k < part_count l → IsReached (calls l) (part_at l k) → known k →
+    IsSummaryAt l s k through deep
 
 -- the largest cost of walks of the parts, as far as sums go
 pub record IsMost (x : Route) (b : ℕ) : Type 0 where

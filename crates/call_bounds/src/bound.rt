@@ -30,7 +30,10 @@ fn leave_by(
     onto: &Matrix,
 ) -> Matrix
     requires lag { lag ≤ 3 }
-    ensures { IsBest (entry result) (Either (In (entry onto.now)) (When (leaves part.now target) (Then (In (entry here.now)) (moved steps.now (option_map (λ m. m.now) way.entry) lag)))) }
+    ensures { IsBest (entry result)
+        (Either (In (entry onto.now))
+        (When (leaves part.now target)
+        (Then (In (entry here.now)) (moved steps.now (option_map (λ m. m.now) way.entry) lag)))) }
 {
     if is_out(part, target) {
         along(steps, way, here, lag, onto)
@@ -42,7 +45,9 @@ fn leave_by(
 /// Joins a matrix with what leads out of the section.
 fn leaving(part: &LoopTree, steps: &Steps, ways: &Ways, at: &[Matrix], onto: &Matrix) -> Matrix
     requires room { length at.now ≡ length part.now.words }
-    ensures { IsBest (entry result) (Either (In (entry onto.now)) (Any (LeavesAt part.now steps.now (ways_on ways.now) at.now) (length at.now))) }
+    ensures { IsBest (entry result)
+        (Either (In (entry onto.now))
+        (Any (LeavesAt part.now steps.now (ways_on ways.now) at.now) (length at.now))) }
 {
     let mut out = *onto;
     for place in 0..at.len() {
@@ -59,7 +64,8 @@ fn leaving(part: &LoopTree, steps: &Steps, ways: &Ways, at: &[Matrix], onto: &Ma
 fn most(alloc: Global, tree: &CallTree, steps: &Steps, done: &Summaries) -> Result<u128, AllocError>
     requires slot { (p : ℕ) × IsOwn steps.now p }
     requires done { AreSummaries tree.now steps.now done.now.through.items done.now.deep.items }
-    requires known { AreKnown tree.now steps.now (λ k. Unit {0}) done.now.through.items done.now.deep.items }
+    requires known { AreKnown tree.now steps.now (λ k. Unit {0}) done.now.through.items
+        done.now.deep.items }
     ensures { IfOk result (IsMost (route tree.now steps.now)) }
 {
     let Some(part) = tree.tree(0) else {
@@ -74,7 +80,8 @@ fn most(alloc: Global, tree: &CallTree, steps: &Steps, done: &Summaries) -> Resu
 
 /// A bound in 64 bits, if it has no more.
 fn in_64_bits(most: u128) -> Result<u64, BoundNo>
-    ensures { MatchResult result (λ bound. (bound ≡ most) × (most < 2 ^ 64)) (λ no. (no ≡ Overflow (2 ^ 64)) × (2 ^ 64 ≤ most)) }
+    ensures { MatchResult result (λ bound. (bound ≡ most) × (most < 2 ^ 64))
+        (λ no. (no ≡ Overflow (2 ^ 64)) × (2 ^ 64 ≤ most)) }
 {
     match u64::try_from(most) {
         Ok(bound) => Ok(bound),
@@ -88,8 +95,8 @@ fn in_64_bits(most: u128) -> Result<u64, BoundNo>
 ///
 /// # Errors
 ///
-/// [`BoundNo::Overflow`] with 2^64 exactly where the bound is above 2^64 - 1. Besides, memory may be
-/// refused.
+/// [`BoundNo::Overflow`] with 2^64 exactly where the bound is above 2^64 - 1. Besides, memory may
+/// be refused.
 pub fn call_bound(
     alloc: Global,
     tree: &CallTree,

@@ -38,7 +38,8 @@ fn mark(row: &mut Vec<bool>, part: Option<usize>)
 
 /// No part is marked.
 fn unmarked(alloc: Global, count: usize) -> Result<Vec<bool>, AllocError>
-    ensures { IfOk result (λ row. (length row.items ≡ count) × ((k : ℕ) → is_met row.items k ≡ false)) }
+    ensures { IfOk result
+        (λ row. (length row.items ≡ count) × ((k : ℕ) → is_met row.items k ≡ false)) }
 {
     vec![in alloc; false; count]
 }

@@ -115,7 +115,8 @@ struct Trees {
 /// Builds the trees of the reached parts.
 fn try_parts(alloc: Global, code: &Code, reached: &[bool]) -> Result<Trees, CallNo>
     requires { AreReached code.now reached.now }
-    ensures trees { IfOk result (λ r. AreTreesTo code.now (part_count code.now) r.trees.items r.causes) }
+    ensures trees { IfOk result
+        (λ r. AreTreesTo code.now (part_count code.now) r.trees.items r.causes) }
     ensures memory { IfErr result (λ no. no ≡ NoMemory) }
 {
     let mut trees = Vec::new(alloc);

@@ -38,9 +38,19 @@ impl Model for Code {
 
     ghost Value = { Listing };
 
-    ghost view = { λ c. record { section = c.section; routines = c.routines; words = c.words.items; loops = c.loops } };
+    ghost view = { λ c. record {
+      section = c.section;
+      routines = c.routines;
+      words = c.words.items;
+      loops = c.loops;
+    } };
 
-    ghost invariant = { λ c. IsCode (record { section = c.section; routines = c.routines; words = c.words.items; loops = c.loops }) };
+    ghost invariant = { λ c. IsCode (record {
+      section = c.section;
+      routines = c.routines;
+      words = c.words.items;
+      loops = c.loops;
+    }) };
 }
 
 /// Where the word at an address jumps to, if it keeps the address after it in x1.
@@ -88,7 +98,8 @@ impl Code {
         loops: &Loops,
     ) -> Result<Code, AllocError>
         requires { IsSection section }
-        ensures { IfOk result (λ code. code ≡ listing_of (word image.now) section routines.now loops.now) }
+        ensures { IfOk result
+            (λ code. code ≡ listing_of (word image.now) section routines.now loops.now) }
     {
         let words = words(alloc, image, SCRATCHPAD)?;
         let routines = Routines::from_vec(routines.as_slice().to_vec(alloc)?);

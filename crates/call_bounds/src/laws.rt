@@ -2,8 +2,9 @@
 
 ghost use Rattle.call_bounds.specs.Laws.{CallWalksCostAsParts, PartsHaveTheBound};
 
-/// The walks through a section and its routines, with their open calls and counters, cost what walks of
-/// single parts cost that are put one within the other: each with counters of its own, from 0.
+/// The walks through a section and its routines, with their open calls and counters, cost what
+/// walks of single parts cost that are put one within the other: each with counters of its own,
+/// from 0.
 pub fn call_walks_cost_as_parts()
     ensures { CallWalksCostAsParts }
 {}

@@ -114,14 +114,14 @@ fn routine_at(
     Ok(routine)
 }
 
-/// The routines of a file, for scratchpads of `size` bytes, 16,384 or 65,536. A line has the address of a
-/// routine's first word, a space, the address of its last word, and a line feed; each address is eight
-/// hexadecimal digits of lower case.
+/// The routines of a file, for scratchpads of `size` bytes, 16,384 or 65,536. A line has the
+/// address of a routine's first word, a space, the address of its last word, and a line feed; each
+/// address is eight hexadecimal digits of lower case.
 ///
 /// # Errors
 ///
-/// `Fault` exactly where a line breaks a rule of [`RoutinesNo`], with the first such line and the first of
-/// its faults, in the order of their numbers. `NoMemory` where memory was refused.
+/// `Fault` exactly where a line breaks a rule of [`RoutinesNo`], with the first such line and the
+/// first of its faults, in the order of their numbers. `NoMemory` where memory was refused.
 pub fn read_routines(alloc: Global, bytes: &[u8], size: u32) -> Result<Routines, RoutinesRefused>
     requires { IsSize size }
     ensures { (result ≡ Err RoutinesRefused.NoMemory) ⊎ (result ≡ routines_of size bytes.now) }

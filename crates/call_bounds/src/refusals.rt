@@ -13,7 +13,8 @@ pub enum RoutinesNo {
     /// It isn't two addresses of eight digits with a space between them.
     #[error("the line isn't of the form of a routine")]
     BadLine = 2,
-    /// An address isn't a multiple of 4, the head is above the last word, or that isn't in the scratchpad.
+    /// An address isn't a multiple of 4, the head is above the last word, or that isn't in the
+    /// scratchpad.
     #[error("the routine's addresses break a rule")]
     BadPlace = 3,
     /// The head isn't above the last word of the routine before.

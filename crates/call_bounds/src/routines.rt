@@ -13,8 +13,9 @@ pub struct Routine {
     pub last: u32,
 }
 
-/// A list of routines: at most 64, each with head and last multiples of 4, head at most last, and last at
-/// most 65,532, and each with its head above the last of the one before it. Contracts see the list.
+/// A list of routines: at most 64, each with head and last multiples of 4, head at most last, and
+/// last at most 65,532, and each with its head above the last of the one before it. Contracts see
+/// the list.
 #[derive(Drop)]
 pub struct Routines {
     items: Vec<Routine>,

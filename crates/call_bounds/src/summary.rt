@@ -19,7 +19,8 @@ use std::alloc::{AllocError, Global};
 /// What calls of a part cost.
 #[derive(Clone, Copy, Debug)]
 pub struct Summary {
-    /// From a call to the word after it: the jump, a walk of the routine to a return, the jump back.
+    /// From a call to the word after it: the jump, a walk of the routine to a return, the jump
+    /// back.
     pub through: Matrix,
     /// From a call to where a walk may end: the jump, and a walk that ends in the routine or in one
     /// that is called from it.
@@ -40,7 +41,8 @@ pub fn callees(
     section: Section,
 ) -> Result<Vec<Option<usize>>, AllocError>
     requires { IsSection section }
-    ensures { IfOk result (λ callees. AreCallees tree.now section ((section.to - section.from) / 4) callees.items) }
+    ensures { IfOk result
+        (λ callees. AreCallees tree.now section ((section.to - section.from) / 4) callees.items) }
 {
     let mut callees = Vec::new(alloc);
     for place in 0..(section.to - section.from) / 4 {
@@ -58,7 +60,9 @@ fn returns(
 ) -> Result<Vec<bool>, AllocError>
     requires number { number < part_count tree.now }
     requires section { IsSection section }
-    ensures { IfOk result (λ returns. AreReturns tree.now number section ((section.to - section.from) / 4) returns.items) }
+    ensures { IfOk result
+        (λ returns. AreReturns tree.now number section ((section.to - section.from) / 4)
+        returns.items) }
 {
     let mut returns = Vec::new(alloc);
     for place in 0..(section.to - section.from) / 4 {
@@ -69,7 +73,9 @@ fn returns(
 
 /// Joins a matrix with what leads to a word, and with what leads on from there by a call.
 fn end_at(into: Option<&Matrix>, here: &Matrix, onto: &Matrix) -> Matrix
-    ensures { IsBest (entry result) (Either (In (entry onto.now)) (EndsAt (option_map (λ m. m.now) into.entry) (entry here.now))) }
+    ensures { IsBest (entry result)
+        (Either (In (entry onto.now))
+        (EndsAt (option_map (λ m. m.now) into.entry) (entry here.now))) }
 {
     let ended = onto.join(here);
     match into {
@@ -102,7 +108,8 @@ fn summary_of(
     requires reached { IsReached (calls tree.now) (part_at tree.now number) }
     requires part { part.now ≡ part_tree (calls tree.now) (part_at tree.now number) }
     requires done { AreSummaries tree.now steps.now done.now.through.items done.now.deep.items }
-    requires known { KnowsCallees tree.now steps.now number done.now.through.items done.now.deep.items }
+    requires known { KnowsCallees tree.now steps.now number done.now.through.items
+        done.now.deep.items }
     ensures { IfOk result (λ s. IsSummaryOf tree.now steps.now number s.through s.deep) }
 {
     let callees = callees(alloc, tree, part.section())?;
@@ -126,8 +133,11 @@ fn summarise(
     requires routine { 0 < number }
     requires number { number < part_count tree.now }
     requires done { AreSummaries tree.now steps.now done.old.through.items done.old.deep.items }
-    requires known { IsReached (calls tree.now) (part_at tree.now number) → KnowsCallees tree.now steps.now number done.old.through.items done.old.deep.items }
-    ensures { OnOk result (IsAdded tree.now steps.now number done.old.through.items done.old.deep.items done.new.through.items done.new.deep.items) }
+    requires known { IsReached (calls tree.now) (part_at tree.now number)
+        → KnowsCallees tree.now steps.now number done.old.through.items done.old.deep.items }
+    ensures { OnOk result
+        (IsAdded tree.now steps.now number done.old.through.items done.old.deep.items
+        done.new.through.items done.new.deep.items) }
 {
     let Some(part) = tree.tree(number) else {
         return Ok(());
@@ -149,9 +159,13 @@ fn summarise_rank(
 ) -> Result<(), AllocError>
     requires ranks { AreRanks tree.now ranks.now }
     requires done { AreSummaries tree.now steps.now done.old.through.items done.old.deep.items }
-    requires below { AreKnown tree.now steps.now (λ k. rank_at ranks.now k < rank) done.old.through.items done.old.deep.items }
-    ensures done { OnOk result (AreSummaries tree.now steps.now done.new.through.items done.new.deep.items) }
-    ensures known { OnOk result (AreKnown tree.now steps.now (λ k. rank_at ranks.now k < rank + 1) done.new.through.items done.new.deep.items) }
+    requires below { AreKnown tree.now steps.now (λ k. rank_at ranks.now k < rank)
+        done.old.through.items done.old.deep.items }
+    ensures done { OnOk result
+        (AreSummaries tree.now steps.now done.new.through.items done.new.deep.items) }
+    ensures known { OnOk result
+        (AreKnown tree.now steps.now (λ k. rank_at ranks.now k < rank + 1) done.new.through.items
+        done.new.deep.items) }
 {
     for number in 1..ranks.len() {
         if ranks[number] == rank {
@@ -163,8 +177,10 @@ fn summarise_rank(
 
 /// What calls of the reached routines cost: those first that call no other.
 pub fn summaries_of(alloc: Global, tree: &CallTree, steps: &Steps) -> Result<Summaries, AllocError>
-    ensures done { IfOk result (λ done. AreSummaries tree.now steps.now done.through.items done.deep.items) }
-    ensures known { IfOk result (λ done. AreKnown tree.now steps.now (λ k. Unit {0}) done.through.items done.deep.items) }
+    ensures done { IfOk result
+        (λ done. AreSummaries tree.now steps.now done.through.items done.deep.items) }
+    ensures known { IfOk result
+        (λ done. AreKnown tree.now steps.now (λ k. Unit {0}) done.through.items done.deep.items) }
 {
     let count = tree.part_count();
     let ranks = tree.ranks();

@@ -127,9 +127,12 @@ impl CallTree {
         loops: &Loops,
     ) -> Result<CallTree, CallNo>
         requires { IsSection section }
-        ensures tree { IfOk result (λ tree. tree ≡ listing_of (word image.now) section routines.now loops.now) }
-        ensures allowed { OnOk result (IsCallable (calls_of (word image.now) section routines.now loops.now)) }
-        ensures refused { IfErr result (IsCallRefused (calls_of (word image.now) section routines.now loops.now)) }
+        ensures tree { IfOk result
+            (λ tree. tree ≡ listing_of (word image.now) section routines.now loops.now) }
+        ensures allowed { OnOk result
+            (IsCallable (calls_of (word image.now) section routines.now loops.now)) }
+        ensures refused { IfErr result
+            (IsCallRefused (calls_of (word image.now) section routines.now loops.now)) }
     {
         let code = Code::new(alloc, image, section, routines, loops)?;
         if let Some(address) = overlap(&code) {
@@ -184,7 +187,8 @@ impl CallTree {
     /// way.
     pub fn tree(&self, part: usize) -> Option<&LoopTree>
         requires { part < part_count self.now }
-        ensures { MatchOption result (IsPartReached self.now part → ⊥) (λ tree. IsPartReached self.now part × (tree.now ≡ tree_of_part self.now part)) }
+        ensures { MatchOption result (IsPartReached self.now part → ⊥)
+            (λ tree. IsPartReached self.now part × (tree.now ≡ tree_of_part self.now part)) }
     {
         self.trees[part].as_ref()
     }
