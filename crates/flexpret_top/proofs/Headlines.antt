@@ -1,5 +1,5 @@
 -- The promises for one hart, from what a command said.
-use Rattle.std.proofs.Common.{◌≡◌, ℕ, ◌<◌, List, Option, Some, None, Result, Ok, Err, inl, inr, refl, ap, sym, subst, ◌∙◌, arith, nat_lt, true}
+use Rattle.std.proofs.Common.{◌≡◌, ℕ, ◌<◌, List, Option, Some, None, Result, Ok, Err, inl, inr, refl, ap, sym, subst, ◌∙◌, arith, nat_lt, eqb-true, Bool, true, false, not, if◌then◌else◌, ◌==◌}
 use Rattle.std.specs.Prelude.{IfSome, option_map}
 use Rattle.std.specs.Io.KnownBytes.{Appends}
 use Rattle.fp_io.specs.Content.{FileMap}
@@ -16,7 +16,7 @@ use Rattle.call_bounds.specs.declared.tree.CallNo.TheVariants as in_calls
 use Rattle.fp_elf.specs.Elf.{elf_of}
 use Rattle.fp_elf.specs.Law.{ReadsBack}
 use Rattle.fp_elf.specs.declared.refusals.ElfRefused.{ElfRefused}
-use Rattle.fp_elf.specs.declared.refusals.ElfRefused.TheVariants.{Fault, NoMemory}
+use Rattle.fp_elf.specs.declared.refusals.ElfRefused.TheVariants as in_elf
 use Rattle.fp_image.specs.Format.{written}
 use Rattle.fp_image.specs.declared.parts.Segment.{Segment}
 use Rattle.region_tree.specs.Tree.{Tree}
@@ -24,7 +24,13 @@ use Rattle.region_tree.specs.declared.section.Section.{Section}
 use Rattle.region_tree.specs.declared.tree.TreeNo.{TreeNo}
 use Rattle.region_tree.specs.declared.tree.TreeNo.TheVariants as in_tree
 use Rattle.setup_laws.specs.Laws.{IsConfinedHard, TraceAlone, TraceByPhases}
-use Rattle.fp_setup.specs.Settings.{size_of}
+use Rattle.fp_setup.specs.Laws.{AcceptedKeepRules}
+use Rattle.fp_setup.specs.Rules.{KeepsRules}
+use Rattle.fp_setup.specs.Settings.{Settings, size_of}
+use Rattle.fp_setup.specs.Setup.{setup as setup_meant}
+use Rattle.fp_setup.specs.declared.refusal.Fault.{Fault}
+use Rattle.setup_model.specs.Start.{thread_of}
+use Rattle.slot_scheduler.specs.ModeWord.{mode_of}
 use Rattle.setup_visits.specs.CallLaws.{CallVisitsStayBounded}
 use Rattle.setup_visits.specs.Laws.{VisitsStayBounded}
 use Rattle.trace_print.specs.declared.refusals.Refusal.TheVariants as refusal
@@ -33,7 +39,7 @@ use Rattle.flexpret_top.specs.Calls.{IsCallsAnswer, IsRoutinesAnswer, IsSectionC
 use Rattle.flexpret_top.specs.Codes.{call_refusal, tree_refusal}
 use Rattle.flexpret_top.specs.declared.program.Program.{Program}
 use Rattle.flexpret_top.specs.Answer.{Answer, IsSaid, refused, then_by, over_file, ends}
-use Rattle.flexpret_top.specs.Alone.{alone_fault, alone_in, alone_of, alone_program}
+use Rattle.flexpret_top.specs.Alone.{alone_fault, alone_in, alone_of, alone_text, unless_fault}
 use Rattle.flexpret_top.specs.Elf.{elf_in, of_elf}
 use Rattle.ask_words.specs.Commands.{ask}
 use Rattle.flexpret_top.specs.declared.status.Status.{Status}
@@ -41,97 +47,126 @@ use Rattle.flexpret_top.specs.declared.status.Status.TheVariants.{Read, Write, N
 use Rattle.flexpret_top.specs.Status.{number_of}
 use Rattle.flexpret_top.specs.Command.{IsAnswerIn, IsAnswerTo, Said}
 use Rattle.flexpret_top.specs.Headline.{BoundsCallVisits, BoundsVisits, IsImported, IsLongest, IsLongestByCalls, WritesAlone, WritesAsRun, WritesByPhases, WritesImage, machine_of}
+use Rattle.flexpret_top.specs.Program.{image_in, of_setup, program, setup_in, with_image}
 use Rattle.flexpret_top.specs.Run.{trace_of}
-
--- over one map of files
-alone-over : TraceAlone → (asked : Option Ask) (files : FileMap) (ports : List (Option Row)) (before after : Option (List ℕ)) → Said (IsAnswerTo asked files ports) 0 before after → WritesAlone asked files ports before after
-alone-over law None files ports before after said = tt
-alone-over law (Some (Run setup i n)) files ports before after said =
-    λ p is hard quiet. (
-    let answers = ap (λ (q : Result Program Answer). ends (then_by q (trace_of ports i n))) is in
-    let Tells : Answer → Type 0 = IsSaid 0 before after in
-    let told = subst Tells (said.is ∙ answers) said.said in
-    let Told : List ℕ → Type 0 = Appends before after in
-    subst Told (law (machine_of p ports) i n hard quiet) told.1)
-alone-over law (Some (Dump setup n)) files ports before after said = tt
-alone-over law (Some (Asm source)) files ports before after said = tt
-alone-over law (Some (Bound setup i section)) files ports before after said = tt
-alone-over law (Some (Selfrun number)) files ports before after said = tt
-alone-over law (Some (Phases setup n)) files ports before after said = tt
-alone-over law (Some (Solo setup i n)) files ports before after said = tt
-alone-over law (Some (Check setup i n trace)) files ports before after said = tt
-alone-over law (Some (Elf file)) files ports before after said = tt
-alone-over law (Some (Calls setup i section routines)) files ports before after said = tt
-
-pub alone-of : TraceAlone → (told : Option FileMap) (asked : Option Ask) (ports : List (Option Row)) (before after : Option (List ℕ)) →
-    IfSome told (λ files. Said (IsAnswerTo asked files ports) 0 before after) → IfSome told (λ files. WritesAlone asked files ports before after)
-alone-of law None asked ports before after said = tt
-alone-of law (Some files) asked ports before after said = alone-over law asked files ports before after said
-
--- a hard and confined thread has no fault
-no-fault : (p : Program) (i : ℕ) (ports : List (Option Row)) → IsConfinedHard (machine_of p ports) i → alone_in i p ≡ Ok p
-unfolding alone_fault
-no-fault p i ports hard = rw (hard.hard, hard.confined) refl
-
-as-run-over : TraceAlone → (asked : Option Ask) (files : FileMap) (ports : List (Option Row)) (before after : Option (List ℕ)) → Said (IsAnswerTo asked files ports) 0 before after → WritesAsRun asked files ports before after
-as-run-over law None files ports before after said = tt
-as-run-over law (Some (Solo setup i n)) files ports before after said =
-    λ p is hard quiet. (
-    let accepted : alone_program files setup i ≡ Ok p = ap (λ (q : Result Program Answer). then_by q (alone_in i)) is ∙ no-fault p i ports hard in
-    let answers = ap (λ (q : Result Program Answer). ends (then_by q (alone_of ports i n))) accepted in
-    let Tells : Answer → Type 0 = IsSaid 0 before after in
-    let told = subst Tells (said.is ∙ answers) said.said in
-    let Told : List ℕ → Type 0 = Appends before after in
-    subst Told (sym (law (machine_of p ports) i n hard quiet)) told.1)
-as-run-over law (Some (Run setup i n)) files ports before after said = tt
-as-run-over law (Some (Dump setup n)) files ports before after said = tt
-as-run-over law (Some (Asm source)) files ports before after said = tt
-as-run-over law (Some (Bound setup i section)) files ports before after said = tt
-as-run-over law (Some (Selfrun number)) files ports before after said = tt
-as-run-over law (Some (Phases setup n)) files ports before after said = tt
-as-run-over law (Some (Check setup i n trace)) files ports before after said = tt
-as-run-over law (Some (Elf file)) files ports before after said = tt
-as-run-over law (Some (Calls setup i section routines)) files ports before after said = tt
-
-pub as-run-of : TraceAlone → (told : Option FileMap) (asked : Option Ask) (ports : List (Option Row)) (before after : Option (List ℕ)) →
-    IfSome told (λ files. Said (IsAnswerTo asked files ports) 0 before after) → IfSome told (λ files. WritesAsRun asked files ports before after)
-as-run-of law None asked ports before after said = tt
-as-run-of law (Some files) asked ports before after said = as-run-over law asked files ports before after said
-
-phased-over : TraceByPhases → (asked : Option Ask) (files : FileMap) (ports : List (Option Row)) (before after : Option (List ℕ)) → Said (IsAnswerTo asked files ports) 0 before after → WritesByPhases asked files ports before after
-phased-over law None files ports before after said = tt
-phased-over law (Some (Run setup i n)) files ports before after said =
-    λ p is confined kept. (
-    let answers = ap (λ (q : Result Program Answer). ends (then_by q (trace_of ports i n))) is in
-    let Tells : Answer → Type 0 = IsSaid 0 before after in
-    let told = subst Tells (said.is ∙ answers) said.said in
-    let Told : List ℕ → Type 0 = Appends before after in
-    subst Told (law (machine_of p ports) i n confined kept) told.1)
-phased-over law (Some (Dump setup n)) files ports before after said = tt
-phased-over law (Some (Asm source)) files ports before after said = tt
-phased-over law (Some (Bound setup i section)) files ports before after said = tt
-phased-over law (Some (Selfrun number)) files ports before after said = tt
-phased-over law (Some (Phases setup n)) files ports before after said = tt
-phased-over law (Some (Solo setup i n)) files ports before after said = tt
-phased-over law (Some (Check setup i n trace)) files ports before after said = tt
-phased-over law (Some (Elf file)) files ports before after said = tt
-phased-over law (Some (Calls setup i section routines)) files ports before after said = tt
-
-pub phased-of : TraceByPhases → (told : Option FileMap) (asked : Option Ask) (ports : List (Option Row)) (before after : Option (List ℕ)) →
-    IfSome told (λ files. Said (IsAnswerTo asked files ports) 0 before after) → IfSome told (λ files. WritesByPhases asked files ports before after)
-phased-of law None asked ports before after said = tt
-phased-of law (Some files) asked ports before after said = phased-over law asked files ports before after said
 
 -- a refusal isn't status 0
 no-zero : (status : ℕ) → 0 ≡ status → (nat_lt 0 status ≡ true) → ⊥
 no-zero status is more = let e : nat_lt 0 0 ≡ true = rw (sym is) at more in cc
 
+-- the setup of a program keeps the rules
+setup-made : (s : Settings) (r : Result (List Segment) Answer) (p : Program) → then_by r (with_image s) ≡ Ok p → s ≡ p.setup
+setup-made s (Ok image) p is = let same : ◌≡◌ {A = Program} (record { setup = s; image = image }) p = cc in ap (λ (q : Program). q.setup) same
+setup-made s (Err answer) p is = cc
+
+read-keeps : AcceptedKeepRules → (files : FileMap) (bytes : List ℕ) (r : Result Settings Fault) (p : Program) → setup_meant bytes ≡ r →
+    then_by (of_setup r) (λ s. then_by (over_file (image_in (size_of s.version)) (files s.image)) (with_image s)) ≡ Ok p → KeepsRules p.setup
+read-keeps keep files bytes (Ok s) p read is = subst KeepsRules (setup-made s (over_file (image_in (size_of s.version)) (files s.image)) p is) (keep bytes s read)
+read-keeps keep files bytes (Err fault) p read is = absurd (let no : ⊥ = cc in no)
+
+file-keeps : AcceptedKeepRules → (files : FileMap) (file : Option (List ℕ)) (p : Program) →
+    then_by (over_file setup_in file) (λ s. then_by (over_file (image_in (size_of s.version)) (files s.image)) (with_image s)) ≡ Ok p → KeepsRules p.setup
+unfolding setup_in
+file-keeps keep files None p is = absurd (let no : ⊥ = cc in no)
+file-keeps keep files (Some bytes) p is = read-keeps keep files bytes (setup_meant bytes) p refl is
+
+program-keeps : AcceptedKeepRules → (files : FileMap) (name : List ℕ) (p : Program) → program files name ≡ Ok p → KeepsRules p.setup
+program-keeps keep files name p is = file-keeps keep files (files name) p is
+
+-- over one map of files
+alone-over : TraceAlone → AcceptedKeepRules → (asked : Option Ask) (files : FileMap) (ports : List (Option Row)) (before after : Option (List ℕ)) → Said (IsAnswerTo asked files ports) 0 before after → WritesAlone asked files ports before after
+alone-over law keep None files ports before after said = tt
+alone-over law keep (Some (Run setup i n)) files ports before after said =
+    λ p is hard quiet. (
+    let answers = ap (λ (q : Result Program Answer). ends (then_by q (trace_of ports i n))) is in
+    let Tells : Answer → Type 0 = IsSaid 0 before after in
+    let told = subst Tells (said.is ∙ answers) said.said in
+    let Told : List ℕ → Type 0 = Appends before after in
+    subst Told (law (machine_of p ports) i n (program-keeps keep files setup p is) hard quiet) told.1)
+alone-over law keep (Some (Dump setup n)) files ports before after said = tt
+alone-over law keep (Some (Asm source)) files ports before after said = tt
+alone-over law keep (Some (Bound setup i section)) files ports before after said = tt
+alone-over law keep (Some (Selfrun number)) files ports before after said = tt
+alone-over law keep (Some (Phases setup n)) files ports before after said = tt
+alone-over law keep (Some (Solo setup i n)) files ports before after said = tt
+alone-over law keep (Some (Check setup i n trace)) files ports before after said = tt
+alone-over law keep (Some (Elf file)) files ports before after said = tt
+alone-over law keep (Some (Calls setup i section routines)) files ports before after said = tt
+
+pub alone-of : TraceAlone → AcceptedKeepRules → (told : Option FileMap) (asked : Option Ask) (ports : List (Option Row)) (before after : Option (List ℕ)) →
+    IfSome told (λ files. Said (IsAnswerTo asked files ports) 0 before after) → IfSome told (λ files. WritesAlone asked files ports before after)
+alone-of law keep None asked ports before after said = tt
+alone-of law keep (Some files) asked ports before after said = alone-over law keep asked files ports before after said
+
+-- what `solo` says with status 0 is the text of a hard and confined thread
+record IsSolo (p : Program) (i n : ℕ) (ports : List (Option Row)) (before after : Option (List ℕ)) : Type 0 where
+  thread : IsConfinedHard (machine_of p ports) i
+  wrote : Appends before after (alone_text ports i n p)
+
+solo-said : (p : Program) (i n : ℕ) (ports : List (Option Row)) (before after : Option (List ℕ)) → IsSaid 0 before after (ends (then_by (alone_in i p) (alone_of ports i n))) → IsSolo p i n ports before after
+unfolding alone_fault
+solo-said p i n ports before after said = go (mode_of p.setup.modes i == 0) refl (thread_of p.setup i).confined refl said
+  where
+    go : (hard : Bool) → (mode_of p.setup.modes i == 0) ≡ hard → (confined : Bool) → (thread_of p.setup i).confined ≡ confined →
+        IsSaid 0 before after (ends (then_by (unless_fault p (if not hard then Some 1 else if not confined then Some 6 else None)) (alone_of ports i n))) → IsSolo p i n ports before after
+    go false is_hard confined is_confined refusal = absurd (no-zero 3 refusal.0 refl)
+    go true is_hard false is_confined refusal = absurd (no-zero 3 refusal.0 refl)
+    go true is_hard true is_confined text = record { thread = record { confined = is_confined; hard = eqb-true (mode_of p.setup.modes i) 0 is_hard }; wrote = text.1 }
+
+as-run-over : TraceAlone → AcceptedKeepRules → (asked : Option Ask) (files : FileMap) (ports : List (Option Row)) (before after : Option (List ℕ)) → Said (IsAnswerTo asked files ports) 0 before after → WritesAsRun asked files ports before after
+as-run-over law keep None files ports before after said = tt
+as-run-over law keep (Some (Solo setup i n)) files ports before after said =
+    λ p is quiet. (
+    let answers = ap (λ (q : Result Program Answer). ends (then_by (then_by q (alone_in i)) (alone_of ports i n))) is in
+    let Tells : Answer → Type 0 = IsSaid 0 before after in
+    let solo : IsSolo p i n ports before after = solo-said p i n ports before after (subst Tells (said.is ∙ answers) said.said) in
+    let Told : List ℕ → Type 0 = Appends before after in
+    subst Told (sym (law (machine_of p ports) i n (program-keeps keep files setup p is) solo.thread quiet)) solo.wrote)
+as-run-over law keep (Some (Run setup i n)) files ports before after said = tt
+as-run-over law keep (Some (Dump setup n)) files ports before after said = tt
+as-run-over law keep (Some (Asm source)) files ports before after said = tt
+as-run-over law keep (Some (Bound setup i section)) files ports before after said = tt
+as-run-over law keep (Some (Selfrun number)) files ports before after said = tt
+as-run-over law keep (Some (Phases setup n)) files ports before after said = tt
+as-run-over law keep (Some (Check setup i n trace)) files ports before after said = tt
+as-run-over law keep (Some (Elf file)) files ports before after said = tt
+as-run-over law keep (Some (Calls setup i section routines)) files ports before after said = tt
+
+pub as-run-of : TraceAlone → AcceptedKeepRules → (told : Option FileMap) (asked : Option Ask) (ports : List (Option Row)) (before after : Option (List ℕ)) →
+    IfSome told (λ files. Said (IsAnswerTo asked files ports) 0 before after) → IfSome told (λ files. WritesAsRun asked files ports before after)
+as-run-of law keep None asked ports before after said = tt
+as-run-of law keep (Some files) asked ports before after said = as-run-over law keep asked files ports before after said
+
+phased-over : TraceByPhases → AcceptedKeepRules → (asked : Option Ask) (files : FileMap) (ports : List (Option Row)) (before after : Option (List ℕ)) → Said (IsAnswerTo asked files ports) 0 before after → WritesByPhases asked files ports before after
+phased-over law keep None files ports before after said = tt
+phased-over law keep (Some (Run setup i n)) files ports before after said =
+    λ p is confined kept. (
+    let answers = ap (λ (q : Result Program Answer). ends (then_by q (trace_of ports i n))) is in
+    let Tells : Answer → Type 0 = IsSaid 0 before after in
+    let told = subst Tells (said.is ∙ answers) said.said in
+    let Told : List ℕ → Type 0 = Appends before after in
+    subst Told (law (machine_of p ports) i n (program-keeps keep files setup p is) confined kept) told.1)
+phased-over law keep (Some (Dump setup n)) files ports before after said = tt
+phased-over law keep (Some (Asm source)) files ports before after said = tt
+phased-over law keep (Some (Bound setup i section)) files ports before after said = tt
+phased-over law keep (Some (Selfrun number)) files ports before after said = tt
+phased-over law keep (Some (Phases setup n)) files ports before after said = tt
+phased-over law keep (Some (Solo setup i n)) files ports before after said = tt
+phased-over law keep (Some (Check setup i n trace)) files ports before after said = tt
+phased-over law keep (Some (Elf file)) files ports before after said = tt
+phased-over law keep (Some (Calls setup i section routines)) files ports before after said = tt
+
+pub phased-of : TraceByPhases → AcceptedKeepRules → (told : Option FileMap) (asked : Option Ask) (ports : List (Option Row)) (before after : Option (List ℕ)) →
+    IfSome told (λ files. Said (IsAnswerTo asked files ports) 0 before after) → IfSome told (λ files. WritesByPhases asked files ports before after)
+phased-of law keep None asked ports before after said = tt
+phased-of law keep (Some files) asked ports before after said = phased-over law keep asked files ports before after said
+
 -- the image of an executable, by what its definition gives
 elf-imported : ReadsBack → (file : List ℕ) (before after : Option (List ℕ)) (image : Result (List Segment) ElfRefused) → elf_of file ≡ image →
     IsSaid 0 before after (ends (then_by (of_elf image) (λ segments. Ok (written segments)))) → IsImported file before after
 elf-imported law file before after (Ok image) is said = record { image = image; defined = is; bytes = written image; wrote = said.1; read_back = law file image is }
-elf-imported law file before after (Err (Fault code offset)) is said = absurd (no-zero 4 said.0 refl)
-elf-imported law file before after (Err NoMemory) is said = absurd (no-zero 9 said.0 refl)
+elf-imported law file before after (Err (in_elf.Fault code offset)) is said = absurd (no-zero 4 said.0 refl)
+elf-imported law file before after (Err in_elf.NoMemory) is said = absurd (no-zero 9 said.0 refl)
 
 file-imported : ReadsBack → (bytes : List ℕ) (before after : Option (List ℕ)) → IsSaid 0 before after (ends (then_by (elf_in bytes) (λ segments. Ok (written segments)))) → IsImported bytes before after
 unfolding elf_in
@@ -185,8 +220,8 @@ section-longest law p i section before after None x (inr (inr bounded)) said =
       cycles = bounded.cycles;
       wrote = (subst Tells bounded.line said).1;
       met = bounded.is;
-      longest = λ m n alike quiet last earlier visit keeps.
-          law p.setup p.image section i bounded.cycles m n bounded.accepted bounded.is.kept alike quiet last earlier visit keeps;
+      longest = λ m n rules alike quiet last earlier visit keeps.
+          law p.setup p.image section i bounded.cycles m n bounded.accepted bounded.is.kept rules alike quiet last earlier visit keeps;
     }
 
 visits-over : VisitsStayBounded → (asked : Option Ask) (files : FileMap) (ports : List (Option Row)) (before after : Option (List ℕ)) → Said (IsAnswerTo asked files ports) 0 before after → BoundsVisits asked files before after
@@ -235,8 +270,8 @@ listed-longest law p i section file before after x (Ok routines) listed (inr (in
       cycles = bounded.cycles;
       wrote = (subst Tells bounded.line said).1;
       met = bounded.is;
-      longest = λ m n alike quiet last earlier visit returns keeps.
-          law (calls (section_listing p section routines)) p.setup.slots i bounded.cycles m n bounded.listing bounded.accepted bounded.is.kept alike quiet last earlier visit returns keeps;
+      longest = λ m n rules alike quiet last earlier visit returns keeps.
+          law (calls (section_listing p section routines)) p.setup.slots i bounded.cycles m n bounded.listing bounded.accepted bounded.is.kept rules alike quiet last earlier visit returns keeps;
     }
 listed-longest law p i section file before after x (Err (in_list.Fault line code)) listed same said =
     let Tells : Answer → Type 0 = IsSaid 0 before after in absurd (no-zero 10 (subst Tells same said).0 refl)

@@ -1,6 +1,8 @@
 -- What a run of one thread alone has to do with the definition of its command.
-use Rattle.std.proofs.Common.{◌≡◌, ℕ, ◌+◌, ◌*◌, ◌<◌, ◌≤◌, Bool, true, false, cond, nat_eq, if◌then◌else◌, List, [], ◌∷◌, ◌++◌, length, take, drop, map, get_or, set, take-append-drop, find, is_some, nat_le, option_map, reverse, ap₂, Option, Some, None, Result, Ok, Err, refl, ap, sym, subst, ◌∙◌, arith, inl, inr}
+use Rattle.std.proofs.Common.{◌≡◌, ℕ, zero, suc, ◌+◌, ◌-◌, ◌*◌, ◌<◌, ◌≤◌, Bool, true, false, cond, nat_eq, if◌then◌else◌, List, [], ◌∷◌, ◌++◌, length, take, drop, map, get_or, set, take-append-drop, find, is_some, nat_le, option_map, reverse, ap₂, Option, Some, None, Result, Ok, Err, refl, ap, sym, subst, ◌∙◌, arith, inl, inr}
 use Rattle.std.specs.Prelude.{IfSome, IsSomeAnd}
+use Rattle.std.specs.List.{AllWithin, slice_get}
+use Rattle.std.specs.List.Sorted.{IsNonDecreasingBy}
 use Rattle.std.specs.Str.{bytes_eq}
 use Rattle.std.proofs.lemmas.Bool.{cases_lt}
 use Rattle.std.proofs.lemmas.List.{get_or-map, length-take, take_all, take-append-le}
@@ -15,6 +17,7 @@ use Rattle.core_model.specs.View.{View}
 use Rattle.fp_ports.specs.Rows.{row_of, rows_of, word_seen}
 use Rattle.fp_ports.specs.Shown.{input_at, is_gone, shown_at}
 use Rattle.fp_setup.specs.declared.input_list.Input.{Input}
+use Rattle.fp_setup.specs.Inputs.{AreInputs}
 use Rattle.fp_image.specs.declared.parts.Segment.{Segment}
 use Rattle.fp_io.specs.Content.{FileMap, Fetched}
 use Rattle.fp_ports.specs.Rows.{Row}
@@ -146,6 +149,40 @@ last-word (x ∷ inputs) c =
     same_found : (b : Bool) → option_map (λ (input : Input). input.word) (cond b (Some x) None) ≡ option_map (λ (input : ℕ × ℕ). input.1) (cond b (Some (x.at, x.word)) None)
     same_found true = refl
     same_found false = refl
+
+-- later inputs come at later cycles
+pub no-later : (inputs : List Input) → AreInputs inputs → IsNonDecreasingBy (λ (input : Input). input.at) inputs
+no-later inputs are i j d from within =
+    elim (cases_lt i j) [
+      | inl before ↦ (let later = are.rising i j d before within in omega (arith, later))
+      | inr past ↦ (let same : i ≡ j = omega (arith, from, past) in rw same (omega arith))
+    ]
+
+last-there : {A : Type 0} → (x : A) (xs : List A) → (last : A) × (slice_get (x ∷ xs) (length xs) ≡ Some last)
+last-there x [] = (x, refl)
+last-there x (y ∷ xs) = last-there y xs
+
+-- the last element that passes a test, where those that pass it stand before those that don't
+pub last-found : {A : Type 0} → (p : A → Bool) (xs : List A) (i : ℕ) → i ≤ length xs → AllWithin (λ x. p x ≡ true) xs 0 i → AllWithin (λ x. p x ≡ false) xs i (length xs) →
+    slice_get (take i xs) (length (take i xs) - 1) ≡ find p (reverse xs)
+last-found p [] zero within pass fail = refl
+last-found p [] (suc i) within pass fail = refl
+last-found p (x ∷ xs) zero within pass fail =
+    let none : find p (x ∷ []) ≡ None = ap (λ b. cond b (Some x) None) (fail 0 x (omega arith) (omega arith)) in
+    let before = last-found p xs zero (omega arith) (λ k d low high. absurd (omega (arith, high))) (λ k d low high. fail (suc k) d (omega arith) (omega (arith, high))) in
+    sym (ap (find p) (reverse-append (x ∷ []) xs) ∙ find-append p (reverse xs) (x ∷ []) ∙ ap₂ option_or (sym before) none)
+last-found {A = A} p (x ∷ xs) (suc i) within pass fail =
+    let one : find p (x ∷ []) ≡ Some x = ap (λ b. cond b (Some x) None) (pass 0 x (omega arith) (omega arith)) in
+    let after = last-found p xs i (omega (arith, within)) (λ k d low high. pass (suc k) d (omega arith) (omega (arith, high))) (λ k d low high. fail (suc k) d (omega (arith, low)) (omega (arith, high))) in
+    sym (ap (find p) (reverse-append (x ∷ []) xs) ∙ find-append p (reverse xs) (x ∷ []) ∙ ap₂ option_or (sym after) one ∙ go (take i xs))
+  where
+    go : (ys : List A) → option_or (slice_get ys (length ys - 1)) (Some x) ≡ slice_get (x ∷ ys) (length (x ∷ ys) - 1)
+    go [] = refl
+    go (y ∷ ys) =
+        let (last, is) = last-there y ys in
+        let here : length (y ∷ ys) - 1 ≡ length ys = omega arith in
+        let more : length (x ∷ y ∷ ys) - 1 ≡ suc (length ys) = omega arith in
+        rw (here, more, is) refl
 
 -- a port that was taken out and is put back as it was leaves all as they were
 pub rows-back : {B : Type 0} → (latched : B → ℕ) (word_at : B → ℕ → ℕ) (ports : List (Option B)) (thread : ℕ) (gone x taken y : Option B) → x ≡ get_or ports thread x → thread < length ports → taken ≡ x →

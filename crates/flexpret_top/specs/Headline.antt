@@ -14,6 +14,7 @@ use Rattle.call_visits.specs.CallVisits.{IsCallVisit, KeepsReturns, KeepsBounds 
 use Rattle.call_visits.specs.Laws.{route}
 use Rattle.core_model.specs.Solo.{solo}
 use Rattle.fp_elf.specs.Elf.{elf_of}
+use Rattle.fp_setup.specs.Rules.{KeepsRules}
 use Rattle.fp_setup.specs.Settings.{size_of}
 use Rattle.fp_image.specs.Format.{image_of}
 use Rattle.fp_image.specs.declared.parts.Segment.{Segment}
@@ -43,11 +44,11 @@ WritesAlone (Some (Run setup i n)) files ports before after =
     Appends before after (text (solo (view_of (machine_of p ports) i n) n))
 WritesAlone _ files ports before after = Unit {0}
 
--- In such a run what `solo` wrote is the trace that the machine has, which `run` writes.
+-- In a run that writes no scheduling or protection register, what `solo` wrote is the trace that the machine has, which
+-- `run` writes.
 abbrev pub WritesAsRun : Option Ask → FileMap → List (Option Row) → Option (List ℕ) → Option (List ℕ) → Type 0
 WritesAsRun (Some (Solo setup i n)) files ports before after =
-    (p : Program) → program files setup ≡ Ok p → IsConfinedHard (machine_of p ports) i → IsQuiet (machine_of p ports) n →
-    Appends before after (trace (machine_of p ports) i n)
+    (p : Program) → program files setup ≡ Ok p → IsQuiet (machine_of p ports) n → Appends before after (trace (machine_of p ports) i n)
 WritesAsRun _ files ports before after = Unit {0}
 
 -- For every confined hart that no setting of the run makes soft active, in a run that writes no region register, what
@@ -60,14 +61,14 @@ WritesByPhases (Some (Run setup i n)) files ports before after =
 WritesByPhases _ files ports before after = Unit {0}
 
 -- What `bound` wrote is the line of a number of cycles which some walk through the section costs, and which no visit of
--- the section takes longer than: in no quiet run of any machine with the thread hard, the same slots and the same words
--- in the section, while the visit keeps the stated loop bounds.
+-- the section takes longer than: in no quiet run of any machine whose setup keeps the rules, as each accepted one does,
+-- with the thread hard, the same slots and the same words in the section, while the visit keeps the stated loop bounds.
 pub record IsLongest (p : Program) (i : ℕ) (section : Section) (before after : Option (List ℕ)) : Type 0 where
   pub cycles : ℕ
   pub wrote : Appends before after (bound_text cycles)
   pub met : IsBound (course (section_tree p section) p.setup.slots i) cycles
-  pub longest : (m : Machine) (n : ℕ) → IsAlike m i p.setup.slots p.image section → IsQuiet m n → (last : Issued) (earlier : List Issued) →
-      IsVisit (graph (section_tree p section)) (issues m i n) last earlier → KeepsBounds (section_tree p section).loops last earlier →
+  pub longest : (m : Machine) (n : ℕ) → KeepsRules m.setup → IsAlike m i p.setup.slots p.image section → IsQuiet m n →
+      (last : Issued) (earlier : List Issued) → IsVisit (graph (section_tree p section)) (issues m i n) last earlier → KeepsBounds (section_tree p section).loops last earlier →
       last.cycle - (first_of last earlier).cycle ≤ cycles
 
 abbrev pub BoundsVisits : Option Ask → FileMap → Option (List ℕ) → Option (List ℕ) → Type 0
@@ -76,17 +77,17 @@ BoundsVisits (Some (Bound setup i section)) files before after =
 BoundsVisits _ files before after = Unit {0}
 
 -- What `calls` wrote is the line of a number of cycles which some call walk through the section and its routines costs that
--- keeps the loops' bounds, and which no call visit of the section takes longer than: in no quiet run of any machine with the
--- thread hard, the same slots and the same words in all reached parts, while the visit keeps returns and the stated loop
--- bounds.
+-- keeps the loops' bounds, and which no call visit of the section takes longer than: in no quiet run of any machine whose
+-- setup keeps the rules, as each accepted one does, with the thread hard, the same slots and the same words in all reached
+-- parts, while the visit keeps returns and the stated loop bounds.
 pub record IsLongestByCalls (p : Program) (i : ℕ) (section : Section) (file : List ℕ) (before after : Option (List ℕ)) : Type 0 where
   pub routines : List Routine
   pub listed : routines_of (size_of p.setup.version) file ≡ Ok routines
   pub cycles : ℕ
   pub wrote : Appends before after (bound_text cycles)
   pub met : IsCallBound (route (calls (section_listing p section routines)) p.setup.slots i) cycles
-  pub longest : (m : Machine) (n : ℕ) → IsAlikeInParts m i p.setup.slots (calls (section_listing p section routines)) → IsQuiet m n →
-      (last : Issued) (earlier : List Issued) → IsCallVisit (calls (section_listing p section routines)) (issues m i n) last earlier →
+  pub longest : (m : Machine) (n : ℕ) → KeepsRules m.setup → IsAlikeInParts m i p.setup.slots (calls (section_listing p section routines)) →
+      IsQuiet m n → (last : Issued) (earlier : List Issued) → IsCallVisit (calls (section_listing p section routines)) (issues m i n) last earlier →
       KeepsReturns (calls (section_listing p section routines)) last earlier →
       KeepsCallBounds (calls (section_listing p section routines)) last earlier → last.cycle - (first_of last earlier).cycle ≤ cycles
 

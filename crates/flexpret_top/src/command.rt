@@ -21,6 +21,7 @@ use ask_words::{Ask, WordsNo, read_words};
 use fp_elf::reads_back;
 use fp_io::{Files, PutFailed, Sink};
 use fp_ports::Ports;
+use fp_setup::accepted_keep_rules;
 use setup_laws::{traces_alone, traces_by_phases};
 use setup_visits::{calls_stay_bounded, stays_bounded};
 use std::alloc::Global;
@@ -168,8 +169,9 @@ pub fn flexpret<F: Files, K: Sink>(
     ensures apart { IsApartBy (ask (map string_bytes words.now)) → ports.new ≡ ports.old }
     ensures eight { vec_len ports.new ≡ 8 }
 {
-    // The laws by which one hart's trace and visits don't hang on what the others run, and by which the
-    // image of an executable is read back.
+    // The laws by which one hart's trace and visits don't hang on what the others run, by which an accepted
+    // setup keeps the rules, and by which the image of an executable is read back.
+    accepted_keep_rules();
     traces_alone();
     traces_by_phases();
     stays_bounded();

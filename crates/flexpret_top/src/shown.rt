@@ -7,7 +7,7 @@ ghost use Rattle.fp_setup.specs.declared.input_list.Input.{Input};
 ghost use Rattle.setup_model.specs.Start.{inputs_of};
 
 use fp_ports::Port;
-use fp_setup::{Input, ThreadSetup};
+use fp_setup::{Input, Inputs, ThreadSetup};
 use solo_run::Shown;
 
 /// A thread's port that is read, and neither fed nor written: before what the device shows come the
@@ -38,7 +38,7 @@ fn word_beside(device: &mut Option<Box<dyn Port>>, thread: &ThreadSetup, at: u64
     if is_gone(thread.unplug, at) {
         return u32::MAX;
     }
-    match input_at(thread.inputs.as_slice(), at) {
+    match input_at(&thread.inputs, at) {
         Some(word) => { if device.is_some() { word } else { u32::MAX } }
         None => read_device(device, at),
     }
@@ -55,14 +55,16 @@ fn is_gone(unplug: Option<u64>, at: u64) -> bool
 }
 
 /// The last input whose cycle is at most `at`, if there is one.
-fn last_input(inputs: &[Input], at: u64) -> Option<&Input>
-    ensures { option_copied result ≡ find (λ input. nat_le input.at at) (reverse inputs.entry.now) }
+fn last_input(inputs: &Inputs, at: u64) -> Option<&Input>
+    ensures { option_copied result ≡ find (λ input. nat_le input.at at) (reverse inputs.now) }
 {
-    inputs.iter().rev().find(|input| input.at <= at)
+    let inputs = inputs.as_slice();
+    let past = inputs.partition_point(|input| input.at <= at);
+    inputs[..past].last()
 }
 
 /// Its word.
-fn input_at(inputs: &[Input], at: u64) -> Option<u32>
+fn input_at(inputs: &Inputs, at: u64) -> Option<u32>
     ensures { result ≡ input_at (map (λ (input : Input). (input.at, input.word)) inputs.now) at }
 {
     last_input(inputs, at).map(|input| input.word)
