@@ -1,32 +1,6 @@
-//! The abbreviations of the tables: a full stop stands for eight zeros, a star for eight words of
-//! zeros, each with a space before it.
+//! Bytes that are written in hexadecimal digits.
 
 use std::alloc::AllocError;
-
-/// Appends a text with these abbreviations.
-pub fn push_expanded(to: &mut Vec<u8>, text: &str) -> Result<(), AllocError> {
-    for byte in text.as_bytes() {
-        match *byte {
-            b'.' => to.extend_from_slice(b"00000000")?,
-            b'*' => {
-                for _word in 0..8u8 {
-                    to.extend_from_slice(b" 00000000")?;
-                }
-            }
-            byte => to.push(byte)?,
-        }
-    }
-    Ok(())
-}
-
-/// Appends a line of a trace, whose cycle is put right in ten places.
-pub fn push_event(to: &mut Vec<u8>, line: &str) -> Result<(), AllocError> {
-    let digits = line.find(' ').unwrap_or(0);
-    for _place in digits..10 {
-        to.push(b' ')?;
-    }
-    push_expanded(to, line)
-}
 
 /// The value of a hexadecimal digit in lower case; 0 for another byte.
 fn digit(byte: u8) -> u8 {

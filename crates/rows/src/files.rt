@@ -2,7 +2,7 @@
 
 use crate::numbers::{head, low_word, number, numbers};
 use crate::slow::Slow;
-use fp_io::{FetchFault, Files, MemFiles, MemSink, OutSink, RealFiles, Sink};
+use fp_io::{FetchFault, Files, Gathered, MemFiles, MemSink, OutSink, RealFiles, Sink};
 use std::alloc::{AllocError, Global};
 use std::fmt::Write;
 
@@ -52,7 +52,7 @@ fn push_fetched(text: &mut String, fetched: Result<Vec<u8>, FetchFault>) -> Resu
 fn push_out(text: &mut String, with: &str) -> Result<(), AllocError> {
     let (failing, bytes) = head(with);
     let slow = Slow::new(low_word(number(failing)));
-    let mut out = OutSink::new(&slow);
+    let mut out = Gathered::new(OutSink::new(&slow));
     let put = name_of(out.put(bytes.as_bytes()).is_ok());
     let before = slow.taken.get();
     let flushed = name_of(out.flush().is_ok());

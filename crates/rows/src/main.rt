@@ -1,23 +1,16 @@
-//! Compares what the crates answer to calls, by what these offer to all, and what the program answers to
-//! command lines, with tables that were worked out apart from them. It stands apart so that none of those
-//! crates is proved a second time beside its tests.
+//! Compares what the crates below the top call answer to calls, by what these offer to all, with tables that
+//! were worked out apart from them. It stands apart so that none of those crates is proved a second time
+//! beside its tests.
 //!
 //! The tables stand in the folder where it runs. A line of a table is an answer, a tab, and the call
 //! with what it is called with; in `setups.txt` a call is several lines after `=== `, and each line of its
-//! answer begins with `--- `; the tables of command lines say at their head how they are written. Beside
-//! them stand files of examples: a source and an executable, each with its image, and a setup with what
-//! commands over it write. Standard output has each call and command at which the two differ, and for each
-//! table how many there are and how many differ.
+//! answer begins with `--- `. Standard output has each call at which the two differ, and for each table how
+//! many there are and how many differ.
 #![tactic(auto)]
 
-mod answer;
 mod bounds;
-mod cases;
-mod commands;
-mod devices;
 mod elf;
 mod escapes;
-mod examples;
 mod expanded;
 mod files;
 mod images;
@@ -26,7 +19,6 @@ mod lines;
 mod machines;
 mod numbers;
 mod pipelines;
-mod ports;
 mod programs;
 mod routines;
 mod runs;
@@ -84,15 +76,6 @@ const TABLES: [(&str, Table); 19] = [
     ("programs.txt", Table::Programs),
     ("solo.txt", Table::Solo),
     ("routines.txt", Table::Routines),
-];
-
-/// The tables of command lines.
-const COMMANDS: [&str; 5] = [
-    "commands.txt",
-    "worlds.txt",
-    "settings.txt",
-    "worked.txt",
-    "calls.txt",
 ];
 
 impl Table {
@@ -171,22 +154,9 @@ fn compare(rt: HostRuntime, name: &str, table: Table) -> io::Result<()> {
     println!(rt; "{name}: {calls} calls, {differ} differ")
 }
 
-/// Compares what the source of an example gives with the example's image.
-fn compare_image(rt: HostRuntime) -> io::Result<()> {
-    let source = fs::read(&rt, "drive.s")?;
-    let image = fs::read(&rt, "drive.fpx")?;
-    let same = sources::gives(rt.alloc(), &source, &image)?;
-    println!(rt; "drive.s gives drive.fpx: {same}")
-}
-
 fn main(rt: HostRuntime) -> io::Result<()> {
     for (name, table) in &TABLES {
         compare(rt, name, *table)?;
-    }
-    compare_image(rt)?;
-    examples::compare(rt)?;
-    for name in COMMANDS {
-        commands::compare(rt, name)?;
     }
     Ok(())
 }

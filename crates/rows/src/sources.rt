@@ -9,7 +9,6 @@
 use crate::escapes::unescaped;
 use crate::images::push_segments;
 use fp_asm::{AsmRefused, assemble};
-use fp_image::write_image;
 use std::alloc::{AllocError, Global};
 use std::fmt::Write;
 
@@ -38,13 +37,4 @@ fn with_first(alloc: Global, count: u32, bytes: &[u8]) -> Result<Vec<u8>, AllocE
     let mut all = vec![in alloc; *first; count as usize]?;
     all.extend_from_slice(others)?;
     Ok(all)
-}
-
-/// Whether a source is assembled to the image with these bytes.
-pub fn gives(alloc: Global, source: &[u8], image: &[u8]) -> Result<bool, AllocError> {
-    match assemble(alloc, source) {
-        Ok(assembled) => Ok(write_image(alloc, &assembled)?.as_slice() == image),
-        Err(AsmRefused::Fault { .. }) => Ok(false),
-        Err(AsmRefused::NoMemory) => Err(AllocError),
-    }
 }

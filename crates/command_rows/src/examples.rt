@@ -6,7 +6,13 @@ use crate::commands;
 use std::{fs, io};
 
 /// The names of files in commands and setups, each with its copy.
-const FILES: [(&str, &str); 7] = [
+const FILES: [(&str, &str); 13] = [
+    ("examples/drive.s", "drive.s"),
+    ("examples/drive.fpx", "drive.fpx"),
+    ("examples/drive.toml", "drive.toml"),
+    ("examples/sum.s", "sum.s"),
+    ("examples/sum.fpx", "sum.fpx"),
+    ("examples/sum.toml", "sum.toml"),
     ("examples/calls.s", "calls.s"),
     ("examples/calls.fpx", "calls.fpx"),
     ("examples/calls.toml", "calls.toml"),
@@ -17,7 +23,18 @@ const FILES: [(&str, &str); 7] = [
 ];
 
 /// Commands, each with the file that has what it writes.
-const COMMANDS: [(&str, &str); 6] = [
+const COMMANDS: [(&str, &str); 11] = [
+    ("asm examples/drive.s", "drive.fpx"),
+    (
+        "run examples/drive.toml --thread 0 --cycles 57",
+        "drive.trace",
+    ),
+    ("asm examples/sum.s", "sum.fpx"),
+    ("run examples/sum.toml --thread 0 --cycles 820", "sum.trace"),
+    (
+        "bound examples/sum.toml --thread 0 --from 0x10 --to 0x3c",
+        "sum.bound",
+    ),
     ("asm examples/calls.s", "calls.fpx"),
     (
         "run examples/calls.toml --thread 0 --cycles 200",
@@ -62,16 +79,8 @@ fn add_file(rt: HostRuntime, case: &mut Case, name: &str, copy: &str) -> io::Res
 
 /// Adds a command that is to write what a file has.
 fn add_command(rt: HostRuntime, case: &mut Case, line: &str, wanted: &str) -> io::Result<()> {
-    case.commands.push(Command {
-        line: String::from_str(rt.alloc(), line)?,
-        files: case.files.len(),
-        fails: Fails {
-            fetch: None,
-            put: None,
-        },
-        status: 0,
-        text: fs::read(&rt, wanted)?,
-        ports: None,
-    })?;
+    let mut command = Command::of(rt.alloc(), line, case.files.len(), Fails::none(), 0)?;
+    command.text = fs::read(&rt, wanted)?;
+    case.commands.push(command)?;
     Ok(())
 }

@@ -24,6 +24,31 @@ pub struct Fails {
     pub put: Option<Cut>,
 }
 
+impl Fails {
+    pub fn none() -> Fails {
+        Fails {
+            fetch: None,
+            put: None,
+        }
+    }
+
+    /// A call of `fetch` alone.
+    pub fn at_fetch(call: u32) -> Fails {
+        Fails {
+            fetch: Some(call),
+            put: None,
+        }
+    }
+
+    /// A call of `put` alone.
+    pub fn at_put(call: u32, taken: usize) -> Fails {
+        Fails {
+            fetch: None,
+            put: Some(Cut { call, taken }),
+        }
+    }
+}
+
 /// How the lines of a text are written in the table.
 #[derive(Clone, Copy)]
 enum Style {
@@ -37,7 +62,8 @@ enum Style {
 }
 
 /// A command line, with how many of the case's files are there and which calls fail; and its answer:
-/// its status, what it writes, and what is left at the ports, where that is asked.
+/// its status, what it writes, and where that is asked what is left at the ports, which calls it makes, and
+/// what the machine shows that a failing put has stopped.
 #[derive(Drop)]
 pub struct Command {
     pub line: String,
@@ -46,6 +72,36 @@ pub struct Command {
     pub status: u8,
     pub text: Vec<u8>,
     pub ports: Option<String>,
+    pub calls: Option<String>,
+    pub dump: Option<Vec<u8>>,
+}
+
+impl Command {
+    /// A command line over so many files whose answer has a status, no text as yet, and nothing else.
+    pub fn of(
+        alloc: Global,
+        line: &str,
+        files: usize,
+        fails: Fails,
+        status: u8,
+    ) -> Result<Command, AllocError> {
+        Ok(Command {
+            line: String::from_str(alloc, line)?,
+            files,
+            fails,
+            status,
+            text: Vec::new(alloc),
+            ports: None,
+            calls: None,
+            dump: None,
+        })
+    }
+
+    /// Whether it writes an image where it isn't refused.
+    pub fn has_image(&self) -> bool {
+        let line = self.line.as_str();
+        line.starts_with("asm") || line.starts_with("elf")
+    }
 }
 
 /// Devices and files, and command lines over them.
@@ -64,6 +120,8 @@ enum Part {
     File(Style),
     Text(Style),
     Ports,
+    Calls,
+    Dump,
 }
 
 /// How the text of a command is written.
@@ -85,9 +143,9 @@ fn style_of(status: u8, line: &str) -> Style {
 }
 
 /// Appends a line that is written so.
-fn push_line(to: &mut Vec<u8>, style: Style, line: &str) -> Result<(), AllocError> {
+fn push_line(to: &mut Vec<u8>, alloc: Global, style: Style, line: &str) -> Result<(), AllocError> {
     match style {
-        Style::Digits => return push_bytes(to, line),
+        Style::Digits => return push_bytes(to, alloc, line),
         Style::Plain => match line.strip_suffix('\\') {
             Some(front) => return to.extend_from_slice(front.as_bytes()),
             None => to.extend_from_slice(line.as_bytes())?,
@@ -108,15 +166,10 @@ fn fails_of(head: &str) -> Fails {
         .next()
         .and_then(|taken| taken.parse().ok())
         .unwrap_or(0);
-    match kind {
-        "put" => Fails {
-            fetch: None,
-            put: call.map(|call| Cut { call, taken }),
-        },
-        _ => Fails {
-            fetch: call,
-            put: None,
-        },
+    match (kind, call) {
+        ("put", Some(call)) => Fails::at_put(call, taken),
+        ("fetch", Some(call)) => Fails::at_fetch(call),
+        _ => Fails::none(),
     }
 }
 
@@ -154,14 +207,9 @@ impl Case {
         line: &str,
     ) -> Result<Style, AllocError> {
         let status = status_of(head);
-        self.commands.push(Command {
-            line: String::from_str(alloc, line)?,
-            files: self.files.len(),
-            fails: fails_of(head),
-            status,
-            text: Vec::new(alloc),
-            ports: None,
-        })?;
+        let files = self.files.len();
+        let command = Command::of(alloc, line, files, fails_of(head), status)?;
+        self.commands.push(command)?;
         Ok(style_of(status, line))
     }
 
@@ -184,6 +232,24 @@ impl Case {
                 self.copy_written()?;
                 Ok(Part::File(Style::Plain))
             }
+            _ => self.begin_rest(alloc, heading),
+        }
+    }
+
+    /// Begins a part of the last command's answer beside its text.
+    fn begin_rest(&mut self, alloc: Global, heading: &str) -> Result<Part, AllocError> {
+        let Some(command) = self.commands.last_mut() else {
+            return Ok(Part::Head);
+        };
+        match heading {
+            "calls" => {
+                command.calls = Some(String::new(alloc));
+                Ok(Part::Calls)
+            }
+            "dump" => {
+                command.dump = Some(Vec::new(alloc));
+                Ok(Part::Dump)
+            }
             _ => Ok(Part::Ports),
         }
     }
@@ -198,24 +264,33 @@ impl Case {
 
     /// Takes a line of a part.
     fn take(&mut self, alloc: Global, part: Part, line: &str) -> Result<(), AllocError> {
-        match part {
-            Part::Head => self.ports.push_str(line),
-            Part::File(style) => match self.files.last_mut() {
-                Some(file) => push_line(&mut file.bytes, style, line),
-                None => Ok(()),
-            },
-            Part::Text(style) => match self.commands.last_mut() {
-                Some(command) => push_line(&mut command.text, style, line),
-                None => Ok(()),
-            },
-            Part::Ports => {
-                if let Some(command) = self.commands.last_mut() {
-                    command.ports = Some(String::from_str(alloc, line)?);
-                }
+        match (part, self.files.last_mut(), self.commands.last_mut()) {
+            (Part::Head, _, _) => self.ports.push_str(line),
+            (Part::File(style), Some(file), _) => push_line(&mut file.bytes, alloc, style, line),
+            (Part::Text(style), _, Some(command)) => {
+                push_line(&mut command.text, alloc, style, line)
+            }
+            (Part::Ports, _, Some(command)) => {
+                command.ports = Some(String::from_str(alloc, line)?);
                 Ok(())
             }
+            (Part::Calls, _, Some(command)) => push_call(&mut command.calls, line),
+            (Part::Dump, _, Some(command)) => match &mut command.dump {
+                Some(dump) => push_line(dump, alloc, Style::Dump, line),
+                None => Ok(()),
+            },
+            _ => Ok(()),
         }
     }
+}
+
+/// Appends the line of a call.
+fn push_call(calls: &mut Option<String>, line: &str) -> Result<(), AllocError> {
+    if let Some(calls) = calls {
+        calls.push_str(line)?;
+        calls.push('\n')?;
+    }
+    Ok(())
 }
 
 /// Takes a line of a table, and says what the next ones belong to. Lines before the first case are left out.

@@ -15,6 +15,15 @@ pub fn half_of(kind: &str) -> u64 {
     }
 }
 
+/// How many times a device can be fed that notes its calls, by its kind `+`, without an end, or `+N`; None for
+/// other kinds.
+pub fn room_of(kind: &str) -> Option<u32> {
+    match kind.strip_prefix('+') {
+        Some(digits) => Some(digits.parse().unwrap_or(u32::MAX)),
+        None => None,
+    }
+}
+
 /// Appends a thread's latch and the word that its device shows in cycle 0; `-` where there is none.
 fn push_port(text: &mut String, ports: &mut Ports, thread: u8) -> Result<(), AllocError>
     requires eight { vec_len ports.old ≡ 8 }

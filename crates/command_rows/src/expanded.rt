@@ -1,0 +1,62 @@
+//! The abbreviations of the tables: a full stop stands for eight zeros, a star for eight words of
+//! zeros, each with a space before it.
+
+use std::alloc::{AllocError, Global};
+
+/// Appends a text with these abbreviations.
+pub fn push_expanded(to: &mut Vec<u8>, text: &str) -> Result<(), AllocError> {
+    for byte in text.as_bytes() {
+        match *byte {
+            b'.' => to.extend_from_slice(b"00000000")?,
+            b'*' => {
+                for _word in 0..8u8 {
+                    to.extend_from_slice(b" 00000000")?;
+                }
+            }
+            byte => to.push(byte)?,
+        }
+    }
+    Ok(())
+}
+
+/// Appends a line of a trace, whose cycle is put right in ten places.
+pub fn push_event(to: &mut Vec<u8>, line: &str) -> Result<(), AllocError> {
+    let digits = line.find(' ').unwrap_or(0);
+    for _place in digits..10 {
+        to.push(b' ')?;
+    }
+    push_expanded(to, line)
+}
+
+/// Appends the bytes of words of hexadecimal digits, two for a byte; a full stop is four bytes of 0, and `*N`
+/// behind a word says that its bytes stand there N times.
+pub fn push_bytes(to: &mut Vec<u8>, alloc: Global, line: &str) -> Result<(), AllocError> {
+    for word in line.split(' ') {
+        let (digits, count) = word.split_once('*').unwrap_or((word, "1"));
+        let bytes = bytes_of(alloc, digits)?;
+        push_times(to, &bytes, count.parse().unwrap_or(0))?;
+    }
+    Ok(())
+}
+
+/// The bytes of digits. What are no digits has none.
+fn bytes_of(alloc: Global, digits: &str) -> Result<Vec<u8>, AllocError> {
+    let mut bytes = Vec::new(alloc);
+    let mut zeros: &[u8] = &[];
+    for part in digits.split('.') {
+        bytes.extend_from_slice(zeros)?;
+        zeros = &[0; 4];
+        if let Ok(part) = hex::decode(alloc, part) {
+            bytes.extend_from_slice(&part)?;
+        }
+    }
+    Ok(bytes)
+}
+
+/// Appends bytes so many times.
+fn push_times(to: &mut Vec<u8>, bytes: &[u8], count: u32) -> Result<(), AllocError> {
+    for _time in 0..count {
+        to.extend_from_slice(bytes)?;
+    }
+    Ok(())
+}
