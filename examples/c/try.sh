@@ -84,9 +84,7 @@ writes pid.trace run examples/c/pid.toml --thread 0 --cycles 1250
 writes pid.bound bound examples/c/pid.toml --thread 0 --from 0xb4 --to 0x1a4
 
 # The copies that the gate's rows read.
-for file in pid.elf pid.fpx pid.toml pid.trace pid.bound; do
-    cmp -s "$here/$file" "$top/crates/rows/data/$file" || fail "crates/rows/data/$file"
-done
+"$top/bench/examples.sh" || fail bench/examples.sh
 
 # The same program by clang: other addresses and cycles, but the same words at the port.
 if command -v clang >/dev/null && command -v ld.lld >/dev/null; then

@@ -1,0 +1,58 @@
+#!/usr/bin/env python3
+"""make.py FOLDER [MOST]: writes the setups of the sweep and the list of its jobs to a new folder, with all that a job needs.
+
+There is a setup for every frame of eight slots in which T0 has one at least, and for every period from 1 to MOST
+nanoseconds (40 if it is left out). A line of jobs.tsv has, with tabs between: the job's name, the slots (T for T0, S
+for the soft threads), the period, and the budget in cycles: what the 2,000 nanoseconds of the loop in sum.s are.
+FLEXPRET names the program, if it isn't the built one of this repository."""
+import os
+import shutil
+import sys
+from itertools import product
+from pathlib import Path
+
+HERE = Path(__file__).resolve().parent
+BUILT = HERE.parents[1] / "crates/flexpret_cli/out/flexpret_cli"
+LOOP_NS = 2000
+MOST_PERIOD = 40
+SETUP = """\
+period = {period}
+image = "sum.fpx"
+slots = [{slots}]
+i_regions = ["readonly", "readonly", "readonly", "readonly", "readonly", "readonly", "readonly", "readonly"]
+d_regions = ["T0", "shared", "readonly", "readonly", "readonly", "readonly", "readonly", "readonly"]
+
+[[thread]]
+id = 0
+mode = "hard"
+entry = 0
+confined = true
+inputs = [[0, 3]]
+
+[[loop]]
+head = 0x24
+last = 0x34
+bound = 7
+"""
+
+
+def make(folder: Path, most: int) -> None:
+    (folder / "setups").mkdir(parents=True)
+    (folder / "results").mkdir()
+    shutil.copy(os.environ.get("FLEXPRET", BUILT), folder / "flexpret")
+    for file in (*HERE.glob("*.sh"), HERE / "slack.gp", HERE.parent / "sum.fpx"):
+        shutil.copy(file, folder)
+    frames = ["".join(frame) for frame in product("ST", repeat=8) if "T" in frame]
+    with (folder / "jobs.tsv").open("w", encoding="ascii") as jobs:
+        for period, frame in product(range(1, most + 1), frames):
+            name = f"{period:02}-{frame}"
+            slots = ", ".join('"T0"' if slot == "T" else '"S"' for slot in frame)
+            text = SETUP.format(period=period, slots=slots)
+            (folder / "setups" / f"{name}.toml").write_text(text, encoding="ascii")
+            print(name, frame, period, LOOP_NS // period, sep="\t", file=jobs)
+
+
+if __name__ == "__main__":
+    if not 2 <= len(sys.argv) <= 3:
+        sys.exit(__doc__)
+    make(Path(sys.argv[1]), int(sys.argv[2]) if len(sys.argv) > 2 else MOST_PERIOD)
