@@ -1,0 +1,155 @@
+"""An executable's words, symbols and source lines, as pyelftools reads them."""
+from __future__ import annotations
+
+import re
+from bisect import bisect_right
+from dataclasses import dataclass
+from functools import cached_property
+from pathlib import Path
+from typing import Any, Iterator
+
+from elftools.common.exceptions import DWARFError, ELFError
+from elftools.elf.elffile import ELFFile
+from elftools.elf.sections import SymbolTableSection
+
+from fptools.image import words_of
+
+CODE_END = 0x1_0000
+ADDRESS = re.compile(r"(?P<name>[A-Za-z_.$][\w.$]*)?(?P<plus>\+)?(?P<number>0x[0-9a-fA-F]+|\d+)?")
+
+
+class ProgramError(Exception):
+    """The file is no executable, or a name isn't one of its symbols."""
+
+
+@dataclass(frozen=True, order=True)
+class Function:
+    """The words of a function: from its first address up to below `end`."""
+
+    start: int
+    end: int
+    name: str
+
+
+@dataclass(frozen=True)
+class Line:
+    """A place in a source."""
+
+    file: Path
+    number: int
+
+    def __str__(self) -> str:
+        return f"{self.file.name}:{self.number}"
+
+
+class Program:
+    """A static ELF32 executable; without a file, one that has no words, symbols and lines."""
+
+    def __init__(self, path: Path | None = None) -> None:
+        self.path = path
+        self.words: dict[int, int] = {}
+        self.functions: list[Function] = []
+        self.symbols: list[tuple[int, str]] = []
+        if path is None:
+            return
+        try:
+            with path.open("rb") as file:
+                self._read(ELFFile(file))
+        except ELFError as fault:
+            raise ProgramError(f"{path} is no ELF file: {fault}") from fault
+
+    def _read(self, elf: ELFFile) -> None:
+        for segment in elf.iter_segments():
+            if segment["p_type"] == "PT_LOAD":
+                self.words |= words_of(segment.data(), segment["p_vaddr"])
+        for section in elf.iter_sections():
+            if isinstance(section, SymbolTableSection):
+                self._take_symbols(section)
+        self.functions.sort()
+        self.symbols.sort()
+
+    def _take_symbols(self, table: SymbolTableSection) -> None:
+        for symbol in table.iter_symbols():
+            at, size, kind = symbol["st_value"], symbol["st_size"], symbol["st_info"]["type"]
+            is_label = kind == "STT_NOTYPE" and not symbol.name.startswith((".L", "$"))
+            if symbol["st_shndx"] == "SHN_UNDEF" or not symbol.name or at >= CODE_END:
+                continue
+            if kind == "STT_FUNC" or is_label and symbol["st_shndx"] != "SHN_ABS":
+                self.symbols.append((at, symbol.name))
+            if kind == "STT_FUNC" and size:
+                self.functions.append(Function(at, at + size, symbol.name))
+
+    def name_of(self, address: int) -> str:
+        """The symbol at or below an address of code, with the distance; empty where there is none."""
+        index = bisect_right(self.symbols, address, key=lambda symbol: symbol[0]) - 1
+        if index < 0 or address >= CODE_END:
+            return ""
+        at, name = self.symbols[index]
+        return name if at == address else f"{name}+{address - at:#x}"
+
+    def address(self, text: str) -> int:
+        """The address that a number, a symbol, or a symbol and a number after `+` stands for."""
+        parts = ADDRESS.fullmatch(text)
+        if not text or parts is None or bool(parts["plus"]) != bool(parts["name"] and parts["number"]):
+            raise ProgramError(f"{text} is no address: a number, NAME or NAME+NUMBER")
+        number = int(parts["number"] or "0", 0)
+        if not parts["name"]:
+            return number
+        for at, name in self.symbols:
+            if name == parts["name"]:
+                return at + number
+        raise ProgramError(f"{parts['name']} is no symbol of code in {self.path or 'no executable'}")
+
+    def function_at(self, address: int) -> Function | None:
+        """The function in which an address lies."""
+        return next((it for it in self.functions if it.start <= address < it.end), None)
+
+    def line_of(self, address: int) -> Line | None:
+        """The source line that an address was compiled from, where the executable has such lines (-g)."""
+        index = bisect_right(self._lines, address, key=lambda row: row[0]) - 1
+        return self._lines[index][1] if index >= 0 else None
+
+    @cached_property
+    def _lines(self) -> list[tuple[int, Line | None]]:
+        """From which address on which line counts; None from the end of what was compiled together."""
+        if self.path is None:
+            return []
+        with self.path.open("rb") as file:
+            elf = ELFFile(file)
+            if not elf.has_dwarf_info():
+                return []
+            dwarf = elf.get_dwarf_info()
+            try:
+                rows = [row for unit in dwarf.iter_CUs() for row in _rows_of(dwarf, unit)]
+            except (KeyError, ValueError, IndexError, DWARFError) as fault:
+                # Version 0.29 of pyelftools has no form for the checksums of files that clang writes.
+                text = "has line tables that pyelftools can't read; -gdwarf-4 gives others"
+                raise ProgramError(f"{self.path} {text}") from fault
+        # Where one unit ends another may begin: its line counts.
+        rows.sort(key=lambda row: (row[0], row[1] is not None))
+        return rows
+
+
+def _rows_of(dwarf: Any, unit: Any) -> Iterator[tuple[int, Line | None]]:
+    """The rows of a unit's line table."""
+    table = dwarf.line_program_for_CU(unit)
+    if table is None:
+        return
+    folder = unit.get_top_DIE().attributes.get("DW_AT_comp_dir")
+    base = Path(folder.value.decode()) if folder else Path()
+    for entry in table.get_entries():
+        state = entry.state
+        if state is None:
+            continue
+        line = Line(_file_of(table, state.file, base), state.line)
+        yield state.address, None if state.end_sequence else line
+
+
+def _file_of(table: Any, number: int, base: Path) -> Path:
+    """The name of a file in a line table: version 5 counts files and folders from 0, those before from 1."""
+    from_zero = table["version"] >= 5
+    entry = table["file_entry"][number if from_zero else number - 1]
+    folders = table["include_directory"]
+    index = entry.dir_index if from_zero else entry.dir_index - 1
+    folder = Path(folders[index].decode()) if 0 <= index < len(folders) else Path()
+    return base / folder / str(entry.name.decode())

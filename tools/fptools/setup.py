@@ -1,0 +1,94 @@
+"""A setup with the lines of its keys."""
+from __future__ import annotations
+
+import re
+import tomllib
+from dataclasses import dataclass
+from pathlib import Path
+from typing import Any, Iterator
+
+SMALL, LARGE = 16_384, 65_536
+DATA_START = 0x2000_0000
+REGIONS = 8
+
+COMMENT = re.compile(r"#.*")
+TABLE = re.compile(r"\s*\[\[\s*(\w+)\s*\]\]")
+
+Place = tuple[str | int, ...]
+
+
+def spelled(place: Place) -> str:
+    """A place as the program's refusals spell it: `slots[3]`, `thread[2].entry`, `top`."""
+    text = ""
+    for part in place:
+        text += f"[{part}]" if isinstance(part, int) else f".{part}" if text else part
+    return text or "top"
+
+
+@dataclass
+class Setup:
+    """A setup's values as TOML has them, and the line of each key."""
+
+    path: Path
+    values: dict[str, Any]
+    lines: dict[Place, int]
+
+    def line(self, place: Place) -> int | None:
+        """The line of a key, or of the nearest that holds it."""
+        while place not in self.lines and place:
+            place = place[:-1]
+        return self.lines.get(place)
+
+    @property
+    def size(self) -> int:
+        """The bytes of a scratchpad."""
+        return LARGE if self.values.get("version") == 2 else SMALL
+
+    @property
+    def image(self) -> Path:
+        return Path(self.values["image"])
+
+    def region(self, key: str, address: int) -> str:
+        """Whose the region of an address is, of `i_regions` or `d_regions`."""
+        owner: str = self.values[key][address % DATA_START * REGIONS // self.size]
+        return owner
+
+
+def read_setup(path: Path) -> Setup:
+    """Reads a setup; what TOML refuses is a `tomllib.TOMLDecodeError`."""
+    text = path.read_text(encoding="utf-8")
+    return Setup(path, tomllib.loads(text), dict(_lines_of(text)))
+
+
+def _lines_of(text: str) -> Iterator[tuple[Place, int]]:
+    """The places of a text's keys and of its tables, with their lines."""
+    counts: dict[str, int] = {}
+    table: Place = ()
+    for number, statement in _statements(text):
+        header = TABLE.match(statement)
+        if header:
+            name = header[1]
+            counts[name] = counts.get(name, -1) + 1
+            table = (name, counts[name])
+            yield table, number
+        else:
+            for key in tomllib.loads(statement):
+                yield table + (key,), number
+
+
+def _statements(text: str) -> Iterator[tuple[int, str]]:
+    """The runs of lines that TOML reads alone, as a list over several lines, with the number of their first."""
+    begun, lines = 0, ""
+    for number, line in enumerate(text.splitlines(), 1):
+        begun = begun if lines else number
+        lines += line + "\n"
+        # A line that ends so is no end of a statement; asking TOML at each line of a long list would take long.
+        if COMMENT.sub("", line).rstrip().endswith((",", "[")):
+            continue
+        try:
+            is_empty = not tomllib.loads(lines)
+        except tomllib.TOMLDecodeError:
+            continue
+        if not is_empty:
+            yield begun, lines
+        lines = ""

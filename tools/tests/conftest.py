@@ -1,0 +1,50 @@
+"""What the tests share: the folder of the repository, the program, and runs of a tool."""
+from __future__ import annotations
+
+import os
+import subprocess
+import sys
+from pathlib import Path
+
+import pytest
+
+TOP = Path(__file__).resolve().parents[2]
+TOOLS = TOP / "tools"
+BUILT = TOP / "crates" / "flexpret_cli" / "out" / "flexpret_cli"
+sys.path.insert(0, str(TOOLS))
+
+
+@pytest.fixture(scope="session")
+def flexpret() -> str:
+    """The program that FLEXPRET names, or the built one; what asks it is skipped where there is none."""
+    program = os.environ.get("FLEXPRET") or str(BUILT)
+    if not os.access(program, os.X_OK):
+        pytest.skip("no program: build it by ./flexpret, or name it by FLEXPRET")
+    return program
+
+
+class Tool:
+    """Runs a tool from a folder."""
+
+    def __init__(self, folder: Path, program: str = "") -> None:
+        self.folder = folder
+        self.environment = {**os.environ, "FLEXPRET": program} if program else dict(os.environ)
+
+    def __call__(self, *words: object, given: str = "") -> subprocess.CompletedProcess[str]:
+        tool, *rest = map(str, words)
+        return subprocess.run(
+            [str(TOOLS / tool), *rest], cwd=self.folder, env=self.environment, input=given,
+            capture_output=True, text=True, check=False, timeout=60,
+        )  # fmt: skip
+
+
+@pytest.fixture
+def tool() -> Tool:
+    """Runs a tool at the top of the repository, without the program."""
+    return Tool(TOP)
+
+
+@pytest.fixture
+def asking(flexpret: str) -> Tool:
+    """Runs a tool at the top of the repository, which may ask the program."""
+    return Tool(TOP, flexpret)

@@ -1,0 +1,185 @@
+"""What fp_budget says of budgets: what can't be known never holds."""
+from __future__ import annotations
+
+import subprocess
+from pathlib import Path
+from xml.etree import ElementTree
+
+import pytest
+from conftest import TOP, Tool
+
+PID = ("examples/c/pid.toml", "--elf", "examples/c/pid.elf")
+STEP = 'name = "step"\nthread = 0\nfrom = "step_begin"\nto = "step_end"\n'
+
+
+def judged(asking: Tool, folder: Path, words: tuple[str, ...], *tables: str) -> tuple[int, list[str]]:
+    """The status and the lines for budgets of these tables."""
+    budgets = folder / "budgets.toml"
+    budgets.write_text("".join(f"[[budget]]\n{table}\n" for table in tables))
+    ran = asking("fp_budget", words[0], budgets, *words[1:])
+    return ran.returncode, (ran.stdout + ran.stderr).splitlines()
+
+
+def section(start: str, end: str, more: str = "cycles = 1000") -> str:
+    return f'name = "it"\nthread = 0\nfrom = {start}\nto = {end}\n{more}\n'
+
+
+def test_a_budget_that_holds_and_one_that_is_over(asking: Tool, tmp_path: Path) -> None:
+    assert judged(asking, tmp_path, PID, f"{STEP}cycles = 352") == (
+        0,
+        ["holds    T0 step: 352 of 352 cycles (3520 ns)"],
+    )
+    assert judged(asking, tmp_path, PID, f"{STEP}cycles = 351") == (
+        1,
+        ["OVER     T0 step: 352 of 351 cycles (3520 ns)"],
+    )
+    assert judged(asking, tmp_path, PID, f"{STEP}ns = 3529")[0] == 0
+    assert judged(asking, tmp_path, PID, f"{STEP}ns = 3519")[0] == 1
+
+
+@pytest.mark.parametrize(
+    ("setup", "start", "end", "why"),
+    [
+        ("stack", "0x10", "0x14", "0x10 to 0x100: a call leaves the section: a bound ends here"),
+        ("nest", "0x10", "0x18", "0x14 to 0xc: leaves for another address: a bound ends here"),
+        ("nest", "0x24", "0x30", "status 6: refused bound 4 UnboundedBackEdge 00000024"),
+        ("nest", "0x40", "0x50", "0x40: no code is here: a bound ends here"),
+        ("traps", "0x14", "0x18", "0x14: traps: a bound ends here"),
+        ("traps", "0x1c", "0x20", "0x1c: no code is here: a bound ends here"),
+        ("traps", "0x100", "0x130", "status 6: refused bound 2 IndirectJump 00000124"),
+        ("drive", "0x10", "0x2c", "status 6: refused bound 3 TimedWait 00000028"),
+        ("drive", "0x40", "0x20", "status 3: refused section 3 Order"),
+    ],
+)
+def test_what_is_unknown(asking: Tool, tmp_path: Path, setup: str, start: str, end: str, why: str) -> None:
+    status, lines = judged(asking, tmp_path, (f"examples/{setup}.toml",), section(start, end))
+    assert (status, lines) == (2, [f"UNKNOWN  T0 it: {why}"])
+
+
+def test_a_bound_of_0_is_unknown(asking: Tool, tmp_path: Path) -> None:
+    program = tmp_path / "zero"
+    program.write_text("#!/bin/sh\necho bound 0\n")
+    program.chmod(0o755)
+    words = ("examples/nest.toml", "--flexpret", str(program))
+    status, lines = judged(asking, tmp_path, words, section("0x8", "0x20"))
+    assert (status, lines) == (2, ["UNKNOWN  T0 it: a bound of 0: nothing of the section issues"])
+
+
+def test_a_jump_elsewhere_is_unknown_unless_it_is_meant(asking: Tool, tmp_path: Path) -> None:
+    words = ("examples/traps.toml",)
+    way = "0x10c to 0x124: leaves for another address: a bound ends here"
+    assert judged(asking, tmp_path, words, section("0x108", "0x110")) == (2, [f"UNKNOWN  T0 it: {way}"])
+    meant = "cycles = 1000\nexits = [0x124]"
+    assert judged(asking, tmp_path, words, section("0x108", "0x110", meant))[0] == 0
+
+
+@pytest.fixture
+def calling(flexpret: str, tmp_path: Path) -> tuple[str, ...]:
+    """The words for a setup of calls.elf, in which T0 has all turns."""
+    elf = TOP / "tools/tests/data/calls.elf"
+    image, setup = tmp_path / "calls.fpx", tmp_path / "calls.toml"
+    image.write_bytes(subprocess.run([flexpret, "elf", elf], capture_output=True, check=True).stdout)
+    regions = ["readonly"] * 8
+    setup.write_text(
+        f"period = 10\nimage = {str(image)!r}\nslots = {['T0'] + ['D'] * 7}\n"
+        f"i_regions = {regions}\nd_regions = {regions}\n[[thread]]\nid = 0\nmode = 'hard'\nentry = 0\n"
+    )
+    return str(setup), "--elf", str(elf)
+
+
+def test_calls_of_functions(asking: Tool, tmp_path: Path, calling: tuple[str, ...]) -> None:
+    table = section('"start"', '"back"')
+    assert judged(asking, tmp_path, calling, table) == (
+        2, ["UNKNOWN  T0 it: 0x0 to 0xc outer: a call leaves the section: a bound ends here"],
+    )  # fmt: skip
+    # Three cycles for each call and return, one for each of three other words.
+    assert judged(asking, tmp_path, calling, f"{table}calls = true\n") == (
+        0,
+        ["holds    T0 it: 15 of 1000 cycles (150 ns)"],
+    )
+
+
+def test_a_called_function_that_traps(asking: Tool, tmp_path: Path, calling: tuple[str, ...]) -> None:
+    table = section('"back"', '"again"', "cycles = 1000\ncalls = true")
+    assert judged(asking, tmp_path, calling, table) == (
+        2,
+        ["UNKNOWN  T0 it: 0x24 broken: traps: a bound ends here"],
+    )
+
+
+def test_a_called_function_that_never_returns(asking: Tool, tmp_path: Path) -> None:
+    table = section('"start0"', '"stopped0"', "cycles = 1000\ncalls = true")
+    status, lines = judged(asking, tmp_path, PID, table)
+    assert status == 2
+    assert lines[0].startswith("UNKNOWN  T0 it: status 6: refused bound")
+
+
+def test_an_image_of_another_executable(asking: Tool, tmp_path: Path) -> None:
+    words = ("examples/c/pid.toml", "--elf", "tools/tests/data/loops.elf")
+    table = 'name = "it"\nthread = 0\nfrom = "grid_begin"\nto = "grid_end"\ncycles = 1000\n'
+    status, lines = judged(asking, tmp_path, words, table)
+    assert status == 2
+    assert lines[0].endswith("the image has another word than the executable: make it anew by `elf`")
+
+
+def test_a_name_that_is_no_symbol(asking: Tool, tmp_path: Path) -> None:
+    status, lines = judged(asking, tmp_path, PID, section('"step"', '"step_end"'))
+    assert (status, lines) == (2, ["UNKNOWN  T0 it: step is no symbol of code in examples/c/pid.elf"])
+
+
+def test_unknown_counts_before_over(asking: Tool, tmp_path: Path) -> None:
+    status, lines = judged(
+        asking, tmp_path, PID, f"{STEP}cycles = 1", section("0x700", "0x704"), f"{STEP}cycles = 352"
+    )
+    assert status == 2
+    assert [line.split()[0] for line in lines] == ["OVER", "UNKNOWN", "holds"]
+
+
+def test_the_junit_file(asking: Tool, tmp_path: Path) -> None:
+    words = (*PID, "--junit", str(tmp_path / "budgets.xml"))
+    judged(asking, tmp_path, words, f"{STEP}cycles = 352", f"{STEP}cycles = 1", section("0x700", "0x704"))
+    suite = ElementTree.parse(tmp_path / "budgets.xml").getroot()
+    assert {name: suite.get(name) for name in ("tests", "failures", "errors")} == {
+        "tests": "3",
+        "failures": "1",
+        "errors": "1",
+    }
+    assert [[child.tag for child in case] for case in suite] == [[], ["failure"], ["error"]]
+
+
+@pytest.mark.parametrize(
+    ("table", "error"),
+    [
+        (f"{STEP}", "budget[0]: "),
+        (f"{STEP}cycles = 0", "budget[0].cycles: 0 is less than the minimum of 1"),
+        (f"{STEP}cycles = 1\nns = 10", "budget[0]: "),
+        (f"{STEP}cycle = 1", "budget[0]: "),
+    ],
+)
+def test_faulty_budgets(asking: Tool, tmp_path: Path, table: str, error: str) -> None:
+    status, lines = judged(asking, tmp_path, PID, table)
+    assert status == 2
+    assert lines[0].startswith(f"fp_budget: {tmp_path}/budgets.toml: {error}")
+
+
+def test_the_examples_of_budgets_are_read(asking: Tool) -> None:
+    ran = asking("fp_budget", "examples/c/pid.toml", "examples/c/budgets.toml", "--elf", "examples/c/pid.elf")
+    assert (ran.returncode, ran.stdout) == (
+        0,
+        "holds    T0 a step of the controller: 352 of 400 cycles (3520 ns)\n",
+    )
+
+
+def test_a_permit_is_told_beside_the_results(asking: Tool, tmp_path: Path) -> None:
+    status, lines = judged(asking, tmp_path, ("examples/slots.toml",), section("0x8", "0xc"))
+    assert status == 0
+    assert (
+        lines[1] == "fp_budget: T0: a permit; bounds hold while no instruction writes slots, modes or regions"
+    )
+
+
+def test_a_refused_setup(asking: Tool, tmp_path: Path) -> None:
+    setup = tmp_path / "setup.toml"
+    setup.write_text((TOP / "examples/nest.toml").read_text().replace("period = 10", "period = 0"))
+    status, lines = judged(asking, tmp_path, (str(setup),), section("0x8", "0x20"))
+    assert (status, lines) == (2, [f"fp_budget: {setup} is refused; fp_lint says why"])

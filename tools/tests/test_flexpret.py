@@ -1,0 +1,211 @@
+"""The script ./flexpret, over a program and an `rt` of the test's own."""
+from __future__ import annotations
+
+import os
+import re
+import shutil
+import signal
+import subprocess
+import time
+from pathlib import Path
+
+import pytest
+from conftest import TOP
+
+PROGRAM = """#!/bin/sh
+case $1 in
+status) exit "$2" ;;
+sleep) echo $$; exec sleep 60 ;;
+*) cat; echo "$#:$*" ;;
+esac
+"""
+RT = """#!/bin/sh
+echo 'statements core: modules loaded=1 checked=0'
+for crate in 1 2 3; do echo 'logic=proved functions=2'; done
+[ "$RT_STATUS" = 0 ] && printf '%s' "$RT_PROGRAM" >out/flexpret_cli && chmod +x out/flexpret_cli
+exit "$RT_STATUS"
+"""
+CRATES = "low:\nbeside: low\nmiddle: low arrayvec\nflexpret_cli: middle\n"
+
+
+class Checkout:
+    """A repository of the script alone, with a crate and a kit that do as they are told."""
+
+    def __init__(self, folder: Path) -> None:
+        self.folder = folder
+        self.out = folder / "crates/flexpret_cli/out"
+        (folder / "crates/low/src").mkdir(parents=True)
+        (folder / "crates/flexpret_cli").mkdir()
+        (folder / "crates/low/src/lib.rt").write_text("")
+        (folder / "crates.txt").write_text(CRATES)
+        shutil.copy(TOP / "flexpret", folder / "flexpret")
+        (folder / "bin").mkdir()
+        (folder / "bin/rt").write_text(RT)
+        (folder / "bin/rt").chmod(0o755)
+        self.environment = {
+            **os.environ, "PATH": f"{folder}/bin:{os.environ['PATH']}", "RT_STATUS": "0", "RT_PROGRAM": PROGRAM,
+        }  # fmt: skip
+
+    def build(self) -> None:
+        assert self.run("x").returncode == 0
+
+    def run(
+        self, *words: str, cwd: Path | None = None, script: str = "flexpret", given: str = ""
+    ) -> subprocess.CompletedProcess[str]:
+        return subprocess.run(
+            [str(self.folder / script), *words], cwd=cwd or self.folder, env=self.environment, input=given,
+            capture_output=True, text=True, check=False, timeout=30,
+        )  # fmt: skip
+
+
+@pytest.fixture
+def checkout(tmp_path: Path) -> Checkout:
+    return Checkout(tmp_path)
+
+
+def test_a_first_build_says_how_long_it_takes_and_counts_crates(checkout: Checkout) -> None:
+    ran = checkout.run("run", "a b", given="in\n")
+    assert ran.stderr.splitlines() == [
+        "flexpret: building, which proves 3 crates first: up to an hour on four processors",
+        "flexpret: 1 of 3 crates",
+        "flexpret: 2 of 3 crates",
+        "flexpret: 3 of 3 crates",
+    ]
+    assert (ran.returncode, ran.stdout) == (0, "in\n2:run a b\n")
+
+
+def test_nothing_is_built_twice_until_a_source_changes(checkout: Checkout) -> None:
+    checkout.build()
+    assert checkout.run("x").stderr == ""
+    later = time.time() + 5
+    source = checkout.folder / "crates/low/src/lib.rt"
+    os.utime(source, (later, later))
+    assert "building" in checkout.run("x").stderr
+    os.utime(checkout.folder / "crates.txt", (later + 5, later + 5))
+    os.utime(source, (1, 1))
+    assert "building" in checkout.run("x").stderr
+
+
+def test_a_build_that_fails(checkout: Checkout) -> None:
+    checkout.environment["RT_STATUS"] = "1"
+    ran = checkout.run("x")
+    assert ran.returncode == 1
+    assert ran.stderr.endswith(
+        "flexpret: the program can't be built; see crates/flexpret_cli/out/flexpret.log\n"
+    )
+    assert (checkout.out / "flexpret.log").read_text().count("logic=proved") == 3
+
+
+def test_a_link_to_the_script_from_elsewhere(
+    checkout: Checkout, tmp_path_factory: pytest.TempPathFactory
+) -> None:
+    checkout.build()
+    link = tmp_path_factory.mktemp("elsewhere") / "fp"
+    link.symlink_to(checkout.folder / "flexpret")
+    ran = subprocess.run([link, "x"], env=checkout.environment, capture_output=True, text=True, check=False)
+    assert (ran.returncode, ran.stdout, ran.stderr) == (0, "1:x\n", "")
+
+
+@pytest.mark.parametrize("status", [0, 1, 3, 6, 8, 9, 10])
+def test_statuses_are_the_programs_and_add_nothing(checkout: Checkout, status: int) -> None:
+    checkout.build()
+    ran = checkout.run("status", str(status))
+    assert (ran.returncode, ran.stdout, ran.stderr) == (status, "", "")
+
+
+def test_the_forms_follow_words_that_ask_nothing(checkout: Checkout) -> None:
+    checkout.build()
+    ran = checkout.run("status", "2")
+    assert (ran.returncode, ran.stdout) == (2, "")
+    forms = [line.strip() for line in ran.stderr.splitlines()[1:]]
+    table = re.findall(r"^\| `((?:\w+) [A-Z][^`]*)`", (TOP / "README.md").read_text(), re.M)
+    spelled = [re.sub(r"(?<= )[a-z](?= |$)", lambda it: str(it[0]).upper(), form) for form in table]
+    assert forms == [f"flexpret {form}" for form in spelled]
+
+
+def test_the_forms_are_those_of_the_man_page_and_the_completion(checkout: Checkout) -> None:
+    checkout.build()
+    forms = [line.strip() for line in checkout.run("status", "2").stderr.splitlines()[1:]]
+    page = (TOP / "tools/flexpret.1").read_text()
+    synopsis = re.findall(r"^\.B (flexpret .*)$", page[: page.index(".SH DESCRIPTION")], re.M)
+    assert [re.sub(r"\\f[IP]", "", line) for line in synopsis] == forms
+    completion = (TOP / "tools/flexpret.bash").read_text()
+    commands = re.search(r"compgen -W '(run [^']*)'", completion)
+    assert commands and commands[1].split() == [form.split()[1] for form in forms]
+
+
+def test_the_files_follow_a_read_that_failed(
+    checkout: Checkout, tmp_path_factory: pytest.TempPathFactory
+) -> None:
+    checkout.environment["RT_PROGRAM"] = "#!/bin/sh\necho 'flexpret: read failed' >&2\nexit 7\n"
+    checkout.run("x")
+    folder = tmp_path_factory.mktemp("call")
+    (folder / "own").mkdir()
+    (folder / "own/a.toml").write_text('image = "a.fpx"\n')
+    (folder / "own/a.fpx").write_text("")
+
+    def told(*words: str) -> list[str]:
+        ran = checkout.run(*words, cwd=folder)
+        assert (ran.returncode, ran.stdout) == (7, "")
+        first, where, *rest = ran.stderr.splitlines()
+        assert (first, where) == ("flexpret: read failed", f"files are looked for from {folder}:")
+        return [line.strip() for line in rest]
+
+    assert told("asm", "x.s") == ["x.s (the file of asm) isn't there"]
+    assert told("elf", "own") == ["own (the file of elf) is a folder"]
+    assert told("run", "own/a.toml", "--thread", "0", "--cycles", "9") == [
+        "own/a.toml (the file of run) is there",
+        "a.fpx (the setup's image) isn't there",
+        "own/a.fpx is there: a setup's image is named as it is seen from the folder of the call",
+    ]
+    assert (
+        told("check", "--trace", "t", "own/a.toml", "--thread=0", "--cycles=9")[-1]
+        == "t (the file of --trace) isn't there"
+    )
+    assert told("calls", "own/a.toml", "--routines=r")[-1] == "r (the file of --routines) isn't there"
+
+
+def test_the_program_ends_with_the_script(checkout: Checkout) -> None:
+    checkout.build()
+    script = subprocess.Popen(
+        [checkout.folder / "flexpret", "sleep"], env=checkout.environment, stdout=subprocess.PIPE, text=True
+    )
+    assert script.stdout
+    program = int(script.stdout.readline())
+    script.send_signal(signal.SIGTERM)
+    assert script.wait(10) == -signal.SIGTERM
+    for _ in range(100):
+        if not Path(f"/proc/{program}").exists():
+            return
+        time.sleep(0.05)
+    raise AssertionError("the program still runs")
+
+
+def test_install_puts_program_page_and_completion(tmp_path: Path) -> None:
+    program = tmp_path / "program"
+    program.write_text("#!/bin/sh\necho installed\n")
+    program.chmod(0o755)
+    prefix = tmp_path / "prefix"
+    subprocess.run(
+        [TOP / "tools/install.sh", prefix], env={**os.environ, "FLEXPRET": str(program)}, check=True
+    )
+    assert (
+        subprocess.run([prefix / "bin/flexpret"], capture_output=True, text=True, check=True).stdout
+        == "installed\n"
+    )
+    assert (prefix / "share/man/man1/flexpret.1").read_text() == (TOP / "tools/flexpret.1").read_text()
+    assert (prefix / "share/bash-completion/completions/flexpret").is_file()
+    assert subprocess.run([TOP / "tools/install.sh"], capture_output=True, check=False).returncode == 2
+
+
+def test_completion_offers_commands_options_and_values() -> None:
+    def offered(*words: str) -> list[str]:
+        script = f". tools/flexpret.bash; COMP_WORDS=({' '.join(words)}); COMP_CWORD={len(words) - 1}; _flexpret; echo ${{COMPREPLY[@]}}"
+        return subprocess.run(
+            ["bash", "-c", script], cwd=TOP, capture_output=True, text=True, check=True
+        ).stdout.split()
+
+    assert offered("flexpret", "p") == ["phases"]
+    assert offered("flexpret", "bound", "--") == ["--thread", "--from", "--to"]
+    assert offered("flexpret", "run", "x.toml", "--thread", "7") == ["7"]
+    assert "README.md" in offered("flexpret", "asm", "READ")

@@ -1,0 +1,78 @@
+"""What fp_loops writes of sections; loops.elf has line tables, pid.elf has none."""
+from __future__ import annotations
+
+import pytest
+from conftest import TOP, Tool
+from fptools.image import read_image
+from fptools.section import walk
+from fptools.setup import read_setup
+
+LOOPS = "tools/tests/data/loops.elf"
+SRC = ("--src", "tools/tests/data")
+
+
+def test_a_section_with_all_its_bounds(tool: Tool) -> None:
+    ran = tool("fp_loops", LOOPS, "--from", "grid_begin", "--to", "grid_end", *SRC)
+    assert (
+        ran.stdout
+        == """\
+[[loop]]  # grid_begin+0x10 to grid_begin+0x44, loops.c:22
+head = 0x50
+last = 0x84
+bound = 2
+
+[[loop]]  # grid_begin+0x28 to grid_begin+0x3c, loops.c:25
+head = 0x68
+last = 0x7c
+bound = 4
+
+# 0x84 grid_begin+0x44 to 0x88 grid_end: reaches the end
+"""
+    )
+    assert ran.returncode == 0
+
+
+def test_rounds_that_are_stated_and_counted(tool: Tool) -> None:
+    ran = tool("fp_loops", LOOPS, "--from", "sum_of", "--to", "sum_of+0x24", *SRC)
+    assert "bound = 3\n" in ran.stdout
+    assert ran.returncode == 0
+
+
+def test_a_loop_without_stated_rounds(tool: Tool) -> None:
+    ran = tool("fp_loops", LOOPS, "--from", "call_end", "--to", "wait_end", *SRC)
+    assert "bound = ?  # no `@rounds N` in the sources\n" in ran.stdout
+    assert ran.returncode == 1
+
+
+def test_sources_that_are_not_found_state_nothing(tool: Tool) -> None:
+    ran = tool("fp_loops", LOOPS, "--from", "sum_of", "--to", "sum_of+0x24", "--src", "examples")
+    assert "bound = ?  # no `@rounds N` in the sources; the code counts 4\n" in ran.stdout
+    assert ran.returncode == 1
+
+
+def test_a_call_leaves_a_section_and_comes_back_with_calls(tool: Tool) -> None:
+    words = ("fp_loops", "examples/c/pid.elf", "--from", "start0", "--to", "stopped0")
+    assert "# 0x14 start0+0x14 to 0x54 main0: a call leaves the section" in tool(*words).stdout
+    assert tool(*words).returncode == 1
+    assert tool(*words, "--calls").stdout == "# 0x14 start0+0x14 to 0x18 stopped0: reaches the end\n"
+    assert tool(*words, "--calls").returncode == 0
+
+
+def test_without_an_end_the_function_is_the_section(tool: Tool) -> None:
+    ran = tool("fp_loops", LOOPS, "--from", "sum_of", *SRC)
+    assert ran.stdout.endswith("# 0x24 sum_of+0x24: an indirect jump: it has no bound\n")
+    ran = tool("fp_loops", "examples/c/pid.elf", "--from", "start0")
+    assert (ran.returncode, ran.stderr) == (2, "fp_loops: start0 is in no function, so --to is needed\n")
+
+
+@pytest.mark.parametrize(
+    ("setup", "start", "end", "routines"),
+    [("sum", 0x10, 0x3C, ()), ("nest", 0x8, 0x20, ()), ("calls", 0x8, 0x18, (0x100, 0x140))],
+)
+def test_the_loops_of_the_examples_are_those_of_their_setups(
+    setup: str, start: int, end: int, routines: tuple[int, ...]
+) -> None:
+    section = walk(read_image(TOP / f"examples/{setup}.fpx"), start, end, routines)
+    tables = read_setup(TOP / f"examples/{setup}.toml").values["loop"]
+    assert [(it.head, it.last) for it in section.loops] == [(it["head"], it["last"]) for it in tables]
+    assert section.callees == set(routines)

@@ -1,0 +1,51 @@
+"""Each command that tools/README.md shows writes what is shown, in a folder of the test's own."""
+from __future__ import annotations
+
+import os
+import subprocess
+from pathlib import Path
+
+import pytest
+from conftest import TOP, TOOLS
+from fptools.disassembly import find_tool
+
+INDENT, PROMPT = "    ", "    $ "
+
+
+def shown() -> list[tuple[str, list[str]]]:
+    """The commands in their order, each with the lines under it."""
+    blocks: list[tuple[str, list[str]]] = []
+    is_open = False
+    for line in (TOOLS / "README.md").read_text().splitlines():
+        if line.startswith(PROMPT):
+            blocks.append((line.removeprefix(PROMPT), []))
+            is_open = True
+        elif is_open and (line.startswith(INDENT) or not line):
+            blocks[-1][1].append(line.removeprefix(INDENT))
+        else:
+            is_open = False
+    return [(command, "\n".join(lines).rstrip("\n").splitlines()) for command, lines in blocks]
+
+
+def test_each_command_writes_what_is_shown(flexpret: str, tmp_path: Path) -> None:
+    if find_tool() is None:
+        pytest.skip("the page shows instructions by an objdump for RISC-V, and none is installed")
+    for name, target in (
+        ("tools", TOOLS),
+        ("examples", TOP / "examples"),
+        ("flexpret", Path(flexpret).resolve()),
+    ):
+        (tmp_path / name).symlink_to(target)
+    environment = {**os.environ, "FLEXPRET": flexpret}
+    blocks = shown()
+    assert len(blocks) == 12
+    for command, lines in blocks:
+        ran = subprocess.run(
+            ["bash", "-c", command],
+            cwd=tmp_path,
+            env=environment,
+            capture_output=True,
+            text=True,
+            check=False,
+        )
+        assert (ran.stdout.splitlines(), ran.stderr) == (lines, ""), command
