@@ -1,2 +1,3 @@
 mod Shift
 pub mod First
+pub mod Masks

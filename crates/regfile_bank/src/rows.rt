@@ -5,11 +5,12 @@ ghost use Rattle.regfile_bank.specs.Registers.{register, registers_of, with_regi
 
 use std::marker::Model;
 
-/// The registers x1 to x31 of the eight hardware threads. x0 reads 0 and ignores writes. A thread is
-/// 0 to 7, and a register 0 to 31.
+/// The registers x1 to x31 of the eight hardware threads. x0 reads 0 and ignores writes. A thread
+/// is 0 to 7, and a register 0 to 31.
 #[derive(Clone, Copy, Debug)]
 pub struct Bank {
-    // A row of 32 words for each thread. The first is x0's and stays 0, so that a read needs no test.
+    // A row of 32 words for each thread. The first is x0's and stays 0, so that a read needs no
+    // test.
     rows: [[u32; 32]; 8],
 }
 
@@ -51,7 +52,8 @@ impl Bank {
     pub fn write(&mut self, thread: u8, x: u8, v: u32)
         requires thread { thread < 8 }
         requires register { x < 32 }
-        ensures row { self.new ≡ slice_set self.old thread (with_register (registers_of self.old thread) x v) }
+        ensures row { self.new
+            ≡ slice_set self.old thread (with_register (registers_of self.old thread) x v) }
         ensures words { length (registers_of self.new thread) ≡ 31 }
         ensures eight { length self.new ≡ 8 }
     {

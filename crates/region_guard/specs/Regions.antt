@@ -74,15 +74,18 @@ index_of size address = address % size / 4
 
 -- what the region of an address is to a thread, by the region register
 abbrev pub standing_at : ℕ → ℕ → ℕ → ℕ → Standing
-standing_at thread size regions address = standing thread (nibble_at regions (region_of size address))
+standing_at thread size regions address =
+    standing thread (nibble_at regions (region_of size address))
 
 -- whether a confined or an unconfined thread may read there
 abbrev pub may_read : ℕ → ℕ → Bool → ℕ → ℕ → Bool
-may_read thread size confined regions address = not confined || is_readable (standing_at thread size regions address)
+may_read thread size confined regions address =
+    not confined || is_readable (standing_at thread size regions address)
 
 -- who may fetch, load and store where. The address is aligned for the width, which is in bytes
 unfoldable pub may_fetch : ℕ → ℕ → Bool → ℕ → ℕ → Bool
-may_fetch thread size confined iregions address = in_i size address && may_read thread size confined iregions address
+may_fetch thread size confined iregions address =
+    in_i size address && may_read thread size confined iregions address
 
 unfoldable pub may_load : ℕ → ℕ → Bool → ℕ → ℕ → ℕ → ℕ → Bool
 may_load thread size confined iregions dregions address width =

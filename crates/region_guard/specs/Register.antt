@@ -1,9 +1,10 @@
 -- A region register as the type that holds it.
-use Rattle.std.specs.Prelude.{ℕ, Bool, not, position, Option, Some, None, Result, Ok, Err}
+use Rattle.std.specs.Prelude.{ℕ, ◌==◌, Bool, ◌||◌, not, List, [], ◌∷◌, map, position, Option, Some, None, Result, Ok, Err}
 use Rattle.std.specs.List.{list_all}
 use Rattle.nibble_word.specs.Nibbles.{nibbles}
+use Rattle.nibble_word.specs.Masks.{mask_of}
 use Rattle.region_guard.specs.declared.register.BadRegion.{BadRegion}
-use Rattle.region_guard.specs.Regions.{is_owner}
+use Rattle.region_guard.specs.Regions.{Standing, is_owner, standing}
 
 -- whether a word may stand in the register
 unfoldable pub is_regions : ℕ → Bool
@@ -20,3 +21,17 @@ unless_bad word (Some index) = Err (record { index = index })
 -- the word is accepted as it is, or the lowest region that is refused is named
 unfoldable pub regions_of : ℕ → Result ℕ BadRegion
 regions_of word = unless_bad word (bad_region word)
+
+-- the regions that are to a thread what passes a test, of which region i is bit i
+abbrev pub regions_that : (Standing → Bool) → ℕ → ℕ → ℕ
+regions_that test word thread = mask_of (map (λ nibble. test (standing thread nibble)) (nibbles word))
+
+-- those of each of the eight threads
+unfoldable pub by_thread : (Standing → Bool) → ℕ → List ℕ
+by_thread test word = map (regions_that test word) (0 ∷ 1 ∷ 2 ∷ 3 ∷ 4 ∷ 5 ∷ 6 ∷ 7 ∷ [])
+
+-- for each thread the regions whose nibble is its own or another
+abbrev pub masks_by : ℕ → List ℕ → List ℕ
+masks_by other regions =
+    map (λ thread. mask_of (map (λ nibble. nibble == thread || nibble == other) regions))
+    (0 ∷ 1 ∷ 2 ∷ 3 ∷ 4 ∷ 5 ∷ 6 ∷ 7 ∷ [])

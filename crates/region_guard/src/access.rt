@@ -1,9 +1,9 @@
 //! Who may fetch, load and store where.
 
 ghost use Rattle.std.specs.Prelude.{◌≡◌, ◌<◌, not, ◌||◌};
-ghost use Rattle.region_guard.specs.Regions.{IsSize, IsSize-prop, at_port, in_d, is_readable, is_writable, may_fetch, may_load, may_read, may_store, region_of, standing, standing_at};
+ghost use Rattle.region_guard.specs.Regions.{IsSize, IsSize-prop, at_port, in_d, may_fetch, may_load, may_read, may_store, region_of};
 
-use crate::register::{READ_ONLY, Regions, SHARED};
+use crate::register::Regions;
 
 /// The owners of the regions of both scratchpads.
 ///
@@ -11,9 +11,9 @@ use crate::register::{READ_ONLY, Regions, SHARED};
 /// of a thread's port stands at 0x4000_0000. Each scratchpad has eight regions of `size / 8` bytes.
 #[derive(Clone, Copy, Debug)]
 pub struct Guard {
-    /// The regions of the instruction scratchpad.
+    /// The regions of the instruction scratchpad: the register iregions (0x7C3).
     pub i: Regions,
-    /// The regions of the data scratchpad.
+    /// The regions of the data scratchpad: the register dregions (0x7C2).
     pub d: Regions,
     /// The size of each scratchpad in bytes, 16,384 or 65,536.
     pub size: u32,
@@ -44,7 +44,7 @@ fn is_data(size: u32, address: u32) -> bool
     requires { IsSize size }
     ensures { result ≡ in_d size address }
 {
-    address >= DATA && address < DATA + size
+    address.wrapping_sub(DATA) < size
 }
 
 // Whether an access is one of the whole word of the port.
@@ -54,28 +54,12 @@ fn is_port(address: u32, size: u8) -> bool
     address == PORT && size == 4
 }
 
-// Whether a nibble names a region where a confined thread may load and fetch.
-#[tactic(auto, unfolding(crate::specs::Regions::standing))]
-fn lets_read(nibble: u8, thread: u8) -> bool
-    ensures { result ≡ is_readable (standing thread nibble) }
-{
-    nibble == thread || nibble == READ_ONLY
-}
-
-// Whether a nibble names a region where a thread may store.
-#[tactic(auto, unfolding(crate::specs::Regions::standing))]
-fn lets_write(nibble: u8, thread: u8) -> bool
-    ensures { result ≡ is_writable (standing thread nibble) }
-{
-    nibble == thread || nibble == SHARED
-}
-
 impl Guard {
     // Whether a thread may load or fetch at an address of the scratchpad with these regions.
     fn may_read(&self, regions: &Regions, thread: u8, confined: bool, address: u32) -> bool
         ensures { result ≡ may_read thread self.now.size confined regions.now address }
     {
-        !confined || lets_read(regions.owner(region_at(self.size, address)), thread)
+        !confined || regions.lets_read(region_at(self.size, address), thread)
     }
 
     /// Whether a thread may fetch at an address: in the instruction scratchpad, and if it is
@@ -92,7 +76,8 @@ impl Guard {
     /// and four bytes at the port.
     #[tactic(auto, unfolding(crate::specs::Regions::may_load))]
     pub fn may_load(&self, thread: u8, confined: bool, address: u32, size: u8) -> bool
-        ensures { result ≡ may_load thread self.now.size confined self.now.i self.now.d address size }
+        ensures { result
+            ≡ may_load thread self.now.size confined self.now.i self.now.d address size }
     {
         if address < self.size {
             self.may_read(&self.i, thread, confined, address)
@@ -112,6 +97,6 @@ impl Guard {
         if !is_data(self.size, address) {
             return is_port(address, size);
         }
-        lets_write(self.d.owner(region_at(self.size, address)), thread)
+        self.d.lets_write(region_at(self.size, address), thread)
     }
 }

@@ -1,19 +1,26 @@
 //! A region register as a type that holds only accepted words.
 
-ghost use Rattle.std.specs.Prelude.{◌≡◌, ◌<◌, IfSome, IsTrue, is_ok, not, position};
+ghost use Rattle.std.specs.Prelude.{◌≡◌, ◌<◌, ◌==◌, ◌||◌, IfSome, IsTrue, is_ok, map, not, position};
+ghost use Rattle.nibble_word.specs.Masks.{bit_of, mask_of};
 ghost use Rattle.nibble_word.specs.Nibbles.{nibble_at};
-ghost use Rattle.region_guard.specs.Regions.{is_owner};
-ghost use Rattle.region_guard.specs.Register.{is_regions, regions_of};
+ghost use Rattle.region_guard.specs.Regions.{is_owner, is_readable, is_writable, standing};
+ghost use Rattle.region_guard.specs.Register.{is_regions, masks_by, regions_of};
 
 use nibble_word::{nibble, nibbles_of};
 use std::marker::Model;
 use thiserror::Error;
 
-/// A word of a region register: a nibble for each of a scratchpad's eight regions, which names the
-/// thread that owns it (0 to 7), or is 8 for a shared and 12 for a read only region.
+/// A word of a region register, dregions (0x7C2) or iregions (0x7C3): a nibble for each of a
+/// scratchpad's eight regions, region i in bits 4i to 4i + 3, which names the thread that owns it
+/// (0 to 7), or is 8 for a shared and 12 for a read only region.
 #[derive(Clone, Copy, Debug)]
 pub struct Regions {
     word: u32,
+    // For each thread the regions that it may read where it is confined, and those that it may
+    // write; region i is bit i. They are kept because each fetch and each access asks one: a bit
+    // test takes the place of the region's nibble and two comparisons.
+    readable: [u8; 8],
+    writable: [u8; 8],
 }
 
 /// A region whose nibble is none of 0 to 8 and 12.
@@ -26,22 +33,29 @@ pub struct BadRegion {
 
 impl Model for Regions {
     ghost use Rattle.std.specs.Prelude.{◌≡◌, ℕ, true};
-    ghost use Rattle.region_guard.specs.Register.{is_regions};
+    ghost use Rattle.region_guard.specs.Regions.{is_readable, is_writable};
+    ghost use Rattle.region_guard.specs.Register.{by_thread, is_regions};
 
     ghost Value = { ℕ };
 
     ghost view = { λ r. r.word };
 
-    ghost invariant = { λ r. is_regions r.word ≡ true };
+    ghost invariant = { λ r. (is_regions r.word ≡ true)
+        × (r.readable ≡ by_thread is_readable r.word)
+        × (r.writable ≡ by_thread is_writable r.word) };
 
-    ghost inverse = { λ w. record { word = w } };
+    ghost inverse = { λ w. record {
+      word = w;
+      readable = by_thread is_readable w;
+      writable = by_thread is_writable w;
+    } };
 }
 
 /// The nibble of a shared region.
-pub const SHARED: u8 = 8;
+const SHARED: u8 = 8;
 
 /// The nibble of a read only region.
-pub const READ_ONLY: u8 = 12;
+const READ_ONLY: u8 = 12;
 
 fn is_accepted(nibble: u8) -> bool
     ensures { result ≡ is_owner nibble }
@@ -57,8 +71,62 @@ fn bad_region(nibbles: &[u8; 8]) -> Option<usize>
     nibbles.iter().position(|nibble| !is_accepted(*nibble))
 }
 
+/// Whether a nibble names a region where a confined thread may load and fetch.
+#[tactic(auto, unfolding(crate::specs::Regions::standing))]
+fn lets_read(nibble: u8, thread: u8) -> bool
+    ensures { result ≡ is_readable (standing thread nibble) }
+{
+    nibble == thread || nibble == READ_ONLY
+}
+
+/// Whether a nibble names a region where a thread may store.
+#[tactic(auto, unfolding(crate::specs::Regions::standing))]
+fn lets_write(nibble: u8, thread: u8) -> bool
+    ensures { result ≡ is_writable (standing thread nibble) }
+{
+    nibble == thread || nibble == SHARED
+}
+
+/// 1 where a region is the thread's or has the other nibble, and else 0.
+fn bit(nibble: u8, thread: u8, other: u8) -> u8
+    ensures bit { result ≡ bit_of (nibble == thread || nibble == other) }
+    ensures small { result < 2 }
+{
+    u8::from(nibble == thread || nibble == other)
+}
+
+/// The regions that are a thread's or have the other nibble, of which region i is bit i.
+fn mask_for(nibbles: &[u8; 8], thread: u8, other: u8) -> u8
+    ensures { result ≡ mask_of (map (λ nibble. nibble == thread || nibble == other) nibbles.now) }
+{
+    bit(nibbles[0], thread, other)
+        + bit(nibbles[1], thread, other) * 0x2
+        + bit(nibbles[2], thread, other) * 0x4
+        + bit(nibbles[3], thread, other) * 0x8
+        + bit(nibbles[4], thread, other) * 0x10
+        + bit(nibbles[5], thread, other) * 0x20
+        + bit(nibbles[6], thread, other) * 0x40
+        + bit(nibbles[7], thread, other) * 0x80
+}
+
+/// For each thread the regions that are its own or have the other nibble.
+fn masks_for(nibbles: &[u8; 8], other: u8) -> [u8; 8]
+    ensures { result ≡ masks_by other nibbles.now }
+{
+    [
+        mask_for(nibbles, 0, other),
+        mask_for(nibbles, 1, other),
+        mask_for(nibbles, 2, other),
+        mask_for(nibbles, 3, other),
+        mask_for(nibbles, 4, other),
+        mask_for(nibbles, 5, other),
+        mask_for(nibbles, 6, other),
+        mask_for(nibbles, 7, other),
+    ]
+}
+
 impl Regions {
-    /// The regions of a word of the register.
+    /// The regions of a word of the register, which is kept as it is.
     ///
     /// # Errors
     ///
@@ -68,13 +136,18 @@ impl Regions {
         ensures regions { result ≡ regions_of word }
         ensures accepts { is_ok result ≡ is_regions word }
     {
-        match bad_region(&nibbles_of(word)) {
+        let nibbles = nibbles_of(word);
+        match bad_region(&nibbles) {
             Some(index) => Err(BadRegion { index: index as u8 }),
-            None => Ok(Regions { word }),
+            None => Ok(Regions {
+                word,
+                readable: masks_for(&nibbles, READ_ONLY),
+                writable: masks_for(&nibbles, SHARED),
+            }),
         }
     }
 
-    /// The word of the register.
+    /// The word of the register, of which no nibble is 9 to 11 or above 12.
     pub fn word(&self) -> u32
         ensures word { result ≡ self.now }
         ensures accepted { IsTrue (is_regions result) }
@@ -82,11 +155,27 @@ impl Regions {
         self.word
     }
 
-    // The nibble of a region, which is 0 to 7.
-    pub(crate) fn owner(&self, region: u8) -> u8
+    // Whether a confined thread may load and fetch in a region, which is 0 to 7.
+    pub(crate) fn lets_read(&self, region: u8, thread: u8) -> bool
         requires { region < 8 }
-        ensures { result ≡ nibble_at self.now region }
+        ensures { result ≡ is_readable (standing thread (nibble_at self.now region)) }
     {
-        nibble(self.word, region)
+        if thread < 8 {
+            (self.readable[thread as usize] >> region) % 2 == 1
+        } else {
+            lets_read(nibble(self.word, region), thread)
+        }
+    }
+
+    // Whether a thread may store in a region, which is 0 to 7.
+    pub(crate) fn lets_write(&self, region: u8, thread: u8) -> bool
+        requires { region < 8 }
+        ensures { result ≡ is_writable (standing thread (nibble_at self.now region)) }
+    {
+        if thread < 8 {
+            (self.writable[thread as usize] >> region) % 2 == 1
+        } else {
+            lets_write(nibble(self.word, region), thread)
+        }
     }
 }

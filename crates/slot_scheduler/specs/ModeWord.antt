@@ -1,6 +1,6 @@
 -- The modes register: two bits for each thread.
-use Rattle.std.specs.Prelude.{ℕ, ◌/◌, ◌%◌, ◌^◌, ◌==◌, nat_lt, Bool, if◌then◌else◌, List, [], ◌∷◌, map, Result, Ok, Err}
-use Rattle.std.specs.List.{list_any}
+use Rattle.std.specs.Prelude.{ℕ, ◌/◌, ◌%◌, ◌^◌, ◌==◌, nat_lt, Bool, ◌||◌, if◌then◌else◌, List, [], ◌∷◌, map, Result, Ok, Err}
+use Rattle.nibble_word.specs.Masks.{mask_of}
 use Rattle.slot_scheduler.specs.declared.mode_word.BadMode.{BadMode}
 
 -- whether a word may stand in the register: its bits above 15 are 0
@@ -19,6 +19,13 @@ mode_of modes thread = modes / 4 ^ thread % 4
 abbrev pub mode_list : ℕ → List ℕ
 mode_list modes = map (mode_of modes) (0 ∷ 1 ∷ 2 ∷ 3 ∷ 4 ∷ 5 ∷ 6 ∷ 7 ∷ [])
 
--- whether any thread is soft and active
-unfoldable pub has_soft : ℕ → Bool
-has_soft modes = list_any (λ mode. mode == 2) (mode_list modes)
+-- whether a thread of a mode is active, hard or soft, and whether it is soft and active
+abbrev pub is_active : ℕ → Bool
+is_active mode = mode == 0 || mode == 2
+
+abbrev pub is_soft : ℕ → Bool
+is_soft mode = mode == 2
+
+-- the threads whose mode passes a test, of which thread i is bit i
+unfoldable pub threads_that : (ℕ → Bool) → ℕ → ℕ
+threads_that test modes = mask_of (map test (mode_list modes))

@@ -11,7 +11,8 @@ use Rattle.slot_scheduler.specs.declared.picking.Sched.{Sched}
 -- a thread is awake where it is active and the time has reached its sleep moment
 unfoldable pub is_awake : Sched → ℕ → ℕ → Bool
 is_awake s now thread =
-    (mode_of s.modes thread == 0 || mode_of s.modes thread == 2) && nat_le (slice_index_or s.sleep thread 0) now
+    (mode_of s.modes thread == 0 || mode_of s.modes thread == 2)
+    && nat_le (slice_index_or s.sleep thread 0) now
 
 -- a thread that may take a slot that is soft, or whose thread isn't awake
 abbrev pub takes_donated : Sched → ℕ → ℕ → Bool
@@ -39,7 +40,8 @@ abbrev pub pick_in : Sched → ℕ → ℕ → Turn → Picked
 pick_in s now last Nobody = record { pick = Bubble; last = last }
 pick_in s now last Soft = donated s now last
 pick_in s now last (Thread thread) =
-    if is_awake s now thread then record { pick = Issue thread; last = last } else donated s now last
+    if is_awake s now thread then record { pick = Issue thread; last = last }
+    else donated s now last
 
 -- the pick of a cycle, by slots, modes and sleep moments, the time, and the place of the search
 unfoldable pub pick : Sched → ℕ → ℕ → ℕ → Picked

@@ -1,18 +1,23 @@
 //! The modes register as a type that holds only accepted words.
 
-ghost use Rattle.std.specs.Prelude.{◌≡◌, ◌<◌};
-ghost use Rattle.slot_scheduler.specs.ModeWord.{has_soft, mode_list, mode_of, modes_of};
+ghost use Rattle.std.specs.Prelude.{◌≡◌, ◌<◌, ◌==◌, ◌&&◌, ◌||◌, map, nat_lt};
+ghost use Rattle.nibble_word.specs.Masks.{bit_of, mask_of};
+ghost use Rattle.slot_scheduler.specs.ModeWord.{is_active, is_soft, mode_list, mode_of, modes_of, threads_that};
 
 use std::marker::Model;
 use thiserror::Error;
 
-/// A word of the modes register: two bits for each thread, of which thread i has bits 2i and
-/// 2i + 1. 0 is hard active, 1 hard asleep, 2 soft active, 3 soft asleep. The bits above 15 are 0.
+/// A word of the register modes (0x7C1): two bits for each thread, of which thread i has bits 2i
+/// and 2i + 1. 0 is hard active, 1 hard asleep, 2 soft active, 3 soft asleep. The bits above 15
+/// are 0.
 #[derive(Clone, Copy, Debug)]
 pub struct Modes {
     word: u32,
-    // Whether any thread is soft and active, which the search for one asks first.
-    soft: bool,
+    // The active threads, and those of them that are soft; thread i is bit i. They are kept because
+    // a pick asks them in each cycle: a bit test by the slot's nibble answers for a thread, a soft
+    // slot and a disabled one alike, and the search meets soft threads alone.
+    active: u16,
+    soft: u16,
 }
 
 /// A word with a bit above 15 set, which the modes register doesn't take.
@@ -22,19 +27,28 @@ pub struct BadMode;
 
 impl Model for Modes {
     ghost use Rattle.std.specs.Prelude.{◌≡◌, ℕ, ◌<◌};
-    ghost use Rattle.slot_scheduler.specs.ModeWord.{has_soft};
+    ghost use Rattle.slot_scheduler.specs.ModeWord.{is_active, is_soft, threads_that};
 
     ghost Value = { ℕ };
 
     ghost view = { λ m. m.word };
 
-    ghost invariant = { λ m. (m.word < 65536) × (m.soft ≡ has_soft m.word) };
+    ghost invariant = { λ m. (m.word < 65536)
+        × (m.active ≡ threads_that is_active m.word)
+        × (m.soft ≡ threads_that is_soft m.word) };
 
-    ghost inverse = { λ w. record { word = w; soft = has_soft w } };
+    ghost inverse = { λ w. record {
+      word = w;
+      active = threads_that is_active w;
+      soft = threads_that is_soft w;
+    } };
 }
 
+/// The mode of a hard and active thread.
+const HARD: u8 = 0;
+
 /// The mode of a soft and active thread.
-pub(crate) const SOFT: u8 = 2;
+const SOFT: u8 = 2;
 
 /// The modes of the eight threads.
 fn modes_of(word: u32) -> [u8; 8]
@@ -52,34 +66,51 @@ fn modes_of(word: u32) -> [u8; 8]
     ]
 }
 
-/// Whether any thread is soft and active.
-#[tactic(auto, unfolding(crate::specs::ModeWord::has_soft))]
-fn has_soft(word: u32) -> bool
-    ensures { result ≡ has_soft word }
+/// 1 for a thread that is soft and active or has the other mode, and 0 for any other thread.
+fn bit(mode: u8, other: u8) -> u16
+    ensures bit { result ≡ bit_of (mode == other || mode == 2) }
+    ensures small { result < 2 }
 {
-    modes_of(word).iter().any(|mode| *mode == SOFT)
+    u16::from(mode == other || mode == SOFT)
+}
+
+/// The threads that are soft and active or have the other mode, of which thread i is bit i.
+fn threads_of(modes: &[u8; 8], other: u8) -> u16
+    ensures { result ≡ mask_of (map (λ mode. mode == other || mode == 2) modes.now) }
+{
+    bit(modes[0], other)
+        + bit(modes[1], other) * 0x2
+        + bit(modes[2], other) * 0x4
+        + bit(modes[3], other) * 0x8
+        + bit(modes[4], other) * 0x10
+        + bit(modes[5], other) * 0x20
+        + bit(modes[6], other) * 0x40
+        + bit(modes[7], other) * 0x80
 }
 
 impl Modes {
-    /// The modes of a word of the register.
+    /// The modes of a word of the register, which is kept as it is.
     ///
     /// # Errors
     ///
     /// [`BadMode`] exactly where a bit above 15 is set.
+    #[tactic(auto, unfolding(crate::specs::ModeWord::threads_that))]
     pub fn from_word(word: u32) -> Result<Modes, BadMode>
         ensures { result ≡ modes_of word }
     {
         if word < 0x1_0000 {
+            let modes = modes_of(word);
             Ok(Modes {
                 word,
-                soft: has_soft(word),
+                active: threads_of(&modes, HARD),
+                soft: threads_of(&modes, SOFT),
             })
         } else {
             Err(BadMode)
         }
     }
 
-    /// The word of the register.
+    /// The word of the register, whose bits above 15 are 0.
     pub fn word(&self) -> u32
         ensures word { result ≡ self.now }
         ensures accepted { result < 65536 }
@@ -87,14 +118,24 @@ impl Modes {
         self.word
     }
 
-    /// Whether any thread is soft and active.
-    pub(crate) fn has_soft(&self) -> bool
-        ensures { result ≡ has_soft self.now }
+    /// Whether a slot's nibble, which is below 16, names a thread that is active.
+    #[tactic(auto, using(crate::proofs::Masks::active_bit))]
+    pub(crate) fn is_active(&self, slot: u8) -> bool
+        requires { slot < 16 }
+        ensures { result ≡ (nat_lt slot 8 && is_active (mode_of self.now slot)) }
+    {
+        (self.active >> slot) % 2 == 1
+    }
+
+    /// The threads that are soft and active, of which thread i is bit i.
+    pub(crate) fn soft(&self) -> u16
+        ensures { result ≡ threads_that is_soft self.now }
     {
         self.soft
     }
 
-    /// The mode of a thread, which is 0 to 7.
+    /// The mode of a thread, which is 0 to 7: 0 is hard active, 1 hard asleep, 2 soft active and 3
+    /// soft asleep.
     #[tactic(auto, using(crate::proofs::Shift::shifted))]
     pub fn mode(&self, thread: u8) -> u8
         requires { thread < 8 }

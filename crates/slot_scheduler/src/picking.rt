@@ -1,18 +1,20 @@
 //! The pick of a cycle.
 
-ghost use Rattle.std.specs.Prelude.{◌≡◌, ◌<◌, IfSome, find};
+ghost use Rattle.std.specs.Prelude.{◌≡◌, ◌<◌, ◌&&◌, IfSome, find, nat_lt};
 ghost use Rattle.slot_scheduler.specs.Picking.{IsPick, after_last, donated, is_awake, pick, takes_donated};
 
-use crate::mode_word::{Modes, SOFT};
-use slot_table::{SlotTable, Turn};
+use crate::mode_word::Modes;
+use slot_table::SlotTable;
 use std::marker::Model;
 
 /// What picking goes by.
 #[derive(Clone, Copy, Debug)]
 pub struct Sched {
+    /// Who shares the cycles: the register slots (0x7C0).
     pub slots: SlotTable,
+    /// Which threads are active, and which are soft: the register modes (0x7C1).
     pub modes: Modes,
-    /// For each thread, the time in nanoseconds from which it is awake.
+    /// For each thread, the time in nanoseconds from which it is awake, 0 where it never slept.
     pub sleep: [u64; 8],
 }
 
@@ -43,41 +45,41 @@ impl Model for Scheduler {
     ghost inverse = { λ n. record { last = n } };
 }
 
-const HARD: u8 = 0;
+/// The nibble of a slot that nobody has.
+const DISABLED: u8 = 15;
 
 impl Sched {
-    // Whether a thread is active and the time, in nanoseconds, has reached its sleep moment.
+    // Whether a slot's nibble, which is below 16, names a thread that is active and whose sleep
+    // moment the time, in nanoseconds, has reached.
     #[tactic(auto, unfolding(crate::specs::Picking::is_awake))]
-    fn is_awake(&self, thread: u8, now: u64) -> bool
-        requires { thread < 8 }
-        ensures { result ≡ is_awake self.now now thread }
+    fn is_awake(&self, slot: u8, now: u64) -> bool
+        requires { slot < 16 }
+        ensures { result ≡ (nat_lt slot 8 && is_awake self.now now slot) }
     {
-        let mode = self.modes.mode(thread);
-        (mode == HARD || mode == SOFT) && self.sleep[thread as usize] <= now
-    }
-
-    // Whether a thread is soft and awake.
-    fn takes_donated(&self, thread: u8, now: u64) -> bool
-        requires { thread < 8 }
-        ensures { result ≡ takes_donated self.now now thread }
-    {
-        self.modes.mode(thread) == SOFT && self.is_awake(thread, now)
+        self.modes.is_active(slot) && self.sleep[slot as usize] <= now
     }
 
     // The first soft thread that is awake, of those after the last one and that one at the end.
+    //
+    // Bit j of `left` is the thread j places after `first`, and each turn of the loop takes the
+    // lowest one away: so no hard thread is visited, and it ends at once where none is soft.
     fn next_soft(&self, now: u64, last: u8) -> Option<u8>
         requires { last < 8 }
         ensures first { result ≡ find (takes_donated self.now now) (after_last last) }
         ensures thread { IfSome result (λ thread. thread < 8) }
     {
-        if !self.modes.has_soft() {
+        let soft = u32::from(self.modes.soft());
+        if soft == 0 {
             return None;
         }
-        for step in 1..9 {
-            let thread = (last + step) % 8;
-            if self.takes_donated(thread, now) {
-                return Some(thread);
+        let first = u32::from(last) + 1;
+        let mut left = ((soft * 0x101) >> first) % 0x100;
+        while left != 0 {
+            let thread = (first + left.trailing_zeros()) % 8;
+            if self.sleep[thread as usize] <= now {
+                return Some(thread as u8);
             }
+            left &= left - 1;
         }
         None
     }
@@ -100,10 +102,13 @@ impl Scheduler {
         ensures place { self.new ≡ (pick s.now cycle now self.old).last }
         ensures thread { IsPick result }
     {
-        match s.slots.turn(cycle) {
-            Turn::Nobody => Pick::Bubble,
-            Turn::Thread(thread) if s.is_awake(thread, now) => Pick::Issue { thread },
-            _ => self.donate(s, now),
+        let slot = s.slots.slot(cycle);
+        if s.is_awake(slot, now) {
+            Pick::Issue { thread: slot }
+        } else if slot == DISABLED {
+            Pick::Bubble
+        } else {
+            self.donate(s, now)
         }
     }
 

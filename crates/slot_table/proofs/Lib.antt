@@ -1,2 +1,3 @@
 pub mod Accepted
+pub mod Magic
 pub mod Turns

@@ -1,16 +1,15 @@
 -- The turns of a frame, slot by slot.
-use Rattle.std.proofs.Common.{nat_lt, ◌≡◌, ◌<◌, ◌≤◌, ℕ, suc, ◌+◌, ◌-◌, ◌%◌, ◌==◌, if◌then◌else◌, Bool, true, false, List, [], ◌∷◌, ◌++◌, length, take, filter, map, get_or, set, replicate, refl, ap, ◌∙◌, arith, append_assoc, length-append}
-use Rattle.std.proofs.lemmas.List.{take_more, get_or-map, get_or-replicate, length-map, map-append, append-nil}
-use Rattle.std.proofs.lemmas.List.Elements.{filter-append}
-use Rattle.std.proofs.lemmas.List.Sums.{length-filter, count_by-le-length}
+use Rattle.std.proofs.Common.{nat_lt, ◌≡◌, ◌<◌, ◌≤◌, ℕ, suc, ◌+◌, ◌-◌, ◌%◌, ◌==◌, if◌then◌else◌, Bool, true, false, List, [], ◌∷◌, ◌++◌, All, length, take, filter, get_or, set, replicate, refl, ap, ◌∙◌, arith, append_assoc, length-append}
+use Rattle.std.proofs.lemmas.List.{take_more, get_or_default, get_or-replicate, length-replicate, append-nil}
+use Rattle.std.proofs.lemmas.List.Elements.{filter-append, filter_passes, All-append, All-filter, All-replicate}
+use Rattle.std.proofs.lemmas.List.Sums.{length-filter, count_by-le-length, AllPass-from_list_all}
 use Rattle.std.proofs.lemmas.Bool.Decides.{nat_tests}
 use Rattle.std.proofs.Math.Seq.{set-append_seam}
 use Rattle.std.proofs.Math.ListN.{get_or-append}
-use Rattle.slot_table.specs.declared.frame.Turn.{Turn}
-use Rattle.slot_table.specs.declared.frame.Turn.TheVariants.{Thread, Soft, Nobody}
+use Rattle.slot_table.specs.declared.frame.Turn.TheVariants.{Thread, Soft}
 use Rattle.nibble_word.specs.Nibbles.{nibbles}
-use Rattle.slot_table.specs.Frame.{IsTurn, is_used, turn_of_slot, turn_in, frame, turn}
-use Rattle.slot_table.specs.Table.{turns_of}
+use Rattle.slot_table.specs.Frame.{IsTurn, is_slot, is_used, turn_named, turn_of_slot, turn_in, frame, turn}
+use Rattle.slot_table.specs.Table.{is_table, in_places}
 
 pub is_used-other : (n : ℕ) → (n ≡ 15 → ⊥) → is_used n ≡ true
 is_used-other n other = grind (arith, nat_tests)
@@ -25,23 +24,16 @@ used-kept xs i small other = rw (take_more xs i 0 small, filter-append is_used, 
 pub used-left : (xs : List ℕ) (i : ℕ) → i < length xs → get_or xs i 0 ≡ 15 → filter is_used (take (i + 1) xs) ≡ filter is_used (take i xs)
 used-left xs i small e = rw (take_more xs i 0 small, filter-append is_used, is_used-disabled (get_or xs i 0) e) (append-nil (filter is_used (take i xs)))
 
-set-at_seam : (xs : List Turn) (n : ℕ) (ys : List Turn) (y z : Turn) → length xs ≡ n → set (xs ++ y ∷ ys) n z ≡ xs ++ z ∷ ys
+set-at_seam : (xs : List ℕ) (n : ℕ) (ys : List ℕ) (y z : ℕ) → length xs ≡ n → set (xs ++ y ∷ ys) n z ≡ xs ++ z ∷ ys
 set-at_seam xs n ys y z e = rw (← e) (set-append_seam xs y ys z)
 
 -- one more slot takes the next place
-pub turns_of-push : (slots : List ℕ) (slot : ℕ) → length slots < 8 → set (turns_of slots) (length slots) (turn_of_slot slot) ≡ turns_of (slots ++ slot ∷ [])
-turns_of-push slots slot few =
+pub in_places-push : (slots : List ℕ) (slot : ℕ) → length slots < 8 → set (in_places slots) (length slots) slot ≡ in_places (slots ++ slot ∷ [])
+in_places-push slots slot few =
     let places : 8 - length slots ≡ suc (7 - length slots) = omega arith in
     let fewer : 8 - length (slots ++ slot ∷ []) ≡ 7 - length slots = simp length-append (omega arith) in
-    let sides : map turn_of_slot (slots ++ slot ∷ []) ≡ map turn_of_slot slots ++ turn_of_slot slot ∷ [] = map-append turn_of_slot slots (slot ∷ []) in
-    let seam = set-at_seam (map turn_of_slot slots) (length slots) (replicate (7 - length slots) Nobody) Nobody (turn_of_slot slot) (length-map slots turn_of_slot) in
-    rw (places, fewer, sides, append_assoc) seam
-
--- a place of the frame has the turn of its slot
-turns_of-at : (slots : List ℕ) (i : ℕ) (d : Turn) → i < length slots → get_or (turns_of slots) i d ≡ turn_of_slot (get_or slots i 14)
-turns_of-at slots i d small =
-    let inside : i < length (map turn_of_slot slots) = rw length-map small in
-    get_or-append (map turn_of_slot slots) (replicate (8 - length slots) Nobody) d i inside ∙ get_or-map turn_of_slot slots i 14 d small
+    let seam = set-at_seam slots (length slots) (replicate (7 - length slots) 15) 15 slot refl in
+    rw (places, fewer, append_assoc) seam
 
 -- the frame has no more places than the register has slots
 pub length-filter-le : (p : ℕ → Bool) (xs : List ℕ) → length (filter p xs) ≤ length xs
@@ -54,17 +46,37 @@ length-frame-le w = length-filter-le is_used (nibbles w)
 is_there : (n a b : ℕ) → (if suc n == 0 then a else b) ≡ b
 is_there n a b = grind (arith, nat_tests)
 
--- the place of a cycle has the turn of the cycle
-turns_of-place : (slots : List ℕ) (c p : ℕ) → p < 8 → p ≡ (if length slots == 0 then 0 else c % length slots) → (d : Turn) → get_or (turns_of slots) p d ≡ turn_in slots c
-turns_of-place [] c p small e d = get_or-replicate 8 p Nobody d small
-turns_of-place (slot ∷ slots) c p small e d =
+turn_named-used : (slot : ℕ) → is_used slot ≡ true → turn_named slot ≡ turn_of_slot slot
+turn_named-used slot used = grind (arith, nat_tests, used)
+
+-- the slot in the place of a cycle names the turn of the cycle
+turn_named-place : (slots : List ℕ) (c p d : ℕ) → All (λ slot. is_used slot ≡ true) slots → p < 8 → p ≡ (if length slots == 0 then 0 else c % length slots) → turn_named (get_or (in_places slots) p d) ≡ turn_in slots c
+turn_named-place [] c p d used small e = ap turn_named (get_or-replicate 8 p 15 d small)
+turn_named-place (slot ∷ slots) c p d used small e =
     let place : p ≡ c % suc (length slots) = e ∙ is_there (length slots) 0 (c % suc (length slots)) in
     let inside : p < length (slot ∷ slots) = omega arith in
-    turns_of-at (slot ∷ slots) p d inside ∙ ap (λ i. turn_of_slot (get_or (slot ∷ slots) i 14)) place
+    let left = get_or-append (slot ∷ slots) (replicate (8 - length (slot ∷ slots)) 15) d p inside in
+    let same = get_or_default (slot ∷ slots) p d 14 inside in
+    ap turn_named (left ∙ same)
+    ∙ turn_named-used (get_or (slot ∷ slots) p 14) (used p 14 inside)
+    ∙ ap (λ i. turn_of_slot (get_or (slot ∷ slots) i 14)) place
 
-pub turn-place : (w c p : ℕ) → p < 8 → p ≡ (if length (frame w) == 0 then 0 else c % length (frame w)) → (d : Turn) → get_or (turns_of (frame w)) p d ≡ turn w c
-unfolding turn
-turn-place w c p small e d = turns_of-place (frame w) c p small e d
+pub turn_named-slot : (w c p d : ℕ) → p < 8 → p ≡ (if length (frame w) == 0 then 0 else c % length (frame w)) → turn_named (get_or (in_places (frame w)) p d) ≡ turn w c
+unfolding frame turn
+turn_named-slot w c p d small e = turn_named-place (frame w) c p d (filter_passes is_used (nibbles w)) small e
+
+inside-padded : (slots : List ℕ) (p : ℕ) → length slots ≤ 8 → p < 8 → p < length (in_places slots)
+inside-padded slots p few small = rw (length-append, length-replicate) (omega (arith, few, small))
+
+-- what stands in a place is a slot
+pub is_slot-place : (w p d : ℕ) → is_table w ≡ true → p < 8 → is_slot (get_or (in_places (frame w)) p d) ≡ true
+unfolding frame is_table nibbles
+is_slot-place w p d is small =
+    let all : All (λ slot. is_slot slot ≡ true) (nibbles w) = AllPass-from_list_all is_slot (nibbles w) is in
+    let kept = All-filter is_used (λ slot. is_slot slot ≡ true) (nibbles w) all in
+    let slots = filter is_used (nibbles w) in
+    let padded = All-append (λ slot. is_slot slot ≡ true) slots (replicate (8 - length slots) 15) kept (All-replicate (λ slot. is_slot slot ≡ true) (8 - length slots) 15 refl) in
+    padded p d (inside-padded slots p (length-filter-le is_used (nibbles w)) small)
 
 -- a slot that is a thread's is that of one of the eight
 IsTurn-chosen : (slot : ℕ) (below : Bool) → nat_lt slot 8 ≡ below → IsTurn (if below then Thread slot else Soft)

@@ -20,10 +20,15 @@ frame slots = filter is_used (nibbles slots)
 abbrev pub turn_of_slot : ℕ → Turn
 turn_of_slot nibble = if nat_lt nibble 8 then Thread nibble else Soft
 
+-- the turn that a nibble names, of those that may stand in a slot
+abbrev pub turn_named : ℕ → Turn
+turn_named nibble = if nibble == 15 then Nobody else turn_of_slot nibble
+
 -- the frame's entry number c modulo its length; an empty frame is nobody's
 abbrev pub turn_in : List ℕ → ℕ → Turn
 turn_in [] c = Nobody
-turn_in (slot ∷ slots) c = turn_of_slot (slice_index_or (slot ∷ slots) (c % length (slot ∷ slots)) 14)
+turn_in (slot ∷ slots) c =
+    turn_of_slot (slice_index_or (slot ∷ slots) (c % length (slot ∷ slots)) 14)
 
 -- whose turn cycle c is, by the word of the register
 unfoldable pub turn : ℕ → ℕ → Turn

@@ -1,12 +1,10 @@
 -- The slots register as the type that holds it.
-use Rattle.std.specs.Prelude.{ℕ, ◌-◌, Bool, not, List, ◌++◌, map, length, replicate, position, Option, Some, None, Result, Ok, Err}
+use Rattle.std.specs.Prelude.{ℕ, ◌+◌, ◌-◌, ◌/◌, ◌%◌, max, Bool, not, List, ◌++◌, length, replicate, position, Option, Some, None, Result, Ok, Err}
 use Rattle.std.specs.List.{list_all}
 use Rattle.nibble_word.specs.Nibbles.{nibbles}
-use Rattle.slot_table.specs.declared.frame.Turn.{Turn}
-use Rattle.slot_table.specs.declared.frame.Turn.TheVariants.{Nobody}
 use Rattle.slot_table.specs.declared.frame.Frame.{Frame}
 use Rattle.slot_table.specs.declared.frame.BadSlot.{BadSlot}
-use Rattle.slot_table.specs.Frame.{is_slot, turn_of_slot}
+use Rattle.slot_table.specs.Frame.{is_slot}
 
 -- whether a word may stand in the register
 unfoldable pub is_table : ℕ → Bool
@@ -24,9 +22,14 @@ unless_bad word (Some index) = Err (record { index = index })
 unfoldable pub table_of : ℕ → Result ℕ BadSlot
 table_of word = unless_bad word (bad_slot word)
 
--- the turns of a frame of slots, in eight places
-abbrev pub turns_of : List ℕ → List Turn
-turns_of slots = map turn_of_slot slots ++ replicate (8 - length slots) Nobody
+-- the slots of a frame in eight places, of which those past its end are disabled
+abbrev pub in_places : List ℕ → List ℕ
+in_places slots = slots ++ replicate (8 - length slots) 15
+
+-- 2 ^ 64 by a length, rounded up, in 64 bits
+abbrev pub magic_of : ℕ → ℕ
+magic_of len = (18446744073709551615 / max len 1 + 1) % 18446744073709551616
 
 abbrev pub laid_out : List ℕ → Frame
-laid_out slots = record { turns = turns_of slots; len = length slots }
+laid_out slots =
+    record { slots = in_places slots; len = length slots; magic = magic_of (length slots) }

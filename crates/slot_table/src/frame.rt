@@ -1,8 +1,8 @@
 //! The frame of slots that share the cycles.
 
 ghost use Rattle.std.specs.Prelude.{◌≡◌, ◌<◌, ◌≤◌, ◌%◌, ◌==◌, if◌then◌else◌, filter, length, position, not, IfSome};
-ghost use Rattle.slot_table.specs.Frame.{is_slot, is_used, turn_of_slot};
-ghost use Rattle.slot_table.specs.Table.{laid_out};
+ghost use Rattle.slot_table.specs.Frame.{is_slot, is_used, turn_named};
+ghost use Rattle.slot_table.specs.Table.{laid_out, magic_of};
 
 use thiserror::Error;
 
@@ -25,16 +25,24 @@ pub struct BadSlot {
     pub index: u8,
 }
 
-/// The slots of a frame as turns: the first `len` places have them, the others are nobody's.
+/// The slots of a frame: the first `len` places have their nibbles, the others are disabled.
 #[derive(Clone, Copy, Debug)]
 pub struct Frame {
-    pub turns: [Turn; 8],
+    pub slots: [u8; 8],
     pub len: u8,
+    /// What a cycle is multiplied by for its place: 2^64 / `len`, rounded up, and 0 for one slot.
+    ///
+    /// It is kept because a division by a length that isn't known takes longer than all else that
+    /// a pick does, and one by each of the eight lengths needs a jump by a table.
+    pub magic: u64,
 }
 
 const SOFT: u8 = 14;
 
 const DISABLED: u8 = 15;
+
+/// The first cycle for which the multiplication doesn't give the place: 2^61. No run comes so far.
+const EARLY: u64 = 0x2000_0000_0000_0000;
 
 // Whether a nibble may stand in a slot.
 fn is_accepted(nibble: u8) -> bool
@@ -51,14 +59,23 @@ pub fn bad_slot(slots: &[u8; 8]) -> Option<usize>
     slots.iter().position(|nibble| !is_accepted(*nibble))
 }
 
-fn turn_of(nibble: u8) -> Turn
-    ensures { result ≡ turn_of_slot nibble }
+/// The turn that a nibble names, of those that may stand in a slot.
+pub fn turn_named(nibble: u8) -> Turn
+    ensures { result ≡ turn_named nibble }
 {
-    if nibble < 8 {
-        Turn::Thread(nibble)
-    } else {
-        Turn::Soft
+    match nibble {
+        DISABLED => Turn::Nobody,
+        0..8 => Turn::Thread(nibble),
+        _ => Turn::Soft,
     }
+}
+
+// What a cycle is multiplied by for its place in a frame of this length.
+fn magic_of(len: u8) -> u64
+    requires { len ≤ 8 }
+    ensures { result ≡ magic_of len }
+{
+    (u64::MAX / u64::from(len.max(1))).wrapping_add(1)
 }
 
 impl Frame {
@@ -66,35 +83,47 @@ impl Frame {
     pub fn of_slots(slots: &[u8; 8]) -> Frame
         ensures { result ≡ laid_out (filter is_used slots.now) }
     {
-        let mut turns = [Turn::Nobody; 8];
+        let mut used = [DISABLED; 8];
         let mut len = 0;
         for slot in slots {
             if *slot != DISABLED {
-                turns[len] = turn_of(*slot);
+                used[len] = *slot;
                 len += 1;
             }
         }
         Frame {
-            turns,
+            slots: used,
             len: len as u8,
+            magic: magic_of(len as u8),
         }
     }
 
-    /// The place of a cycle in the frame: its number modulo the frame's length, or 0 where that is 0.
+    /// The place of a cycle in the frame: its number modulo the frame's length, and 0 where that
+    /// is 0.
     pub fn place(&self, cycle: u64) -> u64
+        requires len { self.now.len ≤ 8 }
+        requires magic { self.now.magic ≡ magic_of self.now.len }
+        ensures place { result ≡ (if self.now.len == 0 then 0 else cycle % self.now.len) }
+        ensures inside { result < 8 }
+    {
+        if cycle < EARLY {
+            let part = self.magic.wrapping_mul(cycle);
+            ((u128::from(part) * u128::from(self.len)) >> 64) as u64
+        } else {
+            self.late_place(cycle)
+        }
+    }
+
+    // The place of a cycle that is too late for the multiplication.
+    #[cold]
+    fn late_place(&self, cycle: u64) -> u64
         requires { self.now.len ≤ 8 }
         ensures place { result ≡ (if self.now.len == 0 then 0 else cycle % self.now.len) }
         ensures inside { result < 8 }
     {
         match self.len {
-            0 | 1 => 0,
-            2 => cycle % 2,
-            3 => cycle % 3,
-            4 => cycle % 4,
-            5 => cycle % 5,
-            6 => cycle % 6,
-            7 => cycle % 7,
-            _ => cycle % 8,
+            0 => 0,
+            len => cycle % u64::from(len),
         }
     }
 }

@@ -1,15 +1,15 @@
 //! The slots register as a type that holds only accepted words.
 
 ghost use Rattle.std.specs.Prelude.{◌≡◌, IsTrue, is_ok, length};
-ghost use Rattle.slot_table.specs.Frame.{IsTurn, frame, turn};
+ghost use Rattle.slot_table.specs.Frame.{IsTurn, frame, is_slot, turn, turn_named};
 ghost use Rattle.slot_table.specs.Table.{is_table, table_of};
 
-use crate::frame::{BadSlot, Frame, Turn, bad_slot};
+use crate::frame::{BadSlot, Frame, Turn, bad_slot, turn_named};
 use nibble_word::nibbles_of;
 use std::marker::Model;
 
-/// A word of the slots register: a nibble for each of eight slots, which names a thread (0 to 7),
-/// the soft threads (14) or nobody (15, disabled).
+/// A word of the register slots (0x7C0): a nibble for each of eight slots, slot i in bits 4i to
+/// 4i + 3, which names a thread (0 to 7), the soft threads (14) or nobody (15, disabled).
 #[derive(Clone, Copy, Debug)]
 pub struct SlotTable {
     word: u32,
@@ -31,7 +31,7 @@ impl Model for SlotTable {
 }
 
 impl SlotTable {
-    /// The table of a word of the register.
+    /// The table of a word of the register, which is kept as it is.
     ///
     /// # Errors
     ///
@@ -51,7 +51,7 @@ impl SlotTable {
         }
     }
 
-    /// The word of the register.
+    /// The word of the register, of which no nibble is 8 to 13.
     pub fn word(&self) -> u32
         ensures word { result ≡ self.now }
         ensures accepted { IsTrue (is_table result) }
@@ -59,11 +59,23 @@ impl SlotTable {
         self.word
     }
 
-    /// How many slots share the cycles: those that aren't disabled.
+    /// How many slots share the cycles, 0 to 8: those that aren't disabled.
     pub fn frame_len(&self) -> u8
         ensures { result ≡ length (frame self.now) }
     {
         self.layout.len
+    }
+
+    /// The slot of a cycle: that of the frame's entry which has the cycle's number modulo the
+    /// frame's length, as its nibble (0 to 7 or 14), and 15 exactly where the frame is empty.
+    ///
+    /// It stands beside [`turn`](SlotTable::turn) because a mask of threads is asked by the nibble
+    /// alone, with no case for each kind of turn.
+    pub fn slot(&self, cycle: u64) -> u8
+        ensures slot { IsTrue (is_slot result) }
+        ensures turn { turn_named result ≡ turn self.now cycle }
+    {
+        self.layout.slots[self.layout.place(cycle) as usize]
     }
 
     /// Whose turn a cycle is: that of the frame's entry which has the cycle's number modulo the
@@ -72,6 +84,6 @@ impl SlotTable {
         ensures turn { result ≡ turn self.now cycle }
         ensures thread { IsTurn result }
     {
-        self.layout.turns[self.layout.place(cycle) as usize]
+        turn_named(self.slot(cycle))
     }
 }

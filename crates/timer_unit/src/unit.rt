@@ -37,7 +37,7 @@ impl Timers {
         }
     }
 
-    /// What a thread has in the timers.
+    /// What a thread, which is 0 to 7, has in the timers.
     pub fn row(&self, thread: u8) -> Timer
         requires { thread < 8 }
         ensures { result ≡ timer_of self.now thread }
@@ -45,7 +45,7 @@ impl Timers {
         self.rows[thread as usize]
     }
 
-    /// Puts a timer in place of the thread's.
+    /// Puts a timer in place of the thread's. Those of the others stay.
     pub fn set_row(&mut self, thread: u8, row: Timer)
         requires { thread < 8 }
         ensures row { self.new ≡ slice_set self.old thread row }
@@ -54,18 +54,20 @@ impl Timers {
         self.rows[thread as usize] = row;
     }
 
-    /// The low word of the time. The high word is latched for the thread.
+    /// The low word of a time in nanoseconds, which GT reads. The bits 32 to 63 of the time
+    /// are latched for the thread, whose armed moment stays.
     pub fn get_low(&mut self, thread: u8, now: u64) -> u32
         requires { thread < 8 }
         ensures low { result ≡ low_word now }
-        ensures latch { self.new ≡ slice_set self.old thread (latched (timer_of self.old thread) now) }
+        ensures latch { self.new
+            ≡ slice_set self.old thread (latched (timer_of self.old thread) now) }
         ensures eight { length self.new ≡ 8 }
     {
         self.rows[thread as usize].high = (now >> 32) as u32;
         (now % 0x1_0000_0000) as u32
     }
 
-    /// The high word that is latched for the thread.
+    /// The high word that is latched for the thread: 0 where no low word was read.
     pub fn get_high(&self, thread: u8) -> u32
         requires { thread < 8 }
         ensures { result ≡ (timer_of self.now thread).high }
@@ -76,7 +78,8 @@ impl Timers {
     /// Arms a moment for the thread, in place of one that was armed before.
     pub fn arm(&mut self, thread: u8, moment: u64)
         requires { thread < 8 }
-        ensures armed { self.new ≡ slice_set self.old thread (armed_at (timer_of self.old thread) moment) }
+        ensures armed { self.new
+            ≡ slice_set self.old thread (armed_at (timer_of self.old thread) moment) }
         ensures eight { length self.new ≡ 8 }
     {
         self.rows[thread as usize].armed = Some(moment);
@@ -85,13 +88,14 @@ impl Timers {
     /// Leaves nothing armed for the thread.
     pub fn disarm(&mut self, thread: u8)
         requires { thread < 8 }
-        ensures disarmed { self.new ≡ slice_set self.old thread (disarmed (timer_of self.old thread)) }
+        ensures disarmed { self.new
+            ≡ slice_set self.old thread (disarmed (timer_of self.old thread)) }
         ensures eight { length self.new ≡ 8 }
     {
         self.rows[thread as usize].armed = None;
     }
 
-    /// The moment that is armed for the thread.
+    /// The moment, in nanoseconds, that is armed for the thread; `None` where nothing is armed.
     pub fn armed(&self, thread: u8) -> Option<u64>
         requires { thread < 8 }
         ensures { result ≡ (timer_of self.now thread).armed }

@@ -1,7 +1,7 @@
 use Rattle.std.proofs.Common.{◌<◌, [], ◌∷◌, filter, length, take, get_or, refl, arith, length-append}
 use Rattle.std.proofs.lemmas.List.{take_all}
 use Rattle.slot_table.specs.Frame.{is_used}
-use Rattle.slot_table.proofs.Turns.{used-kept, used-left, turns_of-push}
+use Rattle.slot_table.proofs.Turns.{used-kept, used-left, in_places-push}
 use Rattle.slot_table.proofs.frame.Frame.of_slots.Goals as goal
 use Rattle.slot_table.proofs.frame.Frame.of_slots.Goals.{then-slot-ne-DISABLED, else-slot-ne-DISABLED}
 
@@ -15,15 +15,15 @@ loop-slot-preserved c =
     elim c.if-slot-ne-DISABLED.branch [
       | then-slot-ne-DISABLED w ↦
           let more = used-kept slots i inside w.if-slot-ne-DISABLED.true in
-          let turns = turns_of-push before (get_or slots i 0) few in
+          let used = in_places-push before (get_or slots i 0) few in
           let len = length-append before (get_or slots i 0 ∷ []) in
-          record { turns = cc; len = rw more (omega arith); few = omega arith }
+          record { used = cc; len = rw more (omega arith); few = omega arith }
       | else-slot-ne-DISABLED w ↦
           let same = used-left slots i inside w.if-slot-ne-DISABLED.false in
-          record { turns = cc; len = cc; few = omega arith }
+          record { used = cc; len = cc; few = omega arith }
     ]
 
 pub returns : goal.returns
 returns c =
     let all = take_all c.loop-slot.slot-index c.args.slots.now (omega arith) in
-    rw (c.loop-slot.invariant.turns, c.loop-slot.invariant.len, all) refl
+    rw (c.magic_of.ensures, c.loop-slot.invariant.used, c.loop-slot.invariant.len, all) refl

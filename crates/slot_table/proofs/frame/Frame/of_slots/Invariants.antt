@@ -1,12 +1,12 @@
 -- The frame of the slots so far.
 use Rattle.std.proofs.Common.{◌≡◌, ◌≤◌, filter, length, take}
 use Rattle.slot_table.specs.Frame.{is_used}
-use Rattle.slot_table.specs.Table.{turns_of}
+use Rattle.slot_table.specs.Table.{in_places}
 use Rattle.slot_table.proofs.frame.Frame.of_slots.Given as goal
 
 abbrev pub invariant-loop-slot : goal.invariant-loop-slot
 invariant-loop-slot l = let slots = filter is_used (take l.slot-index l.slots) in record {
-  turns : l.turns ≡ turns_of slots;
+  used : l.used ≡ in_places slots;
   len : l.len ≡ length slots;
   few : l.len ≤ l.slot-index;
 }

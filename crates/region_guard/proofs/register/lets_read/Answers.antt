@@ -1,6 +1,6 @@
 use Rattle.std.proofs.Common.{rules}
 use Rattle.region_guard.specs.Regions.{standing}
-use Rattle.region_guard.proofs.access.lets_write.Goals as goal
+use Rattle.region_guard.proofs.register.lets_read.Goals as goal
 
 pub returns-else-nibble-thread : goal.returns-else-nibble-thread
 unfolding standing
