@@ -1,11 +1,13 @@
-//! Access to control and status registers.
+//! Access to control and status registers: mtvec, mscratch, mepc, mcause and mhartid (RISC-V
+//! privileged manual, "Machine-Level CSRs"), and slots, modes and regions, 0x7C0 to 0x7C3, which
+//! are this project's.
 
 ghost use Rattle.std.specs.Prelude.{◌≡◌, ◌<◌, Some, None};
 ghost use Rattle.core_model.specs.Control.{csr_value, changed, may_hold, kept, with_csr, csr_access};
 ghost use Rattle.core_model.specs.Issue.{csr_op, csr_operand, csr_writes};
-ghost use Rattle.hart_exec.specs.Meaning.{did, IsShowable, IsAlignedStore};
+ghost use Rattle.hart_exec.specs.AsDefined.{did, IsShowable, IsAlignedStore};
 
-use crate::outcome::{Executed, Place};
+use crate::outcome::{Executed, Onward, Place};
 use crate::parts::{go_on, trap, write_to};
 use core_model::{CsrOp, Own};
 use region_guard::Regions;
@@ -14,16 +16,19 @@ use rv_exec::{Effect, compute};
 use slot_scheduler::Modes;
 use slot_table::SlotTable;
 
-/// What a CSR instruction wants of a register.
+/// What a CSR instruction wants of a register (RISC-V unprivileged manual, "Zicsr" extension).
 #[derive(Clone, Copy)]
 pub struct Access {
+    /// Whether it swaps, sets or clears bits.
     pub op: CsrOp,
+    /// The value of its register, or its immediate, 0 to 31.
     pub operand: u32,
+    /// Whether it writes at all: a swap always, the others unless their source field is 0.
     pub writes: bool,
 }
 
 impl Access {
-    ghost use Rattle.hart_exec.specs.Meaning.{access_of};
+    ghost use Rattle.hart_exec.specs.AsDefined.{access_of};
 
     /// What an instruction of a kind wants, with its field `src` and the value of its register.
     pub fn of(kind: CsrKind, src: u8, a: u32) -> Access
@@ -47,7 +52,9 @@ impl Access {
     }
 }
 
-/// A register's value; None where the number is none, or the access is refused.
+/// The value of register `csr`, before any write. `shared` is that of 0x7C0 to 0x7C3, None where
+/// the hart has no permit. None exactly where `csr` is the number of no register, or is one of
+/// those and `shared` is None.
 pub fn value_of(own: &Own, thread: u8, csr: u16, shared: Option<u32>) -> Option<u32>
     ensures { result ≡ csr_value thread own.now csr shared }
 {
@@ -62,7 +69,7 @@ pub fn value_of(own: &Own, thread: u8, csr: u16, shared: Option<u32>) -> Option<
     }
 }
 
-/// The new word, from the old one and the operand.
+/// The word that an access writes, from the old one and the operand.
 #[tactic(auto, unfolding(core_model::specs::Control::changed))]
 pub fn change(op: CsrOp, old: u32, operand: u32) -> u32
     ensures { result ≡ changed op old operand }
@@ -74,7 +81,8 @@ pub fn change(op: CsrOp, old: u32, operand: u32) -> u32
     }
 }
 
-/// Whether a register may hold a word; mhartid takes none.
+/// Whether a register may hold a word. mhartid takes none; slots, modes and regions take those
+/// whose fields all have a meaning, the others every word.
 #[tactic(auto, unfolding(core_model::specs::Control::may_hold))]
 pub fn can_hold(csr: u16, word: u32) -> bool
     ensures { result ≡ may_hold csr word }
@@ -88,7 +96,7 @@ pub fn can_hold(csr: u16, word: u32) -> bool
     }
 }
 
-/// The word as a register keeps it.
+/// The word as a register keeps it: mtvec and mepc without the two low bits.
 pub fn keep(csr: u16, word: u32) -> u32
     ensures { result ≡ kept csr word }
 {
@@ -125,7 +133,8 @@ pub fn access_csr(
 ) -> Executed
     requires rd { rd < 32 }
     requires csr { csr < 4096 }
-    ensures did { did own.new result ≡ csr_access thread at.pc own.old at.word rd csr wanted.op wanted.operand wanted.writes shared }
+    ensures did { did own.new result ≡ csr_access thread at.pc own.old at.word rd csr wanted.op
+        wanted.operand wanted.writes shared }
     ensures showable { IsShowable result.effect }
     ensures store { IsAlignedStore result.effect }
     ensures word { result.word ≡ at.word }
@@ -135,7 +144,7 @@ pub fn access_csr(
         return trap(own, at, 2);
     };
     if !wanted.writes {
-        return go_on(at, 3, write_to(rd, old));
+        return go_on(at, Onward::Elsewhere, write_to(rd, old));
     }
     let word = change(wanted.op, old, wanted.operand);
     if !can_hold(csr, word) {
@@ -145,7 +154,7 @@ pub fn access_csr(
     put(own, csr, value);
     go_on(
         at,
-        3,
+        Onward::Elsewhere,
         Effect::Csr {
             csr,
             value,

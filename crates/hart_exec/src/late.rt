@@ -4,7 +4,7 @@ ghost use Rattle.std.specs.Prelude.{◌≡◌, ◌<◌, Some};
 ghost use Rattle.rv_exec.specs.Access.{IsAligned};
 ghost use Rattle.rv_decode.specs.Range.{InRange};
 ghost use Rattle.core_model.specs.Thread.{filled};
-ghost use Rattle.hart_exec.specs.Meaning.{IsShowable, IsAlignedStore};
+ghost use Rattle.hart_exec.specs.AsDefined.{IsShowable, IsAlignedStore};
 ghost use Rattle.core_model.specs.Issue.{late_rd, late_value};
 
 use crate::outcome::Sources;
@@ -40,7 +40,8 @@ pub fn finish(
     requires aligned { IsAligned i.now address }
     requires showable { IsShowable effect }
     requires store { IsAlignedStore effect }
-    ensures effect { result ≡ filled (late_rd i.now) (late_value i.now loaded address s.a s.b) effect }
+    ensures effect { result ≡ filled (late_rd i.now) (late_value i.now loaded address s.a s.b)
+        effect }
     ensures showable { IsShowable result }
     ensures store { IsAlignedStore result }
 {

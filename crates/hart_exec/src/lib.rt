@@ -13,7 +13,7 @@ mod surroundings;
 
 pub use control::{can_hold, change, keep, put, value_of};
 pub use late::finish;
-pub use outcome::{Executed, Place, Sources};
+pub use outcome::{Executed, Onward, Place, Sources};
 pub use plain::execute_plain;
 pub use step::{execute_in, sources_of};
 pub use surroundings::Surroundings;

@@ -5,9 +5,10 @@ ghost use Rattle.core_model.specs.declared.own.Own.{Own};
 ghost use Rattle.core_model.specs.Thread.{reg_effect};
 ghost use Rattle.core_model.specs.Parts.{plus, trapped, load, store, branch, delay, wait};
 ghost use Rattle.rv_exec.specs.Line.{IsPrintable, IsWidth};
-ghost use Rattle.hart_exec.specs.Meaning.{did, IsShowable, IsAlignedStore, IsPlain};
+ghost use Rattle.hart_exec.specs.AsDefined.{did, IsShowable, IsAlignedStore, IsPlain};
+ghost use Rattle.hart_exec.specs.declared.outcome.Onward.TheVariants.{Elsewhere};
 
-use crate::outcome::{Executed, Place};
+use crate::outcome::{Executed, Onward, Place};
 use core_model::Own;
 use rv_exec::Effect;
 
@@ -45,12 +46,18 @@ pub fn trap(own: &mut Own, at: Place, cause: u8) -> Executed
 }
 
 /// The hart goes on to the next word.
-pub fn go_on(at: Place, lag: u8, effect: Effect) -> Executed
-    ensures { result ≡ record { pc = plus at.pc 4; lag = lag; word = at.word; address = 0; effect = Some effect } }
+pub fn go_on(at: Place, onward: Onward, effect: Effect) -> Executed
+    ensures { result ≡ record {
+      pc = plus at.pc 4;
+      onward = onward;
+      word = at.word;
+      address = 0;
+      effect = Some effect;
+    } }
 {
     Executed {
         pc: at.pc.wrapping_add(4),
-        lag,
+        onward,
         word: at.word,
         address: 0,
         effect: Some(effect),
@@ -59,11 +66,17 @@ pub fn go_on(at: Place, lag: u8, effect: Effect) -> Executed
 
 /// The hart goes elsewhere.
 pub fn go_to(at: Place, target: u32, effect: Effect) -> Executed
-    ensures { result ≡ record { pc = target; lag = 3; word = at.word; address = 0; effect = Some effect } }
+    ensures { result ≡ record {
+      pc = target;
+      onward = Elsewhere;
+      word = at.word;
+      address = 0;
+      effect = Some effect;
+    } }
 {
     Executed {
         pc: target,
-        lag: 3,
+        onward: Onward::Elsewhere,
         word: at.word,
         address: 0,
         effect: Some(effect),
@@ -83,7 +96,7 @@ pub fn branch_on(at: Place, taken: bool, target: u32) -> Executed
     if taken {
         go_to(at, target, Effect::Nothing)
     } else {
-        go_on(at, 1, Effect::Nothing)
+        go_on(at, Onward::NextWord, Effect::Nothing)
     }
 }
 
@@ -99,7 +112,7 @@ pub fn load_at(at: Place, address: u32) -> Executed
 {
     Executed {
         address,
-        ..go_on(at, 2, Effect::Nothing)
+        ..go_on(at, Onward::LateValue, Effect::Nothing)
     }
 }
 
@@ -120,7 +133,7 @@ pub fn store_at(at: Place, address: u32, size: u8, value: u32) -> Executed
         address,
         ..go_on(
             at,
-            1,
+            Onward::NextWord,
             Effect::Store {
                 address,
                 size,
@@ -141,11 +154,11 @@ pub fn delay_until(at: Place, now: u64, until: u64) -> Executed
     ensures address { result.address ≡ 0 }
 {
     if until <= now {
-        return go_on(at, 3, Effect::Nothing);
+        return go_on(at, Onward::Elsewhere, Effect::Nothing);
     }
     Executed {
         pc: at.pc,
-        lag: 3,
+        onward: Onward::Elsewhere,
         word: at.word,
         address: 0,
         effect: None,
@@ -162,11 +175,11 @@ pub fn wait_until(own: &mut Own, at: Place, now: u64, until: u64) -> Executed
     ensures address { result.address ≡ 0 }
 {
     if until <= now {
-        return go_on(at, 3, Effect::Nothing);
+        return go_on(at, Onward::Elsewhere, Effect::Nothing);
     }
     own.sleep = match own.timer.armed {
         Some(armed) => until.min(armed),
         None => until,
     };
-    go_on(at, 3, Effect::Wait)
+    go_on(at, Onward::Elsewhere, Effect::Wait)
 }

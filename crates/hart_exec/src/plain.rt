@@ -1,5 +1,5 @@
-//! The execution of most instructions, which leave their hart's timer, trap registers and sleep moment
-//! as they are.
+//! The execution of most instructions, which leave their hart's timer, trap registers and sleep
+//! moment as they are.
 
 ghost use Rattle.std.specs.Prelude.{◌≡◌, ◌≢◌, ◌<◌, ◌%◌, ◌^◌, IfSome, is_some};
 ghost use Rattle.rv_decode.specs.Table.{ins};
@@ -7,9 +7,9 @@ ghost use Rattle.rv_exec.specs.Access.{IsAligned, store_size};
 ghost use Rattle.core_model.specs.declared.own.Own.{Own};
 ghost use Rattle.core_model.specs.Issue.{goes, act};
 ghost use Rattle.rv_decode.specs.Range.{InRange};
-ghost use Rattle.hart_exec.specs.Meaning.{did, is_plain, leaves_own, IsShowable, IsAlignedStore, IsPlain};
+ghost use Rattle.hart_exec.specs.AsDefined.{did, is_plain, leaves_own, IsShowable, IsAlignedStore, IsPlain};
 
-use crate::outcome::{Executed, Place, Sources};
+use crate::outcome::{Executed, Onward, Place, Sources};
 use crate::parts::{branch_on, delay_until, go_on, go_to, load_at, store_at, write_to};
 use crate::surroundings::Surroundings;
 use rv_decode::{Ins, StoreOp, decode};
@@ -28,9 +28,9 @@ fn cut(op: StoreOp, value: u32) -> u32
     }
 }
 
-/// An instruction whose result has no trap; None exactly where it changes what its hart owns or goes
-/// by it.
-#[tactic(auto, unfolding(core_model::specs::Issue::goes, crate::specs::Meaning::is_plain), using(crate::proofs::Zero::aligned_zero))]
+/// An instruction whose result has no trap; None exactly where it changes what its hart owns or
+/// goes by it.
+#[tactic(auto, unfolding(core_model::specs::Issue::goes, crate::specs::AsDefined::is_plain), using(crate::proofs::Zero::aligned_zero))]
 #[inline(always)]
 pub(crate) fn plain<S: Surroundings>(
     around: &S,
@@ -42,7 +42,8 @@ pub(crate) fn plain<S: Surroundings>(
     requires range { InRange i.now }
     requires aligned { IsAligned i.now o.now.address }
     ensures answers { is_some result ≡ is_plain (S.asks around.now) o.now i.now }
-    ensures did { IfSome result (λ done. (own : Own) → did own done ≡ goes (S.asks around.now) at.pc own at.word s.a s.b o.now i.now) }
+    ensures did { IfSome result (λ done. (own : Own) → did own done ≡
+        goes (S.asks around.now) at.pc own at.word s.a s.b o.now i.now) }
     ensures showable { IfSome result (λ done. IsShowable done.effect) }
     ensures store { IfSome result (λ done. IsAlignedStore done.effect) }
     ensures plain { IfSome result (λ done. IsPlain done.effect) }
@@ -54,7 +55,7 @@ pub(crate) fn plain<S: Surroundings>(
         | Ins::Auipc { rd, .. }
         | Ins::OpImm { rd, .. }
         | Ins::Shift { rd, .. }
-        | Ins::Op { rd, .. } => Some(go_on(at, 1, write_to(rd, o.value))),
+        | Ins::Op { rd, .. } => Some(go_on(at, Onward::NextWord, write_to(rd, o.value))),
         Ins::Jal { rd, .. } | Ins::Jalr { rd, .. } => {
             Some(go_to(at, o.target, write_to(rd, o.value)))
         }
@@ -65,17 +66,17 @@ pub(crate) fn plain<S: Surroundings>(
         Ins::Store { op, .. } if around.may_store(o.address, size_of_store(op)) => {
             Some(store_at(at, o.address, size_of_store(op), cut(op, s.b)))
         }
-        Ins::Muldiv { .. } => Some(go_on(at, 2, Effect::Nothing)),
-        Ins::Fence { .. } => Some(go_on(at, 1, Effect::Nothing)),
+        Ins::Muldiv { .. } => Some(go_on(at, Onward::LateValue, Effect::Nothing)),
+        Ins::Fence { .. } => Some(go_on(at, Onward::NextWord, Effect::Nothing)),
         Ins::Du { .. } => Some(delay_until(at, around.now(), moment(s.a, s.b))),
         _ => None,
     }
 }
 
-/// What [`execute_in`](crate::execute_in) does of an instruction at a place; None exactly where that
-/// changes what the hart owns or goes by it, as each trap does. Most instructions are done by this alone,
-/// without a look at what the hart owns.
-#[tactic(auto, unfolding(core_model::specs::Issue::act, core_model::specs::Issue::run, crate::specs::Meaning::leaves_own), using(crate::proofs::Zero::shown))]
+/// What [`execute_in`](crate::execute_in) does of an instruction at a place; None exactly where
+/// that changes what the hart owns or goes by it, as each trap does. Most instructions are done by
+/// this alone, without a look at what the hart owns.
+#[tactic(auto, unfolding(core_model::specs::Issue::act, core_model::specs::Issue::run, crate::specs::AsDefined::leaves_own), using(crate::proofs::Zero::shown))]
 #[inline(always)]
 pub fn execute_plain<S: Surroundings>(
     around: &S,
@@ -83,8 +84,10 @@ pub fn execute_plain<S: Surroundings>(
     expired: bool,
     s: Sources,
 ) -> Option<Executed>
-    ensures answers { is_some result ≡ leaves_own (S.asks around.now) at.pc expired at.word s.a s.b }
-    ensures did { IfSome result (λ done. (own : Own) → did own done ≡ act (S.asks around.now) at.pc own expired at.word s.a s.b) }
+    ensures answers { is_some result ≡ leaves_own (S.asks around.now) at.pc expired at.word s.a
+        s.b }
+    ensures did { IfSome result (λ done. (own : Own) → did own done ≡
+        act (S.asks around.now) at.pc own expired at.word s.a s.b) }
     ensures showable { IfSome result (λ done. IsShowable done.effect) }
     ensures store { IfSome result (λ done. IsAlignedStore done.effect) }
     ensures plain { IfSome result (λ done. IsPlain done.effect) }

@@ -5,10 +5,10 @@ ghost use Rattle.rv_decode.specs.Table.{ins};
 ghost use Rattle.rv_exec.specs.Access.{IsAligned};
 ghost use Rattle.core_model.specs.Issue.{source_1, source_2, goes, run, act};
 ghost use Rattle.rv_decode.specs.Range.{InRange};
-ghost use Rattle.hart_exec.specs.Meaning.{did, IsShowable, IsAlignedStore};
+ghost use Rattle.hart_exec.specs.AsDefined.{did, IsShowable, IsAlignedStore};
 
 use crate::control::{Access, access_csr};
-use crate::outcome::{Executed, Place, Sources};
+use crate::outcome::{Executed, Onward, Place, Sources};
 use crate::parts::{go_on, go_to, trap, wait_until, write_to};
 use crate::plain::plain;
 use crate::surroundings::Surroundings;
@@ -43,9 +43,9 @@ pub fn sources_of(i: &Ins) -> (u8, u8)
     }
 }
 
-/// An instruction whose result has no trap. What `plain` declines is a load or store that is refused,
-/// or goes by what the hart owns.
-#[tactic(auto, unfolding(core_model::specs::Issue::goes, core_model::specs::Parts::load, core_model::specs::Parts::store, crate::specs::Meaning::is_plain), using(crate::proofs::Zero::aligned_zero))]
+/// An instruction whose result has no trap. What `plain` declines is a load or store that is
+/// refused, or goes by what the hart owns.
+#[tactic(auto, unfolding(core_model::specs::Issue::goes, core_model::specs::Parts::load, core_model::specs::Parts::store, crate::specs::AsDefined::is_plain), using(crate::proofs::Zero::aligned_zero))]
 fn go<S: Surroundings>(
     own: &mut Own,
     around: &S,
@@ -56,7 +56,8 @@ fn go<S: Surroundings>(
 ) -> Executed
     requires range { InRange i.now }
     requires aligned { IsAligned i.now o.now.address }
-    ensures did { did own.new result ≡ goes (S.asks around.now) at.pc own.old at.word s.a s.b o.now i.now }
+    ensures did { did own.new result ≡ goes (S.asks around.now) at.pc own.old at.word s.a s.b o.now
+        i.now }
     ensures showable { IsShowable result.effect }
     ensures store { IsAlignedStore result.effect }
     ensures word { result.word ≡ at.word }
@@ -80,17 +81,21 @@ fn go<S: Surroundings>(
         ),
         Ins::Gt { rd } => {
             own.timer.high = (around.now() / 0x1_0000_0000) as u32;
-            go_on(at, 1, write_to(rd, (around.now() % 0x1_0000_0000) as u32))
+            go_on(
+                at,
+                Onward::NextWord,
+                write_to(rd, (around.now() % 0x1_0000_0000) as u32),
+            )
         }
-        Ins::Gth { rd } => go_on(at, 1, write_to(rd, own.timer.high)),
+        Ins::Gth { rd } => go_on(at, Onward::NextWord, write_to(rd, own.timer.high)),
         Ins::Wu { .. } => wait_until(own, at, around.now(), moment(s.a, s.b)),
         Ins::Ee { .. } => {
             own.timer.armed = Some(moment(s.a, s.b));
-            go_on(at, 3, Effect::Nothing)
+            go_on(at, Onward::Elsewhere, Effect::Nothing)
         }
         Ins::De => {
             own.timer.armed = None;
-            go_on(at, 3, Effect::Nothing)
+            go_on(at, Onward::Elsewhere, Effect::Nothing)
         }
         _ => trap(own, at, 2),
     }
@@ -123,7 +128,8 @@ pub fn execute_in<S: Surroundings>(
     expired: bool,
     s: Sources,
 ) -> Executed
-    ensures did { did own.new result ≡ act (S.asks around.now) at.pc own.old expired at.word s.a s.b }
+    ensures did { did own.new result ≡ act (S.asks around.now) at.pc own.old expired at.word s.a
+        s.b }
     ensures showable { IsShowable result.effect }
     ensures store { IsAlignedStore result.effect }
     ensures address { IsAligned (ins result.word) result.address }

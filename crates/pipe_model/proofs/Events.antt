@@ -7,7 +7,7 @@ use Rattle.world_model.specs.World.{Start, Took, world, events, events_of, event
 use Rattle.world_model.specs.World.Took.{Idle, Lost, Ran}
 use Rattle.world_model.proofs.Turns.{nexts, ages, turn-older}
 use Rattle.pipe_model.specs.Relation.{turn_at, event_in, of_hart}
-use Rattle.pipe_model.specs.Laws.{EventsGrow}
+use Rattle.pipe_model.specs.PipelineLaws.{EventsGrow}
 
 event-of : (i c : ℕ) (t : Took) → event_of i c t ≡ of_hart i (event_in c t)
 event-of i c Idle = refl

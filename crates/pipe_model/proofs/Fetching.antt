@@ -17,9 +17,9 @@ use Rattle.pipe_model.specs.declared.latches.Executed.{Executed}
 use Rattle.pipe_model.specs.declared.latches.Fetched.{Fetched}
 use Rattle.pipe_model.specs.declared.latches.Stored.{Stored}
 use Rattle.pipe_model.specs.declared.latches.Redirect.{Redirect}
-use Rattle.pipe_model.specs.Stages.{Latches, State, decode_latch, is_killed, operand}
+use Rattle.pipe_model.specs.Stages.{Latches, State, decode_latch, flushes_d, operand}
 use Rattle.pipe_model.specs.Relation.{turn_at, in_memory, in_execute, in_decode, in_fetch, decoded_in, pick_in, bank_in, control_in, Begins, Stands}
-use Rattle.pipe_model.specs.Shown.{FetchHolds}
+use Rattle.pipe_model.specs.LatchView.{FetchHolds}
 use Rattle.pipe_model.proofs.Moved.{eight}
 use Rattle.pipe_model.proofs.Late.{redirect_in}
 use Rattle.pipe_model.proofs.Young.{decode-is}
@@ -37,7 +37,7 @@ from-decoded : (bank : List (List ℕ)) (m : Held Stored) (e : Held Executed) (t
 unfolding decode_latch
 from-decoded bank m e timers r now Bubble k d h = cc
 from-decoded bank m e timers r now (Flushed j) k d h = cc
-from-decoded bank m e timers r now (Issue j x) k d h = go (is_killed 1 j r) h
+from-decoded bank m e timers r now (Issue j x) k d h = go (flushes_d j r) h
   where
     go : (b : Bool) → (if b then Flushed j else Issue j (record {
       pc = x.pc;

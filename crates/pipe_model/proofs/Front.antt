@@ -1,5 +1,5 @@
 -- What the turn of c - 2 does to the younger turns of a hart.
-use Rattle.std.proofs.Common.{◌≡◌, ℕ, suc, ◌+◌, ◌-◌, ◌<◌, ◌≤◌, ◌⊎◌, inl, inr, Bool, true, false, List, get_or, length, Some, None, refl, ap, sym, ◌∙◌, subst, arith}
+use Rattle.std.proofs.Common.{◌≡◌, ℕ, suc, ◌+◌, ◌<◌, ◌≤◌, ◌⊎◌, inl, inr, Bool, true, false, List, get_or, length, Some, None, refl, ap, sym, ◌∙◌, subst, arith}
 use Rattle.std.specs.Prelude.{if◌then◌else◌, Option, ◌==◌, nat_le}
 use Rattle.std.proofs.lemmas.List.{get_or-set_same, get_or-set_other, length-set}
 use Rattle.std.proofs.lemmas.Bool.Decides.{nat_tests}
@@ -14,7 +14,9 @@ use Rattle.world_model.specs.World.Took.{Idle, Lost, Ran}
 use Rattle.world_model.proofs.Turns.{Does, Turned}
 use Rattle.world_model.proofs.Pace.{Paced, is_csr, filled-csr}
 use Rattle.pipe_model.specs.declared.latches.Redirect.{Redirect}
-use Rattle.pipe_model.specs.Stages.{forward, from_e, from_m, is_killed, redirected, redirect_of}
+use Rattle.pipe_model.specs.declared.latches.Way.{Way}
+use Rattle.pipe_model.specs.declared.latches.Way.TheVariants.{LateValue, Elsewhere}
+use Rattle.pipe_model.specs.Stages.{forward, from_e, from_m, flushes_d, reaches_f, flushes_f, way_of, redirected, redirect_of}
 use Rattle.pipe_model.specs.Relation.{issues, after_issue, did_in, in_execute, in_memory}
 use Rattle.pipe_model.proofs.Moved.{did-pace, unequal, equals}
 use Rattle.pipe_model.proofs.Late.{redirect_in}
@@ -73,8 +75,8 @@ forwarded-m s n w after (Ran j pc word effect) k l t h = go (j == k) refl h
 
 -- the turn of n = c - 2 flushes none of the hart's younger turns
 pub record Spared (s : Start) (c n : ℕ) (w after : World) (took : Took) (k : ℕ) (pcs : List ℕ) : Type 0 where
-  pub one : is_killed 1 k (redirect_in s n w took) ≡ false
-  pub two : is_killed 2 k (redirect_in s n w took) ≡ false
+  pub one : flushes_d k (redirect_in s n w took) ≡ false
+  pub two : flushes_f k (redirect_in s n w took) ≡ false
   pub late : nat_le c (thread_of after k).ready ≡ nat_le c (thread_of w k).ready
   pub soon : (thread_of after k).ready ≤ c
   pub pc : (thread_of after k).pc ≡ after_issue (issues k took) (thread_of w k).pc
@@ -84,8 +86,8 @@ pub record Spared (s : Start) (c n : ℕ) (w after : World) (took : Took) (k : �
 
 -- it flushes one or two
 pub record Killed (s : Start) (c n : ℕ) (w after : World) (took : Took) (k : ℕ) (pcs : List ℕ) : Type 0 where
-  pub one : is_killed 1 k (redirect_in s n w took) ≡ true
-  pub two : is_killed 2 k (redirect_in s n w took) ≡ nat_le (suc c) (thread_of after k).ready
+  pub one : flushes_d k (redirect_in s n w took) ≡ true
+  pub two : flushes_f k (redirect_in s n w took) ≡ nat_le (suc c) (thread_of after k).ready
   pub first : (thread_of w k).ready < c
   pub late : c ≤ (thread_of after k).ready
   pub next : get_or (redirected (redirect_in s n w took) pcs) k 0 ≡ (thread_of after k).pc
@@ -98,8 +100,8 @@ unfolding redirected
 elsewhere s c n w after Idle k pcs i e h = record { one = refl; two = refl; late = rw e refl; soon = rw e h; pc = rw e refl; regs = rw e refl; next = refl; count = refl }
 elsewhere s c n w after (Lost j) k pcs i e h = record { one = refl; two = refl; late = rw e refl; soon = rw e h; pc = rw e refl; regs = rw e refl; next = refl; count = refl }
 elsewhere s c n w after (Ran j pc word effect) k pcs i e h = record {
-  one = no 1 (d.lag == 1);
-  two = no 2 (d.lag == 1);
+  one = d-stays (d.lag == 1);
+  two = f-stays (d.lag == 1);
   late = rw e refl;
   soon = rw e h;
   pc = rw (e, i) refl;
@@ -112,11 +114,15 @@ elsewhere s c n w after (Ran j pc word effect) k pcs i e h = record {
     d = did_in s n w j
 
     r : Redirect
-    r = record { thread = j; pc = d.pc; kills = d.lag - 1 }
+    r = record { thread = j; pc = d.pc; way = way_of d }
 
-    no : (lag : ℕ) (b : Bool) → is_killed lag k (if b then None else Some r) ≡ false
-    no lag true = refl
-    no lag false = rw i refl
+    d-stays : (b : Bool) → flushes_d k (if b then None else Some r) ≡ false
+    d-stays true = refl
+    d-stays false = rw i refl
+
+    f-stays : (b : Bool) → flushes_f k (if b then None else Some r) ≡ false
+    f-stays true = refl
+    f-stays false = rw i refl
 
     keeps : (b : Bool) → get_or (redirected (if b then None else Some r) pcs) k 0 ≡ get_or pcs k 0
     keeps true = refl
@@ -163,11 +169,11 @@ here s c n w after k pc word effect pcs l m far t = go (did-pace s n w k).paced
     one : d.lag ≡ 1 → redirect_of k d ≡ None
     one h = rw h refl
 
-    killed : (kills : ℕ) → redirect_of k d ≡ Some (record { thread = k; pc = d.pc; kills = kills }) → d.lag ≡ kills + 1 → 1 ≤ kills →
+    killed : (way : Way) → redirect_of k d ≡ Some (record { thread = k; pc = d.pc; way = way }) → 2 ≤ d.lag → reaches_f way ≡ nat_le (suc c) (n + d.lag) →
         Killed s c n w after (Ran k pc word effect) k pcs
-    killed kills h g p = record {
-      one = rw (h, self) (grind (arith, nat_tests));
-      two = rw (h, self, ready, g, far) (grind (arith, nat_tests));
+    killed way h g reach = record {
+      one = rw (h, self) refl;
+      two = rw (h, self, ready) reach;
       first = omega arith;
       late = omega (arith, ready);
       next = rw h (get_or-set_same pcs k d.pc 0 below ∙ sym pc');
@@ -187,6 +193,6 @@ here s c n w after k pc word effect pcs l m far t = go (did-pace s n w k).paced
     }
 
     go : Paced (thread_of w k).pc o d → Spared s c n w after (Ran k pc word effect) k pcs ⊎ Killed s c n w after (Ran k pc word effect) k pcs
-    go (inl h) = inr (killed 2 (rw h refl) h (omega arith))
-    go (inr (p, x, inl h)) = inr (killed 1 (rw h refl) h (omega arith))
+    go (inl h) = inr (killed Elsewhere (rw h refl) (omega arith) (rw (h, far) (grind (arith, nat_tests))))
+    go (inr (p, x, inl h)) = inr (killed LateValue (rw h refl) (omega arith) (rw (h, far) (grind (arith, nat_tests))))
     go (inr (p, x, inr (h, y))) = inl (spared h p x y)

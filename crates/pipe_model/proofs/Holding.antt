@@ -14,7 +14,7 @@ use Rattle.pipe_model.specs.declared.latches.Held.TheVariants.{Issue}
 use Rattle.pipe_model.specs.Stages.{Latches}
 use Rattle.pipe_model.specs.Relation.{turn_at, in_execute, in_decode, decoded_in, executed_in, did_in}
 use Rattle.pipe_model.specs.Contents.{is_expiry, decoded_by, decode_holds, before_late, address_of, unless_trapped, executed_by, execute_holds}
-use Rattle.pipe_model.specs.Laws.{HoldsTurns}
+use Rattle.pipe_model.specs.PipelineLaws.{HoldsTurns}
 use Rattle.pipe_model.proofs.Told.{ActTold, act-told, filled-expiry, filled-early, filled-trapped}
 use Rattle.pipe_model.proofs.Fetching.{holds}
 

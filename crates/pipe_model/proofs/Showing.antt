@@ -15,8 +15,8 @@ use Rattle.world_model.proofs.Pace.{run-word}
 use Rattle.pipe_model.specs.declared.latches.Held.TheVariants.{Flushed, Issue}
 use Rattle.pipe_model.specs.Stages.{Latches, State}
 use Rattle.pipe_model.specs.Relation.{turn_at, pick_in, in_write, in_execute, in_decode, in_fetch, fetched_in, decoded_in, did_in}
-use Rattle.pipe_model.specs.Shown.{fetch_shown, decode_shown, execute_shown, decoded_word, Shown}
-use Rattle.pipe_model.specs.Laws.{ShowsTurns}
+use Rattle.pipe_model.specs.LatchView.{fetch_shown, decode_shown, execute_shown, decoded_word, Shown}
+use Rattle.pipe_model.specs.PipelineLaws.{ShowsTurns}
 use Rattle.pipe_model.proofs.Keeping.{write-is}
 
 fetched-shown : (s : Start) (c : ℕ) (w : World) (turn : Took) (o : Pick) → fetch_shown (in_fetch s c w turn o) ≡ o

@@ -3,7 +3,7 @@ use Rattle.std.proofs.Common.{ℕ, refl, ◌∙◌}
 use Rattle.std.proofs.Math.ListN.{get_or-map, length-map}
 use Rattle.core_model.specs.Thread.{Thread, fresh}
 use Rattle.world_model.specs.World.{world, recent}
-use Rattle.pipe_model.specs.Laws.{Starts}
+use Rattle.pipe_model.specs.PipelineLaws.{Starts}
 
 pub starts : Starts
 unfolding world recent

@@ -16,7 +16,7 @@ use Rattle.world_model.proofs.Turns.{Turned}
 use Rattle.pipe_model.specs.declared.latches.Held.TheVariants.{Flushed, Issue}
 use Rattle.pipe_model.specs.declared.latches.Decoded.{Decoded}
 use Rattle.pipe_model.specs.declared.latches.Redirect.{Redirect}
-use Rattle.pipe_model.specs.Stages.{from_m, operand, is_killed, redirected, decode_latch, fetch_latch, advanced}
+use Rattle.pipe_model.specs.Stages.{from_m, operand, flushes_f, redirected, decode_latch, fetch_latch, advanced}
 use Rattle.pipe_model.specs.Relation.{issues, after_issue, pick_in, in_execute, in_memory, in_decode, decoded_in, in_fetch, fetched_in, fetches, next_of, bank_in, control_in}
 use Rattle.pipe_model.proofs.Moved.{equals, unequal}
 use Rattle.pipe_model.proofs.Late.{redirect_in, timer-is, row-is}
@@ -127,7 +127,7 @@ module _ (s : Start) (c : ℕ) (w3 w2 w1 w0 : World) (t2 t1 t0 : Took) (pcs : Li
 
   -- after the redirect: flushed in F exactly where the first ready cycle is above c, and the pc to fetch next
   pub record Ahead (k : ℕ) : Type 0 where
-    pub two : is_killed 2 k r ≡ nat_le (suc c) (thread_of w1 k).ready
+    pub two : flushes_f k r ≡ nat_le (suc c) (thread_of w1 k).ready
     pub next : get_or (redirected r pcs) k 0 ≡ after_issue (issues k t0) (thread_of w1 k).pc
     pub count : length (redirected r pcs) ≡ length pcs
 
@@ -155,7 +155,7 @@ module _ (s : Start) (c : ℕ) (w3 w2 w1 w0 : World) (t2 t1 t0 : Took) (pcs : Li
   pub advanced-count : (o : Pick) → length (redirected r pcs) ≡ 8 → length (advanced r o (redirected r pcs)) ≡ 8
   unfolding advanced
   advanced-count chosen.Bubble h = h
-  advanced-count (chosen.Issue k) h = go (is_killed 2 k r)
+  advanced-count (chosen.Issue k) h = go (flushes_f k r)
     where
       go : (b : Bool) → length (if b then redirected r pcs else set (redirected r pcs) k (plus (get_or (redirected r pcs) k 0) 4)) ≡ 8
       go true = h
@@ -165,7 +165,7 @@ module _ (s : Start) (c : ℕ) (w3 w2 w1 w0 : World) (t2 t1 t0 : Took) (pcs : Li
       get_or (advanced r o (redirected r pcs)) k 0 ≡ next_of w1 t0 (fetch_latch s.size s.i_words r (redirected r pcs) o) k
   unfolding advanced fetch_latch
   advanced-is chosen.Bubble k h l a = a.next
-  advanced-is (chosen.Issue j) k h l a = go (is_killed 2 j r) (j == k) refl
+  advanced-is (chosen.Issue j) k h l a = go (flushes_f j r) (j == k) refl
     where
       next : List ℕ
       next = redirected r pcs

@@ -1,5 +1,5 @@
 pub mod Stages
 pub mod Relation
-pub mod Shown
+pub mod LatchView
 pub mod Contents
-pub mod Laws
+pub mod PipelineLaws

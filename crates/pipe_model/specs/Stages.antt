@@ -1,6 +1,6 @@
 -- One cycle of the pipeline, over plain values: what each stage makes of the latch before it, and what
 -- it does to the units. Harts, stages and registers are this project's profile of the core.
-use Rattle.std.specs.Prelude.{ℕ, ◌-◌, ◌==◌, nat_lt, Bool, false, not, ◌&&◌, if◌then◌else◌, List, [], slice_index_or, slice_set, Option, Some, None}
+use Rattle.std.specs.Prelude.{ℕ, ◌-◌, ◌==◌, Bool, true, false, ◌&&◌, if◌then◌else◌, List, [], slice_index_or, slice_set, Option, Some, None}
 use Rattle.rv_decode.specs.Table.{ins}
 use Rattle.rv_exec.specs.declared.outcome.Effect.{Effect}
 use Rattle.rv_exec.specs.declared.outcome.Effect.TheVariants.{Reg, Store}
@@ -26,6 +26,8 @@ use Rattle.pipe_model.specs.declared.latches.Executed.{Executed}
 use Rattle.pipe_model.specs.declared.latches.Stored.{Stored}
 use Rattle.pipe_model.specs.declared.latches.Written.{Written}
 use Rattle.pipe_model.specs.declared.latches.Redirect.{Redirect}
+use Rattle.pipe_model.specs.declared.latches.Way.{Way}
+use Rattle.pipe_model.specs.declared.latches.Way.TheVariants.{LateValue, Elsewhere}
 
 -- the pc that each hart fetches next, and the latches
 pub record Latches : Type 0 where
@@ -130,9 +132,12 @@ controlled k d u =
       sleeps = slice_set u.sleeps k d.own.sleep;
     }
 
--- a hart whose next instruction may not issue in the next cycle goes on at the pc that follows
+-- a hart whose next instruction may not issue in the next cycle goes on at the pc that follows, in a way
+abbrev pub way_of : Did → Way
+way_of d = if d.lag == 2 then LateValue else Elsewhere
+
 abbrev pub redirect_of : ℕ → Did → Option Redirect
-redirect_of k d = if d.lag == 1 then None else Some (record { thread = k; pc = d.pc; kills = d.lag - 1 })
+redirect_of k d = if d.lag == 1 then None else Some (record { thread = k; pc = d.pc; way = way_of d })
 
 -- what E leaves
 pub record After : Type 0 where
@@ -148,10 +153,18 @@ execution size confined permit now u Bubble = record { e = Bubble; control = u; 
 execution size confined permit now u (Flushed k) = record { e = Flushed k; control = u; redirect = None }
 execution size confined permit now u (Issue k x) = executes k x u (execute size confined permit now u k x)
 
--- whether a redirect flushes the hart's turn that comes so many cycles behind it
-abbrev pub is_killed : ℕ → ℕ → Option Redirect → Bool
-is_killed behind k None = false
-is_killed behind k (Some r) = r.thread == k && not (nat_lt r.kills behind)
+-- whether a redirect flushes the turn of hart k in D, and in F: behind a late value only that in D
+abbrev pub flushes_d : ℕ → Option Redirect → Bool
+flushes_d k None = false
+flushes_d k (Some r) = r.thread == k
+
+abbrev pub reaches_f : Way → Bool
+reaches_f LateValue = false
+reaches_f Elsewhere = true
+
+abbrev pub flushes_f : ℕ → Option Redirect → Bool
+flushes_f k None = false
+flushes_f k (Some r) = r.thread == k && reaches_f r.way
 
 -- forwarding: a value on its way to its register
 abbrev pub forward : Option Effect → List ℕ → List ℕ
@@ -177,7 +190,7 @@ unfoldable pub decode_latch : List (List ℕ) → Held Stored → Held Executed 
 decode_latch bank m e timers r now Bubble = Bubble
 decode_latch bank m e timers r now (Flushed k) = Flushed k
 decode_latch bank m e timers r now (Issue k x) =
-    if is_killed 1 k r then Flushed k
+    if flushes_d k r then Flushed k
     else Issue k (record {
       pc = x.pc;
       word = x.word;
@@ -195,12 +208,12 @@ redirected (Some r) next = slice_set next r.thread r.pc
 unfoldable pub fetch_latch : ℕ → List ℕ → Option Redirect → List ℕ → Pick → Held Fetched
 fetch_latch size i_words r next chosen.Bubble = Bubble
 fetch_latch size i_words r next (chosen.Issue k) =
-    if is_killed 2 k r then Flushed k
+    if flushes_f k r then Flushed k
     else (let pc = slice_index_or next k 0 in Issue k (record { pc = pc; word = code_at size i_words pc }))
 
 unfoldable pub advanced : Option Redirect → Pick → List ℕ → List ℕ
 advanced r chosen.Bubble next = next
-advanced r (chosen.Issue k) next = if is_killed 2 k r then next else slice_set next k (plus (slice_index_or next k 0) 4)
+advanced r (chosen.Issue k) next = if flushes_f k r then next else slice_set next k (plus (slice_index_or next k 0) 4)
 
 -- what a cycle leaves, and the event that retires in it
 pub record Ticked : Type 0 where

@@ -17,10 +17,10 @@ use Rattle.core_model.specs.Parts.{load, store, branch, delay, wait, trapped, pl
 use Rattle.core_model.specs.Control.{csr_value, changed, may_hold, kept, with_csr, csr_put, csr_done, csr_access}
 use Rattle.core_model.specs.Issue.{csr_op, csr_operand, csr_writes, goes, unless_trap, run, act}
 use Rattle.hart_exec.specs.declared.outcome.Executed.{Executed}
-use Rattle.hart_exec.specs.Meaning.{did}
+use Rattle.hart_exec.specs.AsDefined.{did}
 use Rattle.trap_unit.specs.Rows.{IsAlignedTrap}
 use Rattle.trap_unit.proofs.Aligned.{held_as_kept}
-use Rattle.pipeline_core.specs.Fits.{IsPc, IsAccepted}
+use Rattle.pipeline_core.specs.LatchFacts.{IsPc, IsAccepted}
 use Rattle.pipeline_core.proofs.Pcs.{pc_after}
 
 pub record Keeps (d : Did) : Type 0 where

@@ -5,4 +5,3 @@ pub mod Forwarding
 pub mod Standing
 pub mod Plain
 pub mod Stepping
-pub mod Redirecting

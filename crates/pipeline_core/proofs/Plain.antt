@@ -10,7 +10,7 @@ use Rattle.core_model.specs.Thread.{Around, Did, no_own}
 use Rattle.core_model.specs.Issue.{act}
 use Rattle.world_model.specs.World.{Registers, registers_after}
 use Rattle.hart_exec.specs.declared.outcome.Executed.{Executed}
-use Rattle.hart_exec.specs.Meaning.{did, IsPlain}
+use Rattle.hart_exec.specs.AsDefined.{did, IsPlain}
 use Rattle.pipe_model.specs.declared.latches.Held.TheVariants.{Issue}
 use Rattle.pipe_model.specs.declared.latches.Decoded.{Decoded}
 use Rattle.pipe_model.specs.declared.latches.Executed as latch

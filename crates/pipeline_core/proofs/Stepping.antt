@@ -1,6 +1,6 @@
 -- The stages one by one are the step.
 use Rattle.std.proofs.Common.{◌≡◌, ℕ, ◌-◌, List, refl}
-use Rattle.std.specs.Prelude.{Option}
+use Rattle.std.specs.Prelude.{Option, None}
 use Rattle.fp_ports.specs.Rows.{Row}
 use Rattle.timer_unit.specs.Time.{time}
 use Rattle.slot_scheduler.specs.declared.picking.Pick.{Pick}
@@ -14,6 +14,11 @@ use Rattle.pipe_model.specs.declared.latches.Stored.{Stored}
 use Rattle.pipe_model.specs.declared.latches.Written.{Written}
 use Rattle.pipe_model.specs.declared.latches.Redirect.{Redirect}
 use Rattle.pipe_model.specs.Stages.{Latches, State, Control, Ticked, bank_after, write_latch, memory_latch, words_stored, ports_stored, execution, redirected, fetch_latch, advanced, decode_latch, retired, step}
+
+-- with no redirect the pcs to fetch next stay
+pub straight : (next : List ℕ) → next ≡ redirected None next
+unfolding redirected
+straight next = refl
 
 pub steps : (p : Latches) (u : State) (c : ℕ) (w : Held Written) (m : Held Stored) (e : Held Executed) (d : Held Decoded) (f : Held Fetched) (next between : List ℕ)
     (bank : List (List ℕ)) (words : List ℕ) (ports : List (Option Row)) (control : Control) (size now last : ℕ) (chosen : Pick) (r : Option Redirect) →

@@ -1,3 +1,3 @@
-pub mod Fits
-pub mod Meaning
-pub mod Asked
+pub mod LatchFacts
+pub mod AsDefined
+pub mod AccessRights

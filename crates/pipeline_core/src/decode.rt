@@ -4,8 +4,8 @@ ghost use Rattle.std.specs.Prelude.{◌≡◌, ◌-◌, ◌<◌, ℕ, List, leng
 ghost use Rattle.timer_unit.specs.Time.{is_due, time, timer_of};
 ghost use Rattle.core_model.specs.Thread.{reg_in};
 ghost use Rattle.regfile_bank.specs.Registers.{registers_of};
-ghost use Rattle.pipe_model.specs.Stages.{forward, from_m, from_e, operand, is_killed, decode_latch};
-ghost use Rattle.pipeline_core.specs.Fits.{EffectFits, FetchedFits, DecodedFits, ExecutedFits, StoredFits};
+ghost use Rattle.pipe_model.specs.Stages.{forward, from_m, from_e, operand, flushes_d, decode_latch};
+ghost use Rattle.pipeline_core.specs.LatchFacts.{EffectFits, FetchedFits, DecodedFits, ExecutedFits, StoredFits};
 
 use hart_exec::sources_of;
 use pipe_model::{Decoded, Executed, Fetched, Held, Redirect, Stored};
@@ -14,12 +14,12 @@ use rv_decode::decode;
 use rv_exec::Effect;
 use timer_unit::{Clock, Timers};
 
-/// Whether a redirect flushes a thread's turn that comes so many cycles behind it.
-pub fn is_flushed(behind: u8, thread: u8, redirect: Option<Redirect>) -> bool
-    ensures { result ≡ is_killed behind thread redirect }
+/// Whether a redirect flushes a thread's turn in D: each one of its own thread does.
+fn is_flushed(thread: u8, redirect: Option<Redirect>) -> bool
+    ensures { result ≡ flushes_d thread redirect }
 {
     match redirect {
-        Some(redirect) => redirect.thread == thread && redirect.kills >= behind,
+        Some(redirect) => redirect.thread == thread,
         None => false,
     }
 }
@@ -28,7 +28,8 @@ pub fn is_flushed(behind: u8, thread: u8, redirect: Option<Redirect>) -> bool
 fn newer(effect: Option<Effect>, x: u8, older: u32) -> u32
     requires x { x < 32 }
     requires fits { EffectFits effect }
-    ensures { (regs : List ℕ) → length regs ≡ 31 → older ≡ reg_in regs x → result ≡ reg_in (forward effect regs) x }
+    ensures { (regs : List ℕ) → length regs ≡ 31 → older ≡ reg_in regs x → result ≡
+        reg_in (forward effect regs) x }
 {
     match effect {
         Some(Effect::Reg { rd, value }) if rd == x && rd != 0 => value,
@@ -96,9 +97,10 @@ fn was_due(timers: &Timers, clock: &Clock, cycle: u64, thread: u8) -> bool
     }
 }
 
-/// Leaves in `d` the turn with its sources, and whether its thread's armed moment was reached when it
-/// was issued, in the cycle before this one, if the turn isn't flushed.
+/// Leaves in `d` the turn with its sources, and whether its thread's armed moment was reached when
+/// it was issued, in the cycle before this one, if the turn isn't flushed. Inlined, as `fetch` is.
 #[tactic(auto, unfolding(pipe_model::specs::Stages::decode_latch))]
+#[inline(always)]
 pub fn read(
     bank: &Bank,
     m: &Held<Stored>,
@@ -114,7 +116,8 @@ pub fn read(
     requires e { ExecutedFits e.now }
     requires f { FetchedFits held.now }
     requires cycle { cycle < 4000000000 }
-    ensures latch { d.new ≡ decode_latch bank.now m.now e.now timers.now redirect (time clock.now (cycle - 1)) held.now }
+    ensures latch { d.new ≡ decode_latch bank.now m.now e.now timers.now redirect
+        (time clock.now (cycle - 1)) held.now }
     ensures fits { DecodedFits d.new }
 {
     let (thread, x) = match held {
@@ -128,7 +131,7 @@ pub fn read(
         }
         Held::Issue { thread, what } => (*thread, what),
     };
-    if is_flushed(1, thread, redirect) {
+    if is_flushed(thread, redirect) {
         *d = Held::Flushed { thread };
         return;
     }

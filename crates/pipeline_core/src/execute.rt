@@ -6,20 +6,20 @@ ghost use Rattle.rv_exec.specs.Access.{IsAligned};
 ghost use Rattle.core_model.specs.Issue.{act};
 ghost use Rattle.core_model.specs.Thread.{no_own};
 ghost use Rattle.core_model.specs.declared.own.Own.{Own};
-ghost use Rattle.hart_exec.specs.Meaning.{did, leaves_own, IsPlain};
+ghost use Rattle.hart_exec.specs.AsDefined.{did, leaves_own, IsPlain};
 ghost use Rattle.timer_unit.specs.Time.{time};
 ghost use Rattle.trap_unit.specs.Rows.{IsAlignedTrap};
 ghost use Rattle.pipe_model.specs.Stages.{own_in, executed, redirect_of, execution};
 ghost use Rattle.pipe_model.specs.declared.latches.Held.TheVariants.{Issue};
-ghost use Rattle.pipeline_core.specs.Fits.{IsPc, EffectFits, DecodedFits, ExecutedFits, RedirectFits, IsAccepted};
-ghost use Rattle.pipeline_core.specs.Meaning.{registers_by, control_by};
-ghost use Rattle.pipeline_core.specs.Asked.{asked};
+ghost use Rattle.pipeline_core.specs.LatchFacts.{IsPc, EffectFits, DecodedFits, ExecutedFits, RedirectFits, IsAccepted};
+ghost use Rattle.pipeline_core.specs.AsDefined.{registers_by, control_by};
+ghost use Rattle.pipeline_core.specs.AccessRights.{asked};
 ghost use Rattle.world_model.specs.World.{registers_after};
 
 use crate::rights::Rights;
 use core_model::Own;
-use hart_exec::{Executed as Done, Place, Sources, execute_in, execute_plain};
-use pipe_model::{Decoded, Executed, Held, Redirect};
+use hart_exec::{Executed as Done, Onward, Place, Sources, execute_in, execute_plain};
+use pipe_model::{Decoded, Executed, Held, Redirect, Way};
 use region_guard::Guard;
 use rv_exec::Effect;
 use slot_scheduler::Sched;
@@ -50,7 +50,8 @@ fn own_of(guard: &Guard, sched: &Sched, timers: &Timers, traps: &Traps, thread: 
 fn execute_at(mut own: Own, rights: &Rights<'_>, x: &Decoded) -> Step
     requires pc { IsPc x.now.pc }
     requires trap { IsAlignedTrap own.trap }
-    ensures did { did result.own result.done ≡ act (asked rights.now) x.now.pc own x.now.expired x.now.word x.now.a x.now.b }
+    ensures did { did result.own result.done ≡
+        act (asked rights.now) x.now.pc own x.now.expired x.now.word x.now.a x.now.b }
     ensures effect { EffectFits result.done.effect }
     ensures address { IsAligned (ins result.done.word) result.done.address }
     ensures pc { IsPc result.done.pc }
@@ -66,11 +67,14 @@ fn execute_at(mut own: Own, rights: &Rights<'_>, x: &Decoded) -> Step
     Step { own, done }
 }
 
-/// Executes an instruction of a thread; None exactly where that changes what the thread has or goes by it.
+/// Executes an instruction of a thread; None exactly where that changes what the thread has or goes
+/// by it.
 fn execute_plainly(rights: &Rights<'_>, x: &Decoded) -> Option<Done>
     requires { IsPc x.now.pc }
-    ensures answers { is_some result ≡ leaves_own (asked rights.now) x.now.pc x.now.expired x.now.word x.now.a x.now.b }
-    ensures did { IfSome result (λ done. (own : Own) → did own done ≡ act (asked rights.now) x.now.pc own x.now.expired x.now.word x.now.a x.now.b) }
+    ensures answers { is_some result ≡ leaves_own (asked rights.now) x.now.pc x.now.expired
+        x.now.word x.now.a x.now.b }
+    ensures did { IfSome result (λ done. (own : Own) → did own done ≡
+        act (asked rights.now) x.now.pc own x.now.expired x.now.word x.now.a x.now.b) }
     ensures effect { IfSome result (λ done. EffectFits done.effect) }
     ensures plain { IfSome result (λ done. IsPlain done.effect) }
     ensures shown { IfSome result (λ done. done.word ≢ 0) }
@@ -99,7 +103,14 @@ fn shown(x: &Decoded, done: &Done) -> Decoded
 
 /// What stands in the latch of an executed instruction with its effect.
 fn latch_of(x: &Decoded, done: &Done, effect: Option<Effect>) -> Executed
-    ensures { result ≡ record { pc = x.now.pc; word = done.now.word; a = x.now.a; b = x.now.b; address = done.now.address; effect = effect } }
+    ensures { result ≡ record {
+      pc = x.now.pc;
+      word = done.now.word;
+      a = x.now.a;
+      b = x.now.b;
+      address = done.now.address;
+      effect = effect;
+    } }
 {
     Executed {
         pc: x.pc,
@@ -111,39 +122,74 @@ fn latch_of(x: &Decoded, done: &Done, effect: Option<Effect>) -> Executed
     }
 }
 
-/// Leaves an executed instruction in `e`, and tells where its thread goes on if its next turns are flushed.
+/// Leaves an executed instruction in `e`. The two most frequent effects have lines of their own,
+/// and of these no more than their own fields is moved: an effect as a whole has all those of its
+/// largest variant.
+#[inline(always)]
+fn put_latch(thread: u8, x: &Decoded, done: &Done, e: &mut Held<Executed>)
+    ensures { e.new ≡ Issue thread (record {
+      pc = x.now.pc;
+      word = done.now.word;
+      a = x.now.a;
+      b = x.now.b;
+      address = done.now.address;
+      effect = done.now.effect;
+    }) }
+{
+    match done.effect {
+        Some(Effect::Reg { rd, value }) => {
+            let what = latch_of(x, done, Some(Effect::Reg { rd, value }));
+            *e = Held::Issue { thread, what };
+        }
+        Some(Effect::Nothing) => {
+            let what = latch_of(x, done, Some(Effect::Nothing));
+            *e = Held::Issue { thread, what };
+        }
+        effect => {
+            let what = latch_of(x, done, effect);
+            *e = Held::Issue { thread, what };
+        }
+    }
+}
+
+/// Leaves an executed instruction in `e`, and tells where its thread goes on if its next turns are
+/// flushed.
 #[inline(always)]
 fn leave(thread: u8, x: &Decoded, done: &Done, e: &mut Held<Executed>) -> Option<Redirect>
     requires thread { thread < 8 }
     requires pc { IsPc done.now.pc }
-    ensures e { e.new ≡ Issue thread (record { pc = x.now.pc; word = done.now.word; a = x.now.a; b = x.now.b; address = done.now.address; effect = done.now.effect }) }
+    ensures e { e.new ≡ Issue thread (record {
+      pc = x.now.pc;
+      word = done.now.word;
+      a = x.now.a;
+      b = x.now.b;
+      address = done.now.address;
+      effect = done.now.effect;
+    }) }
     ensures redirect { result ≡ redirect_of thread (did no_own done.now) }
     ensures fits { RedirectFits result }
 {
-    if done.lag != 1 {
-        let what = latch_of(x, done, done.effect);
-        *e = Held::Issue { thread, what };
-        return Some(Redirect {
-            thread,
-            pc: done.pc,
-            kills: done.lag.saturating_sub(1),
-        });
-    }
-    // The most frequent outcome: no more than the effect's own fields is moved.
-    if let Some(Effect::Reg { rd, value }) = done.effect {
-        let what = latch_of(x, done, Some(Effect::Reg { rd, value }));
-        *e = Held::Issue { thread, what };
-    } else {
-        let what = latch_of(x, done, done.effect);
-        *e = Held::Issue { thread, what };
-    }
-    None
+    let way = match done.onward {
+        Onward::NextWord => {
+            put_latch(thread, x, done, e);
+            return None;
+        }
+        Onward::LateValue => Way::LateValue,
+        Onward::Elsewhere => Way::Elsewhere,
+    };
+    put_latch(thread, x, done, e);
+    Some(Redirect {
+        thread,
+        pc: done.pc,
+        way,
+    })
 }
 
 /// Does what an effect does to the machine's own registers.
 fn write_registers(guard: &mut Guard, sched: &mut Sched, effect: Option<Effect>)
     requires { IsAccepted effect }
-    ensures registers { registers_by sched.new guard.new ≡ registers_after effect (registers_by sched.old guard.old) }
+    ensures registers { registers_by sched.new guard.new ≡
+        registers_after effect (registers_by sched.old guard.old) }
     ensures sleep { sched.new.sleep ≡ sched.old.sleep }
     ensures size { guard.new.size ≡ guard.old.size }
 {
@@ -171,9 +217,15 @@ fn execute_fully(
     requires thread { thread < 8 }
     requires cycle { cycle < 4000000000 }
     requires pc { IsPc x.now.pc }
-    ensures e { e.new ≡ (execution guard.old.size confined.now permit.now (time clock.now (cycle - 2)) (control_by sched.old guard.old timers.old traps.old) (Issue thread x.now)).e }
-    ensures redirect { result ≡ (execution guard.old.size confined.now permit.now (time clock.now (cycle - 2)) (control_by sched.old guard.old timers.old traps.old) (Issue thread x.now)).redirect }
-    ensures control { control_by sched.new guard.new timers.new traps.new ≡ (execution guard.old.size confined.now permit.now (time clock.now (cycle - 2)) (control_by sched.old guard.old timers.old traps.old) (Issue thread x.now)).control }
+    ensures e { e.new ≡ (execution guard.old.size confined.now permit.now
+        (time clock.now (cycle - 2)) (control_by sched.old guard.old timers.old traps.old)
+        (Issue thread x.now)).e }
+    ensures redirect { result ≡ (execution guard.old.size confined.now permit.now
+        (time clock.now (cycle - 2)) (control_by sched.old guard.old timers.old traps.old)
+        (Issue thread x.now)).redirect }
+    ensures control { control_by sched.new guard.new timers.new traps.new ≡
+        (execution guard.old.size confined.now permit.now (time clock.now (cycle - 2))
+        (control_by sched.old guard.old timers.old traps.old) (Issue thread x.now)).control }
     ensures size { guard.new.size ≡ guard.old.size }
     ensures fits { ExecutedFits e.new }
     ensures redirect_fits { RedirectFits result }
@@ -206,9 +258,15 @@ fn execute_issue(
     requires thread { thread < 8 }
     requires cycle { cycle < 4000000000 }
     requires pc { IsPc x.now.pc }
-    ensures e { e.new ≡ (execution guard.old.size confined.now permit.now (time clock.now (cycle - 2)) (control_by sched.old guard.old timers.old traps.old) (Issue thread x.now)).e }
-    ensures redirect { result ≡ (execution guard.old.size confined.now permit.now (time clock.now (cycle - 2)) (control_by sched.old guard.old timers.old traps.old) (Issue thread x.now)).redirect }
-    ensures control { control_by sched.new guard.new timers.new traps.new ≡ (execution guard.old.size confined.now permit.now (time clock.now (cycle - 2)) (control_by sched.old guard.old timers.old traps.old) (Issue thread x.now)).control }
+    ensures e { e.new ≡ (execution guard.old.size confined.now permit.now
+        (time clock.now (cycle - 2)) (control_by sched.old guard.old timers.old traps.old)
+        (Issue thread x.now)).e }
+    ensures redirect { result ≡ (execution guard.old.size confined.now permit.now
+        (time clock.now (cycle - 2)) (control_by sched.old guard.old timers.old traps.old)
+        (Issue thread x.now)).redirect }
+    ensures control { control_by sched.new guard.new timers.new traps.new ≡
+        (execution guard.old.size confined.now permit.now (time clock.now (cycle - 2))
+        (control_by sched.old guard.old timers.old traps.old) (Issue thread x.now)).control }
     ensures size { guard.new.size ≡ guard.old.size }
     ensures fits { ExecutedFits e.new }
     ensures redirect_fits { RedirectFits result }
@@ -222,8 +280,9 @@ fn execute_issue(
     leave(thread, x, &done, e)
 }
 
-/// Executes the turn that was issued two cycles ago, and tells where its thread goes on if the next turns
-/// are flushed. What it changes of its thread and of the machine's own registers is changed here.
+/// Executes the turn that was issued two cycles ago, and tells where its thread goes on if the next
+/// turns are flushed. What it changes of its thread and of the machine's own registers is changed
+/// here.
 #[tactic(auto, unfolding(pipe_model::specs::Stages::execution))]
 pub fn execute(
     guard: &mut Guard,
@@ -239,9 +298,15 @@ pub fn execute(
 ) -> Option<Redirect>
     requires fits { DecodedFits held.now }
     requires cycle { cycle < 4000000000 }
-    ensures e { e.new ≡ (execution guard.old.size confined.now permit.now (time clock.now (cycle - 2)) (control_by sched.old guard.old timers.old traps.old) held.now).e }
-    ensures redirect { result ≡ (execution guard.old.size confined.now permit.now (time clock.now (cycle - 2)) (control_by sched.old guard.old timers.old traps.old) held.now).redirect }
-    ensures control { control_by sched.new guard.new timers.new traps.new ≡ (execution guard.old.size confined.now permit.now (time clock.now (cycle - 2)) (control_by sched.old guard.old timers.old traps.old) held.now).control }
+    ensures e { e.new ≡ (execution guard.old.size confined.now permit.now
+        (time clock.now (cycle - 2)) (control_by sched.old guard.old timers.old traps.old)
+        held.now).e }
+    ensures redirect { result ≡ (execution guard.old.size confined.now permit.now
+        (time clock.now (cycle - 2)) (control_by sched.old guard.old timers.old traps.old)
+        held.now).redirect }
+    ensures control { control_by sched.new guard.new timers.new traps.new ≡
+        (execution guard.old.size confined.now permit.now (time clock.now (cycle - 2))
+        (control_by sched.old guard.old timers.old traps.old) held.now).control }
     ensures size { guard.new.size ≡ guard.old.size }
     ensures fits { ExecutedFits e.new }
     ensures redirect_fits { RedirectFits result }

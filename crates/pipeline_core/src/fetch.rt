@@ -1,32 +1,44 @@
 //! F: words are fetched.
 
-ghost use Rattle.std.specs.Prelude.{◌≡◌, ◌/◌, All, length};
+ghost use Rattle.std.specs.Prelude.{◌≡◌, ◌/◌, All, Some, length};
 ghost use Rattle.slot_scheduler.specs.Picking.{IsPick};
-ghost use Rattle.pipe_model.specs.Stages.{redirected, fetch_latch, advanced};
-ghost use Rattle.pipeline_core.specs.Fits.{IsPc, FetchedFits, RedirectFits};
+ghost use Rattle.pipe_model.specs.Stages.{flushes_f, redirected, fetch_latch, advanced};
+ghost use Rattle.pipeline_core.specs.LatchFacts.{IsPc, FetchedFits, RedirectFits};
 
-use crate::decode::is_flushed;
 use crate::memory::code_word;
-use pipe_model::{Fetched, Held, Redirect};
+use pipe_model::{Fetched, Held, Redirect, Way};
 use region_guard::Guard;
 use scratchpad::Spm;
 use slot_scheduler::Pick;
 
-/// The thread of a redirect fetches next where that says.
-#[tactic(auto, unfolding(pipe_model::specs::Stages::redirected), using(crate::proofs::Pcs::pcs_set))]
-pub fn redirect_to(next: &mut [u32; 8], redirect: Option<Redirect>)
-    requires pcs { All IsPc next.old }
-    requires fits { RedirectFits redirect }
-    ensures next { next.new ≡ redirected redirect next.old }
-    ensures pcs { All IsPc next.new }
+/// Whether a redirect flushes a thread's turn in F: only one that leads elsewhere does.
+fn is_flushed(thread: u8, redirect: Option<Redirect>) -> bool
+    ensures { result ≡ flushes_f thread redirect }
 {
-    if let Some(redirect) = redirect {
-        next[redirect.thread as usize] = redirect.pc;
+    let Some(redirect) = redirect else {
+        return false;
+    };
+    match redirect.way {
+        Way::LateValue => false,
+        Way::Elsewhere => redirect.thread == thread,
     }
 }
 
-/// Fetches the next word of the picked thread, if its turn isn't flushed.
+/// The thread of a redirect fetches next where that says.
+#[tactic(auto, unfolding(pipe_model::specs::Stages::redirected), using(crate::proofs::Pcs::pcs_set))]
+pub fn redirect_to(next: &mut [u32; 8], redirect: Redirect)
+    requires pcs { All IsPc next.old }
+    requires fits { RedirectFits (Some redirect) }
+    ensures next { next.new ≡ redirected (Some redirect) next.old }
+    ensures pcs { All IsPc next.new }
+{
+    next[redirect.thread as usize] = redirect.pc;
+}
+
+/// Fetches the next word of the picked thread, if its turn isn't flushed. Inlined, as `read` is:
+/// each stands twice in the step, of which the one without a redirect has no test of it.
 #[tactic(auto, unfolding(pipe_model::specs::Stages::fetch_latch, pipe_model::specs::Stages::advanced), using(crate::proofs::Pcs::pcs_set, crate::proofs::Pcs::pc_at, crate::proofs::Pcs::pc_after))]
+#[inline(always)]
 pub fn fetch(
     guard: &Guard,
     imem: &Spm,
@@ -45,7 +57,7 @@ pub fn fetch(
     let Pick::Issue { thread } = pick else {
         return Held::Bubble;
     };
-    if is_flushed(2, thread, redirect) {
+    if is_flushed(thread, redirect) {
         return Held::Flushed { thread };
     }
     let pc = next[thread as usize];

@@ -7,7 +7,7 @@ ghost use Rattle.rv_exec.specs.Line.{IsWidth};
 ghost use Rattle.core_model.specs.Memory.{code_at, data_at};
 ghost use Rattle.world_model.specs.World.{words_after};
 ghost use Rattle.fp_ports.specs.Rows.{rows_of, row_at, word_seen};
-ghost use Rattle.pipeline_core.specs.Fits.{EffectFits};
+ghost use Rattle.pipeline_core.specs.LatchFacts.{EffectFits};
 
 use fp_ports::{Port, Ports, read_port};
 use region_guard::Guard;
@@ -80,8 +80,10 @@ pub fn data_word(
     requires dmem { length dmem.now ≡ guard.now.size / 4 }
     requires eight { vec_len ports.old ≡ 8 }
     requires thread { thread < 8 }
-    ensures word { result ≡ data_at guard.now.size imem.now dmem.now (word_seen (row_at (rows_of latched word_at ports.old.items) thread) (cycle - 3)) address }
-    ensures rows { rows_of latched word_at ports.new.items ≡ rows_of latched word_at ports.old.items }
+    ensures word { result ≡ data_at guard.now.size imem.now dmem.now
+        (word_seen (row_at (rows_of latched word_at ports.old.items) thread) (cycle - 3)) address }
+    ensures rows { rows_of latched word_at ports.new.items ≡
+        rows_of latched word_at ports.old.items }
     ensures eight { vec_len ports.new ≡ 8 }
 {
     if is_code(guard, address) {

@@ -2,7 +2,7 @@
 
 ghost use Rattle.std.specs.Prelude.{◌≡◌, All};
 ghost use Rattle.std.proofs.Props.{props};
-ghost use Rattle.pipeline_core.specs.Fits.{IsPc, FetchedFits, DecodedFits, ExecutedFits, StoredFits, WrittenFits, FetchedFits-prop, DecodedFits-prop, ExecutedFits-prop, StoredFits-prop, WrittenFits-prop};
+ghost use Rattle.pipeline_core.specs.LatchFacts.{IsPc, FetchedFits, DecodedFits, ExecutedFits, StoredFits, WrittenFits, FetchedFits-prop, DecodedFits-prop, ExecutedFits-prop, StoredFits-prop, WrittenFits-prop};
 
 use crate::access::access;
 use crate::decode::read;
@@ -12,23 +12,29 @@ use crate::units::Units;
 use crate::write::{retire, write};
 use fp_ports::{Port, Ports};
 use pipe_model::{
-    Decoded, Executed, Fetched, Held, Stored, Written, keeps_standing, starts_standing,
+    Decoded, Executed, Fetched, Held, Redirect, Stored, Written, keeps_standing, starts_standing,
 };
 use rv_exec::Event;
+use slot_scheduler::Pick;
 
 /// What stands between the stages: the turns of the last five cycles. Before cycle c, `f` holds the
 /// turn of c − 1, `d` that of c − 2, and so on to `w` with that of c − 5.
 ///
-/// Threads are 0 to 7, pcs are multiples of four, effects can be shown in a line of a trace, and the
-/// addresses of loads and stores are aligned for their sizes.
+/// Threads are 0 to 7, pcs are multiples of four, effects can be shown in a line of a trace, and
+/// the addresses of loads and stores are aligned for their sizes.
 #[derive(Clone, Copy, Debug)]
 pub struct Pipe {
     /// The pc that each thread fetches next.
     pub next: [u32; 8],
+    /// What F left.
     pub f: Held<Fetched>,
+    /// What D left.
     pub d: Held<Decoded>,
+    /// What E left.
     pub e: Held<Executed>,
+    /// What M left.
     pub m: Held<Stored>,
+    /// What W left.
     pub w: Held<Written>,
     ghost pcs: { All IsPc next } by { Prim.hlevel props },
     ghost fetched: { FetchedFits f } by { FetchedFits-prop f },
@@ -42,19 +48,24 @@ impl Pipe {
     ghost use Rattle.std.specs.Prelude.{◌<◌, ◌-◌, List, Option, map, vec_len};
     ghost use Rattle.fp_ports.specs.Rows.{Row, rows_of};
     ghost use Rattle.world_model.specs.World.{Start, start_world};
-    ghost use Rattle.pipe_model.specs.Stages.{retired, step};
+    ghost use Rattle.slot_scheduler.specs.Picking.{IsPick};
+    ghost use Rattle.timer_unit.specs.Time.{time};
+    ghost use Rattle.pipe_model.specs.Stages.{advanced, decode_latch, fetch_latch, retired, step};
     ghost use Rattle.pipe_model.specs.Relation.{Begins, Shows, Stands, Kept, HasLatches};
-    ghost use Rattle.pipe_model.specs.Laws.{empty, first_units};
-    ghost use Rattle.pipeline_core.specs.Fits.{IsEventShowable};
-    ghost use Rattle.pipeline_core.specs.Meaning.{latches_by, state_by, ticked_by};
+    ghost use Rattle.pipe_model.specs.PipelineLaws.{empty, first_units};
+    ghost use Rattle.pipeline_core.specs.LatchFacts.{IsEventShowable};
+    ghost use Rattle.pipeline_core.specs.AsDefined.{latches_by, state_by, ticked_by};
 
-    /// A pipeline with nothing in it, whose threads start at these entries. It stands for cycle 0 of
-    /// each world whose threads start there, beside units and ports that hold that world's start.
+    /// A pipeline with nothing in it, whose threads start at these entries. It stands for cycle 0
+    /// of each world whose threads start there, beside units and ports that hold that world's
+    /// start.
     pub fn new(entries: [u32; 8]) -> Pipe
         requires { All IsPc entries }
         ensures latches { latches_by result ≡ empty entries }
-        ensures stands { (s : Start) (ports : List (Option Row)) → Begins s → HasLatches (start_world s) ports →
-            map (λ t. t.pc) s.threads ≡ entries → Stands s 0 (latches_by result) (first_units s ports) }
+        ensures stands { (s : Start) (ports : List (Option Row)) → Begins s →
+            HasLatches (start_world s) ports →
+            map (λ t. t.pc) s.threads ≡ entries →
+            Stands s 0 (latches_by result) (first_units s ports) }
     {
         starts_standing();
         Pipe {
@@ -74,10 +85,14 @@ impl Pipe {
     pub fn tick(&mut self, units: &mut Units, ports: &mut Ports, cycle: u64) -> Option<Event>
         requires cycle { cycle < 4000000000 }
         requires eight { vec_len ports.old ≡ 8 }
-        ensures relation { let before = rows_of latched word_at ports.old.items in let after = rows_of latched word_at ports.new.items in
-            (s : Start) → Begins s → Shows s cycle before → Stands s cycle (latches_by self.old) (state_by units.old before) →
+        ensures relation { let before = rows_of latched word_at ports.old.items in let after =
+            rows_of latched word_at ports.new.items in
+            (s : Start) → Begins s → Shows s cycle before →
+            Stands s cycle (latches_by self.old) (state_by units.old before) →
             Kept s cycle before (ticked_by self.new units.new after result) }
-        ensures step { ticked_by self.new units.new (rows_of latched word_at ports.new.items) result ≡ step (latches_by self.old) (state_by units.old (rows_of latched word_at ports.old.items)) cycle }
+        ensures step { ticked_by self.new units.new (rows_of latched word_at ports.new.items)
+            result ≡ step (latches_by self.old)
+            (state_by units.old (rows_of latched word_at ports.old.items)) cycle }
         ensures eight { vec_len ports.new ≡ 8 }
         ensures retires { result ≡ retired (cycle - 4) self.old.m }
         ensures showable { IsEventShowable result }
@@ -88,16 +103,20 @@ impl Pipe {
         event
     }
 
-    /// One cycle, stage by stage. The older stages go first, so that the younger ones go by what they
-    /// leave; the pick goes by slots, modes and sleep moments as they stand before. The turn in M was
-    /// issued three cycles ago, and finds at its thread's port the word of that cycle; the turn in E
-    /// was issued two cycles ago, that in D one cycle ago, and they go by the times of those cycles.
+    /// One cycle, stage by stage. The older stages go first, so that the younger ones go by what
+    /// they leave; the pick goes by slots, modes and sleep moments as they stand before. The turn
+    /// in M was issued three cycles ago, and finds at its thread's port the word of that cycle; the
+    /// turn in E was issued two cycles ago, that in D one cycle ago, and they go by the times of
+    /// those cycles.
     #[inline(never)]
     #[tactic(auto, unfolding(pipe_model::specs::Stages::step))]
     fn step(&mut self, units: &mut Units, ports: &mut Ports, cycle: u64)
         requires cycle { cycle < 4000000000 }
         requires eight { vec_len ports.old ≡ 8 }
-        ensures step { ticked_by self.new units.new (rows_of latched word_at ports.new.items) (retired (cycle - 4) self.old.m) ≡ step (latches_by self.old) (state_by units.old (rows_of latched word_at ports.old.items)) cycle }
+        ensures step { ticked_by self.new units.new (rows_of latched word_at ports.new.items)
+            (retired (cycle - 4) self.old.m) ≡
+            step (latches_by self.old) (state_by units.old
+            (rows_of latched word_at ports.old.items)) cycle }
         ensures eight { vec_len ports.new ≡ 8 }
     {
         write(&mut units.bank, &self.m, &mut self.w);
@@ -124,7 +143,30 @@ impl Pipe {
             &self.d,
             &mut self.e,
         );
-        redirect_to(&mut self.next, redirect);
+        match redirect {
+            None => self.follow(units, None, pick, cycle),
+            Some(redirect) => {
+                redirect_to(&mut self.next, redirect);
+                self.follow(units, Some(redirect), pick, cycle);
+            }
+        }
+    }
+
+    /// D and F, by what the older stages left. Inlined at each of its two calls: in most cycles
+    /// there is no redirect, and then nothing asks for one.
+    #[inline(always)]
+    fn follow(&mut self, units: &Units, redirect: Option<Redirect>, pick: Pick, cycle: u64)
+        requires cycle { cycle < 4000000000 }
+        requires pick { IsPick pick }
+        ensures d { self.new.d ≡ decode_latch units.now.bank self.old.m self.old.e units.now.timers
+            redirect (time units.now.clock (cycle - 1)) self.old.f }
+        ensures f { self.new.f ≡
+            fetch_latch units.now.guard.size units.now.imem redirect self.old.next pick }
+        ensures next { self.new.next ≡ advanced redirect pick self.old.next }
+        ensures e { self.new.e ≡ self.old.e }
+        ensures m { self.new.m ≡ self.old.m }
+        ensures w { self.new.w ≡ self.old.w }
+    {
         let fetched = fetch(&units.guard, &units.imem, redirect, &mut self.next, pick);
         read(
             &units.bank,

@@ -3,7 +3,7 @@
 ghost use Rattle.std.specs.Prelude.{◌≡◌, ◌-◌, ◌<◌};
 ghost use Rattle.timer_unit.specs.Time.{time};
 ghost use Rattle.world_model.specs.World.{around};
-ghost use Rattle.pipeline_core.specs.Meaning.{registers_by};
+ghost use Rattle.pipeline_core.specs.AsDefined.{registers_by};
 
 use hart_exec::Surroundings;
 use region_guard::Guard;
@@ -14,23 +14,30 @@ use timer_unit::Clock;
 /// registers as they stand when it is executed.
 #[derive(Clone, Copy)]
 pub struct Rights<'a> {
+    /// The thread's number, 0 to 7.
     pub thread: u8,
+    /// The length of a cycle, in nanoseconds.
     pub clock: Clock,
     /// The cycle in which the instruction is executed, two after that of its issue.
     pub cycle: u64,
+    /// Whether it is confined to the regions that it owns or that are read only.
     pub confined: bool,
+    /// Whether it may access the machine's own registers.
     pub permit: bool,
+    /// The regions of both scratchpads.
     pub guard: &'a Guard,
+    /// The word of the slots register.
     pub slots: u32,
+    /// The word of the modes register.
     pub modes: u32,
     ghost early: { cycle < 4000000000 },
 }
 
 impl<'a> Rights<'a> {
-    ghost use Rattle.pipeline_core.specs.Asked.{asked};
+    ghost use Rattle.pipeline_core.specs.AccessRights.{asked};
 
     /// The rights of a thread, for an instruction that was issued two cycles ago.
-    #[tactic(auto, unfolding(crate::specs::Asked::asked, world_model::specs::World::around))]
+    #[tactic(auto, unfolding(crate::specs::AccessRights::asked, world_model::specs::World::around))]
     pub fn of(
         thread: u8,
         clock: &Clock,
@@ -42,7 +49,8 @@ impl<'a> Rights<'a> {
     ) -> Rights<'a>
         requires thread { thread < 8 }
         requires cycle { cycle < 4000000000 }
-        ensures { asked result ≡ around (time clock.now (cycle - 2)) guard.now.size confined.now permit.now (registers_by sched.now guard.now) thread }
+        ensures { asked result ≡ around (time clock.now (cycle - 2)) guard.now.size confined.now
+            permit.now (registers_by sched.now guard.now) thread }
     {
         Rights {
             thread,
@@ -58,37 +66,37 @@ impl<'a> Rights<'a> {
 }
 
 impl Surroundings for Rights<'_> {
-    ghost use Rattle.pipeline_core.specs.Asked.{asked};
+    ghost use Rattle.pipeline_core.specs.AccessRights.{asked};
 
     ghost asks = { asked };
 
-    #[tactic(auto, unfolding(crate::specs::Asked::asked))]
+    #[tactic(auto, unfolding(crate::specs::AccessRights::asked))]
     fn thread(&self) -> u8 {
         self.thread
     }
 
-    #[tactic(auto, unfolding(crate::specs::Asked::asked))]
+    #[tactic(auto, unfolding(crate::specs::AccessRights::asked))]
     fn now(&self) -> u64 {
         self.clock.now(self.cycle.saturating_sub(2))
     }
 
-    #[tactic(auto, unfolding(crate::specs::Asked::asked))]
+    #[tactic(auto, unfolding(crate::specs::AccessRights::asked))]
     fn may_fetch(&self, pc: u32) -> bool {
         self.guard.may_fetch(self.thread, self.confined, pc)
     }
 
-    #[tactic(auto, unfolding(crate::specs::Asked::asked))]
+    #[tactic(auto, unfolding(crate::specs::AccessRights::asked))]
     fn may_load(&self, address: u32, width: u8) -> bool {
         self.guard
             .may_load(self.thread, self.confined, address, width)
     }
 
-    #[tactic(auto, unfolding(crate::specs::Asked::asked))]
+    #[tactic(auto, unfolding(crate::specs::AccessRights::asked))]
     fn may_store(&self, address: u32, width: u8) -> bool {
         self.guard.may_store(self.thread, address, width)
     }
 
-    #[tactic(auto, unfolding(crate::specs::Asked::asked))]
+    #[tactic(auto, unfolding(crate::specs::AccessRights::asked))]
     fn shared(&self, csr: u16) -> Option<u32> {
         if !self.permit {
             return None;

@@ -25,8 +25,11 @@ pub struct Units {
     pub scheduler: Scheduler,
     /// Slots, modes and sleep moments, as the execute stage leaves them.
     pub sched: Sched,
+    /// The length of a cycle, in nanoseconds.
     pub clock: Clock,
+    /// The armed moment of each thread, and the high word of the time that it read last.
     pub timers: Timers,
+    /// The trap registers of each thread.
     pub traps: Traps,
     /// Whether a thread is confined to the regions that it owns or that are read only.
     pub confined: [bool; 8],

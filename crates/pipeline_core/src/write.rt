@@ -1,15 +1,16 @@
 //! W: registers are written, and events retire.
 
 ghost use Rattle.std.specs.Prelude.{◌≡◌, ◌-◌, ◌<◌, [], slice_index_or, slice_set};
-ghost use Rattle.core_model.specs.Thread.{regs_after};
+ghost use Rattle.core_model.specs.Thread.{reg_set, regs_after};
 ghost use Rattle.pipe_model.specs.Stages.{bank_after, write_latch, retired};
-ghost use Rattle.pipeline_core.specs.Fits.{EffectFits, StoredFits, WrittenFits, IsEventShowable};
+ghost use Rattle.pipeline_core.specs.LatchFacts.{EffectFits, StoredFits, WrittenFits, IsEventShowable};
 
 use pipe_model::{Held, Stored, Written};
 use regfile_bank::Bank;
 use rv_exec::{Effect, Event};
 
-/// The event that retires in a cycle, if there is one: that of the turn that was issued four cycles ago.
+/// The event that retires in a cycle, if there is one: that of the turn that was issued four cycles
+/// ago.
 #[tactic(auto, unfolding(pipe_model::specs::Stages::retired))]
 pub fn retire(held: &Held<Stored>, cycle: u64) -> Option<Event>
     requires { StoredFits held.now }
@@ -28,17 +29,33 @@ pub fn retire(held: &Held<Stored>, cycle: u64) -> Option<Event>
     })
 }
 
+/// Writes the register of a control and status register's access. It is rare, and apart so that the
+/// way of all others carries nothing of it.
+#[cold]
+#[inline(never)]
+fn write_old(bank: &mut Bank, thread: u8, rd: u8, old: u32)
+    requires thread { thread < 8 }
+    requires rd { rd < 32 }
+    ensures { bank.new ≡ slice_set bank.old thread
+        (reg_set (slice_index_or bank.old thread []) rd old) }
+{
+    bank.write(thread, rd, old);
+}
+
 /// Writes the register of an effect, if it has one.
 #[tactic(auto, using(crate::proofs::Registers::unwritten))]
 fn write_register(bank: &mut Bank, thread: u8, effect: &Option<Effect>)
     requires thread { thread < 8 }
     requires fits { EffectFits effect.now }
-    ensures { bank.new ≡ slice_set bank.old thread (regs_after effect.now (slice_index_or bank.old thread [])) }
+    ensures { bank.new ≡ slice_set bank.old thread
+        (regs_after effect.now (slice_index_or bank.old thread [])) }
 {
-    match effect {
-        Some(Effect::Reg { rd, value }) => bank.write(thread, *rd, *value),
-        Some(Effect::Csr { rd, old, .. }) => bank.write(thread, *rd, *old),
-        _ => {}
+    // One test for the most frequent effect, and the other one behind it: a match of both asks
+    // first whether it is any of the two.
+    if let Some(Effect::Reg { rd, value }) = effect {
+        bank.write(thread, *rd, *value);
+    } else if let Some(Effect::Csr { rd, old, .. }) = effect {
+        write_old(bank, thread, *rd, *old);
     }
 }
 

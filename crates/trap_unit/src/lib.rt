@@ -1,5 +1,6 @@
 //! The trap registers of the eight hardware threads, and access to control and status registers by
 //! their numbers.
+
 #![tactic(auto)]
 
 mod shared;

@@ -8,7 +8,8 @@ use region_guard::{Guard, Regions};
 use slot_scheduler::{Modes, Sched};
 use slot_table::SlotTable;
 
-/// The word of one of the machine's registers, iregions for every number but the other three.
+/// The word of one of the machine's registers: slots (0x7C0), modes (0x7C1) and dregions (0x7C2) by
+/// their numbers, and iregions (0x7C3) for every other one.
 pub fn read_shared(sched: &Sched, guard: &Guard, csr: u16) -> u32
     ensures { result ≡ shared_value sched.now guard.now csr }
 {
@@ -20,7 +21,8 @@ pub fn read_shared(sched: &Sched, guard: &Guard, csr: u16) -> u32
     }
 }
 
-/// Writes one of the machine's registers, which may hold the word. Other numbers change nothing.
+/// Writes one of the machine's registers, 0x7C0 to 0x7C3, which may hold the word. Other numbers
+/// change nothing.
 #[tactic(auto, unfolding(core_model::specs::Control::may_hold), using(crate::proofs::Held::slots_kept))]
 pub fn write_shared(sched: &mut Sched, guard: &mut Guard, csr: u16, word: u32)
     requires { IsTrue (may_hold csr word) }

@@ -13,10 +13,13 @@ use slot_scheduler::Sched;
 use std::marker::Model;
 use thiserror::Error;
 
-/// What an access has done: the old value, and the value that was written, as the register keeps it.
+/// What an access has done: the old value, and the value that was written, as the register keeps
+/// it.
 #[derive(Clone, Copy, Debug)]
 pub struct CsrDone {
+    /// The value before the access.
     pub old: u32,
+    /// The value that was written, as the register keeps it; `None` where the access only reads.
     pub written: Option<u32>,
 }
 
@@ -92,7 +95,8 @@ impl Traps {
     pub fn value(&self, thread: u8, csr: u16) -> u32
         requires thread { thread < 8 }
         requires csr { IsTrue (is_trap csr) }
-        ensures { Some result ≡ csr_value thread (with_trap (trap_of self.now thread)) csr (Some 0) }
+        ensures { Some result ≡ csr_value thread (with_trap (trap_of self.now thread)) csr
+            (Some 0) }
     {
         let row = self.row(thread);
         match csr {
@@ -108,7 +112,8 @@ impl Traps {
     pub fn enter(&mut self, thread: u8, cause: u8, epc: u32) -> u32
         requires { thread < 8 }
         ensures target { result ≡ (trap_of self.old thread).mtvec }
-        ensures row { self.new ≡ slice_set self.old thread (entered (trap_of self.old thread) cause epc) }
+        ensures row { self.new ≡ slice_set self.old thread
+            (entered (trap_of self.old thread) cause epc) }
         ensures eight { length self.new ≡ 8 }
     {
         let row = self.row(thread);
@@ -182,7 +187,8 @@ impl Traps {
         writes: bool,
     ) -> Result<CsrDone, CsrNo>
         requires { thread < 8 }
-        ensures answer { result ≡ answer_by permit op csr operand writes (value_by self.old sched.old guard.old thread csr) }
+        ensures answer { result ≡ answer_by permit op csr operand writes
+            (value_by self.old sched.old guard.old thread csr) }
         ensures traps { self.new ≡ traps_after self.old thread csr (written_in result) }
         ensures sched { sched.new ≡ sched_after sched.old csr (written_in result) }
         ensures guard { guard.new ≡ guard_after guard.old csr (written_in result) }

@@ -2,7 +2,7 @@
 use Rattle.std.proofs.Common.{arith}
 use Rattle.std.proofs.lemmas.Grind.{common_steps}
 use Rattle.core_model.specs.Issue.{act, run}
-use Rattle.hart_exec.specs.Meaning.{leaves_own}
+use Rattle.hart_exec.specs.AsDefined.{leaves_own}
 use Rattle.hart_exec.proofs.plain.execute_plain.Goals as goal
 
 pub returns-in-None-clause-answers : goal.returns-in-None-clause-answers

@@ -2,7 +2,7 @@
 use Rattle.std.proofs.Common.{arith}
 use Rattle.std.proofs.lemmas.Grind.{common_steps}
 use Rattle.core_model.specs.Issue.{goes}
-use Rattle.hart_exec.specs.Meaning.{is_plain}
+use Rattle.hart_exec.specs.AsDefined.{is_plain}
 use Rattle.hart_exec.proofs.plain.plain.Goals as goal
 
 pub returns-in-Store-clause-answers : goal.returns-in-Store-clause-answers

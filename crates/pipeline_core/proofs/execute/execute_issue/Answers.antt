@@ -1,7 +1,7 @@
 -- An issue that leaves what its thread owns.
 use Rattle.std.proofs.Common.{ap}
 use Rattle.pipe_model.specs.Stages.{After, execution}
-use Rattle.pipeline_core.specs.Meaning.{control_by}
+use Rattle.pipeline_core.specs.AsDefined.{control_by}
 use Rattle.pipeline_core.proofs.Plain.{plain_after, shown_latch}
 use Rattle.pipeline_core.proofs.execute.execute_issue.Goals as goal
 

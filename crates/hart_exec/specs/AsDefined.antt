@@ -14,11 +14,19 @@ use Rattle.core_model.specs.declared.own.Own.{Own}
 use Rattle.core_model.specs.Thread.{Around, Did}
 use Rattle.core_model.specs.Issue.{csr_op, csr_operand, csr_writes}
 use Rattle.hart_exec.specs.declared.outcome.Executed.{Executed}
+use Rattle.hart_exec.specs.declared.outcome.Onward.{Onward}
+use Rattle.hart_exec.specs.declared.outcome.Onward.TheVariants.{NextWord, LateValue, Elsewhere}
 use Rattle.hart_exec.specs.declared.control.Access.{Access}
+
+-- after how many cycles the hart's next instruction may issue
+abbrev pub lag_of : Onward → ℕ
+lag_of NextWord = 1
+lag_of LateValue = 2
+lag_of Elsewhere = 3
 
 -- what is known once an instruction is executed, with the hart as it left it
 abbrev pub did : Own → Executed → Did
-did own x = record { pc = x.pc; own = own; lag = x.lag; word = x.word; address = x.address; effect = x.effect }
+did own x = record { pc = x.pc; own = own; lag = lag_of x.onward; word = x.word; address = x.address; effect = x.effect }
 
 -- what a CSR instruction wants
 abbrev pub access_of : CsrKind → ℕ → ℕ → Access

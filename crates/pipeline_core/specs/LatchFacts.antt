@@ -12,7 +12,7 @@ use Rattle.rv_exec.specs.declared.outcome.Effect.{Effect}
 use Rattle.rv_exec.specs.declared.outcome.Event.{Event}
 use Rattle.rv_exec.specs.declared.outcome.Effect.TheVariants as effect
 use Rattle.core_model.specs.Control.{may_hold}
-use Rattle.hart_exec.specs.Meaning.{IsShowable, IsAlignedStore}
+use Rattle.hart_exec.specs.AsDefined.{IsShowable, IsAlignedStore}
 use Rattle.pipe_model.specs.declared.latches.Held.{Held}
 use Rattle.pipe_model.specs.declared.latches.Held.TheVariants.{Bubble, Flushed, Issue}
 use Rattle.pipe_model.specs.declared.latches.Fetched.{Fetched}

@@ -5,7 +5,7 @@ use Rattle.world_model.specs.World.{Start, start_world, events}
 use Rattle.pipe_model.specs.declared.latches.Held.TheVariants.{Bubble}
 use Rattle.pipe_model.specs.Stages.{Latches, State, step}
 use Rattle.pipe_model.specs.Contents.{Contents}
-use Rattle.pipe_model.specs.Shown.{Shown}
+use Rattle.pipe_model.specs.LatchView.{Shown}
 use Rattle.pipe_model.specs.Relation.{Stands, Shows, Begins, Kept, HasLatches, bank_in, control_in, turn_at, event_in, of_hart}
 
 -- a cycle takes what stands for it to what stands for the next one
