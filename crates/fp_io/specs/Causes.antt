@@ -13,6 +13,7 @@ risen count = min (count + 1) last_count
 abbrev pub risen_if : Bool → ℕ → ℕ
 risen_if fault count = if fault then risen count else count
 
--- a count rose in a call: it is greater after the call than before it, or it stands at its last value
+-- a count rose in a call: it is greater after the call than before it, or it stands at its last
+-- value
 abbrev pub Rose : ℕ → ℕ → Type 0
 Rose before after = risen before ≤ after

@@ -6,7 +6,8 @@ use Rattle.std.specs.Prelude.{◌≡◌, ℕ, ◌+◌, ◌≤◌, List, ◌++◌
 abbrev pub FileMap : Type 0
 FileMap = List ℕ → Option (List ℕ)
 
--- where the files are told, the name has one, and these bytes are its first `most + 1`, or the whole file where it is shorter
+-- where the files are told, the name has one, and these bytes are its first `most + 1`, or the
+-- whole file where it is shorter
 abbrev pub Fetched : Option FileMap → List ℕ → ℕ → List ℕ → Type 0
 Fetched told name most bytes = IfSome told (λ files. IsSomeAnd (files name) (λ whole. bytes ≡ take (most + 1) whole))
 
@@ -14,8 +15,8 @@ Fetched told name most bytes = IfSome told (λ files. IsSomeAnd (files name) (λ
 abbrev pub Lacks : Option FileMap → List ℕ → Type 0
 Lacks told name = IsSomeAnd told (λ files. IsNone (files name))
 
--- where the bytes taken before are told, so are those taken after: they are the ones before, and then the first of these bytes,
--- none or all of them among the cases
+-- where the bytes taken before are told, so are those taken after: they are the ones before, and
+-- then the first of these bytes, none or all of them among the cases
 abbrev pub AppendsFront : Option (List ℕ) → Option (List ℕ) → List ℕ → Type 0
 AppendsFront None after bytes = ⊤
 AppendsFront (Some xs) None bytes = ⊥

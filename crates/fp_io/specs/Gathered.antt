@@ -5,6 +5,7 @@ use Rattle.std.specs.Prelude.{ℕ, ◌+◌, nat_le, if◌then◌else◌, Option,
 abbrev pub followed : Option (List ℕ) → List ℕ → Option (List ℕ)
 followed taken gathered = option_map (λ bytes. bytes ++ gathered) taken
 
--- the bytes that are gathered after a put of others, where so many have room: with them, or none where they had no room
+-- the bytes that are gathered after a put of others, where so many have room: with them, or none
+-- where they had no room
 abbrev pub gathered_with : ℕ → List ℕ → List ℕ → List ℕ
 gathered_with room gathered bytes = if nat_le (length gathered + length bytes) room then gathered ++ bytes else []

@@ -12,14 +12,15 @@ use Rattle.fp_io.specs.Listed.{is_listed, cut_of, is_cut, listed_before, AreBelo
 abbrev pub Named : Type 0
 Named = map.FinMap (slice_cmp nat_cmp) (List ℕ)
 
--- files in memory: the bytes of each name, the numbers of the calls of `fetch` that fail, how many calls were made, and how
--- many faults there were
+-- files in memory: the bytes of each name, the numbers of the calls of `fetch` that fail, how many
+-- calls were made, and how many faults there were
 pub record MemoryFiles : Type 0 where
   pub named : Named
   pub failing : List ℕ
   pub calls : ℕ
   pub faults : ℕ
 
+-- the files in memory as plain data: a map from names to contents, and the counts
 abbrev pub memory_files_code : Coded MemoryFiles
 memory_files_code =
     code_by (Named × (List ℕ × (ℕ × ℕ))) (coded× (map.code {R = slice_cmp nat_cmp} (coded_list coded_ℕ) (coded_list coded_ℕ)) (coded× (coded_list coded_ℕ) (coded× coded_ℕ coded_ℕ)))
@@ -46,8 +47,8 @@ pub record FilesAreSound (failing : List ℕ) (calls faults : ℕ) : Type 0 wher
   pub below : AreBelowLast (is_listed failing)
   pub few : faults ≤ listed_before (is_listed failing) calls
 
--- a sink in memory: the bytes taken so far, how many it has room for in all, the calls of `put` that are cut and fail, how
--- many calls were made, and how many faults there were
+-- a sink in memory: the bytes taken so far, how many it has room for in all, the calls of `put`
+-- that are cut and fail, how many calls were made, and how many faults there were
 pub record MemorySink : Type 0 where
   pub bytes : List ℕ
   pub room : ℕ
@@ -84,7 +85,8 @@ put_into s bytes = record s {
 abbrev pub FaultsAreCut : MemorySink → Type 0
 FaultsAreCut s = length s.bytes < s.room → s.faults ≤ listed_before (is_cut s.cuts) s.calls
 
--- what a sink keeps: the bytes are within its room, for which the memory is there, and the same of its calls while there is room
+-- what a sink keeps: the bytes are within its room, for which the memory is there, and the same of
+-- its calls while there is room
 pub record SinkIsSound (bytes : List ℕ) (room capacity : ℕ) (cuts : List Cut) (calls faults : ℕ) : Type 0 where
   pub within : length bytes ≤ room
   pub reserved : room ≤ capacity

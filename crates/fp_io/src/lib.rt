@@ -3,6 +3,7 @@
 //! Both are traits, so that the layers above are proved for every kind of file and sink. An object
 //! may tell its content, and it counts its faults; the count lets a caller's contract say that a
 //! fault was answered only where one came up.
+
 #![tactic(auto)]
 
 mod files;

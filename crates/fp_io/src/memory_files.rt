@@ -1,4 +1,5 @@
 //! Files in memory.
+
 ghost use Rattle.std.specs.Prelude.{◌≡◌, ℕ, ◌+◌, ◌-◌, ◌^◌, ◌<◌, ◌≤◌, ◌↔◌, [], ◌∷◌, ◌++◌, take, Some, IsTrue, IfOk, IsSomeAnd, is_ok, option_map, if◌then◌else◌, vec_len};
 ghost use Rattle.std.specs.FinMap as map;
 ghost use Rattle.fp_io.specs.Memory.{no_files, next_fails, fetched_from, FaultsAreListed};
@@ -103,7 +104,7 @@ impl MemFiles {
         fails
     }
 
-    /// The bytes of a name.
+    /// The bytes of a name, if there is such a file.
     fn file(&self, name: &str) -> Option<&Vec<u8>>
         ensures { option_map (λ file. file.now.items) result ≡ map.get self.now.named name.now }
     {

@@ -1,4 +1,5 @@
 //! A sink in memory.
+
 ghost use Rattle.std.specs.Prelude.{◌≡◌, ℕ, ◌-◌, ◌^◌, ◌<◌, ◌≤◌, ◌↔◌, [], ◌∷◌, ◌++◌, Some, IsTrue, IsErr, IfOk, is_ok, if◌then◌else◌};
 ghost use Rattle.fp_io.specs.Listed.{cut_of};
 ghost use Rattle.fp_io.specs.Memory.{empty_sink, put_fails, put_into, FaultsAreCut};
@@ -74,7 +75,10 @@ impl MemSink {
     pub fn fail_at(&mut self, call: u64, taken: usize) -> Result<(), AllocError>
         requires { call < 2 ^ 64 - 1 }
         ensures after { self.new ≡ (if is_ok result
-            then record self.old { cuts = self.old.cuts ++ record { call = call; taken = taken } ∷ [] }
+            then record self.old {
+              cuts = self.old.cuts ++ record { call = call; taken = taken }
+                  ∷ [];
+            }
             else self.old) }
         ensures few { FaultsAreCut self.new }
     {

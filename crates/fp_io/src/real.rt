@@ -1,4 +1,5 @@
 //! The adapters over the runtime's files and standard output.
+
 ghost use Rattle.std.specs.Prelude.{◌≡◌, ◌≢◌, [], ◌+◌, ◌-◌, ◌^◌, ◌<◌, ◌≤◌, None, take, is_err, IfOk, IfSome, OnOk, OnErr, vec_len};
 ghost use Rattle.std.specs.Io.KnownBytes.{Appends};
 ghost use Rattle.fp_io.specs.Causes.{risen_if};
@@ -64,8 +65,8 @@ impl<R: rt::Files + Drop> Files for RealFiles<R> {
     }
 }
 
-/// The runtime's standard output. It tells no bytes: nothing is claimed of what a terminal or a pipe
-/// takes. Each `put` is written at once.
+/// The runtime's standard output. It tells no bytes: nothing is claimed of what a terminal or a
+/// pipe takes. Each `put` is written at once.
 #[derive(Drop)]
 pub struct OutSink<R> {
     rt: R,

@@ -6,12 +6,12 @@ use Rattle.fp_io.specs.Content.{AppendsFront}
 use Rattle.fp_io.specs.declared.sink.PutFailed.{PutFailed}
 use Rattle.fp_ports.specs.Rows.{Row}
 use Rattle.world_model.specs.World.{Start}
-use Rattle.machine_model.specs.Seen.{seen}
+use Rattle.machine_model.specs.DumpedState.{seen}
 use Rattle.machine_model.specs.Fields.{dumped}
 use Rattle.machine_model.proofs.LineLemmas.{dumps}
-use Rattle.pipeline_core.specs.Meaning.{latches_by, state_by}
+use Rattle.pipeline_core.specs.AsDefined.{latches_by, state_by}
 use Rattle.machine.specs.declared.state.Machine.{Machine}
-use Rattle.machine.specs.Meaning.{StandsFor}
+use Rattle.machine.specs.WorldRelation.{StandsFor}
 
 pub dump_ok : (r : Result (Unit {0}) PutFailed) (before after : Option (List ℕ)) (m : Machine) (rows : List (Option Row)) → OnOk r (Appends before after (dumped (latches_by m.pipe) (state_by m.units rows) m.at)) →
     OnOk r ((s : Start) (c n : ℕ) → StandsFor s c n m rows → Appends before after (seen s c))

@@ -6,14 +6,14 @@ use Rattle.std.proofs.Math.ListN.{length-set}
 use Rattle.std.proofs.Math.Seq.{map-set_same}
 use Rattle.fp_ports.specs.Rows.{Row, row_at, fed}
 use Rattle.fp_ports.specs.Rows.{fed_all as fed_pairs}
-use Rattle.fp_ports.specs.Shown.{shown}
+use Rattle.fp_ports.specs.ShownWords.{shown}
 use Rattle.fp_ports.proofs.ShownLemmas.{shown-fed_all}
 use Rattle.fp_setup.specs.declared.input_list.Input.{Input}
-use Rattle.fp_setup.specs.Meaning.{the_threads}
+use Rattle.fp_setup.specs.SetupOfTables.{the_threads}
 use Rattle.fp_setup.specs.Settings.{Settings}
 use Rattle.setup_model.specs.Start.{start, thread_of, inputs_of, shown_to, is_handed, first_latch}
 use Rattle.machine.specs.Feeding.{fed_word, fed_words, fed_first, fed_all}
-use Rattle.machine.specs.Laws.{FeedsStart}
+use Rattle.machine.specs.PortLaws.{FeedsStart}
 
 abbrev pairs_of : List Input → List (ℕ × ℕ)
 pairs_of inputs = map (λ (input : Input). (input.at, input.word)) inputs

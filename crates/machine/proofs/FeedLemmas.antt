@@ -7,7 +7,7 @@ use Rattle.std.proofs.lemmas.Option.{get_or_from_slice_get}
 use Rattle.fp_ports.specs.Rows.{Row, row_at}
 use Rattle.fp_setup.specs.declared.input_list.Input.{Input}
 use Rattle.fp_setup.specs.declared.thread_list.ThreadSetup.{ThreadSetup}
-use Rattle.fp_setup.specs.Meaning.{unnamed}
+use Rattle.fp_setup.specs.SetupOfTables.{unnamed}
 use Rattle.fp_setup.specs.Settings.{Settings}
 use Rattle.setup_model.specs.Start.{thread_of}
 use Rattle.machine.specs.Feeding.{fed_word, fed_words, fed_first}

@@ -8,8 +8,8 @@ use Rattle.std.proofs.lemmas.List.FromFn.{fill_by_all, get_or-map-range_with_len
 use Rattle.std.proofs.lemmas.Option.{get_or_from_slice_get}
 use Rattle.fp_image.specs.declared.parts.Segment.{Segment}
 use Rattle.fp_ports.specs.Rows.{Row, row_at}
-use Rattle.fp_ports.specs.Shown.{is_gone, shown_at, shown}
-use Rattle.fp_setup.specs.Meaning.{unnamed}
+use Rattle.fp_ports.specs.ShownWords.{is_gone, shown_at, shown}
+use Rattle.fp_setup.specs.SetupOfTables.{unnamed}
 use Rattle.fp_setup.specs.Settings.{Settings}
 use Rattle.fp_setup.specs.declared.thread_list.ThreadSetup.{ThreadSetup}
 use Rattle.core_model.specs.Thread.{Thread, fresh}
@@ -19,12 +19,12 @@ use Rattle.world_model.specs.World.{Start, start_world}
 use Rattle.setup_model.specs.Start.{start, words_from, thread_of, is_handed, first_latch}
 use Rattle.pipe_model.specs.Stages.{Latches, State}
 use Rattle.pipe_model.specs.Relation.{Begins, Stands, HasLatches}
-use Rattle.pipe_model.specs.Laws.{Starts, empty, first_units}
-use Rattle.pipeline_core.specs.Meaning.{latches_by, state_by}
-use Rattle.machine_model.specs.Seen.{is_kept}
+use Rattle.pipe_model.specs.PipelineLaws.{Starts, empty, first_units}
+use Rattle.pipeline_core.specs.AsDefined.{latches_by, state_by}
+use Rattle.machine_model.specs.DumpedState.{is_kept}
 use Rattle.machine_model.specs.Relation.{Plugged, found}
 use Rattle.machine.specs.declared.state.Machine.{Machine}
-use Rattle.machine.specs.Meaning.{StandsFor, start_beside, units_at_start}
+use Rattle.machine.specs.WorldRelation.{StandsFor, start_beside, units_at_start}
 
 -- eight entries, one by one
 pub eight_are : {A : Type 0} → (xs : List A) (d : A) → length xs ≡ 8 → xs ≡ get_or xs 0 d ∷ get_or xs 1 d ∷ get_or xs 2 d ∷ get_or xs 3 d ∷ get_or xs 4 d ∷ get_or xs 5 d ∷ get_or xs 6 d ∷ get_or xs 7 d ∷ []

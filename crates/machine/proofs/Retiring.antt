@@ -10,7 +10,7 @@ use Rattle.pipe_model.specs.Stages.{event_at}
 use Rattle.pipe_model.specs.Relation.{of_hart, stays_in}
 use Rattle.machine_model.specs.Relation.{kept_in}
 use Rattle.machine.specs.declared.state.Machine.{Machine}
-use Rattle.machine.specs.Meaning.{Ticks}
+use Rattle.machine.specs.WorldRelation.{Ticks}
 
 pub of_others : (i cycle k pc word : ℕ) (effect : Option Effect) → (k == i) ≡ false → of_hart i (event_at cycle k pc word effect) ≡ []
 of_others i cycle k pc word None other = refl

@@ -1,3 +1,3 @@
-pub mod Meaning
+pub mod WorldRelation
 pub mod Feeding
-pub mod Laws
+pub mod PortLaws

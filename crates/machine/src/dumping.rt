@@ -6,10 +6,10 @@ ghost use Rattle.fp_io.specs.Causes.{Rose};
 ghost use Rattle.fp_io.specs.Content.{AppendsFront};
 ghost use Rattle.fp_ports.specs.Rows.{rows_of};
 ghost use Rattle.world_model.specs.World.{Start};
-ghost use Rattle.machine_model.specs.Seen.{seen};
+ghost use Rattle.machine_model.specs.DumpedState.{seen};
 ghost use Rattle.machine_model.specs.Fields.{dump_line, dumped};
-ghost use Rattle.pipeline_core.specs.Meaning.{latches_by, state_by};
-ghost use Rattle.machine.specs.Meaning.{StandsFor};
+ghost use Rattle.pipeline_core.specs.AsDefined.{latches_by, state_by};
+ghost use Rattle.machine.specs.WorldRelation.{StandsFor};
 
 use crate::lines::FIRST_OF_MEMORY;
 use crate::state::Machine;
@@ -26,8 +26,12 @@ impl Machine {
     /// A fault of the sink was counted in this call; the dump was put as far as that.
     pub fn dump<K: Sink>(&self, ports: &Ports, out: &mut K) -> Result<(), PutFailed>
         requires { vec_len ports.now ≡ 8 }
-        ensures ok { OnOk result ((s : Start) (c n : ℕ) → StandsFor s c n self.now (rows_of latched word_at ports.now.items) → Appends (K.taken out.old) (K.taken out.new) (seen s c)) }
-        ensures err { OnErr result ((s : Start) (c n : ℕ) → StandsFor s c n self.now (rows_of latched word_at ports.now.items) → AppendsFront (K.taken out.old) (K.taken out.new) (seen s c)) }
+        ensures ok { OnOk result ((s : Start) (c n : ℕ)
+            → StandsFor s c n self.now (rows_of latched word_at ports.now.items)
+            → Appends (K.taken out.old) (K.taken out.new) (seen s c)) }
+        ensures err { OnErr result ((s : Start) (c n : ℕ)
+            → StandsFor s c n self.now (rows_of latched word_at ports.now.items)
+            → AppendsFront (K.taken out.old) (K.taken out.new) (seen s c)) }
         ensures failed { OnErr result (Rose (K.faults out.old) (K.faults out.new)) }
         ensures counted { K.faults out.old ≤ K.faults out.new }
     {
@@ -37,8 +41,12 @@ impl Machine {
     /// Puts the lines by their numbers.
     fn put_lines<K: Sink>(&self, ports: &Ports, out: &mut K) -> Result<(), PutFailed>
         requires { vec_len ports.now ≡ 8 }
-        ensures ok { OnOk result (Appends (K.taken out.old) (K.taken out.new) (dumped (latches_by self.now.pipe) (state_by self.now.units (rows_of latched word_at ports.now.items)) self.now.at)) }
-        ensures err { OnErr result (AppendsFront (K.taken out.old) (K.taken out.new) (dumped (latches_by self.now.pipe) (state_by self.now.units (rows_of latched word_at ports.now.items)) self.now.at)) }
+        ensures ok { OnOk result (Appends (K.taken out.old) (K.taken out.new)
+            (dumped (latches_by self.now.pipe)
+            (state_by self.now.units (rows_of latched word_at ports.now.items)) self.now.at)) }
+        ensures err { OnErr result (AppendsFront (K.taken out.old) (K.taken out.new)
+            (dumped (latches_by self.now.pipe)
+            (state_by self.now.units (rows_of latched word_at ports.now.items)) self.now.at)) }
         ensures failed { OnErr result (Rose (K.faults out.old) (K.faults out.new)) }
         ensures counted { K.faults out.old ≤ K.faults out.new }
     {
@@ -52,8 +60,14 @@ impl Machine {
     fn put_line<K: Sink>(&self, number: u32, ports: &Ports, out: &mut K) -> Result<(), PutFailed>
         requires eight { vec_len ports.now ≡ 8 }
         requires number { number < 66 + self.now.units.guard.size / 32 }
-        ensures ok { OnOk result (Appends (K.taken out.old) (K.taken out.new) (dump_line (latches_by self.now.pipe) (state_by self.now.units (rows_of latched word_at ports.now.items)) self.now.at number)) }
-        ensures err { OnErr result (AppendsFront (K.taken out.old) (K.taken out.new) (dump_line (latches_by self.now.pipe) (state_by self.now.units (rows_of latched word_at ports.now.items)) self.now.at number)) }
+        ensures ok { OnOk result (Appends (K.taken out.old) (K.taken out.new)
+            (dump_line (latches_by self.now.pipe)
+            (state_by self.now.units (rows_of latched word_at ports.now.items)) self.now.at
+            number)) }
+        ensures err { OnErr result (AppendsFront (K.taken out.old) (K.taken out.new)
+            (dump_line (latches_by self.now.pipe)
+            (state_by self.now.units (rows_of latched word_at ports.now.items)) self.now.at
+            number)) }
         ensures failed { OnErr result (Rose (K.faults out.old) (K.faults out.new)) }
         ensures counted { K.faults out.old ≤ K.faults out.new }
     {

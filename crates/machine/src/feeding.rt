@@ -3,22 +3,24 @@
 ghost use Rattle.std.specs.Prelude.{◌≡◌, ◌<◌, ◌≤◌, length, take, vec_len, OnOk, OnErr};
 ghost use Rattle.fp_ports.specs.Rows.{rows_of};
 ghost use Rattle.machine.specs.Feeding.{fed_words, fed_all, IsFedFront};
-ghost use Rattle.machine.specs.Laws.{FeedsStart};
+ghost use Rattle.machine.specs.PortLaws.{FeedsStart};
 
 use fp_ports::{Ports, feed_port};
 use fp_setup::{Input, Setup};
 use std::alloc::AllocError;
 
-/// Feeds each thread's inputs to its port, in order, threads rising. An empty port takes them without
-/// effect.
+/// Feeds each thread's inputs to its port, in order, threads rising. An empty port takes them
+/// without effect.
 ///
 /// # Errors
 ///
 /// Memory was refused; a front of the inputs has been fed then.
 pub fn feed_inputs(setup: &Setup, ports: &mut Ports) -> Result<(), AllocError>
     requires { vec_len ports.old ≡ 8 }
-    ensures ok { OnOk result (rows_of latched word_at ports.new.items ≡ fed_all setup.now (rows_of latched word_at ports.old.items)) }
-    ensures err { OnErr result (IsFedFront setup.now (rows_of latched word_at ports.old.items) (rows_of latched word_at ports.new.items)) }
+    ensures ok { OnOk result (rows_of latched word_at ports.new.items
+        ≡ fed_all setup.now (rows_of latched word_at ports.old.items)) }
+    ensures err { OnErr result (IsFedFront setup.now (rows_of latched word_at ports.old.items)
+        (rows_of latched word_at ports.new.items)) }
     ensures eight { vec_len ports.new ≡ 8 }
 {
     for thread in 0..8 {
@@ -31,8 +33,11 @@ pub fn feed_inputs(setup: &Setup, ports: &mut Ports) -> Result<(), AllocError>
 fn feed_thread(ports: &mut Ports, thread: u8, inputs: &[Input]) -> Result<(), AllocError>
     requires eight { vec_len ports.old ≡ 8 }
     requires thread { thread < 8 }
-    ensures ok { OnOk result (rows_of latched word_at ports.new.items ≡ fed_words thread (rows_of latched word_at ports.old.items) inputs.now) }
-    ensures err { OnErr result ((j : _) × (rows_of latched word_at ports.new.items ≡ fed_words thread (rows_of latched word_at ports.old.items) (take j inputs.now))) }
+    ensures ok { OnOk result (rows_of latched word_at ports.new.items
+        ≡ fed_words thread (rows_of latched word_at ports.old.items) inputs.now) }
+    ensures err { OnErr result ((j : _)
+        × (rows_of latched word_at ports.new.items
+        ≡ fed_words thread (rows_of latched word_at ports.old.items) (take j inputs.now))) }
     ensures eight { vec_len ports.new ≡ 8 }
 {
     for input in inputs {
@@ -41,8 +46,8 @@ fn feed_thread(ports: &mut Ports, thread: u8, inputs: &[Input]) -> Result<(), Al
     Ok(())
 }
 
-/// A machine beside ports that were fed with the inputs of its setup starts in the world of the setup
-/// and of the ports as they were handed in. The contract is the law; the call does nothing.
+/// A machine beside ports that were fed with the inputs of its setup starts in the world of the
+/// setup and of the ports as they were handed in. The contract is the law; the call does nothing.
 pub fn feeds_the_start()
     ensures { FeedsStart }
 {}

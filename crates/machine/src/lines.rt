@@ -5,11 +5,11 @@ ghost use Rattle.std.specs.List.{list_all};
 ghost use Rattle.fp_ports.specs.Rows.{rows_of};
 ghost use Rattle.core_model.specs.Thread.{reg_in};
 ghost use Rattle.dump_text.specs.Lines.{thread_words_text};
-ghost use Rattle.machine_model.specs.Seen.{eight_from, traps_seen, timer_seen, words_seen};
+ghost use Rattle.machine_model.specs.DumpedState.{eight_from, traps_seen, timer_seen, words_seen};
 ghost use Rattle.machine_model.specs.Fields.{fetched_held, decoded_held, shown_word, executed_held, stored_held, written_held, head_line, thread_line, dump_line};
 ghost use Rattle.timer_unit.specs.Time.{timer_of};
 ghost use Rattle.trap_unit.specs.Rows.{trap_of};
-ghost use Rattle.pipeline_core.specs.Meaning.{latches_by, registers_by, state_by};
+ghost use Rattle.pipeline_core.specs.AsDefined.{latches_by, registers_by, state_by};
 
 use crate::state::Machine;
 use arrayvec::ArrayString;
@@ -101,7 +101,8 @@ impl Machine {
     /// The word that D shows: 0 where an expiry or a refused fetch will take the turn.
     fn word_shown(&self, thread: u8, what: &Decoded) -> u32
         requires { thread < 8 }
-        ensures { result ≡ shown_word self.now.units.guard.size self.now.units.confined self.now.units.guard.i thread what.now }
+        ensures { result ≡ shown_word self.now.units.guard.size self.now.units.confined
+            self.now.units.guard.i thread what.now }
     {
         let confined = self.is_confined(thread);
         if what.expired || !self.units.guard.may_fetch(thread, confined, what.pc) {
@@ -113,7 +114,8 @@ impl Machine {
 
     /// What D shows.
     fn decoded_shown(&self) -> Shown
-        ensures { result ≡ decoded_held self.now.units.guard.size self.now.units.confined self.now.units.guard.i self.now.pipe.d }
+        ensures { result ≡ decoded_held self.now.units.guard.size self.now.units.confined
+            self.now.units.guard.i self.now.pipe.d }
     {
         match self.pipe.d {
             Held::Bubble => Shown::Nothing,
@@ -130,7 +132,9 @@ impl Machine {
     #[tactic(auto, unfolding(machine_model::specs::Fields::head_line))]
     fn head_line(&self, k: u32) -> ArrayString<96>
         requires { k < 10 }
-        ensures { result.bytes ≡ head_line (latches_by self.now.pipe) self.now.units.guard.size self.now.units.confined (registers_by self.now.units.sched self.now.units.guard) self.now.at k }
+        ensures { result.bytes ≡ head_line (latches_by self.now.pipe) self.now.units.guard.size
+            self.now.units.confined (registers_by self.now.units.sched self.now.units.guard)
+            self.now.at k }
     {
         match k {
             0 => cycles_line(self.at),
@@ -151,7 +155,8 @@ impl Machine {
         requires thread { thread < 8 }
         requires name { length name.now ≤ 3 }
         requires first { first ≤ 24 }
-        ensures { result.bytes ≡ thread_words_text thread name.now (eight_from (reg_in (slice_index_or self.now.units.bank thread [])) first) }
+        ensures { result.bytes ≡ thread_words_text thread name.now
+            (eight_from (reg_in (slice_index_or self.now.units.bank thread [])) first) }
     {
         let bank = &self.units.bank;
         let words = [
@@ -180,7 +185,8 @@ impl Machine {
     /// The line of a thread's timer and its sleep moment.
     fn timer_line(&self, thread: u8) -> ArrayString<96>
         requires { thread < 8 }
-        ensures { result.bytes ≡ timer_seen thread (timer_of self.now.units.timers thread) (slice_index_or self.now.units.sched.sleep thread 0) }
+        ensures { result.bytes ≡ timer_seen thread (timer_of self.now.units.timers thread)
+            (slice_index_or self.now.units.sched.sleep thread 0) }
     {
         let row = self.units.timers.row(thread);
         let sleep = self.units.sched.sleep[thread as usize];
@@ -192,7 +198,8 @@ impl Machine {
     fn thread_line(&self, ports: &Ports, thread: u8, k: u32) -> ArrayString<96>
         requires eight { vec_len ports.now ≡ 8 }
         requires thread { thread < 8 }
-        ensures { result.bytes ≡ thread_line (state_by self.now.units (rows_of latched word_at ports.now.items)) thread k }
+        ensures { result.bytes ≡ thread_line
+            (state_by self.now.units (rows_of latched word_at ports.now.items)) thread k }
     {
         match k {
             0 => self.registers_line(thread, "x00", 0),
@@ -224,8 +231,9 @@ impl Machine {
         ]
     }
 
-    /// The line of eight words of the data scratchpad, by its number; empty where all of them are 0.
-    #[tactic(auto, unfolding(machine_model::specs::Seen::words_seen))]
+    /// The line of eight words of the data scratchpad, by its number; empty where all of them are
+    /// 0.
+    #[tactic(auto, unfolding(machine_model::specs::DumpedState::words_seen))]
     fn words_line(&self, k: u32) -> ArrayString<96>
         requires { k < self.now.units.guard.size / 32 }
         ensures { result.bytes ≡ words_seen self.now.units.dmem k }
@@ -243,7 +251,8 @@ impl Machine {
     pub(crate) fn line(&self, ports: &Ports, k: u32) -> ArrayString<96>
         requires eight { vec_len ports.now ≡ 8 }
         requires number { k < 66 + self.now.units.guard.size / 32 }
-        ensures { result.bytes ≡ dump_line (latches_by self.now.pipe) (state_by self.now.units (rows_of latched word_at ports.now.items)) self.now.at k }
+        ensures { result.bytes ≡ dump_line (latches_by self.now.pipe)
+            (state_by self.now.units (rows_of latched word_at ports.now.items)) self.now.at k }
     {
         if k < 10 {
             self.head_line(k)

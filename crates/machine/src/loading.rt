@@ -5,9 +5,9 @@ ghost use Rattle.fp_ports.specs.Rows.{Row};
 ghost use Rattle.fp_setup.specs.declared.thread_list.ThreadSetup.{ThreadSetup};
 ghost use Rattle.fp_setup.specs.Settings.{size_of};
 ghost use Rattle.setup_model.specs.Start.{words_from};
-ghost use Rattle.pipeline_core.specs.Fits.{IsPc};
-ghost use Rattle.pipeline_core.specs.Meaning.{state_by};
-ghost use Rattle.machine.specs.Meaning.{StandsFor, start_beside, units_at_start};
+ghost use Rattle.pipeline_core.specs.LatchFacts.{IsPc};
+ghost use Rattle.pipeline_core.specs.AsDefined.{state_by};
+ghost use Rattle.machine.specs.WorldRelation.{StandsFor, start_beside, units_at_start};
 
 use crate::state::Machine;
 use fp_image::Image;
@@ -107,7 +107,8 @@ fn scratchpad(alloc: Global, setup: &Setup, image: &Image, base: u32) -> Result<
 
 /// The units at the start.
 fn units(alloc: Global, setup: &Setup, image: &Image) -> Result<Units, AllocError>
-    ensures { IfOk result (λ u. (ports : List (Option Row)) → state_by u ports ≡ units_at_start setup.now image.now ports) }
+    ensures { IfOk result (λ u. (ports : List (Option Row)) → state_by u ports
+        ≡ units_at_start setup.now image.now ports) }
 {
     Ok(Units {
         imem: scratchpad(alloc, setup, image, 0)?,
@@ -133,14 +134,15 @@ fn units(alloc: Global, setup: &Setup, image: &Image) -> Result<Units, AllocErro
 }
 
 impl Machine {
-    /// The machine at cycle 0 of a setup and an image. Words that the image doesn't have are 0; words
-    /// past the setup's scratchpads aren't taken.
+    /// The machine at cycle 0 of a setup and an image. Words that the image doesn't have are 0;
+    /// words past the setup's scratchpads aren't taken.
     ///
     /// # Errors
     ///
     /// Memory was refused.
     pub fn load(alloc: Global, setup: &Setup, image: &Image) -> Result<Machine, AllocError>
-        ensures stands { IfOk result (λ m. (ports : List (Option Row)) (n : ℕ) → length ports ≡ 8 → StandsFor (start_beside setup.now image.now ports n) 0 n m ports) }
+        ensures stands { IfOk result (λ m. (ports : List (Option Row)) (n : ℕ) → length ports ≡ 8
+            → StandsFor (start_beside setup.now image.now ports n) 0 n m ports) }
         ensures start { IfOk result (λ m. m.at ≡ 0) }
     {
         starts_standing();

@@ -7,6 +7,7 @@ use pipeline_core::{Pipe, Units};
 pub struct Machine {
     /// The turns in the stages.
     pub pipe: Pipe,
+    /// What the stages work with: registers, scratchpads, slots, regions, timers and traps.
     pub units: Units,
     /// How many cycles were done.
     pub at: u64,

@@ -1,2 +1,4 @@
 pub mod Lengths
 pub mod Words
+pub mod Tables
+pub mod InPlace

@@ -54,7 +54,8 @@ pub fn push_word(text: &mut ArrayString<96>, word: u32)
     ensures len { array_string_len text.new ≡ array_string_len text.old + 8 }
 {
     let digits = word_digits(word);
-    // Digits are ASCII, which is text as it is. A test of each byte would cost more than the digits do.
+    // Digits are ASCII, which is text as it is. A test of each byte would cost more than the digits
+    // do.
     text.push_str(unsafe { str::from_utf8_unchecked(&digits) });
 }
 

@@ -30,7 +30,7 @@ pub fn line(e: &Event) -> ArrayString<96>
 
 /// Appends an effect.
 #[tactic(auto, unfolding(crate::specs::Text::effect_text))]
-fn push_effect(text: &mut ArrayString<96>, effect: &Effect)
+pub(crate) fn push_effect(text: &mut ArrayString<96>, effect: &Effect)
     requires printable { IsPrintable effect.now }
     requires room { array_string_len text.old + 32 ≤ 96 }
     ensures text { text.new.bytes ≡ text.old.bytes ++ effect_text effect.now }

@@ -4,11 +4,14 @@
 
 mod bounds;
 mod digits;
+mod event_line;
 mod events;
+mod in_place;
 mod places;
 mod refusals;
 
 pub use bounds::bound_line;
 pub use digits::{push_decimal, push_hex, push_right, push_word};
+pub use event_line::EventLine;
 pub use events::line;
 pub use refusals::{Refusal, refusal_line};

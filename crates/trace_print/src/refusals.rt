@@ -85,7 +85,8 @@ fn push_line_code(text: &mut ArrayString<96>, line: u32, code: u8, name: &str)
     requires short { length name.now ≤ 17 }
     requires room { array_string_len text.old + 32 ≤ 96 }
     ensures text { text.new.bytes ≡
-        text.old.bytes ++ (decimal line ++ (codes " " ++ (decimal code ++ (codes " " ++ name.now)))) }
+        text.old.bytes ++ (decimal line
+        ++ (codes " " ++ (decimal code ++ (codes " " ++ name.now)))) }
     ensures len { array_string_len text.new ≤ array_string_len text.old + 32 }
 {
     push_decimal(text, line);

@@ -1,5 +1,5 @@
 use Rattle.std.proofs.Common.{ap}
-use Rattle.fp_setup.specs.Meaning.{unnamed}
+use Rattle.fp_setup.specs.SetupOfTables.{unnamed}
 use Rattle.fp_setup.specs.declared.thread_list.ThreadSetup.{ThreadSetup}
 use Rattle.machine.proofs.LoadLemmas.{eight_said}
 use Rattle.machine.proofs.loading.unplugs.Goals as goal

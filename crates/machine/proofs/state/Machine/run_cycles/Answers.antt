@@ -7,7 +7,7 @@ use Rattle.fp_io.specs.Causes.{Rose}
 use Rattle.pipe_model.specs.Stages.{retired}
 use Rattle.machine.proofs.RunLemmas.{left_all, run_begins, run_ends, run_on, run_stops}
 use Rattle.machine.proofs.WordLemmas.{words_on}
-use Rattle.machine.proofs.state.Machine.run.Goals as goal
+use Rattle.machine.proofs.state.Machine.run_cycles.Goals as goal
 
 -- a cycle of the run is within its limits
 before_end : (at k n : ℕ) → at ≡ k → k < n → at < n + 3
@@ -29,7 +29,7 @@ loop-cycle-init g c = record {
   eight = c.requires.eight;
   counted = le_refl _;
   words = left_all _;
-  known = c.loses_ports-loses_ports.ensures;
+  known = c.requires.known;
   runs = λ s st. run_begins s c.args.n c.args.thread c.args.self.now _ (g.K.Sink.taken c.args.out.now) st;
 }
 

@@ -3,8 +3,8 @@ use Rattle.std.specs.Prelude.{is_some}
 use Rattle.std.specs.List.{list_any}
 use Rattle.fp_ports.specs.Rows.{rows_of}
 use Rattle.world_model.specs.World.{Start}
-use Rattle.machine.specs.Meaning.{StandsFor, AreLeft, HasRun}
-use Rattle.machine.proofs.state.Machine.run.Given as goal
+use Rattle.machine.specs.WorldRelation.{StandsFor, AreLeft, HasRun}
+use Rattle.machine.proofs.state.Machine.run_cycles.Given as goal
 
 abbrev pub invariant-loop-cycle : goal.invariant-loop-cycle
 invariant-loop-cycle g l =

@@ -7,7 +7,7 @@ use Rattle.setup_model.specs.Start.{start}
 use Rattle.world_model.specs.World.{Start}
 use Rattle.machine.specs.declared.state.Machine.{Machine}
 use Rattle.machine.specs.Feeding.{fed_all}
-use Rattle.machine.specs.Meaning.{StandsFor, AreLeft, PortsAfter, start_beside}
+use Rattle.machine.specs.WorldRelation.{StandsFor, AreLeft, PortsAfter, start_beside}
 
 -- the start beside ports that were fed with the setup's inputs is the start of the setup beside the ports as
 -- they were handed in

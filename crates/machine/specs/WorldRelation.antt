@@ -6,8 +6,8 @@ use Rattle.trace_print.specs.Text.{text}
 use Rattle.rv_exec.specs.declared.outcome.Event.{Event}
 use Rattle.fp_image.specs.declared.parts.Segment.{Segment}
 use Rattle.fp_ports.specs.Rows.{Row, row_at, written}
-use Rattle.fp_ports.specs.Shown.{shown}
-use Rattle.fp_setup.specs.Meaning.{the_threads}
+use Rattle.fp_ports.specs.ShownWords.{shown}
+use Rattle.fp_setup.specs.SetupOfTables.{the_threads}
 use Rattle.fp_setup.specs.Settings.{Settings, size_of}
 use Rattle.fp_setup.specs.declared.thread_list.ThreadSetup.{ThreadSetup}
 use Rattle.timer_unit.specs.Time.{no_timer}
@@ -16,9 +16,9 @@ use Rattle.world_model.specs.World.{Start, world, events}
 use Rattle.setup_model.specs.Start.{start, thread_of, i_words_of, d_words_of}
 use Rattle.pipe_model.specs.Stages.{State}
 use Rattle.pipe_model.specs.Relation.{event_in, turn_at, words_of}
-use Rattle.pipeline_core.specs.Meaning.{latches_by, state_by}
+use Rattle.pipeline_core.specs.AsDefined.{latches_by, state_by}
 use Rattle.machine_model.specs.Relation.{Standing}
-use Rattle.machine_model.specs.Seen.{is_kept}
+use Rattle.machine_model.specs.DumpedState.{is_kept}
 use Rattle.machine.specs.declared.state.Machine.{Machine}
 
 -- the machine and the ports stand for cycle c of the world; its lists of shown words have n entries
