@@ -2,14 +2,15 @@
 
 ghost use Rattle.std.specs.Prelude.{◌≡◌};
 
-use file_name::Name;
+use fp_setup::Name;
+use region_tree::Section;
 use std::alloc::AllocError;
 use thiserror::Error;
 
-/// Why words are no command.
+/// Why words give no command.
 #[derive(Clone, Copy, Debug, PartialEq, Eq, Drop, Error)]
 pub enum WordsNo {
-    /// The words ask nothing.
+    /// The words ask nothing: no command has this name, or it doesn't take these words.
     #[error("the words ask nothing")]
     Usage = 1,
     /// Memory was refused.
@@ -17,16 +18,9 @@ pub enum WordsNo {
     NoMemory = 2,
 }
 
-/// The words of a program from an address to below another.
-#[derive(Clone, Copy, Debug)]
-pub struct Section {
-    /// The address of the first byte.
-    pub from: u32,
-    /// The address after the last byte.
-    pub to: u32,
-}
-
-/// A command with its values.
+/// A command with its values. Those that [`read_words`](crate::read_words) answers have `thread` 0
+/// to 7, `cycles` at most 4,000,000,000 (at most 1,000,000 for `check`), and as `section` the two
+/// addresses as they were given: whether the section may be asked for goes by the setup.
 #[derive(Drop)]
 pub enum Ask {
     /// `run SETUP --thread i --cycles n`: the trace of a thread.
@@ -35,7 +29,7 @@ pub enum Ask {
         thread: u8,
         cycles: u64,
     },
-    /// `dump SETUP --cycles n`: what each cycle shows.
+    /// `dump SETUP --cycles n`: what is seen of the machine after n cycles.
     Dump {
         setup: Name,
         cycles: u64,
@@ -50,7 +44,7 @@ pub enum Ask {
         thread: u8,
         section: Section,
     },
-    /// `selfrun NUMBER`: a large run that the number makes.
+    /// `selfrun NUMBER`: a large run of programs that the number draws.
     Selfrun {
         number: u32,
     },

@@ -8,11 +8,12 @@ ghost use Rattle.ask_words.specs.Code.{row_of};
 ghost use Rattle.ask_words.specs.Causes.{IsCauseOf};
 ghost use Rattle.ask_words.specs.Limits.{IsWithinLimits};
 
-use crate::asked::{Ask, Section, WordsNo};
+use crate::asked::{Ask, WordsNo};
 use crate::command::Command;
 use crate::numbers::{address_of, number_of, thread_of};
 use crate::parse::texts_of;
-use file_name::Name;
+use fp_setup::Name;
+use region_tree::Section;
 use std::alloc::Global;
 
 /// The most cycles of a run.
@@ -49,8 +50,11 @@ fn texts_for<'a>(
     command: Command,
     words: &'a [String],
 ) -> Result<Vec<&'a str>, WordsNo>
-    ensures given { IfOk result (λ v. texts_in (row_of command).options (map string_bytes words.entry.now) ≡ Some (map (λ t. t.now) v.items)) }
-    ensures refused { IfErr result (IsCauseOf (texts_in (row_of command).options (map string_bytes words.entry.now))) }
+    ensures given { IfOk result (λ v.
+        texts_in (row_of command).options (map string_bytes words.entry.now) ≡
+        Some (map (λ t. t.now) v.items)) }
+    ensures refused { IfErr result (IsCauseOf
+        (texts_in (row_of command).options (map string_bytes words.entry.now))) }
 {
     match command {
         Command::Run => texts_of(alloc, "run", &["thread", "cycles"], words),
@@ -258,7 +262,8 @@ fn calls(alloc: Global, texts: &[&str]) -> Result<Ask, WordsNo>
 /// What a command asks by its texts: the file name or number, and the options' values in order.
 fn ask_by(alloc: Global, command: Command, texts: &[&str]) -> Result<Ask, WordsNo>
     ensures asked { IfOk result (λ a. (row_of command).asks (map (λ t. t.now) texts.now) ≡ Some a) }
-    ensures refused { IfErr result (IsCauseOf ((row_of command).asks (map (λ t. t.now) texts.now))) }
+    ensures refused { IfErr result
+        (IsCauseOf ((row_of command).asks (map (λ t. t.now) texts.now))) }
     ensures limits { IfOk result IsWithinLimits }
 {
     match command {
@@ -278,8 +283,10 @@ fn ask_by(alloc: Global, command: Command, texts: &[&str]) -> Result<Ask, WordsN
 /// What the words after a command's name ask.
 #[tactic(auto, unfolding(crate::specs::Commands::asked))]
 fn ask_of(alloc: Global, command: Command, words: &[String]) -> Result<Ask, WordsNo>
-    ensures asked { IfOk result (λ a. asked (row_of command) (map string_bytes words.now) ≡ Some a) }
-    ensures refused { IfErr result (IsCauseOf (asked (row_of command) (map string_bytes words.now))) }
+    ensures asked { IfOk result (λ a.
+        asked (row_of command) (map string_bytes words.now) ≡ Some a) }
+    ensures refused { IfErr result
+        (IsCauseOf (asked (row_of command) (map string_bytes words.now))) }
     ensures limits { IfOk result IsWithinLimits }
 {
     let texts = texts_for(alloc, command, words)?;

@@ -66,7 +66,8 @@ fn has_name(options: &[&str], name: &str) -> bool
 
 /// The form of a word that begins with `-`, as `--name` or `--name=value`.
 fn dashed_form_of<'a>(options: &[&str], word: &'a str) -> Form<'a>
-    ensures { form_value result ≡ dashed_form (map (λ n. n.now) options.now) (after_dashes word.entry.now) }
+    ensures { form_value result ≡
+        dashed_form (map (λ n. n.now) options.now) (after_dashes word.entry.now) }
 {
     let Some(rest) = word.strip_prefix("--") else {
         return Form::Bad;
@@ -83,7 +84,8 @@ fn dashed_form_of<'a>(options: &[&str], word: &'a str) -> Form<'a>
 /// The form of a word, where an option may wait for its value.
 #[tactic(auto, unfolding(crate::specs::Forms::form))]
 pub fn form_of<'a>(options: &[&str], waiting: Option<&'a str>, word: &'a str) -> Form<'a>
-    ensures { form_value result ≡ form (map (λ n. n.now) options.now) (option_map (λ n. n.now) waiting.entry) word.entry.now }
+    ensures { form_value result ≡
+        form (map (λ n. n.now) options.now) (option_map (λ n. n.now) waiting.entry) word.entry.now }
 {
     match waiting {
         Some(name) if has_plain_form(word) => Form::Gives { name, value: word },

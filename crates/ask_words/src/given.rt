@@ -7,7 +7,8 @@ use crate::form::{FILE, form_of};
 
 /// How often a name is given a value; None where a word has no place or a value is missing.
 fn times_given(options: &[&str], name: &str, words: &[String]) -> Option<usize>
-    ensures { result ≡ count_in (map (λ n. n.now) options.now) name.now None (map string_bytes words.now) }
+    ensures { result ≡
+        count_in (map (λ n. n.now) options.now) name.now None (map string_bytes words.now) }
 {
     let mut waiting: Option<&str> = None;
     let mut times: usize = 0;
@@ -27,7 +28,9 @@ fn times_given(options: &[&str], name: &str, words: &[String]) -> Option<usize>
 
 /// Whether each word has a place and a name is given a value exactly once.
 fn is_given_once(options: &[&str], name: &str, words: &[String]) -> bool
-    ensures { result ≡ is_one (count_in (map (λ n. n.now) options.now) name.now None (map string_bytes words.now)) }
+    ensures { result ≡
+        is_one (count_in (map (λ n. n.now) options.now) name.now None
+        (map string_bytes words.now)) }
 {
     match times_given(options, name, words) {
         Some(times) => times == 1,

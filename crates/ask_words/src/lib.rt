@@ -9,5 +9,5 @@ mod given;
 mod numbers;
 mod parse;
 
-pub use asked::{Ask, Section, WordsNo};
+pub use asked::{Ask, WordsNo};
 pub use commands::read_words;

@@ -28,7 +28,8 @@ fn with_option<'a>(
     command: Command<'a>,
     name: &'a str,
 ) -> Result<Command<'a>, AllocError>
-    ensures { IfOk result (λ c. app_of c ≡ with_rule (app_of command.entry) (option_rule name.entry.now)) }
+    ensures { IfOk result (λ c.
+        app_of c ≡ with_rule (app_of command.entry) (option_rule name.entry.now)) }
 {
     let option = Arg::new(alloc, name)
         .long(name)
@@ -59,7 +60,9 @@ fn matches_taken<'a>(
 ) -> Result<ArgMatches<'a>, AllocError>
     requires simple { is_simple (app_of command) ≡ true }
     requires takes { takes (app_of command) (map string_bytes words.now) ≡ true }
-    ensures { IfOk result (λ m. rows_of (found_of m) ≡ matches_of (app_of command.entry) (map string_bytes words.entry.now)) }
+    ensures { IfOk result (λ m.
+        rows_of (found_of m) ≡
+        matches_of (app_of command.entry) (map string_bytes words.entry.now)) }
 {
     match command.try_get_matches_from(words) {
         Ok(matches) => Ok(matches),
@@ -84,7 +87,9 @@ fn values_of<'a>(
     options: &[&str],
     matches: &ArgMatches<'a>,
 ) -> Result<Vec<&'a str>, AllocError>
-    ensures { IfOk result (λ v. map (λ t. t.now) v.items ≡ map (row_text (rows_of (found_of matches.now))) (file_id ∷ map (λ n. n.now) options.now)) }
+    ensures { IfOk result (λ v. map (λ t. t.now) v.items ≡
+        map (row_text (rows_of (found_of matches.now)))
+        (file_id ∷ map (λ n. n.now) options.now)) }
 {
     let mut values = Vec::new(alloc);
     values.push(value_of(matches, FILE))?;
@@ -108,8 +113,11 @@ pub fn texts_of<'a>(
     words: &'a [String],
 ) -> Result<Vec<&'a str>, WordsNo>
     requires fit { is_fit (map (λ n. n.now) options.now) ≡ true }
-    ensures given { IfOk result (λ v. texts_in (map (λ n. n.now) options.now) (map string_bytes words.entry.now) ≡ Some (map (λ t. t.now) v.items)) }
-    ensures refused { IfErr result (IsCauseOf (texts_in (map (λ n. n.now) options.now) (map string_bytes words.entry.now))) }
+    ensures given { IfOk result (λ v.
+        texts_in (map (λ n. n.now) options.now) (map string_bytes words.entry.now) ≡
+        Some (map (λ t. t.now) v.items)) }
+    ensures refused { IfErr result (IsCauseOf
+        (texts_in (map (λ n. n.now) options.now) (map string_bytes words.entry.now))) }
 {
     if !gives_each_once(options, words) {
         return Err(WordsNo::Usage);

@@ -11,7 +11,7 @@ use Rattle.region_guard.specs.Register.{is_regions}
 use Rattle.fp_setup.specs.declared.vocabulary.Words.{Words}
 use Rattle.fp_setup.specs.declared.vocabulary.Words.TheVariants.{Slots, Owners, Modes}
 use Rattle.fp_setup.specs.Vocabulary.{is_value, is_word}
-use Rattle.fp_setup.specs.Meaning.{word_of}
+use Rattle.fp_setup.specs.SetupOfTables.{word_of}
 
 -- each is a digit of the base; of base 16, a nibble
 abbrev pub are_digits : ℕ → List ℕ → Bool

@@ -17,7 +17,7 @@ use Rattle.toml.specs.declared.value.Value.{Value}
 use Rattle.toml.specs.View.{view}
 use Rattle.fp_setup.specs.Threads.{IsThread}
 use Rattle.fp_setup.specs.Values.{members}
-use Rattle.fp_setup.specs.Meaning.{id_at, mode_at, thread_of, table_of, said_of, the_threads, threads_of, modes_of, unnamed, unnamed_mode}
+use Rattle.fp_setup.specs.SetupOfTables.{id_at, mode_at, thread_of, table_of, said_of, the_threads, threads_of, modes_of, unnamed, unnamed_mode}
 
 -- the table doesn't name another thread
 table_of-other : (rows : List Members) (row : Members) (k : ℕ) → k ≢ id_at row → table_of (rows ++ row ∷ []) k ≡ table_of rows k

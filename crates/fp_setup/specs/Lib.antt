@@ -9,10 +9,10 @@ pub mod Keys
 pub mod Values
 pub mod Checks
 pub mod Tables
-pub mod Meaning
+pub mod SetupOfTables
 pub mod Setup
 pub mod Reading
 pub mod Rows
 pub mod Plain
 pub mod Places
-pub mod Laws
+pub mod AcceptedSetups

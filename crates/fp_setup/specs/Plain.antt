@@ -2,7 +2,7 @@
 use Rattle.std.specs.Prelude.{ℕ, ◌%◌, ◌==◌, ◌&&◌, nat_lt, Bool, false, List, [], None, map, slice_index, slice_index_or, codes}
 use Rattle.fp_setup.specs.declared.thread_list.ThreadSetup.{ThreadSetup}
 use Rattle.fp_setup.specs.Settings.{Settings}
-use Rattle.fp_setup.specs.Meaning.{the_threads}
+use Rattle.fp_setup.specs.SetupOfTables.{the_threads}
 
 -- where a thread of version 1 may start
 abbrev pub is_entry : ℕ → Bool

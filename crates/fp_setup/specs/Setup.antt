@@ -10,7 +10,7 @@ use Rattle.fp_setup.specs.declared.refusal.SetupRefused.TheVariants as refused
 use Rattle.fp_setup.specs.Settings.{Settings, size_of}
 use Rattle.fp_setup.specs.Faults.{at_place, no_place}
 use Rattle.fp_setup.specs.Tables.{top_fault}
-use Rattle.fp_setup.specs.Meaning.{settings, version_at}
+use Rattle.fp_setup.specs.SetupOfTables.{settings, version_at}
 
 -- the fault where there is one, else the value
 abbrev pub unless : {A : Type 0} → Option Fault → A → Result A Fault

@@ -46,7 +46,9 @@ fn comes_after(before: Option<u64>, at: u64) -> bool
 /// An input, which comes after the one with a cycle.
 #[tactic(auto, unfolding(crate::specs::Checks::input_check, crate::specs::Values::input_of))]
 fn input(value: &Value, before: Option<u64>, place: Place) -> Result<Input, Fault>
-    ensures read { IsRead result (input_check before place (view value.now)) (input_of (view value.now)) }
+    ensures read { IsRead result
+        (input_check before place (view value.now))
+        (input_of (view value.now)) }
     ensures within { IfOk result (λ i. i.at ≤ last_cycle) }
     ensures after { IfOk result (λ i. is_after before i.at ≡ true) }
 {
@@ -64,7 +66,9 @@ fn input(value: &Value, before: Option<u64>, place: Place) -> Result<Input, Faul
 /// The inputs of a list.
 fn inputs_of(alloc: Global, items: &[Value], place: Place) -> Result<Inputs, SetupRefused>
     requires { length items.now ≤ 4096 }
-    ensures read { IsReadInMemory result (inputs_fault place (map view items.now)) (map input_of (map view items.now)) }
+    ensures read { IsReadInMemory result
+        (inputs_fault place (map view items.now))
+        (map input_of (map view items.now)) }
     ensures rules { IfOk result AreInputs }
 {
     let mut read = Vec::new(alloc);
@@ -80,7 +84,9 @@ fn inputs_of(alloc: Global, items: &[Value], place: Place) -> Result<Inputs, Set
 /// The inputs that a value lists.
 #[tactic(auto, unfolding(crate::specs::Checks::list_check))]
 fn inputs(alloc: Global, value: &Value, place: Place) -> Result<Inputs, SetupRefused>
-    ensures read { IsReadInMemory result (list_check 4096 inputs_fault place (view value.now)) (map input_of (elements (view value.now))) }
+    ensures read { IsReadInMemory result
+        (list_check 4096 inputs_fault place (view value.now))
+        (map input_of (elements (view value.now))) }
     ensures rules { IfOk result AreInputs }
 {
     let Some(items) = list(value) else {
@@ -107,7 +113,8 @@ pub(crate) fn inputs_or_none(
     place: Place,
 ) -> Result<Inputs, SetupRefused>
     ensures read { IsReadInMemory result
-        (key_fault (list_check 4096 inputs_fault) false place (get_member key.now (table_view table.now)))
+        (key_fault (list_check 4096 inputs_fault) false place
+        (get_member key.now (table_view table.now)))
         (map input_of (elements_at key.now (table_view table.now))) }
     ensures rules { IfOk result AreInputs }
 {

@@ -11,15 +11,15 @@ ghost use Rattle.fp_setup.specs.Vocabulary.{is_value, is_word};
 ghost use Rattle.fp_setup.specs.Values.{elements_at, number, number_at, text_at, truth_at};
 ghost use Rattle.fp_setup.specs.Checks.{bytes_check, eight_check, fresh_check, integer_check, is_in, permit_check, truth_check, word_check};
 ghost use Rattle.fp_setup.specs.Tables.{has_other_key, key_fault, unknown_fault};
-ghost use Rattle.fp_setup.specs.Meaning.{named, nibble_word};
+ghost use Rattle.fp_setup.specs.SetupOfTables.{named, nibble_word};
 ghost use Rattle.fp_setup.specs.Reading.{IsRead, IsReadInMemory};
 
 use crate::bounds::Range;
+use crate::file_name::Name;
 use crate::nibble_list::eight;
 use crate::refusal::{Fault, Place, SetupNo, SetupRefused};
 use crate::values::{fresh, integer, name, permit, truth_value, word};
 use crate::vocabulary::Words;
-use file_name::Name;
 use std::alloc::Global;
 use toml::{Table, Value};
 
@@ -45,7 +45,9 @@ fn has_other(table: &Table, keys: &[&str]) -> bool
 /// Refuses a table with a key outside a list.
 #[tactic(auto, unfolding(crate::specs::Tables::unknown_fault))]
 pub(crate) fn no_other_key(table: &Table, keys: &[&str], place: Place) -> Result<(), Fault>
-    ensures { IsRead result (unknown_fault (map (λ k. k.now) keys.now) place (table_view table.now)) tt }
+    ensures { IsRead result
+        (unknown_fault (map (λ k. k.now) keys.now) place (table_view table.now))
+        tt }
 {
     if has_other(table, keys) {
         return Err(Fault::new(SetupNo::UnknownKey, place));
@@ -201,7 +203,8 @@ pub(crate) fn needed_fresh(
     requires step { 0 < range.step }
     requires small { range.high < 256 }
     ensures read { IsRead result
-        (key_fault (fresh_check range taken.now) true place (get_member key.now (table_view table.now)))
+        (key_fault (fresh_check range taken.now) true place
+        (get_member key.now (table_view table.now)))
         (number_at key.now (table_view table.now)) }
     ensures within { IfOk result (λ n. is_in range n ≡ true) }
     ensures fresh { IfOk result (λ n. list_any (λ k. k == n) taken.now ≡ false) }

@@ -1,10 +1,12 @@
-//! A setup file: period, slots, regions, threads with their inputs, and the loops with their bounds.
+//! A setup file: period, slots, regions, threads with their inputs, and the loops with their
+//! bounds.
 //!
 //! A setup is a TOML document. [`read_setup`] answers the setup that it means, or its first fault
 //! with the fault's place, in the order of checks of `docs/FORMATS.md`.
 #![tactic(auto)]
 
 mod bounds;
+mod file_name;
 mod input_list;
 mod input_rows;
 mod keys;
@@ -13,15 +15,16 @@ mod loop_rows;
 mod nibble_list;
 mod reader;
 mod refusal;
+mod setup;
 mod thread_list;
 mod thread_rows;
 mod values;
 mod vocabulary;
-mod whole;
 
+pub use file_name::Name;
 pub use input_list::{Input, Inputs};
 pub use loop_list::{LoopSetup, Loops};
 pub use reader::{accepted_keep_rules, read_setup};
 pub use refusal::{Fault, Place, SetupNo, SetupRefused};
+pub use setup::Setup;
 pub use thread_list::{ThreadSetup, Threads};
-pub use whole::Setup;

@@ -10,7 +10,7 @@ ghost use Rattle.fp_setup.specs.Faults.{loop_row};
 ghost use Rattle.fp_setup.specs.Values.{elements, elements_at, members};
 ghost use Rattle.fp_setup.specs.Checks.{list_check};
 ghost use Rattle.fp_setup.specs.Tables.{key_fault, loop_fault, loop_table_fault, loops_fault, loops_from};
-ghost use Rattle.fp_setup.specs.Meaning.{loop_of};
+ghost use Rattle.fp_setup.specs.SetupOfTables.{loop_of};
 ghost use Rattle.fp_setup.specs.Reading.{IsRead, IsReadInMemory};
 
 use crate::bounds::Range;
@@ -31,10 +31,12 @@ const MOST_TURNS: u32 = 1_048_576;
 const KEYS: [&str; 3] = ["head", "last", "bound"];
 
 /// The loop of a table, for scratchpads of a size in bytes.
-#[tactic(auto, unfolding(crate::specs::Tables::loop_table_fault, crate::specs::Meaning::loop_of))]
+#[tactic(auto, unfolding(crate::specs::Tables::loop_table_fault, crate::specs::SetupOfTables::loop_of))]
 fn loop_table(table: &Table, size: u32, row: Place) -> Result<LoopSetup, Fault>
     requires low { 4 ≤ size }
-    ensures read { IsRead result (loop_table_fault size row (table_view table.now)) (loop_of (table_view table.now)) }
+    ensures read { IsRead result
+        (loop_table_fault size row (table_view table.now))
+        (loop_of (table_view table.now)) }
     ensures rules { IfOk result IsLoop }
     ensures inside { IfOk result (λ l. l.last < size) }
 {
@@ -48,7 +50,9 @@ fn loop_table(table: &Table, size: u32, row: Place) -> Result<LoopSetup, Fault>
 /// The loop of a row.
 fn loop_in(value: &Value, size: u32, row: Place) -> Result<LoopSetup, Fault>
     requires low { 4 ≤ size }
-    ensures read { IsRead result (loop_fault size row (as_table (view value.now))) (loop_of (members (view value.now))) }
+    ensures read { IsRead result
+        (loop_fault size row (as_table (view value.now)))
+        (loop_of (members (view value.now))) }
     ensures rules { IfOk result IsLoop }
     ensures inside { IfOk result (λ l. l.last < size) }
 {
@@ -62,7 +66,9 @@ fn loop_in(value: &Value, size: u32, row: Place) -> Result<LoopSetup, Fault>
 fn loops_of(alloc: Global, items: &[Value], size: u32) -> Result<Loops, SetupRefused>
     requires few { length items.now ≤ 256 }
     requires low { 4 ≤ size }
-    ensures read { IsReadInMemory result (loops_from size 0 (map view items.now)) (map loop_of (map members (map view items.now))) }
+    ensures read { IsReadInMemory result
+        (loops_from size 0 (map view items.now))
+        (map loop_of (map members (map view items.now))) }
     ensures rules { IfOk result AreLoops }
     ensures inside { IfOk result (All (λ (l : LoopSetup). l.last < size)) }
 {
@@ -77,7 +83,9 @@ fn loops_of(alloc: Global, items: &[Value], size: u32) -> Result<Loops, SetupRef
 #[tactic(auto, unfolding(crate::specs::Checks::list_check, crate::specs::Tables::loops_fault))]
 fn loops(alloc: Global, value: &Value, size: u32, place: Place) -> Result<Loops, SetupRefused>
     requires low { 4 ≤ size }
-    ensures read { IsReadInMemory result (list_check 256 (loops_fault size) place (view value.now)) (map loop_of (map members (elements (view value.now)))) }
+    ensures read { IsReadInMemory result
+        (list_check 256 (loops_fault size) place (view value.now))
+        (map loop_of (map members (elements (view value.now)))) }
     ensures rules { IfOk result AreLoops }
     ensures inside { IfOk result (All (λ (l : LoopSetup). l.last < size)) }
 {
@@ -107,7 +115,8 @@ pub(crate) fn loops_or_none(
 ) -> Result<Loops, SetupRefused>
     requires low { 4 ≤ size }
     ensures read { IsReadInMemory result
-        (key_fault (list_check 256 (loops_fault size)) false place (get_member key.now (table_view table.now)))
+        (key_fault (list_check 256 (loops_fault size)) false place
+        (get_member key.now (table_view table.now)))
         (map loop_of (map members (elements_at key.now (table_view table.now)))) }
     ensures rules { IfOk result AreLoops }
     ensures inside { IfOk result (All (λ (l : LoopSetup). l.last < size)) }

@@ -7,8 +7,8 @@ ghost use Rattle.fp_setup.specs.Settings.{size_of};
 ghost use Rattle.fp_setup.specs.Faults.{key_of, top};
 ghost use Rattle.fp_setup.specs.Checks.{integer_check};
 ghost use Rattle.fp_setup.specs.Tables.{integers, key_fault, top_fault};
-ghost use Rattle.fp_setup.specs.Laws.{AcceptedKeepRules};
-ghost use Rattle.fp_setup.specs.Meaning.{settings, version_at};
+ghost use Rattle.fp_setup.specs.AcceptedSetups.{AcceptedKeepRules};
+ghost use Rattle.fp_setup.specs.SetupOfTables.{settings, version_at};
 ghost use Rattle.fp_setup.specs.Places.{IsPlaced};
 ghost use Rattle.fp_setup.specs.Reading.{IsRead, IsReadInMemory};
 ghost use Rattle.fp_setup.specs.Setup.{IsFaultOf, document, setup, setup_in, setup_of};
@@ -18,9 +18,9 @@ use crate::keys::{needed_eight, needed_integer, needed_name, no_other_key, optio
 use crate::loop_rows::loops_or_none;
 use crate::nibble_list::word_of_modes;
 use crate::refusal::{Fault, Place, SetupNo, SetupRefused};
+use crate::setup::Setup;
 use crate::thread_rows::threads_or_none;
 use crate::vocabulary::Words;
-use crate::whole::Setup;
 use std::alloc::Global;
 use toml::Table;
 
@@ -42,7 +42,8 @@ const KEYS: [&str; 8] = [
 /// The version of a setup, 1 where the key is absent.
 fn version(table: &Table) -> Result<u32, Fault>
     ensures read { IsRead result
-        (key_fault (integer_check (integers 1 2)) false (key_of top 1) (get_member (codes "version") (table_view table.now)))
+        (key_fault (integer_check (integers 1 2)) false (key_of top 1)
+        (get_member (codes "version") (table_view table.now)))
         (version_at (table_view table.now)) }
     ensures one_of { IfOk result (λ v. (v ≡ 1) ⊎ (v ≡ 2)) }
 {

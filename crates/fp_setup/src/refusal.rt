@@ -35,7 +35,8 @@ pub enum SetupNo {
 /// Where a fault stands in a setup.
 #[derive(Clone, Copy, Debug, PartialEq, Eq)]
 pub struct Place {
-    /// 0 for the file as a whole, 1 for the top table, 2 for a `thread` table, 3 for a `loop` table.
+    /// 0 for the file as a whole, 1 for the top table, 2 for a `thread` table, 3 for a `loop`
+    /// table.
     pub table: u8,
     /// Which of the `thread` or `loop` tables, from 0. It is 0 elsewhere.
     pub row: u32,

@@ -23,7 +23,7 @@ pub struct ThreadSetup {
 }
 
 impl ThreadSetup {
-    ghost use Rattle.fp_setup.specs.Meaning.{unnamed};
+    ghost use Rattle.fp_setup.specs.SetupOfTables.{unnamed};
     ghost use Rattle.fp_setup.specs.Plain.{plain_thread};
 
     /// A thread with no permit, no unplug and no inputs.
@@ -71,7 +71,7 @@ impl Threads {
     ghost use Rattle.std.specs.List.{All, list_all};
     ghost use Rattle.fp_setup.specs.declared.thread_list.ThreadSetup.{ThreadSetup};
     ghost use Rattle.fp_setup.specs.Threads.{AreThreads, IsThread};
-    ghost use Rattle.fp_setup.specs.Meaning.{unnamed};
+    ghost use Rattle.fp_setup.specs.SetupOfTables.{unnamed};
     ghost use Rattle.fp_setup.specs.Plain.{is_entry, plain_threads};
 
     /// Eight threads that no table names.

@@ -10,7 +10,7 @@ ghost use Rattle.fp_setup.specs.Threads.{AreThreads, IsThread};
 ghost use Rattle.fp_setup.specs.Values.{as_list, elements, elements_at, members};
 ghost use Rattle.fp_setup.specs.Checks.{list_check};
 ghost use Rattle.fp_setup.specs.Tables.{key_fault, thread_fault, thread_table_fault, threads_fault, threads_from};
-ghost use Rattle.fp_setup.specs.Meaning.{id_at, mode_at, modes_of, thread_of, threads_of, unnamed, unnamed_mode};
+ghost use Rattle.fp_setup.specs.SetupOfTables.{id_at, mode_at, modes_of, thread_of, threads_of, unnamed, unnamed_mode};
 ghost use Rattle.fp_setup.specs.Rows.{row_of, rows_of};
 ghost use Rattle.fp_setup.specs.Reading.{IsReadInMemory};
 
@@ -91,7 +91,8 @@ fn as_cycle(moment: Option<u32>) -> Option<u64>
     }
 }
 
-/// What a table says of a thread, for scratchpads of a size in bytes, after the tables with some ids.
+/// What a table says of a thread, for scratchpads of a size in bytes, after the tables with some
+/// ids.
 fn thread_table(
     alloc: Global,
     table: &Table,
@@ -101,7 +102,9 @@ fn thread_table(
 ) -> Result<ThreadRow, SetupRefused>
     requires low { 4 ≤ size }
     requires high { size ≤ 65536 }
-    ensures read { IsReadInMemory result (thread_table_fault size ids.now row (table_view table.now)) (row_of (table_view table.now)) }
+    ensures read { IsReadInMemory result
+        (thread_table_fault size ids.now row (table_view table.now))
+        (row_of (table_view table.now)) }
     ensures id { IfOk result (λ r. r.id < 8) }
     ensures fresh { IfOk result (λ r. list_any (λ k. k == r.id) ids.now ≡ false) }
     ensures mode { IfOk result (λ r. r.mode < 4) }
@@ -139,7 +142,9 @@ fn thread_in(
 ) -> Result<ThreadRow, SetupRefused>
     requires low { 4 ≤ size }
     requires high { size ≤ 65536 }
-    ensures read { IsReadInMemory result (thread_fault size ids.now row (as_table (view value.now))) (row_of (members (view value.now))) }
+    ensures read { IsReadInMemory result
+        (thread_fault size ids.now row (as_table (view value.now)))
+        (row_of (members (view value.now))) }
     ensures id { IfOk result (λ r. r.id < 8) }
     ensures fresh { IfOk result (λ r. list_any (λ k. k == r.id) ids.now ≡ false) }
     ensures mode { IfOk result (λ r. r.mode < 4) }
@@ -160,7 +165,9 @@ fn threads_in(alloc: Global, items: &[Value], size: u32) -> Result<ThreadRows, S
     requires few { length items.now ≤ 8 }
     requires low { 4 ≤ size }
     requires high { size ≤ 65536 }
-    ensures read { IsReadInMemory result (threads_from size 0 [] (map view items.now)) (rows_of (map members (map view items.now))) }
+    ensures read { IsReadInMemory result
+        (threads_from size 0 [] (map view items.now))
+        (rows_of (map members (map view items.now))) }
     ensures modes { IfOk result (λ r. list_all (λ n. nat_lt n 4) r.modes ≡ true) }
     ensures rules { IfOk result (λ r. AreThreads r.threads) }
     ensures inside { IfOk result (λ r. All (λ (t : ThreadSetup). t.entry < size) r.threads) }
@@ -191,7 +198,9 @@ fn threads(
 ) -> Result<ThreadRows, SetupRefused>
     requires low { 4 ≤ size }
     requires high { size ≤ 65536 }
-    ensures read { IsReadInMemory result (list_check 8 (threads_fault size) place (view value.now)) (rows_of (map members (elements (view value.now)))) }
+    ensures read { IsReadInMemory result
+        (list_check 8 (threads_fault size) place (view value.now))
+        (rows_of (map members (elements (view value.now)))) }
     ensures modes { IfOk result (λ r. list_all (λ n. nat_lt n 4) r.modes ≡ true) }
     ensures rules { IfOk result (λ r. AreThreads r.threads) }
     ensures inside { IfOk result (λ r. All (λ (t : ThreadSetup). t.entry < size) r.threads) }
@@ -212,7 +221,7 @@ fn threads(
 }
 
 /// No table names a thread.
-#[tactic(auto, unfolding(crate::specs::Meaning::threads_of, crate::specs::Meaning::modes_of))]
+#[tactic(auto, unfolding(crate::specs::SetupOfTables::threads_of, crate::specs::SetupOfTables::modes_of))]
 fn no_threads(alloc: Global) -> ThreadRows
     ensures read { result ≡ rows_of [] }
     ensures modes { list_all (λ n. nat_lt n 4) result.modes ≡ true }
@@ -234,7 +243,8 @@ pub(crate) fn threads_or_none(
     requires low { 4 ≤ size }
     requires high { size ≤ 65536 }
     ensures read { IsReadInMemory result
-        (key_fault (list_check 8 (threads_fault size)) false place (get_member key.now (table_view table.now)))
+        (key_fault (list_check 8 (threads_fault size)) false place
+        (get_member key.now (table_view table.now)))
         (rows_of (map members (elements_at key.now (table_view table.now)))) }
     ensures modes { IfOk result (λ r. list_all (λ n. nat_lt n 4) r.modes ≡ true) }
     ensures rules { IfOk result (λ r. AreThreads r.threads) }

@@ -5,14 +5,14 @@ ghost use Rattle.std.specs.List.{list_any};
 ghost use Rattle.toml.specs.View.{view};
 ghost use Rattle.fp_setup.specs.Checks.{bytes_check, fresh_check, integer_check, word_check, truth_check, permit_check, is_in};
 ghost use Rattle.fp_setup.specs.Values.{as_list, number, text, truth};
-ghost use Rattle.fp_setup.specs.Meaning.{named};
+ghost use Rattle.fp_setup.specs.SetupOfTables.{named};
 ghost use Rattle.fp_setup.specs.Vocabulary.{is_value};
 ghost use Rattle.fp_setup.specs.Reading.{IsRead, IsReadInMemory};
 
 use crate::bounds::Range;
+use crate::file_name::Name;
 use crate::refusal::{Fault, Place, SetupNo, SetupRefused};
 use crate::vocabulary::Words;
-use file_name::Name;
 use std::alloc::Global;
 use toml::Value;
 
@@ -31,7 +31,9 @@ pub(crate) fn list(value: &Value) -> Option<&[Value]>
 #[tactic(auto, unfolding(crate::specs::Checks::integer_check))]
 pub(crate) fn integer(value: &Value, range: Range, place: Place) -> Result<u32, Fault>
     requires { 0 < range.step }
-    ensures read { IsRead result (integer_check range place (view value.now)) (number (view value.now)) }
+    ensures read { IsRead result
+        (integer_check range place (view value.now))
+        (number (view value.now)) }
     ensures within { IfOk result (λ n. is_in range n ≡ true) }
 {
     let Some(n) = value.as_integer() else {
@@ -48,7 +50,9 @@ pub(crate) fn integer(value: &Value, range: Range, place: Place) -> Result<u32, 
 pub(crate) fn fresh(value: &Value, range: Range, taken: &[u8], place: Place) -> Result<u8, Fault>
     requires step { 0 < range.step }
     requires small { range.high < 256 }
-    ensures read { IsRead result (fresh_check range taken.now place (view value.now)) (number (view value.now)) }
+    ensures read { IsRead result
+        (fresh_check range taken.now place (view value.now))
+        (number (view value.now)) }
     ensures within { IfOk result (λ n. is_in range n ≡ true) }
     ensures fresh { IfOk result (λ n. list_any (λ k. k == n) taken.now ≡ false) }
 {
@@ -60,9 +64,11 @@ pub(crate) fn fresh(value: &Value, range: Range, taken: &[u8], place: Place) -> 
 }
 
 /// The number of a text of a list.
-#[tactic(auto, unfolding(crate::specs::Checks::word_check, crate::specs::Meaning::named))]
+#[tactic(auto, unfolding(crate::specs::Checks::word_check, crate::specs::SetupOfTables::named))]
 pub(crate) fn word(value: &Value, words: Words, place: Place) -> Result<u8, Fault>
-    ensures read { IsRead result (word_check words place (view value.now)) (named words (text (view value.now))) }
+    ensures read { IsRead result
+        (word_check words place (view value.now))
+        (named words (text (view value.now))) }
     ensures value { IfOk result (λ n. is_value words n ≡ true) }
 {
     let Some(text) = value.as_str() else {
@@ -88,7 +94,9 @@ pub(crate) fn truth_value(value: &Value, place: Place) -> Result<bool, Fault>
 /// A truth value that isn't true beside another.
 #[tactic(auto, unfolding(crate::specs::Checks::permit_check))]
 pub(crate) fn permit(value: &Value, confined: bool, place: Place) -> Result<bool, Fault>
-    ensures read { IsRead result (permit_check confined place (view value.now)) (truth (view value.now)) }
+    ensures read { IsRead result
+        (permit_check confined place (view value.now))
+        (truth (view value.now)) }
     ensures one_of_both { IfOk result (λ permit. (confined && permit) ≡ false) }
 {
     match value.as_bool() {
@@ -107,7 +115,9 @@ pub(crate) fn name(
     high: usize,
     place: Place,
 ) -> Result<Name, SetupRefused>
-    ensures read { IsReadInMemory result (bytes_check low high place (view value.now)) (text (view value.now)) }
+    ensures read { IsReadInMemory result
+        (bytes_check low high place (view value.now))
+        (text (view value.now)) }
     ensures lengths { IfOk result (λ n. (low ≤ length n) × (length n ≤ high)) }
 {
     let Some(text) = value.as_str() else {

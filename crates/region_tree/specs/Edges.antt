@@ -1,5 +1,5 @@
--- Where a word of code leads, for the control graph. Source: this project's profile; targets are those of the RISC-V
--- unprivileged manual, "Control Transfer Instructions".
+-- Where a word of code leads, for the control graph. Source: this project's profile; targets are
+-- those of the RISC-V unprivileged manual, "Control Transfer Instructions".
 use Rattle.std.specs.Prelude.{ℕ, ◌+◌, ◌%◌, ◌^◌, ◌==◌, ℤ, pos, ◌+ℤ◌, if◌then◌else◌, Option, Some, None}
 use Rattle.rv_decode.specs.Encoding.{low_bits}
 use Rattle.rv_decode.specs.Table.{ins}

@@ -4,11 +4,13 @@ use Rattle.fp_setup.specs.declared.loop_list.LoopSetup.{LoopSetup}
 use Rattle.region_tree.specs.declared.edges.Edges.{Edges}
 use Rattle.region_tree.specs.declared.edges.Stop.{Stop}
 
--- An edge: the address that it leads to, and the least number of cycles until the word there issues.
+-- An edge: the address that it leads to, and the least number of cycles until the word there
+-- issues.
 pub record Edge : Type 0 where
   pub to : ℕ
   pub lag : ℕ
 
+-- the edge to an address, if there is one
 abbrev pub edge_to : Option ℕ → ℕ → List Edge
 edge_to None lag = []
 edge_to (Some v) lag = record { to = v; lag = lag } ∷ []
@@ -17,7 +19,8 @@ edge_to (Some v) lag = record { to = v; lag = lag } ∷ []
 abbrev pub edge_list : Edges → List Edge
 edge_list e = edge_to e.next e.next_lag ++ edge_to e.jump 3
 
--- The words of a section are those from `from` to below `to`. Edges are told by the address that they leave.
+-- The words of a section are those from `from` to below `to`. Edges are told by the address that
+-- they leave.
 pub record Graph : Type 0 where
   pub from : ℕ
   pub to : ℕ
@@ -38,8 +41,8 @@ Holds j u = (j.head ≤ u) × (u ≤ j.last)
 abbrev pub Inside : LoopSetup → LoopSetup → Type 0
 Inside j i = (j.head < i.head) × (i.last ≤ j.last)
 
--- A word is reachable where edges inside the section lead to it from the section's first word. Bounds of loops play
--- no part in that.
+-- A word is reachable where edges inside the section lead to it from the section's first word.
+-- Bounds of loops play no part in that.
 pub data Reachable (g : Graph) : ℕ → Type 0 where
   first : Reachable g g.from
   next : {u : ℕ} (e : Edge) → Reachable g u → Contains (g.edges u) e → Lies g e.to → Reachable g e.to

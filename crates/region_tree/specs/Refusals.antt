@@ -30,6 +30,7 @@ pub record CrossedAt (loops : List LoopSetup) (a : ℕ) : Type 0 where
 abbrev pub around : LoopSetup → LoopSetup → Bool
 around j i = nat_le i.head j.head && nat_le j.last i.last
 
+-- how many loops lie around one, itself among them
 abbrev pub depth : List LoopSetup → LoopSetup → ℕ
 depth loops j = count_by (around j) loops
 
@@ -40,8 +41,8 @@ pub record DeepAt (loops : List LoopSetup) (a : ℕ) : Type 0 where
   pub depth : 4 < depth loops deep
   pub address : a ≡ deep.head
 
--- the head of a loop into which a reachable edge leads from outside, but not to its head. A section's first word
--- enters a loop at its head alone, since no counting loop begins before it.
+-- the head of a loop into which a reachable edge leads from outside, but not to its head. A
+-- section's first word enters a loop at its head alone, since no counting loop begins before it.
 pub record EnteredAt (g : Graph) (a : ℕ) : Type 0 where
   pub entered : LoopSetup
   pub known : Contains g.loops entered
@@ -54,6 +55,7 @@ pub record EnteredAt (g : Graph) (a : ℕ) : Type 0 where
   pub other : by.to ≢ entered.head
   pub address : a ≡ entered.head
 
+-- Nesting is refused at an address: loops cross, are too deep, or are entered past their head.
 abbrev pub NestingAt : Graph → ℕ → Type 0
 NestingAt g a = CrossedAt g.loops a ⊎ (DeepAt g.loops a ⊎ EnteredAt g a)
 
@@ -65,8 +67,8 @@ IndirectAt g u = Reachable g u × (g.stop u ≡ Indirect)
 abbrev pub TimedAt : Graph → ℕ → Type 0
 TimedAt g u = Reachable g u × (g.stop u ≡ Timed)
 
--- a reachable word with an edge to itself or down, inside the section, that isn't to the head of a counting loop
--- that holds the word
+-- a reachable word with an edge to itself or down, inside the section, that isn't to the head of a
+-- counting loop that holds the word
 pub record UnboundedAt (g : Graph) (u : ℕ) : Type 0 where
   pub by : Edge
   pub reached : Reachable g u
@@ -84,7 +86,8 @@ pub record IsLowest (P : ℕ → Type 0) (a : ℕ) : Type 0 where
   pub holds : P a
   pub lowest : (b : ℕ) → P b → a ≤ b
 
--- The first of the four that holds anywhere, with the lowest address. Memory may be refused whatever holds.
+-- The first of the four that holds anywhere, with the lowest address. Memory may be refused
+-- whatever holds.
 abbrev pub IsRefused : Graph → TreeNo → Type 0
 IsRefused g (Nesting a) = IsLowest (NestingAt g) a
 IsRefused g (IndirectJump a) = Nowhere (NestingAt g) × IsLowest (IndirectAt g) a

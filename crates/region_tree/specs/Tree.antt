@@ -8,13 +8,15 @@ use Rattle.region_tree.specs.Graph.{Graph, edge_list}
 use Rattle.region_tree.specs.Refusals.{IsAllowed}
 use Rattle.region_tree.specs.declared.section.Section.{Section}
 
--- a section that may be asked for: not empty, aligned, and inside the largest instruction scratchpad
+-- a section that may be asked for: not empty, aligned, and inside the largest instruction
+-- scratchpad
 pub record IsSection (s : Section) : Type 0 where
   pub order : s.from < s.to
   pub from_aligned : s.from % 4 ≡ 0
   pub to_aligned : s.to % 4 ≡ 0
   pub end : s.to ≤ 65536
 
+-- a section, its words in order, and its loops
 pub record Tree : Type 0 where
   pub section : Section
   pub words : List ℕ
@@ -50,7 +52,8 @@ graph t = record {
   loops = t.loops;
 }
 
--- A section that may be asked for, with as many words, and loops that count in it and keep their own rules.
+-- A section that may be asked for, with as many words, and loops that count in it and keep their
+-- own rules.
 pub record IsDraft (t : Tree) : Type 0 where
   pub section : IsSection t.section
   pub words : t.section.to ≡ t.section.from + 4 * length t.words

@@ -13,8 +13,8 @@ pub record IsOwn (s : Positions) (p : ℕ) : Type 0 where
   pub within : p < length s.frame
   pub own : slice_index s.frame p ≡ s.thread
 
--- After an issue at position p the thread's first turn that is at least `lag` cycles later comes d cycles later, at
--- position q.
+-- After an issue at position p the thread's first turn that is at least `lag` cycles later comes d
+-- cycles later, at position q.
 pub record IsNextTurn (s : Positions) (lag p d q : ℕ) : Type 0 where
   pub start : IsOwn s p
   pub late : lag ≤ d
@@ -27,8 +27,8 @@ pub record Course : Type 0 where
   pub graph : Graph
   pub positions : Positions
 
--- A step: the word and the position of an issue, the lag of the edge that is taken, the cycles until the next issue,
--- and the word and the position of that one.
+-- A step: the word and the position of an issue, the lag of the edge that is taken, the cycles
+-- until the next issue, and the word and the position of that one.
 pub record Step : Type 0 where
   pub from : ℕ
   pub at : ℕ
@@ -37,12 +37,13 @@ pub record Step : Type 0 where
   pub to : ℕ
   pub place : ℕ
 
+-- A step of a walk goes along an edge of the graph, and to the first turn after its lag.
 pub record IsStep (x : Course) (t : Step) : Type 0 where
   pub edge : Contains (x.graph.edges t.from) (record { to = t.to; lag = t.lag })
   pub turn : IsNextTurn x.positions t.lag t.at t.cost t.place
 
--- Steps inside the section, the newest first, each from where the one before it ended: from word u at position p to
--- word v at position q.
+-- Steps inside the section, the newest first, each from where the one before it ended: from word u
+-- at position p to word v at position q.
 abbrev pub Leads : Course → ℕ → ℕ → List Step → ℕ → ℕ → Type 0
 Leads x u p [] v q = (v ≡ u) × (q ≡ p)
 Leads x u p (t ∷ ts) v q = Leads x u p ts t.from t.at × IsStep x t × Lies x.graph t.to × (v ≡ t.to) × (q ≡ t.place)
@@ -52,8 +53,8 @@ abbrev pub cost : List Step → ℕ
 cost [] = 0
 cost (t ∷ ts) = cost ts + t.cost
 
--- A loop's counter after a step from u to v: one more where a word of the loop leads to its head, 0 where another
--- word does, else as before.
+-- A loop's counter after a step from u to v: one more where a word of the loop leads to its head, 0
+-- where another word does, else as before.
 unfoldable pub counted : ℕ → ℕ → LoopSetup → ℕ → ℕ
 counted u v j n = if v == j.head then (if nat_le j.head u && nat_le u j.last then n + 1 else 0) else n
 
@@ -67,13 +68,15 @@ abbrev pub Keeps : List LoopSetup → (LoopSetup → ℕ) → List Step → Type
 Keeps loops k [] = Unit {0}
 Keeps loops k (t ∷ ts) = Keeps loops k ts × ((j : LoopSetup) → Contains loops j → counter j (k j) (t ∷ ts) ≤ j.limit)
 
--- A walk that keeps the bounds: from the section's first word at own position p to word v at position q.
+-- A walk that keeps the bounds: from the section's first word at own position p to word v at
+-- position q.
 pub record IsWalk (x : Course) (p : ℕ) (ts : List Step) (v q : ℕ) : Type 0 where
   pub own : IsOwn x.positions p
   pub leads : Leads x x.graph.from p ts v q
   pub keeps : Keeps x.graph.loops (λ j. 0) ts
 
--- What walks that keep the bounds cost: a walk may end anywhere, and a step out of the section ends it.
+-- What walks that keep the bounds cost: a walk may end anywhere, and a step out of the section ends
+-- it.
 pub data CostsOf (x : Course) : ℕ → Type 0 where
   ends : {p v q : ℕ} (ts : List Step) → IsWalk x p ts v q → CostsOf x (cost ts)
   leaves : {p : ℕ} (ts : List Step) (t : Step) → IsWalk x p ts t.from t.at → IsStep x t → (Lies x.graph t.to → ⊥) → CostsOf x (cost (t ∷ ts))

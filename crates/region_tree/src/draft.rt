@@ -30,7 +30,11 @@ impl Model for Draft {
     ghost invariant = { λ t. IsDraft (record { section = t.section; words = t.words.items; loops = t.loops.items }) };
 }
 
-/// The words of an image in a section.
+/// The words of an image in a section, by rising addresses; 0 where no segment has one.
+///
+/// # Errors
+///
+/// Memory was refused.
 #[tactic(auto, unfolding(crate::specs::Tree::words_of))]
 pub fn words(alloc: Global, image: &Image, section: Section) -> Result<Vec<u32>, AllocError>
     requires { IsSection section }
@@ -73,6 +77,10 @@ impl Draft {
     ghost use Rattle.region_tree.specs.Tree.{IsDraft, IsSection, tree_of, tree_with, word_at};
 
     /// A section with these words, and with those of the loops that count in it.
+    ///
+    /// # Errors
+    ///
+    /// Memory was refused.
     pub fn from_words(
         alloc: Global,
         section: Section,
@@ -92,6 +100,10 @@ impl Draft {
     }
 
     /// A section of an image, with those of the loops that count in it.
+    ///
+    /// # Errors
+    ///
+    /// Memory was refused.
     pub fn new(
         alloc: Global,
         image: &Image,
@@ -139,7 +151,7 @@ impl Draft {
         self.loops.as_slice()
     }
 
-    /// The address of a word by its place.
+    /// The address of a word by its place: its distance from the first word, in words.
     pub fn address(&self, place: usize) -> u32
         requires { place < length self.now.words }
         ensures value { result ≡ address self.now place }
@@ -153,7 +165,8 @@ impl Draft {
     /// The edges of a word by its place.
     pub fn edges(&self, place: usize) -> Edges
         requires { place < length self.now.words }
-        ensures { result ≡ edges_of (word_at self.now (address self.now place)) (address self.now place) }
+        ensures { result ≡ edges_of (word_at self.now (address self.now place))
+            (address self.now place) }
     {
         let address = self.address(place);
         edges_of(self.word(address), address)

@@ -29,7 +29,7 @@ pub struct Edges {
     pub stop: Stop,
 }
 
-/// The least number of cycles until the target of a jump issues.
+/// The least number of cycles from the issue of a jump to that of its target.
 pub const JUMP_LAG: u64 = 3;
 
 impl Edges {

@@ -1,5 +1,6 @@
 //! The control graph of a section of code: the edges of its words, and the tree of its counting
 //! loops.
+
 #![tactic(auto)]
 
 mod draft;

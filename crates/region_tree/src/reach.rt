@@ -18,7 +18,8 @@ struct Frontier {
 impl Frontier {
     /// Nothing is met.
     fn new(alloc: Global, count: usize) -> Result<Frontier, AllocError>
-        ensures { IfOk result (λ f. (length f.met.items ≡ count) × ((k : ℕ) → is_met f.met.items k ≡ false) × (f.todo.items ≡ [])) }
+        ensures { IfOk result (λ f. (length f.met.items ≡ count)
+            × ((k : ℕ) → is_met f.met.items k ≡ false) × (f.todo.items ≡ [])) }
     {
         let met = vec![in alloc; false; count]?;
         Ok(Frontier {
@@ -30,7 +31,8 @@ impl Frontier {
     /// Meets the word at a place, if there is one.
     fn visit(&mut self, place: Option<usize>) -> Result<(), AllocError>
         requires { IfSome place (λ k. k < length self.old.met.items) }
-        ensures { OnOk result (IsVisited place self.old.met.items self.new.met.items self.old.todo.items self.new.todo.items) }
+        ensures { OnOk result (IsVisited place self.old.met.items self.new.met.items
+            self.old.todo.items self.new.todo.items) }
     {
         let Some(place) = place else {
             return Ok(());
@@ -48,9 +50,12 @@ impl Frontier {
         requires rules { IsDraft draft.now }
         requires within { place < length draft.now.words }
         requires reached { Reachable (graph draft.now) (address draft.now place) }
-        requires gathered { IsGathered draft.now (λ k. place ≡ k) self.old.met.items self.old.todo.items }
-        ensures gathered { OnOk result (IsGathered draft.now (λ _. ⊥) self.new.met.items self.new.todo.items) }
-        ensures less { OnOk result (2 * unmet self.new.met.items + length self.new.todo.items ≤ 2 * unmet self.old.met.items + length self.old.todo.items) }
+        requires gathered { IsGathered draft.now (λ k. place ≡ k) self.old.met.items
+            self.old.todo.items }
+        ensures gathered { OnOk result
+            (IsGathered draft.now (λ _. ⊥) self.new.met.items self.new.todo.items) }
+        ensures less { OnOk result (2 * unmet self.new.met.items + length self.new.todo.items
+            ≤ 2 * unmet self.old.met.items + length self.old.todo.items) }
     {
         let edges = draft.edges(place);
         self.visit(draft.place_of(edges.next))?;
@@ -71,6 +76,10 @@ impl Frontier {
 }
 
 /// Which words edges inside the section lead to from its first word, by their places.
+///
+/// # Errors
+///
+/// Memory was refused.
 pub fn reachable(alloc: Global, draft: &Draft) -> Result<Vec<bool>, AllocError>
     ensures { IfOk result (λ met. IsMet draft.now met.items) }
 {

@@ -175,7 +175,8 @@ fn nesting(draft: &Draft, met: &[bool]) -> Option<u32>
 /// The lowest address of a reachable word with this stop.
 fn stopped(draft: &Draft, met: &[bool], stop: Stop) -> Option<u32>
     requires { IsMet draft.now met.now }
-    ensures { LowestOf (λ u. Reachable (graph draft.now) u × ((graph draft.now).stop u ≡ stop)) result }
+    ensures { LowestOf (λ u. Reachable (graph draft.now) u × ((graph draft.now).stop u ≡ stop))
+        result }
 {
     for place in 0..draft.len() {
         if met[place] && draft.edges(place).stop == stop {
@@ -241,6 +242,10 @@ fn unbounded(draft: &Draft, met: &[bool]) -> Option<u32>
 }
 
 /// Refuses a section that has no bound: nesting first, then jumps, waits and ways back.
+///
+/// # Errors
+///
+/// The first of the four kinds that the section has, with the lowest address at which it has it.
 pub fn check(draft: &Draft, met: &[bool]) -> Result<(), TreeNo>
     requires { IsMet draft.now met.now }
     ensures { MatchResult result (λ _. IsAllowed (graph draft.now)) (IsRefused (graph draft.now)) }

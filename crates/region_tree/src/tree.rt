@@ -85,9 +85,11 @@ impl LoopTree {
     ) -> Result<LoopTree, TreeNo>
         requires { IsSection section }
         ensures tree { IfOk result (λ tree. tree ≡ tree_of (word image.now) section loops.now) }
-        ensures allowed { OnOk result (IsAllowed (graph (tree_of (word image.now) section loops.now))) }
+        ensures allowed { OnOk result
+            (IsAllowed (graph (tree_of (word image.now) section loops.now))) }
         ensures rules { IfOk result IsTree }
-        ensures refused { IfErr result (IsRefused (graph (tree_of (word image.now) section loops.now))) }
+        ensures refused { IfErr result
+            (IsRefused (graph (tree_of (word image.now) section loops.now))) }
     {
         let draft = Draft::new(alloc, image, section, loops)?;
         let met = reachable(alloc, &draft)?;
@@ -110,9 +112,11 @@ impl LoopTree {
         requires section { IsSection section }
         requires count { section.to ≡ section.from + 4 * length words.items }
         ensures tree { IfOk result (λ tree. tree ≡ tree_with section words.items loops.now) }
-        ensures allowed { OnOk result (IsAllowed (graph (tree_with section words.items loops.now))) }
+        ensures allowed { OnOk result
+            (IsAllowed (graph (tree_with section words.items loops.now))) }
         ensures rules { IfOk result IsTree }
-        ensures refused { IfErr result (IsRefused (graph (tree_with section words.items loops.now))) }
+        ensures refused { IfErr result
+            (IsRefused (graph (tree_with section words.items loops.now))) }
     {
         let draft = Draft::from_words(alloc, section, words, loops)?;
         let met = reachable(alloc, &draft)?;

@@ -1,7 +1,7 @@
 use Rattle.std.proofs.lemmas.Grind.{common_steps}
 use Rattle.std.proofs.Common.{arith}
 use Rattle.fp_setup.specs.Checks.{eight_check}
-use Rattle.fp_setup.specs.Meaning.{nibble_word}
+use Rattle.fp_setup.specs.SetupOfTables.{nibble_word}
 use Rattle.fp_setup.proofs.nibble_list.eight.Goals as goal
 
 pub returns-clause-read : goal.returns-clause-read

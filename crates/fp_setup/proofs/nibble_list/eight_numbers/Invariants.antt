@@ -3,7 +3,7 @@ use Rattle.std.specs.List.{list_all}
 use Rattle.toml.specs.View.{view}
 use Rattle.fp_setup.specs.Checks.{each_fault, word_check}
 use Rattle.fp_setup.specs.Values.{text}
-use Rattle.fp_setup.specs.Meaning.{named}
+use Rattle.fp_setup.specs.SetupOfTables.{named}
 use Rattle.fp_setup.specs.Vocabulary.{is_value}
 use Rattle.fp_setup.proofs.nibble_list.eight_numbers.Given as goal
 

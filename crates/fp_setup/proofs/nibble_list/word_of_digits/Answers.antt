@@ -1,5 +1,5 @@
 use Rattle.std.proofs.Common.{◌≡◌, ◌<◌, ◌+◌, ◌-◌, ◌*◌, ◌^◌, drop, get_or, refl, ap, ◌∙◌, arith}
-use Rattle.fp_setup.specs.Meaning.{word_of}
+use Rattle.fp_setup.specs.SetupOfTables.{word_of}
 use Rattle.fp_setup.proofs.Digits.{word_step, word_step-fits, word_of-small}
 use Rattle.fp_setup.proofs.nibble_list.word_of_digits.Goals as goal
 

@@ -1,5 +1,5 @@
 use Rattle.std.proofs.Common.{◌≡◌, drop}
-use Rattle.fp_setup.specs.Meaning.{word_of}
+use Rattle.fp_setup.specs.SetupOfTables.{word_of}
 use Rattle.fp_setup.proofs.nibble_list.word_of_digits.Given as goal
 
 abbrev pub invariant-loop-i : goal.invariant-loop-i

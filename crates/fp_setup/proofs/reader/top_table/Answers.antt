@@ -7,7 +7,7 @@ use Rattle.fp_setup.specs.declared.thread_rows.ThreadRows.{ThreadRows}
 use Rattle.fp_setup.specs.declared.thread_list.ThreadSetup.{ThreadSetup}
 use Rattle.fp_setup.specs.declared.loop_list.LoopSetup.{LoopSetup}
 use Rattle.fp_setup.specs.Settings.{size_of}
-use Rattle.fp_setup.specs.Meaning.{version_at, word_of}
+use Rattle.fp_setup.specs.SetupOfTables.{version_at, word_of}
 use Rattle.fp_setup.proofs.TwoChecks.{past, found, found_in_memory}
 use Rattle.fp_setup.proofs.TopTable.{IsGoodTo, table_checks, period_within, size_within, settings-from}
 use Rattle.fp_setup.proofs.reader.top_table.Goals.{After-version, After-size_of_version-size, After-top_key-2, After-top_key-3, After-top_key-4, After-top_key-5, After-top_key-6, After-top_key-7, After-word_of_modes}

@@ -12,7 +12,7 @@ use Rattle.fp_setup.specs.declared.refusal.Place.{Place}
 use Rattle.fp_setup.specs.Faults.{thread_row}
 use Rattle.fp_setup.specs.Tables.{thread_fault}
 use Rattle.fp_setup.specs.Rows.{row_of}
-use Rattle.fp_setup.specs.Meaning.{id_at, modes_of, threads_of, unnamed}
+use Rattle.fp_setup.specs.SetupOfTables.{id_at, modes_of, threads_of, unnamed}
 use Rattle.fp_setup.proofs.Placed.{tables, tables-more, unnamed-rules, ids-more, found-more, modes-more, threads-more, few-more}
 use Rattle.fp_setup.proofs.thread_rows.threads_in.Goals as goal
 

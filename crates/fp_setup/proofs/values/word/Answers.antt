@@ -1,6 +1,6 @@
 use Rattle.std.proofs.Common.{rules}
 use Rattle.fp_setup.specs.Checks.{word_check}
-use Rattle.fp_setup.specs.Meaning.{named}
+use Rattle.fp_setup.specs.SetupOfTables.{named}
 use Rattle.fp_setup.proofs.values.word.Goals as goal
 
 pub returns-in-None-clause-read : goal.returns-in-None-clause-read

@@ -3,7 +3,7 @@ use Rattle.std.proofs.lemmas.List.{take_all}
 use Rattle.std.proofs.lemmas.List.Elements.{All-same, All-replicate, All-set}
 use Rattle.fp_setup.specs.declared.thread_list.ThreadSetup.{ThreadSetup}
 use Rattle.fp_setup.specs.Threads.{IsThread}
-use Rattle.fp_setup.specs.Meaning.{the_threads, unnamed}
+use Rattle.fp_setup.specs.SetupOfTables.{the_threads, unnamed}
 use Rattle.fp_setup.specs.Plain.{plain_at, plain_threads}
 use Rattle.fp_setup.proofs.Placed.{unnamed-rules}
 use Rattle.fp_setup.proofs.PlainThreads.{rules_at, made-more}

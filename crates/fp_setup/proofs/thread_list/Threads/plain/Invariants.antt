@@ -2,7 +2,7 @@ use Rattle.std.proofs.Common.{◌≡◌, ◌<◌, length, map, take}
 use Rattle.std.specs.List.{All}
 use Rattle.fp_setup.specs.declared.thread_list.ThreadSetup.{ThreadSetup}
 use Rattle.fp_setup.specs.Threads.{IsThread}
-use Rattle.fp_setup.specs.Meaning.{the_threads}
+use Rattle.fp_setup.specs.SetupOfTables.{the_threads}
 use Rattle.fp_setup.specs.Plain.{plain_at}
 use Rattle.fp_setup.proofs.thread_list.Threads.plain.Given as goal
 

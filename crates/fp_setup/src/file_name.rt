@@ -1,12 +1,12 @@
 //! The name of a file, as the words of a command line and setups give it.
-#![tactic(auto)]
 
 ghost use Rattle.std.specs.Prelude.{◌≡◌, IfOk};
 
 use std::alloc::{AllocError, Global};
 use std::marker::Model;
 
-/// The name of a file, as it is written. Contracts see its bytes.
+/// The name of a file, as it is written: any text, which is handed to the files as it stands.
+/// Contracts see its bytes.
 #[derive(Drop)]
 pub struct Name {
     text: String,
@@ -21,11 +21,11 @@ impl Model for Name {
 }
 
 impl Name {
-    /// The name with this text.
+    /// The name with this text, byte for byte.
     ///
     /// # Errors
     ///
-    /// Memory was refused.
+    /// Only where memory was refused.
     pub fn from_str(alloc: Global, s: &str) -> Result<Name, AllocError>
         ensures { IfOk result (λ name. name ≡ s.now) }
     {
@@ -33,7 +33,7 @@ impl Name {
         Ok(Name { text })
     }
 
-    /// The text of the name.
+    /// The text of the name, byte for byte.
     pub fn as_str(&self) -> &str
         ensures { result.now ≡ self.now }
     {

@@ -1,5 +1,5 @@
 use Rattle.std.proofs.Common.{rules}
-use Rattle.fp_setup.proofs.whole.Setup.of_words.Goals as goal
+use Rattle.fp_setup.proofs.setup.Setup.of_words.Goals as goal
 
 pub returns : goal.returns
 returns c = search rules

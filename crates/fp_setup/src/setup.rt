@@ -1,9 +1,9 @@
 //! A setup as a whole.
 
 use crate::bounds::size_of_version;
+use crate::file_name::Name;
 use crate::loop_list::Loops;
 use crate::thread_list::Threads;
-use file_name::Name;
 use std::alloc::{AllocError, Global};
 use std::marker::Model;
 
@@ -35,9 +35,29 @@ impl Model for Setup {
 
     ghost use Rattle.fp_setup.specs.Rules.{KeepsRules};
 
-    ghost view = { λ s. record { version = s.version; period = s.period; slots = s.slots; modes = s.modes; iregions = s.iregions; dregions = s.dregions; image = s.image; threads = s.threads; loops = s.loops } };
+    ghost view = { λ s. record {
+      version = s.version;
+      period = s.period;
+      slots = s.slots;
+      modes = s.modes;
+      iregions = s.iregions;
+      dregions = s.dregions;
+      image = s.image;
+      threads = s.threads;
+      loops = s.loops;
+    } };
 
-    ghost invariant = { λ s. KeepsRules (record { version = s.version; period = s.period; slots = s.slots; modes = s.modes; iregions = s.iregions; dregions = s.dregions; image = s.image; threads = s.threads; loops = s.loops }) };
+    ghost invariant = { λ s. KeepsRules (record {
+      version = s.version;
+      period = s.period;
+      slots = s.slots;
+      modes = s.modes;
+      iregions = s.iregions;
+      dregions = s.dregions;
+      image = s.image;
+      threads = s.threads;
+      loops = s.loops;
+    }) };
 }
 
 impl Setup {
@@ -57,9 +77,10 @@ impl Setup {
         size_of_version(self.version)
     }
 
-    /// The setup of version 1 with these values, the image name `-`, no permit, no unplug, no inputs
-    /// and no loops. The values keep the rules of a setup: a period of 1 to 1,000 nanoseconds, words
-    /// that the registers accept, and entries that are multiples of 4 below 16,384.
+    /// The setup of version 1 with these values, the image name `-`, no permit, no unplug, no
+    /// inputs and no loops. The values keep the rules of a setup: a period of 1 to 1,000
+    /// nanoseconds, words that the registers accept, and entries that are multiples of 4 below
+    /// 16,384.
     ///
     /// # Errors
     ///
@@ -82,7 +103,8 @@ impl Setup {
         requires iregions { IsTrue (is_regions iregions) }
         requires dregions { IsTrue (is_regions dregions) }
         requires entries { IsTrue (list_all is_entry entries) }
-        ensures { IfOk result (λ s. s ≡ plain_setup period slots modes iregions dregions entries confined) }
+        ensures { IfOk result (λ s.
+            s ≡ plain_setup period slots modes iregions dregions entries confined) }
     {
         let image = Name::from_str(alloc, "-")?;
         Ok(Setup {
