@@ -38,8 +38,8 @@ fn read_args(rt: HostRuntime) -> Result<Vec<String>, u8> {
     }
 }
 
-/// Runs the command that the words ask, beside a device at each of the eight ports that shows 0 until
-/// it is fed. A command is done once all that it wrote has left the program.
+/// Runs the command that the words ask, beside a device at each of the eight ports that shows 0
+/// until it is fed. A command is done once all that it wrote has left the program.
 fn answer(rt: HostRuntime, words: &[String]) -> Result<u8, AllocError> {
     let alloc = rt.alloc();
     let mut ports: Ports = Vec::new(alloc);

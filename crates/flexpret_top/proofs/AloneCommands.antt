@@ -1,6 +1,6 @@
 -- What the commands of one thread alone answer.
 use Rattle.std.proofs.Common.{◌≡◌, ℕ, ◌<◌, ◌≤◌, get_or, length, List, [], Option, Some, None, Result, Ok, Err, refl, ap, sym, subst, ◌∙◌, arith, inl, inr}
-use Rattle.std.specs.Prelude.{IfSome, slice_get, IfOk}
+use Rattle.std.specs.Prelude.{IfSome, slice_get}
 use Rattle.ask_words.specs.declared.asked.Ask.{Ask}
 use Rattle.ask_words.specs.declared.asked.Ask.TheVariants.{Solo, Check}
 use Rattle.core_model.specs.Solo.{solo}
@@ -9,38 +9,38 @@ use Rattle.fp_io.specs.Causes.{Rose}
 use Rattle.fp_io.specs.Content.{FileMap}
 use Rattle.fp_ports.specs.Rows.{Row, row_at, row_of, rows_of}
 use Rattle.fp_ports.proofs.RowLemmas.{row_read}
-use Rattle.fp_setup.specs.Meaning.{unnamed}
+use Rattle.fp_setup.specs.SetupOfTables.{unnamed}
 use Rattle.fp_setup.specs.Settings.{Settings}
 use Rattle.std.proofs.lemmas.Option.{get_or_from_slice_get}
-use Rattle.fp_ports.specs.Shown.{shown}
+use Rattle.fp_ports.specs.ShownWords.{shown}
 use Rattle.fp_setup.specs.declared.thread_list.ThreadSetup.{ThreadSetup}
 use Rattle.setup_model.specs.Start.{inputs_of, shown_to, thread_of}
 use Rattle.solo_run.specs.View.{view_with}
 use Rattle.trace_print.specs.Text.{text}
 use Rattle.world_model.specs.Viewed.{view}
-use Rattle.flexpret_top.specs.declared.program.Program.{Program}
+use Rattle.file_answers.specs.declared.program.Program.{Program}
 use Rattle.flexpret_top.specs.declared.ready.Alone.{Alone}
 use Rattle.flexpret_top.specs.declared.ready.Prepared.{Prepared}
 use Rattle.flexpret_top.specs.declared.ready.Prepared.TheVariants as prepared
-use Rattle.flexpret_top.specs.declared.stop.Stop.{Stop}
-use Rattle.flexpret_top.specs.declared.stop.Stop.TheVariants.{Refused, Differs, Read, NoMemory}
+use Rattle.file_answers.specs.declared.stop.Stop.{Stop}
+use Rattle.file_answers.specs.declared.stop.Stop.TheVariants.{Refused, Differs, Read, NoMemory}
 use Rattle.flexpret_top.specs.Alone.{IsAlone, IsAloneOf, alone_of, alone_text, check_answer, checked_of, compared, same_text, told_alone}
-use Rattle.flexpret_top.specs.Answer.{Answer, ends, over_file, then_by}
-use Rattle.flexpret_top.specs.Answer.Answer.{Says}
+use Rattle.file_answers.specs.Answer.{Answer, ends, over_file, then_by}
+use Rattle.file_answers.specs.Answer.Answer.{Says}
 use Rattle.flexpret_top.specs.Command.{IsAnswerIn}
 use Rattle.flexpret_top.specs.Prepared.{Prepares}
 use Rattle.flexpret_top.specs.Run.{start_of}
-use Rattle.flexpret_top.specs.Stops.{IsStop}
+use Rattle.file_answers.specs.Stops.{IsStop}
 use Rattle.flexpret_top.proofs.OneThread.{view-beside}
 
 -- a stop of one kind is a stop of another where its answers are
 stop-turns : (told : Option FileMap) (P Q : FileMap → Answer → Type 0) (b a : ℕ) (stop : Stop) → IfSome told (λ files. (x : Answer) → P files x → Q files x) → IsStop told P b a stop → IsStop told Q b a stop
-stop-turns None P Q b a (Refused cause refusal) turns is = tt
+stop-turns None P Q b a (Refused refusal) turns is = tt
 stop-turns None P Q b a (Differs line) turns is = tt
 stop-turns None P Q b a Read turns (inl rose) = inl rose
 stop-turns None P Q b a Read turns (inr missing) = absurd missing
 stop-turns None P Q b a NoMemory turns is = tt
-stop-turns (Some files) P Q b a (Refused cause refusal) turns is = turns _ is
+stop-turns (Some files) P Q b a (Refused refusal) turns is = turns _ is
 stop-turns (Some files) P Q b a (Differs line) turns is = turns _ is
 stop-turns (Some files) P Q b a Read turns (inl rose) = inl rose
 stop-turns (Some files) P Q b a Read turns (inr missing) = inr (turns _ missing)
@@ -48,7 +48,7 @@ stop-turns (Some files) P Q b a NoMemory turns is = tt
 
 -- a stop of a later step
 stop-later : (told : Option FileMap) (P : FileMap → Answer → Type 0) (b b' a : ℕ) (stop : Stop) → (Rose b' a → Rose b a) → IsStop told P b' a stop → IsStop told P b a stop
-stop-later told P b b' a (Refused cause refusal) earlier is = is
+stop-later told P b b' a (Refused refusal) earlier is = is
 stop-later told P b b' a (Differs line) earlier is = is
 stop-later told P b b' a Read earlier (inl rose) = inl (earlier rose)
 stop-later told P b b' a Read earlier (inr missing) = inr missing
@@ -138,12 +138,3 @@ pub same-prepares : (told : Option FileMap) (name : List ℕ) (i n : ℕ) (trace
     IfSome told (λ files. Prepares (Check name i n trace) files before after prepared.Same)
 same-prepares None name i n trace before after kept is = tt
 same-prepares (Some files) name i n trace before after kept is = record { written = same_text; delivers = refl; is = is; leaves = λ last leaves. leaves ∙ kept }
-
-pub ok-check : (told : Option FileMap) (name : List ℕ) (i n : ℕ) (trace : List ℕ) (asked : Ask) (before after : List (Option Row)) (r : Result Prepared Stop) → Check name i n trace ≡ asked →
-    IfOk r (λ p. p ≡ prepared.Same) → IfOk r (λ p. IfSome told (λ files. Says 0 same_text ≡ check_answer files before name i n trace)) → after ≡ before →
-    IfOk r (λ p. IfSome told (λ files. Prepares asked files before after p))
-ok-check told name i n trace asked before after (Ok p) same is_same is kept =
-    let Answers : Ask → Type 0 = λ a. IfSome told (λ files. Prepares a files before after prepared.Same) in
-    let Of : Prepared → Type 0 = λ p. IfSome told (λ files. Prepares asked files before after p) in
-    subst Of (sym is_same) (subst Answers same (same-prepares told name i n trace before after kept is))
-ok-check told name i n trace asked before after (Err stop) same is_same is kept = tt

@@ -7,11 +7,11 @@ use Rattle.fp_ports.specs.Rows.{Row}
 use Rattle.trace_print.specs.Text.{text}
 use Rattle.world_model.specs.World.{Start, events}
 use Rattle.machine.specs.declared.state.Machine.{Machine}
-use Rattle.machine.specs.Meaning.{StandsFor, HasRun, Stopped, AreLeft}
+use Rattle.machine.specs.WorldRelation.{StandsFor, HasRun, Stopped, AreLeft}
 use Rattle.machine.proofs.WordLemmas.{ports_after}
-use Rattle.machine_model.specs.Seen.{seen}
+use Rattle.machine_model.specs.DumpedState.{seen}
 use Rattle.flexpret_top.specs.declared.ready.Ready.{Ready}
-use Rattle.phase_log.specs.Meaning.{HasLogged, LogStopped, StartsAs}
+use Rattle.phase_log.specs.LoggedRuns.{HasLogged, LogStopped, StartsAs}
 use Rattle.phase_log.specs.Text.{phases_text}
 use Rattle.phase_model.specs.Phases.{phases}
 use Rattle.flexpret_top.specs.Prepared.{Gone, LeavesRun, Runs}

@@ -23,8 +23,8 @@ use Rattle.region_tree.specs.Tree.{Tree}
 use Rattle.region_tree.specs.declared.section.Section.{Section}
 use Rattle.region_tree.specs.declared.tree.TreeNo.{TreeNo}
 use Rattle.region_tree.specs.declared.tree.TreeNo.TheVariants as in_tree
-use Rattle.setup_laws.specs.Laws.{IsConfinedHard, TraceAlone, TraceByPhases}
-use Rattle.fp_setup.specs.Laws.{AcceptedKeepRules}
+use Rattle.setup_laws.specs.TraceLaws.{IsConfinedHard, TraceAlone, TraceByPhases}
+use Rattle.fp_setup.specs.AcceptedSetups.{AcceptedKeepRules}
 use Rattle.fp_setup.specs.Rules.{KeepsRules}
 use Rattle.fp_setup.specs.Settings.{Settings, size_of}
 use Rattle.fp_setup.specs.Setup.{setup as setup_meant}
@@ -32,22 +32,22 @@ use Rattle.fp_setup.specs.declared.refusal.Fault.{Fault}
 use Rattle.setup_model.specs.Start.{thread_of}
 use Rattle.slot_scheduler.specs.ModeWord.{mode_of}
 use Rattle.setup_visits.specs.CallLaws.{CallVisitsStayBounded}
-use Rattle.setup_visits.specs.Laws.{VisitsStayBounded}
+use Rattle.setup_visits.specs.SetupVisitBound.{VisitsStayBounded}
 use Rattle.trace_print.specs.declared.refusals.Refusal.TheVariants as refusal
-use Rattle.flexpret_top.specs.Bound.{IsBoundAnswer, IsSectionAnswer, section_fault, section_tree}
-use Rattle.flexpret_top.specs.Calls.{IsCallsAnswer, IsRoutinesAnswer, IsSectionCallsAnswer, of_routines, routines_in, section_listing}
-use Rattle.flexpret_top.specs.Codes.{call_refusal, tree_refusal}
-use Rattle.flexpret_top.specs.declared.program.Program.{Program}
-use Rattle.flexpret_top.specs.Answer.{Answer, IsSaid, refused, then_by, over_file, ends}
+use Rattle.file_answers.specs.Bound.{IsBoundAnswer, IsSectionAnswer, section_fault, section_tree}
+use Rattle.file_answers.specs.Calls.{IsCallsAnswer, IsRoutinesAnswer, IsSectionCallsAnswer, of_routines, routines_in, section_listing}
+use Rattle.file_answers.specs.Codes.{call_refusal, tree_refusal}
+use Rattle.file_answers.specs.declared.program.Program.{Program}
+use Rattle.file_answers.specs.Answer.{Answer, IsSaid, refused, then_by, over_file, ends}
 use Rattle.flexpret_top.specs.Alone.{alone_fault, alone_in, alone_of, alone_text, unless_fault}
-use Rattle.flexpret_top.specs.Elf.{elf_in, of_elf}
+use Rattle.file_answers.specs.Elf.{elf_in, of_elf}
 use Rattle.ask_words.specs.Commands.{ask}
 use Rattle.flexpret_top.specs.declared.status.Status.{Status}
 use Rattle.flexpret_top.specs.declared.status.Status.TheVariants.{Read, Write, NoMemory as OutOfMemory}
 use Rattle.flexpret_top.specs.Status.{number_of}
 use Rattle.flexpret_top.specs.Command.{IsAnswerIn, IsAnswerTo, Said}
 use Rattle.flexpret_top.specs.Headline.{BoundsCallVisits, BoundsVisits, IsImported, IsLongest, IsLongestByCalls, WritesAlone, WritesAsRun, WritesByPhases, WritesImage, machine_of}
-use Rattle.flexpret_top.specs.Program.{image_in, of_setup, program, setup_in, with_image}
+use Rattle.file_answers.specs.Program.{image_in, of_setup, program, setup_in, with_image}
 use Rattle.flexpret_top.specs.Run.{trace_of}
 
 -- a refusal isn't status 0
@@ -237,9 +237,8 @@ visits-over law (Some (Elf file)) files ports before after said = tt
 visits-over law (Some (Calls setup i section routines)) files ports before after said = tt
 visits-over law (Some (Bound setup i section)) files ports before after said =
     λ p is. (
-    let s : Section = record { from = section.from; to = section.to } in
-    let Answers : Result Program Answer → Type 0 = λ q. IsBoundAnswer q i s said.answer in
-    section-longest law p i s before after (section_fault p.setup i s) said.answer (subst Answers is said.is) said.said)
+    let Answers : Result Program Answer → Type 0 = λ q. IsBoundAnswer q i section said.answer in
+    section-longest law p i section before after (section_fault p.setup i section) said.answer (subst Answers is said.is) said.said)
 
 pub visits-of : VisitsStayBounded → (told : Option FileMap) (asked : Option Ask) (ports : List (Option Row)) (before after : Option (List ℕ)) →
     IfSome told (λ files. Said (IsAnswerTo asked files ports) 0 before after) → IfSome told (λ files. BoundsVisits asked files before after)
@@ -302,10 +301,9 @@ call-visits-over law (Some (Check setup i n trace)) files ports before after sai
 call-visits-over law (Some (Elf file)) files ports before after said = tt
 call-visits-over law (Some (Calls setup i section routines)) files ports before after said =
     λ p file is there. (
-    let s : Section = record { from = section.from; to = section.to } in
-    let Answers : Result Program Answer → Type 0 = λ q. IsCallsAnswer q i s (files routines) said.answer in
-    let In : Option (List ℕ) → Type 0 = λ o. IsCallsAnswer (Ok p) i s o said.answer in
-    calls-longest law p i s file before after (section_fault p.setup i s) said.answer (subst In there (subst Answers is said.is)) said.said)
+    let Answers : Result Program Answer → Type 0 = λ q. IsCallsAnswer q i section (files routines) said.answer in
+    let In : Option (List ℕ) → Type 0 = λ o. IsCallsAnswer (Ok p) i section o said.answer in
+    calls-longest law p i section file before after (section_fault p.setup i section) said.answer (subst In there (subst Answers is said.is)) said.said)
 
 pub call-visits-of : CallVisitsStayBounded → (told : Option FileMap) (asked : Option Ask) (ports : List (Option Row)) (before after : Option (List ℕ)) →
     IfSome told (λ files. Said (IsAnswerTo asked files ports) 0 before after) → IfSome told (λ files. BoundsCallVisits asked files before after)

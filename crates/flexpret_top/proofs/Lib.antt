@@ -1,11 +1,7 @@
 mod AloneCommands
-mod Bounds
-mod CallAnswers
-mod Cuts
 mod Delivering
 mod Ending
 mod Headlines
-mod ListCut
 mod OneThread
 mod Preparing
 mod Stopping

@@ -15,13 +15,13 @@ use Rattle.std.proofs.lemmas.List.Folds.{find-append}
 use Rattle.std.specs.Option.{option_or}
 use Rattle.core_model.specs.View.{View}
 use Rattle.fp_ports.specs.Rows.{row_of, rows_of, word_seen}
-use Rattle.fp_ports.specs.Shown.{input_at, is_gone, shown_at}
+use Rattle.fp_ports.specs.ShownWords.{input_at, is_gone, shown_at}
 use Rattle.fp_setup.specs.declared.input_list.Input.{Input}
 use Rattle.fp_setup.specs.Inputs.{AreInputs}
 use Rattle.fp_image.specs.declared.parts.Segment.{Segment}
 use Rattle.fp_io.specs.Content.{FileMap, Fetched}
 use Rattle.fp_ports.specs.Rows.{Row}
-use Rattle.fp_setup.specs.Meaning.{the_threads}
+use Rattle.fp_setup.specs.SetupOfTables.{the_threads}
 use Rattle.fp_setup.specs.Settings.{Settings}
 use Rattle.setup_model.specs.Start.{start, shown_to}
 use Rattle.solo_run.specs.Checked.{IsChecked, first_differing_line, line_feeds}
@@ -32,9 +32,9 @@ use Rattle.solo_run.proofs.Compare.{front}
 use Rattle.world_model.specs.Viewed.{view, setting_of}
 use Rattle.solo_run.specs.View.{view_with}
 use Rattle.solo_run.specs.declared.view.SoloView.{SoloView}
-use Rattle.flexpret_top.specs.Alone.{compared, differs_text, same_text}
-use Rattle.flexpret_top.specs.Answer.{Answer, over_file}
-use Rattle.flexpret_top.specs.Answer.Answer.{Says}
+use Rattle.file_answers.specs.Answer.{Answer, differs_text, over_file}
+use Rattle.flexpret_top.specs.Alone.{compared, same_text}
+use Rattle.file_answers.specs.Answer.Answer.{Says}
 
 -- one of the threads stands at its own place
 thread-at : (i : ℕ) → i < 8 → get_or the_threads i 0 ≡ i

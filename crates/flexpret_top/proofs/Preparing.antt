@@ -1,36 +1,28 @@
 -- What was prepared answers the command.
 use Rattle.std.proofs.Common.{refl, ◌≡◌, ℕ, ◌≤◌, List, length, Option, Some, None, Result, Ok, arith, ap, sym, subst, ◌∙◌}
-use Rattle.std.specs.Prelude.{IfSome, IfErr}
-use Rattle.ask_words.specs.declared.asked.Ask.{Ask}
-use Rattle.flexpret_top.specs.Command.{IsAnswerIn, LeavesMachine}
-use Rattle.flexpret_top.specs.Elf.{elf_answer}
-use Rattle.flexpret_top.specs.Stops.{IsStop}
-use Rattle.flexpret_top.specs.declared.stop.Stop.{Stop}
+use Rattle.std.specs.Prelude.{IfSome}
+use Rattle.flexpret_top.specs.Command.{LeavesMachine}
 use Rattle.fp_io.specs.Content.{FileMap}
 use Rattle.fp_ports.specs.Rows.{Row, row_of, rows_of}
 use Rattle.std.proofs.lemmas.List.{length-map}
-use Rattle.ask_words.specs.declared.asked.Ask.TheVariants.{Run, Dump, Asm, Bound, Calls, Elf, Phases}
-use Rattle.ask_words.specs.declared.asked.Section.{Section}
-use Rattle.flexpret_top.specs.Assembled.{asm_answer}
-use Rattle.flexpret_top.specs.Bound.{IsBoundAnswer}
-use Rattle.flexpret_top.specs.Calls.{IsCallsAnswer}
+use Rattle.ask_words.specs.declared.asked.Ask.TheVariants.{Run, Dump, Phases}
 use Rattle.machine.specs.Feeding.{fed_all}
 use Rattle.machine.proofs.FedLemmas.{feeds}
-use Rattle.machine.specs.Meaning.{StandsFor, PortsAfter, start_beside}
-use Rattle.machine_model.specs.Seen.{seen}
+use Rattle.machine.specs.WorldRelation.{StandsFor, PortsAfter, start_beside}
+use Rattle.machine_model.specs.DumpedState.{seen}
 use Rattle.fp_setup.specs.Settings.{Settings}
-use Rattle.phase_log.specs.Meaning.{StartsAs}
+use Rattle.phase_log.specs.LoggedRuns.{StartsAs}
 use Rattle.phase_log.specs.Text.{phases_text}
 use Rattle.phase_model.specs.Phases.{phases}
 use Rattle.setup_model.specs.Start.{start}
 use Rattle.trace_print.specs.Text.{text}
 use Rattle.world_model.specs.World.{Start, events}
-use Rattle.flexpret_top.specs.declared.program.Program.{Program}
+use Rattle.file_answers.specs.declared.program.Program.{Program}
 use Rattle.flexpret_top.specs.declared.ready.Ready.{Ready}
 use Rattle.flexpret_top.specs.declared.ready.Prepared.TheVariants as prepared
-use Rattle.flexpret_top.specs.Answer.{Answer, then_by, ends}
+use Rattle.file_answers.specs.Answer.{Answer, then_by, ends}
 use Rattle.flexpret_top.specs.Prepared.{IsReady, LeavesRun, Prepares, Runs}
-use Rattle.flexpret_top.specs.Program.{program}
+use Rattle.file_answers.specs.Program.{program}
 use Rattle.flexpret_top.specs.Run.{start_of, trace_of, dump_of, phases_of}
 
 -- the world of a program starts with the slots and modes of its setup
@@ -95,27 +87,6 @@ phases-prepares (Some files) name n before after r same ready =
       is = sym (ap (λ (q : Result Program Answer). ends (then_by q (phases_of before r.cycles))) ready.is);
       leaves = λ last. ready-leaves files name before after last r ready;
     })
-
--- the stops of commands that don't hang on the ports
-pub stop-asm : {A : Type 0} → (told : Option FileMap) (source : List ℕ) (asked : Ask) (ports : List (Option Row)) (before after : ℕ) (r : Result A Stop) → Asm source ≡ asked →
-    IfErr r (IsStop told (λ files x. x ≡ asm_answer files source) before after) → IfErr r (IsStop told (IsAnswerIn asked ports) before after)
-stop-asm told source asked ports before after r same stop = let Stops : Ask → Type 0 = λ a. IfErr r (IsStop told (IsAnswerIn a ports) before after) in subst Stops same stop
-
-pub stop-elf : {A : Type 0} → (told : Option FileMap) (file : List ℕ) (asked : Ask) (ports : List (Option Row)) (before after : ℕ) (r : Result A Stop) → Elf file ≡ asked →
-    IfErr r (IsStop told (λ files x. x ≡ elf_answer files file) before after) → IfErr r (IsStop told (IsAnswerIn asked ports) before after)
-stop-elf told file asked ports before after r same stop = let Stops : Ask → Type 0 = λ a. IfErr r (IsStop told (IsAnswerIn a ports) before after) in subst Stops same stop
-
-pub stop-bound : {A : Type 0} → (told : Option FileMap) (setup : List ℕ) (thread : ℕ) (section : Section) (asked : Ask) (ports : List (Option Row)) (before after : ℕ) (r : Result A Stop) →
-    Bound setup thread section ≡ asked →
-    IfErr r (IsStop told (λ files x. IsBoundAnswer (program files setup) thread (record { from = section.from; to = section.to }) x) before after) →
-    IfErr r (IsStop told (IsAnswerIn asked ports) before after)
-stop-bound told setup thread section asked ports before after r same stop = let Stops : Ask → Type 0 = λ a. IfErr r (IsStop told (IsAnswerIn a ports) before after) in subst Stops same stop
-
-pub stop-calls : {A : Type 0} → (told : Option FileMap) (setup : List ℕ) (thread : ℕ) (section : Section) (routines : List ℕ) (asked : Ask) (ports : List (Option Row)) (before after : ℕ) (r : Result A Stop) →
-    Calls setup thread section routines ≡ asked →
-    IfErr r (IsStop told (λ files x. IsCallsAnswer (program files setup) thread (record { from = section.from; to = section.to }) (files routines) x) before after) →
-    IfErr r (IsStop told (IsAnswerIn asked ports) before after)
-stop-calls told setup thread section routines asked ports before after r same stop = let Stops : Ask → Type 0 = λ a. IfErr r (IsStop told (IsAnswerIn a ports) before after) in subst Stops same stop
 
 pub ready-beside : {B : Type 0} → (latched : B → ℕ) (word_at : B → ℕ → ℕ) (told : Option FileMap) (name : List ℕ) (before after : List (Option B)) (p : Program) (r : Ready) →
     IfSome told (λ files. program files name ≡ Ok p) → rows_of latched word_at after ≡ fed_all p.setup (rows_of latched word_at before) → p.setup ≡ r.setup → length before ≡ 8 → length after ≡ 8 → r.cycles ≤ 4000000000 →

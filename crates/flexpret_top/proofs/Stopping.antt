@@ -6,39 +6,40 @@ use Rattle.fp_io.specs.Causes.{Rose}
 use Rattle.fp_io.specs.Content.{FileMap}
 use Rattle.fp_ports.specs.Rows.{Row}
 use Rattle.ask_words.specs.declared.asked.Ask.{Ask}
-use Rattle.trace_print.specs.Refusals.{refusal_text}
+use Rattle.trace_print.specs.declared.refusals.Refusal.{Refusal}
+use Rattle.trace_print.specs.declared.refusals.Refusal.TheVariants.{Setup, Section, Image, Source, Bound, Routines}
 use Rattle.flexpret_top.specs.declared.status.Status.{Status}
 use Rattle.flexpret_top.specs.declared.status.Status.TheVariants.{Ok, Differs, Usage, Read, Write, NoMemory}
-use Rattle.flexpret_top.specs.declared.stop.Cause.{Cause}
-use Rattle.flexpret_top.specs.declared.stop.Cause.TheVariants.{Setup, Image, Source, Bound, Routines}
-use Rattle.flexpret_top.specs.declared.stop.Stop.{Stop}
-use Rattle.flexpret_top.specs.declared.stop.Stop.TheVariants as why
-use Rattle.flexpret_top.specs.Alone.{differs_text}
-use Rattle.flexpret_top.specs.Answer.Answer.{Says, Missing}
+use Rattle.file_answers.specs.declared.stop.Stop.{Stop}
+use Rattle.file_answers.specs.declared.stop.Stop.TheVariants as why
+use Rattle.file_answers.specs.Answer.{differs_text, refused, status_of}
+use Rattle.file_answers.specs.Answer.Answer.{Says, Missing}
 use Rattle.flexpret_top.specs.Command.{IsAnswerIn, Leaves, Said, Began, Answered}
 use Rattle.flexpret_top.specs.Status.{number_of}
-use Rattle.flexpret_top.specs.Stops.{Ends, IsStop, is_difference, number_of_cause}
+use Rattle.file_answers.specs.Stops.{IsStop, is_difference}
+use Rattle.flexpret_top.specs.Endings.{Ends}
 
 -- a refusal's status is one of 3 to 6, or 10
-refusal_number : (cause : Cause) (n : ℕ) → n ≡ number_of_cause cause → (3 ≤ n) × ((n ≤ 6) ⊎ (n ≡ 10))
-refusal_number Setup n is = (omega (arith, is), inl (omega (arith, is)))
-refusal_number Image n is = (omega (arith, is), inl (omega (arith, is)))
-refusal_number Source n is = (omega (arith, is), inl (omega (arith, is)))
-refusal_number Bound n is = (omega (arith, is), inl (omega (arith, is)))
-refusal_number Routines n is = (omega (arith, is), inr is)
+refusal_number : (refusal : Refusal) (n : ℕ) → n ≡ status_of refusal → (3 ≤ n) × ((n ≤ 6) ⊎ (n ≡ 10))
+refusal_number (Setup code place) n is = (omega (arith, is), inl (omega (arith, is)))
+refusal_number (Section code) n is = (omega (arith, is), inl (omega (arith, is)))
+refusal_number (Image code offset) n is = (omega (arith, is), inl (omega (arith, is)))
+refusal_number (Source line code) n is = (omega (arith, is), inl (omega (arith, is)))
+refusal_number (Bound code value) n is = (omega (arith, is), inl (omega (arith, is)))
+refusal_number (Routines line code) n is = (omega (arith, is), inr is)
 
-no_refusal : (cause : Cause) (s other : Status) → number_of s ≡ number_of_cause cause → s ≡ other → 6 < number_of other → number_of other < 10 → ⊥
-no_refusal cause s other is same more less =
+no_refusal : (refusal : Refusal) (s other : Status) → number_of s ≡ status_of refusal → s ≡ other → 6 < number_of other → number_of other < 10 → ⊥
+no_refusal refusal s other is same more less =
     let e = ap number_of same in
-    elim ((refusal_number cause (number_of s) is).1) [ inl small ↦ omega (arith, small, e, more) | inr ten ↦ omega (arith, ten, e, less) ]
+    elim ((refusal_number refusal (number_of s) is).1) [ inl small ↦ omega (arith, small, e, more) | inr ten ↦ omega (arith, ten, e, less) ]
 
 -- what it says, where it says something
 pub stop-said : (told : Option FileMap) (asked : Ask) (ports : List (Option Row)) (b a : ℕ) (stop : Stop) (s : Status) (b' a' : ℕ) (before after : Option (List ℕ)) →
     IsStop told (IsAnswerIn asked ports) b a stop → Ends stop b' a' before after s → (s ≡ Read → ⊥) → (s ≡ Write → ⊥) → (s ≡ NoMemory → ⊥) → IfSome told (λ files. Said (IsAnswerIn asked ports files) (number_of s) before after)
 stop-said None asked ports b a stop s b' a' before after is ends read write memory = tt
-stop-said (Some files) asked ports b a (why.Refused cause refusal) s b' a' before after is (inl puts) read write memory =
-    record { answer = Says (number_of_cause cause) (refusal_text refusal); is = is; said = puts }
-stop-said (Some files) asked ports b a (why.Refused cause refusal) s b' a' before after is (inr fails) read write memory = absurd (write fails.0)
+stop-said (Some files) asked ports b a (why.Refused refusal) s b' a' before after is (inl puts) read write memory =
+    record { answer = refused refusal; is = is; said = puts }
+stop-said (Some files) asked ports b a (why.Refused refusal) s b' a' before after is (inr fails) read write memory = absurd (write fails.0)
 stop-said (Some files) asked ports b a (why.Differs line) s b' a' before after is (inl puts) read write memory =
     record { answer = Says 1 (differs_text line); is = is; said = puts }
 stop-said (Some files) asked ports b a (why.Differs line) s b' a' before after is (inr fails) read write memory = absurd (write fails.0)
@@ -47,8 +48,8 @@ stop-said (Some files) asked ports b a why.NoMemory s b' a' before after is ends
 
 pub stop-read : (told : Option FileMap) (asked : Ask) (ports : List (Option Row)) (b a : ℕ) (stop : Stop) (s : Status) (b' a' : ℕ) (before after : Option (List ℕ)) →
     IsStop told (IsAnswerIn asked ports) b a stop → Ends stop b' a' before after s → s ≡ Read → Rose b a ⊎ IsSomeAnd told (λ files. IsAnswerIn asked ports files Missing)
-stop-read told asked ports b a (why.Refused cause refusal) s b' a' before after is (inl puts) read = absurd (no_refusal cause s Read puts.0 read (omega arith) (omega arith))
-stop-read told asked ports b a (why.Refused cause refusal) s b' a' before after is (inr fails) read = let e = fails.0 in cc
+stop-read told asked ports b a (why.Refused refusal) s b' a' before after is (inl puts) read = absurd (no_refusal refusal s Read puts.0 read (omega arith) (omega arith))
+stop-read told asked ports b a (why.Refused refusal) s b' a' before after is (inr fails) read = let e = fails.0 in cc
 stop-read told asked ports b a (why.Differs line) s b' a' before after is (inl puts) read = let e = ap number_of read in absurd (omega (arith, e, puts.0))
 stop-read told asked ports b a (why.Differs line) s b' a' before after is (inr fails) read = let e = fails.0 in cc
 stop-read told asked ports b a why.Read s b' a' before after is ends read = is
@@ -56,8 +57,8 @@ stop-read told asked ports b a why.NoMemory s b' a' before after is ends read = 
 
 -- where the sink failed
 pub stop-write : (stop : Stop) (s : Status) (b' a' : ℕ) (before after : Option (List ℕ)) → Ends stop b' a' before after s → s ≡ Write → Rose b' a'
-stop-write (why.Refused cause refusal) s b' a' before after (inl puts) write = absurd (no_refusal cause s Write puts.0 write (omega arith) (omega arith))
-stop-write (why.Refused cause refusal) s b' a' before after (inr fails) write = fails.1
+stop-write (why.Refused refusal) s b' a' before after (inl puts) write = absurd (no_refusal refusal s Write puts.0 write (omega arith) (omega arith))
+stop-write (why.Refused refusal) s b' a' before after (inr fails) write = fails.1
 stop-write (why.Differs line) s b' a' before after (inl puts) write = let e = ap number_of write in absurd (omega (arith, e, puts.0))
 stop-write (why.Differs line) s b' a' before after (inr fails) write = fails.1
 stop-write why.Read s b' a' before after ends write = absurd (cc)
@@ -66,9 +67,9 @@ stop-write why.NoMemory s b' a' before after ends write = absurd (cc)
 pub stop-front : (told : Option FileMap) (asked : Ask) (ports : List (Option Row)) (b a : ℕ) (stop : Stop) (s : Status) (b' a' : ℕ) (before after : Option (List ℕ)) →
     IsStop told (IsAnswerIn asked ports) b a stop → Ends stop b' a' before after s → s ≡ Write → IfSome told (λ files. Began (IsAnswerIn asked ports files) before after)
 stop-front None asked ports b a stop s b' a' before after is ends write = tt
-stop-front (Some files) asked ports b a (why.Refused cause refusal) s b' a' before after is (inl puts) write = absurd (no_refusal cause s Write puts.0 write (omega arith) (omega arith))
-stop-front (Some files) asked ports b a (why.Refused cause refusal) s b' a' before after is (inr fails) write =
-    record { answer = Says (number_of_cause cause) (refusal_text refusal); is = is; front = fails.2 }
+stop-front (Some files) asked ports b a (why.Refused refusal) s b' a' before after is (inl puts) write = absurd (no_refusal refusal s Write puts.0 write (omega arith) (omega arith))
+stop-front (Some files) asked ports b a (why.Refused refusal) s b' a' before after is (inr fails) write =
+    record { answer = refused refusal; is = is; front = fails.2 }
 stop-front (Some files) asked ports b a (why.Differs line) s b' a' before after is (inl puts) write = let e = ap number_of write in absurd (omega (arith, e, puts.0))
 stop-front (Some files) asked ports b a (why.Differs line) s b' a' before after is (inr fails) write =
     record { answer = Says 1 (differs_text line); is = is; front = fails.2 }
@@ -80,9 +81,9 @@ pub stop-complete : (told : Option FileMap) (asked : Ask) (ports : List (Option 
     IsStop told (IsAnswerIn asked ports) b a stop → Ends stop b' a' before after s → (Rose b a → ⊥) → (Rose b' a' → ⊥) →
     IfSome told (λ files. (s ≡ NoMemory) ⊎ Answered (IsAnswerIn asked ports files) (number_of s))
 stop-complete None asked ports b a stop s b' a' before after is ends fetches puts = tt
-stop-complete (Some files) asked ports b a (why.Refused cause refusal) s b' a' before after is (inl said) fetches puts =
-    inr (record { answer = Says (number_of_cause cause) (refusal_text refusal); is = is; answered = said.0 })
-stop-complete (Some files) asked ports b a (why.Refused cause refusal) s b' a' before after is (inr fails) fetches puts = absurd (puts fails.1)
+stop-complete (Some files) asked ports b a (why.Refused refusal) s b' a' before after is (inl said) fetches puts =
+    inr (record { answer = refused refusal; is = is; answered = said.0 })
+stop-complete (Some files) asked ports b a (why.Refused refusal) s b' a' before after is (inr fails) fetches puts = absurd (puts fails.1)
 stop-complete (Some files) asked ports b a (why.Differs line) s b' a' before after is (inl said) fetches puts =
     inr (record { answer = Says 1 (differs_text line); is = is; answered = said.0 })
 stop-complete (Some files) asked ports b a (why.Differs line) s b' a' before after is (inr fails) fetches puts = absurd (puts fails.1)
@@ -93,8 +94,8 @@ stop-complete (Some files) asked ports b a why.NoMemory s b' a' before after is 
 
 -- its status is neither that of a text nor that of words that ask nothing
 stop_number : (stop : Stop) (s : Status) (b' a' : ℕ) (before after : Option (List ℕ)) → Ends stop b' a' before after s → (number_of s ≡ 1) ⊎ (3 ≤ number_of s)
-stop_number (why.Refused cause refusal) s b' a' before after (inl puts) = inr (refusal_number cause (number_of s) puts.0).0
-stop_number (why.Refused cause refusal) s b' a' before after (inr fails) = let e = ap number_of fails.0 in inr (omega (arith, e))
+stop_number (why.Refused refusal) s b' a' before after (inl puts) = inr (refusal_number refusal (number_of s) puts.0).0
+stop_number (why.Refused refusal) s b' a' before after (inr fails) = let e = ap number_of fails.0 in inr (omega (arith, e))
 stop_number (why.Differs line) s b' a' before after (inl puts) = inl puts.0
 stop_number (why.Differs line) s b' a' before after (inr fails) = let e = ap number_of fails.0 in inr (omega (arith, e))
 stop_number why.Read s b' a' before after ends = let e = ap number_of ends in inr (omega (arith, e))
@@ -115,7 +116,7 @@ stop-leaves told asked ports last stop s b' a' before after ends ok = absurd (no
 
 -- another status than that of a difference, or of a sink that failed, is of another stop
 pub no-difference : (stop : Stop) (s : Status) (b' a' : ℕ) (before after : Option (List ℕ)) → Ends stop b' a' before after s → (s ≡ Differs → ⊥) → (s ≡ Write → ⊥) → is_difference stop ≡ false
-no-difference (why.Refused cause refusal) s b' a' before after ends differs write = refl
+no-difference (why.Refused refusal) s b' a' before after ends differs write = refl
 no-difference (why.Differs line) s b' a' before after (inl puts) differs write = absurd (differs (status-of s Differs puts.0))
 no-difference (why.Differs line) s b' a' before after (inr fails) differs write = absurd (write fails.0)
 no-difference why.Read s b' a' before after ends differs write = refl

@@ -1,5 +1,5 @@
 -- One thread of a program from its view alone, and a recorded trace beside the text of it.
-use Rattle.std.specs.Prelude.{◌≡◌, ℕ, ◌==◌, ◌++◌, not, if◌then◌else◌, List, Option, Some, None, Result, Ok, Err, codes, decimal}
+use Rattle.std.specs.Prelude.{◌≡◌, ℕ, ◌==◌, not, if◌then◌else◌, List, Option, Some, None, Result, Ok, Err, codes}
 use Rattle.std.specs.Str.{bytes_eq}
 use Rattle.core_model.specs.Solo.{solo}
 use Rattle.fp_io.specs.Content.{FileMap}
@@ -14,10 +14,10 @@ use Rattle.trace_print.specs.Text.{text}
 use Rattle.trace_print.specs.declared.refusals.Refusal.TheVariants.{Section}
 use Rattle.world_model.specs.Viewed.{view}
 use Rattle.flexpret_top.specs.declared.ready.Alone.{Alone}
-use Rattle.flexpret_top.specs.declared.program.Program.{Program}
-use Rattle.flexpret_top.specs.Answer.{Answer, refused, then_by, over_file, ends}
-use Rattle.flexpret_top.specs.Answer.Answer.{Says}
-use Rattle.flexpret_top.specs.Program.{program}
+use Rattle.file_answers.specs.declared.program.Program.{Program}
+use Rattle.file_answers.specs.Answer.{Answer, differs_text, refused, then_by, over_file, ends}
+use Rattle.file_answers.specs.Answer.Answer.{Says}
+use Rattle.file_answers.specs.Program.{program}
 use Rattle.flexpret_top.specs.Run.{start_of}
 
 -- why a thread isn't run from its view alone, if so: it isn't hard, or else it isn't confined
@@ -50,10 +50,6 @@ solo_answer files ports name i n = ends (then_by (alone_program files name i) (a
 
 abbrev pub same_text : List ℕ
 same_text = codes "same\n"
-
--- a line, counted from 1, in decimal
-unfoldable pub differs_text : ℕ → List ℕ
-differs_text line = codes "differs line " ++ (decimal line ++ codes "\n")
 
 -- whether a recorded trace is the text, and else in which line they first differ
 abbrev pub compared : List ℕ → List ℕ → Result (List ℕ) Answer

@@ -1,21 +1,21 @@
 -- What a command line answers over the files that there are.
 use Rattle.std.specs.Prelude.{◌≡◌, ℕ, List, [], Option, Some, None, Ok}
 use Rattle.machine.specs.Feeding.{fed_all}
-use Rattle.machine.specs.Meaning.{PortsAfter}
-use Rattle.flexpret_top.specs.declared.program.Program.{Program}
+use Rattle.machine.specs.WorldRelation.{PortsAfter}
+use Rattle.file_answers.specs.declared.program.Program.{Program}
 use Rattle.fp_io.specs.Content.{FileMap}
 use Rattle.ask_words.specs.Commands.{ask}
 use Rattle.ask_words.specs.declared.asked.Ask.{Ask}
 use Rattle.ask_words.specs.declared.asked.Ask.TheVariants.{Run, Dump, Asm, Bound, Selfrun, Phases, Solo, Check, Elf, Calls}
 use Rattle.selfrun.specs.Text.{selfrun_text}
-use Rattle.flexpret_top.specs.Answer.{Answer, IsSaid, WritesFront, IsAnswered}
-use Rattle.flexpret_top.specs.Answer.Answer.{Says}
+use Rattle.file_answers.specs.Answer.{Answer, IsSaid, WritesFront, IsAnswered}
+use Rattle.file_answers.specs.Answer.Answer.{Says}
 use Rattle.flexpret_top.specs.Alone.{solo_answer, check_answer}
-use Rattle.flexpret_top.specs.Assembled.{asm_answer}
-use Rattle.flexpret_top.specs.Bound.{IsBoundAnswer}
-use Rattle.flexpret_top.specs.Calls.{IsCallsAnswer}
-use Rattle.flexpret_top.specs.Elf.{elf_answer}
-use Rattle.flexpret_top.specs.Program.{program}
+use Rattle.file_answers.specs.Assembled.{asm_answer}
+use Rattle.file_answers.specs.Bound.{IsBoundAnswer}
+use Rattle.file_answers.specs.Calls.{IsCallsAnswer}
+use Rattle.file_answers.specs.Elf.{elf_answer}
+use Rattle.file_answers.specs.Program.{program}
 use Rattle.flexpret_top.specs.Run.{start_of, run_answer, dump_answer, phases_answer}
 use Rattle.fp_ports.specs.Rows.{Row}
 
@@ -25,14 +25,14 @@ abbrev pub IsAnswerOf : Ask → FileMap → List (Option Row) → Answer → Typ
 IsAnswerOf (Run setup thread cycles) files ports x = x ≡ run_answer files ports setup thread cycles
 IsAnswerOf (Dump setup cycles) files ports x = x ≡ dump_answer files ports setup cycles
 IsAnswerOf (Asm source) files ports x = x ≡ asm_answer files source
-IsAnswerOf (Bound setup thread section) files ports x = IsBoundAnswer (program files setup) thread (record { from = section.from; to = section.to }) x
+IsAnswerOf (Bound setup thread section) files ports x = IsBoundAnswer (program files setup) thread section x
 IsAnswerOf (Selfrun number) files ports x = x ≡ Says 0 (selfrun_text number)
 IsAnswerOf (Phases setup cycles) files ports x = x ≡ phases_answer files ports setup cycles
 IsAnswerOf (Solo setup thread cycles) files ports x = x ≡ solo_answer files ports setup thread cycles
 IsAnswerOf (Check setup thread cycles trace) files ports x = x ≡ check_answer files ports setup thread cycles trace
 IsAnswerOf (Elf file) files ports x = x ≡ elf_answer files file
 IsAnswerOf (Calls setup thread section routines) files ports x =
-    IsCallsAnswer (program files setup) thread (record { from = section.from; to = section.to }) (files routines) x
+    IsCallsAnswer (program files setup) thread section (files routines) x
 
 abbrev pub IsAnswerIn : Ask → List (Option Row) → FileMap → Answer → Type 0
 IsAnswerIn asked ports files x = IsAnswerOf asked files ports x

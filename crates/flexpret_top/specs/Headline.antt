@@ -11,7 +11,7 @@ use Rattle.call_bounds.specs.Listing.{calls}
 use Rattle.call_bounds.specs.RoutinesFile.{routines_of}
 use Rattle.call_bounds.specs.declared.routines.Routine.{Routine}
 use Rattle.call_visits.specs.CallVisits.{IsCallVisit, KeepsReturns, KeepsBounds as KeepsCallBounds}
-use Rattle.call_visits.specs.Laws.{route}
+use Rattle.call_visits.specs.CallVisitBound.{route}
 use Rattle.core_model.specs.Solo.{solo}
 use Rattle.fp_elf.specs.Elf.{elf_of}
 use Rattle.fp_setup.specs.Rules.{KeepsRules}
@@ -21,16 +21,16 @@ use Rattle.fp_image.specs.declared.parts.Segment.{Segment}
 use Rattle.region_tree.specs.Tree.{graph}
 use Rattle.region_tree.specs.declared.section.Section.{Section}
 use Rattle.phase_model.specs.Phased.{phased}
-use Rattle.setup_laws.specs.Laws.{Machine, IsConfinedHard, IsConfinedThrough, IsQuiet, KeepsRegions, phases_in, trace, view_of}
+use Rattle.setup_laws.specs.TraceLaws.{Machine, IsConfinedHard, IsConfinedThrough, IsQuiet, KeepsRegions, phases_in, trace, view_of}
 use Rattle.setup_visits.specs.CallLaws.{IsAlikeInParts}
-use Rattle.setup_visits.specs.Laws.{IsAlike, issues}
+use Rattle.setup_visits.specs.SetupVisitBound.{IsAlike, issues}
 use Rattle.trace_print.specs.Bounds.{bound_text}
 use Rattle.trace_print.specs.Text.{text}
 use Rattle.visit_bound.specs.Visits.{Issued, IsVisit, KeepsBounds, first_of}
-use Rattle.flexpret_top.specs.declared.program.Program.{Program}
-use Rattle.flexpret_top.specs.Bound.{section_tree}
-use Rattle.flexpret_top.specs.Calls.{section_listing}
-use Rattle.flexpret_top.specs.Program.{program}
+use Rattle.file_answers.specs.declared.program.Program.{Program}
+use Rattle.file_answers.specs.Bound.{section_tree}
+use Rattle.file_answers.specs.Calls.{section_listing}
+use Rattle.file_answers.specs.Program.{program}
 
 -- the machine of a program beside the ports as they are handed in
 abbrev pub machine_of : Program → List (Option Row) → Machine
@@ -73,7 +73,7 @@ pub record IsLongest (p : Program) (i : ℕ) (section : Section) (before after :
 
 abbrev pub BoundsVisits : Option Ask → FileMap → Option (List ℕ) → Option (List ℕ) → Type 0
 BoundsVisits (Some (Bound setup i section)) files before after =
-    (p : Program) → program files setup ≡ Ok p → IsLongest p i (record { from = section.from; to = section.to }) before after
+    (p : Program) → program files setup ≡ Ok p → IsLongest p i section before after
 BoundsVisits _ files before after = Unit {0}
 
 -- What `calls` wrote is the line of a number of cycles which some call walk through the section and its routines costs that
@@ -94,7 +94,7 @@ pub record IsLongestByCalls (p : Program) (i : ℕ) (section : Section) (file : 
 abbrev pub BoundsCallVisits : Option Ask → FileMap → Option (List ℕ) → Option (List ℕ) → Type 0
 BoundsCallVisits (Some (Calls setup i section routines)) files before after =
     (p : Program) (file : List ℕ) → program files setup ≡ Ok p → files routines ≡ Some file →
-    IsLongestByCalls p i (record { from = section.from; to = section.to }) file before after
+    IsLongestByCalls p i section file before after
 BoundsCallVisits _ files before after = Unit {0}
 
 -- What `elf` wrote is a file that is read, for scratchpads of 65,536 bytes, as the image that the executable defines.

@@ -1,14 +1,7 @@
-pub mod Codes
-pub mod Answer
-pub mod Program
 pub mod Run
-pub mod Assembled
-pub mod Elf
-pub mod Bound
-pub mod Calls
 pub mod Alone
 pub mod Command
-pub mod Stops
+pub mod Endings
 pub mod Prepared
 pub mod Headline
 pub mod Status

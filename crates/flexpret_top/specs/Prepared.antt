@@ -1,27 +1,28 @@
 -- What was prepared, as the text that it will write.
-use Rattle.std.specs.Prelude.{◌≡◌, ◌<◌, ℕ, List, Option}
-use Rattle.fp_io.specs.Content.{FileMap}
+use Rattle.std.specs.Io.KnownBytes.{Appends}
+use Rattle.std.specs.Prelude.{◌≡◌, ◌<◌, ℕ, List, Option, IfSome}
+use Rattle.fp_io.specs.Content.{AppendsFront, FileMap}
 use Rattle.fp_ports.specs.Rows.{Row}
 use Rattle.ask_words.specs.declared.asked.Ask.{Ask}
-use Rattle.machine.specs.Meaning.{StandsFor, AreLeft, PortsAfter}
+use Rattle.machine.specs.WorldRelation.{StandsFor, AreLeft, PortsAfter}
 use Rattle.machine.specs.Feeding.{fed_all}
 use Rattle.machine.specs.declared.state.Machine.{Machine}
-use Rattle.machine_model.specs.Seen.{seen}
-use Rattle.phase_log.specs.Meaning.{StartsAs}
+use Rattle.machine_model.specs.DumpedState.{seen}
+use Rattle.phase_log.specs.LoggedRuns.{StartsAs}
 use Rattle.phase_log.specs.Text.{phases_text}
 use Rattle.phase_model.specs.Phases.{phases}
 use Rattle.trace_print.specs.Bounds.{bound_text}
 use Rattle.trace_print.specs.Text.{text}
 use Rattle.world_model.specs.World.{Start, events}
-use Rattle.flexpret_top.specs.declared.program.Program.{Program}
+use Rattle.file_answers.specs.declared.program.Program.{Program}
 use Rattle.flexpret_top.specs.declared.ready.Ready.{Ready}
 use Rattle.flexpret_top.specs.declared.ready.Prepared.{Prepared}
 use Rattle.flexpret_top.specs.declared.ready.Prepared.TheVariants.{Trace, Dump, Phases, Solo, Same, Image, Bound, Selfrun}
 use Rattle.selfrun.specs.Text.{tallies_text}
 use Rattle.flexpret_top.specs.Alone.{same_text, told_alone}
-use Rattle.flexpret_top.specs.Answer.Answer.{Says}
+use Rattle.file_answers.specs.Answer.Answer.{Says}
 use Rattle.flexpret_top.specs.Command.{IsAnswerOf, Leaves}
-use Rattle.flexpret_top.specs.Program.{program}
+use Rattle.file_answers.specs.Program.{program}
 use Rattle.flexpret_top.specs.Run.{start_of}
 use Rattle.std.specs.Prelude.{Ok}
 
@@ -91,6 +92,22 @@ pub record Prepares (asked : Ask) (files : FileMap) (before after : List (Option
   pub delivers : Delivers p after written
   pub is : IsAnswerOf asked files before (Says 0 written)
   pub leaves : (last : List (Option Row)) → LeavesPorts p after last → Leaves asked files before last
+
+-- the same where the files tell what they hold
+abbrev pub IsPrepared : Ask → Option FileMap → List (Option Row) → List (Option Row) → Prepared → Type 0
+IsPrepared asked told before after p = IfSome told (λ files. Prepares asked files before after p)
+
+-- and whatever the ports are, which it leaves alone
+abbrev pub IsPreparedApart : Ask → Option FileMap → Prepared → Type 0
+IsPreparedApart asked told p = IfSome told (λ files. (ports : List (Option Row)) → Prepares asked files ports ports p)
+
+-- the text that it will write was appended whole
+abbrev pub WritesAll : Prepared → List (Option Row) → Option (List ℕ) → Option (List ℕ) → Type 0
+WritesAll p ports before after = (written : List ℕ) → Delivers p ports written → Appends before after written
+
+-- the first part of it was
+abbrev pub WritesPart : Prepared → List (Option Row) → Option (List ℕ) → Option (List ℕ) → Type 0
+WritesPart p ports before after = (written : List ℕ) → Delivers p ports written → AppendsFront before after written
 
 -- after so many cycles, machine and ports stand for that cycle of the world, and the ports that are left show what they
 -- showed

@@ -2,15 +2,15 @@
 use Rattle.std.specs.Prelude.{ℕ, List, Option, Result, Ok}
 use Rattle.fp_io.specs.Content.{FileMap}
 use Rattle.fp_ports.specs.Rows.{Row}
-use Rattle.machine_model.specs.Seen.{seen}
+use Rattle.machine_model.specs.DumpedState.{seen}
 use Rattle.phase_log.specs.Text.{phases_text}
 use Rattle.phase_model.specs.Phases.{phases}
 use Rattle.trace_print.specs.Text.{text}
 use Rattle.world_model.specs.World.{Start, events}
 use Rattle.setup_model.specs.Start.{start}
-use Rattle.flexpret_top.specs.declared.program.Program.{Program}
-use Rattle.flexpret_top.specs.Answer.{Answer, then_by, ends}
-use Rattle.flexpret_top.specs.Program.{program}
+use Rattle.file_answers.specs.declared.program.Program.{Program}
+use Rattle.file_answers.specs.Answer.{Answer, then_by, ends}
+use Rattle.file_answers.specs.Program.{program}
 
 -- the start of a program's run of n cycles beside the ports as they are handed in
 abbrev pub start_of : Program → List (Option Row) → ℕ → Start

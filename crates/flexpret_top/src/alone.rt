@@ -8,16 +8,15 @@ ghost use Rattle.fp_io.specs.Content.{AppendsFront};
 ghost use Rattle.fp_ports.specs.Rows.{rows_of};
 ghost use Rattle.solo_run.specs.Checked.{IsChecked};
 ghost use Rattle.flexpret_top.specs.Alone.{IsAlone, IsAloneOf, alone_fault, alone_in, alone_program, compared, same_text, told_alone};
-ghost use Rattle.flexpret_top.specs.Answer.{over_file};
-ghost use Rattle.flexpret_top.specs.Stops.{IsAnswerStop, IsStop, is_difference};
+ghost use Rattle.file_answers.specs.Answer.{on_file};
+ghost use Rattle.file_answers.specs.Stops.{IsAnswerStop, IsStopIn, Makes, is_difference};
 
-use crate::program::{Program, fetch, load};
 use crate::ready::Alone;
 use crate::shown::ReadPort;
-use crate::stop::{Cause, Stop};
+use file_answers::{Program, Stop, fetch, load};
 use fp_io::{Files, PutFailed, Sink};
 use fp_ports::Ports;
-use fp_setup::Setup;
+use fp_setup::{Name, Setup};
 use setup_model::modes;
 use solo_run::{Checked, SoloRun, SoloView};
 use std::alloc::Global;
@@ -51,7 +50,7 @@ fn alone_in(alloc: Global, program: Program, thread: u8, cycles: u64) -> Result<
 {
     let Program { setup, image } = program;
     if let Some(code) = alone_fault(&setup, thread) {
-        return Err(Stop::Refused(Cause::Setup, Refusal::Section { code }));
+        return Err(Stop::Refused(Refusal::Section { code }));
     }
     let view = SoloView::of(alloc, &setup, &image, thread)?;
     Ok(Alone {
@@ -64,7 +63,7 @@ fn alone_in(alloc: Global, program: Program, thread: u8, cycles: u64) -> Result<
 /// A thread of the program of a setup and the image that it names, from its view alone.
 pub fn load_alone<F: Files>(
     alloc: Global,
-    name: &str,
+    name: &Name,
     thread: u8,
     cycles: u64,
     files: &mut F,
@@ -73,9 +72,11 @@ pub fn load_alone<F: Files>(
     requires limit { cycles ≤ 4000000000 }
     ensures told { F.told files.new ≡ F.told files.old }
     ensures counted { F.faults files.old ≤ F.faults files.new }
-    ensures ok { IfOk result (λ a. IfSome (F.told files.old) (λ told. IsAlone told name.now thread cycles a)) }
+    ensures ok { IfOk result (λ a. IfSome (F.told files.old) (λ told.
+        IsAlone told name.now thread cycles a)) }
     ensures cycles { IfOk result (λ a. a.cycles ≡ cycles) }
-    ensures stop { IfErr result (IsStop (F.told files.old) (λ told x. alone_program told name.now thread ≡ Err x) (F.faults files.old) (F.faults files.new)) }
+    ensures stop { IfErr result (IsStopIn (F.told files.old)
+        (λ told. alone_program told name.now thread) (F.faults files.old) (F.faults files.new)) }
 {
     match load(alloc, name, files) {
         Ok(program) => alone_in(alloc, program, thread, cycles),
@@ -86,11 +87,14 @@ pub fn load_alone<F: Files>(
 /// Puts the lines of the thread's events.
 pub fn put_alone<K: Sink>(alone: Alone, ports: &mut Ports, out: &mut K) -> Result<(), PutFailed>
     requires { vec_len ports.old ≡ 8 }
-    ensures ok { OnOk result (Appends (K.taken out.old) (K.taken out.new) (told_alone alone (rows_of latched word_at ports.old.items))) }
-    ensures err { OnErr result (AppendsFront (K.taken out.old) (K.taken out.new) (told_alone alone (rows_of latched word_at ports.old.items))) }
+    ensures ok { OnOk result (Appends (K.taken out.old) (K.taken out.new)
+        (told_alone alone (rows_of latched word_at ports.old.items))) }
+    ensures err { OnErr result (AppendsFront (K.taken out.old) (K.taken out.new)
+        (told_alone alone (rows_of latched word_at ports.old.items))) }
     ensures failed { OnErr result (Rose (K.faults out.old) (K.faults out.new)) }
     ensures counted { K.faults out.old ≤ K.faults out.new }
-    ensures rows { rows_of latched word_at ports.new.items ≡ rows_of latched word_at ports.old.items }
+    ensures rows { rows_of latched word_at ports.new.items ≡
+        rows_of latched word_at ports.old.items }
     ensures eight { vec_len ports.new ≡ 8 }
 {
     let Alone {
@@ -111,9 +115,12 @@ pub fn put_alone<K: Sink>(alone: Alone, ports: &mut Ports, out: &mut K) -> Resul
 /// Compares a recorded trace with the lines of the thread's events.
 pub fn check_alone(alone: Alone, ports: &mut Ports, given: &[u8]) -> Checked
     requires { vec_len ports.old ≡ 8 }
-    ensures checked { IsChecked given.now (told_alone alone (rows_of latched word_at ports.old.items)) result }
-    ensures front { common_prefix_len nat_eq given.now (told_alone alone (rows_of latched word_at ports.old.items)) ≤ 59 * alone.cycles }
-    ensures rows { rows_of latched word_at ports.new.items ≡ rows_of latched word_at ports.old.items }
+    ensures checked { IsChecked given.now
+        (told_alone alone (rows_of latched word_at ports.old.items)) result }
+    ensures front { common_prefix_len nat_eq given.now
+        (told_alone alone (rows_of latched word_at ports.old.items)) ≤ 59 * alone.cycles }
+    ensures rows { rows_of latched word_at ports.new.items ≡
+        rows_of latched word_at ports.old.items }
     ensures eight { vec_len ports.new ≡ 8 }
 {
     let Alone {
@@ -139,17 +146,22 @@ pub fn check_alone(alone: Alone, ports: &mut Ports, given: &[u8]) -> Checked
 pub fn compare_alone<F: Files>(
     alloc: Global,
     alone: Alone,
-    trace: &str,
+    trace: &Name,
     files: &mut F,
     ports: &mut Ports,
 ) -> Result<(), Stop>
     requires { vec_len ports.old ≡ 8 }
     ensures told { F.told files.new ≡ F.told files.old }
     ensures counted { F.faults files.old ≤ F.faults files.new }
-    ensures ok { OnOk result (IfSome (F.told files.old) (λ told. over_file (compared (told_alone alone (rows_of latched word_at ports.old.items))) (told trace.now) ≡ Ok same_text)) }
-    ensures stop { IfErr result (IsStop (F.told files.old) (λ told x. over_file (compared (told_alone alone (rows_of latched word_at ports.old.items))) (told trace.now) ≡ Err x) (F.faults files.old) (F.faults files.new)) }
+    ensures ok { OnOk result (Makes (F.told files.old)
+        (on_file (compared (told_alone alone (rows_of latched word_at ports.old.items))) trace.now)
+        same_text) }
+    ensures stop { IfErr result (IsStopIn (F.told files.old)
+        (on_file (compared (told_alone alone (rows_of latched word_at ports.old.items))) trace.now)
+        (F.faults files.old) (F.faults files.new)) }
     ensures kept { IfErr result (λ stop. is_difference stop ≡ false → ports.new ≡ ports.old) }
-    ensures rows { rows_of latched word_at ports.new.items ≡ rows_of latched word_at ports.old.items }
+    ensures rows { rows_of latched word_at ports.new.items ≡
+        rows_of latched word_at ports.old.items }
     ensures eight { vec_len ports.new ≡ 8 }
 {
     match fetch(alloc, trace, MOST_OF_A_LINE * alone.cycles as usize, files) {

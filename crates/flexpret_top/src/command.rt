@@ -5,19 +5,19 @@ ghost use Rattle.fp_io.specs.Causes.{Rose};
 ghost use Rattle.fp_ports.specs.Rows.{rows_of};
 ghost use Rattle.ask_words.specs.Commands.{ask};
 ghost use Rattle.ask_words.specs.Limits.{IsWithinLimits};
-ghost use Rattle.flexpret_top.specs.Answer.Answer.{Missing};
+ghost use Rattle.file_answers.specs.Answer.Answer.{Missing};
 ghost use Rattle.flexpret_top.specs.Command.{IsAnswer, IsAnswerIn, IsApart, IsApartBy, Leaves, LeavesBy, OnlyReads, OnlyReadsBy, Said, Began, Answered};
 ghost use Rattle.flexpret_top.specs.Headline.{BoundsCallVisits, BoundsVisits, WritesAlone, WritesAsRun, WritesByPhases, WritesImage};
 ghost use Rattle.flexpret_top.specs.Status.{IsStatus, number_of};
-ghost use Rattle.flexpret_top.specs.declared.stop.Stop.{Stop};
-ghost use Rattle.flexpret_top.specs.Stops.{Ends, number_of_cause};
+ghost use Rattle.file_answers.specs.declared.stop.Stop.{Stop};
+ghost use Rattle.file_answers.specs.Answer.{status_of};
+ghost use Rattle.flexpret_top.specs.Endings.{Ends};
 
 use crate::deliver::deliver;
-use crate::difference::difference_line;
 use crate::prepare::prepare;
 use crate::status::Status;
-use crate::stop::{Cause, Stop};
 use ask_words::{Ask, WordsNo, read_words};
+use file_answers::{Stop, difference_line};
 use fp_elf::reads_back;
 use fp_io::{Files, PutFailed, Sink};
 use fp_ports::Ports;
@@ -28,13 +28,14 @@ use std::alloc::Global;
 use trace_print::{Refusal, refusal_line};
 
 /// Puts the line of a refusal.
-fn refuse<K: Sink>(cause: Cause, refusal: &Refusal, out: &mut K) -> Status
+fn refuse<K: Sink>(refusal: &Refusal, out: &mut K) -> Status
     ensures counted { K.faults out.old ≤ K.faults out.new }
-    ensures ends { Ends (Stop.Refused cause refusal.now) (K.faults out.old) (K.faults out.new) (K.taken out.old) (K.taken out.new) result }
+    ensures ends { Ends (Stop.Refused refusal.now) (K.faults out.old) (K.faults out.new)
+        (K.taken out.old) (K.taken out.new) result }
     ensures statuses { (result ≢ Status.Read) × (result ≢ Status.NoMemory) }
 {
     match out.put(refusal_line(refusal).as_bytes()) {
-        Ok(()) => cause.status(),
+        Ok(()) => Status::of_refusal(refusal),
         Err(PutFailed) => Status::Write,
     }
 }
@@ -42,7 +43,8 @@ fn refuse<K: Sink>(cause: Cause, refusal: &Refusal, out: &mut K) -> Status
 /// Puts the line of a trace that isn't the defined one.
 fn tell_difference<K: Sink>(line: u64, out: &mut K) -> Status
     ensures counted { K.faults out.old ≤ K.faults out.new }
-    ensures ends { Ends (Stop.Differs line) (K.faults out.old) (K.faults out.new) (K.taken out.old) (K.taken out.new) result }
+    ensures ends { Ends (Stop.Differs line) (K.faults out.old) (K.faults out.new)
+        (K.taken out.old) (K.taken out.new) result }
     ensures statuses { (result ≢ Status.Read) × (result ≢ Status.NoMemory) }
 {
     match out.put(difference_line(line).as_bytes()) {
@@ -54,11 +56,12 @@ fn tell_difference<K: Sink>(line: u64, out: &mut K) -> Status
 /// Ends a command before its text.
 fn end<K: Sink>(stop: Stop, out: &mut K) -> Status
     ensures counted { K.faults out.old ≤ K.faults out.new }
-    ensures ends { Ends stop (K.faults out.old) (K.faults out.new) (K.taken out.old) (K.taken out.new) result }
+    ensures ends { Ends stop (K.faults out.old) (K.faults out.new)
+        (K.taken out.old) (K.taken out.new) result }
     ensures nothing { (result ≡ Status.Read) ⊎ (result ≡ Status.NoMemory) → out.new ≡ out.old }
 {
     match stop {
-        Stop::Refused(cause, refusal) => refuse(cause, &refusal, out),
+        Stop::Refused(refusal) => refuse(&refusal, out),
         Stop::Differs { line } => tell_difference(line, out),
         Stop::Read => Status::Read,
         Stop::NoMemory => Status::NoMemory,
@@ -78,17 +81,32 @@ fn answer<F: Files, K: Sink>(
     ensures told { F.told files.new ≡ F.told files.old }
     ensures counted_files { F.faults files.old ≤ F.faults files.new }
     ensures counted_out { K.faults out.old ≤ K.faults out.new }
-    ensures said { result ≢ Status.Read → result ≢ Status.Write → result ≢ Status.NoMemory → IfSome (F.told files.old) (λ told. Said (IsAnswerIn ask.now (rows_of latched word_at ports.old.items) told) (number_of result) (K.taken out.old) (K.taken out.new)) }
-    ensures read { result ≡ Status.Read → Rose (F.faults files.old) (F.faults files.new) ⊎ IsSomeAnd (F.told files.old) (λ told. IsAnswerIn ask.now (rows_of latched word_at ports.old.items) told Missing) }
+    ensures said { result ≢ Status.Read → result ≢ Status.Write → result ≢ Status.NoMemory →
+        IfSome (F.told files.old) (λ told.
+        Said (IsAnswerIn ask.now (rows_of latched word_at ports.old.items) told)
+        (number_of result) (K.taken out.old) (K.taken out.new)) }
+    ensures read { result ≡ Status.Read → Rose (F.faults files.old) (F.faults files.new) ⊎
+        IsSomeAnd (F.told files.old) (λ told.
+        IsAnswerIn ask.now (rows_of latched word_at ports.old.items) told Missing) }
     ensures write { result ≡ Status.Write → Rose (K.faults out.old) (K.faults out.new) }
-    ensures front { result ≡ Status.Write → IfSome (F.told files.old) (λ told. Began (IsAnswerIn ask.now (rows_of latched word_at ports.old.items) told) (K.taken out.old) (K.taken out.new)) }
-    ensures complete { ¬ Rose (F.faults files.old) (F.faults files.new) → ¬ Rose (K.faults out.old) (K.faults out.new) → IfSome (F.told files.old) (λ told. (result ≡ Status.NoMemory) ⊎ Answered (IsAnswerIn ask.now (rows_of latched word_at ports.old.items) told) (number_of result)) }
+    ensures front { result ≡ Status.Write → IfSome (F.told files.old) (λ told.
+        Began (IsAnswerIn ask.now (rows_of latched word_at ports.old.items) told)
+        (K.taken out.old) (K.taken out.new)) }
+    ensures complete { ¬ Rose (F.faults files.old) (F.faults files.new) →
+        ¬ Rose (K.faults out.old) (K.faults out.new) →
+        IfSome (F.told files.old) (λ told. (result ≡ Status.NoMemory) ⊎
+        Answered (IsAnswerIn ask.now (rows_of latched word_at ports.old.items) told)
+        (number_of result)) }
     ensures asked { result ≢ Status.Usage }
     ensures nothing { (result ≡ Status.Read) ⊎ (result ≡ Status.NoMemory) → out.new ≡ out.old }
-    ensures ports { result ≡ Status.Ok → IfSome (F.told files.old) (λ told. Leaves ask.now told (rows_of latched word_at ports.old.items) (rows_of latched word_at ports.new.items)) }
-    ensures kept { result ≢ Status.Ok → result ≢ Status.Differs → result ≢ Status.Write → result ≢ Status.NoMemory → ports.new ≡ ports.old }
-    ensures reads { OnlyReads ask.now → rows_of latched word_at ports.new.items ≡ rows_of latched word_at ports.old.items }
-    ensures differs { result ≡ Status.Differs → rows_of latched word_at ports.new.items ≡ rows_of latched word_at ports.old.items }
+    ensures ports { result ≡ Status.Ok → IfSome (F.told files.old) (λ told. Leaves ask.now told
+        (rows_of latched word_at ports.old.items) (rows_of latched word_at ports.new.items)) }
+    ensures kept { result ≢ Status.Ok → result ≢ Status.Differs → result ≢ Status.Write →
+        result ≢ Status.NoMemory → ports.new ≡ ports.old }
+    ensures reads { OnlyReads ask.now →
+        rows_of latched word_at ports.new.items ≡ rows_of latched word_at ports.old.items }
+    ensures differs { result ≡ Status.Differs →
+        rows_of latched word_at ports.new.items ≡ rows_of latched word_at ports.old.items }
     ensures apart { IsApart ask.now → ports.new ≡ ports.old }
     ensures eight { vec_len ports.new ≡ 8 }
 {
@@ -108,14 +126,15 @@ fn answer<F: Files, K: Sink>(
 ///   cycles;
 /// - `dump SETUP --cycles n`: what is seen of the machine then;
 /// - `asm SOURCE`: the image of a source;
-/// - `solo SETUP --thread i --cycles n`: the lines of the thread's events by its view alone, of a hard
-///   and confined thread;
-/// - `check SETUP --thread i --cycles n --trace FILE`: `same` where a recorded trace has these lines;
+/// - `solo SETUP --thread i --cycles n`: the lines of the thread's events by its view alone, of a
+///   hard and confined thread;
+/// - `check SETUP --thread i --cycles n --trace FILE`: `same` where a recorded trace has these
+///   lines;
 /// - `bound SETUP --thread i --from a --to b`: the largest number of cycles from a section's first
 ///   issue to the last, over all walks that keep the loops' bounds;
 /// - `selfrun NUMBER`: what the eight threads did in a run of programs that the number draws;
-/// - `phases SETUP --cycles n`: the settings of slots and modes in n cycles, each with the first cycle
-///   that is picked by it: the first one, and that of each write of them that has retired;
+/// - `phases SETUP --cycles n`: the settings of slots and modes in n cycles, each with the first
+///   cycle that is picked by it: the first one, and that of each write of them that has retired;
 /// - `elf FILE`: the image of a static ELF32 executable;
 /// - `calls SETUP --thread i --from a --to b --routines FILE`: the largest number of cycles from a
 ///   section's first issue to the last, over all walks that keep the loops' bounds, go through the
@@ -126,8 +145,8 @@ fn answer<F: Files, K: Sink>(
 /// - 0: the command's text was written;
 /// - 1: the recorded trace isn't the defined one; the line that tells where was written;
 /// - 2: the words ask no command; nothing was fetched, and nothing written;
-/// - 3: the setup has a fault, the section asked for is none, or the thread asked for isn't hard or isn't
-///   confined; the refusal line was written;
+/// - 3: the setup has a fault, the section asked for is none, or the thread asked for isn't hard or
+///   isn't confined; the refusal line was written;
 /// - 4: the image or the executable has a fault; its refusal line was written;
 /// - 5: the source has a fault; its refusal line was written;
 /// - 6: the section has no bound, or one past 64 bits; the refusal line was written;
@@ -146,31 +165,56 @@ pub fn flexpret<F: Files, K: Sink>(
     ensures usage { result ≡ 2 → ask (map string_bytes words.now) ≡ None }
     ensures asks { ask (map string_bytes words.now) ≡ None → (result ≡ 2) ⊎ (result ≡ 9) }
     ensures untouched { ask (map string_bytes words.now) ≡ None → files.new ≡ files.old }
-    ensures said { result ≢ 7 → result ≢ 8 → result ≢ 9 → IfSome (F.told files.old) (λ told. Said (IsAnswer (map string_bytes words.now) told (rows_of latched word_at ports.old.items)) result (K.taken out.old) (K.taken out.new)) }
-    ensures read { result ≡ 7 → Rose (F.faults files.old) (F.faults files.new) ⊎ IsSomeAnd (F.told files.old) (λ told. IsAnswer (map string_bytes words.now) told (rows_of latched word_at ports.old.items) Missing) }
+    ensures said { result ≢ 7 → result ≢ 8 → result ≢ 9 → IfSome (F.told files.old) (λ told.
+        Said (IsAnswer (map string_bytes words.now) told (rows_of latched word_at ports.old.items))
+        result (K.taken out.old) (K.taken out.new)) }
+    ensures read { result ≡ 7 → Rose (F.faults files.old) (F.faults files.new) ⊎
+        IsSomeAnd (F.told files.old) (λ told. IsAnswer (map string_bytes words.now) told
+        (rows_of latched word_at ports.old.items) Missing) }
     ensures write { result ≡ 8 → Rose (K.faults out.old) (K.faults out.new) }
-    ensures front { result ≡ 8 → IfSome (F.told files.old) (λ told. Began (IsAnswer (map string_bytes words.now) told (rows_of latched word_at ports.old.items)) (K.taken out.old) (K.taken out.new)) }
+    ensures front { result ≡ 8 → IfSome (F.told files.old) (λ told.
+        Began (IsAnswer (map string_bytes words.now) told (rows_of latched word_at ports.old.items))
+        (K.taken out.old) (K.taken out.new)) }
     ensures statuses { IsStatus result }
-    ensures complete { ¬ Rose (F.faults files.old) (F.faults files.new) → ¬ Rose (K.faults out.old) (K.faults out.new) → IfSome (F.told files.old) (λ told. (result ≡ 9) ⊎ Answered (IsAnswer (map string_bytes words.now) told (rows_of latched word_at ports.old.items)) result) }
+    ensures complete { ¬ Rose (F.faults files.old) (F.faults files.new) →
+        ¬ Rose (K.faults out.old) (K.faults out.new) →
+        IfSome (F.told files.old) (λ told. (result ≡ 9) ⊎
+        Answered (IsAnswer (map string_bytes words.now) told
+        (rows_of latched word_at ports.old.items))
+        result) }
     ensures nothing { (result ≡ 2) ⊎ ((result ≡ 7) ⊎ (result ≡ 9)) → out.new ≡ out.old }
     ensures counted_files { F.faults files.old ≤ F.faults files.new }
     ensures counted_out { K.faults out.old ≤ K.faults out.new }
     ensures told { F.told files.new ≡ F.told files.old }
-    ensures alone { result ≡ 0 → IfSome (F.told files.old) (λ told. WritesAlone (ask (map string_bytes words.now)) told (rows_of latched word_at ports.old.items) (K.taken out.old) (K.taken out.new)) }
-    ensures phased { result ≡ 0 → IfSome (F.told files.old) (λ told. WritesByPhases (ask (map string_bytes words.now)) told (rows_of latched word_at ports.old.items) (K.taken out.old) (K.taken out.new)) }
-    ensures visits { result ≡ 0 → IfSome (F.told files.old) (λ told. BoundsVisits (ask (map string_bytes words.now)) told (K.taken out.old) (K.taken out.new)) }
-    ensures call_visits { result ≡ 0 → IfSome (F.told files.old) (λ told. BoundsCallVisits (ask (map string_bytes words.now)) told (K.taken out.old) (K.taken out.new)) }
-    ensures imported { result ≡ 0 → IfSome (F.told files.old) (λ told. WritesImage (ask (map string_bytes words.now)) told (K.taken out.old) (K.taken out.new)) }
-    ensures ports { result ≡ 0 → IfSome (F.told files.old) (λ told. LeavesBy (ask (map string_bytes words.now)) told (rows_of latched word_at ports.old.items) (rows_of latched word_at ports.new.items)) }
+    ensures alone { result ≡ 0 → IfSome (F.told files.old) (λ told.
+        WritesAlone (ask (map string_bytes words.now)) told
+        (rows_of latched word_at ports.old.items) (K.taken out.old) (K.taken out.new)) }
+    ensures phased { result ≡ 0 → IfSome (F.told files.old) (λ told.
+        WritesByPhases (ask (map string_bytes words.now)) told
+        (rows_of latched word_at ports.old.items) (K.taken out.old) (K.taken out.new)) }
+    ensures visits { result ≡ 0 → IfSome (F.told files.old) (λ told.
+        BoundsVisits (ask (map string_bytes words.now)) told (K.taken out.old) (K.taken out.new)) }
+    ensures call_visits { result ≡ 0 → IfSome (F.told files.old) (λ told.
+        BoundsCallVisits (ask (map string_bytes words.now)) told
+        (K.taken out.old) (K.taken out.new)) }
+    ensures imported { result ≡ 0 → IfSome (F.told files.old) (λ told.
+        WritesImage (ask (map string_bytes words.now)) told (K.taken out.old) (K.taken out.new)) }
+    ensures ports { result ≡ 0 → IfSome (F.told files.old) (λ told.
+        LeavesBy (ask (map string_bytes words.now)) told
+        (rows_of latched word_at ports.old.items) (rows_of latched word_at ports.new.items)) }
     ensures kept { 2 ≤ result → result ≢ 8 → result ≢ 9 → ports.new ≡ ports.old }
-    ensures reads { OnlyReadsBy (ask (map string_bytes words.now)) → rows_of latched word_at ports.new.items ≡ rows_of latched word_at ports.old.items }
-    ensures differs { result ≡ 1 → rows_of latched word_at ports.new.items ≡ rows_of latched word_at ports.old.items }
-    ensures as_run { result ≡ 0 → IfSome (F.told files.old) (λ told. WritesAsRun (ask (map string_bytes words.now)) told (rows_of latched word_at ports.old.items) (K.taken out.old) (K.taken out.new)) }
+    ensures reads { OnlyReadsBy (ask (map string_bytes words.now)) →
+        rows_of latched word_at ports.new.items ≡ rows_of latched word_at ports.old.items }
+    ensures differs { result ≡ 1 →
+        rows_of latched word_at ports.new.items ≡ rows_of latched word_at ports.old.items }
+    ensures as_run { result ≡ 0 → IfSome (F.told files.old) (λ told.
+        WritesAsRun (ask (map string_bytes words.now)) told
+        (rows_of latched word_at ports.old.items) (K.taken out.old) (K.taken out.new)) }
     ensures apart { IsApartBy (ask (map string_bytes words.now)) → ports.new ≡ ports.old }
     ensures eight { vec_len ports.new ≡ 8 }
 {
-    // The laws by which one hart's trace and visits don't hang on what the others run, by which an accepted
-    // setup keeps the rules, and by which the image of an executable is read back.
+    // The laws by which one thread's trace and visits don't hang on what the others run, by which
+    // an accepted setup keeps the rules, and by which the image of an executable is read back.
     accepted_keep_rules();
     traces_alone();
     traces_by_phases();

@@ -1,13 +1,19 @@
 //! What was prepared, written to the sink.
 
-ghost use Rattle.std.specs.Prelude.{◌≡◌, ◌⊎◌, ◌≤◌, ◌<◌, List, ℕ, OnOk, OnErr, vec_len};
-ghost use Rattle.std.specs.Io.KnownBytes.{Appends};
+ghost use Rattle.std.specs.Prelude.{◌≡◌, ◌⊎◌, ◌≤◌, ◌<◌, OnOk, OnErr, vec_len};
 ghost use Rattle.fp_io.specs.Causes.{Rose};
-ghost use Rattle.fp_io.specs.Content.{AppendsFront};
 ghost use Rattle.fp_ports.specs.Rows.{rows_of};
 ghost use Rattle.world_model.specs.World.{Start};
-ghost use Rattle.machine.specs.Meaning.{StandsFor};
-ghost use Rattle.flexpret_top.specs.Prepared.{Delivers, Gone, IsApartFrom, OnlyReadsFor, IsThread, LeavesPorts};
+ghost use Rattle.machine.specs.WorldRelation.{StandsFor};
+ghost use Rattle.flexpret_top.specs.Prepared.{
+  Gone,
+  IsApartFrom,
+  IsThread,
+  LeavesPorts,
+  OnlyReadsFor,
+  WritesAll,
+  WritesPart,
+};
 ghost use Rattle.flexpret_top.specs.declared.ready.Prepared.{Prepared};
 
 use crate::alone::put_alone;
@@ -23,8 +29,10 @@ fn go(machine: &mut Machine, cycles: u64, ports: &mut Ports)
     requires start { machine.old.at ≡ 0 }
     requires limit { cycles ≤ 4000000000 }
     requires eight { vec_len ports.old ≡ 8 }
-    ensures gone { (s : Start) → StandsFor s 0 cycles machine.old (rows_of latched word_at ports.old.items)
-        → Gone s cycles (rows_of latched word_at ports.old.items) machine.new (rows_of latched word_at ports.new.items) }
+    ensures gone { (s : Start) →
+        StandsFor s 0 cycles machine.old (rows_of latched word_at ports.old.items) →
+        Gone s cycles (rows_of latched word_at ports.old.items) machine.new
+        (rows_of latched word_at ports.new.items) }
     ensures eight { vec_len ports.new ≡ 8 }
 {
     for _cycle in 0..cycles {
@@ -41,11 +49,14 @@ fn put_trace<K: Sink>(
 ) -> Result<(), PutFailed>
     requires thread { thread < 8 }
     requires eight { vec_len ports.old ≡ 8 }
-    ensures ok { OnOk result ((written : List ℕ) → Delivers (Prepared.Trace ready thread) (rows_of latched word_at ports.old.items) written → Appends (K.taken out.old) (K.taken out.new) written) }
-    ensures err { OnErr result ((written : List ℕ) → Delivers (Prepared.Trace ready thread) (rows_of latched word_at ports.old.items) written → AppendsFront (K.taken out.old) (K.taken out.new) written) }
+    ensures ok { OnOk result (WritesAll (Prepared.Trace ready thread)
+        (rows_of latched word_at ports.old.items) (K.taken out.old) (K.taken out.new)) }
+    ensures err { OnErr result (WritesPart (Prepared.Trace ready thread)
+        (rows_of latched word_at ports.old.items) (K.taken out.old) (K.taken out.new)) }
     ensures failed { OnErr result (Rose (K.faults out.old) (K.faults out.new)) }
     ensures counted { K.faults out.old ≤ K.faults out.new }
-    ensures left { OnOk result (LeavesPorts (Prepared.Trace ready thread) (rows_of latched word_at ports.old.items) (rows_of latched word_at ports.new.items)) }
+    ensures left { OnOk result (LeavesPorts (Prepared.Trace ready thread)
+        (rows_of latched word_at ports.old.items) (rows_of latched word_at ports.new.items)) }
     ensures eight { vec_len ports.new ≡ 8 }
 {
     let mut machine = ready.machine;
@@ -55,11 +66,14 @@ fn put_trace<K: Sink>(
 /// Runs a machine, and puts its dump.
 fn put_dump<K: Sink>(ready: Ready, ports: &mut Ports, out: &mut K) -> Result<(), PutFailed>
     requires eight { vec_len ports.old ≡ 8 }
-    ensures ok { OnOk result ((written : List ℕ) → Delivers (Prepared.Dump ready) (rows_of latched word_at ports.old.items) written → Appends (K.taken out.old) (K.taken out.new) written) }
-    ensures err { OnErr result ((written : List ℕ) → Delivers (Prepared.Dump ready) (rows_of latched word_at ports.old.items) written → AppendsFront (K.taken out.old) (K.taken out.new) written) }
+    ensures ok { OnOk result (WritesAll (Prepared.Dump ready)
+        (rows_of latched word_at ports.old.items) (K.taken out.old) (K.taken out.new)) }
+    ensures err { OnErr result (WritesPart (Prepared.Dump ready)
+        (rows_of latched word_at ports.old.items) (K.taken out.old) (K.taken out.new)) }
     ensures failed { OnErr result (Rose (K.faults out.old) (K.faults out.new)) }
     ensures counted { K.faults out.old ≤ K.faults out.new }
-    ensures left { LeavesPorts (Prepared.Dump ready) (rows_of latched word_at ports.old.items) (rows_of latched word_at ports.new.items) }
+    ensures left { LeavesPorts (Prepared.Dump ready)
+        (rows_of latched word_at ports.old.items) (rows_of latched word_at ports.new.items) }
     ensures eight { vec_len ports.new ≡ 8 }
 {
     let mut machine = ready.machine;
@@ -70,11 +84,14 @@ fn put_dump<K: Sink>(ready: Ready, ports: &mut Ports, out: &mut K) -> Result<(),
 /// Runs a machine, and puts the lines of its settings.
 fn put_phases<K: Sink>(ready: Ready, ports: &mut Ports, out: &mut K) -> Result<(), PutFailed>
     requires eight { vec_len ports.old ≡ 8 }
-    ensures ok { OnOk result ((written : List ℕ) → Delivers (Prepared.Phases ready) (rows_of latched word_at ports.old.items) written → Appends (K.taken out.old) (K.taken out.new) written) }
-    ensures err { OnErr result ((written : List ℕ) → Delivers (Prepared.Phases ready) (rows_of latched word_at ports.old.items) written → AppendsFront (K.taken out.old) (K.taken out.new) written) }
+    ensures ok { OnOk result (WritesAll (Prepared.Phases ready)
+        (rows_of latched word_at ports.old.items) (K.taken out.old) (K.taken out.new)) }
+    ensures err { OnErr result (WritesPart (Prepared.Phases ready)
+        (rows_of latched word_at ports.old.items) (K.taken out.old) (K.taken out.new)) }
     ensures failed { OnErr result (Rose (K.faults out.old) (K.faults out.new)) }
     ensures counted { K.faults out.old ≤ K.faults out.new }
-    ensures left { OnOk result (LeavesPorts (Prepared.Phases ready) (rows_of latched word_at ports.old.items) (rows_of latched word_at ports.new.items)) }
+    ensures left { OnOk result (LeavesPorts (Prepared.Phases ready)
+        (rows_of latched word_at ports.old.items) (rows_of latched word_at ports.new.items)) }
     ensures eight { vec_len ports.new ≡ 8 }
 {
     let mut machine = ready.machine;
@@ -85,13 +102,17 @@ fn put_phases<K: Sink>(ready: Ready, ports: &mut Ports, out: &mut K) -> Result<(
 pub fn deliver<K: Sink>(prepared: Prepared, ports: &mut Ports, out: &mut K) -> Result<(), PutFailed>
     requires thread { IsThread prepared }
     requires eight { vec_len ports.old ≡ 8 }
-    ensures ok { OnOk result ((written : List ℕ) → Delivers prepared (rows_of latched word_at ports.old.items) written → Appends (K.taken out.old) (K.taken out.new) written) }
-    ensures err { OnErr result ((written : List ℕ) → Delivers prepared (rows_of latched word_at ports.old.items) written → AppendsFront (K.taken out.old) (K.taken out.new) written) }
+    ensures ok { OnOk result (WritesAll prepared
+        (rows_of latched word_at ports.old.items) (K.taken out.old) (K.taken out.new)) }
+    ensures err { OnErr result (WritesPart prepared
+        (rows_of latched word_at ports.old.items) (K.taken out.old) (K.taken out.new)) }
     ensures failed { OnErr result (Rose (K.faults out.old) (K.faults out.new)) }
     ensures counted { K.faults out.old ≤ K.faults out.new }
-    ensures left { OnOk result (LeavesPorts prepared (rows_of latched word_at ports.old.items) (rows_of latched word_at ports.new.items)) }
+    ensures left { OnOk result (LeavesPorts prepared
+        (rows_of latched word_at ports.old.items) (rows_of latched word_at ports.new.items)) }
     ensures apart { IsApartFrom prepared → ports.new ≡ ports.old }
-    ensures reads { OnlyReadsFor prepared → rows_of latched word_at ports.new.items ≡ rows_of latched word_at ports.old.items }
+    ensures reads { OnlyReadsFor prepared →
+        rows_of latched word_at ports.new.items ≡ rows_of latched word_at ports.old.items }
     ensures eight { vec_len ports.new ≡ 8 }
 {
     match prepared {

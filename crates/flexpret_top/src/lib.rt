@@ -2,18 +2,12 @@
 #![tactic(auto)]
 
 mod alone;
-mod assembling;
-mod bound;
-mod calls;
 mod command;
 mod deliver;
-mod difference;
-mod elf;
 mod prepare;
-mod program;
 mod ready;
 mod shown;
 mod status;
-mod stop;
 
+pub use ask_words::{Ask, WordsNo, read_words};
 pub use command::flexpret;

@@ -1,37 +1,41 @@
 //! What a command will write, before the first byte of it is written.
 
-ghost use Rattle.std.specs.Prelude.{◌≡◌, ◌≢◌, ◌⊎◌, ◌≤◌, ◌<◌, ℕ, false, Ok, Err, IfOk, IfErr, OnOk, IfSome, List, Option, length, vec_len};
+ghost use Rattle.std.specs.Prelude.{◌≡◌, ◌≢◌, ◌⊎◌, ◌≤◌, ◌<◌, ℕ, false, IfOk, IfErr, OnOk, IfSome, List, Option, length, vec_len};
 ghost use Rattle.fp_io.specs.Content.{FileMap};
 ghost use Rattle.fp_ports.specs.Rows.{Row, rows_of};
 ghost use Rattle.ask_words.specs.Limits.{IsWithinLimits};
 ghost use Rattle.ask_words.specs.declared.asked.Ask.{Ask};
 ghost use Rattle.machine.specs.Feeding.{fed_all};
-ghost use Rattle.machine.specs.Meaning.{StandsFor, start_beside};
-ghost use Rattle.flexpret_top.specs.Alone.{alone_program, same_text};
-ghost use Rattle.flexpret_top.specs.Answer.Answer.{Says};
+ghost use Rattle.machine.specs.WorldRelation.{StandsFor, start_beside};
+ghost use Rattle.flexpret_top.specs.Alone.{alone_program};
 ghost use Rattle.flexpret_top.specs.declared.ready.Prepared.{Prepared};
-ghost use Rattle.flexpret_top.specs.Assembled.{asm_answer};
-ghost use Rattle.flexpret_top.specs.Bound.{IsBoundAnswer};
-ghost use Rattle.flexpret_top.specs.Calls.{IsCallsAnswer};
+ghost use Rattle.file_answers.specs.Assembled.{asm_answer};
+ghost use Rattle.file_answers.specs.Bound.{IsBoundAnswer};
+ghost use Rattle.file_answers.specs.Calls.{IsCallsAnswer};
 ghost use Rattle.flexpret_top.specs.Command.{IsAnswerIn, IsApart, OnlyReads};
-ghost use Rattle.flexpret_top.specs.Elf.{elf_answer};
-ghost use Rattle.flexpret_top.specs.Program.{program};
-ghost use Rattle.flexpret_top.specs.Prepared.{IsApartFrom, IsReady, IsThread, OnlyReadsFor, Prepares};
-ghost use Rattle.flexpret_top.specs.Stops.{IsStop, is_difference};
-ghost use Rattle.flexpret_top.specs.declared.stop.Stop.TheVariants.{NoMemory};
+ghost use Rattle.file_answers.specs.Elf.{elf_answer};
+ghost use Rattle.file_answers.specs.Program.{program};
+ghost use Rattle.flexpret_top.specs.Prepared.{
+  IsApartFrom,
+  IsPrepared,
+  IsPreparedApart,
+  IsReady,
+  IsThread,
+  OnlyReadsFor,
+  Prepares,
+};
+ghost use Rattle.file_answers.specs.Stops.{IsStop, IsStopIn, is_difference};
+ghost use Rattle.file_answers.specs.declared.stop.Stop.TheVariants.{NoMemory};
 
 use crate::alone::{compare_alone, load_alone};
-use crate::assembling::image_bytes;
-use crate::bound::section_bound;
-use crate::calls::calls_bound;
-use crate::elf::imported_bytes;
-use crate::program::{Program, load};
 use crate::ready::{Prepared, Ready};
-use crate::stop::Stop;
-use ask_words::{Ask, Section};
+use ask_words::Ask;
+use file_answers::{Program, Stop, calls_bound, image_bytes, imported_bytes, load, section_bound};
 use fp_io::Files;
 use fp_ports::Ports;
+use fp_setup::Name;
 use machine::{Machine, feed_inputs};
+use region_tree::Section;
 use selfrun::Selfrun;
 use std::alloc::{AllocError, Global};
 
@@ -42,9 +46,11 @@ fn machine_beside(
     ports: &mut Ports,
 ) -> Result<Machine, AllocError>
     requires eight { vec_len ports.old ≡ 8 }
-    ensures stands { IfOk result (λ m. (ports : List (Option Row)) (n : ℕ) → length ports ≡ 8 → StandsFor (start_beside program.now.setup program.now.image ports n) 0 n m ports) }
+    ensures stands { IfOk result (λ m. (ports : List (Option Row)) (n : ℕ) → length ports ≡ 8 →
+        StandsFor (start_beside program.now.setup program.now.image ports n) 0 n m ports) }
     ensures start { IfOk result (λ m. m.at ≡ 0) }
-    ensures fed { OnOk result (rows_of latched word_at ports.new.items ≡ fed_all program.now.setup (rows_of latched word_at ports.old.items)) }
+    ensures fed { OnOk result (rows_of latched word_at ports.new.items ≡
+        fed_all program.now.setup (rows_of latched word_at ports.old.items)) }
     ensures eight { vec_len ports.new ≡ 8 }
 {
     match Machine::load(alloc, &program.setup, &program.image) {
@@ -59,7 +65,7 @@ fn machine_beside(
 /// The machine of a setup and the image that it names, with the ports fed.
 fn ready<F: Files>(
     alloc: Global,
-    setup: &str,
+    setup: &Name,
     cycles: u64,
     files: &mut F,
     ports: &mut Ports,
@@ -68,9 +74,11 @@ fn ready<F: Files>(
     requires eight { vec_len ports.old ≡ 8 }
     ensures told { F.told files.new ≡ F.told files.old }
     ensures counted { F.faults files.old ≤ F.faults files.new }
-    ensures ok { IfOk result (λ r. IfSome (F.told files.old) (λ told. IsReady told setup.now (rows_of latched word_at ports.old.items) (rows_of latched word_at ports.new.items) r)) }
+    ensures ok { IfOk result (λ r. IfSome (F.told files.old) (λ told. IsReady told setup.now
+        (rows_of latched word_at ports.old.items) (rows_of latched word_at ports.new.items) r)) }
     ensures cycles { IfOk result (λ r. r.cycles ≡ cycles) }
-    ensures stop { IfErr result (IsStop (F.told files.old) (λ told x. program told setup.now ≡ Err x) (F.faults files.old) (F.faults files.new)) }
+    ensures stop { IfErr result (IsStopIn (F.told files.old) (λ told. program told setup.now)
+        (F.faults files.old) (F.faults files.new)) }
     ensures kept { IfErr result (λ stop. stop ≢ NoMemory → ports.new ≡ ports.old) }
     ensures eight { vec_len ports.new ≡ 8 }
 {
@@ -90,7 +98,7 @@ fn ready<F: Files>(
 /// `run SETUP --thread i --cycles n`
 fn trace<F: Files>(
     alloc: Global,
-    setup: &str,
+    setup: &Name,
     thread: u8,
     cycles: u64,
     files: &mut F,
@@ -101,9 +109,12 @@ fn trace<F: Files>(
     requires eight { vec_len ports.old ≡ 8 }
     ensures told { F.told files.new ≡ F.told files.old }
     ensures counted { F.faults files.old ≤ F.faults files.new }
-    ensures ok { IfOk result (λ p. IfSome (F.told files.old) (λ told. Prepares (Ask.Run setup.now thread cycles) told (rows_of latched word_at ports.old.items) (rows_of latched word_at ports.new.items) p)) }
+    ensures ok { IfOk result (IsPrepared (Ask.Run setup.now thread cycles) (F.told files.old)
+        (rows_of latched word_at ports.old.items) (rows_of latched word_at ports.new.items)) }
     ensures thread { IfOk result IsThread }
-    ensures stop { IfErr result (IsStop (F.told files.old) (IsAnswerIn (Ask.Run setup.now thread cycles) (rows_of latched word_at ports.old.items)) (F.faults files.old) (F.faults files.new)) }
+    ensures stop { IfErr result (IsStop (F.told files.old)
+        (IsAnswerIn (Ask.Run setup.now thread cycles) (rows_of latched word_at ports.old.items))
+        (F.faults files.old) (F.faults files.new)) }
     ensures kept { IfErr result (λ stop. stop ≢ NoMemory → ports.new ≡ ports.old) }
     ensures eight { vec_len ports.new ≡ 8 }
 {
@@ -114,7 +125,7 @@ fn trace<F: Files>(
 /// `dump SETUP --cycles n`
 fn dump<F: Files>(
     alloc: Global,
-    setup: &str,
+    setup: &Name,
     cycles: u64,
     files: &mut F,
     ports: &mut Ports,
@@ -123,9 +134,12 @@ fn dump<F: Files>(
     requires eight { vec_len ports.old ≡ 8 }
     ensures told { F.told files.new ≡ F.told files.old }
     ensures counted { F.faults files.old ≤ F.faults files.new }
-    ensures ok { IfOk result (λ p. IfSome (F.told files.old) (λ told. Prepares (Ask.Dump setup.now cycles) told (rows_of latched word_at ports.old.items) (rows_of latched word_at ports.new.items) p)) }
+    ensures ok { IfOk result (IsPrepared (Ask.Dump setup.now cycles) (F.told files.old)
+        (rows_of latched word_at ports.old.items) (rows_of latched word_at ports.new.items)) }
     ensures thread { IfOk result IsThread }
-    ensures stop { IfErr result (IsStop (F.told files.old) (IsAnswerIn (Ask.Dump setup.now cycles) (rows_of latched word_at ports.old.items)) (F.faults files.old) (F.faults files.new)) }
+    ensures stop { IfErr result (IsStop (F.told files.old)
+        (IsAnswerIn (Ask.Dump setup.now cycles) (rows_of latched word_at ports.old.items))
+        (F.faults files.old) (F.faults files.new)) }
     ensures kept { IfErr result (λ stop. stop ≢ NoMemory → ports.new ≡ ports.old) }
     ensures eight { vec_len ports.new ≡ 8 }
 {
@@ -135,7 +149,7 @@ fn dump<F: Files>(
 /// `phases SETUP --cycles n`
 fn phases<F: Files>(
     alloc: Global,
-    setup: &str,
+    setup: &Name,
     cycles: u64,
     files: &mut F,
     ports: &mut Ports,
@@ -144,9 +158,12 @@ fn phases<F: Files>(
     requires eight { vec_len ports.old ≡ 8 }
     ensures told { F.told files.new ≡ F.told files.old }
     ensures counted { F.faults files.old ≤ F.faults files.new }
-    ensures ok { IfOk result (λ p. IfSome (F.told files.old) (λ told. Prepares (Ask.Phases setup.now cycles) told (rows_of latched word_at ports.old.items) (rows_of latched word_at ports.new.items) p)) }
+    ensures ok { IfOk result (IsPrepared (Ask.Phases setup.now cycles) (F.told files.old)
+        (rows_of latched word_at ports.old.items) (rows_of latched word_at ports.new.items)) }
     ensures thread { IfOk result IsThread }
-    ensures stop { IfErr result (IsStop (F.told files.old) (IsAnswerIn (Ask.Phases setup.now cycles) (rows_of latched word_at ports.old.items)) (F.faults files.old) (F.faults files.new)) }
+    ensures stop { IfErr result (IsStop (F.told files.old)
+        (IsAnswerIn (Ask.Phases setup.now cycles) (rows_of latched word_at ports.old.items))
+        (F.faults files.old) (F.faults files.new)) }
     ensures kept { IfErr result (λ stop. stop ≢ NoMemory → ports.new ≡ ports.old) }
     ensures eight { vec_len ports.new ≡ 8 }
 {
@@ -154,25 +171,29 @@ fn phases<F: Files>(
 }
 
 /// `asm SOURCE`
-fn image<F: Files>(alloc: Global, source: &str, files: &mut F) -> Result<Prepared, Stop>
+fn image<F: Files>(alloc: Global, source: &Name, files: &mut F) -> Result<Prepared, Stop>
     ensures told { F.told files.new ≡ F.told files.old }
     ensures counted { F.faults files.old ≤ F.faults files.new }
-    ensures ok { IfOk result (λ p. IfSome (F.told files.old) (λ told. (ports : List (Option Row)) → Prepares (Ask.Asm source.now) told ports ports p)) }
+    ensures ok { IfOk result (IsPreparedApart (Ask.Asm source.now) (F.told files.old)) }
     ensures thread { IfOk result IsThread }
     ensures apart { IfOk result IsApartFrom }
-    ensures stop { IfErr result (IsStop (F.told files.old) (λ told x. x ≡ asm_answer told source.now) (F.faults files.old) (F.faults files.new)) }
+    ensures stop { IfErr result (IsStop (F.told files.old)
+        (λ told x. x ≡ asm_answer told source.now)
+        (F.faults files.old) (F.faults files.new)) }
 {
     Ok(Prepared::Image(image_bytes(alloc, source, files)?))
 }
 
 /// `elf FILE`
-fn imported<F: Files>(alloc: Global, file: &str, files: &mut F) -> Result<Prepared, Stop>
+fn imported<F: Files>(alloc: Global, file: &Name, files: &mut F) -> Result<Prepared, Stop>
     ensures told { F.told files.new ≡ F.told files.old }
     ensures counted { F.faults files.old ≤ F.faults files.new }
-    ensures ok { IfOk result (λ p. IfSome (F.told files.old) (λ told. (ports : List (Option Row)) → Prepares (Ask.Elf file.now) told ports ports p)) }
+    ensures ok { IfOk result (IsPreparedApart (Ask.Elf file.now) (F.told files.old)) }
     ensures thread { IfOk result IsThread }
     ensures apart { IfOk result IsApartFrom }
-    ensures stop { IfErr result (IsStop (F.told files.old) (λ told x. x ≡ elf_answer told file.now) (F.faults files.old) (F.faults files.new)) }
+    ensures stop { IfErr result (IsStop (F.told files.old)
+        (λ told x. x ≡ elf_answer told file.now)
+        (F.faults files.old) (F.faults files.new)) }
 {
     Ok(Prepared::Image(imported_bytes(alloc, file, files)?))
 }
@@ -180,7 +201,7 @@ fn imported<F: Files>(alloc: Global, file: &str, files: &mut F) -> Result<Prepar
 /// `solo SETUP --thread i --cycles n`
 fn solo<F: Files>(
     alloc: Global,
-    setup: &str,
+    setup: &Name,
     thread: u8,
     cycles: u64,
     files: &mut F,
@@ -189,10 +210,12 @@ fn solo<F: Files>(
     requires thread { thread < 8 }
     ensures told { F.told files.new ≡ F.told files.old }
     ensures counted { F.faults files.old ≤ F.faults files.new }
-    ensures ok { IfOk result (λ p. IfSome (F.told files.old) (λ told. (ports : List (Option Row)) → Prepares (Ask.Solo setup.now thread cycles) told ports ports p)) }
+    ensures ok { IfOk result
+        (IsPreparedApart (Ask.Solo setup.now thread cycles) (F.told files.old)) }
     ensures thread { IfOk result IsThread }
     ensures reads { IfOk result OnlyReadsFor }
-    ensures stop { IfErr result (IsStop (F.told files.old) (λ told x. alone_program told setup.now thread ≡ Err x) (F.faults files.old) (F.faults files.new)) }
+    ensures stop { IfErr result (IsStopIn (F.told files.old)
+        (λ told. alone_program told setup.now thread) (F.faults files.old) (F.faults files.new)) }
 {
     match load_alone(alloc, setup, thread, cycles, files) {
         Ok(alone) => Ok(Prepared::Solo(alone)),
@@ -203,10 +226,10 @@ fn solo<F: Files>(
 /// `check SETUP --thread i --cycles n --trace FILE`
 fn check<F: Files>(
     alloc: Global,
-    setup: &str,
+    setup: &Name,
     thread: u8,
     cycles: u64,
-    trace: &str,
+    trace: &Name,
     files: &mut F,
     ports: &mut Ports,
 ) -> Result<Prepared, Stop>
@@ -215,11 +238,18 @@ fn check<F: Files>(
     requires eight { vec_len ports.old ≡ 8 }
     ensures told { F.told files.new ≡ F.told files.old }
     ensures counted { F.faults files.old ≤ F.faults files.new }
-    ensures same { IfOk result (λ p. p ≡ Prepared.Same) }
-    ensures ok { IfOk result (λ p. IfSome (F.told files.old) (λ told. IsAnswerIn (Ask.Check setup.now thread cycles trace.now) (rows_of latched word_at ports.old.items) told (Says 0 same_text))) }
-    ensures stop { IfErr result (IsStop (F.told files.old) (IsAnswerIn (Ask.Check setup.now thread cycles trace.now) (rows_of latched word_at ports.old.items)) (F.faults files.old) (F.faults files.new)) }
+    ensures ok { IfOk result
+        (IsPrepared (Ask.Check setup.now thread cycles trace.now) (F.told files.old)
+        (rows_of latched word_at ports.old.items) (rows_of latched word_at ports.new.items)) }
+    ensures thread { IfOk result IsThread }
+    ensures reads { IfOk result OnlyReadsFor }
+    ensures stop { IfErr result (IsStop (F.told files.old)
+        (IsAnswerIn (Ask.Check setup.now thread cycles trace.now)
+        (rows_of latched word_at ports.old.items))
+        (F.faults files.old) (F.faults files.new)) }
     ensures kept { IfErr result (λ stop. is_difference stop ≡ false → ports.new ≡ ports.old) }
-    ensures rows { rows_of latched word_at ports.new.items ≡ rows_of latched word_at ports.old.items }
+    ensures rows { rows_of latched word_at ports.new.items ≡
+        rows_of latched word_at ports.old.items }
     ensures eight { vec_len ports.new ≡ 8 }
 {
     match load_alone(alloc, setup, thread, cycles, files) {
@@ -234,7 +264,7 @@ fn check<F: Files>(
 /// `bound SETUP --thread i --from a --to b`
 fn bound<F: Files>(
     alloc: Global,
-    setup: &str,
+    setup: &Name,
     thread: u8,
     section: Section,
     files: &mut F,
@@ -242,15 +272,14 @@ fn bound<F: Files>(
     requires thread { thread < 8 }
     ensures told { F.told files.new ≡ F.told files.old }
     ensures counted { F.faults files.old ≤ F.faults files.new }
-    ensures ok { IfOk result (λ p. IfSome (F.told files.old) (λ told. (ports : List (Option Row)) → Prepares (Ask.Bound setup.now thread section) told ports ports p)) }
+    ensures ok { IfOk result
+        (IsPreparedApart (Ask.Bound setup.now thread section) (F.told files.old)) }
     ensures thread { IfOk result IsThread }
     ensures apart { IfOk result IsApartFrom }
-    ensures stop { IfErr result (IsStop (F.told files.old) (λ told x. IsBoundAnswer (program told setup.now) thread (record { from = section.from; to = section.to }) x) (F.faults files.old) (F.faults files.new)) }
+    ensures stop { IfErr result (IsStop (F.told files.old)
+        (λ told x. IsBoundAnswer (program told setup.now) thread section x)
+        (F.faults files.old) (F.faults files.new)) }
 {
-    let section = region_tree::Section {
-        from: section.from,
-        to: section.to,
-    };
     match load(alloc, setup, files) {
         Ok(program) => match section_bound(alloc, &program, thread, section) {
             Ok(cycles) => Ok(Prepared::Bound(cycles)),
@@ -263,24 +292,23 @@ fn bound<F: Files>(
 /// `calls SETUP --thread i --from a --to b --routines FILE`
 fn calls<F: Files>(
     alloc: Global,
-    setup: &str,
+    setup: &Name,
     thread: u8,
     section: Section,
-    routines: &str,
+    routines: &Name,
     files: &mut F,
 ) -> Result<Prepared, Stop>
     requires thread { thread < 8 }
     ensures told { F.told files.new ≡ F.told files.old }
     ensures counted { F.faults files.old ≤ F.faults files.new }
-    ensures ok { IfOk result (λ p. IfSome (F.told files.old) (λ told. (ports : List (Option Row)) → Prepares (Ask.Calls setup.now thread section routines.now) told ports ports p)) }
+    ensures ok { IfOk result
+        (IsPreparedApart (Ask.Calls setup.now thread section routines.now) (F.told files.old)) }
     ensures thread { IfOk result IsThread }
     ensures apart { IfOk result IsApartFrom }
-    ensures stop { IfErr result (IsStop (F.told files.old) (λ told x. IsCallsAnswer (program told setup.now) thread (record { from = section.from; to = section.to }) (told routines.now) x) (F.faults files.old) (F.faults files.new)) }
+    ensures stop { IfErr result (IsStop (F.told files.old)
+        (λ told x. IsCallsAnswer (program told setup.now) thread section (told routines.now) x)
+        (F.faults files.old) (F.faults files.new)) }
 {
-    let section = region_tree::Section {
-        from: section.from,
-        to: section.to,
-    };
     match load(alloc, setup, files) {
         Ok(program) => match calls_bound(alloc, &program, thread, section, routines, files) {
             Ok(cycles) => Ok(Prepared::Bound(cycles)),
@@ -292,7 +320,8 @@ fn calls<F: Files>(
 
 /// `selfrun NUMBER`
 fn own_run(alloc: Global, number: u32) -> Result<Prepared, Stop>
-    ensures ok { IfOk result (λ p. (told : FileMap) (ports : List (Option Row)) → Prepares (Ask.Selfrun number) told ports ports p) }
+    ensures ok { IfOk result (λ p. (told : FileMap) (ports : List (Option Row)) →
+        Prepares (Ask.Selfrun number) told ports ports p) }
     ensures thread { IfOk result IsThread }
     ensures apart { IfOk result IsApartFrom }
     ensures memory { IfErr result (λ stop. stop ≡ NoMemory) }
@@ -311,12 +340,18 @@ pub fn prepare<F: Files>(
     requires eight { vec_len ports.old ≡ 8 }
     ensures told { F.told files.new ≡ F.told files.old }
     ensures counted { F.faults files.old ≤ F.faults files.new }
-    ensures ok { IfOk result (λ p. IfSome (F.told files.old) (λ told. Prepares ask.now told (rows_of latched word_at ports.old.items) (rows_of latched word_at ports.new.items) p)) }
+    ensures ok { IfOk result (IsPrepared ask.now (F.told files.old)
+        (rows_of latched word_at ports.old.items) (rows_of latched word_at ports.new.items)) }
     ensures thread { IfOk result IsThread }
-    ensures stop { IfErr result (IsStop (F.told files.old) (IsAnswerIn ask.now (rows_of latched word_at ports.old.items)) (F.faults files.old) (F.faults files.new)) }
-    ensures kept { IfErr result (λ stop. stop ≢ NoMemory → is_difference stop ≡ false → ports.new ≡ ports.old) }
-    ensures others { IfErr result (λ stop. stop ≢ NoMemory → OnlyReads ask.now ⊎ (ports.new ≡ ports.old)) }
-    ensures reads { OnlyReads ask.now → rows_of latched word_at ports.new.items ≡ rows_of latched word_at ports.old.items }
+    ensures stop { IfErr result (IsStop (F.told files.old)
+        (IsAnswerIn ask.now (rows_of latched word_at ports.old.items))
+        (F.faults files.old) (F.faults files.new)) }
+    ensures kept { IfErr result (λ stop.
+        stop ≢ NoMemory → is_difference stop ≡ false → ports.new ≡ ports.old) }
+    ensures others { IfErr result (λ stop.
+        stop ≢ NoMemory → OnlyReads ask.now ⊎ (ports.new ≡ ports.old)) }
+    ensures reads { OnlyReads ask.now →
+        rows_of latched word_at ports.new.items ≡ rows_of latched word_at ports.old.items }
     ensures reads_for { IfOk result (λ p. OnlyReads ask.now → OnlyReadsFor p) }
     ensures apart { IsApart ask.now → ports.new ≡ ports.old }
     ensures apart_from { IfOk result (λ p. IsApart ask.now → IsApartFrom p) }
@@ -327,48 +362,33 @@ pub fn prepare<F: Files>(
             setup,
             thread,
             cycles,
-        } => trace(alloc, setup.as_str(), *thread, *cycles, files, ports),
-        Ask::Dump { setup, cycles } => dump(alloc, setup.as_str(), *cycles, files, ports),
-        Ask::Asm { source } => image(alloc, source.as_str(), files),
+        } => trace(alloc, setup, *thread, *cycles, files, ports),
+        Ask::Dump { setup, cycles } => dump(alloc, setup, *cycles, files, ports),
+        Ask::Asm { source } => image(alloc, source, files),
         Ask::Bound {
             setup,
             thread,
             section,
-        } => bound(alloc, setup.as_str(), *thread, *section, files),
+        } => bound(alloc, setup, *thread, *section, files),
         Ask::Selfrun { number } => own_run(alloc, *number),
-        Ask::Phases { setup, cycles } => phases(alloc, setup.as_str(), *cycles, files, ports),
+        Ask::Phases { setup, cycles } => phases(alloc, setup, *cycles, files, ports),
         Ask::Solo {
             setup,
             thread,
             cycles,
-        } => solo(alloc, setup.as_str(), *thread, *cycles, files),
+        } => solo(alloc, setup, *thread, *cycles, files),
         Ask::Check {
             setup,
             thread,
             cycles,
             trace,
-        } => check(
-            alloc,
-            setup.as_str(),
-            *thread,
-            *cycles,
-            trace.as_str(),
-            files,
-            ports,
-        ),
-        Ask::Elf { file } => imported(alloc, file.as_str(), files),
+        } => check(alloc, setup, *thread, *cycles, trace, files, ports),
+        Ask::Elf { file } => imported(alloc, file, files),
         Ask::Calls {
             setup,
             thread,
             section,
             routines,
-        } => calls(
-            alloc,
-            setup.as_str(),
-            *thread,
-            *section,
-            routines.as_str(),
-            files,
-        ),
+        } => calls(alloc, setup, *thread, *section, routines, files),
     }
 }

@@ -2,7 +2,7 @@
 
 ghost use Rattle.std.specs.Prelude.{◌≡◌, Option, List, find, map, nat_le, option_copied, reverse};
 ghost use Rattle.fp_ports.specs.Rows.{Row, row_of, word_seen};
-ghost use Rattle.fp_ports.specs.Shown.{input_at, is_gone, shown_at};
+ghost use Rattle.fp_ports.specs.ShownWords.{input_at, is_gone, shown_at};
 ghost use Rattle.fp_setup.specs.declared.input_list.Input.{Input};
 ghost use Rattle.setup_model.specs.Start.{inputs_of};
 
@@ -19,11 +19,14 @@ pub struct ReadPort<'a> {
 }
 
 impl Shown for ReadPort<'_> {
-    ghost word_at = { λ s. shown_at (row_of (λ b. (Port-box b).latched b.value) (λ b. (Port-box b).word_at b.value) s.device) (inputs_of s.thread.now) s.thread.now.unplug };
+    ghost word_at = { λ s. shown_at
+        (row_of (λ b. (Port-box b).latched b.value) (λ b. (Port-box b).word_at b.value) s.device)
+        (inputs_of s.thread.now) s.thread.now.unplug };
 
     ghost Kept = { Option Row };
 
-    ghost kept = { λ s. row_of (λ b. (Port-box b).latched b.value) (λ b. (Port-box b).word_at b.value) s.device };
+    ghost kept = { λ s.
+        row_of (λ b. (Port-box b).latched b.value) (λ b. (Port-box b).word_at b.value) s.device };
 
     fn word(&mut self, at: u64) -> u32 {
         word_beside(&mut self.device, self.thread, at)
@@ -32,7 +35,8 @@ impl Shown for ReadPort<'_> {
 
 /// The word that a thread with a device at its port finds there in a cycle.
 fn word_beside(device: &mut Option<Box<dyn Port>>, thread: &ThreadSetup, at: u64) -> u32
-    ensures value { result ≡ shown_at (row_of latched word_at device.old) (inputs_of thread.now) thread.now.unplug at }
+    ensures value { result ≡ shown_at (row_of latched word_at device.old)
+        (inputs_of thread.now) thread.now.unplug at }
     ensures row { row_of latched word_at device.new ≡ row_of latched word_at device.old }
 {
     if is_gone(thread.unplug, at) {

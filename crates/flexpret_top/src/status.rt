@@ -2,6 +2,8 @@
 
 ghost use Rattle.std.specs.Prelude.{◌≡◌};
 
+use trace_print::Refusal;
+
 /// How a command ended.
 #[derive(Clone, Copy)]
 pub enum Status {
@@ -11,7 +13,8 @@ pub enum Status {
     Differs = 1,
     /// The words ask no command.
     Usage = 2,
-    /// The setup has a fault, or the section or thread that is asked for is none; its line was written.
+    /// The setup has a fault, or the section or thread that is asked for is none; its line was
+    /// written.
     Setup = 3,
     /// The image, or the executable, has a fault; its line was written.
     Image = 4,
@@ -30,7 +33,21 @@ pub enum Status {
 }
 
 impl Status {
+    ghost use Rattle.file_answers.specs.Answer.{status_of};
     ghost use Rattle.flexpret_top.specs.Status.{number_of};
+
+    /// How a command ends whose refusal line was written.
+    pub fn of_refusal(refusal: &Refusal) -> Status
+        ensures { number_of result ≡ status_of refusal.now }
+    {
+        match refusal {
+            Refusal::Setup { .. } | Refusal::Section { .. } => Status::Setup,
+            Refusal::Image { .. } => Status::Image,
+            Refusal::Source { .. } => Status::Source,
+            Refusal::Bound { .. } => Status::Bound,
+            Refusal::Routines { .. } => Status::Routines,
+        }
+    }
 
     /// Its number.
     pub fn number(self) -> u8

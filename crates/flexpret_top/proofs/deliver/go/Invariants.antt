@@ -1,7 +1,7 @@
 use Rattle.std.proofs.Common.{◌≡◌, None, vec_len}
 use Rattle.fp_ports.specs.Rows.{rows_of}
 use Rattle.world_model.specs.World.{Start}
-use Rattle.machine.specs.Meaning.{StandsFor, HasRun}
+use Rattle.machine.specs.WorldRelation.{StandsFor, HasRun}
 use Rattle.flexpret_top.proofs.deliver.go.Given as goal
 
 abbrev pub invariant-loop-cycle : goal.invariant-loop-cycle

@@ -1,10 +1,11 @@
-use Rattle.flexpret_top.proofs.AloneCommands.{check-differs, check-same}
+use Rattle.flexpret_top.proofs.AloneCommands.{check-differs, check-same, same-prepares}
 use Rattle.flexpret_top.proofs.prepare.check.Goals as goal
 
 pub returns-in-Ok-compare_alone-clause-ok : goal.returns-in-Ok-compare_alone-clause-ok
 returns-in-Ok-compare_alone-clause-ok g c =
-    check-same (g.F.Files.told c.args.files.now) (g.F.Files.told c.load_alone.new.files) c.args.setup.now c.args.thread c.args.cycles c.args.trace.now c.in-Ok.alone _ c.load_alone.ensures.told c.requires.thread
-    c.in-Ok.ensures.ok c.in-Ok-compare_alone.ensures.ok
+    same-prepares (g.F.Files.told c.args.files.now) c.args.setup.now c.args.thread c.args.cycles c.args.trace.now _ _ c.compare_alone.ensures.rows
+    (check-same (g.F.Files.told c.args.files.now) (g.F.Files.told c.load_alone.new.files) c.args.setup.now c.args.thread c.args.cycles c.args.trace.now c.in-Ok.alone _ c.load_alone.ensures.told c.requires.thread
+    c.in-Ok.ensures.ok c.in-Ok-compare_alone.ensures.ok)
 
 pub returns-in-Err-compare_alone-clause-stop : goal.returns-in-Err-compare_alone-clause-stop
 returns-in-Err-compare_alone-clause-stop g c =

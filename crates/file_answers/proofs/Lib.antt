@@ -1,0 +1,4 @@
+mod Bounds
+mod CallAnswers
+mod Cuts
+mod ListCut

@@ -1,0 +1,41 @@
+-- The setup and the image that a command reads.
+use Rattle.std.specs.Prelude.{ℕ, List, [], Result, Ok, Err}
+use Rattle.fp_io.specs.Content.{FileMap}
+use Rattle.fp_setup.specs.Settings.{Settings, size_of}
+use Rattle.fp_setup.specs.Setup.{setup}
+use Rattle.fp_setup.specs.declared.refusal.Fault.{Fault}
+use Rattle.fp_image.specs.Format.{image_of}
+use Rattle.fp_image.specs.declared.parts.Segment.{Segment}
+use Rattle.fp_image.specs.declared.refusals.ImageRefused.{ImageRefused}
+use Rattle.fp_image.specs.declared.refusals.ImageRefused.TheVariants as image_no
+use Rattle.trace_print.specs.declared.refusals.Refusal.TheVariants.{Setup, Image}
+use Rattle.file_answers.specs.declared.program.Program.{Program}
+use Rattle.file_answers.specs.Codes.{setup_code, image_code}
+use Rattle.file_answers.specs.Answer.{Answer, refused, then_by, over_file}
+use Rattle.file_answers.specs.Answer.Answer.{Says}
+
+abbrev pub of_setup : Result Settings Fault → Result Settings Answer
+of_setup (Ok s) = Ok s
+of_setup (Err fault) = Err (refused (Setup (setup_code fault.code) fault.place))
+
+-- the setup of a file's bytes
+unfoldable pub setup_in : List ℕ → Result Settings Answer
+setup_in bytes = of_setup (setup bytes)
+
+-- an image is never refused for want of memory by its definition
+abbrev pub of_image : Result (List Segment) ImageRefused → Result (List Segment) Answer
+of_image (Ok segments) = Ok segments
+of_image (Err (image_no.Fault code offset)) = Err (refused (Image (image_code code) offset))
+of_image (Err image_no.NoMemory) = Err (Says 9 [])
+
+-- the image of a file's bytes, for scratchpads of a size
+unfoldable pub image_in : ℕ → List ℕ → Result (List Segment) Answer
+image_in size bytes = of_image (image_of size bytes)
+
+abbrev pub with_image : Settings → List Segment → Result Program Answer
+with_image s segments = Ok (record { setup = s; image = segments })
+
+-- the setup of a name, and then the image that it names
+abbrev pub program : FileMap → List ℕ → Result Program Answer
+program files name =
+    then_by (over_file setup_in (files name)) (λ s. then_by (over_file (image_in (size_of s.version)) (files s.image)) (with_image s))

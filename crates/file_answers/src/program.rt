@@ -1,0 +1,164 @@
+//! The setup and the image that a command reads.
+
+ghost use Rattle.std.specs.Prelude.{◌≡◌, ◌≤◌, ◌<◌, ◌^◌, ◌-◌, Ok, IfOk, IfErr};
+ghost use Rattle.fp_io.specs.Content.{Fetched};
+ghost use Rattle.fp_setup.specs.Settings.{size_of};
+ghost use Rattle.region_guard.specs.Regions.{IsSize};
+ghost use Rattle.fp_image.specs.Format.{longest};
+ghost use Rattle.file_answers.specs.Answer.{on_file};
+ghost use Rattle.file_answers.specs.Codes.{setup_code, image_code};
+ghost use Rattle.file_answers.specs.Program.{setup_in, image_in, program};
+ghost use Rattle.file_answers.specs.Stops.{IsFetchStop, IsStopIn, IsStopOf, Makes};
+
+use crate::stop::Stop;
+use fp_image::{Image, ImageNo, ImageRefused, read_image};
+use fp_io::{FetchFault, Files};
+use fp_setup::{Name, Place, Setup, SetupNo, SetupRefused, read_setup};
+use std::alloc::Global;
+use trace_print::Refusal;
+
+/// The most bytes that a setup may have.
+const MOST_OF_A_SETUP: usize = 262_144;
+
+/// A setup, and the image that it names, which was read for the setup's size.
+#[derive(Drop)]
+pub struct Program {
+    /// The setup.
+    pub setup: Setup,
+    /// The image of the file that the setup names.
+    pub image: Image,
+}
+
+/// Fetches a file: its first `most + 1` bytes, or all where it has fewer.
+///
+/// # Errors
+///
+/// Read only where the files' count of faults rose, or where they tell that the file isn't there;
+/// NoMemory where memory was refused.
+pub fn fetch<F: Files>(
+    alloc: Global,
+    name: &Name,
+    most: usize,
+    files: &mut F,
+) -> Result<Vec<u8>, Stop>
+    requires { most < 2 ^ 64 - 1 }
+    ensures told { F.told files.new ≡ F.told files.old }
+    ensures counted { F.faults files.old ≤ F.faults files.new }
+    ensures bytes { IfOk result (λ bytes. Fetched (F.told files.old) name.now most bytes.items) }
+    ensures stop { IfErr result (IsFetchStop (F.told files.old) name.now
+        (F.faults files.old) (F.faults files.new)) }
+{
+    match files.fetch(alloc, name.as_str(), most) {
+        Ok(bytes) => Ok(bytes),
+        Err(FetchFault::NoMemory) => Err(Stop::NoMemory),
+        Err(FetchFault::Missing | FetchFault::Failed) => Err(Stop::Read),
+    }
+}
+
+/// The refusal of a setup.
+fn setup_refusal(code: SetupNo, place: Place) -> Refusal
+    ensures { result ≡ Refusal.Setup (setup_code code) place }
+{
+    Refusal::Setup {
+        code: code as u8,
+        place,
+    }
+}
+
+/// The setup of a file's bytes.
+#[tactic(auto, unfolding(crate::specs::Program::setup_in))]
+fn setup_in(alloc: Global, bytes: &[u8]) -> Result<Setup, Stop>
+    ensures ok { IfOk result (λ s. setup_in bytes.now ≡ Ok s) }
+    ensures stop { IfErr result (IsStopOf (setup_in bytes.now)) }
+{
+    match read_setup(alloc, bytes) {
+        Ok(setup) => Ok(setup),
+        Err(SetupRefused::Fault { code, place }) => {
+            Err(Stop::Refused(setup_refusal(code, place)))
+        }
+        Err(SetupRefused::NoMemory) => Err(Stop::NoMemory),
+    }
+}
+
+/// The refusal of an image.
+fn image_refusal(code: ImageNo, offset: u32) -> Refusal
+    ensures { result ≡ Refusal.Image (image_code code) offset }
+{
+    Refusal::Image {
+        code: code as u8,
+        offset,
+    }
+}
+
+/// The image of a file's bytes, for scratchpads of a size.
+#[tactic(auto, unfolding(crate::specs::Program::image_in))]
+fn image_in(alloc: Global, bytes: &[u8], size: u32) -> Result<Image, Stop>
+    requires { IsSize size }
+    ensures ok { IfOk result (λ image. image_in size bytes.now ≡ Ok image) }
+    ensures stop { IfErr result (IsStopOf (image_in size bytes.now)) }
+{
+    match read_image(alloc, bytes, size) {
+        Ok(image) => Ok(image),
+        Err(ImageRefused::Fault { code, offset }) => {
+            Err(Stop::Refused(image_refusal(code, offset)))
+        }
+        Err(ImageRefused::NoMemory) => Err(Stop::NoMemory),
+    }
+}
+
+/// Fetches and reads a setup.
+fn fetch_setup<F: Files>(alloc: Global, name: &Name, files: &mut F) -> Result<Setup, Stop>
+    ensures told { F.told files.new ≡ F.told files.old }
+    ensures counted { F.faults files.old ≤ F.faults files.new }
+    ensures ok { IfOk result (Makes (F.told files.old) (on_file setup_in name.now)) }
+    ensures stop { IfErr result (IsStopIn (F.told files.old) (on_file setup_in name.now)
+        (F.faults files.old) (F.faults files.new)) }
+{
+    let bytes = fetch(alloc, name, MOST_OF_A_SETUP, files)?;
+    setup_in(alloc, &bytes)
+}
+
+/// The most bytes that an image for scratchpads of a size may have.
+fn most_of_an_image(size: u32) -> usize
+    requires { IsSize size }
+    ensures { result ≡ longest size }
+{
+    if size == 16_384 { 34_816 } else { 139_264 }
+}
+
+/// Fetches and reads an image, for scratchpads of a size.
+fn fetch_image<F: Files>(
+    alloc: Global,
+    name: &Name,
+    size: u32,
+    files: &mut F,
+) -> Result<Image, Stop>
+    requires { IsSize size }
+    ensures told { F.told files.new ≡ F.told files.old }
+    ensures counted { F.faults files.old ≤ F.faults files.new }
+    ensures ok { IfOk result (Makes (F.told files.old) (on_file (image_in size) name.now)) }
+    ensures stop { IfErr result (IsStopIn (F.told files.old) (on_file (image_in size) name.now)
+        (F.faults files.old) (F.faults files.new)) }
+{
+    let bytes = fetch(alloc, name, most_of_an_image(size), files)?;
+    image_in(alloc, &bytes, size)
+}
+
+/// Fetches and reads a setup, and then the image that it names, for scratchpads of the setup's
+/// size.
+///
+/// # Errors
+///
+/// The first of: the setup isn't there or can't be read; it has a fault; the image isn't there or
+/// can't be read; it has a fault. NoMemory where memory was refused.
+pub fn load<F: Files>(alloc: Global, name: &Name, files: &mut F) -> Result<Program, Stop>
+    ensures told { F.told files.new ≡ F.told files.old }
+    ensures counted { F.faults files.old ≤ F.faults files.new }
+    ensures ok { IfOk result (Makes (F.told files.old) (λ told. program told name.now)) }
+    ensures stop { IfErr result (IsStopIn (F.told files.old) (λ told. program told name.now)
+        (F.faults files.old) (F.faults files.new)) }
+{
+    let setup = fetch_setup(alloc, name, files)?;
+    let image = fetch_image(alloc, &setup.image, setup.size(), files)?;
+    Ok(Program { setup, image })
+}
