@@ -9,8 +9,8 @@ use Rattle.region_tree.specs.Tree.{graph}
 use Rattle.region_tree.specs.Walk.{Course, Keeps, Leads, Step, counted, counter}
 use Rattle.bound_calc.specs.Bound.{course}
 use Rattle.bound_calc.specs.Section.{IsAccepted}
-use Rattle.bound_calc.specs.Laws.{inner_loops, word_after, position_after, AreIn, Avoid, AreSteps, AreRounds, Enters, StaysInRounds, RoundsAreSteps}
-use Rattle.bound_calc.specs.Laws.AreRounds.{none, more}
+use Rattle.bound_calc.specs.Rounds.{inner_loops, word_after, position_after, AreIn, Avoid, AreSteps, AreRounds, Enters, StaysInRounds, RoundsAreSteps}
+use Rattle.bound_calc.specs.Rounds.AreRounds.{none, more}
 use Rattle.bound_calc.proofs.Accepted.{accepted, holds-or}
 use Rattle.bound_calc.proofs.Counters.{counted-other, counted-back, counted-≤}
 use Rattle.bound_calc.proofs.Embed.{is_or_not}

@@ -1,5 +1,5 @@
--- Costs between positions: sets of (start, cost, end), and matrices that hold the best of a set. Sums stop at a number,
--- and what is at least that isn't told apart.
+-- Costs between positions: sets of (start, cost, end), and matrices that hold the best of a set.
+-- Sums stop at a number, and what is at least that isn't told apart.
 use Rattle.std.specs.Prelude.{◌≡◌, ℕ, zero, suc, ◌+◌, ◌-◌, ◌^◌, ◌≤◌, ◌⊎◌, min, Option, Some}
 
 -- a set of (position at the start, cost, position at the end)
@@ -10,6 +10,7 @@ Costs = ℕ → ℕ → ℕ → Type 0
 abbrev pub Stays : (ℕ → Type 0) → Costs
 Stays own p c q = own p × (p ≡ q) × (c ≡ 0)
 
+-- the costs of both sets
 abbrev pub Either : Costs → Costs → Costs
 Either f g p c q = f p c q ⊎ g p c q
 
@@ -22,6 +23,7 @@ pub record Then (f g : Costs) (p c q : ℕ) : Type 0 where
   pub second : g at two q
   pub cost : c ≡ one + two
 
+-- so many of a set, one after the other
 abbrev pub Power : (ℕ → Type 0) → Costs → ℕ → Costs
 Power own f zero = Stays own
 Power own f (suc n) = Then (Power own f n) f
@@ -30,6 +32,7 @@ Power own f (suc n) = Then (Power own f n) f
 abbrev pub Entries : Type 0
 Entries = ℕ → ℕ → Option ℕ
 
+-- the costs that a matrix holds
 abbrev pub In : Entries → Costs
 In m p c q = m p q ≡ Some c
 

@@ -4,8 +4,8 @@ use Rattle.fp_setup.specs.declared.loop_list.LoopSetup.{LoopSetup}
 use Rattle.region_tree.specs.Graph.{Holds, Inside}
 use Rattle.region_tree.specs.Walk.{counted}
 
--- what a walk goes over: own u says that u is an own position; arc u p d v q that a step leads from word u at
--- position p to word v at position q and costs d; loop j that j is a counting loop
+-- what a walk goes over: own u says that u is an own position; arc u p d v q that a step leads from
+-- word u at position p to word v at position q and costs d; loop j that j is a counting loop
 pub record Net : Type 1 where
   pub own : ℕ → Type 0
   pub arc : ℕ → ℕ → ℕ → ℕ → ℕ → Type 0
@@ -21,8 +21,8 @@ pub record Part : Type 1 where
 abbrev pub May : Part → ℕ → ℕ → Type 0
 May s u v = (u < v) ⊎ ((j : LoopSetup) × s.loops j × (v ≡ j.head) × Holds j u)
 
--- a walk of a part from its lowest word at position p: the number of steps, the word and position that it ends
--- in, its cost, and the counters
+-- a walk of a part from its lowest word at position p: the number of steps, the word and position
+-- that it ends in, its cost, and the counters
 pub data Walk (g : Net) (s : Part) (p : ℕ) : ℕ → ℕ → ℕ → ℕ → (LoopSetup → ℕ) → Type 0 where
   start : g.own p → Walk g s p 0 s.low p 0 (λ _. 0)
   step : {n u q c d v r : ℕ} {k : LoopSetup → ℕ} → Walk g s p n u q c k → g.arc u q d v r → v ≤ s.high → May s u v →

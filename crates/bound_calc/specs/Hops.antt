@@ -47,6 +47,7 @@ pub record IsLargest (m : Matrix) (old new : ℕ) : Type 0 where
   pub upper : (p c q : ℕ) → entry m p q ≡ Some c → c ≤ new
   pub met : (new ≡ old) ⊎ ((p : ℕ) × (q : ℕ) × (entry m p q ≡ Some new))
 
+-- a row without steps
 abbrev pub no_hops : HopRow
 no_hops = record { hops = [] }
 

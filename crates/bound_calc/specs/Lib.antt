@@ -8,4 +8,4 @@ pub mod Limit
 pub mod Matrices
 pub mod Hops
 pub mod Passing
-pub mod Laws
+pub mod Rounds

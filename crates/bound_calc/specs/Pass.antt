@@ -37,6 +37,7 @@ pub record Brings (x : Field) (s : Part) (f : Edges) (w p c q : ℕ) : Type 0 wh
   pub high : w ≤ s.high
   pub cost : c ≡ one + two
 
+-- what reaches a word of a part: nothing done at its first word, or what edges bring
 abbrev pub Comes : Field → Part → Edges → ℕ → Costs
 Comes x s f w p c q = ((w ≡ s.low) × Stays x.own p c q) ⊎ Brings x s f w p c q
 

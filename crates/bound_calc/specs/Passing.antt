@@ -29,6 +29,7 @@ edges_at t k = edges_of (word_at t (address t k)) (address t k)
 abbrev pub place : Tree → ℕ → ℕ
 place t u = (u - t.section.from) / 4
 
+-- a matrix without entries
 abbrev pub no_matrix : Matrix
 no_matrix = record { best = [] }
 
@@ -36,6 +37,7 @@ no_matrix = record { best = [] }
 abbrev pub matrix_at : List Matrix → ℕ → Entries
 matrix_at at k = entry (slice_index_or at k no_matrix)
 
+-- by place the matrices of loops, where they were worked out
 abbrev pub Powers : Type 0
 Powers = List (Option (Box Matrix Global))
 
@@ -62,6 +64,7 @@ pub record WayTable : Type 0 where
   pub indices : List (Option ℕ)
   pub costs : List Matrix
 
+-- the matrices of such a table, by place
 abbrev pub ways_on : WayTable → WaysOn
 ways_on w k = picked w.costs (slice_index_or w.indices k None)
 
@@ -106,7 +109,8 @@ pub record AreReached (t : Tree) (s : Positions) (ways : WaysOn) (at : List Matr
   pub count : length at ≡ length t.words
   pub best : (k : ℕ) → k < length t.words → IsBest (matrix_at at k) (Reaches (net (over t s ways)) (whole (over t s ways)) (address t k))
 
--- Before the word at place n: what reaches each word below it, and what comes from below it to the others.
+-- Before the word at place n: what reaches each word below it, and what comes from below it to the
+-- others.
 pub record IsPassed (x : Field) (t : Tree) (s : Part) (n : ℕ) (at : List Matrix) : Type 0 where
   pub count : length at ≡ length t.words
   pub done : (k : ℕ) → s.low ≤ address t k → k < n → IsBest (matrix_at at k) (Reaches (net x) s (address t k))

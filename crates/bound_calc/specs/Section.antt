@@ -7,16 +7,16 @@ use Rattle.region_tree.specs.Graph.{Edge, Graph, Holds, Inside, Lies, Reachable}
 use Rattle.region_tree.specs.Refusals.{depth}
 use Rattle.region_tree.specs.Walk.{Course, IsOwn, IsNextTurn, Positions}
 
--- Loops are properly nested and entered at their heads alone, and every reachable edge down is to the head of a loop
--- that holds its word.
+-- Loops are properly nested and entered at their heads alone, and every reachable edge down is to
+-- the head of a loop that holds its word.
 pub record IsAccepted (g : Graph) : Type 0 where
   pub ordered : (j : LoopSetup) → Contains g.loops j → (g.from ≤ j.head) × (j.head ≤ j.last) × (j.last < g.to)
   pub nested : (j i : LoopSetup) → Contains g.loops j → Contains g.loops i → j.head ≤ i.last → i.head ≤ j.last → (j ≡ i) ⊎ (Inside j i ⊎ Inside i j)
   pub entered : (u : ℕ) (e : Edge) (j : LoopSetup) → Reachable g u → Contains (g.edges u) e → Contains g.loops j → Holds j e.to → (Holds j u) ⊎ (e.to ≡ j.head)
   pub back : (u : ℕ) (e : Edge) → Reachable g u → Contains (g.edges u) e → Lies g e.to → e.to ≤ u → (j : LoopSetup) × Contains g.loops j × (e.to ≡ j.head) × Holds j u
 
--- The frame has at most eight slots, lags are at most 3, bounds at most 2 ^ 20, and no loop lies in more than three
--- others.
+-- The frame has at most eight slots, lags are at most 3, bounds at most 2 ^ 20, and no loop lies in
+-- more than three others.
 pub record IsModest (x : Course) : Type 0 where
   pub frame : length x.positions.frame ≤ 8
   pub lags : (u : ℕ) (e : Edge) → Contains (x.graph.edges u) e → e.lag ≤ 3
@@ -25,10 +25,12 @@ pub record IsModest (x : Course) : Type 0 where
   pub end : x.graph.to ≤ 65536
   pub order : x.graph.from < x.graph.to
 
+-- the steps to the next turn after a lag
 abbrev pub Steps : Positions → ℕ → Costs
 Steps s lag p d q = IsNextTurn s lag p d q
 
--- A control graph, a thread's own positions, and what it costs to go along the edges of word u with a lag.
+-- A control graph, a thread's own positions, and what it costs to go along the edges of word u with
+-- a lag.
 pub record Field : Type 1 where
   pub graph : Graph
   pub own : ℕ → Type 0
@@ -46,8 +48,10 @@ pub record Arc (x : Field) (u p d v q : ℕ) : Type 0 where
   pub reached : Reachable x.graph u
   pub lies : Lies x.graph v
 
+-- its net: own positions, arcs and loops
 abbrev pub net : Field → Net
 net x = record { own = x.own; arc = Arc x; loop = Contains x.graph.loops }
 
+-- the whole section as a part
 abbrev pub whole : Field → Part
 whole x = record { low = x.graph.from; high = x.graph.to - 1; loops = Contains x.graph.loops }

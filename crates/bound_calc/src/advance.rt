@@ -32,38 +32,34 @@ fn raise(row: &mut [Option<u128>; 8], sum: Option<u128>, hop: Option<Hop>)
 }
 
 /// Takes the sums of a row into another, each a step longer.
-fn advance_row(
-    row: &[Option<u128>; 8],
-    hops: &HopRow,
-    onto: &[Option<u128>; 8],
-) -> [Option<u128>; 8]
+fn advance_row(row: &[Option<u128>; 8], hops: &HopRow, onto: &mut [Option<u128>; 8])
     requires places { (p d q : ℕ) → Hops hops.now.hops p d q → q < 8 }
-    ensures { IsAdvanced row.now hops.now.hops 8 onto.now result }
+    ensures { IsAdvanced row.now hops.now.hops 8 onto.old onto.new }
 {
-    let mut out = *onto;
     for r in 0..8 {
-        raise(&mut out, row[r], hops.hops[r]);
+        raise(onto, row[r], hops.hops[r]);
     }
-    out
 }
 
-/// Joins a matrix with another that is taken a step further.
-pub fn advance(here: &Matrix, hops: &HopRow, onto: &Matrix) -> Matrix
+/// Joins with a matrix another that is taken a step further. It is done in place, since a copy of a
+/// matrix costs as much as the step.
+pub fn advance(here: &Matrix, hops: &HopRow, onto: &mut Matrix)
     requires places { (p d q : ℕ) → Hops hops.now.hops p d q → (p < 8) × (q < 8) }
-    ensures { IsBest (entry result) (Either (In (entry onto.now)) (Then (In (entry here.now)) (Hops hops.now.hops))) }
+    ensures { IsBest (entry onto.new)
+        (Either (In (entry onto.old)) (Then (In (entry here.now)) (Hops hops.now.hops))) }
 {
-    let mut best = [[None; 8]; 8];
     for p in 0..8 {
-        best[p] = advance_row(&here.best[p], hops, &onto.best[p]);
+        advance_row(&here.best[p], hops, &mut onto.best[p]);
     }
-    Matrix { best }
 }
 
 /// The larger of a number and a sum that is a step longer.
 fn leave_one(sum: Option<u128>, hop: Option<Hop>, most: u128) -> u128
     ensures stays { most ≤ result }
-    ensures upper { (x : ℕ) → (h : _) → sum ≡ Some x → hop ≡ Some h → min (x + h.cost) ceiling ≤ result }
-    ensures met { (result ≡ most) ⊎ ((x : ℕ) × (h : _) × (sum ≡ Some x) × (hop ≡ Some h) × (result ≡ min (x + h.cost) ceiling)) }
+    ensures upper { (x : ℕ) → (h : _) → sum ≡ Some x → hop ≡ Some h →
+        min (x + h.cost) ceiling ≤ result }
+    ensures met { (result ≡ most) ⊎ ((x : ℕ) × (h : _) × (sum ≡ Some x) × (hop ≡ Some h) ×
+        (result ≡ min (x + h.cost) ceiling)) }
 {
     let Some(sum) = sum else {
         return most;
@@ -99,7 +95,8 @@ pub fn leave(here: &Matrix, hops: &HopRow, most: u128) -> u128
 fn largest_row(row: &[Option<u128>; 8], most: u128) -> u128
     ensures stays { most ≤ result }
     ensures upper { (q d : ℕ) → q < 8 → slice_index_or row.now q None ≡ Some d → d ≤ result }
-    ensures met { (result ≡ most) ⊎ ((q : ℕ) × (q < 8) × (slice_index_or row.now q None ≡ Some result)) }
+    ensures met { (result ≡ most) ⊎
+        ((q : ℕ) × (q < 8) × (slice_index_or row.now q None ≡ Some result)) }
 {
     let mut largest = most;
     for q in 0..8 {
@@ -112,7 +109,7 @@ fn largest_row(row: &[Option<u128>; 8], most: u128) -> u128
     largest
 }
 
-/// The largest of a number and the sums of a matrix.
+/// The largest of a number and the sums of a matrix, in cycles.
 pub fn largest(here: &Matrix, most: u128) -> u128
     ensures { IsLargest here.now most result }
 {

@@ -75,7 +75,9 @@ fn most(tree: &LoopTree, steps: &Steps, at: &[Matrix]) -> u128
     requires frame { length steps.now.frame ≤ 8 }
     requires slot { (p : ℕ) × IsOwn steps.now p }
     requires room { length at.now ≡ length tree.now.words }
-    requires best { (k : ℕ) → k < length tree.now.words → IsBest (matrix_at at.now k) (Reaches (net (field (walks tree.now steps.now))) (whole (field (walks tree.now steps.now))) (address tree.now k)) }
+    requires best { let f = field (walks tree.now steps.now) in (k : ℕ) →
+        k < length tree.now.words →
+        IsBest (matrix_at at.now k) (Reaches (net f) (whole f) (address tree.now k)) }
     ensures { IsBound (walks tree.now steps.now) result }
 {
     let mut most = 0;
@@ -106,7 +108,8 @@ fn largest_cost(alloc: Global, tree: &LoopTree, steps: &Steps) -> Result<u128, A
 
 /// A bound in 64 bits, if it has no more.
 fn in_64_bits(value: u128) -> Result<u64, BoundNo>
-    ensures { MatchResult result (λ bound. bound ≡ value) (λ no. (no ≡ Overflow value) × (2 ^ 64 ≤ value)) }
+    ensures { MatchResult result (λ bound. bound ≡ value)
+        (λ no. (no ≡ Overflow value) × (2 ^ 64 ≤ value)) }
 {
     match u64::try_from(value) {
         Ok(bound) => Ok(bound),

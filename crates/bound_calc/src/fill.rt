@@ -12,8 +12,13 @@ use region_tree::LoopTree;
 use std::alloc::{AllocError, Global};
 
 /// No powers.
+///
+/// # Errors
+///
+/// Memory was refused.
 pub fn empty(alloc: Global, count: usize) -> Result<Vec<Option<Box<Matrix>>>, AllocError>
-    ensures { IfOk result (λ powers. (length powers.items ≡ count) × ((k : ℕ) → power_at powers.items k ≡ None)) }
+    ensures { IfOk result (λ powers. (length powers.items ≡ count) ×
+        ((k : ℕ) → power_at powers.items k ≡ None)) }
 {
     let mut powers = Vec::new(alloc);
     for _place in 0..count {
@@ -24,7 +29,8 @@ pub fn empty(alloc: Global, count: usize) -> Result<Vec<Option<Box<Matrix>>>, Al
 
 /// The first of the loops with this head.
 fn loop_at(loops: &[LoopSetup], head: u32) -> Option<LoopSetup>
-    ensures { MatchOption result ((j : _) → Contains loops.now j → head ≢ j.head) (λ j. Contains loops.now j × (head ≡ j.head)) }
+    ensures { MatchOption result ((j : _) → Contains loops.now j → head ≢ j.head)
+        (λ j. Contains loops.now j × (head ≡ j.head)) }
 {
     for j in loops {
         if j.head == head {
@@ -46,9 +52,11 @@ fn fill_word(
 ) -> Result<(), AllocError>
     requires own { AreWays steps.now (ways_on ways.now) }
     requires place { place < length tree.now.words }
-    requires filled { IsFilled (over tree.now steps.now (ways_on ways.now)) tree.now (place + 1) powers.old }
+    requires filled { IsFilled (over tree.now steps.now (ways_on ways.now)) tree.now
+        (place + 1) powers.old }
     requires room { length at.old ≡ length tree.now.words }
-    ensures { OnOk result (IsFilled (over tree.now steps.now (ways_on ways.now)) tree.now place powers.new) }
+    ensures { OnOk result (IsFilled (over tree.now steps.now (ways_on ways.now))
+        tree.now place powers.new) }
 {
     let address = tree.section().from + 4 * place as u32;
     if !tree.is_reachable(address) {
@@ -63,6 +71,10 @@ fn fill_word(
 }
 
 /// The powers of all loops whose heads are reachable, inner loops first.
+///
+/// # Errors
+///
+/// Memory was refused.
 pub fn fill(
     alloc: Global,
     tree: &LoopTree,
@@ -72,9 +84,11 @@ pub fn fill(
     at: &mut [Matrix],
 ) -> Result<(), AllocError>
     requires own { AreWays steps.now (ways_on ways.now) }
-    requires filled { IsFilled (over tree.now steps.now (ways_on ways.now)) tree.now (length tree.now.words) powers.old }
+    requires filled { IsFilled (over tree.now steps.now (ways_on ways.now)) tree.now
+        (length tree.now.words) powers.old }
     requires room { length at.old ≡ length tree.now.words }
-    ensures { OnOk result (IsFilled (over tree.now steps.now (ways_on ways.now)) tree.now 0 powers.new) }
+    ensures { OnOk result (IsFilled (over tree.now steps.now (ways_on ways.now))
+        tree.now 0 powers.new) }
 {
     let mut place = at.len();
     while place > 0 {

@@ -1,6 +1,6 @@
 //! Laws of walks inside a loop. The contract of each call is the law; the call does nothing.
 
-ghost use Rattle.bound_calc.specs.Laws.{RoundsAreSteps, StaysInRounds};
+ghost use Rattle.bound_calc.specs.Rounds.{RoundsAreSteps, StaysInRounds};
 
 /// What a walk does from where it enters a loop, for as long as it stays there, is at most as many
 /// rounds as the loop's bound, and one more.

@@ -1,4 +1,5 @@
 //! The bound of a section: the largest number of cycles that a walk through it takes.
+
 #![tactic(auto)]
 
 mod advance;

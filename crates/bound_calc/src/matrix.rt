@@ -10,6 +10,7 @@ use std::array;
 /// the column the one at the end.
 #[derive(Clone, Copy, Debug)]
 pub struct Matrix {
+    /// The sums in cycles, by row and column; `None` where there is none.
     pub best: [[Option<u128>; 8]; 8],
 }
 
@@ -36,7 +37,8 @@ fn sum(a: Option<u128>, b: Option<u128>) -> Option<u128>
 }
 
 fn join_row(a: &[Option<u128>; 8], b: &[Option<u128>; 8]) -> [Option<u128>; 8]
-    ensures { (q : ℕ) → q < 8 → slice_index_or result q None ≡ larger_of (slice_index_or a.now q None) (slice_index_or b.now q None) }
+    ensures { (q : ℕ) → q < 8 → slice_index_or result q None ≡
+        larger_of (slice_index_or a.now q None) (slice_index_or b.now q None) }
 {
     array::from_fn(|q| larger(a[q], b[q]))
 }
@@ -77,7 +79,8 @@ impl Matrix {
 
     /// A row chained with the matrix.
     fn chain_row(&self, row: &[Option<u128>; 8]) -> [Option<u128>; 8]
-        ensures { (q : ℕ) → q < 8 → slice_index_or result q None ≡ over 8 (λ r. slice_index_or row.now r None) (λ r. cell self.now r q) }
+        ensures { (q : ℕ) → q < 8 → slice_index_or result q None ≡
+            over 8 (λ r. slice_index_or row.now r None) (λ r. cell self.now r q) }
     {
         let mut out = [None; 8];
         for q in 0..8 {

@@ -20,14 +20,17 @@ use region_tree::{Edges, JUMP_LAG, LoopTree, edges_of};
 /// The places of a part's first and last word.
 #[derive(Clone, Copy)]
 pub struct Span {
+    /// The place of the first word: its distance from the section's first word, in words.
     pub first: usize,
+    /// The place of the last word, counted likewise.
     pub last: usize,
 }
 
 /// The places of a loop, or of the whole section.
 pub fn places_of(tree: &LoopTree, around: Option<LoopSetup>) -> Span
     requires { IfSome around (λ j. Contains tree.now.loops j) }
-    ensures span { (s : _) → (ways : _) → IsSpan tree.now (part_of (over tree.now s ways) around) result.first result.last }
+    ensures span { (s : _) → (ways : _) →
+        IsSpan tree.now (part_of (over tree.now s ways) around) result.first result.last }
     ensures order { result.first ≤ result.last }
     ensures inside { result.last < length tree.now.words }
     ensures rules { IsTree tree.now }
@@ -70,12 +73,35 @@ fn up_to(tree: &LoopTree, place: usize, last: usize, target: Option<u32>) -> Opt
 }
 
 /// What holds at a word, from what comes to it and the power of the loop whose head it is.
-fn with_rounds(here: &Matrix, power: &Option<Box<Matrix>>) -> Matrix
-    ensures { MatchOption (option_map (λ b. b.value) power.now) (result ≡ here.now) (λ m. IsBest (entry result) (Then (In (entry here.now)) (In (entry m)))) }
+fn with_rounds(here: &mut Matrix, power: &Option<Box<Matrix>>)
+    ensures { MatchOption (option_map (λ b. b.value) power.now) (here.new ≡ here.old)
+        (λ m. IsBest (entry here.new) (Then (In (entry here.old)) (In (entry m)))) }
 {
-    match power {
-        None => *here,
-        Some(power) => here.chain(power),
+    let Some(power) = power else {
+        return;
+    };
+    *here = here.chain(power);
+}
+
+/// Joins with a matrix another that goes on from a word: by the turns after a lag, or by the way
+/// of the word, if it has one.
+pub(crate) fn join_along(
+    steps: &Steps,
+    way: Option<&Matrix>,
+    here: &Matrix,
+    lag: u64,
+    onto: &mut Matrix,
+)
+    requires lag { lag ≤ 3 }
+    ensures { IsBest (entry onto.new) (Either (In (entry onto.old))
+        (Then (In (entry here.now)) (moved steps.now (option_map (λ m. m.now) way.entry) lag))) }
+{
+    match way {
+        None => advance(here, steps.hops(lag), onto),
+        Some(way) => {
+            let chained = here.chain(way);
+            *onto = onto.join(&chained);
+        }
     }
 }
 
@@ -83,15 +109,12 @@ fn with_rounds(here: &Matrix, power: &Option<Box<Matrix>>) -> Matrix
 /// of the word, if it has one.
 pub fn along(steps: &Steps, way: Option<&Matrix>, here: &Matrix, lag: u64, onto: &Matrix) -> Matrix
     requires lag { lag ≤ 3 }
-    ensures { IsBest (entry result) (Either (In (entry onto.now)) (Then (In (entry here.now)) (moved steps.now (option_map (λ m. m.now) way.entry) lag))) }
+    ensures { IsBest (entry result) (Either (In (entry onto.now)) (Then (In (entry here.now))
+        (moved steps.now (option_map (λ m. m.now) way.entry) lag))) }
 {
-    match way {
-        None => advance(here, steps.hops(lag), onto),
-        Some(way) => {
-            let chained = here.chain(way);
-            onto.join(&chained)
-        }
-    }
+    let mut joined = *onto;
+    join_along(steps, way, here, lag, &mut joined);
+    joined
 }
 
 /// Takes a matrix along an edge to a place.
@@ -105,19 +128,20 @@ fn bring(
 )
     requires lag { lag ≤ 3 }
     requires within { IfSome to (λ k. k < length at.old) }
-    ensures { IsBrought (moved steps.now (option_map (λ m. m.now) way.entry) lag) to here.now at.old at.new }
+    ensures { IsBrought (moved steps.now (option_map (λ m. m.now) way.entry) lag)
+        to here.now at.old at.new }
 {
     let Some(to) = to else {
         return;
     };
-    let joined = along(steps, way, here, lag, &at[to]);
-    at[to] = joined;
+    join_along(steps, way, here, lag, &mut at[to]);
 }
 
 /// Takes every sum out of the matrices of a span.
 fn clear(at: &mut [Matrix], span: Span)
     requires { span.last < length at.old }
-    ensures { (k : ℕ) → span.first ≤ k → k ≤ span.last → (p q c : ℕ) → matrix_at at.new k p q ≡ Some c → ⊥ }
+    ensures { (k : ℕ) → span.first ≤ k → k ≤ span.last →
+        (p q c : ℕ) → matrix_at at.new k p q ≡ Some c → ⊥ }
 {
     for place in span.first..span.last + 1 {
         at[place] = Matrix::NONE;
@@ -135,15 +159,19 @@ pub fn pass(
     at: &mut [Matrix],
 )
     requires known { IfSome around (λ j. Contains tree.now.loops j) }
-    requires ready { IsReady (over tree.now steps.now (ways_on ways.now)) tree.now (part_of (over tree.now steps.now (ways_on ways.now)) around) powers.now }
+    requires ready { let f = over tree.now steps.now (ways_on ways.now) in
+        IsReady f tree.now (part_of f around) powers.now }
     requires room { length at.old ≡ length tree.now.words }
-    ensures { let s = part_of (over tree.now steps.now (ways_on ways.now)) around in (k : ℕ) → s.low ≤ address tree.now k → address tree.now k ≤ s.high → IsBest (matrix_at at.new k) (Reaches (net (over tree.now steps.now (ways_on ways.now))) s (address tree.now k)) }
+    ensures { let f = over tree.now steps.now (ways_on ways.now) in let s = part_of f around in
+        (k : ℕ) → s.low ≤ address tree.now k → address tree.now k ≤ s.high →
+        IsBest (matrix_at at.new k) (Reaches (net f) s (address tree.now k)) }
 {
     let span = places_of(tree, around);
     clear(at, span);
     at[span.first] = *steps.one();
     for place in span.first..span.last + 1 {
-        let here = with_rounds(&at[place], &powers[place]);
+        let mut here = at[place];
+        with_rounds(&mut here, &powers[place]);
         at[place] = here;
         let edges = edges_at(tree, place);
         let next = up_to(tree, place, span.last, edges.next);

@@ -35,6 +35,10 @@ fn reach_in(
 
 /// By place the largest costs of what reaches each word of the section. The words that have ways of
 /// their own are gone on from at the costs of these, which lead to positions of the thread.
+///
+/// # Errors
+///
+/// Memory was refused.
 pub fn reach(
     alloc: Global,
     tree: &LoopTree,
@@ -42,7 +46,8 @@ pub fn reach(
     ways: &Ways,
 ) -> Result<Vec<Matrix>, AllocError>
     requires own { AreWays steps.now (ways_on ways.now) }
-    ensures reached { IfOk result (λ at. AreReached tree.now steps.now (ways_on ways.now) at.items) }
+    ensures reached { IfOk result (λ at.
+        AreReached tree.now steps.now (ways_on ways.now) at.items) }
     ensures rules { IsTree tree.now }
 {
     let section = tree.section();

@@ -15,7 +15,9 @@ use region_tree::JUMP_LAG;
 pub fn jump(steps: &Steps) -> Matrix
     ensures { IsBest (entry result) (StepsAfter steps.now 3) }
 {
-    advance(steps.one(), steps.hops(JUMP_LAG), &Matrix::NONE)
+    let mut jumped = Matrix::NONE;
+    advance(steps.one(), steps.hops(JUMP_LAG), &mut jumped);
+    jumped
 }
 
 /// What leads to some words and then a jump further.
@@ -25,18 +27,16 @@ pub fn through(steps: &Steps, at: &[Matrix], ends: &[bool]) -> Matrix
 {
     let mut back = Matrix::NONE;
     for place in 0..at.len() {
-        back = end(steps, ends[place], &at[place], &back);
+        end(steps, ends[place], &at[place], &mut back);
     }
     back
 }
 
-/// Joins a matrix with another that is taken a jump further, if it is one to be taken.
-fn end(steps: &Steps, is_end: bool, here: &Matrix, back: &Matrix) -> Matrix
-    ensures { EndedHere steps.now is_end here.now back.now result }
+/// Joins with a matrix another that is taken a jump further, if it is one to be taken.
+fn end(steps: &Steps, is_end: bool, here: &Matrix, back: &mut Matrix)
+    ensures { EndedHere steps.now is_end here.now back.old back.new }
 {
     if is_end {
-        advance(here, steps.hops(JUMP_LAG), back)
-    } else {
-        *back
+        advance(here, steps.hops(JUMP_LAG), back);
     }
 }

@@ -12,29 +12,30 @@ ghost use Rattle.bound_calc.specs.Matrices.{entry};
 ghost use Rattle.bound_calc.specs.Passing.{AreWays, IsReady, IsTurned, moved, over, ways_on};
 
 use crate::matrix::Matrix;
-use crate::pass::{along, edges_at, pass, places_of};
+use crate::pass::{edges_at, join_along, pass, places_of};
 use crate::powers::power;
 use crate::steps::Steps;
 use crate::ways::Ways;
 use fp_setup::LoopSetup;
 use region_tree::{JUMP_LAG, LoopTree};
 
-/// Joins what an edge brings back to a head.
+/// Joins with what is back at a head what an edge brings there.
 fn turn(
     steps: &Steps,
     way: Option<&Matrix>,
-    back: &Matrix,
+    back: &mut Matrix,
     here: &Matrix,
     target: Option<u32>,
     lag: u64,
     head: u32,
-) -> Matrix
+)
     requires lag { lag ≤ 3 }
-    ensures { IsTurned (moved steps.now (option_map (λ m. m.now) way.entry) lag) back.now here.now target head result }
+    ensures { IsTurned (moved steps.now (option_map (λ m. m.now) way.entry) lag)
+        back.old here.now target head back.new }
 {
     match target {
-        Some(to) if to == head => along(steps, way, here, lag, back),
-        _ => *back,
+        Some(to) if to == head => join_along(steps, way, here, lag, back),
+        _ => {}
     }
 }
 
@@ -50,28 +51,30 @@ pub fn rounds(
     requires own { AreWays steps.now (ways_on ways.now) }
     requires known { Contains tree.now.loops j }
     requires reached { Reachable (graph tree.now) j.head }
-    requires ready { IsReady (over tree.now steps.now (ways_on ways.now)) tree.now (body (net (over tree.now steps.now (ways_on ways.now))) j) powers.now }
+    requires ready { let f = over tree.now steps.now (ways_on ways.now) in
+        IsReady f tree.now (body (net f) j) powers.now }
     requires room { length at.old ≡ length tree.now.words }
-    ensures { IsBest (entry result) (Rounds (net (over tree.now steps.now (ways_on ways.now))) j j.limit) }
+    ensures { IsBest (entry result)
+        (Rounds (net (over tree.now steps.now (ways_on ways.now))) j j.limit) }
 {
     pass(tree, steps, ways, powers, Some(j), at);
     let span = places_of(tree, Some(j));
     let mut back = Matrix::NONE;
     for place in span.first..span.last + 1 {
         let edges = edges_at(tree, place);
-        let next = turn(
+        turn(
             steps,
             ways.at(place),
-            &back,
+            &mut back,
             &at[place],
             edges.next,
             edges.next_lag,
             j.head,
         );
-        back = turn(
+        turn(
             steps,
             ways.at(place),
-            &next,
+            &mut back,
             &at[place],
             edges.jump,
             JUMP_LAG,

@@ -16,7 +16,8 @@ use std::marker::Model;
 /// Whether a cycle is the thread's turn.
 fn is_own(slots: &SlotTable, thread: u8, cycle: u64) -> bool
     requires { thread < 8 }
-    ensures { IsTrue result ↔ IsOwn (positions slots.now thread) (cycle % length (frame slots.now)) }
+    ensures { IsTrue result ↔
+        IsOwn (positions slots.now thread) (cycle % length (frame slots.now)) }
 {
     match slots.turn(cycle) {
         Turn::Thread(turn) => turn == thread,
@@ -43,7 +44,8 @@ fn distance(slots: &SlotTable, thread: u8, position: u64, lag: u64) -> u64
     requires own { IsOwn (positions slots.now thread) position }
     requires lag { lag ≤ 3 }
     ensures far { result ≤ 24 }
-    ensures next { IsNextTurn (positions slots.now thread) lag position result ((position + result) % length (frame slots.now)) }
+    ensures next { IsNextTurn (positions slots.now thread) lag position result
+        ((position + result) % length (frame slots.now)) }
 {
     let mut cycles = lag;
     while !is_own(slots, thread, position + cycles) {
@@ -57,8 +59,10 @@ fn hop(slots: &SlotTable, thread: u8, position: u64, lag: u64) -> Option<Hop>
     requires thread { thread < 8 }
     requires lag { lag ≤ 3 }
     requires position { position < 8 }
-    ensures found { (d q : ℕ) → result ≡ Some (record { cost = d; place = q }) → IsNextTurn (positions slots.now thread) lag position d q }
-    ensures all { (d q : ℕ) → IsNextTurn (positions slots.now thread) lag position d q → result ≡ Some (record { cost = d; place = q }) }
+    ensures found { (d q : ℕ) → result ≡ Some (record { cost = d; place = q }) →
+        IsNextTurn (positions slots.now thread) lag position d q }
+    ensures all { (d q : ℕ) → IsNextTurn (positions slots.now thread) lag position d q →
+        result ≡ Some (record { cost = d; place = q }) }
 {
     let count = u64::from(slots.frame_len());
     if position >= count || !is_own(slots, thread, position) {
@@ -88,8 +92,10 @@ fn hop_row(slots: &SlotTable, thread: u8, lag: u64) -> HopRow
 fn one_row(slots: &SlotTable, thread: u8, position: usize) -> [Option<u128>; 8]
     requires thread { thread < 8 }
     requires position { position < 8 }
-    ensures found { (q d : ℕ) → q < 8 → slice_index_or result q None ≡ Some d → Stays (IsOwn (positions slots.now thread)) position d q }
-    ensures all { (q d : ℕ) → Stays (IsOwn (positions slots.now thread)) position d q → slice_index_or result q None ≡ Some d }
+    ensures found { (q d : ℕ) → q < 8 → slice_index_or result q None ≡ Some d →
+        Stays (IsOwn (positions slots.now thread)) position d q }
+    ensures all { (q d : ℕ) → Stays (IsOwn (positions slots.now thread)) position d q →
+        slice_index_or result q None ≡ Some d }
 {
     let mut row = [None; 8];
     if position < slots.frame_len() as usize && is_own(slots, thread, position as u64) {
@@ -165,7 +171,7 @@ impl Steps {
         &self.one
     }
 
-    /// The steps after a lag.
+    /// The steps after a lag of 0 to 3 cycles.
     pub fn hops(&self, lag: u64) -> &HopRow
         requires { lag ≤ 3 }
         ensures hops { IsHops self.now lag result.now.hops }

@@ -1,2 +1,3 @@
 pub mod DrawnLemmas
 pub mod TallyLemmas
+pub mod FoldLemmas

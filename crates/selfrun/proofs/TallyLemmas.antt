@@ -7,13 +7,13 @@ use Rattle.std.proofs.lemmas.List.FromFn.{get_or-map-range_with_len}
 use Rattle.std.proofs.lemmas.List.{append-nil, length-append}
 use Rattle.std.proofs.lemmas.Grind.{flat_map-append, fold-append}
 use Rattle.fp_ports.specs.Rows.{Row}
-use Rattle.fp_setup.specs.Meaning.{the_threads}
+use Rattle.fp_setup.specs.SetupOfTables.{the_threads}
 use Rattle.rv_exec.specs.declared.outcome.Event.{Event}
 use Rattle.trace_print.specs.Text.{line_text, text}
 use Rattle.world_model.specs.World.{Start, recent, world, events}
 use Rattle.pipe_model.specs.Relation.{of_hart, event_in, turn_at}
-use Rattle.pipe_model.specs.Laws.{EventsGrow}
-use Rattle.machine.specs.Meaning.{StandsFor, Ticks, start_beside}
+use Rattle.pipe_model.specs.PipelineLaws.{EventsGrow}
+use Rattle.machine.specs.WorldRelation.{StandsFor, Ticks, start_beside}
 use Rattle.fp_image.specs.declared.parts.Segment.{Segment}
 use Rattle.fp_setup.specs.Settings.{Settings}
 use Rattle.fp_setup.specs.Plain.{plain_threads}

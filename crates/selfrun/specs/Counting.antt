@@ -1,8 +1,8 @@
 -- How the tallies of the threads grow as events retire.
 use Rattle.std.specs.Prelude.{◌≡◌, ℕ, ◌+◌, ◌≤◌, List, slice_set, map, Option, Some, None}
 use Rattle.fp_ports.specs.Rows.{Row}
-use Rattle.fp_setup.specs.Meaning.{the_threads}
-use Rattle.machine.specs.Meaning.{StandsFor}
+use Rattle.fp_setup.specs.SetupOfTables.{the_threads}
+use Rattle.machine.specs.WorldRelation.{StandsFor}
 use Rattle.machine.specs.declared.state.Machine.{Machine}
 use Rattle.rv_exec.specs.declared.outcome.Event.{Event}
 use Rattle.trace_print.specs.Text.{line_text}
@@ -27,7 +27,8 @@ AreFew tallies most = (k : ℕ) → (tally_at tallies k).events ≤ most
 abbrev pub tallies_of : Start → ℕ → List Tally
 tallies_of s n = map (λ k. tally_of (events s k n)) the_threads
 
--- after c cycles of a run of n, the machine stands for that cycle, and the tallies are those of the world
+-- after c cycles of a run of n, the machine stands for that cycle, and the tallies are those of the
+-- world
 pub record HasTallied (s : Start) (c n : ℕ) (m : Machine) (ports : List (Option Row)) (tallies : List Tally) : Type 0 where
   pub stands : StandsFor s c n m ports
   pub are : tallies ≡ tallies_of s c

@@ -1,5 +1,5 @@
--- The programs of the machine's own run: each thread has 128 words, of which 124 are drawn by a simple
--- generator of numbers. Source: this project's profile.
+-- The programs of the machine's own run: each thread has 128 words, of which 124 are drawn by a
+-- simple generator of numbers. Source: this project's profile.
 use Rattle.std.specs.Prelude.{ℕ, zero, suc, ◌+◌, ◌*◌, ◌/◌, ◌%◌, ◌^◌, ◌==◌, pos, negsuc, if◌then◌else◌, true, false, List, [], ◌∷◌, ◌++◌, map, flat_map}
 use Rattle.std.specs.List.{range_with_len}
 use Rattle.byteorder.specs.Endian.{little_bytes}
@@ -12,7 +12,7 @@ use Rattle.rv_decode.specs.declared.instruction.LoadOp.TheVariants.{Lw}
 use Rattle.rv_decode.specs.declared.instruction.StoreOp.TheVariants.{Sw}
 use Rattle.rv_decode.specs.declared.instruction.BranchOp.TheVariants.{Bne}
 use Rattle.fp_image.specs.declared.parts.Segment.{Segment}
-use Rattle.fp_setup.specs.Meaning.{the_threads}
+use Rattle.fp_setup.specs.SetupOfTables.{the_threads}
 use Rattle.fp_setup.specs.Settings.{Settings}
 use Rattle.fp_setup.specs.Plain.{plain_setup}
 
@@ -20,6 +20,7 @@ use Rattle.fp_setup.specs.Plain.{plain_setup}
 unfoldable pub next_draw : ℕ → ℕ
 next_draw x = (x * 1664525 + 1013904223) % 2 ^ 32
 
+-- the number after so many draws
 unfoldable pub drawn : ℕ → ℕ → ℕ
 drawn first zero = first
 drawn first (suc n) = next_draw (drawn first n)
@@ -41,7 +42,8 @@ unfoldable pub drawn_ins : ℕ → Ins
 drawn_ins x = form (x / 2 ^ 28 % 8) (1 + x / 2 ^ 8 % 7) (1 + x / 2 ^ 12 % 7) (1 + x / 2 ^ 16 % 7) (4 * (x / 2 ^ 20 % 64))
 
 -- what thread k has before the drawn instructions: it puts the address of region k of the data
--- scratchpad, 0x20000000 + 2048 * k, into x8, as a multiple of 4,096 from which an odd k takes 2,048
+-- scratchpad, 0x20000000 + 2048 * k, into x8, as a multiple of 4,096 from which an odd k takes
+-- 2,048
 abbrev pub first_ins : ℕ → List Ins
 first_ins k = Lui 8 (0x20000 + (k + 1) / 2) ∷ OpImm Addi 8 8 (if k % 2 == 0 then pos 0 else negsuc 2047) ∷ []
 
@@ -65,12 +67,13 @@ bytes_of list = flat_map (λ i. little_bytes 4 (encoded i)) list
 abbrev pub segment : ℕ → ℕ → Segment
 segment number k = record { address = 2048 * k; bytes = bytes_of (instructions (drawn number (124 * k)) k) }
 
+-- the segments of the eight programs
 unfoldable pub programs : ℕ → List Segment
 programs number = map (segment number) the_threads
 
--- A cycle has 10 nanoseconds. T0 to T3 are hard, confined and in turn, then come four slots for T4 to T7, which
--- are soft. Each thread has a region of the instruction scratchpad. Of the data scratchpad T0 to T3 have one
--- each, three are shared, and the last one is read only.
+-- A cycle has 10 nanoseconds. T0 to T3 are hard, confined and in turn, then come four slots for T4
+-- to T7, which are soft. Each thread has a region of the instruction scratchpad. Of the data
+-- scratchpad T0 to T3 have one each, three are shared, and the last one is read only.
 abbrev pub own_setup : Settings
 own_setup =
     plain_setup 10 0xeeee3210 0xaa00 0x76543210 0xc8883210

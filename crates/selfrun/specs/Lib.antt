@@ -1,3 +1,4 @@
 pub mod Drawn
 pub mod Text
+pub mod Folds
 pub mod Counting

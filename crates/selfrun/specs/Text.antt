@@ -1,7 +1,7 @@
--- What is told of the machine's own run: of each thread, how many events retired, and a fold of the text of
--- its trace. Source: this project's profile.
+-- What is told of the machine's own run: of each thread, how many events retired, and a fold of the
+-- text of its trace. Source: this project's profile.
 use Rattle.std.specs.Prelude.{ℕ, ◌+◌, ◌*◌, ◌%◌, ◌^◌, List, ◌++◌, length, decimal, codes, fold, map, flat_map, slice_index_or}
-use Rattle.fp_setup.specs.Meaning.{the_threads}
+use Rattle.fp_setup.specs.SetupOfTables.{the_threads}
 use Rattle.rv_exec.specs.declared.outcome.Event.{Event}
 use Rattle.setup_model.specs.Start.{start, no_ports}
 use Rattle.trace_print.specs.Digits.{hex}
@@ -14,6 +14,7 @@ use Rattle.selfrun.specs.Drawn.{own_setup, programs}
 abbrev pub with_byte : ℕ → ℕ → ℕ
 with_byte h byte = (h * 31 + byte) % 2 ^ 32
 
+-- the fold after some bytes
 unfoldable pub folded : ℕ → List ℕ → ℕ
 folded h bytes = fold with_byte h bytes
 
@@ -37,6 +38,7 @@ own_tallies number = map (λ k. tally_of (events (own_start number 100000) k 100
 abbrev pub no_tally : Tally
 no_tally = record { events = 0; fold = 0 }
 
+-- the tally of thread k
 abbrev pub tally_at : List Tally → ℕ → Tally
 tally_at tallies k = slice_index_or tallies k no_tally
 
@@ -44,5 +46,6 @@ tally_at tallies k = slice_index_or tallies k no_tally
 abbrev pub tallies_text : List Tally → List ℕ
 tallies_text tallies = flat_map (λ k. tally_line k (tally_at tallies k)) the_threads
 
+-- the lines of the whole run
 unfoldable pub selfrun_text : ℕ → List ℕ
 selfrun_text number = tallies_text (own_tallies number)

@@ -29,7 +29,8 @@ fn push_ins(bytes: &mut Vec<u8>, ins: &Ins) -> Result<(), AllocError>
 
 /// Appends so many drawn instructions, and gives the last draw.
 fn push_drawn(bytes: &mut Vec<u8>, first: u32) -> Result<u32, AllocError>
-    ensures bytes { OnOk result (bytes.new.items ≡ bytes.old.items ++ bytes_of (drawn_from first 124)) }
+    ensures bytes { OnOk result (bytes.new.items ≡ bytes.old.items
+        ++ bytes_of (drawn_from first 124)) }
     ensures last { IfOk result (λ x. x ≡ drawn first 124) }
 {
     let mut x = first;
@@ -55,7 +56,12 @@ fn thread_bytes(alloc: Global, k: u8, first: u32) -> Result<(Vec<u8>, u32), Allo
     Ok((bytes, last))
 }
 
-/// The image: a segment for each thread.
+/// The programs that a number draws: a segment of 128 words for each thread k, at the address 2,048
+/// k. Each thread draws on from where the one before it ended.
+///
+/// # Errors
+///
+/// Memory was refused.
 pub fn drawn_image(alloc: Global, number: u32) -> Result<Image, AllocError>
     ensures { IfOk result (λ i. i ≡ programs number) }
 {
@@ -69,7 +75,12 @@ pub fn drawn_image(alloc: Global, number: u32) -> Result<Image, AllocError>
     Ok(image)
 }
 
-/// The setup.
+/// The setup of the machine's own run: a period of 10 ns, slots for threads 0 to 3, which are hard
+/// and confined, and for soft threads, which 4 to 7 are; each thread enters at its own segment.
+///
+/// # Errors
+///
+/// Memory was refused.
 pub fn own_setup(alloc: Global) -> Result<Setup, AllocError>
     ensures { IfOk result (λ s. s ≡ own_setup) }
 {

@@ -6,14 +6,15 @@ ghost use Rattle.fp_io.specs.Causes.{Rose};
 ghost use Rattle.fp_io.specs.Content.{AppendsFront};
 ghost use Rattle.fp_ports.specs.Rows.{Row, rows_of};
 ghost use Rattle.setup_model.specs.Start.{no_ports};
-ghost use Rattle.pipeline_core.specs.Fits.{IsEventShowable};
+ghost use Rattle.pipeline_core.specs.LatchFacts.{IsEventShowable};
 ghost use Rattle.world_model.specs.World.{Start};
-ghost use Rattle.machine.specs.Meaning.{StandsFor, start_beside};
+ghost use Rattle.machine.specs.WorldRelation.{StandsFor, start_beside};
 ghost use Rattle.selfrun.specs.Drawn.{own_setup, programs};
 ghost use Rattle.selfrun.specs.Counting.{AreFew, counted, tallies_of};
 ghost use Rattle.selfrun.specs.Text.{own_tallies, selfrun_text, tallies_text, tally_at, tally_line};
 
 use crate::drawing::{drawn_image, own_setup};
+use crate::line_fold::LineFolder;
 use crate::tally::Tally;
 use fp_io::{PutFailed, Sink};
 use fp_ports::Ports;
@@ -38,7 +39,7 @@ fn no_ports(alloc: Global) -> Result<Ports, AllocError>
 }
 
 /// Counts the event of a cycle, if there is one.
-fn count(tallies: &mut [Tally; 8], event: &Option<Event>)
+fn count(tallies: &mut [Tally; 8], folder: &mut LineFolder, event: &Option<Event>)
     requires few { AreFew tallies.old 99999 }
     requires showable { IsEventShowable event.now }
     ensures { tallies.new ≡ counted tallies.old event.now }
@@ -46,14 +47,15 @@ fn count(tallies: &mut [Tally; 8], event: &Option<Event>)
     if let Some(event) = event {
         let k = usize::from(event.thread);
         if k < tallies.len() {
-            tallies[k] = tallies[k].with(event);
+            tallies[k] = tallies[k].with(event, folder);
         }
     }
 }
 
 /// The machine with the drawn programs, at its start.
 fn own_machine(alloc: Global, number: u32) -> Result<Machine, AllocError>
-    ensures stands { IfOk result (λ m. (ports : List (Option Row)) (n : ℕ) → length ports ≡ 8 → StandsFor (start_beside own_setup (programs number) ports n) 0 n m ports) }
+    ensures stands { IfOk result (λ m. (ports : List (Option Row)) (n : ℕ) → length ports ≡ 8
+        → StandsFor (start_beside own_setup (programs number) ports n) 0 n m ports) }
     ensures start { IfOk result (λ m. m.at ≡ 0) }
 {
     let setup = own_setup(alloc)?;
@@ -61,18 +63,21 @@ fn own_machine(alloc: Global, number: u32) -> Result<Machine, AllocError>
     Machine::load(alloc, &setup, &image)
 }
 
-/// Runs a machine for so many cycles from its start, and counts the events of each thread as they retire.
+/// Runs a machine for so many cycles from its start, and counts the events of each thread as they
+/// retire.
 fn tallies(machine: &mut Machine, cycles: u64, ports: &mut Ports) -> [Tally; 8]
     requires start { machine.old.at ≡ 0 }
     requires limit { cycles ≤ 100000 }
     requires eight { vec_len ports.old ≡ 8 }
-    ensures { (s : Start) → StandsFor s 0 cycles machine.old (rows_of latched word_at ports.old.items) → result ≡ tallies_of s cycles }
+    ensures { (s : Start) → StandsFor s 0 cycles machine.old
+        (rows_of latched word_at ports.old.items) → result ≡ tallies_of s cycles }
 {
     events_grow();
     let mut tallies = [Tally { events: 0, fold: 0 }; 8];
+    let mut folder = LineFolder::new();
     for _cycle in 0..cycles {
         let event = machine.tick(ports);
-        count(&mut tallies, &event);
+        count(&mut tallies, &mut folder, &event);
     }
     tallies
 }
@@ -80,12 +85,13 @@ fn tallies(machine: &mut Machine, cycles: u64, ports: &mut Ports) -> [Tally; 8]
 /// What each thread did in the machine's own run.
 #[derive(Clone, Copy, Debug)]
 pub struct Selfrun {
+    /// By thread, 0 to 7.
     pub tallies: [Tally; 8],
 }
 
 impl Selfrun {
-    /// Draws the programs from a number, and runs the machine for 100,000 cycles with no port. It keeps
-    /// no trace.
+    /// Draws the programs from a number, and runs the machine for 100,000 cycles with no port. It
+    /// keeps no trace.
     ///
     /// # Errors
     ///
@@ -109,8 +115,10 @@ impl Selfrun {
     ///
     /// A fault of the sink was counted in this call; a front of the text was put.
     pub fn put<K: Sink>(&self, out: &mut K) -> Result<(), PutFailed>
-        ensures ok { OnOk result (Appends (K.taken out.old) (K.taken out.new) (tallies_text self.now.tallies)) }
-        ensures err { OnErr result (AppendsFront (K.taken out.old) (K.taken out.new) (tallies_text self.now.tallies)) }
+        ensures ok { OnOk result (Appends (K.taken out.old) (K.taken out.new)
+            (tallies_text self.now.tallies)) }
+        ensures err { OnErr result (AppendsFront (K.taken out.old) (K.taken out.new)
+            (tallies_text self.now.tallies)) }
         ensures failed { OnErr result (Rose (K.faults out.old) (K.faults out.new)) }
         ensures counted { K.faults out.old ≤ K.faults out.new }
     {
@@ -123,8 +131,10 @@ impl Selfrun {
     /// Puts the line of thread k.
     fn put_line<K: Sink>(&self, k: u8, out: &mut K) -> Result<(), PutFailed>
         requires { k < 8 }
-        ensures ok { OnOk result (Appends (K.taken out.old) (K.taken out.new) (tally_line k (tally_at self.now.tallies k))) }
-        ensures err { OnErr result (AppendsFront (K.taken out.old) (K.taken out.new) (tally_line k (tally_at self.now.tallies k))) }
+        ensures ok { OnOk result (Appends (K.taken out.old) (K.taken out.new)
+            (tally_line k (tally_at self.now.tallies k))) }
+        ensures err { OnErr result (AppendsFront (K.taken out.old) (K.taken out.new)
+            (tally_line k (tally_at self.now.tallies k))) }
         ensures failed { OnErr result (Rose (K.faults out.old) (K.faults out.new)) }
         ensures counted { K.faults out.old ≤ K.faults out.new }
     {

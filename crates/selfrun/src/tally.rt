@@ -3,11 +3,12 @@
 ghost use Rattle.std.specs.Prelude.{◌≡◌, ◌<◌};
 ghost use Rattle.rv_exec.specs.Line.{IsPrintable};
 ghost use Rattle.selfrun.specs.Counting.{with_event};
-ghost use Rattle.selfrun.specs.Text.{folded, tally_line, with_byte};
+ghost use Rattle.selfrun.specs.Text.{tally_line};
 
+use crate::line_fold::LineFolder;
 use arrayvec::ArrayString;
 use rv_exec::Event;
-use trace_print::{line, push_decimal, push_hex};
+use trace_print::{push_decimal, push_hex};
 
 /// What is kept of a thread's events.
 #[derive(Clone, Copy, Debug)]
@@ -18,31 +19,16 @@ pub struct Tally {
     pub fold: u32,
 }
 
-/// A fold with one more byte.
-fn with_byte(h: u32, byte: u8) -> u32
-    ensures { result ≡ with_byte h byte }
-{
-    ((u64::from(h) * 31 + u64::from(byte)) % 0x1_0000_0000) as u32
-}
-
-/// A fold with more bytes.
-#[tactic(auto, unfolding(crate::specs::Text::folded))]
-fn folded(h: u32, bytes: &[u8]) -> u32
-    ensures { result ≡ folded h bytes.now }
-{
-    bytes.iter().fold(h, |h, byte| with_byte(h, *byte))
-}
-
 impl Tally {
     /// With one more event.
-    pub(crate) fn with(self, event: &Event) -> Tally
+    pub(crate) fn with(self, event: &Event, folder: &mut LineFolder) -> Tally
         requires few { self.events < 100000 }
         requires printable { IsPrintable event.now.effect }
         ensures { result ≡ with_event self event.now }
     {
         Tally {
             events: self.events + 1,
-            fold: folded(self.fold, line(event).as_bytes()),
+            fold: folder.line(self.fold, event),
         }
     }
 

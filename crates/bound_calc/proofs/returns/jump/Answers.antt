@@ -6,4 +6,4 @@ pub advance-requires : goal.advance-requires
 advance-requires c = record { places = hops-places c.args.steps.now 3 c.hops.result.now.hops c.hops.ensures.frame c.hops.ensures.hops }
 
 pub returns : goal.returns
-returns c = jump-best c.args.steps.now c.one.result.now c.hops.result.now.hops c.advance.result c.one.ensures.one c.hops.ensures.hops c.advance.ensures
+returns c = jump-best c.args.steps.now c.one.result.now c.hops.result.now.hops c.advance.new.onto c.one.ensures.one c.hops.ensures.hops c.advance.ensures

@@ -27,8 +27,8 @@ loop-place-init c =
     let sp = c.places_of-span.ensures.span c.args.steps.now (ways_on c.args.ways.now) in
     turns-none c.args.j (address c.args.tree.now c.places_of-span.result.first) sp.low c.requires.ready.part none-entry
 
-pub turn-next-requires : goal.turn-next-requires
-turn-next-requires c = record { lag = subst (λ e. e.next_lag ≤ 3) (sym c.edges_at-edges.ensures) (lag-small c.args.tree.now c.loop-place.place) }
+pub turn-requires : goal.turn-requires
+turn-requires c = record { lag = subst (λ e. e.next_lag ≤ 3) (sym c.edges_at-edges.ensures) (lag-small c.args.tree.now c.loop-place.place) }
 
 pub loop-place-preserved : goal.loop-place-preserved
 loop-place-preserved c =
@@ -41,10 +41,10 @@ loop-place-preserved c =
     let within = (c.places_of-span.ensures.span o h).inside in
     let way = ap (λ n. h n) (address-place t k) ∙ sym c.at.ensures in
     let way' = ap (λ n. h n) (address-place t k) ∙ sym c.at-in-loop-place.ensures in
-    let next = subst (λ w. IsTurned (moved o w (edges_at t k).next_lag) c.loop-place.back now (edges_at t k).next c.args.j.head c.turn-next.result) (sym way)
-    (subst (λ e. IsTurned (moved o (option_map (λ m. m.now) c.at.result) e.next_lag) c.loop-place.back now e.next c.args.j.head c.turn-next.result) c.edges_at-edges.ensures c.turn-next.ensures) in
-    let jump = subst (λ w. IsTurned (moved o w 3) c.turn-next.result now (edges_at t k).jump c.args.j.head c.turn-back.result) (sym way')
-    (subst (λ e. IsTurned (moved o (option_map (λ m. m.now) c.at-in-loop-place.result) 3) c.turn-next.result now e.jump c.args.j.head c.turn-back.result) c.edges_at-edges.ensures c.turn-back.ensures) in
+    let next = subst (λ w. IsTurned (moved o w (edges_at t k).next_lag) c.loop-place.back now (edges_at t k).next c.args.j.head c.turn.new.back) (sym way)
+    (subst (λ e. IsTurned (moved o (option_map (λ m. m.now) c.at.result) e.next_lag) c.loop-place.back now e.next c.args.j.head c.turn.new.back) c.edges_at-edges.ensures c.turn.ensures) in
+    let jump = subst (λ w. IsTurned (moved o w 3) c.turn.new.back now (edges_at t k).jump c.args.j.head c.turn-in-loop-place.new.back) (sym way')
+    (subst (λ e. IsTurned (moved o (option_map (λ m. m.now) c.at-in-loop-place.result) 3) c.turn.new.back now e.jump c.args.j.head c.turn-in-loop-place.new.back) c.edges_at-edges.ensures c.turn-in-loop-place.ensures) in
     turns-word t o (ways_on c.args.ways.now) c.args.j k c.places_of-span.ensures.rules c.requires.reached c.requires.ready.part
     (turned c.args.j (address t k) (edges_at t k).jump 3 c.requires.reached c.requires.ready.part best jump
     (turned c.args.j (address t k) (edges_at t k).next (edges_at t k).next_lag c.requires.reached c.requires.ready.part best next c.loop-place.invariant))

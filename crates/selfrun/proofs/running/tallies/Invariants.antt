@@ -1,7 +1,7 @@
 use Rattle.std.proofs.Common.{◌≡◌, vec_len}
 use Rattle.fp_ports.specs.Rows.{rows_of}
 use Rattle.world_model.specs.World.{Start}
-use Rattle.machine.specs.Meaning.{StandsFor}
+use Rattle.machine.specs.WorldRelation.{StandsFor}
 use Rattle.selfrun.specs.Counting.{AreFew, HasTallied}
 use Rattle.selfrun.proofs.running.tallies.Given as goal
 

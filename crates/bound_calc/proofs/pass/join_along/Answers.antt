@@ -4,14 +4,14 @@ use Rattle.bound_calc.specs.Best.{Either, In, IsBest, Then}
 use Rattle.bound_calc.specs.Matrices.{entry}
 use Rattle.bound_calc.specs.Passing.{moved}
 use Rattle.bound_calc.proofs.PassLaws.{along-matrix, hops-places, with-steps}
-use Rattle.bound_calc.proofs.pass.along.Goals as goal
+use Rattle.bound_calc.proofs.pass.join_along.Goals as goal
 
 pub advance-requires : goal.advance-requires
 advance-requires c = record { places = hops-places c.args.steps.now c.args.lag c.hops.result.now.hops c.hops.ensures.frame c.hops.ensures.hops }
 
 pub returns-in-None : goal.returns-in-None
 returns-in-None c =
-    subst (λ w. IsBest (entry c.advance.result) (Either (In (entry c.args.onto.now)) (Then (In (entry c.args.here.now)) (moved c.args.steps.now (option_map (λ m. m.now) w) c.args.lag)))) (sym c.in-None.is)
+    subst (λ w. IsBest (entry c.advance.new.onto) (Either (In (entry c.args.onto.now)) (Then (In (entry c.args.here.now)) (moved c.args.steps.now (option_map (λ m. m.now) w) c.args.lag)))) (sym c.in-None.is)
     (with-steps c.hops.ensures.hops c.advance.ensures)
 
 pub returns-in-Some : goal.returns-in-Some

@@ -15,6 +15,7 @@ abbrev pub word_after : ℕ → List Step → ℕ
 word_after u [] = u
 word_after u (t ∷ ts) = t.to
 
+-- the position after some steps, the last one first
 abbrev pub position_after : ℕ → List Step → ℕ
 position_after p [] = p
 position_after p (t ∷ ts) = t.place
@@ -29,8 +30,8 @@ abbrev pub Avoid : LoopSetup → List Step → Type 0
 Avoid j [] = Unit {0}
 Avoid j (t ∷ ts) = Avoid j ts × (t.to ≢ j.head)
 
--- Steps in a loop, from its head at position p to word v at position q, that keep the bounds of the loops inside, each
--- counter being 0 at the head.
+-- Steps in a loop, from its head at position p to word v at position q, that keep the bounds of the
+-- loops inside, each counter being 0 at the head.
 pub record AreSteps (x : Course) (j : LoopSetup) (p : ℕ) (ts : List Step) (v q : ℕ) : Type 0 where
   pub leads : Leads x j.head p ts v q
   pub within : AreIn j ts
@@ -46,8 +47,8 @@ pub data AreRounds (x : Course) (j : LoopSetup) (p : ℕ) : ℕ → List Step �
   none : AreRounds x j p 0 [] p
   more : {n m q : ℕ} {ts : List Step} (ss : List Step) → AreRounds x j p n ts m → IsRound x j m ss q → AreRounds x j p (n + 1) (ss ++ ts) q
 
--- Steps in at most bound + 1 rounds: at most as many whole ones as the loop's bound, and a last one without a step to
--- the head, which may have no step at all.
+-- Steps in at most bound + 1 rounds: at most as many whole ones as the loop's bound, and a last one
+-- without a step to the head, which may have no step at all.
 pub record AreBounded (x : Course) (j : LoopSetup) (p : ℕ) (ts : List Step) (v q : ℕ) : Type 0 where
   pub count : ℕ
   pub at : ℕ
@@ -64,16 +65,18 @@ abbrev pub Enters : LoopSetup → ℕ → List Step → Type 0
 Enters j u [] = u ≡ j.head
 Enters j u (t ∷ ts) = (t.to ≡ j.head) × (Holds j t.from → ⊥)
 
--- From the moment when a walk that keeps the bounds enters a loop at its head, or starts there, it is in at most
--- bound + 1 rounds for as long as it stays in the loop, up to the next step that leaves it or to the walk's end.
+-- From the moment when a walk that keeps the bounds enters a loop at its head, or starts there, it
+-- is in at most bound + 1 rounds for as long as it stays in the loop, up to the next step that
+-- leaves it or to the walk's end.
 abbrev pub StaysInRounds : Type 0
 StaysInRounds =
     (x : Course) (j : LoopSetup) (p v q : ℕ) (before during after : List Step) → Contains x.graph.loops j →
     IsWalk x p (after ++ (during ++ before)) v q → Enters j x.graph.from before → AreIn j during →
     AreBounded x j (position_after p before) during (word_after j.head during) (position_after (position_after p before) during)
 
--- In a section that has a bound, at most bound + 1 rounds of a loop whose head is reachable are steps from the head that
--- stay in the loop. Neither its counter nor one of a loop inside passes its bound, each being 0 at first.
+-- In a section that has a bound, at most bound + 1 rounds of a loop whose head is reachable are
+-- steps from the head that stay in the loop. Neither its counter nor one of a loop inside passes
+-- its bound, each being 0 at first.
 abbrev pub RoundsAreSteps : Type 0
 RoundsAreSteps =
     (t : Tree) (slots thread : ℕ) (j : LoopSetup) (p v q : ℕ) (ts : List Step) → IsTree t → Contains t.loops j → Reachable (graph t) j.head →
