@@ -1,0 +1,4 @@
+pub mod Lexing
+pub mod Words
+pub mod Statements
+pub mod Back

@@ -1,0 +1,4 @@
+pub mod Parts
+pub mod Names
+pub mod Text
+pub mod Law

@@ -1,0 +1,10 @@
+//! The law of the texts.
+
+ghost use Rattle.rv_disasm.specs.Law.{TakesOneWord, AssemblesBack};
+
+/// The text of each word, assembled at the word's address, is a statement of one word without a
+/// label, and gives the word back. The contract is the law; the call does nothing.
+pub fn texts_assemble_back()
+    ensures one { TakesOneWord }
+    ensures back { AssemblesBack }
+{}

@@ -1,0 +1,139 @@
+//! The mnemonics of the operations, and the names of control and status registers.
+
+ghost use Rattle.std.specs.Prelude.{◌≡◌, ◌≤◌, IfSome, IfNone, length};
+ghost use Rattle.rv_disasm.specs.Names.{branch_name, load_name, store_name, imm_name};
+ghost use Rattle.rv_disasm.specs.Names.{shift_name, alu_name, mul_name, csr_name};
+ghost use Rattle.rv_disasm.specs.Parts.{csr_part, digits, named};
+
+use rv_decode::{AluOp, BranchOp, CsrKind, ImmOp, LoadOp, MulOp, ShiftOp, StoreOp};
+
+pub fn branch_name(op: BranchOp) -> &'static str
+    ensures name { result.now ≡ branch_name op }
+    ensures short { length result.now ≤ 8 }
+{
+    match op {
+        BranchOp::Beq => "beq",
+        BranchOp::Bne => "bne",
+        BranchOp::Blt => "blt",
+        BranchOp::Bge => "bge",
+        BranchOp::Bltu => "bltu",
+        BranchOp::Bgeu => "bgeu",
+    }
+}
+
+pub fn load_name(op: LoadOp) -> &'static str
+    ensures name { result.now ≡ load_name op }
+    ensures short { length result.now ≤ 8 }
+{
+    match op {
+        LoadOp::Lb => "lb",
+        LoadOp::Lh => "lh",
+        LoadOp::Lw => "lw",
+        LoadOp::Lbu => "lbu",
+        LoadOp::Lhu => "lhu",
+    }
+}
+
+pub fn store_name(op: StoreOp) -> &'static str
+    ensures name { result.now ≡ store_name op }
+    ensures short { length result.now ≤ 8 }
+{
+    match op {
+        StoreOp::Sb => "sb",
+        StoreOp::Sh => "sh",
+        StoreOp::Sw => "sw",
+    }
+}
+
+pub fn imm_name(op: ImmOp) -> &'static str
+    ensures name { result.now ≡ imm_name op }
+    ensures short { length result.now ≤ 8 }
+{
+    match op {
+        ImmOp::Addi => "addi",
+        ImmOp::Slti => "slti",
+        ImmOp::Sltiu => "sltiu",
+        ImmOp::Xori => "xori",
+        ImmOp::Ori => "ori",
+        ImmOp::Andi => "andi",
+    }
+}
+
+pub fn shift_name(op: ShiftOp) -> &'static str
+    ensures name { result.now ≡ shift_name op }
+    ensures short { length result.now ≤ 8 }
+{
+    match op {
+        ShiftOp::Slli => "slli",
+        ShiftOp::Srli => "srli",
+        ShiftOp::Srai => "srai",
+    }
+}
+
+pub fn alu_name(op: AluOp) -> &'static str
+    ensures name { result.now ≡ alu_name op }
+    ensures short { length result.now ≤ 8 }
+{
+    match op {
+        AluOp::Add => "add",
+        AluOp::Sub => "sub",
+        AluOp::Sll => "sll",
+        AluOp::Slt => "slt",
+        AluOp::Sltu => "sltu",
+        AluOp::Xor => "xor",
+        AluOp::Srl => "srl",
+        AluOp::Sra => "sra",
+        AluOp::Or => "or",
+        AluOp::And => "and",
+    }
+}
+
+pub fn mul_name(op: MulOp) -> &'static str
+    ensures name { result.now ≡ mul_name op }
+    ensures short { length result.now ≤ 8 }
+{
+    match op {
+        MulOp::Mul => "mul",
+        MulOp::Mulh => "mulh",
+        MulOp::Mulhsu => "mulhsu",
+        MulOp::Mulhu => "mulhu",
+        MulOp::Div => "div",
+        MulOp::Divu => "divu",
+        MulOp::Rem => "rem",
+        MulOp::Remu => "remu",
+    }
+}
+
+pub fn csr_op_name(op: CsrKind) -> &'static str
+    ensures name { result.now ≡ csr_name op }
+    ensures short { length result.now ≤ 8 }
+{
+    match op {
+        CsrKind::Rw => "csrrw",
+        CsrKind::Rs => "csrrs",
+        CsrKind::Rc => "csrrc",
+        CsrKind::Rwi => "csrrwi",
+        CsrKind::Rsi => "csrrsi",
+        CsrKind::Rci => "csrrci",
+    }
+}
+
+/// The name of a control and status register, if the assembler has one.
+pub fn csr_name(csr: u16) -> Option<&'static str>
+    ensures name { IfSome result (λ name. csr_part csr ≡ named name.now) }
+    ensures number { IfNone result (csr_part csr ≡ digits 3 csr) }
+    ensures short { IfSome result (λ name. length name.now ≤ 8) }
+{
+    Some(match csr {
+        0x305 => "mtvec",
+        0x340 => "mscratch",
+        0x341 => "mepc",
+        0x342 => "mcause",
+        0xf14 => "mhartid",
+        0x7c0 => "slots",
+        0x7c1 => "modes",
+        0x7c2 => "dregions",
+        0x7c3 => "iregions",
+        _ => return None,
+    })
+}
