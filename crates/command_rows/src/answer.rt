@@ -101,10 +101,10 @@ struct Ended {
     ports: String,
 }
 
-/// Runs a command beside devices of some kinds. The kinds have a space between two: `h` is a device that
-/// holds what it is fed, `wN` a square wave, `step` one that shows the cycle, `drop` one that counts its
-/// drops, `count` one whose calls are counted, `+` one that holds what it is fed and notes its calls, `+N`
-/// one that does so and can be fed N times, `-` none.
+/// Runs a command beside devices of some kinds. The kinds have a space between two: `h` is a device
+/// that holds what it is fed, `wN` a square wave, `step` one that shows the cycle, `drop` one that
+/// counts its drops, `count` one whose calls are counted, `+` one that holds what it is fed and
+/// notes its calls, `+N` one that does so and can be fed N times, `-` none.
 fn run_beside(
     alloc: Global,
     kinds: &str,
@@ -172,7 +172,8 @@ fn is_as(text: &str, wanted: &Option<String>) -> bool {
     }
 }
 
-/// Whether each put is one line, or the only one a whole image, and none comes after one that fails.
+/// Whether each put is one line, or the only one a whole image, and none comes after one that
+/// fails.
 fn are_lines(puts: &[Put], command: &Command) -> bool {
     let is_image = command.has_image() && puts.len() == 1;
     let ends = match command.fails.put {

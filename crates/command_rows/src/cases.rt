@@ -52,7 +52,8 @@ impl Fails {
 /// How the lines of a text are written in the table.
 #[derive(Clone, Copy)]
 enum Style {
-    /// As they are. No line end follows a line whose last byte is a backslash, and that isn't written.
+    /// As they are. No line end follows a line whose last byte is a backslash, and that isn't
+    /// written.
     Plain,
     /// With the abbreviations of a dump, or of a trace, as those of settings.
     Dump,
@@ -61,9 +62,9 @@ enum Style {
     Digits,
 }
 
-/// A command line, with how many of the case's files are there and which calls fail; and its answer:
-/// its status, what it writes, and where that is asked what is left at the ports, which calls it makes, and
-/// what the machine shows that a failing put has stopped.
+/// A command line, with how many of the case's files are there and which calls fail; and its
+/// answer: its status, what it writes, and where that is asked what is left at the ports, which
+/// calls it makes, and what the machine shows that a failing put has stopped.
 #[derive(Drop)]
 pub struct Command {
     pub line: String,
@@ -77,7 +78,8 @@ pub struct Command {
 }
 
 impl Command {
-    /// A command line over so many files whose answer has a status, no text as yet, and nothing else.
+    /// A command line over so many files whose answer has a status, no text as yet, and nothing
+    /// else.
     pub fn of(
         alloc: Global,
         line: &str,
@@ -293,7 +295,8 @@ fn push_call(calls: &mut Option<String>, line: &str) -> Result<(), AllocError> {
     Ok(())
 }
 
-/// Takes a line of a table, and says what the next ones belong to. Lines before the first case are left out.
+/// Takes a line of a table, and says what the next ones belong to. Lines before the first case are
+/// left out.
 fn take_line(
     alloc: Global,
     cases: &mut Vec<Case>,

@@ -1,6 +1,6 @@
-//! Compares what the program answers to command lines: its status, what it writes, what is left of the
-//! devices at the ports, and the calls that it makes. `commands.txt` says at its head how its tables are
-//! written.
+//! Compares what the program answers to command lines: its status, what it writes, what is left of
+//! the devices at the ports, and the calls that it makes. `commands.txt` says at its head how its
+//! tables are written.
 
 use crate::answer::{answer_to, is_wanted, push_answer};
 use crate::cases::{Case, Command, cases};

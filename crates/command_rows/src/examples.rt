@@ -1,5 +1,5 @@
-//! The examples of the repository: commands over their files, of which copies stand in the folder where it
-//! runs.
+//! The examples of the repository: commands over their files, of which copies stand in the folder
+//! where it runs.
 
 use crate::cases::{Case, Command, Fails, File};
 use crate::commands;

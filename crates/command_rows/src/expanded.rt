@@ -28,8 +28,8 @@ pub fn push_event(to: &mut Vec<u8>, line: &str) -> Result<(), AllocError> {
     push_expanded(to, line)
 }
 
-/// Appends the bytes of words of hexadecimal digits, two for a byte; a full stop is four bytes of 0, and `*N`
-/// behind a word says that its bytes stand there N times.
+/// Appends the bytes of words of hexadecimal digits, two for a byte; a full stop is four bytes of
+/// 0, and `*N` behind a word says that its bytes stand there N times.
 pub fn push_bytes(to: &mut Vec<u8>, alloc: Global, line: &str) -> Result<(), AllocError> {
     for word in line.split(' ') {
         let (digits, count) = word.split_once('*').unwrap_or((word, "1"));

@@ -1,5 +1,5 @@
-//! Commands of which each call of `fetch`, and each call of `put`, fails in turn: what was written before it
-//! stays, and nothing is called after it.
+//! Commands of which each call of `fetch`, and each call of `put`, fails in turn: what was written
+//! before it stays, and nothing is called after it.
 
 use crate::answer::{Answer, answer_to};
 use crate::cases::{Case, Command, Fails, cases};

@@ -1,9 +1,10 @@
-//! Compares what the program answers to command lines with tables that were worked out apart from it. It
-//! stands apart so that `flexpret_top` isn't proved a second time beside its tests.
+//! Compares what the program answers to command lines with tables that were worked out apart from
+//! it. It stands apart so that `flexpret_top` isn't proved a second time beside its tests.
 //!
-//! The tables stand in the folder where it runs, and say at their head how they are written. Beside them
-//! stand copies of the files of the repository's examples with what commands over them write. Standard output
-//! has each command at which the two differ, and for each table how many there are and how many differ.
+//! The tables stand in the folder where it runs, and say at their head how they are written. Beside
+//! them stand copies of the files of the repository's examples with what commands over them write.
+//! Standard output has each command at which the two differ, and for each table how many there are
+//! and how many differ.
 #![tactic(auto)]
 
 mod answer;

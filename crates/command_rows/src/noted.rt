@@ -166,7 +166,8 @@ impl<K: Sink + Drop> Sink for NotedSink<K> {
     }
 }
 
-/// Holds what it is fed while it has room, and then refuses to be fed. Its calls and its drop are noted.
+/// Holds what it is fed while it has room, and then refuses to be fed. Its calls and its drop are
+/// noted.
 pub struct NotedPort {
     held: HeldPort,
     thread: usize,

@@ -15,8 +15,8 @@ pub fn half_of(kind: &str) -> u64 {
     }
 }
 
-/// How many times a device can be fed that notes its calls, by its kind `+`, without an end, or `+N`; None for
-/// other kinds.
+/// How many times a device can be fed that notes its calls, by its kind `+`, without an end, or
+/// `+N`; None for other kinds.
 pub fn room_of(kind: &str) -> Option<u32> {
     match kind.strip_prefix('+') {
         Some(digits) => Some(digits.parse().unwrap_or(u32::MAX)),
@@ -37,7 +37,8 @@ fn push_port(text: &mut String, ports: &mut Ports, thread: u8) -> Result<(), All
     }
 }
 
-/// What is left at the ports, and how many devices were dropped, before the rest is dropped and then.
+/// What is left at the ports, and how many devices were dropped, before the rest is dropped and
+/// then.
 pub fn left_at(alloc: Global, mut ports: Ports, drops: &Cell<u32>) -> Result<String, AllocError> {
     let mut text = String::new(alloc);
     for thread in 0..8u8 {

@@ -1,9 +1,9 @@
-//! The bounds of sections, and the refusals of those that have none. An executable model of the rules,
-//! which was written apart from the analyser, gave the answers.
+//! The bounds of sections, and the refusals of those that have none. An executable model of the
+//! rules, which was written apart from the analyser, gave the answers.
 //!
-//! A call is the slots register, the thread, and the section's two ends; the loops, each as its head, its
-//! last word and its bound; the words of an image's file that has the section alone; with a tab between
-//! two of these. Numbers are hexadecimal, but for bounds.
+//! A call is the slots register, the thread, and the section's two ends; the loops, each as its
+//! head, its last word and its bound; the words of an image's file that has the section alone; with
+//! a tab between two of these. Numbers are hexadecimal, but for bounds.
 
 ghost use Rattle.std.specs.Prelude.{◌<◌, ◌↔◌, Contains, IsTrue};
 ghost use Rattle.fp_setup.specs.Loops.{IsLoop};

@@ -1,8 +1,8 @@
 //! The images of executables, or their faults.
 //!
-//! GNU ld 2.40 and lld 14 linked some of the files, from random sources with linker scripts and options of
-//! all kinds; the others were made of single fields. An executable model of the rules, which was written
-//! apart from the reader, gave the answers.
+//! GNU ld 2.40 and lld 14 linked some of the files, from random sources with linker scripts and
+//! options of all kinds; the others were made of single fields. An executable model of the rules,
+//! which was written apart from the reader, gave the answers.
 
 ghost use Rattle.region_guard.specs.Regions.{IsSize};
 
@@ -13,9 +13,9 @@ use fp_image::{read_image, write_image};
 use std::alloc::{AllocError, Global};
 use std::fmt::Write;
 
-/// `image` with its segments, each as its address and its words, or the fault of a file. A file is words of
-/// hexadecimal digits, two for a byte, in which a full stop is four bytes of 0; `*N` behind a word, also
-/// in an answer, says that it stands there N times.
+/// `image` with its segments, each as its address and its words, or the fault of a file. A file is
+/// words of hexadecimal digits, two for a byte, in which a full stop is four bytes of 0; `*N`
+/// behind a word, also in an answer, says that it stands there N times.
 pub fn push_answer(text: &mut String, alloc: Global, call: &str) -> Result<(), AllocError> {
     match read_elf(alloc, &file_of(alloc, call)?) {
         Ok(image) => push_written(text, alloc, &write_image(alloc, &image)?),

@@ -1,13 +1,14 @@
-//! Files and sinks: those in memory with calls that fail, real ones, and those of a runtime that is slow.
+//! Files and sinks: those in memory with calls that fail, real ones, and those of a runtime that is
+//! slow.
 
 use crate::numbers::{head, low_word, number, numbers};
-use crate::slow::Slow;
+use crate::short_io::ShortIo;
 use fp_io::{FetchFault, Files, Gathered, MemFiles, MemSink, OutSink, RealFiles, Sink};
 use std::alloc::{AllocError, Global};
 use std::fmt::Write;
 
-/// `real NAME MOST`, `slow FAILING MOST`, `out FAILING TEXT`, and `files STEPS` and `sink STEPS`, with `;`
-/// between two steps.
+/// `real NAME MOST`, `slow FAILING MOST`, `out FAILING TEXT`, and `files STEPS` and `sink STEPS`,
+/// with `;` between two steps.
 pub fn push_answer(text: &mut String, rt: HostRuntime, call: &str) -> Result<(), AllocError> {
     let (name, with) = head(call);
     match name {
@@ -36,7 +37,7 @@ fn zeros(bytes: &[u8]) -> usize {
 
 /// What the slow runtime's files give.
 fn push_slow(text: &mut String, alloc: Global, n: &[u64; 8]) -> Result<(), AllocError> {
-    let mut files = RealFiles::new(Slow::new(low_word(n[0])));
+    let mut files = RealFiles::new(ShortIo::new(low_word(n[0])));
     push_fetched(text, files.fetch(alloc, "a", low_word(n[1]) as usize))
 }
 
@@ -51,7 +52,7 @@ fn push_fetched(text: &mut String, fetched: Result<Vec<u8>, FetchFault>) -> Resu
 /// Puts a text to the slow runtime's output and flushes it, and tells what it takes.
 fn push_out(text: &mut String, with: &str) -> Result<(), AllocError> {
     let (failing, bytes) = head(with);
-    let slow = Slow::new(low_word(number(failing)));
+    let slow = ShortIo::new(low_word(number(failing)));
     let mut out = Gathered::new(OutSink::new(&slow));
     let put = name_of(out.put(bytes.as_bytes()).is_ok());
     let before = slow.taken.get();
@@ -72,8 +73,8 @@ fn push_files(text: &mut String, alloc: Global, steps: &str) -> Result<(), Alloc
     Ok(())
 }
 
-/// `add NAME TEXT` gives a file, `fail CALL` lists a call as one that fails, `fetch NAME MOST` tells what is
-/// fetched.
+/// `add NAME TEXT` gives a file, `fail CALL` lists a call as one that fails, `fetch NAME MOST`
+/// tells what is fetched.
 fn push_files_step(
     text: &mut String,
     alloc: Global,

@@ -8,8 +8,8 @@ use fp_image::{Bytes, Image, ImageRefused, read_image, write_image};
 use std::alloc::{AllocError, Global};
 use std::fmt::Write;
 
-/// `small BYTES` or `large BYTES`, with escapes, for the two sizes of scratchpads; `zeros small COUNT`;
-/// `word ADDRESS BYTES`; `made`.
+/// `small BYTES` or `large BYTES`, with escapes, for the two sizes of scratchpads; `zeros small
+/// COUNT`; `word ADDRESS BYTES`; `made`.
 pub fn push_answer(text: &mut String, alloc: Global, call: &str) -> Result<(), AllocError> {
     let (name, with) = head(call);
     match name {

@@ -1,11 +1,12 @@
 //! Words, lags, outcomes, loads and stores at each place, and runs.
 //!
-//! GNU as 2.40 made the words of `decode.txt` from text, which gave the answers, for the architecture
-//! `rv32im_zicsr_zifencei`; those that are illegal are words of other extensions, which were made for
-//! `rv64imafdh_zicsr_zifencei_zba_zbb_zbc_zbs_zicbom_zicboz`. It also made the words of `results.txt`, for
-//! the architecture `rv32im`, and qemu-riscv32 7.2 ran them in a static program: each stands at a place of
-//! its own, in a field of jumps that keep where they stand. Operands are the edges of ranges in about half
-//! of the rows, and random in the others. Numbers that a kind of instruction doesn't use are 0.
+//! GNU as 2.40 made the words of `decode.txt` from text, which gave the answers, for the
+//! architecture `rv32im_zicsr_zifencei`; those that are illegal are words of other extensions,
+//! which were made for `rv64imafdh_zicsr_zifencei_zba_zbb_zbc_zbs_zicbom_zicboz`. It also made the
+//! words of `results.txt`, for the architecture `rv32im`, and qemu-riscv32 7.2 ran them in a static
+//! program: each stands at a place of its own, in a field of jumps that keep where they stand.
+//! Operands are the edges of ranges in about half of the rows, and random in the others. Numbers
+//! that a kind of instruction doesn't use are 0.
 
 use crate::numbers::{head, low_word, numbers};
 use crate::runs::push_run;

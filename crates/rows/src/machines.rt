@@ -1,7 +1,7 @@
 //! That the machine's whole state stands in its fields.
 
 ghost use Rattle.std.specs.Prelude.{◌≡◌, All, length};
-ghost use Rattle.pipeline_core.specs.Fits.{IsPc};
+ghost use Rattle.pipeline_core.specs.LatchFacts.{IsPc};
 
 use crate::pipelines::{guard, sched};
 use fp_io::MemSink;
@@ -58,8 +58,8 @@ fn units(sched: Sched, guard: Guard, imem: Spm, dmem: Spm) -> Units
     }
 }
 
-/// Appends the trace of thread 0 in eleven cycles, with a semicolon at the end of each line, and the cycle
-/// then.
+/// Appends the trace of thread 0 in eleven cycles, with a semicolon at the end of each line, and
+/// the cycle then.
 fn push_run(alloc: Global, text: &mut String, machine: &mut Machine) -> Result<(), AllocError>
     requires { machine.old.at ≡ 0 }
 {

@@ -1,11 +1,11 @@
-//! Compares what the crates below the top call answer to calls, by what these offer to all, with tables that
-//! were worked out apart from them. It stands apart so that none of those crates is proved a second time
-//! beside its tests.
+//! Compares what the crates below the top call answer to calls, by what these offer to all, with
+//! tables that were worked out apart from them. It stands apart so that none of those crates is
+//! proved a second time beside its tests.
 //!
-//! The tables stand in the folder where it runs. A line of a table is an answer, a tab, and the call
-//! with what it is called with; in `setups.txt` a call is several lines after `=== `, and each line of its
-//! answer begins with `--- `. Standard output has each call at which the two differ, and for each table how
-//! many there are and how many differ.
+//! The tables stand in the folder where it runs. A line of a table is an answer, a tab, and the
+//! call with what it is called with; in `setups.txt` a call is several lines after `=== `, and each
+//! line of its answer begins with `--- `. Standard output has each call at which the two differ,
+//! and for each table how many there are and how many differ.
 #![tactic(auto)]
 
 mod bounds;
@@ -24,13 +24,13 @@ mod routines;
 mod runs;
 mod sections;
 mod setups;
-mod slow;
+mod short_io;
 mod solo;
 mod sources;
 mod steps;
 mod tokens;
-mod told;
 mod units;
+mod values;
 mod words;
 
 use std::alloc::AllocError;

@@ -2,7 +2,7 @@
 
 ghost use Rattle.std.specs.Prelude.{◌≡◌, ◌≤◌, All, IfOk, IfSome, length, vec_len};
 ghost use Rattle.rv_exec.specs.Line.{IsPrintable};
-ghost use Rattle.pipeline_core.specs.Fits.{IsPc};
+ghost use Rattle.pipeline_core.specs.LatchFacts.{IsPc};
 
 use crate::numbers::{low_word, numbers};
 use fp_ports::{HeldPort, Ports, feed_port, latch_of};
@@ -122,8 +122,8 @@ fn push_events(
     Ok(())
 }
 
-/// Appends the events of some cycles, and the latch of thread 0's device then. That is the one device
-/// that there is; it is fed before the first cycle.
+/// Appends the events of some cycles, and the latch of thread 0's device then. That is the one
+/// device that there is; it is fed before the first cycle.
 fn push_shown(
     alloc: Global,
     text: &mut String,
@@ -146,8 +146,8 @@ fn push_shown(
     }
 }
 
-/// Appends the events of a program: the registers of slots and modes, the entry of thread 1 and how many cycles;
-/// the words of its code after their places; and what thread 0's port is fed.
+/// Appends the events of a program: the registers of slots and modes, the entry of thread 1 and how
+/// many cycles; the words of its code after their places; and what thread 0's port is fed.
 pub fn push_program(alloc: Global, text: &mut String, program: &str) -> Result<(), AllocError> {
     let mut parts = program.split(", ");
     let n = numbers(parts.next().unwrap_or(""));

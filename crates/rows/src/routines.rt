@@ -15,8 +15,8 @@ fn size_of(name: &str) -> u32
     if name == "small" { 16_384 } else { 65_536 }
 }
 
-/// `small BYTES` or `large BYTES`, with escapes, for the two sizes of scratchpads: the routines, or the
-/// first fault with its line.
+/// `small BYTES` or `large BYTES`, with escapes, for the two sizes of scratchpads: the routines, or
+/// the first fault with its line.
 pub fn push_answer(text: &mut String, alloc: Global, call: &str) -> Result<(), AllocError> {
     let (size, bytes) = head(call);
     let bytes = unescaped(alloc, bytes)?;

@@ -6,10 +6,10 @@ use rv_exec::{Lanes, execute, load_value, store_lanes};
 use std::alloc::AllocError;
 use std::fmt::Write;
 
-/// What an instruction leaves, by its pc, the values of its source registers, and what the aligned word
-/// holds that it loads from or stores to; these are the numbers of its call after its word. It is told as
-/// the value that its destination register gets, the next pc, and the address of that word with what the
-/// word holds then.
+/// What an instruction leaves, by its pc, the values of its source registers, and what the aligned
+/// word holds that it loads from or stores to; these are the numbers of its call after its word. It
+/// is told as the value that its destination register gets, the next pc, and the address of that
+/// word with what the word holds then.
 pub fn push_run(text: &mut String, ins: &Ins, n: &[u64; 8]) -> Result<(), AllocError> {
     let (pc, a, b, content) = (
         low_word(n[1]),

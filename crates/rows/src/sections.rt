@@ -24,8 +24,8 @@ const OUTSIDE: LoopSetup = LoopSetup {
     limit: 1,
 };
 
-/// What the tree of the whole file holds: its ends, how many loops, the word at 8, and whether 12 and 16 are
-/// reachable.
+/// What the tree of the whole file holds: its ends, how many loops, the word at 8, and whether 12
+/// and 16 are reachable.
 pub fn push_answer(text: &mut String, alloc: Global) -> Result<(), AllocError> {
     let loops = Loops::from_vec(vec![in alloc; OUTSIDE, ROUND]?);
     let Ok(image) = read_image(alloc, FILE, 16_384) else {

@@ -1,19 +1,19 @@
-//! What is read out of a setup, as text. An executable model of the format, which was written apart from
-//! the reader, gave the answers to the setups of the table.
+//! What is read out of a setup, as text. An executable model of the format, which was written apart
+//! from the reader, gave the answers to the setups of the table.
 
 use crate::escapes::unescaped;
 use crate::numbers::{low_word, number};
-use file_name::Name;
 use fp_io::{Files, RealFiles};
 use fp_setup::{
-    Input, Inputs, LoopSetup, Loops, Place, Setup, SetupNo, SetupRefused, ThreadSetup, read_setup,
+    Input, Inputs, LoopSetup, Loops, Name, Place, Setup, SetupNo, SetupRefused, ThreadSetup,
+    read_setup,
 };
 use std::alloc::{AllocError, Global};
 use std::fmt::Write;
 
-/// A name, and the lines of a setup; or `bytes: BYTES`, with escapes, `signs: COUNT` for so many bytes
-/// `#`, `file: NAME`, `words: given` for a setup of its registers' words, and `parts: given` for what the
-/// parts of a setup give back.
+/// A name, and the lines of a setup; or `bytes: BYTES`, with escapes, `signs: COUNT` for so many
+/// bytes `#`, `file: NAME`, `words: given` for a setup of its registers' words, and `parts: given`
+/// for what the parts of a setup give back.
 pub fn push_answer(text: &mut String, rt: HostRuntime, call: &str) -> Result<(), AllocError> {
     let (name, setup) = call.split_once('\n').unwrap_or((call, ""));
     match name.split_once(": ") {

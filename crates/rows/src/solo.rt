@@ -1,6 +1,7 @@
-//! The engine of one thread, from the thread's view alone and beside a port that isn't there. A call is a
-//! setup, an image, a thread and a number of cycles, as `plain.toml plain.fpx 0 1000`; its answer is how many
-//! bytes the thread's trace has. The trace itself goes nowhere, so that what takes time is the engine.
+//! The engine of one thread, from the thread's view alone and beside a port that isn't there. A
+//! call is a setup, an image, a thread and a number of cycles, as `plain.toml plain.fpx 0 1000`;
+//! its answer is how many bytes the thread's trace has. The trace itself goes nowhere, so that what
+//! takes time is the engine.
 
 ghost use Rattle.std.specs.Prelude.{◌≤◌};
 ghost use Rattle.solo_run.specs.View.{IsView};
@@ -47,8 +48,8 @@ fn bytes_of(view: SoloView, cycles: u64) -> Option<u64>
     }
 }
 
-/// How many bytes a thread's trace has; None where setup or image is refused, or there is no such thread
-/// or so many cycles.
+/// How many bytes a thread's trace has; None where setup or image is refused, or there is no such
+/// thread or so many cycles.
 fn trace_length(
     alloc: Global,
     setup: &[u8],

@@ -3,8 +3,8 @@
 //! The answers of `sources.txt` were worked out from the rules of the language by hand and by a
 //! model in another language. GNU as 2.40 with GNU ld made the words of `gnu.txt`, for the
 //! architecture `rv32im_zicsr_zifencei` without relaxation: every mnemonic that both assemblers
-//! know, each at a place that `.org` gives. The rows of `longest.txt` are sources of the most bytes,
-//! and of one byte more.
+//! know, each at a place that `.org` gives. The rows of `longest.txt` are sources of the most
+//! bytes, and of one byte more.
 
 use crate::escapes::unescaped;
 use crate::images::push_segments;
@@ -12,7 +12,8 @@ use fp_asm::{AsmRefused, assemble};
 use std::alloc::{AllocError, Global};
 use std::fmt::Write;
 
-/// `SOURCE`, or `COUNT` and a tab before it where its first byte stands so many times; with escapes.
+/// `SOURCE`, or `COUNT` and a tab before it where its first byte stands so many times; with
+/// escapes.
 pub fn push_answer(text: &mut String, alloc: Global, call: &str) -> Result<(), AllocError> {
     let (count, source) = call.split_once('\t').unwrap_or(("1", call));
     let source = unescaped(alloc, source)?;

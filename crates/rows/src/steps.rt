@@ -3,7 +3,7 @@
 ghost use Rattle.std.specs.Prelude.{◌<◌};
 
 use crate::numbers::{head, low_byte, low_word, numbers, thread_of};
-use crate::told::{push_hexadecimal, push_value};
+use crate::values::{push_hexadecimal, push_value};
 use core_model::CsrOp;
 use regfile_bank::Bank;
 use region_guard::{Guard, Regions};
@@ -72,8 +72,8 @@ fn push_step(
     }
 }
 
-/// `arm THREAD MOMENT`, `disarm THREAD`, and what `low THREAD NOW`, `high THREAD`, `due THREAD NOW` and
-/// `armed THREAD` tell.
+/// `arm THREAD MOMENT`, `disarm THREAD`, and what `low THREAD NOW`, `high THREAD`, `due THREAD NOW`
+/// and `armed THREAD` tell.
 fn push_timers(
     text: &mut String,
     timers: &mut Timers,
@@ -107,8 +107,8 @@ fn push_bank(
     push_hexadecimal(text, u64::from(bank.read(thread, x)))
 }
 
-/// What `access PERMIT OPERATION CSR OPERAND WRITES` of thread 3, `value THREAD CSR`, `enter THREAD CAUSE
-/// PC`, `leave THREAD` and `words` tell.
+/// What `access PERMIT OPERATION CSR OPERAND WRITES` of thread 3, `value THREAD CSR`, `enter THREAD
+/// CAUSE PC`, `leave THREAD` and `words` tell.
 fn push_traps(
     text: &mut String,
     units: &mut Units,

@@ -11,8 +11,9 @@ use std::alloc::{AllocError, Global};
 use std::fmt::Write;
 use timer_unit::{Clock, moment};
 
-/// `turn SLOTS CYCLE`, `mode MODES THREAD`, `picks SLOTS MODES SLEEP`, `regions REGIONS`, `access SIZE
-/// THREAD CONFINED ADDRESS BYTES`, `time PERIOD CYCLE`, `moment HIGH LOW`, and the calls of `steps`.
+/// `turn SLOTS CYCLE`, `mode MODES THREAD`, `picks SLOTS MODES SLEEP`, `regions REGIONS`, `access
+/// SIZE THREAD CONFINED ADDRESS BYTES`, `time PERIOD CYCLE`, `moment HIGH LOW`, and the calls of
+/// `steps`.
 pub fn push_answer(text: &mut String, alloc: Global, call: &str) -> Result<(), AllocError> {
     let (name, with) = head(call);
     let n = numbers(with);
@@ -51,8 +52,8 @@ fn push_mode(text: &mut String, word: u32, thread: u8) -> Result<(), AllocError>
     }
 }
 
-/// The picks of eight cycles of 10 nanoseconds, from the first one on, where thread 0 sleeps until a
-/// moment. `b` is a bubble.
+/// The picks of eight cycles of 10 nanoseconds, from the first one on, where thread 0 sleeps until
+/// a moment. `b` is a bubble.
 fn push_picks(text: &mut String, slots: u32, modes: u32, sleep: u64) -> Result<(), AllocError> {
     let (Ok(slots), Ok(modes)) = (SlotTable::from_word(slots), Modes::from_word(modes)) else {
         return text.push_str("no words");
@@ -80,8 +81,8 @@ fn push_regions(text: &mut String, word: u32) -> Result<(), AllocError> {
     }
 }
 
-/// Whether a thread may load, store and fetch at an address, where the data regions are thread 0's, thread
-/// 1's, a shared one, and then read only ones, as those of code.
+/// Whether a thread may load, store and fetch at an address, where the data regions are thread 0's,
+/// thread 1's, a shared one, and then read only ones, as those of code.
 fn push_access(text: &mut String, n: &[u64; 8]) -> Result<(), AllocError> {
     let code = Regions::from_word(0xcccc_cccc);
     let (Ok(i), Ok(d)) = (code, Regions::from_word(0xcccc_c810)) else {

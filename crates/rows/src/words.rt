@@ -1,6 +1,7 @@
 //! What words ask.
 
 use ask_words::{Ask, WordsNo, read_words};
+use region_tree::Section;
 use std::alloc::{AllocError, Global};
 use std::fmt::Write;
 
@@ -19,78 +20,89 @@ pub fn push_answer(text: &mut String, alloc: Global, call: &str) -> Result<(), A
     }
 }
 
+/// A command as it is asked: its name, its file, its numbers, and the other file that it reads.
 fn push_ask(text: &mut String, ask: &Ask) -> Result<(), AllocError> {
+    text.push_str(name_of(ask))?;
     match ask {
         Ask::Run {
             setup,
             thread,
             cycles,
-        } => push_asked(text, "run ", setup.as_str(), &[u64::from(*thread), *cycles]),
-        Ask::Dump { setup, cycles } => push_asked(text, "dump ", setup.as_str(), &[*cycles]),
-        Ask::Asm { source } => push_asked(text, "asm ", source.as_str(), &[]),
+        }
+        | Ask::Solo {
+            setup,
+            thread,
+            cycles,
+        }
+        | Ask::Check {
+            setup,
+            thread,
+            cycles,
+            ..
+        } => push_asked(text, setup.as_str(), &[u64::from(*thread), *cycles])?,
+        Ask::Dump { setup, cycles } | Ask::Phases { setup, cycles } => {
+            push_asked(text, setup.as_str(), &[*cycles])?
+        }
         Ask::Bound {
             setup,
             thread,
             section,
-        } => {
-            let (from, to) = (u64::from(section.from), u64::from(section.to));
-            push_asked(
-                text,
-                "bound ",
-                setup.as_str(),
-                &[u64::from(*thread), from, to],
-            )
         }
-        Ask::Selfrun { number } => push_asked(text, "selfrun", "", &[u64::from(*number)]),
-        Ask::Phases { setup, cycles } => push_asked(text, "phases ", setup.as_str(), &[*cycles]),
-        Ask::Solo {
-            setup,
-            thread,
-            cycles,
-        } => push_asked(
-            text,
-            "solo ",
-            setup.as_str(),
-            &[u64::from(*thread), *cycles],
-        ),
-        Ask::Check {
-            setup,
-            thread,
-            cycles,
-            trace,
-        } => {
-            let numbers = [u64::from(*thread), *cycles];
-            push_asked(text, "check ", setup.as_str(), &numbers)?;
-            write!(text, " {}", trace.as_str())
-        }
-        Ask::Elf { file } => push_asked(text, "elf ", file.as_str(), &[]),
-        Ask::Calls {
+        | Ask::Calls {
             setup,
             thread,
             section,
-            routines,
-        } => {
-            let (from, to) = (u64::from(section.from), u64::from(section.to));
-            push_asked(
-                text,
-                "calls ",
-                setup.as_str(),
-                &[u64::from(*thread), from, to],
-            )?;
-            write!(text, " {}", routines.as_str())
-        }
+            ..
+        } => push_section(text, setup.as_str(), *thread, section)?,
+        Ask::Asm { source: file } | Ask::Elf { file } => push_asked(text, file.as_str(), &[])?,
+        Ask::Selfrun { number } => write!(text, " {number}")?,
+    }
+    push_other_file(text, ask)
+}
+
+fn name_of(ask: &Ask) -> &'static str {
+    match ask {
+        Ask::Run { .. } => "run",
+        Ask::Dump { .. } => "dump",
+        Ask::Asm { .. } => "asm",
+        Ask::Bound { .. } => "bound",
+        Ask::Selfrun { .. } => "selfrun",
+        Ask::Phases { .. } => "phases",
+        Ask::Solo { .. } => "solo",
+        Ask::Check { .. } => "check",
+        Ask::Elf { .. } => "elf",
+        Ask::Calls { .. } => "calls",
     }
 }
 
-/// A command with its file and its numbers.
-fn push_asked(
+/// The file that a command reads beside its first.
+fn push_other_file(text: &mut String, ask: &Ask) -> Result<(), AllocError> {
+    match ask {
+        Ask::Check { trace: file, .. } | Ask::Calls { routines: file, .. } => {
+            write!(text, " {}", file.as_str())
+        }
+        _ => Ok(()),
+    }
+}
+
+/// A file, a thread and the addresses of a section.
+fn push_section(
     text: &mut String,
-    command: &str,
     file: &str,
-    numbers: &[u64],
+    thread: u8,
+    section: &Section,
 ) -> Result<(), AllocError> {
-    text.push_str(command)?;
-    text.push_str(file)?;
+    let Section { from, to } = *section;
+    push_asked(
+        text,
+        file,
+        &[u64::from(thread), u64::from(from), u64::from(to)],
+    )
+}
+
+/// A file and numbers.
+fn push_asked(text: &mut String, file: &str, numbers: &[u64]) -> Result<(), AllocError> {
+    write!(text, " {file}")?;
     for number in numbers {
         write!(text, " {number}")?;
     }

@@ -17,16 +17,16 @@ fn refused() -> io::Error {
 
 /// A runtime whose files and output fail at the call of this number.
 #[derive(Drop)]
-pub struct Slow {
+pub struct ShortIo {
     pub failing: u32,
     pub calls: Cell<u32>,
     /// The bytes that were taken, as the digits of a number.
     pub taken: Cell<u64>,
 }
 
-impl Slow {
-    pub fn new(failing: u32) -> Slow {
-        Slow {
+impl ShortIo {
+    pub fn new(failing: u32) -> ShortIo {
+        ShortIo {
             failing,
             calls: Cell::new(0),
             taken: Cell::new(0),
@@ -91,7 +91,7 @@ impl OpenFile for SlowFile {
     }
 }
 
-impl Files for Slow {
+impl Files for ShortIo {
     type File = SlowFile;
 
     type Dir = SlowFile;
@@ -141,7 +141,7 @@ impl Files for Slow {
     }
 }
 
-impl Print for &Slow {
+impl Print for &ShortIo {
     fn print<D: Display + Drop>(&self, _value: D) -> io::Result<()> {
         Err(refused())
     }
