@@ -45,6 +45,7 @@ pub record IsTableTo (l : Listing) (c : ℕ) (table : List Bool) : Type 0 where
       (slice_index_or table (j * part_count l + k) false ≡ true) ↔
       DoesCall (calls l) (part_at l j) (part_at l k)
 
+-- who calls whom, of all parts
 abbrev pub IsTable : Listing → List Bool → Type 0
 IsTable l table = IsTableTo l (part_count l) table
 
@@ -66,6 +67,7 @@ pub record AreCauses (D : (Graph → ℕ → Type 0) → ℕ → Type 0) (f : Ca
   pub unbounded : f.nesting ≡ None → f.indirect ≡ None → f.timed ≡ None →
       LowestOf (D UnboundedAt) f.unbounded
 
+-- nothing refuses
 abbrev pub no_causes : Causes
 no_causes = record { nesting = None; indirect = None; timed = None; unbounded = None }
 
@@ -77,6 +79,7 @@ IsCauseOf (TreeNo.TimedWait a) f = f ≡ record no_causes { timed = Some a }
 IsCauseOf (TreeNo.UnboundedBackEdge a) f = f ≡ record no_causes { unbounded = Some a }
 IsCauseOf TreeNo.NoMemory f = ⊥
 
+-- the causes of two sets of parts: the lower address of each kind
 abbrev pub joined : Causes → Causes → Causes
 joined f g = record {
   nesting = lower_of f.nesting g.nesting;

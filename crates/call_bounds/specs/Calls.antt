@@ -38,6 +38,7 @@ unfoldable pub linked : ℕ → Ins → Option ℕ
 linked address (Jal rd off) = if rd == 1 then aligned (offset address off) else None
 linked address i = None
 
+-- the routine to whose head a jump leads, if there is one
 abbrev pub routine_to : List Routine → Option ℕ → Option Routine
 routine_to routines None = None
 routine_to routines (Some a) = routine_at routines a
@@ -60,6 +61,7 @@ abbrev pub plain_unless : Option Routine → List Edge → List Edge
 plain_unless None edges = edges
 plain_unless (Some r) edges = []
 
+-- the edges of the word at an address that are no calls
 abbrev pub plain : Calls → ℕ → List Edge
 plain x u = plain_unless (callee x u) (edge_list (edges_of (x.word u) u))
 
@@ -69,6 +71,7 @@ abbrev pub onward : Option Routine → ℕ → List Edge → List Edge
 onward None u edges = edges
 onward (Some r) u edges = record { to = u + 4; lag = 3 } ∷ []
 
+-- a return stops nothing
 abbrev pub stop_unless : Bool → Stop → Stop
 stop_unless true s = No
 stop_unless false s = s

@@ -25,6 +25,7 @@ abbrev pub listing_of : (ℕ → ℕ) → Section → List Routine → List Loop
 listing_of memory s routines loops =
     record { section = s; routines = routines; words = words_of memory scratchpad; loops = loops }
 
+-- the same as a section with routines, whose memory is told by its words
 abbrev pub calls : Listing → Calls
 calls l = record {
   section = l.section;
@@ -37,6 +38,7 @@ calls l = record {
 abbrev pub part_count : Listing → ℕ
 part_count l = length l.routines + 1
 
+-- the part with a number: 0 is the section, and the routines follow in their order
 abbrev pub part_at : Listing → ℕ → Part
 part_at l k = slice_index_or (None ∷ map Some l.routines) k None
 
@@ -48,6 +50,7 @@ pub record DoesCall (x : Calls) (p q : Part) : Type 0 where
   pub call : callee x word ≡ Some routine
   pub to : q ≡ Some routine
 
+-- the rank of the part with a number
 abbrev pub rank_at : List ℕ → ℕ → ℕ
 rank_at ranks k = slice_index ranks k
 
@@ -59,6 +62,7 @@ pub record AreRanks (l : Listing) (ranks : List ℕ) : Type 0 where
       DoesCall (calls l) (part_at l j) (part_at l k) →
       rank_at ranks k < rank_at ranks j
 
+-- the tree of the part with a number, if it has one
 abbrev pub tree_at : List (Option Tree) → ℕ → Option Tree
 tree_at trees k = slice_index_or trees k None
 

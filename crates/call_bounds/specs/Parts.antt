@@ -13,12 +13,15 @@ use Rattle.call_bounds.specs.Patched.{part_tree, patched}
 abbrev pub IsPartReached : Listing → ℕ → Type 0
 IsPartReached l k = IsReached (calls l) (part_at l k)
 
+-- a part's addresses
 abbrev pub range_of_part : Listing → ℕ → Section
 range_of_part l k = range (calls l) (part_at l k)
 
+-- a part's words, with its calls and returns replaced
 abbrev pub words_of_part : Listing → ℕ → List ℕ
 words_of_part l k = words_of (patched (calls l) (part_at l k)) (range_of_part l k)
 
+-- a part's tree
 abbrev pub tree_of_part : Listing → ℕ → Tree
 tree_of_part l k = part_tree (calls l) (part_at l k)
 

@@ -24,6 +24,7 @@ lines_of (byte ∷ bytes) =
 abbrev pub is_digit : ℕ → Bool
 is_digit byte = (nat_le 48 byte && nat_le byte 57) || (nat_le 97 byte && nat_le byte 102)
 
+-- the value of a hexadecimal digit
 abbrev pub digit : ℕ → ℕ
 digit byte = if nat_le byte 57 then byte - 48 else byte - 87
 
@@ -36,6 +37,7 @@ number_from n (byte ∷ bytes) = number_from (n * 16 + digit byte) bytes
 abbrev pub head_digits : List ℕ → List ℕ
 head_digits line = take 8 line
 
+-- the eight digits after the separator
 abbrev pub last_digits : List ℕ → List ℕ
 last_digits line = take 8 (drop 9 line)
 
@@ -45,6 +47,7 @@ has_form line = length line == 18
     && list_all is_digit (head_digits line) && slice_index_or line 8 0 == 32
     && list_all is_digit (last_digits line) && slice_index_or line 17 0 == 10
 
+-- the routine of a line
 abbrev pub routine_in : List ℕ → Routine
 routine_in line =
     record { head = number_from 0 (head_digits line); last = number_from 0 (last_digits line) }
@@ -64,6 +67,7 @@ pub record Check : Type 0 where
   pub fails : Bool
   pub code : RoutinesNo
 
+-- a check by whether it fails and its fault
 abbrev pub check : Bool → RoutinesNo → Check
 check fails code = record { fails = fails; code = code }
 

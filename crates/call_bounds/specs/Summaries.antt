@@ -68,6 +68,7 @@ abbrev pub IsSummaryOf : Listing → Positions → ℕ → Matrix → Matrix →
 IsSummaryOf l s k through deep = (t : Routine) → part_at l k ≡ Some t →
     IsSummary (route l s) t through deep
 
+-- the matrices at the number of a part are its summary
 abbrev pub IsSummaryAt : Listing → Positions → ℕ → List Matrix → List Matrix → Type 0
 IsSummaryAt l s k through deep =
     IsSummaryOf l s k (slice_index_or through k no_matrix) (slice_index_or deep k no_matrix)

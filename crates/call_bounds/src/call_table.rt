@@ -69,6 +69,10 @@ fn callees(alloc: Global, code: &Code, part: usize) -> Result<Vec<bool>, AllocEr
 }
 
 /// Which parts call which: a row for each part, with a mark for each part that it calls.
+///
+/// # Errors
+///
+/// Memory was refused.
 pub fn call_table(alloc: Global, code: &Code) -> Result<Vec<bool>, AllocError>
     ensures { IfOk result (λ table. IsTable code.now table.items) }
 {

@@ -149,6 +149,11 @@ fn refuse(causes: Causes) -> Result<(), CallNo>
 }
 
 /// The trees of the reached parts, or why one of them is refused.
+///
+/// # Errors
+///
+/// The first of the four kinds that a reached part has, with the lowest address at which one has
+/// it; or memory was refused.
 pub fn part_trees(
     alloc: Global,
     code: &Code,

@@ -90,6 +90,10 @@ impl Code {
     ghost use Rattle.call_bounds.specs.Patched.{patched};
 
     /// A section of an image with its routines and loops.
+    ///
+    /// # Errors
+    ///
+    /// Memory was refused.
     pub fn new(
         alloc: Global,
         image: &Image,
@@ -162,7 +166,7 @@ impl Code {
         }
     }
 
-    /// The word at an address.
+    /// The word at an address, a multiple of four below 65,536.
     pub fn word(&self, address: u32) -> u32
         requires { address < 65536 }
         ensures { result ≡ (calls self.now).word address }
@@ -220,6 +224,10 @@ impl Code {
     }
 
     /// A part as a section of its own.
+    ///
+    /// # Errors
+    ///
+    /// Memory was refused.
     pub fn draft(&self, alloc: Global, part: usize) -> Result<Draft, AllocError>
         requires { part < part_count self.now }
         ensures { IfOk result (λ draft. draft ≡ tree_of_part self.now part) }
@@ -230,6 +238,10 @@ impl Code {
     }
 
     /// The tree of a part.
+    ///
+    /// # Errors
+    ///
+    /// The part's first refusal as a section of its own, with its address; or memory was refused.
     pub fn tree(&self, alloc: Global, part: usize) -> Result<LoopTree, TreeNo>
         requires { part < part_count self.now }
         ensures tree { IfOk result (λ tree. tree ≡ tree_of_part self.now part) }

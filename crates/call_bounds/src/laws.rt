@@ -1,6 +1,6 @@
 //! Laws of call walks. The contract of each call is a law; the call does nothing.
 
-ghost use Rattle.call_bounds.specs.Laws.{CallWalksCostAsParts, PartsHaveTheBound};
+ghost use Rattle.call_bounds.specs.CallWalkLaws.{CallWalksCostAsParts, PartsHaveTheBound};
 
 /// The walks through a section and its routines, with their open calls and counters, cost what
 /// walks of single parts cost that are put one within the other: each with counters of its own,

@@ -13,6 +13,10 @@ use led_parts::led_to;
 use std::alloc::{AllocError, Global};
 
 /// Which parts are reached.
+///
+/// # Errors
+///
+/// Memory was refused.
 pub fn reached_parts(alloc: Global, code: &Code, table: &[bool]) -> Result<Vec<bool>, AllocError>
     requires { IsTable code.now table.now }
     ensures { IfOk result (λ reached. AreReached code.now reached.items) }
@@ -55,6 +59,10 @@ fn recurs(
 }
 
 /// The lowest head of a reached routine from which calls lead back to it.
+///
+/// # Errors
+///
+/// Memory was refused.
 pub fn recursion(
     alloc: Global,
     code: &Code,
@@ -87,6 +95,10 @@ fn rank_of(alloc: Global, table: &[bool], count: usize, part: usize) -> Result<u
 }
 
 /// For each part how many parts calls lead to from it.
+///
+/// # Errors
+///
+/// Memory was refused.
 pub fn part_ranks(alloc: Global, code: &Code, table: &[bool]) -> Result<Vec<usize>, AllocError>
     requires table { IsTable code.now table.now }
     requires recursion { Nowhere (RecursionAt (calls code.now)) }

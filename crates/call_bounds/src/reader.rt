@@ -22,7 +22,7 @@ fn is_digit(byte: u8) -> bool
     matches!(byte, b'0'..=b'9' | b'a'..=b'f')
 }
 
-/// The value of a digit.
+/// The value of a hexadecimal digit of lower case.
 fn digit(byte: u8) -> u32
     requires { is_digit byte ≡ true }
     ensures value { result ≡ digit byte }
@@ -35,14 +35,14 @@ fn digit(byte: u8) -> u32
     }
 }
 
-/// Whether all bytes are digits.
+/// Whether all bytes are hexadecimal digits of lower case.
 fn are_digits(bytes: &[u8]) -> bool
     ensures { result ≡ list_all is_digit bytes.now }
 {
     bytes.iter().all(|byte| is_digit(*byte))
 }
 
-/// The number of eight digits.
+/// The number of eight hexadecimal digits, the highest first.
 fn number_of(digits: &[u8]) -> u32
     requires len { length digits.now ≡ 8 }
     requires digits { list_all is_digit digits.now ≡ true }

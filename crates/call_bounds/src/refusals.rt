@@ -33,6 +33,7 @@ pub enum RoutinesRefused {
     NoMemory,
 }
 
+/// A refusal with the line that tells it.
 pub(crate) fn fault(line: u32, code: RoutinesNo) -> RoutinesRefused
     ensures { result ≡ RoutinesRefused.Fault line code }
 {

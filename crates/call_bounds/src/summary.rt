@@ -30,11 +30,17 @@ pub struct Summary {
 /// What calls cost, by the number of the part that they call, as far as it was worked out.
 #[derive(Drop)]
 pub struct Summaries {
+    /// From a call to the word after it, by the part's number.
     pub through: Vec<Matrix>,
+    /// From a call to where a walk may end, by the part's number.
     pub deep: Vec<Matrix>,
 }
 
 /// For each word of a section the number of the part that it calls, if it is a call.
+///
+/// # Errors
+///
+/// Memory was refused.
 pub fn callees(
     alloc: Global,
     tree: &CallTree,
@@ -176,6 +182,10 @@ fn summarise_rank(
 }
 
 /// What calls of the reached routines cost: those first that call no other.
+///
+/// # Errors
+///
+/// Memory was refused.
 pub fn summaries_of(alloc: Global, tree: &CallTree, steps: &Steps) -> Result<Summaries, AllocError>
     ensures done { IfOk result
         (λ done. AreSummaries tree.now steps.now done.through.items done.deep.items) }

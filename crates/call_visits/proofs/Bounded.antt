@@ -15,7 +15,7 @@ use Rattle.world_model.specs.World.{Start, contents, issue_of, recent, surroundi
 use Rattle.visit_bound.proofs.Instructions.{Gone, issue-fetches, issue-goes}
 use Rattle.visit_bound.proofs.Linking.{Went, linked-after, linked-own, linked_all}
 use Rattle.visit_bound.proofs.Links.{fetch-inside, stop-no}
-use Rattle.visit_bound.specs.Laws.{Along, AreLinked}
+use Rattle.visit_bound.specs.VisitBound.{Along, AreLinked}
 use Rattle.visit_bound.specs.Visits.{Issued, first_of, issues_of}
 use Rattle.call_bounds.specs.Calls.{Calls, IsReached, Part, callee, is_back, onward, part, returns, stop_unless}
 use Rattle.call_bounds.specs.declared.routines.Routine.{Routine}
@@ -25,7 +25,7 @@ use Rattle.call_bounds.proofs.Facts.{parts, reached-listed}
 use Rattle.call_bounds.proofs.Nested.{Top, opened, top}
 use Rattle.call_bounds.proofs.Parts.{AreParts}
 use Rattle.call_visits.specs.CallVisits.{ComesBack, GoOn, KeepsBounds, KeepsReturns, counted_after, counter_at, open_at}
-use Rattle.call_visits.specs.Laws.{CallVisitsAreBounded, IsHost, IsMet, route}
+use Rattle.call_visits.specs.CallVisitBound.{CallVisitsAreBounded, IsHost, IsMet, route}
 use Rattle.call_visits.proofs.Returns.{issue-returns}
 use Rattle.call_visits.proofs.Visited.{Way, ends, goes}
 

@@ -8,11 +8,13 @@ use Rattle.call_bounds.specs.Calls.{Calls, Counts, callee, is_back, part}
 use Rattle.call_bounds.specs.declared.routines.Routine.{Routine}
 use Rattle.call_bounds.specs.CallWalk.{called, part_in}
 
--- the open calls after a word, the newest first, from those before it: a call is added, and a return takes one away
+-- the open calls after a word, the newest first, from those before it: a call is added, and a
+-- return takes one away
 abbrev pub without : List ℕ → List ℕ
 without [] = []
 without (w ∷ s) = s
 
+-- the open calls after one word: of a call, of a return, or of another
 abbrev pub open_after : Option Routine → Bool → ℕ → List ℕ → List ℕ
 open_after (Some t) back u s = u ∷ s
 open_after None back u s = cond back (without s) s
@@ -27,8 +29,9 @@ abbrev pub GoOn : Calls → List Issued → Type 0
 GoOn x [] = Unit {0}
 GoOn x (i ∷ before) = GoOn x before × Lies (part x (part_in x (open_at x before))) i.pc × (i.traps ≡ false)
 
--- A call visit: issues in order, the newest first, among all those of the thread. The first is at the section's first word.
--- The last is the first of them that is outside its part or traps; where there is none, it is the thread's last one.
+-- A call visit: issues in order, the newest first, among all those of the thread. The first is at
+-- the section's first word. The last is the first of them that is outside its part or traps; where
+-- there is none, it is the thread's last one.
 pub record IsCallVisit (x : Calls) (issues : List Issued) (last : Issued) (before : List Issued) : Type 0 where
   pub earlier : List Issued
   pub later : List Issued
@@ -43,6 +46,7 @@ ComesBack [] back v = Unit {0}
 ComesBack (w ∷ s) true v = v ≡ w + 4
 ComesBack (w ∷ s) false v = Unit {0}
 
+-- each return leads to the word after the newest open call, where one is open
 abbrev pub KeepsReturns : Calls → Issued → List Issued → Type 0
 KeepsReturns x last [] = Unit {0}
 KeepsReturns x last (i ∷ before) = KeepsReturns x i before × ComesBack (open_at x before) (is_back (x.word i.pc)) last.pc

@@ -47,6 +47,7 @@ may_hold csr value =
 abbrev pub kept : ℕ → ℕ → ℕ
 kept csr value = if csr == 0x305 || csr == 0x341 then value / 4 * 4 else value
 
+-- a hart with another value in one of its own registers
 abbrev pub with_csr : Own → ℕ → ℕ → Own
 with_csr t csr value =
     if csr == 0x305 then record t { trap = record t.trap { mtvec = value } }
@@ -55,12 +56,15 @@ with_csr t csr value =
     else if csr == 0x342 then record t { trap = record t.trap { mcause = value } }
     else t
 
+-- a write that is done: the old value goes to `rd`
 abbrev pub csr_written : ℕ → Own → ℕ → ℕ → ℕ → ℕ → ℕ → Did
 csr_written pc t word rd csr value old = plain pc (with_csr t csr value) word 3 (Csr csr value rd old)
 
+-- a write, refused where the register may not hold the word
 abbrev pub csr_put : ℕ → Own → ℕ → ℕ → ℕ → ℕ → ℕ → Did
 csr_put pc t word rd csr new old = if may_hold csr new then csr_written pc t word rd csr (kept csr new) old else trapped pc t word 2
 
+-- an access to a register whose value is known, refused where there is none
 abbrev pub csr_done : ℕ → Own → ℕ → ℕ → ℕ → CsrOp → ℕ → Bool → Option ℕ → Did
 csr_done pc t word rd csr op operand writes None = trapped pc t word 2
 csr_done pc t word rd csr op operand writes (Some old) =

@@ -44,6 +44,7 @@ source_1 (Wu rs1 rs2) = rs1
 source_1 (Ee rs1 rs2) = rs1
 source_1 _ = 0
 
+-- the second of them
 abbrev pub source_2 : Ins → ℕ
 source_2 (Branch op rs1 rs2 off) = rs2
 source_2 (Store op rs1 rs2 imm) = rs2
@@ -75,6 +76,7 @@ csr_op Rwi = Swap
 csr_op Rsi = Set
 csr_op Rci = Clear
 
+-- the operand: the value of the source, or the immediate
 abbrev pub csr_operand : CsrKind → ℕ → ℕ → ℕ
 csr_operand Rw src x = x
 csr_operand Rs src x = x
@@ -83,6 +85,7 @@ csr_operand Rwi src x = src
 csr_operand Rsi src x = src
 csr_operand Rci src x = src
 
+-- whether it writes: always where it swaps, else where its source field is not 0
 abbrev pub csr_writes : CsrKind → ℕ → Bool
 csr_writes Rw src = true
 csr_writes Rs src = not (src == 0)
@@ -142,6 +145,7 @@ acts_on a word t =
 abbrev pub value_in : Contents → List ℕ → Did → ℕ
 value_in m regs d = let i = ins d.word in late_value i (m.at d.address) d.address (reg_in regs (source_1 i)) (reg_in regs (source_2 i))
 
+-- the whole effect: a late value stands in its place
 unfoldable pub effect_of : Contents → List ℕ → Did → Option Effect
 effect_of m regs d = filled (late_rd (ins d.word)) (value_in m regs d) d.effect
 

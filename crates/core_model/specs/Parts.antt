@@ -46,6 +46,7 @@ store pc t word address width value allowed = if allowed then accessed pc t word
 abbrev pub went : Own → ℕ → ℕ → Effect → Did
 went t word target effect = record { pc = target; own = t; lag = 3; word = word; address = 0; effect = Some effect }
 
+-- a branch: lag 3 where it is taken, else 1
 unfoldable pub branch : ℕ → Own → ℕ → Bool → ℕ → Did
 branch pc t word taken target = if taken then went t word target Nothing else plain pc t word 1 Nothing
 
@@ -68,6 +69,7 @@ wait now pc t word until =
     if nat_le until now then plain pc t word 3 Nothing
     else plain pc (record t { sleep = or_armed until t.timer.armed }) word 3 Wait
 
+-- a hart with another armed moment, or none
 abbrev pub with_armed : Own → Option ℕ → Own
 with_armed t moment = record t { timer = record t.timer { armed = moment } }
 

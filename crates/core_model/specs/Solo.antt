@@ -29,6 +29,7 @@ pub record Past : Type 0 where
 abbrev pub contents_by : ℕ → List ℕ → List ℕ → ℕ → Contents
 contents_by size i_words d_words port = record { code = code_at size i_words; at = data_at size i_words d_words port }
 
+-- what a load and a fetch find, by the hart's own words and port
 abbrev pub contents_alone : Setting → ℕ → List ℕ → Contents
 contents_alone s port words = contents_by s.size s.i_words words port
 
@@ -38,6 +39,7 @@ own_by size d_kinds (Some (Store address width value)) words =
     if in_d size address && is_mine (kind_at size d_kinds address) then stored size words address width value else words
 own_by size d_kinds _ words = words
 
+-- its words after an effect
 abbrev pub own_after : Setting → Option Effect → List ℕ → List ℕ
 own_after s effect words = own_by s.size s.d_kinds effect words
 
@@ -50,10 +52,12 @@ own_event s c pc word (Some effect) = Some (record { cycle = c; thread = s.threa
 abbrev pub has_position : List Bool → ℕ → Bool
 has_position own c = slice_index_or own (c % length own) false
 
--- whether the hart issues in cycle c: at a position of its own, from its first ready cycle on, awake
+-- whether the hart issues in cycle c: at a position of its own, from its first ready cycle on,
+-- awake
 unfoldable pub may_go : Setting → ℕ → Thread → Bool
 may_go s c t = has_position s.own c && nat_le t.ready c && nat_le t.own.sleep (time s.period c)
 
+-- an issue: the hart after it, with its words and the event
 abbrev pub gone : Setting → ℕ → Alone → Done → Turned
 gone s c t d =
     record {
@@ -72,6 +76,7 @@ solo_turn s c port t =
 abbrev pub port_at : View → ℕ → ℕ
 port_at v c = slice_index_or v.shown c 0xFFFFFFFF
 
+-- the past with one more turn
 abbrev pub past_and : Past → Turned → Past
 past_and p d = record { alone = d.alone; events = d.event ∷ p.events }
 
@@ -80,6 +85,7 @@ unfoldable pub solo_at : View → ℕ → Past
 solo_at v zero = record { alone = record { thread = v.first; words = v.d_words }; events = [] }
 solo_at v (suc c) = let p = solo_at v c in past_and p (solo_turn v.setting c (port_at v c) p.alone)
 
+-- the events alone, the oldest first
 abbrev pub oldest_first : List (Option Event) → List Event
 oldest_first [] = []
 oldest_first (None ∷ events) = oldest_first events

@@ -41,6 +41,7 @@ pub record Done : Type 0 where
   pub word : ℕ
   pub effect : Option Effect
 
+-- nothing is armed, nothing sleeps, and every register is 0
 abbrev pub no_own : Own
 no_own =
     record {

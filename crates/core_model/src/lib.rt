@@ -1,5 +1,6 @@
 //! The definitions of the machine: what one instruction of one hart does, over what it asks of its
 //! surroundings, and what a hart does by itself. They stand in specs/, below every engine.
+
 #![tactic(auto)]
 
 mod own;

@@ -8,17 +8,24 @@ use timer_unit::Timer;
 /// `mtvec` and `mepc` are 0.
 #[derive(Clone, Copy, Debug)]
 pub struct Trapping {
+    /// The address to which a trap goes.
     pub mtvec: u32,
+    /// A word for the program's own use.
     pub mscratch: u32,
+    /// The address at which the last trap was taken, or what was written since.
     pub mepc: u32,
+    /// The cause of the last trap, or what was written since.
     pub mcause: u32,
 }
 
 /// A hart's timer, its trap registers, and the moment until which it sleeps, in nanoseconds.
 #[derive(Clone, Copy, Debug)]
 pub struct Own {
+    /// The armed expiry and the latched high word of GT.
     pub timer: Timer,
+    /// The trap registers.
     pub trap: Trapping,
+    /// The moment in nanoseconds from which the hart is awake; 0 where it never slept.
     pub sleep: u64,
 }
 
@@ -49,7 +56,10 @@ impl Own {
 /// "Zicsr"): it puts the operand in its place, or sets or clears the operand's bits in it.
 #[derive(Clone, Copy, Debug)]
 pub enum CsrOp {
+    /// CSRRW and CSRRWI: the operand.
     Swap,
+    /// CSRRS and CSRRSI: the old value with the operand's bits set.
     Set,
+    /// CSRRC and CSRRCI: the old value with the operand's bits cleared.
     Clear,
 }

@@ -19,6 +19,7 @@ held_text (Picked thread) = thread_text thread
 held_text (Flushed thread) = thread_text thread ++ codes " flushed"
 held_text (Issue thread pc word) = thread_text thread ++ (codes " " ++ (hex 8 pc ++ (codes " " ++ hex 8 word)))
 
+-- the line of a stage: its name and what it holds
 unfoldable pub stage_text : List ℕ → Held → List ℕ
 stage_text name held = name ++ (codes " " ++ (held_text held ++ codes "\n"))
 
@@ -51,6 +52,7 @@ unfoldable pub port_text : Option ℕ → List ℕ
 port_text None = codes "open"
 port_text (Some latch) = hex 8 latch
 
+-- the line of a port's latch
 unfoldable pub latch_text : ℕ → Option ℕ → List ℕ
 latch_text thread latch = thread_text thread ++ (codes " latch " ++ (port_text latch ++ codes "\n"))
 

@@ -1,4 +1,5 @@
 //! The lines of a dump, each in a buffer of fixed size: no memory is taken and nothing can fail.
+
 #![tactic(auto)]
 
 mod lines;

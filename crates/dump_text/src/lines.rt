@@ -11,10 +11,13 @@ use trace_print::{push_decimal, push_hex, push_word};
 /// What a stage holds, as a dump shows it.
 #[derive(Clone, Copy, Debug)]
 pub enum Held {
+    /// No turn.
     Nothing,
     /// The picked thread, of which it isn't shown whether its turn will be flushed.
     Picked { thread: u8 },
+    /// A turn of the thread that was flushed.
     Flushed { thread: u8 },
+    /// An issue of the thread, with its pc and its word.
     Issue { thread: u8, pc: u32, word: u32 },
 }
 
@@ -30,7 +33,7 @@ pub fn cycles_line(n: u64) -> ArrayString<96>
     text
 }
 
-/// The line of a stage: its name and what it holds.
+/// The line of a stage: its name, of at most 16 bytes, and what it holds.
 #[tactic(auto, unfolding(crate::specs::Lines::stage_text))]
 pub fn stage_line(name: &str, held: &Held) -> ArrayString<96>
     requires { length name.now ≤ 16 }
@@ -44,7 +47,7 @@ pub fn stage_line(name: &str, held: &Held) -> ArrayString<96>
     text
 }
 
-/// The line of a word: its name and eight hexadecimal digits.
+/// The line of a word: its name, of at most 16 bytes, and eight hexadecimal digits.
 #[tactic(auto, unfolding(crate::specs::Lines::word_text))]
 pub fn word_line(name: &str, word: u32) -> ArrayString<96>
     requires { length name.now ≤ 16 }
@@ -74,7 +77,8 @@ pub fn thread_words_line(thread: u8, name: &str, words: &[u32]) -> ArrayString<9
     text
 }
 
-/// The line of a thread's armed moment, its sleep moment and the latched high word.
+/// The line of a thread's armed moment and sleep moment, in nanoseconds, and of the latched high
+/// word of GT.
 #[tactic(auto, unfolding(crate::specs::Lines::timer_text))]
 pub fn timer_line(thread: u8, armed: Option<u64>, sleep: u64, high: u32) -> ArrayString<96>
     ensures { result.bytes ≡ timer_text thread armed sleep high }
@@ -129,7 +133,7 @@ pub fn memory_line(address: u32, words: &[u32]) -> ArrayString<96>
     text
 }
 
-/// Appends a thread's name.
+/// Appends `T` and the thread's number.
 #[tactic(auto, unfolding(crate::specs::Lines::thread_text))]
 fn push_thread(text: &mut ArrayString<96>, thread: u8)
     requires room { array_string_len text.old + 4 ≤ 96 }

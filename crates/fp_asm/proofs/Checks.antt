@@ -1,7 +1,7 @@
 -- What a statement that passed its checks is.
 use Rattle.std.proofs.Common.{◌≡◌, ℕ, ◌<◌, ◌≤◌, ◌+◌, ◌-◌, ◌*◌, ◌%◌, ◌^◌, ◌==◌, Bool, true, false, Result, Ok, refl, arith, pos, negsuc, ℤ, nat_abs, List, map, length}
 use Rattle.std.proofs.lemmas.List.{length-map}
-use Rattle.fp_asm.specs.Seen.{target_seen}
+use Rattle.fp_asm.specs.OperandsAsDefined.{target_seen}
 use Rattle.fp_asm.specs.declared.operands.Target.TheVariants as target
 use Rattle.std.proofs.lemmas.Bool.Decides.{nat_tests}
 use Rattle.std.proofs.lemmas.Int.{ints}

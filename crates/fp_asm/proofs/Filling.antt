@@ -5,7 +5,7 @@ use Rattle.std.proofs.Math.ListN.{drop_of_length-le}
 use Rattle.std.proofs.lemmas.List.{map-append}
 use Rattle.fp_asm.specs.Operands.{Target, Operands, all_filled, target_in, all_targets}
 use Rattle.fp_asm.specs.Views.{piece_seen, operand_seen}
-use Rattle.fp_asm.specs.Seen.{target_seen}
+use Rattle.fp_asm.specs.OperandsAsDefined.{target_seen}
 use Rattle.fp_asm.specs.declared.table.Slot.{Slot}
 use Rattle.fp_asm.specs.declared.pieces.Piece.TheVariants as piece
 use Rattle.fp_asm.specs.declared.operands.Target.TheVariants as target

@@ -5,7 +5,7 @@ use Rattle.std.proofs.Math.Seq.{drop-cons}
 use Rattle.std.proofs.Math.ListN.{drop_of_length-le}
 use Rattle.fp_asm.specs.First.{Labels}
 use Rattle.fp_asm.specs.Second.{resolved, all_resolved, fits_word}
-use Rattle.fp_asm.specs.Seen.{target_seen}
+use Rattle.fp_asm.specs.OperandsAsDefined.{target_seen}
 use Rattle.fp_asm.specs.Faults.{next}
 use Rattle.fp_asm.specs.declared.refusal.AsmNo.{AsmNo}
 use Rattle.fp_asm.specs.declared.operands.Target.TheVariants as target

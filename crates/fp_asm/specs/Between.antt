@@ -1,8 +1,8 @@
 -- What stands between separators.
 use Rattle.std.specs.Prelude.{Bool, List, [], ◌∷◌, ◌++◌, if◌then◌else◌}
 
--- What stands between the elements that pass a test, where `item` stands before the list. Each item that a separator ends is
--- given by `ended`, and the last one by `last`.
+-- What stands between the elements that pass a test, where `item` stands before the list. Each item
+-- that a separator ends is given by `ended`, and the last one by `last`.
 unfoldable pub between_from : {A B : Type 0} → (A → Bool) → (List A → B) → (List A → B) → List A → List A → List B
 between_from p ended last item [] = last item ∷ []
 between_from p ended last item (x ∷ xs) =

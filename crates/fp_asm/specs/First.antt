@@ -17,6 +17,7 @@ use Rattle.fp_asm.specs.declared.refusal.AsmRefused.{AsmRefused}
 abbrev pub Labels : Type 0
 Labels = List (Text × ℕ)
 
+-- the place of a label, if there is one
 abbrev pub place_of : Labels → Text → Option ℕ
 place_of labels x = lookup (is_at (slice_cmp nat_cmp x)) labels
 
@@ -47,6 +48,7 @@ addresses a (suc n) = a ∷ addresses ((a + 4) % 2 ^ 32) n
 abbrev pub is_taken : List ℕ → ℕ → Bool
 is_taken taken a = list_any (is_at (nat_cmp a)) taken
 
+-- with these addresses
 abbrev pub with_taken : List ℕ → List ℕ → List ℕ
 with_taken taken [] = taken
 with_taken taken (a ∷ more) = with_taken (insert_key nat_cmp taken a) more
@@ -61,6 +63,7 @@ pub record Placed : Type 0 where
   pub labels : Labels
   pub taken : List ℕ
 
+-- before the first line
 abbrev pub start : Placed
 start = record { place = 0; labels = []; taken = [] }
 
@@ -68,6 +71,7 @@ start = record { place = 0; labels = []; taken = [] }
 unfoldable pub sized : ℕ → List Piece → Result (Option (ℕ × ℕ)) AsmNo
 sized place ps = next (statement_of ps) (λ s. Ok (option_map (λ s. (size_of s, place_after place s)) s))
 
+-- with the words of a statement, if there is one
 unfoldable pub placed_by : Placed → Option (ℕ × ℕ) → Result Placed AsmNo
 placed_by p None = Ok p
 placed_by p (Some s) = next (take_places p.taken (addresses p.place s.0)) (λ taken. Ok (record { place = s.1; labels = p.labels; taken = taken }))

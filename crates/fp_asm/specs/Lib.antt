@@ -12,5 +12,5 @@ pub mod Second
 pub mod Runs
 pub mod Source
 pub mod Views
-pub mod Seen
-pub mod Passed
+pub mod OperandsAsDefined
+pub mod PassesAsDefined

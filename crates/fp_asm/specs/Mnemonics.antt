@@ -1,8 +1,9 @@
--- The mnemonics: the name of each, the form of its operands, and what it makes of them. An operand that a row does not have
--- is register 0 or the number 0, so a pseudo-instruction is one more row.
+-- The mnemonics: the name of each, the form of its operands, and what it makes of them. An operand
+-- that a row does not have is register 0 or the number 0, so a pseudo-instruction is one more row.
 --
--- Source: RISC-V unprivileged manual, "RISC-V Assembly Programmer's Handbook", for the names, forms and pseudo-instructions of
--- the instruction set; `gt`, `gth`, `du`, `wu`, `ee`, `de`, and which of the manual's there are, are this project's own.
+-- Source: RISC-V unprivileged manual, "RISC-V Assembly Programmer's Handbook", for the names, forms
+-- and pseudo-instructions of the instruction set; `gt`, `gth`, `du`, `wu`, `ee`, `de`, and which of
+-- the manual's there are, are this project's own.
 use Rattle.std.specs.Prelude.{List, [], ◌∷◌, Option, codes, find}
 use Rattle.std.specs.Str.{bytes_eq}
 use Rattle.fp_asm.specs.Pieces.{Text}
@@ -20,11 +21,13 @@ use Rattle.rv_decode.specs.declared.instruction.AluOp.TheVariants.{Add, Sub, Sll
 use Rattle.rv_decode.specs.declared.instruction.MulOp.TheVariants.{Mul, Mulh, Mulhsu, Mulhu, Div, Divu, Rem, Remu}
 use Rattle.rv_decode.specs.declared.instruction.CsrKind.TheVariants.{Rw, Rs, Rc, Rwi, Rsi, Rci}
 
+-- a mnemonic: its name, what stands between its commas, and what it makes
 pub record Mnemonic : Type 0 where
   pub name : Text
   pub form : List Slot
   pub makes : Makes
 
+-- a row of the table
 abbrev pub row : Text → List Slot → Makes → Mnemonic
 row name form makes = record { name = name; form = form; makes = makes }
 
@@ -32,30 +35,39 @@ row name form makes = record { name = name; form = form; makes = makes }
 abbrev pub rd_rs1_rs2 : List Slot
 rd_rs1_rs2 = Rd ∷ Rs1 ∷ Rs2 ∷ []
 
+-- a written register, a read register and a number
 abbrev pub rd_rs1_number : List Slot
 rd_rs1_number = Rd ∷ Rs1 ∷ Number ∷ []
 
+-- a written register, and a number with a base register
 abbrev pub rd_memory : List Slot
 rd_memory = Rd ∷ Memory ∷ []
 
+-- a stored register, and a number with a base register
 abbrev pub rs2_memory : List Slot
 rs2_memory = Rs2 ∷ Memory ∷ []
 
+-- two read registers and an address
 abbrev pub rs1_rs2_value : List Slot
 rs1_rs2_value = Rs1 ∷ Rs2 ∷ Value ∷ []
 
+-- two read registers
 abbrev pub rs1_rs2 : List Slot
 rs1_rs2 = Rs1 ∷ Rs2 ∷ []
 
+-- a written and a read register
 abbrev pub rd_rs1 : List Slot
 rd_rs1 = Rd ∷ Rs1 ∷ []
 
+-- a written register, a control and status register and a read register
 abbrev pub rd_csr_rs1 : List Slot
 rd_csr_rs1 = Rd ∷ Csr ∷ Rs1 ∷ []
 
+-- a written register, a control and status register and a number
 abbrev pub rd_csr_number : List Slot
 rd_csr_number = Rd ∷ Csr ∷ Number ∷ []
 
+-- the table
 unfoldable pub mnemonics : List Mnemonic
 mnemonics =
     row (codes "add") rd_rs1_rs2 (Plain (plain.Op Add))

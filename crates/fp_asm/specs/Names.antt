@@ -21,15 +21,18 @@ registers =
     ∷ (codes "s10", 26) ∷ (codes "s11", 27) ∷ (codes "t3", 28) ∷ (codes "t4", 29) ∷ (codes "t5", 30) ∷ (codes "t6", 31)
     ∷ []
 
+-- the number of a register by one of its names
 unfoldable pub register : Text → Option ℕ
 register text = named registers text
 
--- Source: RISC-V privileged manual, "CSR Listing", for mtvec, mscratch, mepc, mcause and mhartid; the others are this project's own.
+-- Source: RISC-V privileged manual, "CSR Listing", for mtvec, mscratch, mepc, mcause and mhartid;
+-- the others are this project's own.
 unfoldable pub csrs : List (Text × ℕ)
 csrs =
     (codes "mtvec", 0x305) ∷ (codes "mscratch", 0x340) ∷ (codes "mepc", 0x341) ∷ (codes "mcause", 0x342) ∷ (codes "mhartid", 0xf14)
     ∷ (codes "slots", 0x7c0) ∷ (codes "modes", 0x7c1) ∷ (codes "dregions", 0x7c2) ∷ (codes "iregions", 0x7c3)
     ∷ []
 
+-- the number of a control and status register by its name
 unfoldable pub csr : Text → Option ℕ
 csr text = named csrs text

@@ -19,6 +19,7 @@ pub record Operands : Type 0 where
   pub given : ℤ
   pub target : Target
 
+-- no operand: register 0 and the number 0
 abbrev pub nothing_given : Operands
 nothing_given = record { rd = 0; rs1 = 0; rs2 = 0; csr_number = 0; given = pos 0; target = plain (pos 0) }
 
@@ -26,6 +27,7 @@ nothing_given = record { rd = 0; rs1 = 0; rs2 = 0; csr_number = 0; given = pos 0
 abbrev pub HasRegisters : Operands → Type 0
 HasRegisters o = (o.rd < 32) × (o.rs1 < 32) × (o.rs2 < 32)
 
+-- an operand that is a register
 unfoldable pub register_in : List Piece → Option ℕ
 register_in (name x ∷ []) = register x
 register_in _ = None

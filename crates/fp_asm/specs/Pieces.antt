@@ -8,6 +8,7 @@ use Rattle.fp_asm.specs.Between.{between}
 use Rattle.fp_asm.specs.declared.refusal.AsmNo.{AsmNo}
 use Rattle.fp_asm.specs.declared.refusal.AsmNo.TheVariants as no
 
+-- a text by its bytes
 abbrev pub Text : Type 0
 Text = List ℕ
 
@@ -26,6 +27,7 @@ pub data Piece : Type 0 where
 abbrev pub mark : ℕ → Piece
 mark b = if b == 44 then comma else if b == 58 then colon else if b == 40 then opening else if b == 41 then closing else if b == 43 then plus else minus
 
+-- the piece of a token, by its kind, text and value
 abbrev pub piece_of : kind.the_data → Text → ℕ → Piece
 piece_of kind.Name text value = name text
 piece_of kind.Number text value = number value
@@ -35,6 +37,7 @@ piece_of kind.Mark text value = mark value
 unfoldable pub piece : Text → Token → Piece
 piece line t = piece_of t.kind (slice_range line t.start t.end) t.value
 
+-- the pieces of tokens, or the fault of a line that has none
 abbrev pub pieces_or_fault : Text → Result (List Token) LexNo → Result (List Piece) AsmNo
 pieces_or_fault line (Ok ts) = Ok (map (piece line) ts)
 pieces_or_fault line (Err fault) = Err no.Lex
@@ -43,6 +46,7 @@ pieces_or_fault line (Err fault) = Err no.Lex
 unfoldable pub pieces_of : Text → Result (List Piece) AsmNo
 pieces_of line = pieces_or_fault line (tokens_of line)
 
+-- whether the piece is a comma
 abbrev pub is_comma : Piece → Bool
 is_comma comma = true
 is_comma _ = false

@@ -13,6 +13,7 @@ unfoldable pub runs_from : ℕ → ℕ → List ℕ → List Run
 runs_from a n [] = record { first = a; count = n } ∷ []
 runs_from a n (b ∷ bs) = if b == a + 4 * n then runs_from a (n + 1) bs else record { first = a; count = n } ∷ runs_from b 1 bs
 
+-- the maximal runs of rising addresses
 unfoldable pub runs_of : List ℕ → List Run
 runs_of [] = []
 runs_of (a ∷ bs) = runs_from a 1 bs
@@ -34,7 +35,8 @@ bytes_from memory a (suc n) = word_bytes (word_at memory a) ++ bytes_from memory
 abbrev pub segment_of : Memory → Run → Segment
 segment_of memory r = record { address = r.first; bytes = bytes_from memory r.first r.count }
 
--- Addresses that may all be placed: they are in scratchpads, are multiples of four, and rise from a number on.
+-- Addresses that may all be placed: they are in scratchpads, are multiples of four, and rise from a
+-- number on.
 abbrev pub ArePlaced : ℕ → List ℕ → Type 0
 ArePlaced from [] = Unit {0}
 ArePlaced from (a ∷ more) = (from ≤ a) × IsTrue (is_inside a) × (a % 4 ≡ 0) × ArePlaced (a + 4) more

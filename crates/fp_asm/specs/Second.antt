@@ -30,6 +30,7 @@ unfoldable pub resolved : Labels → Target → Result ℕ AsmNo
 resolved labels (plain n) = Ok (low_bits 32 n)
 resolved labels (label x n) = next (present no.NoLabel (place_of labels x)) (λ a. Ok ((a + low_bits 32 n) % 2 ^ 32))
 
+-- each target as a word
 unfoldable pub all_resolved : Labels → List Target → Result (List ℕ) AsmNo
 all_resolved labels [] = Ok []
 all_resolved labels (v ∷ vs) = next (resolved labels v) (λ a. next (all_resolved labels vs) (λ places. Ok (a ∷ places)))
@@ -43,10 +44,12 @@ fits_word (label x n) = true
 abbrev pub way : ℕ → ℕ → ℤ
 way place to = sign_extended 32 ((to + (2 ^ 32 - place)) % 2 ^ 32)
 
--- the way that a branch or a jump takes, which has a range, to an address that must be a multiple of four
+-- the way that a branch or a jump takes, which has a range, to an address that must be a multiple
+-- of four
 unfoldable pub jump : ℤ → ℤ → ℕ → ℕ → Result ℤ AsmNo
 jump low high place to = holds (is_within low high (way place to)) no.OutOfRange (holds (to % 4 == 0) no.Misaligned (Ok (way place to)))
 
+-- the word of an instruction that names no address
 unfoldable pub plain_word : Plain → Operands → Result ℕ AsmNo
 plain_word p o = next (present no.OutOfRange (instruction p o)) (λ i. Ok (encoded i))
 
@@ -64,12 +67,15 @@ jal_word labels place o =
 unfoldable pub address_words : Labels → Operands → Result (List ℕ) AsmNo
 address_words labels o = next (resolved labels o.target) (λ a. holds (fits_word o.target) no.OutOfRange (Ok (map encoded (halves o.rd a))))
 
+-- the words of `.word`
 unfoldable pub value_words : Labels → List Target → Result (List ℕ) AsmNo
 value_words labels values = next (all_resolved labels values) (λ words. holds (list_all fits_word values) no.OutOfRange (Ok words))
 
+-- a word as a list
 abbrev pub one_word : Result ℕ AsmNo → Result (List ℕ) AsmNo
 one_word r = next r (λ w. Ok (w ∷ []))
 
+-- the words by what the statement makes
 abbrev pub words_as : Makes → Labels → ℕ → Statement → Result (List ℕ) AsmNo
 words_as (makes.Plain p) labels place s = one_word (plain_word p s.operands)
 words_as (makes.Branch op) labels place s = one_word (branch_word op labels place s.operands)
@@ -98,9 +104,11 @@ pub record Written : Type 0 where
   pub place : ℕ
   pub memory : Memory
 
+-- before the first line
 abbrev pub nothing_written : Written
 nothing_written = record { place = 0; memory = [] }
 
+-- with the words of a statement, if there is one
 unfoldable pub written_by : Labels → Written → Option Statement → Result Written AsmNo
 written_by labels w None = Ok w
 written_by labels w (Some s) = next (words_of labels w.place s) (λ ws. Ok (record { place = place_after w.place s; memory = with_words w.memory w.place ws }))

@@ -17,6 +17,7 @@ pub record Statement : Type 0 where
   pub operands : Operands
   pub values : List Target
 
+-- whether it is `.word`
 abbrev pub is_words : Makes → Bool
 is_words Words = true
 is_words _ = false
@@ -36,6 +37,7 @@ statement_in m operands =
 unfoldable pub aligned_to : ℕ → ℤ → Result (Unit {0}) AsmNo
 aligned_to most n = holds (is_within (pos 0) (pos most) n) no.OutOfRange (holds (nat_abs n % 4 == 0) no.Misaligned (Ok tt))
 
+-- the check by what is made: `.org`, `.space` and LI have one
 abbrev pub checked_as : Makes → ℤ → Result (Unit {0}) AsmNo
 checked_as Org n = aligned_to (2 ^ 32 - 4) n
 checked_as Space n = aligned_to 16384 n
@@ -57,6 +59,7 @@ statement_of [] = Ok None
 statement_of (name x ∷ ps) = next (statement_named x ps) (λ s. Ok (Some s))
 statement_of _ = Err no.Operands
 
+-- how many words are placed, by what is made
 abbrev pub size_as : Makes → ℤ → List Target → ℕ
 size_as Li n values = length (load_instructions 0 (low_bits 32 n))
 size_as La n values = 2
@@ -69,6 +72,7 @@ size_as _ n values = 1
 unfoldable pub size_of : Statement → ℕ
 size_of s = size_as s.makes s.operands.given s.values
 
+-- the place after a statement, by what it makes
 abbrev pub place_as : Makes → ℕ → Statement → ℕ
 place_as Org place s = nat_abs s.operands.given
 place_as _ place s = (place + 4 * size_of s) % 2 ^ 32

@@ -13,6 +13,7 @@ use Rattle.fp_asm.specs.declared.table.Plain.TheVariants as plain
 abbrev pub is_within : ℤ → ℤ → ℤ → Bool
 is_within low high n = le_z low n && le_z n high
 
+-- a value where a test holds
 abbrev pub where_true : {A : Type 0} → Bool → A → Option A
 where_true test x = if test then Some x else None
 
@@ -24,10 +25,12 @@ signed_12 n = where_true (is_within (neg_ℤ (pos 2048)) (pos 2047) n) n
 unfoldable pub up_to : ℕ → ℤ → Option ℕ
 up_to most n = where_true (is_within (pos 0) (pos most) n) (nat_abs n)
 
+-- a value made of a number, if there is one
 abbrev pub with_number : {A B : Type 0} → Option A → (A → B) → Option B
 with_number None f = None
 with_number (Some n) f = Some (f n)
 
+-- a value made of two, if there are both
 abbrev pub with_both : {A B C : Type 0} → Option A → Option B → (A → B → C) → Option C
 with_both (Some a) (Some b) f = Some (f a b)
 with_both _ _ f = None
@@ -63,6 +66,7 @@ instruction plain.Ret o = Some (Jalr 0 1 (pos 0))
 abbrev pub upper : ℕ → ℕ
 upper v = (v + 2048) / 4096 % 2 ^ 20
 
+-- its low twelve bits, read with sign
 abbrev pub rest : ℕ → ℤ
 rest v = sign_extended 12 (v % 4096)
 
@@ -70,7 +74,8 @@ rest v = sign_extended 12 (v % 4096)
 unfoldable pub halves : ℕ → ℕ → List Ins
 halves rd v = Lui rd (upper v) ∷ OpImm Addi rd rd (rest v) ∷ []
 
--- the same in as few as serve: one where the word, read with sign, has twelve bits, or where its low twelve bits are 0
+-- the same in as few as serve: one where the word, read with sign, has twelve bits, or where its
+-- low twelve bits are 0
 unfoldable pub load_instructions : ℕ → ℕ → List Ins
 load_instructions rd v =
     if is_within (neg_ℤ (pos 2048)) (pos 2047) (sign_extended 32 v) then OpImm Addi rd 0 (sign_extended 32 v) ∷ []

@@ -1,4 +1,5 @@
 //! From a source to an image.
+
 ghost use Rattle.std.specs.Prelude.{◌≡◌, ◌≤◌, ◌<◌, ◌^◌, IfOk, IfErr, Ok, map, length, All};
 ghost use Rattle.fp_asm.specs.Source.{assembled, assembled_lines, segments_at};
 ghost use Rattle.fp_asm.specs.Faults.{IsFaultOf};
@@ -25,7 +26,8 @@ fn image_at(
     taken: &BTreeSet<u32>,
 ) -> Result<Image, AsmRefused>
     requires { ArePlaced 0 taken.now.keys }
-    ensures image { IfOk result (λ image. segments_at memory.now.entries taken.now.keys ≡ Ok image) }
+    ensures image { IfOk result (λ image. segments_at memory.now.entries taken.now.keys
+        ≡ Ok image) }
     ensures refused { IfErr result (IsFaultOf (segments_at memory.now.entries taken.now.keys)) }
 {
     let addresses = rising(alloc, taken)?;

@@ -1,4 +1,5 @@
 //! The image of what was placed and written.
+
 ghost use Rattle.std.specs.Prelude.{◌≡◌, ◌<◌, ◌+◌, ◌*◌, ◌^◌, IfOk, map, length};
 ghost use Rattle.fp_image.specs.Rules.{IsImage};
 ghost use Rattle.fp_asm.specs.Runs.{word_at as word_at_of, bytes_from, segment_of};
@@ -9,6 +10,10 @@ use std::alloc::{AllocError, Global};
 use std::collections::{BTreeMap, BTreeSet};
 
 /// The addresses of a set, rising.
+///
+/// # Errors
+///
+/// Memory was refused.
 pub(crate) fn rising(alloc: Global, taken: &BTreeSet<u32>) -> Result<Vec<u32>, AllocError>
     ensures { IfOk result (λ list. list.items ≡ taken.now.keys) }
 {
@@ -25,7 +30,8 @@ fn word_at(memory: &BTreeMap<u32, u32>, a: u32) -> u32
 // The bytes of the words of a run.
 fn bytes_of(alloc: Global, memory: &BTreeMap<u32, u32>, run: &Run) -> Result<Vec<u8>, AllocError>
     requires { run.now.first + 4 * run.now.count < 2 ^ 32 }
-    ensures { IfOk result (λ bytes. bytes.items ≡ bytes_from memory.now.entries run.now.first run.now.count) }
+    ensures { IfOk result (λ bytes. bytes.items
+        ≡ bytes_from memory.now.entries run.now.first run.now.count) }
 {
     let mut list = Vec::new(alloc);
     let mut a = run.first;
@@ -39,6 +45,10 @@ fn bytes_of(alloc: Global, memory: &BTreeMap<u32, u32>, run: &Run) -> Result<Vec
 }
 
 /// The image with a segment for each run.
+///
+/// # Errors
+///
+/// Memory was refused.
 #[tactic(auto, using(crate::proofs::Segments::all_short, crate::proofs::Segments::image_more))]
 pub(crate) fn image_of(
     alloc: Global,

@@ -1,4 +1,5 @@
 //! The first pass: labels and places.
+
 ghost use Rattle.std.specs.Prelude.{◌≡◌, ◌≤◌, ◌<◌, ◌^◌, IfOk, IfErr, OnOk, Ok, option_map, map, length, All};
 ghost use Rattle.fp_asm.specs.First.{sized as sized_of, first_line, first_pass as first_pass_of};
 ghost use Rattle.fp_asm.specs.Faults.{IsStopOf, IsFaultOf};
@@ -16,8 +17,11 @@ use std::collections::{BTreeMap, BTreeSet};
 /// What the first pass knows after some lines.
 #[derive(Drop)]
 pub(crate) struct First<'a> {
+    /// The address at which the next word is placed.
     place: u32,
+    /// The address of each label.
     pub(crate) labels: Labels<'a>,
+    /// The addresses of the words that were placed.
     pub(crate) taken: BTreeSet<u32>,
 }
 
@@ -36,8 +40,9 @@ fn sized(alloc: Global, place: u32, pieces: &[Piece]) -> Result<Option<(u32, u32
 
 impl<'a> First<'a> {
     ghost use Rattle.fp_asm.specs.First.{start};
-    ghost use Rattle.fp_asm.specs.Passed.{placed_seen};
+    ghost use Rattle.fp_asm.specs.PassesAsDefined.{placed_seen};
 
+    /// Before the first line: the place is 0, and there is no label and no word.
     pub(crate) fn new(alloc: Global) -> First<'a>
         ensures { placed_seen result ≡ start }
     {
@@ -51,7 +56,8 @@ impl<'a> First<'a> {
     #[tactic(auto, unfolding(crate::specs::First::first_line, crate::specs::First::placed_by))]
     fn line(&mut self, alloc: Global, line: &'a [u8]) -> Result<(), Stop>
         requires { length line.now < 2 ^ 32 }
-        ensures ok { OnOk result (first_line (placed_seen self.old) line.now ≡ Ok (placed_seen self.new)) }
+        ensures ok { OnOk result (first_line (placed_seen self.old) line.now
+            ≡ Ok (placed_seen self.new)) }
         ensures refused { IfErr result (IsStopOf (first_line (placed_seen self.old) line.now)) }
     {
         let pieces = pieces(alloc, line)?;
@@ -64,11 +70,19 @@ impl<'a> First<'a> {
     }
 
     /// The first pass over the lines.
+    ///
+    /// # Errors
+    ///
+    /// The first fault and the number of its line: one that the line has by itself, a label that
+    /// was there before, or a word outside the scratchpads or where there is one. Or memory was
+    /// refused.
     pub(crate) fn pass(&mut self, alloc: Global, lines: &[&'a [u8]]) -> Result<(), AsmRefused>
         requires short { All (λ l. length l.now < 2 ^ 32) lines.now }
         requires few { length lines.now < 2 ^ 31 }
-        ensures ok { OnOk result (first_pass_of 1 (placed_seen self.old) (map (λ l. l.now) lines.now) ≡ Ok (placed_seen self.new)) }
-        ensures refused { IfErr result (IsFaultOf (first_pass_of 1 (placed_seen self.old) (map (λ l. l.now) lines.now))) }
+        ensures ok { OnOk result (first_pass_of 1 (placed_seen self.old)
+            (map (λ l. l.now) lines.now) ≡ Ok (placed_seen self.new)) }
+        ensures refused { IfErr result
+            (IsFaultOf (first_pass_of 1 (placed_seen self.old) (map (λ l. l.now) lines.now))) }
     {
         for (i, line) in lines.iter().enumerate() {
             match self.line(alloc, *line) {

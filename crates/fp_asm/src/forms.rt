@@ -1,8 +1,9 @@
 //! The forms of operands.
+
 ghost use Rattle.std.specs.Prelude.{◌≡◌, ◌<◌, ◌^◌, IfOk, IfSome, Some, None, option_map, map, length};
 ghost use Rattle.fp_asm.specs.Operands.{register_in as register_in_of, number_in as number_in_of, target_in as target_in_of, csr_in as csr_in_of, memory_in as memory_in_of, plain, filled, all_filled, all_targets, nothing_given as nothing_given_of, HasRegisters};
 ghost use Rattle.fp_asm.specs.Views.{piece_seen, operand_seen};
-ghost use Rattle.fp_asm.specs.Seen.{target_seen, operands_seen};
+ghost use Rattle.fp_asm.specs.OperandsAsDefined.{target_seen, operands_seen};
 
 use super::names::{csr, register};
 use super::operands::{Operands, Target};
@@ -48,7 +49,8 @@ fn number_in(pieces: &[Piece]) -> Option<i64>
 
 // A number as a target.
 fn plain_in<'a>(pieces: &[Piece<'a>]) -> Option<Target<'a>>
-    ensures { option_map target_seen result ≡ option_map plain (number_in_of (map piece_seen pieces.now)) }
+    ensures { option_map target_seen result
+        ≡ option_map plain (number_in_of (map piece_seen pieces.now)) }
 {
     match number_in(pieces) {
         Some(number) => Some(Target::Plain { number }),
@@ -121,7 +123,8 @@ fn memory_in(pieces: &[Piece]) -> Option<(i64, u8)>
 #[tactic(auto, unfolding(crate::specs::Operands::filled))]
 fn fill<'a>(slot: Slot, pieces: &[Piece<'a>], operands: &Operands<'a>) -> Option<Operands<'a>>
     requires { HasRegisters (operands_seen operands.now) }
-    ensures filled { option_map operands_seen result ≡ filled slot (map piece_seen pieces.now) (operands_seen operands.now) }
+    ensures filled { option_map operands_seen result
+        ≡ filled slot (map piece_seen pieces.now) (operands_seen operands.now) }
     ensures registers { IfSome result (λ o. HasRegisters (operands_seen o)) }
 {
     match slot {
@@ -174,7 +177,8 @@ pub(crate) fn fill_all<'a>(
     given: &Operands<'a>,
 ) -> Option<Operands<'a>>
     requires { HasRegisters (operands_seen given.now) }
-    ensures filled { option_map operands_seen result ≡ all_filled form.now (map operand_seen operands.now) (operands_seen given.now) }
+    ensures filled { option_map operands_seen result
+        ≡ all_filled form.now (map operand_seen operands.now) (operands_seen given.now) }
     ensures registers { IfSome result (λ o. HasRegisters (operands_seen o)) }
 {
     match (form, operands) {
@@ -191,11 +195,17 @@ pub(crate) fn fill_all<'a>(
 }
 
 /// Each operand as a target.
+///
+/// # Errors
+///
+/// Memory was refused.
 pub(crate) fn targets<'a>(
     alloc: Global,
     operands: &[&[Piece<'a>]],
 ) -> Result<Option<Vec<Target<'a>>>, AllocError>
-    ensures targets { IfOk result (λ found. option_map (λ v. map target_seen v.items) found ≡ all_targets (map operand_seen operands.now)) }
+    ensures targets { IfOk result
+        (λ found. option_map (λ v. map target_seen v.items) found
+        ≡ all_targets (map operand_seen operands.now)) }
     ensures few { IfOk result (λ found. IfSome found (λ v. length v.items ≡ length operands.now)) }
 {
     let mut list = Vec::with_capacity(alloc, operands.len())?;

@@ -1,10 +1,11 @@
 //! The instructions that mnemonics make.
+
 ghost use Rattle.std.specs.Prelude.{◌≡◌, ◌≤◌, ◌<◌, ◌^◌, IfOk, IfSome, map, length, pos, neg_ℤ};
 ghost use Rattle.rv_decode.specs.Encoding.{low_bits, encoded};
 ghost use Rattle.rv_decode.specs.Range.{InRange, IsSigned};
 ghost use Rattle.fp_asm.specs.Operands.{HasRegisters};
 ghost use Rattle.fp_asm.specs.Words.{signed_12 as signed_12_of, up_to as up_to_of, instruction as instruction_of, upper as upper_of, rest as rest_of, halves as halves_of, load_instructions};
-ghost use Rattle.fp_asm.specs.Seen.{operands_seen};
+ghost use Rattle.fp_asm.specs.OperandsAsDefined.{operands_seen};
 
 use super::operands::Operands;
 use super::table::Plain;
@@ -240,6 +241,10 @@ fn rest(v: u32) -> i32
 }
 
 /// The words of the two instructions that give a register the word `v`.
+///
+/// # Errors
+///
+/// Memory was refused.
 #[tactic(auto, unfolding(crate::specs::Words::halves))]
 pub(crate) fn halves(alloc: Global, rd: u8, v: u32) -> Result<Vec<u32>, AllocError>
     requires { rd < 32 }
@@ -256,6 +261,10 @@ pub(crate) fn halves(alloc: Global, rd: u8, v: u32) -> Result<Vec<u32>, AllocErr
 }
 
 /// The words of the instructions that give a register the word `v`, as few as serve.
+///
+/// # Errors
+///
+/// Memory was refused.
 #[tactic(auto, unfolding(crate::specs::Words::load_instructions))]
 pub(crate) fn load_words(alloc: Global, rd: u8, v: u32) -> Result<Vec<u32>, AllocError>
     requires { rd < 32 }

@@ -1,4 +1,5 @@
 //! Labels and their places.
+
 ghost use Rattle.std.specs.Prelude.{◌≡◌, ◌≤◌, ◌+◌, ◌∷◌, IfOk, IfErr, IfSome, IfNone, OnOk, Ok, map, length, drop, false};
 ghost use Rattle.fp_asm.specs.Pieces.{name, colon};
 ghost use Rattle.fp_asm.specs.First.{with_label, labelled, has_label};
@@ -15,7 +16,8 @@ pub(crate) type Labels<'a> = BTreeMap<&'a [u8], u32>;
 
 #[tactic(auto, using(crate::proofs::LabelByLabel::label_there, crate::proofs::LabelByLabel::label_new))]
 fn add_label<'a>(labels: &mut Labels<'a>, name: &'a [u8], place: u32) -> Result<(), Stop>
-    ensures ok { OnOk result (with_label place (labels_seen labels.old) name.now ≡ Ok (labels_seen labels.new)) }
+    ensures ok { OnOk result (with_label place (labels_seen labels.old) name.now
+        ≡ Ok (labels_seen labels.new)) }
     ensures refused { IfErr result (IsStopOf (with_label place (labels_seen labels.old) name.now)) }
 {
     if labels.contains_key(name) {
@@ -29,7 +31,8 @@ fn add_label<'a>(labels: &mut Labels<'a>, name: &'a [u8], place: u32) -> Result<
 
 #[tactic(auto, unfolding(crate::specs::First::has_label))]
 fn label_at<'a>(pieces: &[Piece<'a>]) -> Option<&'a [u8]>
-    ensures some { IfSome result (λ x. map piece_seen pieces.now ≡ name x.now ∷ (colon ∷ map piece_seen (drop 2 pieces.now))) }
+    ensures some { IfSome result (λ x. map piece_seen pieces.now ≡ name x.now
+        ∷ (colon ∷ map piece_seen (drop 2 pieces.now))) }
     ensures two { IfSome result (λ x. 2 ≤ length pieces.now) }
     ensures none { IfNone result (has_label (map piece_seen pieces.now) ≡ false) }
 {
@@ -43,7 +46,8 @@ fn label_at<'a>(pieces: &[Piece<'a>]) -> Option<&'a [u8]>
 #[tactic(auto, using(crate::proofs::LabelByLabel::rest_all, crate::proofs::LabelByLabel::two_more))]
 fn label_from<'a>(pieces: &[Piece<'a>], n: usize) -> Option<&'a [u8]>
     requires { n ≤ length pieces.now }
-    ensures some { IfSome result (λ x. map piece_seen (drop n pieces.now) ≡ name x.now ∷ (colon ∷ map piece_seen (drop (n + 2) pieces.now))) }
+    ensures some { IfSome result (λ x. map piece_seen (drop n pieces.now) ≡ name x.now
+        ∷ (colon ∷ map piece_seen (drop (n + 2) pieces.now))) }
     ensures two { IfSome result (λ x. n + 2 ≤ length pieces.now) }
     ensures none { IfNone result (has_label (map piece_seen (drop n pieces.now)) ≡ false) }
 {
@@ -51,15 +55,22 @@ fn label_from<'a>(pieces: &[Piece<'a>], n: usize) -> Option<&'a [u8]>
 }
 
 /// Adds the labels at the head of the pieces, and tells how many pieces they are.
+///
+/// # Errors
+///
+/// [`AsmNo::DoubleLabel`] where one of them was there before; or memory was refused.
 #[tactic(auto, using(crate::proofs::LabelByLabel::labelled_step, crate::proofs::LabelByLabel::stop_step, crate::proofs::LabelByLabel::labelled_none))]
 pub(crate) fn add_labels<'a>(
     labels: &mut Labels<'a>,
     place: u32,
     pieces: &[Piece<'a>],
 ) -> Result<usize, Stop>
-    ensures ok { IfOk result (λ n. labelled place (labels_seen labels.old) (map piece_seen pieces.now) ≡ Ok (labels_seen labels.new, map piece_seen (drop n pieces.now))) }
+    ensures ok { IfOk result (λ n. labelled place (labels_seen labels.old)
+        (map piece_seen pieces.now) ≡ Ok
+        (labels_seen labels.new, map piece_seen (drop n pieces.now))) }
     ensures within { IfOk result (λ n. n ≤ length pieces.now) }
-    ensures refused { IfErr result (IsStopOf (labelled place (labels_seen labels.old) (map piece_seen pieces.now))) }
+    ensures refused { IfErr result
+        (IsStopOf (labelled place (labels_seen labels.old) (map piece_seen pieces.now))) }
 {
     let mut n = 0;
     while let Some(text) = label_from(pieces, n) {
@@ -74,7 +85,8 @@ pub(crate) fn add_labels<'a>(
 /// How many pieces the labels at the head are.
 #[tactic(auto, using(crate::proofs::LabelByLabel::after_step, crate::proofs::LabelByLabel::after_none))]
 pub(crate) fn skip_labels(pieces: &[Piece]) -> usize
-    ensures rest { after_labels (map piece_seen pieces.now) ≡ map piece_seen (drop result pieces.now) }
+    ensures rest { after_labels (map piece_seen pieces.now)
+        ≡ map piece_seen (drop result pieces.now) }
     ensures within { result ≤ length pieces.now }
 {
     let mut n = 0;

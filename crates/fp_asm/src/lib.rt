@@ -3,6 +3,7 @@
 //! [`assemble`] makes two passes over the lines. The first knows the places of labels and of what
 //! each line places, and the second makes the words. The mnemonics are one table of rows, and the
 //! words are those of `rv_decode`.
+
 #![tactic(auto)]
 
 mod assembler;

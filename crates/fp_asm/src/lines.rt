@@ -1,4 +1,5 @@
 //! The lines of a source.
+
 ghost use Rattle.std.specs.Prelude.{◌≡◌, ◌≤◌, ◌+◌, IfOk, All, length, map};
 ghost use Rattle.fp_asm.specs.Lines.{without_return as without_return_of, lines_of};
 
@@ -18,9 +19,15 @@ fn without_return(line: &[u8]) -> &[u8]
 }
 
 /// The lines of a source.
+///
+/// # Errors
+///
+/// Memory was refused.
 pub(crate) fn lines<'a>(alloc: Global, source: &'a [u8]) -> Result<Vec<&'a [u8]>, AllocError>
-    ensures lines { IfOk result (λ lines. map (λ line. line.now) lines.items ≡ lines_of source.now) }
-    ensures short { IfOk result (λ lines. All (λ line. length line.now ≤ length source.now) lines.items) }
+    ensures lines { IfOk result (λ lines. map (λ line. line.now) lines.items
+        ≡ lines_of source.now) }
+    ensures short { IfOk result (λ lines. All (λ line. length line.now ≤ length source.now)
+        lines.items) }
     ensures few { IfOk result (λ lines. length lines.items ≤ length source.now + 1) }
 {
     let mut list = Vec::new(alloc);

@@ -1,4 +1,5 @@
 //! The words that were written, by address.
+
 ghost use Rattle.std.specs.Prelude.{◌≡◌, OnOk};
 ghost use Rattle.fp_asm.specs.Second.{with_words};
 
@@ -6,6 +7,10 @@ use std::alloc::AllocError;
 use std::collections::BTreeMap;
 
 /// Writes words from a place on.
+///
+/// # Errors
+///
+/// Memory was refused.
 pub(crate) fn write_words(
     memory: &mut BTreeMap<u32, u32>,
     place: u32,

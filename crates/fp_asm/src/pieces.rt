@@ -1,4 +1,5 @@
 //! The tokens of a line with their texts, and what stands between commas.
+
 ghost use Rattle.std.specs.Prelude.{◌≡◌, ◌<◌, ◌≤◌, ◌+◌, ◌^◌, IfOk, IfErr, Ok, map, length, All};
 ghost use Rattle.fp_lex.specs.Tokens.{tokens_of};
 ghost use Rattle.fp_asm.specs.Pieces.{mark as mark_of, piece as piece_of, pieces_of, pieces_or_fault, is_comma as is_comma_of, commas, operands_of};
@@ -12,13 +13,21 @@ use std::alloc::{AllocError, Global};
 /// A token, without its span.
 #[derive(Clone, Copy)]
 pub(crate) enum Piece<'a> {
+    /// A name, by its text.
     Name { text: &'a [u8] },
+    /// A number, by its value.
     Number { value: u32 },
+    /// `,`
     Comma,
+    /// `:`
     Colon,
+    /// `(`
     Opening,
+    /// `)`
     Closing,
+    /// `+`
     Plus,
+    /// `-`
     Minus,
 }
 
@@ -81,6 +90,10 @@ fn pieces_at<'a>(
 }
 
 /// The pieces of a line.
+///
+/// # Errors
+///
+/// [`AsmNo::Lex`] where the line has no tokens; or memory was refused.
 pub(crate) fn pieces<'a>(alloc: Global, line: &'a [u8]) -> Result<Vec<Piece<'a>>, Stop>
     requires { length line.now < 2 ^ 32 }
     ensures pieces { IfOk result (λ ps. pieces_of line.now ≡ Ok (map piece_seen ps.items)) }
@@ -101,7 +114,8 @@ fn between_commas<'p, 'a>(
     alloc: Global,
     pieces: &'p [Piece<'a>],
 ) -> Result<Vec<&'p [Piece<'a>]>, AllocError>
-    ensures operands { IfOk result (λ os. map operand_seen os.items ≡ commas (map piece_seen pieces.now)) }
+    ensures operands { IfOk result
+        (λ os. map operand_seen os.items ≡ commas (map piece_seen pieces.now)) }
     ensures few { IfOk result (λ os. length os.items ≤ length pieces.now + 1) }
 {
     let mut list = Vec::new(alloc);
@@ -118,12 +132,17 @@ fn between_commas<'p, 'a>(
 }
 
 /// The operands: what stands between commas, and none where there is nothing.
+///
+/// # Errors
+///
+/// Memory was refused.
 #[tactic(auto, unfolding(crate::specs::Pieces::operands_of))]
 pub(crate) fn operands<'p, 'a>(
     alloc: Global,
     pieces: &'p [Piece<'a>],
 ) -> Result<Vec<&'p [Piece<'a>]>, AllocError>
-    ensures operands { IfOk result (λ os. map operand_seen os.items ≡ operands_of (map piece_seen pieces.now)) }
+    ensures operands { IfOk result
+        (λ os. map operand_seen os.items ≡ operands_of (map piece_seen pieces.now)) }
     ensures few { IfOk result (λ os. length os.items ≤ length pieces.now + 1) }
 {
     match pieces {

@@ -1,4 +1,5 @@
 //! The addresses that are placed.
+
 ghost use Rattle.std.specs.Prelude.{◌≡◌, ◌≤◌, IfErr, OnOk, Ok, not};
 ghost use Rattle.std.specs.List.{list_all};
 ghost use Rattle.fp_asm.specs.First.{is_inside as is_inside_of, addresses, is_taken, with_taken, take_places as take_places_of};
@@ -69,9 +70,15 @@ fn take(taken: &mut BTreeSet<u32>, place: u32, n: u32) -> Result<(), AllocError>
 }
 
 /// Places n words from a place on.
+///
+/// # Errors
+///
+/// [`AsmNo::OutsideMemory`] where a word is outside the scratchpads, and then [`AsmNo::Overlap`]
+/// where there is a word at one of the places; or memory was refused.
 #[tactic(auto, unfolding(crate::specs::First::take_places))]
 pub(crate) fn take_places(taken: &mut BTreeSet<u32>, place: u32, n: u32) -> Result<(), Stop>
-    ensures ok { OnOk result (take_places_of taken.old.keys (addresses place n) ≡ Ok taken.new.keys) }
+    ensures ok { OnOk result (take_places_of taken.old.keys (addresses place n)
+        ≡ Ok taken.new.keys) }
     ensures refused { IfErr result (IsStopOf (take_places_of taken.old.keys (addresses place n))) }
 {
     if !are_inside(place, n) {

@@ -1,4 +1,5 @@
 //! Why a source was refused.
+
 ghost use Rattle.std.specs.Prelude.{◌≡◌};
 
 use std::alloc::{AllocError, AllocFailed};
@@ -56,7 +57,9 @@ pub enum AsmRefused {
 /// What stops the work on a line.
 #[derive(Clone, Copy)]
 pub(crate) enum Stop {
+    /// The line's first fault.
     Fault { code: AsmNo },
+    /// Memory was refused.
     NoMemory,
 }
 

@@ -1,4 +1,5 @@
 //! The maximal runs of placed addresses.
+
 ghost use Rattle.std.specs.Prelude.{◌≡◌, ◌<◌, ◌^◌, IfOk, length};
 ghost use Rattle.std.specs.BTreeSet.{keys};
 ghost use Rattle.fp_asm.specs.Runs.{runs_from, runs_of as runs_of_addresses};
@@ -8,7 +9,9 @@ use std::alloc::{AllocError, Global};
 /// A maximal run of placed words: the address of the first, and how many there are.
 #[derive(Clone, Copy)]
 pub(crate) struct Run {
+    /// The address of the first word.
     pub(crate) first: u32,
+    /// The number of words.
     pub(crate) count: u32,
 }
 
@@ -34,6 +37,10 @@ fn runs_after(alloc: Global, start: u32, others: &[u32]) -> Result<Vec<Run>, All
 }
 
 /// The maximal runs of rising addresses.
+///
+/// # Errors
+///
+/// Memory was refused.
 #[tactic(auto, unfolding(crate::specs::Runs::runs_of))]
 pub(crate) fn runs_of(alloc: Global, addresses: &[u32]) -> Result<Vec<Run>, AllocError>
     requires { length addresses.now < 2 ^ 30 }

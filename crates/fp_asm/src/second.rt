@@ -1,11 +1,12 @@
 //! The second pass: words.
+
 ghost use Rattle.std.specs.Prelude.{◌≡◌, ◌≤◌, ◌<◌, ◌^◌, ◌%◌, IfOk, IfErr, IfSome, OnOk, Ok, option_map, map, length, All};
 ghost use Rattle.fp_asm.specs.Second.{second_line, second_pass as second_pass_of, written_by, after_labels};
 ghost use Rattle.fp_asm.specs.Statements.{statement_of, checked};
 ghost use Rattle.fp_asm.specs.Operands.{HasRegisters};
 ghost use Rattle.fp_asm.specs.Faults.{IsStopOf, IsFaultOf};
 ghost use Rattle.fp_asm.specs.Views.{piece_seen, labels_seen};
-ghost use Rattle.fp_asm.specs.Seen.{statement_seen, operands_seen};
+ghost use Rattle.fp_asm.specs.OperandsAsDefined.{statement_seen, operands_seen};
 
 use super::labels::{Labels, skip_labels};
 use super::memory::write_words;
@@ -20,14 +21,17 @@ use std::collections::BTreeMap;
 /// What the second pass knows after some lines: the place, and the words by address.
 #[derive(Drop)]
 pub(crate) struct Second {
+    /// The address at which the next word is placed.
     place: u32,
+    /// The words that were placed, by address.
     pub(crate) memory: BTreeMap<u32, u32>,
 }
 
 impl Second {
     ghost use Rattle.fp_asm.specs.Second.{nothing_written};
-    ghost use Rattle.fp_asm.specs.Passed.{written_seen};
+    ghost use Rattle.fp_asm.specs.PassesAsDefined.{written_seen};
 
+    /// Before the first line: the place is 0, and there is no word.
     pub(crate) fn new(alloc: Global) -> Second
         ensures { written_seen result ≡ nothing_written }
     {
@@ -49,9 +53,12 @@ impl Second {
         requires checked { IfSome statement.now (λ s. checked (statement_seen s) ≡ Ok tt) }
         requires few { IfSome statement.now (λ s. length s.values.items ≤ 64) }
         requires aligned { self.old.place % 4 ≡ 0 }
-        ensures ok { OnOk result (written_by (labels_seen labels.now) (written_seen self.old) (option_map statement_seen statement.now) ≡ Ok (written_seen self.new)) }
+        ensures ok { OnOk result (written_by (labels_seen labels.now) (written_seen self.old)
+            (option_map statement_seen statement.now) ≡ Ok (written_seen self.new)) }
         ensures aligned { OnOk result (self.new.place % 4 ≡ 0) }
-        ensures refused { IfErr result (IsStopOf (written_by (labels_seen labels.now) (written_seen self.old) (option_map statement_seen statement.now))) }
+        ensures refused { IfErr result
+            (IsStopOf (written_by (labels_seen labels.now) (written_seen self.old)
+            (option_map statement_seen statement.now))) }
     {
         if let Some(statement) = statement {
             let words = words_of(alloc, labels, self.place, statement)?;
@@ -65,9 +72,11 @@ impl Second {
     fn line(&mut self, alloc: Global, labels: &Labels, line: &[u8]) -> Result<(), Stop>
         requires short { length line.now < 2 ^ 32 }
         requires aligned { self.old.place % 4 ≡ 0 }
-        ensures ok { OnOk result (second_line (labels_seen labels.now) (written_seen self.old) line.now ≡ Ok (written_seen self.new)) }
+        ensures ok { OnOk result (second_line (labels_seen labels.now) (written_seen self.old)
+            line.now ≡ Ok (written_seen self.new)) }
         ensures aligned { OnOk result (self.new.place % 4 ≡ 0) }
-        ensures refused { IfErr result (IsStopOf (second_line (labels_seen labels.now) (written_seen self.old) line.now)) }
+        ensures refused { IfErr result
+            (IsStopOf (second_line (labels_seen labels.now) (written_seen self.old) line.now)) }
     {
         let pieces = pieces(alloc, line)?;
         let n = skip_labels(&pieces);
@@ -76,6 +85,12 @@ impl Second {
     }
 
     /// The second pass over the lines.
+    ///
+    /// # Errors
+    ///
+    /// The first fault and the number of its line: one that the line has by itself, a label that is
+    /// nowhere, a jump to an address that is no multiple of four, or a number or a way outside its
+    /// range. Or memory was refused.
     pub(crate) fn pass(
         &mut self,
         alloc: Global,
@@ -85,8 +100,11 @@ impl Second {
         requires short { All (λ l. length l.now < 2 ^ 32) lines.now }
         requires few { length lines.now < 2 ^ 31 }
         requires aligned { self.old.place % 4 ≡ 0 }
-        ensures ok { OnOk result (second_pass_of 1 (labels_seen labels.now) (written_seen self.old) (map (λ l. l.now) lines.now) ≡ Ok (written_seen self.new)) }
-        ensures refused { IfErr result (IsFaultOf (second_pass_of 1 (labels_seen labels.now) (written_seen self.old) (map (λ l. l.now) lines.now))) }
+        ensures ok { OnOk result (second_pass_of 1 (labels_seen labels.now) (written_seen self.old)
+            (map (λ l. l.now) lines.now) ≡ Ok (written_seen self.new)) }
+        ensures refused { IfErr result
+            (IsFaultOf (second_pass_of 1 (labels_seen labels.now) (written_seen self.old)
+            (map (λ l. l.now) lines.now))) }
     {
         for (i, line) in lines.iter().enumerate() {
             match self.line(alloc, labels, *line) {

@@ -1,7 +1,8 @@
 //! How many words a statement places, and the place after it.
+
 ghost use Rattle.std.specs.Prelude.{◌≡◌, ◌≤◌, ◌<◌, ◌%◌, ◌^◌, Ok, length, nat_abs};
 ghost use Rattle.fp_asm.specs.Statements.{checked, size_of, place_after as place_after_of};
-ghost use Rattle.fp_asm.specs.Seen.{statement_seen};
+ghost use Rattle.fp_asm.specs.OperandsAsDefined.{statement_seen};
 
 use super::instruction::{load_size, low_word};
 use super::operands::Operands;

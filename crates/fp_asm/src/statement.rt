@@ -1,10 +1,11 @@
 //! The statement of a line.
+
 ghost use Rattle.std.specs.Prelude.{◌≡◌, ◌+◌, ◌≤◌, IfOk, IfErr, IfSome, Ok, option_map, map, length};
 ghost use Rattle.fp_asm.specs.Operands.{HasRegisters};
 ghost use Rattle.fp_asm.specs.Statements.{is_words as is_words_of, some_targets as some_targets_of, statement_in as statement_in_of, aligned_to as aligned_to_of, checked, statement_named, statement_of};
 ghost use Rattle.fp_asm.specs.Faults.{IsStopOf};
 ghost use Rattle.fp_asm.specs.Views.{piece_seen, operand_seen, mnemonic_seen};
-ghost use Rattle.fp_asm.specs.Seen.{target_seen, operands_seen, statement_seen};
+ghost use Rattle.fp_asm.specs.OperandsAsDefined.{target_seen, operands_seen, statement_seen};
 
 use super::forms::{fill_all, nothing_given, targets};
 use super::operands::{Operands, Target};
@@ -16,8 +17,11 @@ use std::alloc::{AllocError, Global};
 /// What a mnemonic makes, with its operands. The values are those of `.word`.
 #[derive(Drop)]
 pub(crate) struct Statement<'a> {
+    /// What the mnemonic makes.
     pub(crate) makes: Makes,
+    /// The operands, but for the values of `.word`.
     pub(crate) operands: Operands<'a>,
+    /// The values of `.word`; none for another mnemonic.
     pub(crate) values: Vec<Target<'a>>,
 }
 
@@ -33,7 +37,9 @@ fn some_targets<'a>(
     alloc: Global,
     operands: &[&[Piece<'a>]],
 ) -> Result<Option<Vec<Target<'a>>>, AllocError>
-    ensures targets { IfOk result (λ found. option_map (λ v. map target_seen v.items) found ≡ some_targets_of (map operand_seen operands.now)) }
+    ensures targets { IfOk result
+        (λ found. option_map (λ v. map target_seen v.items) found
+        ≡ some_targets_of (map operand_seen operands.now)) }
     ensures few { IfOk result (λ found. IfSome found (λ v. length v.items ≡ length operands.now)) }
 {
     match operands {
@@ -49,7 +55,9 @@ fn statement_in<'a>(
     row: &Row,
     operands: &[&[Piece<'a>]],
 ) -> Result<Option<Statement<'a>>, AllocError>
-    ensures statement { IfOk result (λ s. option_map statement_seen s ≡ statement_in_of (mnemonic_seen row.now) (map operand_seen operands.now)) }
+    ensures statement { IfOk result
+        (λ s. option_map statement_seen s
+        ≡ statement_in_of (mnemonic_seen row.now) (map operand_seen operands.now)) }
     ensures registers { IfOk result (λ s. IfSome s (λ s. HasRegisters (operands_seen s.operands))) }
     ensures few { IfOk result (λ s. IfSome s (λ s. length s.values.items ≤ length operands.now)) }
 {
@@ -111,11 +119,13 @@ fn check(statement: &Statement) -> Result<(), AsmNo>
 // The statement of a name and what follows it.
 #[tactic(auto, unfolding(crate::specs::Statements::statement_named))]
 fn named<'a>(alloc: Global, text: &[u8], pieces: &[Piece<'a>]) -> Result<Statement<'a>, Stop>
-    ensures statement { IfOk result (λ s. statement_named text.now (map piece_seen pieces.now) ≡ Ok (statement_seen s)) }
+    ensures statement { IfOk result
+        (λ s. statement_named text.now (map piece_seen pieces.now) ≡ Ok (statement_seen s)) }
     ensures registers { IfOk result (λ s. HasRegisters (operands_seen s.operands)) }
     ensures checked { IfOk result (λ s. checked (statement_seen s) ≡ Ok tt) }
     ensures few { IfOk result (λ s. length s.values.items ≤ length pieces.now + 1) }
-    ensures refused { IfErr result (IsStopOf (statement_named text.now (map piece_seen pieces.now))) }
+    ensures refused { IfErr result
+        (IsStopOf (statement_named text.now (map piece_seen pieces.now))) }
 {
     let Some(row) = mnemonic(text) else {
         return Err(Stop::Fault {
@@ -133,12 +143,18 @@ fn named<'a>(alloc: Global, text: &[u8], pieces: &[Piece<'a>]) -> Result<Stateme
 }
 
 /// The statement that follows the labels, where there is one.
+///
+/// # Errors
+///
+/// The fault of the name, of the operands, or of a number that a directive or LI takes; or memory
+/// was refused.
 #[tactic(auto, unfolding(crate::specs::Statements::statement_of))]
 pub(crate) fn statement_after<'a>(
     alloc: Global,
     pieces: &[Piece<'a>],
 ) -> Result<Option<Statement<'a>>, Stop>
-    ensures statement { IfOk result (λ s. statement_of (map piece_seen pieces.now) ≡ Ok (option_map statement_seen s)) }
+    ensures statement { IfOk result
+        (λ s. statement_of (map piece_seen pieces.now) ≡ Ok (option_map statement_seen s)) }
     ensures registers { IfOk result (λ s. IfSome s (λ s. HasRegisters (operands_seen s.operands))) }
     ensures checked { IfOk result (λ s. IfSome s (λ s. checked (statement_seen s) ≡ Ok tt)) }
     ensures few { IfOk result (λ s. IfSome s (λ s. length s.values.items ≤ length pieces.now)) }

@@ -1,4 +1,5 @@
 //! The mnemonics: the name of each, the form of its operands, and what it makes of them.
+
 ghost use Rattle.std.specs.Prelude.{◌≡◌, find, map, option_map, take, drop};
 ghost use Rattle.std.specs.Option.{option_copied};
 ghost use Rattle.std.specs.Str.{bytes_eq};
@@ -29,29 +30,49 @@ pub(crate) enum Slot {
 /// An instruction whose operands are registers and numbers alone.
 #[derive(Clone, Copy)]
 pub(crate) enum Plain {
+    /// An operation on two registers.
     Op(AluOp),
+    /// A multiplication or division.
     Muldiv(MulOp),
+    /// An operation on a register and an immediate.
     OpImm(ImmOp),
+    /// A shift by a constant amount.
     Shift(ShiftOp),
+    /// A load.
     Load(LoadOp),
+    /// A store.
     Store(StoreOp),
+    /// JALR.
     Jalr,
+    /// LUI.
     Lui,
+    /// AUIPC.
     Auipc,
     /// With a register.
     Csr(CsrKind),
     /// With a number, 0 to 31.
     CsrImm(CsrKind),
+    /// GT.
     Gt,
+    /// GTH.
     Gth,
+    /// DU.
     Du,
+    /// WU.
     Wu,
+    /// EE.
     Ee,
+    /// DE.
     De,
+    /// ECALL.
     Ecall,
+    /// EBREAK.
     Ebreak,
+    /// MRET.
     Mret,
+    /// FENCE.
     Fence,
+    /// FENCE.I.
     FenceI,
     /// XORI with -1.
     Not,
@@ -62,6 +83,7 @@ pub(crate) enum Plain {
 /// What a mnemonic makes of its operands.
 #[derive(Clone, Copy)]
 pub(crate) enum Makes {
+    /// An instruction whose operands are registers and numbers alone.
     Plain(Plain),
     /// A conditional branch to an address.
     Branch(BranchOp),
@@ -83,8 +105,11 @@ pub(crate) enum Makes {
 /// takes one operand or more of its form.
 #[derive(Clone, Copy)]
 pub(crate) struct Row {
+    /// The mnemonic, as a source has it.
     pub(crate) name: &'static [u8],
+    /// What stands between the commas, from left to right.
     pub(crate) form: &'static [Slot],
+    /// What it makes.
     pub(crate) makes: Makes,
 }
 

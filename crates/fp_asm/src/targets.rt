@@ -1,11 +1,12 @@
 //! Targets as words.
+
 ghost use Rattle.std.specs.Prelude.{◌≡◌, IfOk, IfErr, Ok, map, pos, neg_ℤ};
 ghost use Rattle.fp_asm.specs.First.{place_of as place_of_label};
 ghost use Rattle.fp_asm.specs.Second.{resolved, all_resolved, fits_word as fits_word_of};
 ghost use Rattle.std.specs.List.{list_all};
 ghost use Rattle.fp_asm.specs.Faults.{IsStopOf};
 ghost use Rattle.fp_asm.specs.Views.{labels_seen};
-ghost use Rattle.fp_asm.specs.Seen.{target_seen};
+ghost use Rattle.fp_asm.specs.OperandsAsDefined.{target_seen};
 
 use super::instruction::low_word;
 use super::labels::Labels;
@@ -22,6 +23,10 @@ fn place_of(labels: &Labels, name: &[u8]) -> Option<u32>
 }
 
 /// A target as a word, modulo 2^32.
+///
+/// # Errors
+///
+/// [`AsmNo::NoLabel`] where the label is nowhere.
 #[tactic(auto, unfolding(crate::specs::Second::resolved))]
 pub(crate) fn resolve(labels: &Labels, target: &Target) -> Result<u32, AsmNo>
     ensures { result ≡ resolved (labels_seen labels.now) (target_seen target.now) }
@@ -36,13 +41,19 @@ pub(crate) fn resolve(labels: &Labels, target: &Target) -> Result<u32, AsmNo>
 }
 
 /// Each target as a word.
+///
+/// # Errors
+///
+/// [`AsmNo::NoLabel`] where a label is nowhere; or memory was refused.
 pub(crate) fn resolve_all(
     alloc: Global,
     labels: &Labels,
     targets: &[Target],
 ) -> Result<Vec<u32>, Stop>
-    ensures words { IfOk result (λ words. all_resolved (labels_seen labels.now) (map target_seen targets.now) ≡ Ok words.items) }
-    ensures refused { IfErr result (IsStopOf (all_resolved (labels_seen labels.now) (map target_seen targets.now))) }
+    ensures words { IfOk result (λ words. all_resolved (labels_seen labels.now)
+        (map target_seen targets.now) ≡ Ok words.items) }
+    ensures refused { IfErr result
+        (IsStopOf (all_resolved (labels_seen labels.now) (map target_seen targets.now))) }
 {
     let mut list = Vec::with_capacity(alloc, targets.len())?;
     for target in targets {

@@ -1,4 +1,5 @@
 //! The words that a statement makes.
+
 ghost use Rattle.std.specs.Prelude.{◌≡◌, ◌≤◌, ◌<◌, ◌%◌, ◌^◌, IfOk, IfErr, Ok, Err, map, length, pos, neg_ℤ, ◌∷◌, [], replicate, ◌/◌, nat_abs, ◌≤ℤ◌};
 ghost use Rattle.rv_decode.specs.Encoding.{encoded};
 ghost use Rattle.rv_decode.specs.Range.{IsEven};
@@ -8,7 +9,7 @@ ghost use Rattle.fp_asm.specs.Statements.{checked};
 ghost use Rattle.fp_asm.specs.Second.{way as way_of, jump as jump_of, words_of as words_of_statement, one_word as one_word_of, plain_word, branch_word, jal_word, address_words, value_words};
 ghost use Rattle.fp_asm.specs.Faults.{IsStopOf};
 ghost use Rattle.fp_asm.specs.Views.{labels_seen};
-ghost use Rattle.fp_asm.specs.Seen.{target_seen, operands_seen, statement_seen};
+ghost use Rattle.fp_asm.specs.OperandsAsDefined.{target_seen, operands_seen, statement_seen};
 
 use super::instruction::{halves, instruction, load_words, low_word};
 use super::labels::Labels;
@@ -89,8 +90,10 @@ fn jal(labels: &Labels, place: u32, operands: &Operands) -> Result<u32, AsmNo>
 #[tactic(auto, unfolding(crate::specs::Second::address_words))]
 fn address(alloc: Global, labels: &Labels, operands: &Operands) -> Result<Vec<u32>, Stop>
     requires { HasRegisters (operands_seen operands.now) }
-    ensures words { IfOk result (λ words. address_words (labels_seen labels.now) (operands_seen operands.now) ≡ Ok words.items) }
-    ensures refused { IfErr result (IsStopOf (address_words (labels_seen labels.now) (operands_seen operands.now))) }
+    ensures words { IfOk result (λ words. address_words (labels_seen labels.now)
+        (operands_seen operands.now) ≡ Ok words.items) }
+    ensures refused { IfErr result
+        (IsStopOf (address_words (labels_seen labels.now) (operands_seen operands.now))) }
 {
     let v = resolve(labels, &operands.target)?;
     if !fits_word(&operands.target) {
@@ -103,8 +106,10 @@ fn address(alloc: Global, labels: &Labels, operands: &Operands) -> Result<Vec<u3
 
 #[tactic(auto, unfolding(crate::specs::Second::value_words))]
 fn values(alloc: Global, labels: &Labels, targets: &[Target]) -> Result<Vec<u32>, Stop>
-    ensures words { IfOk result (λ words. value_words (labels_seen labels.now) (map target_seen targets.now) ≡ Ok words.items) }
-    ensures refused { IfErr result (IsStopOf (value_words (labels_seen labels.now) (map target_seen targets.now))) }
+    ensures words { IfOk result (λ words. value_words (labels_seen labels.now)
+        (map target_seen targets.now) ≡ Ok words.items) }
+    ensures refused { IfErr result
+        (IsStopOf (value_words (labels_seen labels.now) (map target_seen targets.now))) }
 {
     let words = resolve_all(alloc, labels, targets)?;
     if !all_fit(targets) {
@@ -125,6 +130,11 @@ fn one_word(alloc: Global, word: Result<u32, AsmNo>) -> Result<Vec<u32>, Stop>
 }
 
 /// The words that a statement makes at a place.
+///
+/// # Errors
+///
+/// A label that is nowhere, a branch or jump to an address that is no multiple of four, or a number
+/// or a way outside its range; or memory was refused.
 #[tactic(auto, unfolding(crate::specs::Second::words_of))]
 pub(crate) fn words_of(
     alloc: Global,
@@ -136,8 +146,11 @@ pub(crate) fn words_of(
     requires checked { checked (statement_seen statement.now) ≡ Ok tt }
     requires few { length statement.now.values.items ≤ 64 }
     requires aligned { place % 4 ≡ 0 }
-    ensures words { IfOk result (λ words. words_of_statement (labels_seen labels.now) place (statement_seen statement.now) ≡ Ok words.items) }
-    ensures refused { IfErr result (IsStopOf (words_of_statement (labels_seen labels.now) place (statement_seen statement.now))) }
+    ensures words { IfOk result (λ words. words_of_statement (labels_seen labels.now) place
+        (statement_seen statement.now) ≡ Ok words.items) }
+    ensures refused { IfErr result
+        (IsStopOf (words_of_statement (labels_seen labels.now) place
+        (statement_seen statement.now))) }
 {
     let operands = &statement.operands;
     match statement.makes {

@@ -20,12 +20,14 @@ longest size = if size == 16384 then 34816 else 139264
 abbrev pub number_at : ℕ → List ℕ → ℕ
 number_at place bytes = little_number 4 (drop place bytes)
 
--- A check of the file: whether it fails, and the fault and the place in the file that it then gives.
+-- A check of the file: whether it fails, and the fault and the place in the file that it then
+-- gives.
 pub record Check : Type 0 where
   pub fails : Bool
   pub code : ImageNo
   pub offset : ℕ
 
+-- a check by whether it fails, its fault and the place that tells it
 abbrev pub check : Bool → ImageNo → ℕ → Check
 check fails code offset = record { fails = fails; code = code; offset = offset }
 
@@ -94,6 +96,7 @@ image_of size file = and_then (count_of size file) (λ count. segments_of size (
 abbrev pub segment_written : Segment → List ℕ
 segment_written s = little_bytes 4 s.address ++ (little_bytes 4 (length s.bytes) ++ s.bytes)
 
+-- the bytes of a whole file
 unfoldable pub written : List Segment → List ℕ
 written segments = codes "FPX1" ++ (little_bytes 4 (length segments) ++ flat_map segment_written segments)
 

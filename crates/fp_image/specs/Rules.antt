@@ -1,5 +1,5 @@
--- The rules that the segments of an image keep, and the words that they hold. Source: this project's
--- profile (the memory map and the image format).
+-- The rules that the segments of an image keep, and the words that they hold. Source: this
+-- project's profile (the memory map and the image format).
 use Rattle.std.specs.Prelude.{◌≤◌, ℕ, ◌+◌, ◌-◌, ◌%◌, ◌==◌, nat_lt, nat_le, Bool, ◌&&◌, ◌||◌, if◌then◌else◌, IsTrue, List, [], ◌∷◌, length, drop, Option, Some, None, unwrap_or}
 use Rattle.byteorder.specs.Endian.{little_number}
 use Rattle.fp_image.specs.declared.parts.Segment.{Segment}

@@ -44,7 +44,8 @@ impl Image {
     /// `AllocError` where memory was refused; the image is then as it was.
     pub fn add(&mut self, address: u32, bytes: Bytes) -> Result<(), AllocError>
         requires { IsImage 65536 (self.old ++ record { address = address; bytes = bytes } ∷ []) }
-        ensures { self.new ≡ (if is_ok result then self.old ++ record { address = address; bytes = bytes } ∷ [] else self.old) }
+        ensures { self.new ≡ (if is_ok result then self.old
+            ++ record { address = address; bytes = bytes } ∷ [] else self.old) }
     {
         self.segments.push(Segment { address, bytes })?;
         Ok(())

@@ -1,4 +1,5 @@
 //! The image of a program: the segments of its two scratchpads, and the file that they come in.
+
 #![tactic(auto)]
 
 mod images;

@@ -43,6 +43,8 @@ impl Bytes {
 /// Bytes and the address of the first of them.
 #[derive(Drop)]
 pub struct Segment {
+    /// The address of the first byte.
     pub address: u32,
+    /// The bytes, which follow one another.
     pub bytes: Bytes,
 }

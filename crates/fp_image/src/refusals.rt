@@ -41,6 +41,7 @@ pub enum ImageRefused {
     NoMemory,
 }
 
+/// A refusal with the offset of its place.
 pub(crate) fn fault(code: ImageNo, offset: u32) -> ImageRefused
     ensures { result ≡ ImageRefused.Fault code offset }
 {

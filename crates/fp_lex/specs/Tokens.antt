@@ -16,8 +16,8 @@ abbrev pub is_prefixed : List ℕ → Bool
 is_prefixed (a ∷ b ∷ bs) = a == 48 && b == 120
 is_prefixed _ = false
 
--- A number at column i with `count` digits after `skip` bytes. It is refused with no digit, past 32 bits, and where the
--- head of a name follows directly.
+-- A number at column i with `count` digits after `skip` bytes. It is refused with no digit, past 32
+-- bits, and where the head of a name follows directly.
 unfoldable pub digits_at : ℕ → ℕ → ℕ → ℕ → List ℕ → Result Token LexNo
 digits_at i skip base count bs =
     let value = number_of base (take count (drop skip bs)) in
@@ -28,9 +28,11 @@ digits_at i skip base count bs =
 unfoldable pub number_at : ℕ → List ℕ → Result Token LexNo
 number_at i bs = if is_prefixed bs then digits_at i 2 16 (run is_hex (drop 2 bs)) bs else digits_at i 0 10 (run is_digit bs) bs
 
+-- the name that begins at a column
 abbrev pub name_at : ℕ → List ℕ → Token
 name_at i bs = record { kind = Name; start = i; end = i + run is_rest bs; value = 0 }
 
+-- the mark at a column
 abbrev pub mark_at : ℕ → ℕ → Token
 mark_at i b = record { kind = Mark; start = i; end = i + 1; value = b }
 
@@ -50,7 +52,8 @@ counted n t = if nat_lt n 64 then Ok t else Err no.TooMany
 unfoldable pub token_in : List ℕ → ℕ → ℕ → Result Token LexNo
 token_in line i n = next (token_at i (get_or line i 0) (drop (i + 1) line)) (counted n)
 
--- The tokens from column i on, after n others. The first `passed` bytes belong to the last of those. `#` ends the line.
+-- The tokens from column i on, after n others. The first `passed` bytes belong to the last of
+-- those. `#` ends the line.
 unfoldable pub tokens_from : ℕ → ℕ → ℕ → List ℕ → Result (List Token) LexNo
 tokens_from passed i n [] = Ok []
 tokens_from (suc passed) i n (b ∷ bs) = tokens_from passed (i + 1) n bs

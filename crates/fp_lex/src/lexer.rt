@@ -1,4 +1,5 @@
 //! The tokens of a line.
+
 ghost use Rattle.std.specs.Prelude.{◌≡◌, ◌<◌, ◌≤◌, ◌^◌, IfOk, IfErr, All, length};
 ghost use Rattle.fp_lex.specs.Tokens.{tokens_of, IsFaultOf};
 ghost use Rattle.fp_lex.specs.Texts.{IsTokenOf, AreRising};

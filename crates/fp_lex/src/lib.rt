@@ -3,6 +3,7 @@
 //! A line is the bytes without its line end. Spaces and tabs separate tokens, and `#` begins a
 //! comment that goes to the end of the line and may hold any bytes. [`tokens`] gives the tokens of
 //! a line, or its leftmost fault. The rules are this project's own.
+
 #![tactic(auto)]
 
 mod bytes;

@@ -1,4 +1,5 @@
 //! Numbers of digits.
+
 ghost use Rattle.std.specs.Prelude.{◌≡◌, ◌+◌, ◌*◌, ◌<◌, ◌^◌, IfSome};
 ghost use Rattle.fp_lex.specs.Bytes.{digit as digit_of, number_of, fit};
 

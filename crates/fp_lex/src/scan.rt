@@ -1,4 +1,5 @@
 //! The token at a place of a line.
+
 ghost use Rattle.std.specs.Prelude.{◌≡◌, ◌+◌, ◌≤◌, ◌<◌, ◌^◌, IfOk, length, drop, get_or};
 ghost use Rattle.fp_lex.specs.Bytes.{is_digit as is_digit_of, is_hex as is_hex_of, is_head as is_head_of, is_rest as is_rest_of, run, starts};
 ghost use Rattle.fp_lex.specs.Tokens.{is_prefixed as is_prefixed_of, digits_at as digits_of, number_at as number_token, token_at as token_of, counted as counted_of, token_in as token_of_place};
@@ -121,6 +122,10 @@ fn counted(n: usize, token: Token) -> Result<Token, LexNo>
 }
 
 /// The token at a place of the line that is no blank and begins no comment, after n others.
+///
+/// # Errors
+///
+/// The token's own fault where it has one; else [`LexNo::TooMany`] where there are 64 others.
 #[tactic(auto, unfolding(crate::specs::Tokens::token_in))]
 pub(crate) fn token_in(line: &[u8], i: usize, n: usize) -> Result<Token, LexNo>
     requires short { length line.now < 2 ^ 32 }

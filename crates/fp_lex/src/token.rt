@@ -1,4 +1,5 @@
 //! Tokens, and why a line has none.
+
 ghost use Rattle.std.specs.Prelude.{◌≡◌};
 
 use std::alloc::AllocFailed;
@@ -19,8 +20,11 @@ pub enum Kind {
 /// A token, whose text is the slice of its line from `start` to before `end`, in bytes.
 #[derive(Clone, Copy, Debug)]
 pub struct Token {
+    /// What the token is.
     pub kind: Kind,
+    /// The index of its first byte in the line, from 0.
     pub start: u32,
+    /// The index after its last byte.
     pub end: u32,
     /// A number's value, a mark's byte, and 0 for a name.
     pub value: u32,

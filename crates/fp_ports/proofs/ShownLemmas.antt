@@ -6,7 +6,7 @@ use Rattle.std.proofs.lemmas.List.Folds.{find-append}
 use Rattle.std.specs.List.{range_with_len}
 use Rattle.std.specs.Option.{option_or}
 use Rattle.fp_ports.specs.Rows.{Row, word_seen, fed, fed_all, claimed}
-use Rattle.fp_ports.specs.Shown.{is_gone, input_at, shown_at, shown}
+use Rattle.fp_ports.specs.ShownWords.{is_gone, input_at, shown_at, shown}
 
 -- one input more at the front counts where no later one does
 input_at-cons : (input : ℕ × ℕ) (inputs : List (ℕ × ℕ)) (c d : ℕ) → unwrap_or (input_at (input ∷ inputs) c) d ≡ unwrap_or (input_at inputs c) (if nat_le input.0 c then input.1 else d)

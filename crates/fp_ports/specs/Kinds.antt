@@ -2,7 +2,8 @@
 use Rattle.std.specs.Prelude.{ℕ, ◌/◌, ◌%◌, List, [], Option, option_map, unwrap_or, find, nat_le}
 use Rattle.fp_ports.specs.declared.feeds.Feed.{Feed}
 
--- the word that was fed for a cycle, if one was. Of the feeds, the newest first, the first one at or before the cycle counts
+-- the word that was fed for a cycle, if one was. Of the feeds, the newest first, the first one at
+-- or before the cycle counts
 abbrev pub fed_word : List Feed → ℕ → Option ℕ
 fed_word feeds c = option_map (λ feed. feed.word) (find (λ feed. nat_le feed.at c) feeds)
 
@@ -25,6 +26,7 @@ pub record Wave : Type 0 where
   pub feeds : List Feed
   pub latch : ℕ
 
+-- a new wave: nothing was fed, and the latch is 0
 abbrev pub new_wave : ℕ → Wave
 new_wave half = record { half = half; feeds = []; latch = 0 }
 

@@ -1,4 +1,4 @@
-pub mod Meaning
+pub mod PortWords
 pub mod Rows
-pub mod Shown
+pub mod ShownWords
 pub mod Kinds

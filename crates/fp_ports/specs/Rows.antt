@@ -1,7 +1,8 @@
--- Eight ports, seen as eight rows: a row is none where no port is plugged in, or what the port means.
+-- Eight ports, seen as eight rows: a row is none where no port is plugged in, or what the port
+-- means.
 use Rattle.std.specs.Prelude.{ℕ, ◌^◌, List, map, Option, Some, None, option_map, fold, nat_lt, if◌then◌else◌, slice_index_or}
 use Rattle.std.specs.Option.{option_map_or}
-use Rattle.fp_ports.specs.Meaning.{fed_words}
+use Rattle.fp_ports.specs.PortWords.{fed_words}
 
 -- what a port means: its latch, and its word for each cycle
 pub record Row : Type 0 where
@@ -17,6 +18,7 @@ abbrev pub row_of : {B : Type 0} → (B → ℕ) → (B → ℕ → ℕ) → Opt
 row_of latched word_at (Some port) = Some (record { latch = latched port; words = claimed (word_at port) })
 row_of latched word_at None = None
 
+-- the rows of the devices
 abbrev pub rows_of : {B : Type 0} → (B → ℕ) → (B → ℕ → ℕ) → List (Option B) → List (Option Row)
 rows_of latched word_at ports = map (row_of latched word_at) ports
 

@@ -1,4 +1,5 @@
 //! The words that were fed to a device.
+
 ghost use Rattle.std.specs.Prelude.{◌≡◌, [], ◌∷◌, is_ok, reverse, find, nat_le, option_copied, if◌then◌else◌};
 ghost use Rattle.fp_ports.specs.Kinds.{fed_word};
 
@@ -8,7 +9,9 @@ use std::marker::Model;
 /// A word that a device shows from a cycle on.
 #[derive(Clone, Copy)]
 pub struct Feed {
+    /// The cycle from which on the word is shown.
     pub at: u64,
+    /// The word.
     pub word: u32,
 }
 
@@ -28,6 +31,7 @@ impl Model for Feeds {
 }
 
 impl Feeds {
+    /// No words.
     pub fn new(alloc: Global) -> Feeds
         ensures { result ≡ [] }
     {
@@ -36,8 +40,14 @@ impl Feeds {
         }
     }
 
+    /// Takes a word to be shown from the cycle `at` on.
+    ///
+    /// # Errors
+    ///
+    /// Memory was refused; nothing was taken.
     pub fn push(&mut self, at: u64, word: u32) -> Result<(), AllocError>
-        ensures { self.new ≡ (if is_ok result then record { at = at; word = word } ∷ self.old else self.old) }
+        ensures { self.new ≡ (if is_ok result then record { at = at; word = word } ∷ self.old
+            else self.old) }
     {
         self.fed.push(Feed { at, word })?;
         Ok(())

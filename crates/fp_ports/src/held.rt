@@ -1,4 +1,5 @@
 //! A device that shows what it was fed.
+
 ghost use Rattle.std.specs.Prelude.{◌≡◌, ℕ};
 ghost use Rattle.fp_ports.specs.Kinds.{new_held, held_word};
 

@@ -1,4 +1,5 @@
 //! The ports of the eight hardware threads: boxed devices of any kind, known by what they mean.
+
 #![tactic(auto)]
 
 mod feeds;

@@ -1,6 +1,7 @@
 //! What a device at a port is.
+
 ghost use Rattle.std.specs.Prelude.{◌≡◌, ℕ, OnOk, OnErr};
-ghost use Rattle.fp_ports.specs.Meaning.{SameWords, fed_words};
+ghost use Rattle.fp_ports.specs.PortWords.{SameWords, fed_words};
 
 use std::alloc::AllocError;
 
@@ -21,7 +22,8 @@ pub trait Port: Drop {
     ///
     /// Where memory was refused; nothing changes then.
     fn feed(&mut self, at: u64, word: u32) -> Result<(), AllocError>
-        ensures ok { OnOk result (SameWords (fed_words (word_at self.old) at word) (word_at self.new)) }
+        ensures ok { OnOk result (SameWords (fed_words (word_at self.old) at word)
+            (word_at self.new)) }
         ensures err { OnErr result (SameWords (word_at self.old) (word_at self.new)) }
         ensures latch { latched self.new ≡ latched self.old };
 

@@ -2,9 +2,10 @@
 //!
 //! A contract sees them as eight rows, one for each thread. Each call states the new row of its
 //! thread, and keeps the other seven.
+
 ghost use Rattle.std.specs.Prelude.{◌≡◌, ◌<◌, None, is_ok, if◌then◌else◌, slice_set, vec_len, OnOk, OnErr};
 ghost use Rattle.fp_ports.specs.Rows.{row_of, rows_of, row_at, word_seen, latch_seen, written, fed};
-ghost use Rattle.fp_ports.specs.Meaning.{SameWords, fed_words};
+ghost use Rattle.fp_ports.specs.PortWords.{SameWords, fed_words};
 
 use crate::port::Port;
 use std::alloc::AllocError;
@@ -16,8 +17,10 @@ pub type Ports = Vec<Option<Box<dyn Port>>>;
 pub fn read_port(ports: &mut Ports, thread: u8, at: u64) -> u32
     requires eight { vec_len ports.old ≡ 8 }
     requires thread { thread < 8 }
-    ensures value { result ≡ word_seen (row_at (rows_of latched word_at ports.old.items) thread) at }
-    ensures rows { rows_of latched word_at ports.new.items ≡ rows_of latched word_at ports.old.items }
+    ensures value { result ≡ word_seen (row_at (rows_of latched word_at ports.old.items) thread)
+        at }
+    ensures rows { rows_of latched word_at ports.new.items
+        ≡ rows_of latched word_at ports.old.items }
     ensures eight { vec_len ports.new ≡ 8 }
 {
     read_entry(&mut ports[thread as usize], at)

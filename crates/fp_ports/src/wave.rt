@@ -1,4 +1,5 @@
 //! A device that shows a square wave.
+
 ghost use Rattle.std.specs.Prelude.{◌≡◌, ℕ, ◌<◌, ◌/◌, ◌%◌};
 ghost use Rattle.fp_ports.specs.Kinds.{new_wave, wave_word};
 
@@ -27,8 +28,8 @@ impl Model for WavePort {
 }
 
 impl WavePort {
-    /// A device that shows 0 for `half` cycles, then 1 for `half` cycles, and so on, with 0 in its
-    /// latch.
+    /// A device that shows 0 for `half` cycles from cycle 0 on, then 1 for `half` cycles, and so
+    /// on, with 0 in its latch. `half` is at least 1.
     pub fn new(alloc: Global, half: u64) -> WavePort
         requires { 0 < half }
         ensures new { result ≡ new_wave half }

@@ -8,6 +8,7 @@ use Rattle.rv_exec.specs.Result.{result_of}
 use Rattle.core_model.specs.Thread.{Around, Contents, Thread, Done, reg_in}
 use Rattle.core_model.specs.Issue.{source_1, source_2, issue}
 
+-- whether the effect is a trap
 abbrev pub is_trap : Option Effect → Bool
 is_trap (Some (Trap cause target)) = true
 is_trap _ = false
@@ -18,8 +19,8 @@ is_taken_at m t =
     let i = ins (m.code t.pc) in
     (result_of i t.pc (reg_in t.regs (source_1 i)) (reg_in t.regs (source_2 i))).taken
 
--- the lag of the instruction at the hart's pc, by whether it took a branch, and whether what was left is a trap: one of the
--- instruction's own, or an expiry or a refused fetch in its place
+-- the lag of the instruction at the hart's pc, by whether it took a branch, and whether what was
+-- left is a trap: one of the instruction's own, or an expiry or a refused fetch in its place
 abbrev pub lag_at : Contents → Thread → Done → ℕ
 lag_at m t d = lag (ins (m.code t.pc)) (is_taken_at m t) (is_trap d.effect)
 

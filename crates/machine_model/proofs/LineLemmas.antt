@@ -26,10 +26,10 @@ use Rattle.pipe_model.specs.declared.latches.Fetched.{Fetched}
 use Rattle.pipe_model.specs.Stages.{Latches, State}
 use Rattle.pipe_model.specs.Relation.{Begins, pick_in, in_fetch, in_decode, in_execute, in_memory, in_write, did_in, units_of, latches_of, turn_at}
 use Rattle.std.proofs.Math.ListN.{length-set}
-use Rattle.machine_model.specs.Seen.{picked_in, held_in, stages_seen, shared_seen, registers_seen, traps_seen, timer_seen, thread_seen, words_seen, seen}
+use Rattle.machine_model.specs.DumpedState.{picked_in, held_in, stages_seen, shared_seen, registers_seen, traps_seen, timer_seen, thread_seen, words_seen, seen}
 use Rattle.machine_model.specs.Fields.{fetched_held, decoded_held, executed_held, stored_held, written_held, head_line, thread_line, dump_line, dumped}
 use Rattle.machine_model.specs.Relation.{Standing}
-use Rattle.machine_model.specs.Laws.{Dumps}
+use Rattle.machine_model.specs.MachineLaws.{Dumps}
 
 -- eight threads
 eight_after : (s : Start) (n : ℕ) (w after : World) (took : Took) → Turned s n w took after → length after.threads ≡ length w.threads

@@ -7,13 +7,13 @@ use Rattle.std.proofs.lemmas.List.{get_or-set_same, get_or-set_other}
 use Rattle.std.proofs.Math.ListN.{length-set}
 use Rattle.std.proofs.lemmas.Bool.{cases_lt}
 use Rattle.fp_ports.specs.Rows.{Row, row_at, word_seen}
-use Rattle.fp_ports.specs.Shown.{is_gone}
+use Rattle.fp_ports.specs.ShownWords.{is_gone}
 use Rattle.world_model.specs.World.{world}
 use Rattle.pipe_model.specs.Stages.{State}
 use Rattle.pipe_model.specs.Relation.{stays_in, words_of}
-use Rattle.machine_model.specs.Seen.{is_kept}
+use Rattle.machine_model.specs.DumpedState.{is_kept}
 use Rattle.machine_model.specs.Relation.{found, kept_in}
-use Rattle.machine_model.specs.Laws.{Unplugs, GoesOn}
+use Rattle.machine_model.specs.MachineLaws.{Unplugs, GoesOn}
 
 -- what is left of a row
 abbrev pub left_of : List (Option ℕ) → ℕ → List (Option Row) → ℕ → Option Row

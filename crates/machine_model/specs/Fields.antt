@@ -16,7 +16,7 @@ use Rattle.pipe_model.specs.declared.latches.Stored.{Stored}
 use Rattle.pipe_model.specs.declared.latches.Written.{Written}
 use Rattle.world_model.specs.World.{Registers}
 use Rattle.pipe_model.specs.Stages.{Latches, State}
-use Rattle.machine_model.specs.Seen.{eight_from, traps_seen, timer_seen, words_seen}
+use Rattle.machine_model.specs.DumpedState.{eight_from, traps_seen, timer_seen, words_seen}
 use Rattle.core_model.specs.Thread.{reg_in}
 
 -- what a latch shows
@@ -30,21 +30,25 @@ abbrev pub shown_word : ℕ → List Bool → ℕ → ℕ → Decoded → ℕ
 shown_word size confined iregions k x =
     if x.expired || not (may_fetch k size (slice_index_or confined k true) iregions x.pc) then 0 else x.word
 
+-- what the second stage shows
 abbrev pub decoded_held : ℕ → List Bool → ℕ → Latch Decoded → Held
 decoded_held size confined iregions latch.Bubble = Nothing
 decoded_held size confined iregions (latch.Flushed k) = Flushed k
 decoded_held size confined iregions (latch.Issue k x) = Issue k x.pc (shown_word size confined iregions k x)
 
+-- what the third stage shows
 abbrev pub executed_held : Latch Executed → Held
 executed_held latch.Bubble = Nothing
 executed_held (latch.Flushed k) = Flushed k
 executed_held (latch.Issue k x) = Issue k x.pc x.word
 
+-- what the fourth stage shows
 abbrev pub stored_held : Latch Stored → Held
 stored_held latch.Bubble = Nothing
 stored_held (latch.Flushed k) = Flushed k
 stored_held (latch.Issue k x) = Issue k x.pc x.word
 
+-- what the fifth stage shows
 abbrev pub written_held : Latch Written → Held
 written_held latch.Bubble = Nothing
 written_held (latch.Flushed k) = Flushed k
@@ -86,5 +90,6 @@ dump_line p u at k =
 abbrev pub lines_before : Latches → State → ℕ → ℕ → List ℕ
 lines_before p u at k = flat_map (dump_line p u at) (range_with_len 0 k)
 
+-- the whole dump, by the fields of a machine
 abbrev pub dumped : Latches → State → ℕ → List ℕ
 dumped p u at = lines_before p u at (66 + u.size / 32)

@@ -1,4 +1,4 @@
-pub mod Seen
+pub mod DumpedState
 pub mod Fields
 pub mod Relation
-pub mod Laws
+pub mod MachineLaws

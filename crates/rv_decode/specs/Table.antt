@@ -37,9 +37,11 @@ pub record Row : Type 0 where
   pub parts : List Part
   pub reads : ℕ → Ins
 
+-- a field by its lowest bit, its width and its value
 abbrev pub part : ℕ → ℕ → ℕ → Part
 part low count is = record { low = low; count = count; is = is }
 
+-- a row by its opcode, its other fixed fields, and what its words are read as
 abbrev pub row : ℕ → List Part → (ℕ → Ins) → Row
 row code parts reads = record { code = code; parts = parts; reads = reads }
 
@@ -47,15 +49,19 @@ row code parts reads = record { code = code; parts = parts; reads = reads }
 abbrev pub funct3 : ℕ → Part
 funct3 is = part 12 3 is
 
+-- the upper seven bits are fixed
 abbrev pub funct7 : ℕ → Part
 funct7 is = part 25 7 is
 
+-- the field of the written register is fixed
 abbrev pub rd_is : ℕ → Part
 rd_is is = part 7 5 is
 
+-- the field of the first register is fixed
 abbrev pub rs1_is : ℕ → Part
 rs1_is is = part 15 5 is
 
+-- the field of the second register is fixed
 abbrev pub rs2_is : ℕ → Part
 rs2_is is = part 20 5 is
 
@@ -67,36 +73,47 @@ word_is is = part 0 32 is
 abbrev pub branch_row : ℕ → BranchOp → Row
 branch_row f3 op = row 0x63 (funct3 f3 ∷ []) (λ w. Branch op (rs1 w) (rs2 w) (imm_b w))
 
+-- a load
 abbrev pub load_row : ℕ → LoadOp → Row
 load_row f3 op = row 0x03 (funct3 f3 ∷ []) (λ w. Load op (rd w) (rs1 w) (imm_i w))
 
+-- a store
 abbrev pub store_row : ℕ → StoreOp → Row
 store_row f3 op = row 0x23 (funct3 f3 ∷ []) (λ w. Store op (rs1 w) (rs2 w) (imm_s w))
 
+-- an operation on a register and an immediate
 abbrev pub imm_row : ℕ → ImmOp → Row
 imm_row f3 op = row 0x13 (funct3 f3 ∷ []) (λ w. OpImm op (rd w) (rs1 w) (imm_i w))
 
+-- a shift by a constant amount
 abbrev pub shift_row : ℕ → ℕ → ShiftOp → Row
 shift_row f3 f7 op = row 0x13 (funct3 f3 ∷ funct7 f7 ∷ []) (λ w. Shift op (rd w) (rs1 w) (rs2 w))
 
+-- an operation on two registers
 abbrev pub op_row : ℕ → ℕ → AluOp → Row
 op_row f3 f7 op = row 0x33 (funct3 f3 ∷ funct7 f7 ∷ []) (λ w. Op op (rd w) (rs1 w) (rs2 w))
 
+-- a multiplication or division
 abbrev pub mul_row : ℕ → MulOp → Row
 mul_row f3 op = row 0x33 (funct3 f3 ∷ funct7 1 ∷ []) (λ w. Muldiv op (rd w) (rs1 w) (rs2 w))
 
+-- FENCE or FENCE.I, whose other fields are ignored
 abbrev pub fence_row : ℕ → Row
 fence_row f3 = row 0x0f (funct3 f3 ∷ []) (λ w. Fence w)
 
+-- one whole word
 abbrev pub system_row : ℕ → Ins → Row
 system_row word i = row 0x73 (word_is word ∷ []) (λ w. i)
 
+-- a CSR instruction
 abbrev pub csr_row : ℕ → CsrKind → Row
 csr_row f3 op = row 0x73 (funct3 f3 ∷ []) (λ w. Csr op (rd w) (field w 20 12) (rs1 w))
 
+-- GT or GTH: only `rd` is free
 abbrev pub get_row : ℕ → (ℕ → Ins) → Row
 get_row f3 reads = row 0x0b (funct3 f3 ∷ rs1_is 0 ∷ rs2_is 0 ∷ funct7 0 ∷ []) reads
 
+-- DU, WU or EE: the two registers are free
 abbrev pub moment_row : ℕ → (ℕ → Ins) → Row
 moment_row f3 reads = row 0x0b (funct3 f3 ∷ rd_is 0 ∷ funct7 0 ∷ []) reads
 
@@ -104,28 +121,36 @@ moment_row f3 reads = row 0x0b (funct3 f3 ∷ rd_is 0 ∷ funct7 0 ∷ []) reads
 unfoldable pub lui_rows : List Row
 lui_rows = row 0x37 [] (λ w. Lui (rd w) (imm_u w)) ∷ []
 
+-- AUIPC
 unfoldable pub auipc_rows : List Row
 auipc_rows = row 0x17 [] (λ w. Auipc (rd w) (imm_u w)) ∷ []
 
+-- JAL
 unfoldable pub jal_rows : List Row
 jal_rows = row 0x6f [] (λ w. Jal (rd w) (imm_j w)) ∷ []
 
+-- JALR
 unfoldable pub jalr_rows : List Row
 jalr_rows = row 0x67 (funct3 0 ∷ []) (λ w. Jalr (rd w) (rs1 w) (imm_i w)) ∷ []
 
+-- the conditional branches
 unfoldable pub branch_rows : List Row
 branch_rows = branch_row 0 Beq ∷ branch_row 1 Bne ∷ branch_row 4 Blt ∷ branch_row 5 Bge ∷ branch_row 6 Bltu ∷ branch_row 7 Bgeu ∷ []
 
+-- the loads
 unfoldable pub load_rows : List Row
 load_rows = load_row 0 Lb ∷ load_row 1 Lh ∷ load_row 2 Lw ∷ load_row 4 Lbu ∷ load_row 5 Lhu ∷ []
 
+-- the stores
 unfoldable pub store_rows : List Row
 store_rows = store_row 0 Sb ∷ store_row 1 Sh ∷ store_row 2 Sw ∷ []
 
+-- the operations on a register and an immediate, and the shifts by a constant amount
 unfoldable pub imm_rows : List Row
 imm_rows = imm_row 0 Addi ∷ imm_row 2 Slti ∷ imm_row 3 Sltiu ∷ imm_row 4 Xori ∷ imm_row 6 Ori ∷ imm_row 7 Andi
     ∷ shift_row 1 0 Slli ∷ shift_row 5 0 Srli ∷ shift_row 5 0x20 Srai ∷ []
 
+-- the operations on two registers, and the multiplications and divisions
 unfoldable pub op_rows : List Row
 op_rows = op_row 0 0 Add ∷ op_row 0 0x20 Sub ∷ op_row 1 0 Sll ∷ op_row 2 0 Slt ∷ op_row 3 0 Sltu ∷ op_row 4 0 Xor
     ∷ op_row 5 0 Srl ∷ op_row 5 0x20 Sra ∷ op_row 6 0 Or ∷ op_row 7 0 And
@@ -136,15 +161,18 @@ op_rows = op_row 0 0 Add ∷ op_row 0 0x20 Sub ∷ op_row 1 0 Sll ∷ op_row 2 0
 unfoldable pub fence_rows : List Row
 fence_rows = fence_row 0 ∷ fence_row 1 ∷ []
 
+-- ECALL, EBREAK, MRET and the CSR instructions
 unfoldable pub system_rows : List Row
 system_rows = system_row 0x00000073 Ecall ∷ system_row 0x00100073 Ebreak ∷ system_row 0x30200073 Mret
     ∷ csr_row 1 Rw ∷ csr_row 2 Rs ∷ csr_row 3 Rc ∷ csr_row 5 Rwi ∷ csr_row 6 Rsi ∷ csr_row 7 Rci ∷ []
 
+-- the six timing instructions
 unfoldable pub time_rows : List Row
 time_rows = get_row 0 (λ w. Gt (rd w)) ∷ get_row 1 (λ w. Gth (rd w))
     ∷ moment_row 2 (λ w. Du (rs1 w) (rs2 w)) ∷ moment_row 3 (λ w. Wu (rs1 w) (rs2 w)) ∷ moment_row 4 (λ w. Ee (rs1 w) (rs2 w))
     ∷ row 0x0b (funct3 5 ∷ rd_is 0 ∷ rs1_is 0 ∷ rs2_is 0 ∷ funct7 0 ∷ []) (λ w. De) ∷ []
 
+-- the whole table
 unfoldable pub rows : List Row
 rows = lui_rows ++ (auipc_rows ++ (jal_rows ++ (jalr_rows ++ (branch_rows ++ (load_rows ++ (store_rows ++ (imm_rows ++ (op_rows ++ (fence_rows ++ (system_rows ++ time_rows))))))))))
 

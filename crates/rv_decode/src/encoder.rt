@@ -8,7 +8,8 @@ ghost use Rattle.rv_decode.specs.Table.{ins};
 
 use crate::instruction::{AluOp, BranchOp, CsrKind, ImmOp, Ins, LoadOp, MulOp, ShiftOp, StoreOp};
 
-/// The word of the instruction `i`, whose fields are in range: [`crate::decode`] gives `i` back.
+/// The word of the instruction `i`, whose fields are in range: [`crate::decode`] gives `i` back
+/// (RISC-V unprivileged manual, "Base Instruction Formats").
 pub fn encode(i: &Ins) -> u32
     requires { InRange i.now }
     ensures decoded { ins result ≡ i.now }
@@ -130,7 +131,6 @@ fn j_word(code: u32, rd: u8, off: i32) -> u32
     u_word(code, rd, imm)
 }
 
-/// The low twelve bits of an immediate.
 fn low_12(imm: i32) -> u32
     requires { IsSigned 12 imm }
     ensures bits { result ≡ low_bits 12 imm }

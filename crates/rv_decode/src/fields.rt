@@ -4,36 +4,42 @@
 ghost use Rattle.std.specs.Prelude.{◌≡◌};
 ghost use Rattle.rv_decode.specs.Fields.{field, imm_b, imm_i, imm_j, imm_s};
 
+/// Bits 0 to 6, the opcode.
 pub fn opcode(word: u32) -> u32
     ensures { result ≡ field word 0 7 }
 {
     word & 0x7f
 }
 
+/// Bits 7 to 11, the register that is written.
 pub fn rd(word: u32) -> u8
     ensures { result ≡ field word 7 5 }
 {
     ((word >> 7) & 0x1f) as u8
 }
 
+/// Bits 12 to 14.
 pub fn funct3(word: u32) -> u32
     ensures { result ≡ field word 12 3 }
 {
     (word >> 12) & 0x7
 }
 
+/// Bits 15 to 19, the first register that is read.
 pub fn rs1(word: u32) -> u8
     ensures { result ≡ field word 15 5 }
 {
     ((word >> 15) & 0x1f) as u8
 }
 
+/// Bits 20 to 24, the second register that is read, or the amount of a shift.
 pub fn rs2(word: u32) -> u8
     ensures { result ≡ field word 20 5 }
 {
     ((word >> 20) & 0x1f) as u8
 }
 
+/// Bits 25 to 31.
 pub fn funct7(word: u32) -> u32
     ensures { result ≡ field word 25 7 }
 {

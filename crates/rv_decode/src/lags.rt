@@ -5,8 +5,9 @@ ghost use Rattle.rv_decode.specs.Lag.{lag};
 
 use crate::instruction::Ins;
 
-/// How many cycles after the issue of `i` the thread's next instruction may issue. `taken` says
-/// whether `i` is a branch that is taken, and `trapped` whether it traps.
+/// The lag of `i`, 1 to 3 cycles: an issue of it in cycle c lets the thread's next instruction
+/// issue from cycle c plus the lag on. `taken` says whether `i` is a branch that is taken, and
+/// `trapped` whether it traps. The table is this project's profile.
 #[tactic(auto, unfolding(crate::specs::Lag::lag))]
 pub fn lag_of(i: &Ins, taken: bool, trapped: bool) -> u64
     ensures table { result ≡ lag i.now taken trapped }

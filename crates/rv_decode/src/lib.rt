@@ -1,5 +1,6 @@
 //! The instruction set of the core: RV32IM with the CSR instructions, FENCE.I and this project's
 //! timing instructions, as words and as values of [`Ins`].
+
 #![tactic(auto)]
 
 mod decoder;

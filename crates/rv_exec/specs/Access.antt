@@ -1,4 +1,5 @@
--- Loads and stores: the bytes of the aligned word that holds them, little endian ("Load and Store Instructions").
+-- Loads and stores: the bytes of the aligned word that holds them, little endian ("Load and Store
+-- Instructions").
 use Rattle.std.specs.Prelude.{◌≡◌, ℕ, ◌+◌, ◌-◌, ◌*◌, ◌/◌, ◌%◌, ◌^◌, ◌==◌, Bool, nat_lt, if◌then◌else◌}
 use Rattle.rv_exec.specs.Words.{bit}
 use Rattle.rv_exec.specs.declared.outcome.Lanes.{Lanes}
@@ -17,6 +18,7 @@ load_size Lw = 4
 load_size Lbu = 1
 load_size Lhu = 2
 
+-- the number of bytes that a store writes
 abbrev pub store_size : StoreOp → ℕ
 store_size Sb = 1
 store_size Sh = 2
@@ -48,7 +50,8 @@ loaded Lw address w = bytes_at 4 address w
 loaded Lbu address w = bytes_at 1 address w
 loaded Lhu address w = bytes_at 2 address w
 
--- so many low bytes of a value in their places in the aligned word, with 0 in the others, and the mask of these places
+-- so many low bytes of a value in their places in the aligned word, with 0 in the others, and the
+-- mask of these places
 unfoldable pub lanes_at : ℕ → ℕ → ℕ → Lanes
 lanes_at size address value = record {
   mask = (2 ^ size - 1) * 2 ^ (address % 4);

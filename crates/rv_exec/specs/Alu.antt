@@ -1,4 +1,5 @@
--- The values of the instructions that compute from two registers, or from a register and an immediate.
+-- The values of the instructions that compute from two registers, or from a register and an
+-- immediate.
 use Rattle.std.specs.Prelude.{ℕ, suc, ◌+◌, ◌-◌, ◌*◌, ◌/◌, ◌%◌, ◌^◌, ◌==◌, ℤ, pos, negsuc, ◌-ℤ◌, ◌*ℤ◌, nat_lt, if◌then◌else◌}
 use Rattle.rv_exec.specs.Words.{signed, word, below, one_if, bitwise, floor_div}
 use Rattle.rv_decode.specs.declared.instruction.AluOp.{AluOp}
@@ -10,8 +11,8 @@ use Rattle.rv_decode.specs.declared.instruction.ShiftOp.TheVariants.{Slli, Srli,
 use Rattle.rv_decode.specs.declared.instruction.MulOp.{MulOp}
 use Rattle.rv_decode.specs.declared.instruction.MulOp.TheVariants.{Mul, Mulh, Mulhsu, Mulhu, Div, Divu, Rem, Remu}
 
--- "Integer Register-Register Operations": sums and differences modulo 2 ^ 32; a shift's amount is the low five bits of
--- b; the arithmetic shift divides the signed value and rounds down
+-- "Integer Register-Register Operations": sums and differences modulo 2 ^ 32; a shift's amount is
+-- the low five bits of b; the arithmetic shift divides the signed value and rounds down
 unfoldable pub computed : AluOp → ℕ → ℕ → ℕ
 computed Add a b = (a + b) % 2 ^ 32
 computed Sub a b = (a + (2 ^ 32 - b)) % 2 ^ 32
@@ -24,8 +25,8 @@ computed Sra a b = word (floor_div (signed a) (2 ^ (b % 32)))
 computed Or a b = bitwise (λ x y. x + y - x * y) 32 a b
 computed And a b = bitwise (λ x y. x * y) 32 a b
 
--- "Integer Register-Immediate Instructions": the sign extended immediate stands for its word, also where the
--- comparison has no sign (SLTIU)
+-- "Integer Register-Immediate Instructions": the sign extended immediate stands for its word, also
+-- where the comparison has no sign (SLTIU)
 unfoldable pub computed_with : ImmOp → ℕ → ℤ → ℕ
 computed_with Addi a imm = computed Add a (word imm)
 computed_with Slti a imm = computed Slt a (word imm)
@@ -47,8 +48,9 @@ quotient (pos a) (negsuc b) = pos 0 -ℤ pos (a / suc b)
 quotient (negsuc a) (pos b) = pos 0 -ℤ pos (suc a / b)
 quotient (negsuc a) (negsuc b) = pos (suc a / suc b)
 
--- "Multiplication Operations" and "Division Operations" of the M extension: the high words are those of the products
--- of both signed, of signed and unsigned, and of both unsigned; a division by 0 gives all ones and leaves a
+-- "Multiplication Operations" and "Division Operations" of the M extension: the high words are
+-- those of the products of both signed, of signed and unsigned, and of both unsigned; a division by
+-- 0 gives all ones and leaves a
 unfoldable pub multiplied : MulOp → ℕ → ℕ → ℕ
 multiplied Mul a b = a * b % 2 ^ 32
 multiplied Mulh a b = word (floor_div (signed a *ℤ signed b) (2 ^ 32))

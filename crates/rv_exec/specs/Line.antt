@@ -7,7 +7,8 @@ use Rattle.rv_exec.specs.declared.outcome.Effect.TheVariants.{Nothing, Reg, Stor
 abbrev pub IsWidth : ℕ → Type 0
 IsWidth size = (size ≡ 1) ⊎ ((size ≡ 2) ⊎ (size ≡ 4))
 
--- a register is below 32, a CSR number below 4096, a store's value within its 1, 2 or 4 bytes, a cause within a byte
+-- a register is below 32, a CSR number below 4096, a store's value within its 1, 2 or 4 bytes, a
+-- cause within a byte
 abbrev pub IsPrintable : Effect → Type 0
 IsPrintable Nothing = Unit {0}
 IsPrintable (Reg rd value) = rd < 32

@@ -54,8 +54,9 @@ of_jump link target = record nothing { value = link; target = target; trap = unl
 abbrev pub of_branch : Bool → ℕ → Outcome
 of_branch taken target = record nothing { target = target; taken = taken; trap = if taken then unless (is_aligned target 4) 0 else None }
 
--- the outcome of each instruction. Causes (RISC-V privileged manual, "Machine Cause Register"): 0 misaligned target,
--- 2 illegal instruction, 3 breakpoint, 4 misaligned load, 6 misaligned store, 11 environment call
+-- the outcome of each instruction. Causes (RISC-V privileged manual, "Machine Cause Register"): 0
+-- misaligned target, 2 illegal instruction, 3 breakpoint, 4 misaligned load, 6 misaligned store, 11
+-- environment call
 unfoldable pub result_of : Ins → ℕ → ℕ → ℕ → Outcome
 result_of (Lui rd imm) pc a b = of_value (imm * 2 ^ 12 % 2 ^ 32)
 result_of (Auipc rd imm) pc a b = of_value ((pc + imm * 2 ^ 12) % 2 ^ 32)

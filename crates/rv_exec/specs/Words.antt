@@ -1,5 +1,6 @@
--- Words of 32 bits as whole numbers below 2 ^ 32. Registers are words; instructions read them with or without a sign
--- (RISC-V unprivileged manual, "Programmers' Model for Base Integer ISA" and "Integer Computational Instructions").
+-- Words of 32 bits as whole numbers below 2 ^ 32. Registers are words; instructions read them with
+-- or without a sign (RISC-V unprivileged manual, "Programmers' Model for Base Integer ISA" and
+-- "Integer Computational Instructions").
 use Rattle.std.specs.Prelude.{ℕ, zero, suc, ◌+◌, ◌-◌, ◌*◌, ◌/◌, ◌%◌, ◌^◌, ℤ, pos, negsuc, ◌-ℤ◌, nat_lt, Bool, true, false, if◌then◌else◌}
 
 -- the word read with its top bit as the sign (two's complement)
@@ -26,7 +27,8 @@ one_if b = if b then 1 else 0
 abbrev pub bit : ℕ → ℕ → ℕ
 bit a place = a / 2 ^ place % 2
 
--- a function of two bits, at each of the lowest places of two words: the sum of its values times the powers of two
+-- a function of two bits, at each of the lowest places of two words: the sum of its values times
+-- the powers of two
 unfoldable pub bitwise : (ℕ → ℕ → ℕ) → ℕ → ℕ → ℕ → ℕ
 bitwise f zero a b = 0
 bitwise f (suc places) a b = bitwise f places a b + f (bit a places) (bit b places) * 2 ^ places

@@ -7,7 +7,7 @@ ghost use Rattle.rv_exec.specs.Line.{IsWidth};
 use crate::outcome::Lanes;
 use rv_decode::{LoadOp, StoreOp};
 
-/// The number of bytes that a load takes.
+/// The number of bytes that a load takes: 1, 2 or 4.
 pub fn size_of_load(op: LoadOp) -> u8
     ensures size { result ≡ load_size op }
     ensures width { IsWidth result }
@@ -19,7 +19,7 @@ pub fn size_of_load(op: LoadOp) -> u8
     }
 }
 
-/// The number of bytes that a store writes.
+/// The number of bytes that a store writes: 1, 2 or 4.
 pub fn size_of_store(op: StoreOp) -> u8
     ensures size { result ≡ store_size op }
     ensures width { IsWidth result }
@@ -31,8 +31,8 @@ pub fn size_of_store(op: StoreOp) -> u8
     }
 }
 
-/// The value of a load, out of the aligned word that holds its address. The word is little endian
-/// (RISC-V unprivileged manual, "Load and Store Instructions").
+/// The value of a load at `address`, a multiple of its size, out of the aligned word that holds it.
+/// The word is little endian (RISC-V unprivileged manual, "Load and Store Instructions").
 #[tactic(auto, unfolding(crate::specs::Access::loaded))]
 pub fn load_value(op: LoadOp, address: u32, word: u32) -> u32
     requires { address % load_size op ≡ 0 }
@@ -58,7 +58,8 @@ fn bytes_from(word: u32, address: u32) -> u32
     word >> (address % 4 * 8)
 }
 
-/// The bytes that a store writes in the aligned word that holds its address.
+/// The bytes of `b` that a store at `address`, a multiple of its size, writes in the aligned word
+/// that holds it (RISC-V unprivileged manual, "Load and Store Instructions").
 #[tactic(auto, unfolding(crate::specs::Access::lanes_at))]
 pub fn store_lanes(op: StoreOp, address: u32, b: u32) -> Lanes
     requires { address % store_size op ≡ 0 }
@@ -76,7 +77,10 @@ pub fn store_lanes(op: StoreOp, address: u32, b: u32) -> Lanes
 fn placed(address: u32, mask: u8, value: u32) -> Lanes
     requires mask { mask * 2 ^ (address % 4) < 2 ^ 8 }
     requires value { value * 256 ^ (address % 4) < 2 ^ 32 }
-    ensures { result ≡ record { mask = mask * 2 ^ (address % 4); value = value * 256 ^ (address % 4) } }
+    ensures { result ≡ record {
+      mask = mask * 2 ^ (address % 4);
+      value = value * 256 ^ (address % 4);
+    } }
 {
     let place = address % 4;
     Lanes {

@@ -1,11 +1,12 @@
--- The start of the machine that a setup and an image give, beside eight ports as they are handed in.
+-- The start of the machine that a setup and an image give, beside eight ports as they are handed
+-- in.
 use Rattle.std.specs.Prelude.{ℕ, ◌+◌, ◌*◌, ◌/◌, Bool, true, false, List, slice_index_or, map, replicate, Option, Some, None}
 use Rattle.std.specs.List.{range_with_len}
 use Rattle.fp_image.specs.Rules.{word}
 use Rattle.fp_image.specs.declared.parts.Segment.{Segment}
 use Rattle.fp_ports.specs.Rows.{Row, row_at}
-use Rattle.fp_ports.specs.Shown.{shown}
-use Rattle.fp_setup.specs.Meaning.{unnamed, the_threads}
+use Rattle.fp_ports.specs.ShownWords.{shown}
+use Rattle.fp_setup.specs.SetupOfTables.{unnamed, the_threads}
 use Rattle.fp_setup.specs.Settings.{Settings, size_of}
 use Rattle.fp_setup.specs.declared.input_list.Input.{Input}
 use Rattle.fp_setup.specs.declared.thread_list.ThreadSetup.{ThreadSetup}
@@ -16,9 +17,11 @@ use Rattle.world_model.specs.World.{Start}
 unfoldable pub words_from : List Segment → ℕ → ℕ → List ℕ
 words_from image base size = map (λ k. word image (base + 4 * k)) (range_with_len 0 (size / 4))
 
+-- the words of the instruction scratchpad
 abbrev pub i_words_of : Settings → List Segment → List ℕ
 i_words_of s image = words_from image 0 (size_of s.version)
 
+-- the words of the data scratchpad
 abbrev pub d_words_of : Settings → List Segment → List ℕ
 d_words_of s image = words_from image 0x20000000 (size_of s.version)
 
@@ -34,6 +37,7 @@ inputs_of t = map (λ (input : Input). (input.at, input.word)) t.inputs
 abbrev pub shown_to : Settings → List (Option Row) → ℕ → ℕ → List ℕ
 shown_to s ports n i = shown (row_at ports i) (inputs_of (thread_of s i)) (thread_of s i).unplug n
 
+-- whether a port was handed in
 abbrev pub is_handed : Option Row → Bool
 is_handed None = false
 is_handed (Some row) = true

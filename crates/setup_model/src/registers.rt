@@ -7,7 +7,7 @@ use region_guard::Regions;
 use slot_scheduler::Modes;
 use slot_table::SlotTable;
 
-/// The slots register.
+/// The slots register at the start: the word of the setup, nibble k for slot k.
 pub fn slot_table(setup: &Setup) -> SlotTable
     ensures { result ≡ setup.now.slots }
 {
@@ -17,7 +17,7 @@ pub fn slot_table(setup: &Setup) -> SlotTable
     }
 }
 
-/// The modes register.
+/// The modes register at the start: the word of the setup, bits 2i and 2i + 1 for thread i.
 pub fn modes(setup: &Setup) -> Modes
     ensures { result ≡ setup.now.modes }
 {
@@ -27,7 +27,8 @@ pub fn modes(setup: &Setup) -> Modes
     }
 }
 
-/// The register of the regions of the instruction scratchpad.
+/// The register of the regions of the instruction scratchpad at the start: the word of the setup,
+/// nibble k for region k.
 pub fn i_regions(setup: &Setup) -> Regions
     ensures { result ≡ setup.now.iregions }
 {
@@ -37,7 +38,8 @@ pub fn i_regions(setup: &Setup) -> Regions
     }
 }
 
-/// The register of the regions of the data scratchpad.
+/// The register of the regions of the data scratchpad at the start: the word of the setup, nibble k
+/// for region k.
 pub fn d_regions(setup: &Setup) -> Regions
     ensures { result ≡ setup.now.dregions }
 {

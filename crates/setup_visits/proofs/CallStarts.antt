@@ -2,10 +2,10 @@
 use Rattle.std.proofs.Common.{ℕ, ◌∙◌}
 use Rattle.std.proofs.lemmas.List.{length-map}
 use Rattle.call_bounds.specs.Calls.{Calls}
-use Rattle.call_visits.specs.Laws.{CallVisitsAreBounded, IsHost}
+use Rattle.call_visits.specs.CallVisitBound.{CallVisitsAreBounded, IsHost}
 use Rattle.fp_setup.specs.Rules.{KeepsRules}
 use Rattle.fp_setup.specs.Settings.{size_of}
-use Rattle.setup_laws.specs.Laws.{Machine}
+use Rattle.setup_laws.specs.TraceLaws.{Machine}
 use Rattle.setup_model.specs.Start.{start}
 use Rattle.setup_visits.proofs.Starts.{code-word, size-even}
 use Rattle.setup_visits.specs.CallLaws.{CallVisitsStayBounded, IsAlikeInParts}

@@ -15,9 +15,9 @@ use Rattle.region_guard.specs.Regions.{index_of}
 use Rattle.region_tree.specs.Tree.{IsTree, tree_of, word_at, words_of}
 use Rattle.region_tree.specs.declared.section.Section.{Section}
 use Rattle.setup_model.specs.Start.{start, words_from}
-use Rattle.setup_laws.specs.Laws.{Machine}
-use Rattle.setup_visits.specs.Laws.{IsAlike, VisitsStayBounded, tree_in}
-use Rattle.visit_bound.specs.Laws.{IsHost, VisitsAreBounded}
+use Rattle.setup_laws.specs.TraceLaws.{Machine}
+use Rattle.setup_visits.specs.SetupVisitBound.{IsAlike, VisitsStayBounded, tree_in}
+use Rattle.visit_bound.specs.VisitBound.{IsHost, VisitsAreBounded}
 
 -- a word of the instruction scratchpad at the start
 pub code-word : (image : List Segment) (size u : ℕ) → size % 4 ≡ 0 → u % 4 ≡ 0 → u < size → code_at size (words_from image 0 size) u ≡ word image u

@@ -1,21 +1,23 @@
-//! What the bound of a section of a setup's image says of the runs of machines, by itself and through
-//! calls. The laws are the contracts of calls that do nothing; their statements stand in specs/.
+//! What the bound of a section of a setup's image says of the runs of machines, by itself and
+//! through calls. The laws are the contracts of calls that do nothing; their statements stand in
+//! specs/.
+
 #![tactic(auto)]
 
 ghost use Rattle.setup_visits.specs.CallLaws.{CallVisitsStayBounded};
-ghost use Rattle.setup_visits.specs.Laws.{VisitsStayBounded};
+ghost use Rattle.setup_visits.specs.SetupVisitBound.{VisitsStayBounded};
 
-/// No visit of a hard thread takes longer than the section's bound, whatever else the machine is and
-/// the other threads run, while none of the machine's own registers is written.
+/// No visit of a hard thread takes longer than the section's bound, whatever else the machine is
+/// and the other threads run, while none of the machine's own registers is written.
 pub fn stays_bounded()
     ensures { VisitsStayBounded }
 {
     visit_bound::stays_bounded();
 }
 
-/// No call visit of a hard thread that comes back to where it called from takes longer than the bound of the
-/// section with its routines, whatever else the machine is and the other threads run, while none of the
-/// machine's own registers is written.
+/// No call visit of a hard thread that comes back to where it called from takes longer than the
+/// bound of the section with its routines, whatever else the machine is and the other threads run,
+/// while none of the machine's own registers is written.
 pub fn calls_stay_bounded()
     ensures { CallVisitsStayBounded }
 {

@@ -17,7 +17,7 @@ use Rattle.world_model.specs.World.Took.{Idle, Lost, Ran}
 use Rattle.isolation.proofs.Induction.{quiet_before}
 use Rattle.visit_bound.proofs.Cycles.{Goes, Going, Stays, begins, cycles, goes_on}
 use Rattle.visit_bound.proofs.Instructions.{Gone}
-use Rattle.visit_bound.specs.Laws.{Along, AreLinked}
+use Rattle.visit_bound.specs.VisitBound.{Along, AreLinked}
 use Rattle.visit_bound.specs.Visits.{Issued, is_trap, issue_in, issues_of}
 
 -- at known words issues that don't trap go along a way

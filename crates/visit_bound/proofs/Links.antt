@@ -15,7 +15,7 @@ use Rattle.world_model.specs.World.{Start, World, around, contents, issue_of, re
 use Rattle.isolation.proofs.Picks.{both}
 use Rattle.visit_bound.proofs.Instructions.{Gone, issue-fetches, issue-goes}
 use Rattle.visit_bound.proofs.Linking.{Went, linked_all}
-use Rattle.visit_bound.specs.Laws.{EdgeOf, FollowEdges, IssuesFollowEdges}
+use Rattle.visit_bound.specs.VisitBound.{EdgeOf, FollowEdges, IssuesFollowEdges}
 use Rattle.visit_bound.specs.Visits.{issues_of}
 
 pub stop-no : (s : Stop) → (s ≡ Indirect → ⊥) → (s ≡ Timed → ⊥) → s ≡ No

@@ -9,7 +9,7 @@ use Rattle.region_tree.specs.Walk.CostsOf.{ends, leaves}
 use Rattle.bound_calc.specs.Bound.{course}
 use Rattle.visit_bound.proofs.Links.{issues_follow_edges}
 use Rattle.visit_bound.proofs.Linking.{linked-after, linked-own}
-use Rattle.visit_bound.specs.Laws.{Along, EdgeOf, FollowEdges, VisitsAreBounded}
+use Rattle.visit_bound.specs.VisitBound.{Along, EdgeOf, FollowEdges, VisitsAreBounded}
 use Rattle.visit_bound.specs.Visits.{GoOn, Issued, KeepsBounds, counter_at, first_of}
 
 -- ways along the edges of a course

@@ -1,2 +1,2 @@
 pub mod Visits
-pub mod Laws
+pub mod VisitBound

@@ -14,6 +14,7 @@ pub record Issued : Type 0 where
   pub pc : ℕ
   pub traps : Bool
 
+-- whether the effect is a trap
 abbrev pub is_trap : Option Effect → Bool
 is_trap (Some (Trap cause target)) = true
 is_trap _ = false
@@ -38,8 +39,9 @@ abbrev pub GoOn : Graph → List Issued → Type 0
 GoOn g [] = Unit {0}
 GoOn g (i ∷ before) = GoOn g before × Lies g i.pc × (i.traps ≡ false)
 
--- A visit: issues in order, the newest first, among all those of the hart. The first is at the section's first word.
--- The last is the first of them that is outside the section or traps; where there is none, it is the hart's last one.
+-- A visit: issues in order, the newest first, among all those of the hart. The first is at the
+-- section's first word. The last is the first of them that is outside the section or traps; where
+-- there is none, it is the hart's last one.
 pub record IsVisit (g : Graph) (issues : List Issued) (last : Issued) (before : List Issued) : Type 0 where
   pub earlier : List Issued
   pub later : List Issued
@@ -48,7 +50,8 @@ pub record IsVisit (g : Graph) (issues : List Issued) (last : Issued) (before : 
   pub goes_on : GoOn g before
   pub ends : (later ≡ []) ⊎ ((Lies g last.pc → ⊥) ⊎ (last.traps ≡ true))
 
--- a loop's counter at an issue, by the addresses of those before it, the newest first: 0 at the first
+-- a loop's counter at an issue, by the addresses of those before it, the newest first: 0 at the
+-- first
 abbrev pub counter_at : LoopSetup → Issued → List Issued → ℕ
 counter_at j last [] = 0
 counter_at j last (i ∷ before) = counted i.pc last.pc j (counter_at j i before)

@@ -1,8 +1,9 @@
 //! What the bound of a section says of runs: no visit of the section takes longer. The contract of
-//! each call is a law; the call does nothing. The laws' statements stand in specs/Laws.antt.
+//! each call is a law; the call does nothing. The laws' statements stand in specs/VisitBound.antt.
+
 #![tactic(auto)]
 
-ghost use Rattle.visit_bound.specs.Laws.{IssuesFollowEdges, VisitsAreBounded};
+ghost use Rattle.visit_bound.specs.VisitBound.{IssuesFollowEdges, VisitsAreBounded};
 
 /// In a quiet run the issues of a hard hart follow the edges of the section, each at the hart's
 /// first turn after the edge's lag.

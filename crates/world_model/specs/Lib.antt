@@ -1,3 +1,3 @@
 pub mod World
 pub mod Viewed
-pub mod Laws
+pub mod NextWorld

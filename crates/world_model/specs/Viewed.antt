@@ -13,10 +13,12 @@ abbrev pub seen_from : (ℕ → Bool) → ℕ → List ℕ → List ℕ
 seen_from sees k [] = []
 seen_from sees k (x ∷ xs) = (if sees k then x else 0) ∷ seen_from sees (suc k) xs
 
--- whether the word of an index lies in a region that the hart may read; a region has size / 32 words
+-- whether the word of an index lies in a region that the hart may read; a region has size / 32
+-- words
 abbrev pub sees : ℕ → List Standing → ℕ → Bool
 sees size kinds k = is_readable (slice_index_or kinds (k / (size / 32)) Foreign)
 
+-- the words that a hart sees, and 0 for the others
 abbrev pub seen : ℕ → List Standing → List ℕ → List ℕ
 seen size kinds words = seen_from (sees size kinds) 0 words
 

@@ -1,5 +1,5 @@
--- The machine as a whole, cycle by cycle: each cycle is one turn, in which at most one hart does one
--- whole instruction.
+-- The machine as a whole, cycle by cycle: each cycle is one turn, in which at most one hart does
+-- one whole instruction.
 use Rattle.std.specs.Prelude.{ℕ, zero, suc, ◌-◌, ◌==◌, nat_lt, Bool, true, false, not, ◌&&◌, if◌then◌else◌, List, [], ◌∷◌, ◌++◌, slice_index_or, slice_set, map, length, Option, Some, None}
 use Rattle.std.specs.List.{list_all}
 use Rattle.rv_exec.specs.declared.outcome.Effect.{Effect}
@@ -55,6 +55,7 @@ pub record World : Type 0 where
   pub last : ℕ  -- the place of the search for a soft hart
   pub turns : List Took  -- of the cycles so far, the newest first
 
+-- hart k
 abbrev pub thread_of : World → ℕ → Thread
 thread_of w k = slice_index_or w.threads k (fresh 0)
 
@@ -62,6 +63,7 @@ thread_of w k = slice_index_or w.threads k (fresh 0)
 abbrev pub sched_by : Registers → List ℕ → Sched
 sched_by r sleeps = record { slots = r.slots; modes = r.modes; sleep = sleeps }
 
+-- the same of a world
 abbrev pub sched_of : World → Sched
 sched_of w = sched_by w.registers (map (λ t. t.own.sleep) w.threads)
 
@@ -73,6 +75,7 @@ register r csr =
     else if csr == 0x7C2 then r.dregions
     else r.iregions
 
+-- a value, where there is a permit
 abbrev pub granted : Bool → ℕ → Option ℕ
 granted allowed value = if allowed then Some value else None
 
@@ -96,6 +99,7 @@ port_word s c k = slice_index_or (slice_index_or s.shown k []) c 0xFFFFFFFF
 abbrev pub surroundings : Start → ℕ → World → ℕ → Around
 surroundings s c w k = around (time s.period c) s.size s.confined s.permit w.registers k
 
+-- the words that an issue of hart k in cycle c finds
 abbrev pub contents : Start → ℕ → World → ℕ → Contents
 contents s c w k = contents_by s.size s.i_words w.d_words (port_word s c k)
 
@@ -124,9 +128,11 @@ abbrev pub is_plugged : Option ℕ → ℕ → Bool
 is_plugged None c = true
 is_plugged (Some unplug) c = nat_lt c unplug
 
+-- whether hart k has a port in a cycle
 abbrev pub has_port : Start → ℕ → ℕ → Bool
 has_port s k c = slice_index_or s.handed k false && is_plugged (slice_index_or s.unplugs k None) c
 
+-- the latches after an effect of hart k in cycle c
 abbrev pub latches_after : Start → ℕ → ℕ → Option Effect → List ℕ → List ℕ
 latches_after s c k effect latches = latched (has_port s k c) k effect latches
 
@@ -160,6 +166,7 @@ takes s c w last (Issue k) =
 unfoldable pub after_turn : Start → ℕ → World → Sched → World
 after_turn s c w q = let p = pick q c (time s.period c) w.last in takes s c w p.last p.pick
 
+-- the world before cycle 0
 abbrev pub start_world : Start → World
 start_world s = record { threads = s.threads; d_words = s.d_words; registers = s.registers; latches = s.latches; last = 7; turns = [] }
 
@@ -192,8 +199,8 @@ abbrev pub events_of : ℕ → List Took → List Event
 events_of i [] = []
 events_of i (took ∷ turns) = events_of i turns ++ event_of i (length turns) took
 
--- the events of hart i that have retired after n cycles: those of the cycles c with c + 4 < n, which
--- are the first n - 4
+-- the events of hart i that have retired after n cycles: those of the cycles c with c + 4 < n,
+-- which are the first n - 4
 abbrev pub events : Start → ℕ → ℕ → List Event
 events s i n = events_of i (world s (n - 4)).turns
 
@@ -202,7 +209,7 @@ abbrev pub leaves_registers : Took → Bool
 leaves_registers (Ran k pc word (Some (Csr csr value rd old))) = not (is_shared csr)
 leaves_registers _ = true
 
--- a run of n cycles is quiet where no issue in it, retired or in flight, writes one of the machine's
--- own registers, be it with the word that stands there
+-- a run of n cycles is quiet where no issue in it, retired or in flight, writes one of the
+-- machine's own registers, be it with the word that stands there
 abbrev pub is_quiet : Start → ℕ → Bool
 is_quiet s n = list_all leaves_registers (world s n).turns

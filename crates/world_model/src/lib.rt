@@ -1,8 +1,9 @@
-//! The definitions of the machine as a whole: its world cycle by cycle, the events of each hart, and
-//! the view of one hart. They stand in specs/, below every engine.
+//! The definitions of the machine as a whole: its world cycle by cycle, the events of each hart,
+//! and the view of one hart. They stand in specs/, below every engine.
+
 #![tactic(auto)]
 
-ghost use Rattle.world_model.specs.Laws.{NextWorld};
+ghost use Rattle.world_model.specs.NextWorld.{NextWorld};
 
 /// The law of the world's cycles: each world comes from the one before it and what picking goes by
 /// two cycles earlier. The contract is the law; the call does nothing.

@@ -1,5 +1,5 @@
 use Rattle.std.proofs.Common.{map}
-use Rattle.fp_asm.specs.Passed.{placed_seen}
+use Rattle.fp_asm.specs.PassesAsDefined.{placed_seen}
 use Rattle.fp_asm.proofs.Soundness.{first_placed}
 use Rattle.fp_asm.specs.Source.{assembled_lines}
 use Rattle.fp_asm.proofs.assembler.assemble_lines.Goals as goal

@@ -1,6 +1,6 @@
 use Rattle.std.proofs.Common.{◌+◌, length, map, ap, sym, ◌∙◌, arith}
 use Rattle.std.proofs.lemmas.Grind.{common_steps}
-use Rattle.fp_asm.specs.Seen.{target_seen}
+use Rattle.fp_asm.specs.OperandsAsDefined.{target_seen}
 use Rattle.fp_asm.proofs.Filling.{targets_from, targets_start, targets_more, targets_none, targets_end}
 use Rattle.fp_asm.proofs.forms.targets.Goals as goal
 

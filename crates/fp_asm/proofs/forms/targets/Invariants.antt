@@ -1,7 +1,7 @@
 use Rattle.std.proofs.Common.{◌≡◌, map, length}
 use Rattle.fp_asm.specs.Operands.{all_targets}
 use Rattle.fp_asm.specs.Views.{operand_seen}
-use Rattle.fp_asm.specs.Seen.{target_seen}
+use Rattle.fp_asm.specs.OperandsAsDefined.{target_seen}
 use Rattle.fp_asm.proofs.Filling.{targets_from}
 use Rattle.fp_asm.proofs.forms.targets.Given as goal
 

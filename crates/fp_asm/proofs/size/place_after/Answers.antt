@@ -1,5 +1,5 @@
 use Rattle.std.proofs.Common.{arith}
-use Rattle.fp_asm.specs.Seen.{statement_seen}
+use Rattle.fp_asm.specs.OperandsAsDefined.{statement_seen}
 use Rattle.fp_asm.proofs.Checks.{org_small}
 use Rattle.fp_asm.proofs.size.place_after.Goals as goal
 

@@ -1,7 +1,7 @@
 use Rattle.std.proofs.Common.{◌≡◌, map}
 use Rattle.fp_asm.specs.Second.{all_resolved}
 use Rattle.fp_asm.specs.Views.{labels_seen}
-use Rattle.fp_asm.specs.Seen.{target_seen}
+use Rattle.fp_asm.specs.OperandsAsDefined.{target_seen}
 use Rattle.fp_asm.proofs.TargetByTarget.{resolved_from}
 use Rattle.fp_asm.proofs.targets.resolve_all.Given as goal
 

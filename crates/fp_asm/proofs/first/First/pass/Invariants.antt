@@ -1,6 +1,6 @@
 use Rattle.std.proofs.Common.{◌≡◌, ◌+◌, map, drop}
 use Rattle.fp_asm.specs.First.{first_pass}
-use Rattle.fp_asm.specs.Passed.{placed_seen}
+use Rattle.fp_asm.specs.PassesAsDefined.{placed_seen}
 use Rattle.fp_asm.proofs.first.First.pass.Given as goal
 
 abbrev pub invariant-loop-i : goal.invariant-loop-i

@@ -1,7 +1,7 @@
 use Rattle.std.proofs.Common.{◌≡◌, ◌+◌, ◌%◌, map, drop}
 use Rattle.fp_asm.specs.Second.{second_pass}
 use Rattle.fp_asm.specs.Views.{labels_seen}
-use Rattle.fp_asm.specs.Passed.{written_seen}
+use Rattle.fp_asm.specs.PassesAsDefined.{written_seen}
 use Rattle.fp_asm.proofs.second.Second.pass.Given as goal
 
 abbrev pub invariant-loop-i : goal.invariant-loop-i

@@ -3,7 +3,7 @@ use Rattle.std.specs.Prelude.{◌≡◌, ℕ, suc, ◌+◌, ◌<◌, List, lengt
 use Rattle.world_model.specs.World.{Start}
 use Rattle.pipe_model.specs.Stages.{Latches, State, Ticked}
 use Rattle.pipe_model.specs.Relation.{Stands, Shows, Kept}
-use Rattle.machine_model.specs.Seen.{seen}
+use Rattle.machine_model.specs.DumpedState.{seen}
 use Rattle.machine_model.specs.Fields.{dumped}
 use Rattle.machine_model.specs.Relation.{Standing, kept_in}
 
@@ -11,12 +11,13 @@ use Rattle.machine_model.specs.Relation.{Standing, kept_in}
 abbrev pub with_kept : State → ℕ → List (Option ℕ) → State
 with_kept u c unplugs = record u { ports = kept_in unplugs c u.ports 8 }
 
--- what stands for a cycle does so without the ports that are due, and these are then as the pipeline finds
--- them
+-- what stands for a cycle does so without the ports that are due, and these are then as the
+-- pipeline finds them
 pub record Unplugged (s : Start) (c : ℕ) (p : Latches) (u : State) : Type 0 where
   pub stands : Stands s c p u
   pub shows : Shows s c u.ports
 
+-- taking the ports that are due away leaves what stands
 abbrev pub Unplugs : Type 0
 Unplugs = (s : Start) (c n : ℕ) (p : Latches) (u : State) (at : ℕ) (unplugs : List (Option ℕ)) → Standing s c n p u at unplugs → c < n + 3 → length u.ports ≡ 8 →
     Unplugged s c p (with_kept u c unplugs)

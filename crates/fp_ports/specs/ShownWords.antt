@@ -12,8 +12,8 @@ is_gone (Some unplug) c = nat_le unplug c
 abbrev pub input_at : List (ℕ × ℕ) → ℕ → Option ℕ
 input_at inputs c = option_map (λ input. input.1) (find (λ input. nat_le input.0 c) (reverse inputs))
 
--- the word of a port that was handed in, or not, and then fed with the inputs: the input's word, and before the first input the
--- port's own; all ones where no port was handed in or it is gone
+-- the word of a port that was handed in, or not, and then fed with the inputs: the input's word,
+-- and before the first input the port's own; all ones where no port was handed in or it is gone
 abbrev pub shown_at : Option Row → List (ℕ × ℕ) → Option ℕ → ℕ → ℕ
 shown_at None inputs unplug c = 0xffffffff
 shown_at (Some row) inputs unplug c = if is_gone unplug c then 0xffffffff else unwrap_or (input_at inputs c) (row.words c)

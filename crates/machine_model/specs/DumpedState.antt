@@ -1,7 +1,8 @@
--- What a dump shows of the world after n cycles. Stages, registers, memory and ports are some cycles behind
--- the newest issue, as far as the pipeline has brought each: the registers show the issues up to cycle
--- n - 5, memory and latches those up to n - 4, timers, trap registers, sleep moments and the machine's own
--- registers those up to n - 3. Before cycle 0 stands the start. Source: this project's format of dumps.
+-- What a dump shows of the world after n cycles. Stages, registers, memory and ports are some
+-- cycles behind the newest issue, as far as the pipeline has brought each: the registers show the
+-- issues up to cycle n - 5, memory and latches those up to n - 4, timers, trap registers, sleep
+-- moments and the machine's own registers those up to n - 3. Before cycle 0 stands the start.
+-- Source: this project's format of dumps.
 use Rattle.std.specs.Prelude.{ℕ, ◌+◌, ◌-◌, ◌*◌, ◌/◌, ◌==◌, nat_lt, Bool, true, false, ◌&&◌, if◌then◌else◌, List, [], ◌∷◌, ◌++◌, flat_map, slice_index_or, Option, Some, None, codes}
 use Rattle.std.specs.List.{list_all, range_with_len}
 use Rattle.core_model.specs.declared.own.Trapping.{Trapping}
@@ -23,11 +24,13 @@ picked_in Idle = Nothing
 picked_in (Lost k) = Picked k
 picked_in (Ran k pc word effect) = Picked k
 
+-- what a later stage shows
 abbrev pub held_in : Took → Held
 held_in Idle = Nothing
 held_in (Lost k) = Flushed k
 held_in (Ran k pc word effect) = Issue k pc word
 
+-- the five stages, from the first on
 abbrev pub stages_seen : Start → ℕ → List ℕ
 stages_seen s n =
     stage_text (codes "F") (picked_in (turn_before s n 0))
@@ -60,11 +63,12 @@ registers_seen i regs =
 abbrev pub traps_seen : ℕ → Trapping → List ℕ
 traps_seen i t = thread_words_text i (codes "csr") (t.mtvec ∷ t.mscratch ∷ t.mepc ∷ t.mcause ∷ [])
 
+-- its timer with its sleep moment
 abbrev pub timer_seen : ℕ → Timer → ℕ → List ℕ
 timer_seen i t sleep = timer_text i t.armed sleep t.high
 
--- whether a port that was handed in is still there after n cycles: the issues from its unplugging on find
--- none, and they come to it three cycles later
+-- whether a port that was handed in is still there after n cycles: the issues from its unplugging
+-- on find none, and they come to it three cycles later
 abbrev pub is_kept : Option ℕ → ℕ → Bool
 is_kept None n = true
 is_kept (Some unplug) n = nat_lt n (unplug + 4)
@@ -76,6 +80,7 @@ latch_seen s n i =
     then Some (slice_index_or (world s (n - 3)).latches i 0)
     else None
 
+-- a thread's lines
 abbrev pub thread_seen : Start → ℕ → ℕ → List ℕ
 thread_seen s n i =
     let own = (thread_of (world s (n - 2)) i).own in

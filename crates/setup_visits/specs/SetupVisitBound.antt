@@ -11,15 +11,15 @@ use Rattle.region_tree.specs.declared.section.Section.{Section}
 use Rattle.bound_calc.specs.Bound.{course}
 use Rattle.world_model.specs.World.{world}
 use Rattle.setup_model.specs.Start.{start}
-use Rattle.setup_laws.specs.Laws.{IsQuiet, Machine}
+use Rattle.setup_laws.specs.TraceLaws.{IsQuiet, Machine}
 use Rattle.visit_bound.specs.Visits.{Issued, IsVisit, KeepsBounds, first_of, issues_of}
 
 -- the issues of thread i in n cycles, the newest first
 abbrev pub issues : Machine → ℕ → ℕ → List Issued
 issues m i n = issues_of i (world (start m.setup m.image m.ports n) n).turns
 
--- a machine with these slots, in which thread i is hard and active at the start, and whose image has the same words in
--- a section as this one
+-- a machine with these slots, in which thread i is hard and active at the start, and whose image
+-- has the same words in a section as this one
 pub record IsAlike (m : Machine) (i slots : ℕ) (image : List Segment) (s : Section) : Type 0 where
   pub hard : mode_of m.setup.modes i ≡ 0
   pub same_slots : m.setup.slots ≡ slots
@@ -29,10 +29,10 @@ pub record IsAlike (m : Machine) (i slots : ℕ) (image : List Segment) (s : Sec
 abbrev pub tree_in : Settings → List Segment → Section → Tree
 tree_in setup image s = tree_of (word image) s setup.loops
 
--- Where no walk through a section of a setup's image costs more than a number, no visit of thread i that keeps the bounds
--- of the setup's loops is longer: in every quiet run of every machine whose setup keeps the rules, as each accepted one
--- does, and that is alike in the slots, in i's mode and in the section's words, whatever else its setup says, its image
--- holds and its ports show.
+-- Where no walk through a section of a setup's image costs more than a number, no visit of thread i
+-- that keeps the bounds of the setup's loops is longer: in every quiet run of every machine whose
+-- setup keeps the rules, as each accepted one does, and that is alike in the slots, in i's mode and
+-- in the section's words, whatever else its setup says, its image holds and its ports show.
 abbrev pub VisitsStayBounded : Type 0
 VisitsStayBounded =
     (setup : Settings) (image : List Segment) (s : Section) (i b : ℕ) (m : Machine) (n : ℕ) →
