@@ -35,6 +35,8 @@ class Body:
     last: int
     result: str
     """The type of the function's result, or nothing."""
+    begin: int
+    """The token `fn`, `const` or `static`."""
 
 
 class Source:
@@ -92,6 +94,39 @@ class Source:
         """Whether the block of a definition for proofs begins, as `ghost view = { .. }`."""
         return self.is_at(k, '{') and k > 0 and self.is_at(k - 1, '=')
 
+    def is_function(self, body: Body) -> bool:
+        return self.is_at(body.begin, 'fn')
+
+    def owner(self, body: Body) -> str:
+        """The type, and the trait behind it, of the block that a method stands in, or the name of its trait, or nothing."""
+        for k, token in enumerate(self.tokens[:body.begin]):
+            if token.text in ('impl', 'trait') and token.kind == 'name':
+                opened = self.block_behind(k, body.begin)
+                if opened is not None and self.closing[opened] > body.begin:
+                    return self.owner_at(k, opened)
+        return ''
+
+    def owner_at(self, k: int, opened: int) -> str:
+        """The words of a header `impl .. {` that name its type and its trait, in the order in which a check puts them."""
+        first = self.behind_angles(k + 1) if self.is_at(k + 1, '<') else k + 1
+        names, at = [''], first
+        while at < opened and not self.is_at(at, 'where', ':'):
+            if self.is_at(at, 'for'):
+                names.append('')
+            elif self.tokens[at].kind == 'name':
+                names[-1] = self.tokens[at].text
+            at = self.behind_angles(at) if self.is_at(at, '<') else at + 1
+        return ''.join(reversed(names))
+
+    def behind_angles(self, k: int) -> int:
+        """The token behind the bracket that closes the `<` at a token."""
+        depth = 0
+        while True:
+            depth += {'<': 1, '>': -1, '>>': -2}.get(self.tokens[k].text, 0)
+            k += 1
+            if depth <= 0:
+                return k
+
     def function_at(self, k: int) -> Body | None:
         """The body of the function that begins at a token `fn`, if it has one."""
         if not (self.is_at(k, 'fn') and k + 1 < len(self.tokens) and self.tokens[k + 1].kind == 'name'):
@@ -109,7 +144,7 @@ class Source:
             if self.is_at(at, '{'):
                 if not in_clause:
                     answer = self.between(result, signature_end) if result > 0 else ''
-                    return Body(name, at + 1, self.closing[at], answer)
+                    return Body(name, at + 1, self.closing[at], answer, k)
                 in_clause = False
             at = self.after(at)
         return None
@@ -126,7 +161,7 @@ class Source:
         first = at + 1
         while at < len(self.tokens) and not self.is_at(at, ';'):
             at = self.after(at)
-        return Body(self.tokens[k + 1].text, first, at, '')
+        return Body(self.tokens[k + 1].text, first, at, '', k)
 
     def runs(self, body: Body) -> list[int]:
         """The tokens of a body that run: no attributes, no clauses, nothing that is there for proofs alone."""

@@ -1,11 +1,12 @@
-"""Reads the tables of crates/rows/data: files and command lines that a row is made of."""
+"""Reads the tables of rows and command_rows: files and command lines that a row is made of."""
 import re
 import shlex
 from dataclasses import dataclass, field
+from pathlib import Path
 
 from program import TOP
 
-DATA = TOP / 'crates/rows/data'
+FOLDERS = (TOP / 'crates/rows/data', TOP / 'crates/command_rows/data')
 
 ESCAPED = re.compile(rb'\\(x[0-9a-f]{2}|.)', re.DOTALL)
 LETTERS = {b'n': b'\n', b'r': b'\r', b't': b'\t'}
@@ -43,11 +44,17 @@ def unescaped(text: str) -> bytes:
     return ESCAPED.sub(one, text.encode())
 
 
+def lines_of(table: str) -> list[str]:
+    """The lines of a table, in the folder that has it."""
+    path = next(filter(Path.exists, (folder / table for folder in FOLDERS)))
+    return path.read_text().splitlines()
+
+
 def cases(table: str) -> list[Case]:
     """The cases of a table that is written as commands.txt says."""
     done: list[Case] = []
     heading, body = '', []
-    for line in (DATA / table).read_text().splitlines():
+    for line in lines_of(table):
         if not line.startswith(('=== ', '--- ')):
             body.append(line)
             continue
@@ -73,4 +80,4 @@ def finish(done: list[Case], heading: str, body: list[str]) -> None:
 
 def columns(table: str) -> list[list[str]]:
     """The columns of a table of lines, between tabs."""
-    return [line.split('\t') for line in (DATA / table).read_text().splitlines()]
+    return [line.split('\t') for line in lines_of(table)]
