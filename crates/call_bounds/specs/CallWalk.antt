@@ -1,6 +1,7 @@
 -- Walks through a section and the routines that it calls, which come back to where they were called
 -- from.
 use Rattle.std.specs.Prelude.{◌≡◌, ℕ, ◌+◌, ◌≤◌, ◌^◌, ◌==◌, if◌then◌else◌, true, Some, None, List, [], ◌∷◌, Contains}
+use Rattle.bound_calc.specs.Bound.{positions}
 use Rattle.bound_calc.specs.declared.cycle_bound.BoundNo.{BoundNo}
 use Rattle.bound_calc.specs.declared.cycle_bound.BoundNo.TheVariants.{NoMemory, Overflow}
 use Rattle.fp_setup.specs.declared.loop_list.LoopSetup.{LoopSetup}
@@ -13,6 +14,10 @@ use Rattle.call_bounds.specs.declared.routines.Routine.{Routine}
 pub record Route : Type 0 where
   pub calls : Calls
   pub positions : Positions
+
+-- the walks of a thread, by its slots
+abbrev pub route : Calls → ℕ → ℕ → Route
+route x slots thread = record { calls = x; positions = positions slots thread }
 
 -- the part in which a walk is that has these calls open, the newest first
 abbrev pub part_in : Calls → List ℕ → Part

@@ -9,7 +9,7 @@ use Rattle.world_model.specs.World.{Start, events}
 use Rattle.machine.specs.declared.state.Machine.{Machine}
 use Rattle.machine.specs.WorldRelation.{StandsFor, HasRun, Stopped, AreLeft}
 use Rattle.machine.proofs.WordLemmas.{ports_after}
-use Rattle.machine_model.specs.DumpedState.{seen}
+use Rattle.machine.specs.DumpedState.{seen}
 use Rattle.flexpret_top.specs.declared.ready.Ready.{Ready}
 use Rattle.phase_log.specs.LoggedRuns.{HasLogged, LogStopped, StartsAs}
 use Rattle.phase_log.specs.Text.{phases_text}

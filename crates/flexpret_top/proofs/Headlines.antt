@@ -23,7 +23,7 @@ use Rattle.region_tree.specs.Tree.{Tree}
 use Rattle.region_tree.specs.declared.section.Section.{Section}
 use Rattle.region_tree.specs.declared.tree.TreeNo.{TreeNo}
 use Rattle.region_tree.specs.declared.tree.TreeNo.TheVariants as in_tree
-use Rattle.setup_laws.specs.TraceLaws.{IsConfinedHard, TraceAlone, TraceByPhases}
+use Rattle.run_laws.specs.TraceLaws.{IsConfinedHard, TraceAlone, TraceByPhases}
 use Rattle.fp_setup.specs.AcceptedSetups.{AcceptedKeepRules}
 use Rattle.fp_setup.specs.Rules.{KeepsRules}
 use Rattle.fp_setup.specs.Settings.{Settings, size_of}
@@ -31,8 +31,8 @@ use Rattle.fp_setup.specs.Setup.{setup as setup_meant}
 use Rattle.fp_setup.specs.declared.refusal.Fault.{Fault}
 use Rattle.setup_model.specs.Start.{thread_of}
 use Rattle.slot_scheduler.specs.ModeWord.{mode_of}
-use Rattle.setup_visits.specs.CallLaws.{CallVisitsStayBounded}
-use Rattle.setup_visits.specs.SetupVisitBound.{VisitsStayBounded}
+use Rattle.section_visits.specs.SetupCallVisitBound.{CallVisitsStayBounded}
+use Rattle.section_visits.specs.SetupVisitBound.{VisitsStayBounded}
 use Rattle.trace_print.specs.declared.refusals.Refusal.TheVariants as refusal
 use Rattle.file_answers.specs.Bound.{IsBoundAnswer, IsSectionAnswer, section_fault, section_tree}
 use Rattle.file_answers.specs.Calls.{IsCallsAnswer, IsRoutinesAnswer, IsSectionCallsAnswer, of_routines, routines_in, section_listing}

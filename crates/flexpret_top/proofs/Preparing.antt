@@ -9,7 +9,7 @@ use Rattle.ask_words.specs.declared.asked.Ask.TheVariants.{Run, Dump, Phases}
 use Rattle.machine.specs.Feeding.{fed_all}
 use Rattle.machine.proofs.FedLemmas.{feeds}
 use Rattle.machine.specs.WorldRelation.{StandsFor, PortsAfter, start_beside}
-use Rattle.machine_model.specs.DumpedState.{seen}
+use Rattle.machine.specs.DumpedState.{seen}
 use Rattle.fp_setup.specs.Settings.{Settings}
 use Rattle.phase_log.specs.LoggedRuns.{StartsAs}
 use Rattle.phase_log.specs.Text.{phases_text}

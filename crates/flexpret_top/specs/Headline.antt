@@ -6,12 +6,11 @@ use Rattle.fp_ports.specs.Rows.{Row}
 use Rattle.ask_words.specs.declared.asked.Ask.{Ask}
 use Rattle.ask_words.specs.declared.asked.Ask.TheVariants.{Run, Bound, Solo, Elf, Calls}
 use Rattle.bound_calc.specs.Bound.{IsBound, course}
-use Rattle.call_bounds.specs.CallWalk.{IsCallBound}
+use Rattle.call_bounds.specs.CallWalk.{IsCallBound, route}
 use Rattle.call_bounds.specs.Listing.{calls}
 use Rattle.call_bounds.specs.RoutinesFile.{routines_of}
 use Rattle.call_bounds.specs.declared.routines.Routine.{Routine}
-use Rattle.call_visits.specs.CallVisits.{IsCallVisit, KeepsReturns, KeepsBounds as KeepsCallBounds}
-use Rattle.call_visits.specs.CallVisitBound.{route}
+use Rattle.section_visits.specs.CallVisits.{IsCallVisit, KeepsReturns, KeepsBounds as KeepsCallBounds}
 use Rattle.core_model.specs.Solo.{solo}
 use Rattle.fp_elf.specs.Elf.{elf_of}
 use Rattle.fp_setup.specs.Rules.{KeepsRules}
@@ -21,12 +20,12 @@ use Rattle.fp_image.specs.declared.parts.Segment.{Segment}
 use Rattle.region_tree.specs.Tree.{graph}
 use Rattle.region_tree.specs.declared.section.Section.{Section}
 use Rattle.phase_model.specs.Phased.{phased}
-use Rattle.setup_laws.specs.TraceLaws.{Machine, IsConfinedHard, IsConfinedThrough, IsQuiet, KeepsRegions, phases_in, trace, view_of}
-use Rattle.setup_visits.specs.CallLaws.{IsAlikeInParts}
-use Rattle.setup_visits.specs.SetupVisitBound.{IsAlike, issues}
+use Rattle.run_laws.specs.TraceLaws.{Machine, IsConfinedHard, IsConfinedThrough, IsQuiet, KeepsRegions, phases_in, trace, view_of}
+use Rattle.section_visits.specs.SetupCallVisitBound.{IsAlikeInParts}
+use Rattle.section_visits.specs.SetupVisitBound.{IsAlike, issues}
 use Rattle.trace_print.specs.Bounds.{bound_text}
 use Rattle.trace_print.specs.Text.{text}
-use Rattle.visit_bound.specs.Visits.{Issued, IsVisit, KeepsBounds, first_of}
+use Rattle.section_visits.specs.Visits.{Issued, IsVisit, KeepsBounds, first_of}
 use Rattle.file_answers.specs.declared.program.Program.{Program}
 use Rattle.file_answers.specs.Bound.{section_tree}
 use Rattle.file_answers.specs.Calls.{section_listing}

@@ -7,7 +7,7 @@ use Rattle.ask_words.specs.declared.asked.Ask.{Ask}
 use Rattle.machine.specs.WorldRelation.{StandsFor, AreLeft, PortsAfter}
 use Rattle.machine.specs.Feeding.{fed_all}
 use Rattle.machine.specs.declared.state.Machine.{Machine}
-use Rattle.machine_model.specs.DumpedState.{seen}
+use Rattle.machine.specs.DumpedState.{seen}
 use Rattle.phase_log.specs.LoggedRuns.{StartsAs}
 use Rattle.phase_log.specs.Text.{phases_text}
 use Rattle.phase_model.specs.Phases.{phases}

@@ -2,7 +2,7 @@
 use Rattle.std.specs.Prelude.{ℕ, List, Option, Result, Ok}
 use Rattle.fp_io.specs.Content.{FileMap}
 use Rattle.fp_ports.specs.Rows.{Row}
-use Rattle.machine_model.specs.DumpedState.{seen}
+use Rattle.machine.specs.DumpedState.{seen}
 use Rattle.phase_log.specs.Text.{phases_text}
 use Rattle.phase_model.specs.Phases.{phases}
 use Rattle.trace_print.specs.Text.{text}

@@ -22,8 +22,8 @@ use fp_elf::reads_back;
 use fp_io::{Files, PutFailed, Sink};
 use fp_ports::Ports;
 use fp_setup::accepted_keep_rules;
-use setup_laws::{traces_alone, traces_by_phases};
-use setup_visits::{calls_stay_bounded, stays_bounded};
+use run_laws::setup_traces::{traces_alone, traces_by_phases};
+use section_visits::setups::{calls_stay_bounded, stays_bounded};
 use std::alloc::Global;
 use trace_print::{Refusal, refusal_line};
 

@@ -6,9 +6,9 @@ use Rattle.fp_io.specs.Content.{AppendsFront}
 use Rattle.fp_io.specs.declared.sink.PutFailed.{PutFailed}
 use Rattle.fp_ports.specs.Rows.{Row}
 use Rattle.world_model.specs.World.{Start}
-use Rattle.machine_model.specs.DumpedState.{seen}
-use Rattle.machine_model.specs.Fields.{dumped}
-use Rattle.machine_model.proofs.LineLemmas.{dumps}
+use Rattle.machine.specs.DumpedState.{seen}
+use Rattle.machine.specs.Fields.{dumped}
+use Rattle.machine.proofs.FieldLines.{dumps}
 use Rattle.pipeline_core.specs.AsDefined.{latches_by, state_by}
 use Rattle.machine.specs.declared.state.Machine.{Machine}
 use Rattle.machine.specs.WorldRelation.{StandsFor}

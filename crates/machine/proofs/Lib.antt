@@ -1,3 +1,5 @@
+mod PortLemmas
+mod FieldLines
 pub mod FeedLemmas
 pub mod Putting
 pub mod DumpLemmas

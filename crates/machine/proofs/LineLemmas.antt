@@ -1,7 +1,7 @@
 -- Eight words of a line, one by one.
 use Rattle.std.proofs.Common.{◌≡◌, ℕ, ◌+◌, List, [], ◌∷◌, ap, ◌∙◌}
-use Rattle.dump_text.specs.Lines.{thread_words_text}
-use Rattle.machine_model.specs.DumpedState.{eight_from}
+use Rattle.trace_print.specs.DumpLines.{thread_words_text}
+use Rattle.machine.specs.DumpedState.{eight_from}
 
 pub eight_read : (f : ℕ → ℕ) (k a b c d e g h i : ℕ) → a ≡ f k → b ≡ f (k + 1) → c ≡ f (k + 2) → d ≡ f (k + 3) → e ≡ f (k + 4) → g ≡ f (k + 5) → h ≡ f (k + 6) → i ≡ f (k + 7) →
     a ∷ b ∷ c ∷ d ∷ e ∷ g ∷ h ∷ i ∷ [] ≡ eight_from f k

@@ -21,8 +21,8 @@ use Rattle.pipe_model.specs.Stages.{Latches, State}
 use Rattle.pipe_model.specs.Relation.{Begins, Stands, HasLatches}
 use Rattle.pipe_model.specs.PipelineLaws.{Starts, empty, first_units}
 use Rattle.pipeline_core.specs.AsDefined.{latches_by, state_by}
-use Rattle.machine_model.specs.DumpedState.{is_kept}
-use Rattle.machine_model.specs.Relation.{Plugged, found}
+use Rattle.machine.specs.DumpedState.{is_kept}
+use Rattle.machine.specs.FieldRelation.{Plugged, found}
 use Rattle.machine.specs.declared.state.Machine.{Machine}
 use Rattle.machine.specs.WorldRelation.{StandsFor, start_beside, units_at_start}
 

@@ -8,7 +8,7 @@ use Rattle.rv_exec.specs.declared.outcome.Event.{Event}
 use Rattle.world_model.specs.World.{Start}
 use Rattle.pipe_model.specs.Stages.{event_at}
 use Rattle.pipe_model.specs.Relation.{of_hart, stays_in}
-use Rattle.machine_model.specs.Relation.{kept_in}
+use Rattle.machine.specs.FieldRelation.{kept_in}
 use Rattle.machine.specs.declared.state.Machine.{Machine}
 use Rattle.machine.specs.WorldRelation.{Ticks}
 

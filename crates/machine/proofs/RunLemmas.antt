@@ -13,9 +13,9 @@ use Rattle.pipe_model.specs.Stages.{Ticked}
 use Rattle.pipe_model.specs.Relation.{Begins, Shows, Stands, Kept, event_in, turn_at, of_hart, words_of, stays_in}
 use Rattle.pipe_model.specs.PipelineLaws.{EventsGrow}
 use Rattle.pipeline_core.specs.AsDefined.{latches_by, state_by, ticked_by}
-use Rattle.machine_model.specs.Relation.{Standing, kept_in}
-use Rattle.machine_model.specs.MachineLaws.{Unplugged, with_kept}
-use Rattle.machine_model.proofs.PortLemmas.{unplugs, goes_on, kept-row}
+use Rattle.machine.specs.FieldRelation.{Standing, kept_in}
+use Rattle.machine.specs.FieldLaws.{Unplugged, with_kept}
+use Rattle.machine.proofs.PortLemmas.{unplugs, goes_on, kept-row}
 use Rattle.machine.specs.declared.state.Machine.{Machine}
 use Rattle.machine.specs.WorldRelation.{StandsFor, IsLeft, AreLeft, Ticks, AppendsBeyond, HasRun, Stopped}
 use Rattle.fp_io.proofs.Fronts.{appends_nothing, appends_more, appends_front, front_after}

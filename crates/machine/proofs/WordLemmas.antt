@@ -14,9 +14,9 @@ use Rattle.pipe_model.specs.declared.latches.Stored.{Stored}
 use Rattle.pipe_model.specs.Stages.{Latches, State, Ticked, ports_stored, put_at_port, step}
 use Rattle.pipe_model.specs.Relation.{words_of}
 use Rattle.pipeline_core.specs.AsDefined.{latches_by, state_by}
-use Rattle.machine_model.specs.Relation.{kept_in}
-use Rattle.machine_model.specs.DumpedState.{is_kept}
-use Rattle.machine_model.proofs.PortLemmas.{kept-row}
+use Rattle.machine.specs.FieldRelation.{kept_in}
+use Rattle.machine.specs.DumpedState.{is_kept}
+use Rattle.machine.proofs.PortLemmas.{kept-row}
 use Rattle.machine.specs.declared.state.Machine.{Machine}
 use Rattle.machine.specs.WorldRelation.{IsLeft, AreLeft}
 use Rattle.machine.specs.PortLaws.{LeavesPorts}

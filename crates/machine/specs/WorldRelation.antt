@@ -17,8 +17,8 @@ use Rattle.setup_model.specs.Start.{start, thread_of, i_words_of, d_words_of}
 use Rattle.pipe_model.specs.Stages.{State}
 use Rattle.pipe_model.specs.Relation.{event_in, turn_at, words_of}
 use Rattle.pipeline_core.specs.AsDefined.{latches_by, state_by}
-use Rattle.machine_model.specs.Relation.{Standing}
-use Rattle.machine_model.specs.DumpedState.{is_kept}
+use Rattle.machine.specs.FieldRelation.{Standing}
+use Rattle.machine.specs.DumpedState.{is_kept}
 use Rattle.machine.specs.declared.state.Machine.{Machine}
 
 -- the machine and the ports stand for cycle c of the world; its lists of shown words have n entries

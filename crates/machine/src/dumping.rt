@@ -6,8 +6,8 @@ ghost use Rattle.fp_io.specs.Causes.{Rose};
 ghost use Rattle.fp_io.specs.Content.{AppendsFront};
 ghost use Rattle.fp_ports.specs.Rows.{rows_of};
 ghost use Rattle.world_model.specs.World.{Start};
-ghost use Rattle.machine_model.specs.DumpedState.{seen};
-ghost use Rattle.machine_model.specs.Fields.{dump_line, dumped};
+ghost use Rattle.machine.specs.DumpedState.{seen};
+ghost use Rattle.machine.specs.Fields.{dump_line, dumped};
 ghost use Rattle.pipeline_core.specs.AsDefined.{latches_by, state_by};
 ghost use Rattle.machine.specs.WorldRelation.{StandsFor};
 

@@ -4,14 +4,16 @@
 
 mod dumping;
 mod feeding;
+mod field_laws;
 mod lines;
 mod loading;
 mod running;
 mod state;
 
 pub use feeding::{feed_inputs, feeds_the_start};
-pub use running::leaves_ports;
-pub use setup_laws::{
+pub use field_laws::{dumps_what_is_seen, goes_on, unplugs_ports};
+pub use run_laws::setup_traces::{
     stays_quiet, traces_alone, traces_by_phases, traces_by_wide_view, writes_equal_traces,
 };
+pub use running::leaves_ports;
 pub use state::Machine;

@@ -4,21 +4,21 @@ ghost use Rattle.std.specs.Prelude.{◌≡◌, ◌+◌, ◌/◌, ◌<◌, ◌≤
 ghost use Rattle.std.specs.List.{list_all};
 ghost use Rattle.fp_ports.specs.Rows.{rows_of};
 ghost use Rattle.core_model.specs.Thread.{reg_in};
-ghost use Rattle.dump_text.specs.Lines.{thread_words_text};
-ghost use Rattle.machine_model.specs.DumpedState.{eight_from, traps_seen, timer_seen, words_seen};
-ghost use Rattle.machine_model.specs.Fields.{fetched_held, decoded_held, shown_word, executed_held, stored_held, written_held, head_line, thread_line, dump_line};
+ghost use Rattle.trace_print.specs.DumpLines.{thread_words_text};
+ghost use Rattle.machine.specs.DumpedState.{eight_from, traps_seen, timer_seen, words_seen};
+ghost use Rattle.machine.specs.Fields.{fetched_held, decoded_held, shown_word, executed_held, stored_held, written_held, head_line, thread_line, dump_line};
 ghost use Rattle.timer_unit.specs.Time.{timer_of};
 ghost use Rattle.trap_unit.specs.Rows.{trap_of};
 ghost use Rattle.pipeline_core.specs.AsDefined.{latches_by, registers_by, state_by};
 
 use crate::state::Machine;
 use arrayvec::ArrayString;
-use dump_text::{
+use fp_ports::{Ports, latch_of};
+use pipeline_core::{Decoded, Executed, Fetched, Held, Stored, Written};
+use trace_print::{
     Held as Shown, cycles_line, latch_line, memory_line, stage_line, thread_words_line, timer_line,
     word_line,
 };
-use fp_ports::{Ports, latch_of};
-use pipeline_core::{Decoded, Executed, Fetched, Held, Stored, Written};
 
 /// The number of the first line of the data scratchpad.
 pub const FIRST_OF_MEMORY: u32 = 66;
@@ -129,7 +129,7 @@ impl Machine {
     }
 
     /// One of the ten lines of the machine.
-    #[tactic(auto, unfolding(machine_model::specs::Fields::head_line))]
+    #[tactic(auto, unfolding(crate::specs::Fields::head_line))]
     fn head_line(&self, k: u32) -> ArrayString<96>
         requires { k < 10 }
         ensures { result.bytes ≡ head_line (latches_by self.now.pipe) self.now.units.guard.size
@@ -194,7 +194,7 @@ impl Machine {
     }
 
     /// One of the seven lines of a thread.
-    #[tactic(auto, unfolding(machine_model::specs::Fields::thread_line))]
+    #[tactic(auto, unfolding(crate::specs::Fields::thread_line))]
     fn thread_line(&self, ports: &Ports, thread: u8, k: u32) -> ArrayString<96>
         requires eight { vec_len ports.now ≡ 8 }
         requires thread { thread < 8 }
@@ -233,7 +233,7 @@ impl Machine {
 
     /// The line of eight words of the data scratchpad, by its number; empty where all of them are
     /// 0.
-    #[tactic(auto, unfolding(machine_model::specs::DumpedState::words_seen))]
+    #[tactic(auto, unfolding(crate::specs::DumpedState::words_seen))]
     fn words_line(&self, k: u32) -> ArrayString<96>
         requires { k < self.now.units.guard.size / 32 }
         ensures { result.bytes ≡ words_seen self.now.units.dmem k }
@@ -247,7 +247,7 @@ impl Machine {
     }
 
     /// The line of a number; empty where it isn't shown.
-    #[tactic(auto, unfolding(machine_model::specs::Fields::dump_line))]
+    #[tactic(auto, unfolding(crate::specs::Fields::dump_line))]
     pub(crate) fn line(&self, ports: &Ports, k: u32) -> ArrayString<96>
         requires eight { vec_len ports.now ≡ 8 }
         requires number { k < 66 + self.now.units.guard.size / 32 }

@@ -4,3 +4,4 @@ pub mod Kept
 pub mod Places
 pub mod Refusals
 pub mod Bounds
+pub mod DumpLines

@@ -21,7 +21,7 @@ use Rattle.core_model.specs.View.{around_by}
 use Rattle.core_model.specs.Solo.{may_go, solo_turn, solo_at}
 use Rattle.world_model.specs.World.{Start, around, after_turn, recent, world}
 use Rattle.world_model.specs.Viewed.{setting_of, view}
-use Rattle.isolation.specs.Wide.{found_from, wide_view, around_wide, data_wide, issue_wide, wide_turn, wide_at, wide_solo}
+use Rattle.run_laws.specs.Wide.{found_from, wide_view, around_wide, data_wide, issue_wide, wide_turn, wide_at, wide_solo}
 use Rattle.world_rows.specs.Base.{words, base, at}
 
 -- a hart that isn't confined loads from a shared region

@@ -1,7 +1,7 @@
 use Rattle.std.proofs.Common.{◌<◌, ◌+◌, ◌/◌, arith}
 use Rattle.std.proofs.lemmas.Result.{err_from_is_err_and}
 use Rattle.fp_ports.specs.Rows.{rows_of}
-use Rattle.machine_model.specs.Fields.{dump_line}
+use Rattle.machine.specs.Fields.{dump_line}
 use Rattle.pipeline_core.specs.AsDefined.{latches_by, state_by}
 use Rattle.machine.proofs.Putting.{line_taken, line_begun}
 use Rattle.machine.proofs.state.Machine.put_lines.Goals as goal

@@ -1,7 +1,7 @@
 use Rattle.std.proofs.Common.{◌≤◌}
 use Rattle.std.specs.Io.KnownBytes.{Appends}
 use Rattle.fp_ports.specs.Rows.{rows_of}
-use Rattle.machine_model.specs.Fields.{lines_before}
+use Rattle.machine.specs.Fields.{lines_before}
 use Rattle.pipeline_core.specs.AsDefined.{latches_by, state_by}
 use Rattle.machine.proofs.state.Machine.put_lines.Given as goal
 

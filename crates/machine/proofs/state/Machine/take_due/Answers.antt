@@ -1,5 +1,5 @@
 use Rattle.std.proofs.Common.{◌≡◌, arith, refl, ap, ◌∙◌}
-use Rattle.machine_model.specs.Relation.{kept_in}
+use Rattle.machine.specs.FieldRelation.{kept_in}
 use Rattle.machine.proofs.Retiring.{kept_more}
 use Rattle.machine.proofs.state.Machine.take_due.Goals as goal
 

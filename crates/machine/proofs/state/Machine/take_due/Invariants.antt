@@ -1,6 +1,6 @@
 use Rattle.std.proofs.Common.{◌≡◌, vec_len}
 use Rattle.fp_ports.specs.Rows.{rows_of}
-use Rattle.machine_model.specs.Relation.{kept_in}
+use Rattle.machine.specs.FieldRelation.{kept_in}
 use Rattle.machine.proofs.state.Machine.take_due.Given as goal
 
 abbrev pub invariant-loop-thread : goal.invariant-loop-thread

@@ -1,0 +1,103 @@
+-- What a dump shows of the world after n cycles. Stages, registers, memory and ports are some
+-- cycles behind the newest issue, as far as the pipeline has brought each: the registers show the
+-- issues up to cycle n - 5, memory and latches those up to n - 4, timers, trap registers, sleep
+-- moments and the machine's own registers those up to n - 3. Before cycle 0 stands the start.
+-- Source: this project's format of dumps.
+use Rattle.std.specs.Prelude.{ℕ, ◌+◌, ◌-◌, ◌*◌, ◌/◌, ◌==◌, nat_lt, Bool, true, false, ◌&&◌, if◌then◌else◌, List, [], ◌∷◌, ◌++◌, flat_map, slice_index_or, Option, Some, None, codes}
+use Rattle.std.specs.List.{list_all, range_with_len}
+use Rattle.core_model.specs.declared.own.Trapping.{Trapping}
+use Rattle.core_model.specs.Thread.{reg_in}
+use Rattle.trace_print.specs.declared.dump_lines.Held.{Held}
+use Rattle.trace_print.specs.declared.dump_lines.Held.TheVariants.{Nothing, Picked, Flushed, Issue}
+use Rattle.trace_print.specs.DumpLines.{cycles_text, stage_text, word_text, thread_words_text, timer_text, latch_text, memory_text}
+use Rattle.timer_unit.specs.declared.row.Timer.{Timer}
+use Rattle.world_model.specs.World.{Start, Took, Registers, thread_of, world}
+use Rattle.world_model.specs.World.Took.{Idle, Lost, Ran}
+
+-- the turn of cycle n - 1 - e, nobody's before cycle 0
+abbrev pub turn_before : Start → ℕ → ℕ → Took
+turn_before s n e = slice_index_or (world s n).turns e Idle
+
+-- what the first stage shows of a turn, and the later ones
+abbrev pub picked_in : Took → Held
+picked_in Idle = Nothing
+picked_in (Lost k) = Picked k
+picked_in (Ran k pc word effect) = Picked k
+
+-- what a later stage shows
+abbrev pub held_in : Took → Held
+held_in Idle = Nothing
+held_in (Lost k) = Flushed k
+held_in (Ran k pc word effect) = Issue k pc word
+
+-- the five stages, from the first on
+abbrev pub stages_seen : Start → ℕ → List ℕ
+stages_seen s n =
+    stage_text (codes "F") (picked_in (turn_before s n 0))
+    ++ (stage_text (codes "D") (held_in (turn_before s n 1))
+    ++ (stage_text (codes "E") (held_in (turn_before s n 2))
+    ++ (stage_text (codes "M") (held_in (turn_before s n 3))
+    ++ stage_text (codes "W") (held_in (turn_before s n 4)))))
+
+-- the machine's own registers
+abbrev pub shared_seen : Registers → List ℕ
+shared_seen r =
+    word_text (codes "slots") r.slots
+    ++ (word_text (codes "modes") r.modes
+    ++ (word_text (codes "dregions") r.dregions
+    ++ word_text (codes "iregions") r.iregions))
+
+-- eight values in a row
+abbrev pub eight_from : (ℕ → ℕ) → ℕ → List ℕ
+eight_from f k = f k ∷ f (k + 1) ∷ f (k + 2) ∷ f (k + 3) ∷ f (k + 4) ∷ f (k + 5) ∷ f (k + 6) ∷ f (k + 7) ∷ []
+
+-- the registers of a thread, eight a line
+abbrev pub registers_seen : ℕ → List ℕ → List ℕ
+registers_seen i regs =
+    thread_words_text i (codes "x00") (eight_from (reg_in regs) 0)
+    ++ (thread_words_text i (codes "x08") (eight_from (reg_in regs) 8)
+    ++ (thread_words_text i (codes "x16") (eight_from (reg_in regs) 16)
+    ++ thread_words_text i (codes "x24") (eight_from (reg_in regs) 24)))
+
+-- its trap registers, and its timer with its sleep moment
+abbrev pub traps_seen : ℕ → Trapping → List ℕ
+traps_seen i t = thread_words_text i (codes "csr") (t.mtvec ∷ t.mscratch ∷ t.mepc ∷ t.mcause ∷ [])
+
+-- its timer with its sleep moment
+abbrev pub timer_seen : ℕ → Timer → ℕ → List ℕ
+timer_seen i t sleep = timer_text i t.armed sleep t.high
+
+-- whether a port that was handed in is still there after n cycles: the issues from its unplugging
+-- on find none, and they come to it three cycles later
+abbrev pub is_kept : Option ℕ → ℕ → Bool
+is_kept None n = true
+is_kept (Some unplug) n = nat_lt n (unplug + 4)
+
+-- its latch, where it is there
+abbrev pub latch_seen : Start → ℕ → ℕ → Option ℕ
+latch_seen s n i =
+    if slice_index_or s.handed i false && is_kept (slice_index_or s.unplugs i None) n
+    then Some (slice_index_or (world s (n - 3)).latches i 0)
+    else None
+
+-- a thread's lines
+abbrev pub thread_seen : Start → ℕ → ℕ → List ℕ
+thread_seen s n i =
+    let own = (thread_of (world s (n - 2)) i).own in
+    registers_seen i (thread_of (world s (n - 4)) i).regs
+    ++ (traps_seen i own.trap ++ (timer_seen i own.timer own.sleep ++ latch_text i (latch_seen s n i)))
+
+-- eight words of the data scratchpad, by the number of the line, where they aren't all 0
+unfoldable pub words_seen : List ℕ → ℕ → List ℕ
+words_seen words k =
+    let row = eight_from (λ j. slice_index_or words j 0) (8 * k) in
+    if list_all (λ word. word == 0) row then [] else memory_text (0x20000000 + 32 * k) row
+
+-- the whole dump
+unfoldable pub seen : Start → ℕ → List ℕ
+seen s n =
+    cycles_text n
+    ++ (stages_seen s n
+    ++ (shared_seen (world s (n - 2)).registers
+    ++ (flat_map (thread_seen s n) (range_with_len 0 8)
+    ++ flat_map (words_seen (world s (n - 3)).d_words) (range_with_len 0 (s.size / 32)))))

@@ -1,0 +1,95 @@
+-- The lines of a dump by the machine's fields, each by its number.
+use Rattle.std.specs.Prelude.{ℕ, ◌+◌, ◌-◌, ◌/◌, ◌%◌, ◌==◌, nat_lt, not, ◌||◌, if◌then◌else◌, List, [], flat_map, slice_index_or, Bool, true, codes}
+use Rattle.std.specs.List.{range_with_len}
+use Rattle.region_guard.specs.Regions.{may_fetch}
+use Rattle.core_model.specs.Thread.{no_own}
+use Rattle.fp_ports.specs.Rows as rows
+use Rattle.trace_print.specs.declared.dump_lines.Held.{Held}
+use Rattle.trace_print.specs.declared.dump_lines.Held.TheVariants.{Nothing, Picked, Flushed, Issue}
+use Rattle.trace_print.specs.DumpLines.{cycles_text, stage_text, word_text, thread_words_text, latch_text}
+use Rattle.pipe_model.specs.declared.latches.Held.{Held as Latch}
+use Rattle.pipe_model.specs.declared.latches.Held.TheVariants as latch
+use Rattle.pipe_model.specs.declared.latches.Fetched.{Fetched}
+use Rattle.pipe_model.specs.declared.latches.Decoded.{Decoded}
+use Rattle.pipe_model.specs.declared.latches.Executed.{Executed}
+use Rattle.pipe_model.specs.declared.latches.Stored.{Stored}
+use Rattle.pipe_model.specs.declared.latches.Written.{Written}
+use Rattle.world_model.specs.World.{Registers}
+use Rattle.pipe_model.specs.Stages.{Latches, State}
+use Rattle.machine.specs.DumpedState.{eight_from, traps_seen, timer_seen, words_seen}
+use Rattle.core_model.specs.Thread.{reg_in}
+
+-- what a latch shows
+abbrev pub fetched_held : Latch Fetched → Held
+fetched_held latch.Bubble = Nothing
+fetched_held (latch.Flushed k) = Picked k
+fetched_held (latch.Issue k x) = Picked k
+
+-- the word isn't shown where an expiry or a refused fetch will take the turn
+abbrev pub shown_word : ℕ → List Bool → ℕ → ℕ → Decoded → ℕ
+shown_word size confined iregions k x =
+    if x.expired || not (may_fetch k size (slice_index_or confined k true) iregions x.pc) then 0 else x.word
+
+-- what the second stage shows
+abbrev pub decoded_held : ℕ → List Bool → ℕ → Latch Decoded → Held
+decoded_held size confined iregions latch.Bubble = Nothing
+decoded_held size confined iregions (latch.Flushed k) = Flushed k
+decoded_held size confined iregions (latch.Issue k x) = Issue k x.pc (shown_word size confined iregions k x)
+
+-- what the third stage shows
+abbrev pub executed_held : Latch Executed → Held
+executed_held latch.Bubble = Nothing
+executed_held (latch.Flushed k) = Flushed k
+executed_held (latch.Issue k x) = Issue k x.pc x.word
+
+-- what the fourth stage shows
+abbrev pub stored_held : Latch Stored → Held
+stored_held latch.Bubble = Nothing
+stored_held (latch.Flushed k) = Flushed k
+stored_held (latch.Issue k x) = Issue k x.pc x.word
+
+-- what the fifth stage shows
+abbrev pub written_held : Latch Written → Held
+written_held latch.Bubble = Nothing
+written_held (latch.Flushed k) = Flushed k
+written_held (latch.Issue k x) = Issue k x.pc x.word
+
+-- the ten lines of the machine
+unfoldable pub head_line : Latches → ℕ → List Bool → Registers → ℕ → ℕ → List ℕ
+head_line p size confined registers at k =
+    if k == 0 then cycles_text at
+    else if k == 1 then stage_text (codes "F") (fetched_held p.f)
+    else if k == 2 then stage_text (codes "D") (decoded_held size confined registers.iregions p.d)
+    else if k == 3 then stage_text (codes "E") (executed_held p.e)
+    else if k == 4 then stage_text (codes "M") (stored_held p.m)
+    else if k == 5 then stage_text (codes "W") (written_held p.w)
+    else if k == 6 then word_text (codes "slots") registers.slots
+    else if k == 7 then word_text (codes "modes") registers.modes
+    else if k == 8 then word_text (codes "dregions") registers.dregions
+    else word_text (codes "iregions") registers.iregions
+
+-- the seven lines of a thread
+unfoldable pub thread_line : State → ℕ → ℕ → List ℕ
+thread_line u i k =
+    if k == 0 then thread_words_text i (codes "x00") (eight_from (reg_in (slice_index_or u.bank i [])) 0)
+    else if k == 1 then thread_words_text i (codes "x08") (eight_from (reg_in (slice_index_or u.bank i [])) 8)
+    else if k == 2 then thread_words_text i (codes "x16") (eight_from (reg_in (slice_index_or u.bank i [])) 16)
+    else if k == 3 then thread_words_text i (codes "x24") (eight_from (reg_in (slice_index_or u.bank i [])) 24)
+    else if k == 4 then traps_seen i (slice_index_or u.control.traps i no_own.trap)
+    else if k == 5 then timer_seen i (slice_index_or u.control.timers i no_own.timer) (slice_index_or u.control.sleeps i 0)
+    else latch_text i (rows.latch_seen (rows.row_at u.ports i))
+
+-- any line; from number 66 on those of the data scratchpad
+unfoldable pub dump_line : Latches → State → ℕ → ℕ → List ℕ
+dump_line p u at k =
+    if nat_lt k 10 then head_line p u.size u.confined u.control.registers at k
+    else if nat_lt k 66 then thread_line u ((k - 10) / 7) ((k - 10) % 7)
+    else words_seen u.d_words (k - 66)
+
+-- the lines before number k
+abbrev pub lines_before : Latches → State → ℕ → ℕ → List ℕ
+lines_before p u at k = flat_map (dump_line p u at) (range_with_len 0 k)
+
+-- the whole dump, by the fields of a machine
+abbrev pub dumped : Latches → State → ℕ → List ℕ
+dumped p u at = lines_before p u at (66 + u.size / 32)

@@ -1,2 +1,0 @@
-pub mod PortLemmas
-pub mod LineLemmas

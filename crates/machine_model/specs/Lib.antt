@@ -1,4 +1,0 @@
-pub mod DumpedState
-pub mod Fields
-pub mod Relation
-pub mod MachineLaws

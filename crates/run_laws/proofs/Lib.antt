@@ -1,0 +1,16 @@
+mod Lags
+mod Issues
+mod Seen
+mod Standings
+mod Around
+pub mod Picks
+mod Unpermitted
+pub mod Outside
+pub mod Steps
+pub mod Induction
+mod Quiet
+mod Equal
+mod Found
+mod Free
+mod Starts
+mod Traces

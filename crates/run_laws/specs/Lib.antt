@@ -1,0 +1,4 @@
+pub mod LagLaw
+pub mod Wide
+pub mod Isolation
+pub mod TraceLaws

@@ -1,0 +1,43 @@
+//! The laws of isolation for the machine of a setup, an image and ports: what a trace can't depend
+//! on. Each is the contract of a call that does nothing; its statement stands in
+//! specs/TraceLaws.antt.
+
+ghost use Rattle.run_laws.specs.TraceLaws.{EqualTraces, QuietSetup, TraceAlone, TraceByPhases, TraceByWideView};
+
+/// In a quiet run the trace of a confined hard hart is that of the definition of one hart over its
+/// view, whatever the seven others run.
+pub fn traces_alone()
+    ensures { TraceAlone }
+{
+    crate::isolation::runs_alone();
+}
+
+/// While no region register is written, and no setting of the scheduling makes it soft active, the
+/// trace of a confined hart is that of the definition of one hart over its view and the settings of
+/// the run.
+pub fn traces_by_phases()
+    ensures { TraceByPhases }
+{
+    crate::isolation::runs_by_phases();
+}
+
+/// Machines that agree in such a hart's view write equal traces of it.
+pub fn writes_equal_traces()
+    ensures { EqualTraces }
+{
+    crate::isolation::runs_alone();
+}
+
+/// A setup without a permit has quiet runs alone.
+pub fn stays_quiet()
+    ensures { QuietSetup }
+{
+    crate::isolation::stays_quiet();
+}
+
+/// In a quiet run the trace of a hard hart that isn't confined follows from its wide view.
+pub fn traces_by_wide_view()
+    ensures { TraceByWideView }
+{
+    crate::isolation::runs_by_wide_view();
+}

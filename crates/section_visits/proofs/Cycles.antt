@@ -1,0 +1,211 @@
+-- What a cycle of a quiet run does to one hard hart.
+use Rattle.std.proofs.Common.{◌≡◌, ℕ, zero, suc, ◌+◌, ◌%◌, ◌<◌, ◌≤◌, inl, inr, ◌⊎◌, Bool, true, false, ◌&&◌, List, [], ◌∷◌, map, get_or, length, length-set, refl, ap, ap₂, sym, ◌∙◌, subst, arith, get_or-set_other, get_or-set_same}
+use Rattle.std.specs.Prelude.{if◌then◌else◌, ◌==◌, nat_le, nat_lt}
+use Rattle.std.specs.List.{list_all}
+use Rattle.std.proofs.Math.ListN.{get_or-map}
+use Rattle.std.proofs.lemmas.List.{length-map}
+use Rattle.std.proofs.lemmas.Bool.Decides.{nat_tests}
+use Rattle.core_model.specs.Thread.{Thread, Done, fresh}
+use Rattle.core_model.specs.Solo.{has_position}
+use Rattle.slot_scheduler.specs.ModeWord.{mode_of}
+use Rattle.slot_scheduler.specs.Picking.{Picked, pick}
+use Rattle.slot_scheduler.specs.declared.picking.Pick.{Pick}
+use Rattle.slot_scheduler.specs.declared.picking.Pick.TheVariants.{Bubble, Issue}
+use Rattle.slot_table.specs.Frame.{frame}
+use Rattle.timer_unit.specs.Time.{time}
+use Rattle.world_model.specs.World.{Start, World, Registers, leaves_registers, thread_of, sched_of, takes, after_turn, Recent, recent, issue_of, issued, passed}
+use Rattle.world_model.specs.World.Took.{Lost, Ran}
+use Rattle.run_laws.proofs.Picks.{is_this, picks, both}
+use Rattle.run_laws.proofs.Steps.{Wakes, takes-wakes, equals, unequal, itself}
+use Rattle.run_laws.proofs.Induction.{one_of, two_of, sync_of}
+use Rattle.run_laws.proofs.Outside.{quiet_registers}
+use Rattle.region_tree.specs.Walk.{IsOwn}
+use Rattle.bound_calc.specs.Bound.{positions}
+use Rattle.section_visits.specs.Visits.{is_trap, issues_of}
+
+-- the hart issues in the cycle
+pub record Issues (s : Start) (i c : ℕ) (w after : World) (o : Pick) : Type 0 where
+  pub picked : is_this i o ≡ true
+  pub ready : (thread_of w i).ready ≤ c
+  pub thread : thread_of after i ≡ (issue_of s c w i).thread
+  pub issues : issues_of i after.turns ≡ record { cycle = length w.turns; pc = (thread_of w i).pc; traps = is_trap (issue_of s c w i).effect } ∷ issues_of i w.turns
+
+-- it does nothing
+pub record Rests (i c : ℕ) (w after : World) (o : Pick) : Type 0 where
+  pub thread : thread_of after i ≡ thread_of w i
+  pub issues : issues_of i after.turns ≡ issues_of i w.turns
+  pub early : is_this i o ≡ true → c < (thread_of w i).ready
+
+-- what is the same for all harts
+pub record Keeps (w after : World) : Type 0 where
+  pub registers : after.registers ≡ w.registers
+  pub count : length after.threads ≡ length w.threads
+  pub age : length after.turns ≡ suc (length w.turns)
+
+own-issues : (s : Start) (i c : ℕ) (w : World) (last : ℕ) → i < 8 → length w.threads ≡ 8 → nat_lt c (thread_of w i).ready ≡ false →
+    Issues s i c w (issued s c w last i (issue_of s c w i)) (Issue i)
+own-issues s i c w last h n e = record {
+  picked = itself i;
+  ready = grind (arith, nat_tests);
+  thread = get_or-set_same w.threads i (issue_of s c w i).thread (fresh 0) (omega arith);
+  issues = rw (itself i) refl;
+}
+
+pub takes-issues : (s : Start) (i c : ℕ) (w : World) (last : ℕ) (o : Pick) → i < 8 → length w.threads ≡ 8 → Issues s i c w (takes s c w last o) o ⊎ Rests i c w (takes s c w last o) o
+takes-issues s i c w last Bubble h n = inr (record { thread = refl; issues = refl; early = λ e. cc })
+takes-issues s i c w last (Issue k) h n = go (nat_lt c (thread_of w k).ready) refl (k == i) refl
+  where
+    W' : Bool → World
+    W' b = if b then passed w last (Lost k) else issued s c w last k (issue_of s c w k)
+
+    go : (b : Bool) → nat_lt c (thread_of w k).ready ≡ b → (m : Bool) → (k == i) ≡ m → Issues s i c w (W' b) (Issue k) ⊎ Rests i c w (W' b) (Issue k)
+    go true e m f = inr (record {
+      thread = refl;
+      issues = refl;
+      early = λ is. let l : c < (thread_of w k).ready = grind (arith, nat_tests) in subst (λ j. c < (thread_of w j).ready) (equals k i is) l;
+    })
+    go false e false f = inr (record {
+      thread = get_or-set_other w.threads k i (issue_of s c w k).thread (fresh 0) (λ e'. unequal k i f (sym e'));
+      issues = rw f refl;
+      early = λ is. cc;
+    })
+    go false e true f =
+        let same : k ≡ i = equals k i f in
+        let Late : ℕ → Type 0 = λ j. nat_lt c (thread_of w j).ready ≡ false in
+        let Goal : ℕ → Type 0 = λ j. Issues s i c w (issued s c w last j (issue_of s c w j)) (Issue j) in
+        inl (subst Goal (sym same) (own-issues s i c w last h n (subst Late same e)))
+
+pub takes-keeps : (s : Start) (c : ℕ) (w : World) (last : ℕ) (o : Pick) → list_all leaves_registers (takes s c w last o).turns ≡ true → Keeps w (takes s c w last o)
+takes-keeps s c w last Bubble q = record { registers = refl; count = refl; age = refl }
+takes-keeps s c w last (Issue k) q = go (nat_lt c (thread_of w k).ready) q
+  where
+    d : Done
+    d = issue_of s c w k
+
+    go : (b : Bool) → list_all leaves_registers (let x : World = if b then passed w last (Lost k) else issued s c w last k d in x).turns ≡ true → Keeps w (if b then passed w last (Lost k) else issued s c w last k d)
+    go true h = record { registers = refl; count = refl; age = refl }
+    go false h = record {
+      registers = quiet_registers k (thread_of w k).pc d.word d.effect w.registers (both (leaves_registers (Ran k (thread_of w k).pc d.word d.effect)) (list_all leaves_registers w.turns) h).0;
+      count = length-set w.threads k d.thread;
+      age = refl;
+    }
+
+-- a position of the hart's own
+own-there : (f : List ℕ) (c i : ℕ) → has_position (map (λ slot. slot == i) f) c ≡ true → IsOwn (record { frame = f; thread = i }) (c % length f)
+own-there f c i h = go (c % length f) (there h)
+  where
+    there : has_position (map (λ slot. slot == i) f) c ≡ true → get_or (map (λ slot. slot == i) f) (c % length f) false ≡ true
+    there h = sym (ap (λ n. get_or (map (λ slot. slot == i) f) (c % n) false) (length-map f (λ slot. slot == i))) ∙ h
+
+    go : (k : ℕ) → get_or (map (λ slot. slot == i) f) k false ≡ true → IsOwn (record { frame = f; thread = i }) k
+    go k e = at f k e
+      where
+        at : (f : List ℕ) (k : ℕ) → get_or (map (λ slot. slot == i) f) k false ≡ true → IsOwn (record { frame = f; thread = i }) k
+        at [] k e = cc
+        at (x ∷ xs) zero e = record { within = omega arith; own = equals x i e }
+        at (x ∷ xs) (suc k) e = let o = at xs k e in record { within = omega (arith, o.within); own = o.own }
+
+there-own : (f : List ℕ) (c i : ℕ) → IsOwn (record { frame = f; thread = i }) (c % length f) → has_position (map (λ slot. slot == i) f) c ≡ true
+there-own f c i o = ap (λ n. get_or (map (λ slot. slot == i) f) (c % n) false) (length-map f (λ slot. slot == i)) ∙ at f (c % length f) o
+  where
+    at : (f : List ℕ) (k : ℕ) → IsOwn (record { frame = f; thread = i }) k → get_or (map (λ slot. slot == i) f) k false ≡ true
+    at [] k o = absurd (omega (arith, o.within))
+    at (x ∷ xs) zero o = let e : x ≡ i = o.own in rw e (itself i)
+    at (x ∷ xs) (suc k) o = at xs k (record { within = omega (arith, o.within); own = o.own })
+
+-- before cycle c: the registers of the three worlds that picking still looks at, and the hart's sleep in them
+pub record Going (s : Start) (i c : ℕ) : Type 0 where
+  pub registers : (recent s c).now.registers ≡ s.registers
+  pub before : (recent s c).before.registers ≡ s.registers
+  pub earlier : (recent s c).earlier.registers ≡ s.registers
+  pub eight : length (recent s c).now.threads ≡ 8
+  pub age : length (recent s c).now.turns ≡ c
+  pub one : ((thread_of (recent s c).before i).own.sleep ≡ (thread_of (recent s c).now i).own.sleep) ⊎ (c + 2 ≤ (thread_of (recent s c).now i).ready)
+  pub two : ((thread_of (recent s c).earlier i).own.sleep ≡ (thread_of (recent s c).now i).own.sleep) ⊎ (c + 1 ≤ (thread_of (recent s c).now i).ready)
+
+pub begins : (s : Start) (i : ℕ) → length s.threads ≡ 8 → Going s i zero
+unfolding recent
+begins s i n = record { registers = refl; before = refl; earlier = refl; eight = n; age = refl; one = inl refl; two = inl refl }
+
+-- whether the hart is picked: at its own positions, while it is awake
+is-picked : (s : Start) (i c : ℕ) → i < 8 → mode_of s.registers.modes i ≡ 0 → (w : World) → w.registers ≡ s.registers → (last : ℕ) →
+    is_this i (pick (sched_of w) c (time s.period c) last).pick ≡ (has_position (map (λ slot. slot == i) (frame s.registers.slots)) c && nat_le (thread_of w i).own.sleep (time s.period c))
+is-picked s i c h hard w same last =
+    picks (sched_of w) c (time s.period c) last i h (ap (λ (r : Registers). mode_of r.modes i) same ∙ hard)
+    ∙ ap₂ (λ (r : Registers) (m : ℕ). has_position (map (λ slot. slot == i) (frame r.slots)) c && nat_le m (time s.period c)) same (get_or-map (λ (t : Thread). t.own.sleep) w.threads i (fresh 0))
+
+-- an issue of the hart
+pub record Goes (s : Start) (i c : ℕ) : Type 0 where
+  pub own : IsOwn (positions s.registers.slots i) (c % length (frame s.registers.slots))
+  pub ready : (thread_of (recent s c).now i).ready ≤ c
+  pub awake : (thread_of (recent s c).now i).own.sleep ≤ time s.period c
+  pub thread : thread_of (recent s (suc c)).now i ≡ (issue_of s c (recent s c).now i).thread
+  pub issues : issues_of i (recent s (suc c)).now.turns ≡ record { cycle = c; pc = (thread_of (recent s c).now i).pc; traps = is_trap (issue_of s c (recent s c).now i).effect } ∷ issues_of i (recent s c).now.turns
+
+-- no issue of the hart: the cycle isn't its turn, or it isn't ready, or it sleeps
+pub record Stays (s : Start) (i c : ℕ) : Type 0 where
+  pub thread : thread_of (recent s (suc c)).now i ≡ thread_of (recent s c).now i
+  pub issues : issues_of i (recent s (suc c)).now.turns ≡ issues_of i (recent s c).now.turns
+  pub idle : IsOwn (positions s.registers.slots i) (c % length (frame s.registers.slots)) → (thread_of (recent s c).now i).ready ≤ c → (thread_of (recent s c).now i).own.sleep ≤ time s.period c → ⊥
+
+pub cycles : (s : Start) (i c : ℕ) → i < 8 → mode_of s.registers.modes i ≡ 0 → Going s i c → Goes s i c ⊎ Stays s i c
+unfolding recent after_turn
+cycles s i c h hard g = go (takes-issues s i c r.now k.last k.pick h g.eight)
+  where
+    r : Recent
+    r = recent s c
+
+    k : Picked
+    k = pick (sched_of r.earlier) c (time s.period c) r.now.last
+
+    is : is_this i k.pick ≡ (has_position (map (λ slot. slot == i) (frame s.registers.slots)) c && nat_le (thread_of r.earlier i).own.sleep (time s.period c))
+    is = is-picked s i c h hard r.earlier g.earlier r.now.last
+
+    sync : ((thread_of r.earlier i).own.sleep ≡ (thread_of r.now i).own.sleep) ⊎ (c < (thread_of r.now i).ready)
+    sync = sync_of (thread_of r.earlier i).own.sleep (thread_of r.now i).own.sleep c (thread_of r.now i).ready g.two
+
+    awake : nat_le (thread_of r.earlier i).own.sleep (time s.period c) ≡ true → (thread_of r.now i).ready ≤ c → ((thread_of r.earlier i).own.sleep ≡ (thread_of r.now i).own.sleep) ⊎ (c < (thread_of r.now i).ready) → (thread_of r.now i).own.sleep ≤ time s.period c
+    awake e l (inl same) = let le : (thread_of r.earlier i).own.sleep ≤ time s.period c = grind (arith, nat_tests) in subst (λ m. m ≤ time s.period c) same le
+    awake e l (inr late) = absurd (omega arith)
+
+    asleep : IsOwn (positions s.registers.slots i) (c % length (frame s.registers.slots)) → (thread_of r.now i).ready ≤ c → (thread_of r.now i).own.sleep ≤ time s.period c →
+        ((thread_of r.earlier i).own.sleep ≡ (thread_of r.now i).own.sleep) ⊎ (c < (thread_of r.now i).ready) → is_this i k.pick ≡ true
+    asleep o l a (inl same) =
+        let at : has_position (map (λ slot. slot == i) (frame s.registers.slots)) c ≡ true = there-own (frame s.registers.slots) c i o in
+        let le : (thread_of r.earlier i).own.sleep ≤ time s.period c = subst (λ m. m ≤ time s.period c) (sym same) a in
+        let test : nat_le (thread_of r.earlier i).own.sleep (time s.period c) ≡ true = grind (arith, nat_tests) in
+        is ∙ rw at test
+    asleep o l a (inr late) = absurd (omega arith)
+
+    go : Issues s i c r.now (takes s c r.now k.last k.pick) k.pick ⊎ Rests i c r.now (takes s c r.now k.last k.pick) k.pick → Goes s i c ⊎ Stays s i c
+    go (inl y) =
+        let parts = both (has_position (map (λ slot. slot == i) (frame s.registers.slots)) c) (nat_le (thread_of r.earlier i).own.sleep (time s.period c)) (sym is ∙ y.picked) in
+        inl (record {
+          own = own-there (frame s.registers.slots) c i parts.0;
+          ready = y.ready;
+          awake = awake parts.1 y.ready sync;
+          thread = y.thread;
+          issues = y.issues ∙ ap (λ n. record { cycle = n; pc = (thread_of r.now i).pc; traps = is_trap (issue_of s c r.now i).effect } ∷ issues_of i r.now.turns) g.age;
+        })
+    go (inr y) = inr (record {
+      thread = y.thread;
+      issues = y.issues;
+      idle = λ o l a. let late = y.early (asleep o l a sync) in omega arith;
+    })
+
+pub goes_on : (s : Start) (i c : ℕ) → i < 8 → Going s i c → list_all leaves_registers (recent s (suc c)).now.turns ≡ true → Going s i (suc c)
+unfolding recent after_turn
+goes_on s i c h g quiet =
+    let r = recent s c in
+    let k = pick (sched_of r.earlier) c (time s.period c) r.now.last in
+    let y : Keeps r.now (takes s c r.now k.last k.pick) = takes-keeps s c r.now k.last k.pick quiet in
+    let wakes : Wakes c (thread_of r.now i) (thread_of (takes s c r.now k.last k.pick) i) = takes-wakes s i c r.now k.last k.pick h g.eight in
+    record {
+      registers = y.registers ∙ g.registers;
+      before = g.registers;
+      earlier = g.before;
+      eight = y.count ∙ g.eight;
+      age = y.age ∙ ap suc g.age;
+      one = one_of c (thread_of r.now i) (thread_of (takes s c r.now k.last k.pick) i) wakes;
+      two = two_of (thread_of r.before i).own.sleep c (thread_of r.now i) (thread_of (takes s c r.now k.last k.pick) i) wakes g.one;
+    }

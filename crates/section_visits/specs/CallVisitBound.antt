@@ -1,0 +1,34 @@
+-- What the bound through calls says of the runs of a machine.
+use Rattle.std.specs.Prelude.{◌≡◌, ℕ, ◌-◌, ◌%◌, ◌<◌, ◌≤◌, true, List, length}
+use Rattle.core_model.specs.Memory.{code_at}
+use Rattle.region_tree.specs.Graph.{Reachable}
+use Rattle.slot_scheduler.specs.ModeWord.{mode_of}
+use Rattle.world_model.specs.World.{Start, is_quiet, world}
+use Rattle.section_visits.specs.Visits.{Issued, first_of, issues_of}
+use Rattle.call_bounds.specs.Calls.{Calls, IsReached, Part, part}
+use Rattle.call_bounds.specs.CallRefusals.{IsCallable, IsListing}
+use Rattle.call_bounds.specs.CallWalk.{CostsOf, route}
+use Rattle.section_visits.specs.CallVisits.{IsCallVisit, KeepsBounds, KeepsReturns}
+
+-- a reachable word of a reached part
+pub record IsMet (x : Calls) (u : ℕ) : Type 0 where
+  pub place : Part
+  pub reached : IsReached x place
+  pub word : Reachable (part x place) u
+
+-- A machine with these slots, where the thread is hard and active at the start, and where the
+-- reached parts have the same words.
+pub record IsHost (s : Start) (x : Calls) (slots thread : ℕ) : Type 0 where
+  pub eight : length s.threads ≡ 8
+  pub hard : mode_of s.registers.modes thread ≡ 0
+  pub same_slots : s.registers.slots ≡ slots
+  pub same_words : (u : ℕ) → u % 4 ≡ 0 → IsMet x u → u < s.size → code_at s.size s.i_words u ≡ x.word u
+
+-- No call visit of such a machine that keeps returns and the stated bounds is longer than a number
+-- that no call walk costs more than.
+abbrev pub CallVisitsAreBounded : Type 0
+CallVisitsAreBounded =
+    (x : Calls) (slots thread b : ℕ) (s : Start) (n : ℕ) → IsListing x → IsCallable x → ((c : ℕ) → CostsOf (route x slots thread) c → c ≤ b) →
+    IsHost s x slots thread → is_quiet s n ≡ true → (last : Issued) (before : List Issued) →
+    IsCallVisit x (issues_of thread (world s n).turns) last before → KeepsReturns x last before → KeepsBounds x last before →
+    last.cycle - (first_of last before).cycle ≤ b

@@ -1,0 +1,32 @@
+-- What the bound of a section with routines says of the machines of setups, images and ports.
+use Rattle.std.specs.Prelude.{◌≡◌, ℕ, ◌-◌, ◌%◌, ◌<◌, ◌≤◌, List}
+use Rattle.fp_image.specs.Rules.{word}
+use Rattle.fp_setup.specs.Rules.{KeepsRules}
+use Rattle.slot_scheduler.specs.ModeWord.{mode_of}
+use Rattle.call_bounds.specs.CallRefusals.{IsCallable, IsListing}
+use Rattle.call_bounds.specs.CallWalk.{CostsOf, route}
+use Rattle.call_bounds.specs.Calls.{Calls}
+use Rattle.section_visits.specs.CallVisits.{IsCallVisit, KeepsBounds, KeepsReturns}
+use Rattle.section_visits.specs.CallVisitBound.{IsMet}
+use Rattle.run_laws.specs.TraceLaws.{IsQuiet, Machine}
+use Rattle.section_visits.specs.SetupVisitBound.{issues}
+use Rattle.section_visits.specs.Visits.{Issued, first_of}
+
+-- a machine with these slots, in which thread i is hard and active at the start, and whose image
+-- has these words in all reached parts of a section with routines
+pub record IsAlikeInParts (m : Machine) (i slots : ℕ) (x : Calls) : Type 0 where
+  pub hard : mode_of m.setup.modes i ≡ 0
+  pub same_slots : m.setup.slots ≡ slots
+  pub same_words : (u : ℕ) → u % 4 ≡ 0 → IsMet x u → word m.image u ≡ x.word u
+
+-- Where no call walk through a section with routines costs more than a number, no call visit of
+-- thread i is longer that keeps returns and the bounds of the loops that count: in every quiet run
+-- of every machine whose setup keeps the rules, as each accepted one does, and that is alike in the
+-- slots, in i's mode and in the words of the reached parts, whatever else its setup says, its image
+-- holds and its ports show.
+abbrev pub CallVisitsStayBounded : Type 0
+CallVisitsStayBounded =
+    (x : Calls) (slots i b : ℕ) (m : Machine) (n : ℕ) → IsListing x → IsCallable x → ((c : ℕ) → CostsOf (route x slots i) c → c ≤ b) →
+    KeepsRules m.setup → IsAlikeInParts m i slots x → IsQuiet m n → (last : Issued) (before : List Issued) →
+    IsCallVisit x (issues m i n) last before → KeepsReturns x last before → KeepsBounds x last before →
+    last.cycle - (first_of last before).cycle ≤ b

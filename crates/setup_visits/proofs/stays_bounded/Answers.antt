@@ -1,5 +1,0 @@
-use Rattle.setup_visits.proofs.Starts.{visits_stay_bounded}
-use Rattle.setup_visits.proofs.stays_bounded.Goals as goal
-
-pub returns : goal.returns
-returns c = visits_stay_bounded c.stays_bounded.ensures

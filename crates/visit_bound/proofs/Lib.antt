@@ -1,6 +1,0 @@
-pub mod Instructions
-pub mod Cycles
-pub mod Linking
-pub mod Links
-pub mod Visited
-mod Rows
