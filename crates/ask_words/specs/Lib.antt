@@ -5,3 +5,4 @@ pub mod Code
 pub mod Rules
 pub mod Causes
 pub mod Limits
+pub use Rattle.clap.specs.Words

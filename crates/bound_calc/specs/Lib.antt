@@ -9,3 +9,8 @@ pub mod Matrices
 pub mod Hops
 pub mod Passing
 pub mod Rounds
+pub use Rattle.region_tree.specs.Graph
+pub use Rattle.region_tree.specs.Search
+pub use Rattle.region_tree.specs.Tree
+pub use Rattle.region_tree.specs.Walk
+pub use Rattle.slot_table.specs.Frame

@@ -6,3 +6,5 @@ pub mod Elf
 pub mod Bound
 pub mod Calls
 pub mod Stops
+pub use Rattle.fp_io.specs.Content
+pub use Rattle.trace_print.specs.Bounds

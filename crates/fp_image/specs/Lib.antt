@@ -1,2 +1,3 @@
 pub mod Rules
 pub mod Format
+pub use Rattle.region_guard.specs.Regions

@@ -1,3 +1,17 @@
 pub mod LatchFacts
 pub mod AsDefined
 pub mod AccessRights
+pub use Rattle.core_model.specs.Memory
+pub use Rattle.core_model.specs.Thread
+pub use Rattle.core_model.specs.declared.own.Own
+pub use Rattle.fp_ports.specs.Rows
+pub use Rattle.hart_exec.specs.AsDefined as HartExecAsDefined
+pub use Rattle.pipe_model.specs.PipelineLaws
+pub use Rattle.pipe_model.specs.Relation
+pub use Rattle.pipe_model.specs.Stages
+pub use Rattle.pipe_model.specs.declared.latches.Held
+pub use Rattle.region_guard.specs.Regions
+pub use Rattle.rv_exec.specs.declared.outcome.Effect
+pub use Rattle.slot_scheduler.specs.Picking
+pub use Rattle.timer_unit.specs.Time
+pub use Rattle.world_model.specs.World

@@ -4,3 +4,4 @@ pub mod Walk
 pub mod Refusals
 pub mod Tree
 pub mod Search
+pub use Rattle.fp_image.specs.Rules

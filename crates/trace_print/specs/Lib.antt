@@ -5,3 +5,5 @@ pub mod Places
 pub mod Refusals
 pub mod Bounds
 pub mod DumpLines
+pub use Rattle.arrayvec.specs.ArrayString
+pub use Rattle.rv_exec.specs.Line
