@@ -47,7 +47,7 @@ module _ (s : Shape) (names : List Text) (again : s.args_override_self ≡ false
     pub is : w ≡ idle_walk rows pending skip position
     pub rows_are : settled_rows s.rules pending rows ≡ map shown given
     pub passes : settle_passes s.rules false (record { rows = rows; pending = pending; skip = skip }) ≡ true
-    pub place : count_of file_id given ≡ 0 → position ≡ 1
+    pub at_first : count_of file_id given ≡ 0 → position ≡ 1
 
   -- it stands after an option whose value comes next
   pub record Waits (n : Text) (given : Pairs) (w : Walk) : Type 0 where
@@ -57,7 +57,7 @@ module _ (s : Shape) (names : List Text) (again : s.args_override_self ≡ false
     pub is : w ≡ waiting_walk rows n skip position
     pub rows_are : rows ≡ map shown given
     pub known : is_among names n ≡ true
-    pub place : count_of file_id given ≡ 0 → position ≡ 1
+    pub at_first : count_of file_id given ≡ 0 → position ≡ 1
 
   abbrev pub Stands : Option Text → Pairs → Walk → Type 0
   Stands None given w = Ends given w
@@ -90,23 +90,23 @@ module _ (s : Shape) (names : List Text) (again : s.args_override_self ≡ false
       is = ap (λ (x : Walk). walked s.rules [] x word) st.is ∙ value_step s names again k st.rows st.skip st.position word n st.known p;
       rows_are = settled_option s.rules names k st.rows word n st.known ∙ added n word given st.rows st.rows_are z;
       passes = settle_option s.rules names k st.rows word n st.skip st.known (no_row_at n given st.rows st.rows_are z);
-      place = λ e. st.place (fewer given (n, word) e);
+      at_first = λ e. st.at_first (fewer given (n, word) e);
     },
   )
 
   file_ends : (word : Text) (given : Pairs) (w : Walk) (st : Ends given w) → is_plain word ≡ true → count_of file_id given ≡ 0
       → (turn_passes s [] w word ≡ true) × Ends (given ++ (file_id, word) ∷ []) (walked s.rules [] w word)
   file_ends word given w st p z = (
-    rw st.is (file_passes s names again k st.rows st.skip st.position word st.pending p (st.place z) st.passes),
+    rw st.is (file_passes s names again k st.rows st.skip st.position word st.pending p (st.at_first z) st.passes),
     record {
       rows = settled_rows s.rules st.pending st.rows;
       pending = Some (file_id, word ∷ []);
       skip = st.skip;
       position = 2;
-      is = ap (λ (x : Walk). walked s.rules [] x word) st.is ∙ file_step s names again k st.rows st.skip st.position word st.pending p (st.place z);
+      is = ap (λ (x : Walk). walked s.rules [] x word) st.is ∙ file_step s names again k st.rows st.skip st.position word st.pending p (st.at_first z);
       rows_are = settled_file s.rules names k (settled_rows s.rules st.pending st.rows) word ∙ added file_id word given (settled_rows s.rules st.pending st.rows) st.rows_are z;
       passes = settle_file s.rules names k (settled_rows s.rules st.pending st.rows) word st.skip (no_row_at file_id given (settled_rows s.rules st.pending st.rows) st.rows_are z);
-      place = λ e. absurd (none_after word given e);
+      at_first = λ e. absurd (none_after word given e);
     },
   )
 
@@ -122,7 +122,7 @@ module _ (s : Shape) (names : List Text) (again : s.args_override_self ≡ false
       is = ap (λ (x : Walk). walked s.rules [] x word) st.is ∙ whole_step s names again k st.rows st.skip st.position word st.pending n v f;
       rows_are = added n v given (settled_rows s.rules st.pending st.rows) st.rows_are z;
       passes = refl;
-      place = λ e. st.place (fewer given (n, v) e);
+      at_first = λ e. st.at_first (fewer given (n, v) e);
     },
   )
 
@@ -137,7 +137,7 @@ module _ (s : Shape) (names : List Text) (again : s.args_override_self ≡ false
       is = ap (λ (x : Walk). walked s.rules [] x word) st.is ∙ opens_step s names again k st.rows st.skip st.position word st.pending n f;
       rows_are = st.rows_are;
       known = f.2;
-      place = st.place;
+      at_first = st.at_first;
     },
   )
 

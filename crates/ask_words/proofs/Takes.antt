@@ -138,7 +138,7 @@ module _ (name : Text) (names : List Text) where
       let knows : Knows top.rules names = subst (λ (c : List Rule). Knows c names) (sym is) (knows_rules names fit) in
       let counts = once_each ps (file_id ∷ names) once in
       let least : Once top names refl knows ps = λ id m. le_of_one _ (among (λ n. count_of n ps ≡ 1) (file_id ∷ names) counts id m) in
-      let start : Ends top names refl knows [] (walk_from nothing_held) = record { rows = []; pending = None; skip = 0; position = 1; is = refl; rows_are = refl; passes = refl; place = λ _. refl } in
+      let start : Ends top names refl knows [] (walk_from nothing_held) = record { rows = []; pending = None; skip = 0; position = 1; is = refl; rows_are = refl; passes = refl; at_first = λ _. refl } in
       let all = sim top names refl knows words None [] ps (walk_from nothing_held) start e least in
       let ended = settled_rows top.rules all.1.pending all.1.rows in
       let rows_are : ended ≡ map shown ps = all.1.rows_are in

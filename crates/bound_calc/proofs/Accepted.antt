@@ -15,9 +15,9 @@ use Rattle.region_tree.specs.Refusals.{Crosses, IsAllowed, depth, loop_at}
 use Rattle.region_tree.specs.Tree.{IsTree, Tree, graph, word_at}
 use Rattle.region_tree.proofs.EdgeLaws.{lag-short}
 
--- a loop of the list is the one at its place
-at-place : (loops : List LoopSetup) (j : LoopSetup) (h : Contains loops j) → loop_at loops h.0 ≡ j
-at-place loops j h = get_or_default loops h.0 (record { head = 0; last = 0; limit = 0 }) j h.1 ∙ h.2
+-- a loop of the list is the one at its index
+at-index : (loops : List LoopSetup) (j : LoopSetup) (h : Contains loops j) → loop_at loops h.0 ≡ j
+at-index loops j h = get_or_default loops h.0 (record { head = 0; last = 0; limit = 0 }) j h.1 ∙ h.2
 
 pub inside-or : (j i : LoopSetup) → (Inside j i) ⊎ (Inside j i → ⊥)
 inside-or j i = go (let z : (j.head < i.head) ⊎ (i.head ≤ j.head) = grind arith in z) (let z : (i.last ≤ j.last) ⊎ (j.last < i.last) = grind arith in z)
@@ -64,11 +64,11 @@ accepted-of g ordered is = record {
     crossed : (j i : LoopSetup) (a : Contains g.loops j) (b : Contains g.loops i) → a.0 < b.0 → j.head ≤ i.last → i.head ≤ j.last → (Inside j i → ⊥) → (Inside i j → ⊥) → ⊥
     crossed j i a b order low high out out' =
         let crosses : Crosses (loop_at g.loops a.0) (loop_at g.loops b.0) =
-        subst (λ k. Crosses k (loop_at g.loops b.0)) (sym (at-place g.loops j a)) (subst (λ k. Crosses j k) (sym (at-place g.loops i b)) (record { below = low; above = high; apart = out; apart' = out' })) in
+        subst (λ k. Crosses k (loop_at g.loops b.0)) (sym (at-index g.loops j a)) (subst (λ k. Crosses j k) (sym (at-index g.loops i b)) (record { below = low; above = high; apart = out; apart' = out' })) in
         is.nesting (loop_at g.loops b.0).head (inl (record { earlier = a.0; later = b.0; order = order; within = b.1; crosses = crosses; address = refl }))
 
     nest : (j i : LoopSetup) (a : Contains g.loops j) (b : Contains g.loops i) → j.head ≤ i.last → i.head ≤ j.last → (a.0 < b.0) ⊎ ((a.0 ≡ b.0) ⊎ (b.0 < a.0)) → (j ≡ i) ⊎ (Inside j i ⊎ Inside i j)
-    nest j i a b low high (inr (inl same)) = inl (sym (at-place g.loops j a) ∙ (ap (loop_at g.loops) same ∙ at-place g.loops i b))
+    nest j i a b low high (inr (inl same)) = inl (sym (at-index g.loops j a) ∙ (ap (loop_at g.loops) same ∙ at-index g.loops i b))
     nest j i a b low high (inl order) = inr (go (inside-or j i) (inside-or i j))
       where
         go : (Inside j i) ⊎ (Inside j i → ⊥) → (Inside i j) ⊎ (Inside i j → ⊥) → Inside j i ⊎ Inside i j

@@ -33,61 +33,61 @@ advance-same row hops n old mid none a = record {
     there r x d q is h (inr same) = absurd (none x d q (ap (λ k. slice_index_or row k None) (sym same) ∙ is) (ap (λ k. slice_index_or hops k None) (sym same) ∙ h))
 
 -- one sum taken in
-advance-one : (row : List (Option ℕ)) (hops : List (Option Hop)) (n x : ℕ) (h : Hop) (old mid : List (Option ℕ)) → slice_index_or row n None ≡ Some x → slice_index_or hops n None ≡ Some h → h.place < length mid → IsAdvanced row hops n old mid →
-    IsAdvanced row hops (n + 1) old (slice_set mid h.place (larger_of (slice_index_or mid h.place None) (Some (min (x + h.cost) ceiling))))
-advance-one row hops n x h old mid is hop place a = record {
-  count = length-set mid h.place (larger_of (slice_index_or mid h.place None) (Some (min (x + h.cost) ceiling))) ∙ a.count;
-  kept = λ q c o. let m = a.kept q c o in more q c m.0 m.2 m.1 (is_or_not q h.place);
+advance-one : (row : List (Option ℕ)) (hops : List (Option Hop)) (n x : ℕ) (h : Hop) (old mid : List (Option ℕ)) → slice_index_or row n None ≡ Some x → slice_index_or hops n None ≡ Some h → h.position < length mid → IsAdvanced row hops n old mid →
+    IsAdvanced row hops (n + 1) old (slice_set mid h.position (larger_of (slice_index_or mid h.position None) (Some (min (x + h.cost) ceiling))))
+advance-one row hops n x h old mid is hop position a = record {
+  count = length-set mid h.position (larger_of (slice_index_or mid h.position None) (Some (min (x + h.cost) ceiling))) ∙ a.count;
+  kept = λ q c o. let m = a.kept q c o in more q c m.0 m.2 m.1 (is_or_not q h.position);
   there = λ r y d q lt z hops_q. there r y d q z hops_q (let w : (r < n) ⊎ (r ≡ n) = grind arith in w);
-  from = λ q e z. from q e z (is_or_not q h.place);
+  from = λ q e z. from q e z (is_or_not q h.position);
 }
   where
     new : List (Option ℕ)
-    new = slice_set mid h.place (larger_of (slice_index_or mid h.place None) (Some (min (x + h.cost) ceiling)))
+    new = slice_set mid h.position (larger_of (slice_index_or mid h.position None) (Some (min (x + h.cost) ceiling)))
 
-    at : slice_index_or new h.place None ≡ larger_of (slice_index_or mid h.place None) (Some (min (x + h.cost) ceiling))
-    at = get_or-set_same mid h.place (larger_of (slice_index_or mid h.place None) (Some (min (x + h.cost) ceiling))) None place
+    at : slice_index_or new h.position None ≡ larger_of (slice_index_or mid h.position None) (Some (min (x + h.cost) ceiling))
+    at = get_or-set_same mid h.position (larger_of (slice_index_or mid h.position None) (Some (min (x + h.cost) ceiling))) None position
 
-    more : (q c m : ℕ) → c ≤ m → slice_index_or mid q None ≡ Some m → (q ≡ h.place) ⊎ (q ≢ h.place) → (e : ℕ) × (slice_index_or new q None ≡ Some e) × (c ≤ e)
+    more : (q c m : ℕ) → c ≤ m → slice_index_or mid q None ≡ Some m → (q ≡ h.position) ⊎ (q ≢ h.position) → (e : ℕ) × (slice_index_or new q None ≡ Some e) × (c ≤ e)
     more q c m le is_mid (inl same) =
-        let l = larger-left (slice_index_or mid h.place None) (Some (min (x + h.cost) ceiling)) m (ap (λ k. slice_index_or mid k None) (sym same) ∙ is_mid) in
+        let l = larger-left (slice_index_or mid h.position None) (Some (min (x + h.cost) ceiling)) m (ap (λ k. slice_index_or mid k None) (sym same) ∙ is_mid) in
         (l.0, (ap (λ k. slice_index_or new k None) same ∙ at) ∙ l.1, omega (arith, l.2))
-    more q c m le is_mid (inr other) = (m, get_or-set_other mid h.place q (larger_of (slice_index_or mid h.place None) (Some (min (x + h.cost) ceiling))) None other ∙ is_mid, le)
+    more q c m le is_mid (inr other) = (m, get_or-set_other mid h.position q (larger_of (slice_index_or mid h.position None) (Some (min (x + h.cost) ceiling))) None other ∙ is_mid, le)
 
     there : (r y d q : ℕ) → slice_index_or row r None ≡ Some y → Hops hops r d q → (r < n) ⊎ (r ≡ n) → (e : ℕ) × (slice_index_or new q None ≡ Some e) × (min (y + d) ceiling ≤ e)
-    there r y d q z hops_q (inl below) = let m = a.there r y d q below z hops_q in more q (min (y + d) ceiling) m.0 m.2 m.1 (is_or_not q h.place)
+    there r y d q z hops_q (inl below) = let m = a.there r y d q below z hops_q in more q (min (y + d) ceiling) m.0 m.2 m.1 (is_or_not q h.position)
     there r y d q z hops_q (inr same) =
         let sums : Some x ≡ Some y = sym is ∙ (ap (λ k. slice_index_or row k None) (sym same) ∙ z) in
         let sum : x ≡ y = cc in
-        let steps : Some h ≡ Some (record { cost = d; place = q }) = sym hop ∙ (ap (λ k. slice_index_or hops k None) (sym same) ∙ hops_q) in
-        let step : h ≡ record { cost = d; place = q } = cc in
+        let steps : Some h ≡ Some (record { cost = d; position = q }) = sym hop ∙ (ap (λ k. slice_index_or hops k None) (sym same) ∙ hops_q) in
+        let step : h ≡ record { cost = d; position = q } = cc in
         let cost : h.cost ≡ d = ap (λ (k : Hop). k.cost) step in
-        let to : h.place ≡ q = ap (λ (k : Hop). k.place) step in
-        let l = larger-right (slice_index_or mid h.place None) (Some (min (x + h.cost) ceiling)) (min (x + h.cost) ceiling) refl in
+        let to : h.position ≡ q = ap (λ (k : Hop). k.position) step in
+        let l = larger-right (slice_index_or mid h.position None) (Some (min (x + h.cost) ceiling)) (min (x + h.cost) ceiling) refl in
         (l.0, (ap (λ k. slice_index_or new k None) (sym to) ∙ at) ∙ l.1, subst (λ n. min n ceiling ≤ l.0) (let both : x + h.cost ≡ y + d = omega arith in both) l.2)
 
-    from : (q e : ℕ) → slice_index_or new q None ≡ Some e → (q ≡ h.place) ⊎ (q ≢ h.place) → (slice_index_or old q None ≡ Some e) ⊎ ((r : ℕ) × (x : ℕ) × (d : ℕ) × (r < n + 1) × (slice_index_or row r None ≡ Some x) × Hops hops r d q × (e ≡ min (x + d) ceiling))
-    from q e z (inl same) = came (larger-from (slice_index_or mid h.place None) (Some (min (x + h.cost) ceiling)) e (sym at ∙ (ap (λ k. slice_index_or new k None) (sym same) ∙ z)))
+    from : (q e : ℕ) → slice_index_or new q None ≡ Some e → (q ≡ h.position) ⊎ (q ≢ h.position) → (slice_index_or old q None ≡ Some e) ⊎ ((r : ℕ) × (x : ℕ) × (d : ℕ) × (r < n + 1) × (slice_index_or row r None ≡ Some x) × Hops hops r d q × (e ≡ min (x + d) ceiling))
+    from q e z (inl same) = came (larger-from (slice_index_or mid h.position None) (Some (min (x + h.cost) ceiling)) e (sym at ∙ (ap (λ k. slice_index_or new k None) (sym same) ∙ z)))
       where
-        came : (slice_index_or mid h.place None ≡ Some e) ⊎ (Some (min (x + h.cost) ceiling) ≡ Some e) → (slice_index_or old q None ≡ Some e) ⊎ ((r : ℕ) × (x : ℕ) × (d : ℕ) × (r < n + 1) × (slice_index_or row r None ≡ Some x) × Hops hops r d q × (e ≡ min (x + d) ceiling))
+        came : (slice_index_or mid h.position None ≡ Some e) ⊎ (Some (min (x + h.cost) ceiling) ≡ Some e) → (slice_index_or old q None ≡ Some e) ⊎ ((r : ℕ) × (x : ℕ) × (d : ℕ) × (r < n + 1) × (slice_index_or row r None ≡ Some x) × Hops hops r d q × (e ≡ min (x + d) ceiling))
         came (inl m) = elim (a.from q e (ap (λ k. slice_index_or mid k None) same ∙ m)) [ inl o ↦ inl o | inr y ↦ inr (y.0, y.1, y.2, omega (arith, y.3), y.4, y.5, y.6) ]
-        came (inr s) = inr (n, x, h.cost, omega arith, is, hop ∙ (λ i. Some (record { cost = h.cost; place = sym same i })), (let k : min (x + h.cost) ceiling ≡ e = cc in sym k))
-    from q e z (inr other) = elim (a.from q e (sym (get_or-set_other mid h.place q (larger_of (slice_index_or mid h.place None) (Some (min (x + h.cost) ceiling))) None other) ∙ z)) [ inl o ↦ inl o | inr y ↦ inr (y.0, y.1, y.2, omega (arith, y.3), y.4, y.5, y.6) ]
+        came (inr s) = inr (n, x, h.cost, omega arith, is, hop ∙ (λ i. Some (record { cost = h.cost; position = sym same i })), (let k : min (x + h.cost) ceiling ≡ e = cc in sym k))
+    from q e z (inr other) = elim (a.from q e (sym (get_or-set_other mid h.position q (larger_of (slice_index_or mid h.position None) (Some (min (x + h.cost) ceiling))) None other) ∙ z)) [ inl o ↦ inl o | inr y ↦ inr (y.0, y.1, y.2, omega (arith, y.3), y.4, y.5, y.6) ]
 
 pub advance-more : (row : List (Option ℕ)) (hops : List (Option Hop)) (n : ℕ) (old mid : List (Option ℕ)) → ((p d q : ℕ) → Hops hops p d q → q < 8) → length mid ≡ 8 → IsAdvanced row hops n old mid → IsAdvanced row hops (n + 1) old (raised (slice_index_or row n None) (slice_index_or hops n None) mid)
-advance-more row hops n old mid places count a = go (slice_index_or row n None) (slice_index_or hops n None) refl refl
+advance-more row hops n old mid positions count a = go (slice_index_or row n None) (slice_index_or hops n None) refl refl
   where
     go : (sum : Option ℕ) (hop : Option Hop) → slice_index_or row n None ≡ sum → slice_index_or hops n None ≡ hop → IsAdvanced row hops (n + 1) old (raised sum hop mid)
     go None hop is at = advance-same row hops n old mid (λ x d q z h. let k : None ≡ Some x = sym is ∙ z in cc) a
-    go (Some x) None is at = advance-same row hops n old mid (λ y d q z h. let k : None ≡ Some (record { cost = d; place = q }) = sym at ∙ h in cc) a
-    go (Some x) (Some h) is at = advance-one row hops n x h old mid is at (let p = places n h.cost h.place at in omega arith) a
+    go (Some x) None is at = advance-same row hops n old mid (λ y d q z h. let k : None ≡ Some (record { cost = d; position = q }) = sym at ∙ h in cc) a
+    go (Some x) (Some h) is at = advance-one row hops n x h old mid is at (let p = positions n h.cost h.position at in omega arith) a
 
 -- the row of a matrix
 abbrev pub row_of : Matrix → ℕ → List (Option ℕ)
 row_of m p = slice_index_or m.best p []
 
 pub best-advanced : (here onto new : Matrix) (hops : List (Option Hop)) → ((p d q : ℕ) → Hops hops p d q → (p < 8) × (q < 8)) → ((p : ℕ) → p < 8 → IsAdvanced (row_of here p) hops 8 (row_of onto p) (row_of new p)) → IsBest (entry new) (Either (In (entry onto)) (Then (In (entry here)) (Hops hops)))
-best-advanced here onto new hops places rows = (covers, among)
+best-advanced here onto new hops positions rows = (covers, among)
   where
     covers : Covers (entry new) (Either (In (entry onto)) (Then (In (entry here)) (Hops hops)))
     covers p c q (inl e) =
@@ -96,7 +96,7 @@ best-advanced here onto new hops places rows = (covers, among)
         (k.0, entry-in new p q r.0 r.1 ∙ k.1, (let le = k.2 in min-under c k.0 ceiling le))
     covers p c q (inr t) =
         let r = entry-range here p t.at t.one t.first in
-        let lt : q < 8 = (places t.at t.two q t.second).1 in
+        let lt : q < 8 = (positions t.at t.two q t.second).1 in
         let k = (rows p r.0).there t.at t.one t.two q r.1 (sym (entry-in here p t.at r.0 r.1) ∙ t.first) t.second in
         (k.0, entry-in new p q r.0 lt ∙ k.1, subst (λ n. min n ceiling ≤ k.0) (sym t.cost) k.2)
 
@@ -120,14 +120,14 @@ farthest-more row hops n old mid new f stays upper met = record {
   where
     up : (r x d q : ℕ) → slice_index_or row r None ≡ Some x → Hops hops r d q → (r < n) ⊎ (r ≡ n) → min (x + d) ceiling ≤ new
     up r x d q is h (inl below) = ≤-step (min (x + d) ceiling) mid new (f.upper r x d q below is h) stays
-    up r x d q is h (inr same) = upper x (record { cost = d; place = q }) (ap (λ k. slice_index_or row k None) (sym same) ∙ is) (ap (λ k. slice_index_or hops k None) (sym same) ∙ h)
+    up r x d q is h (inr same) = upper x (record { cost = d; position = q }) (ap (λ k. slice_index_or row k None) (sym same) ∙ is) (ap (λ k. slice_index_or hops k None) (sym same) ∙ h)
 
     Met : ℕ → Type 0
     Met c = (r : ℕ) × (x : ℕ) × (d : ℕ) × (q : ℕ) × (r < n + 1) × (slice_index_or row r None ≡ Some x) × Hops hops r d q × (c ≡ min (x + d) ceiling)
 
     found : ((new ≡ mid) ⊎ ((x : ℕ) × (h : Hop) × (slice_index_or row n None ≡ Some x) × (slice_index_or hops n None ≡ Some h) × (new ≡ min (x + h.cost) ceiling))) → (new ≡ old) ⊎ Met new
     found (inl same) = elim f.met [ inl e ↦ inl (same ∙ e) | inr y ↦ inr (y.0, y.1, y.2, y.3, omega (arith, y.4), y.5, y.6, same ∙ y.7) ]
-    found (inr (x, h, is, at, e)) = inr (n, x, h.cost, h.place, omega arith, is, at, e)
+    found (inr (x, h, is, at, e)) = inr (n, x, h.cost, h.position, omega arith, is, at, e)
 
 -- over the rows below n
 pub record IsLeftBelow (here : Matrix) (hops : List (Option Hop)) (n old new : ℕ) : Type 0 where

@@ -67,7 +67,7 @@ best-join a b m cells = (covers, among)
     among : Among (entry m) (Either (In (entry a)) (In (entry b)))
     among p c q e = let r = entry-range m p q c e in (c, larger-from (entry a p q) (entry b p q) c (sym (at p q r.0 r.1) ∙ e), refl)
 
--- the largest sum over the places between
+-- the largest sum over the positions between
 sum-from : (x y : Option ℕ) (c : ℕ) → sum_of x y ≡ Some c → (a : ℕ) × (b : ℕ) × (x ≡ Some a) × (y ≡ Some b) × (c ≡ min (a + b) ceiling)
 unfolding sum_of
 sum-from None y c h = cc

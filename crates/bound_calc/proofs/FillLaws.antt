@@ -1,4 +1,4 @@
--- The powers of the loops from a place on are those of a part.
+-- The powers of the loops from an index on are those of a part.
 use Rattle.std.proofs.Common.{◌≡◌, ◌≢◌, ℕ, zero, suc, ◌+◌, ◌<◌, ◌≤◌, ◌⊎◌, [], ◌∷◌, ◌++◌, arith, refl, subst, sym, ap, ◌∙◌, inl, inr, length, Some, None, slice_set, get_or-set_other, get_or-set_same, length-set, Contains, Box, Global}
 use Rattle.std.specs.Option.{option_map}
 use Rattle.fp_setup.specs.declared.loop_list.LoopSetup.{LoopSetup}
@@ -7,13 +7,13 @@ use Rattle.region_tree.specs.Graph.Reachable.{first}
 use Rattle.region_tree.specs.Search.{address}
 use Rattle.region_tree.specs.Tree.{IsTree, Tree, graph}
 use Rattle.region_tree.specs.Walk.{Positions}
-use Rattle.region_tree.proofs.GraphLaws.{place-address}
+use Rattle.region_tree.proofs.GraphLaws.{index-address}
 use Rattle.bound_calc.specs.declared.matrix.Matrix.{Matrix}
 use Rattle.bound_calc.specs.Best.{IsBest}
 use Rattle.bound_calc.specs.Context.{Net, Part, Walk, body}
 use Rattle.bound_calc.specs.Context.Walk.{start, step}
 use Rattle.bound_calc.specs.Matrices.{entry}
-use Rattle.bound_calc.specs.Passing.{IsFilled, IsPowers, IsReady, Powers, AreWays, over, place, power_at, walks, WaysOn}
+use Rattle.bound_calc.specs.Passing.{IsFilled, IsPowers, IsReady, Powers, AreWays, over, index, power_at, walks, WaysOn}
 use Rattle.bound_calc.specs.Section.{IsModest, net, whole}
 use Rattle.bound_calc.specs.Ways.{Rounds}
 use Rattle.bound_calc.proofs.Accepted.{accepted, modest}
@@ -26,16 +26,16 @@ pub below : {g : Net} {s : Part} {p n v q c : ℕ} {k : LoopSetup → ℕ} → s
 below h (start o) = h
 below h (step w arc high may f) = high
 
--- the head of a loop of a tree is the word at its place
-pub head-place : (t : Tree) → IsTree t → (j : LoopSetup) → Contains t.loops j → address t (place t j.head) ≡ j.head
-head-place t is j h =
+-- the head of a loop of a tree is the word at its index
+pub head-index : (t : Tree) → IsTree t → (j : LoopSetup) → Contains t.loops j → address t (index t j.head) ≡ j.head
+head-index t is j h =
     let o = (accepted t is).ordered j h in
-    place-address t is.draft j.head (is.draft.loops j h).head_aligned (record { low = o.0; high = omega arith })
+    index-address t is.draft j.head (is.draft.loops j h).head_aligned (record { low = o.0; high = omega arith })
 
--- for the part of the loop whose head is at place k
+-- for the part of the loop whose head is at index k
 powers-body : (t : Tree) (o : Positions) (ways : WaysOn) (j : LoopSetup) (k : ℕ) (powers : Powers) → IsTree t → Contains t.loops j → address t k ≡ j.head → IsFilled (over t o ways) t (k + 1) powers → IsPowers (over t o ways) t (body (net (over t o ways)) j) powers
 powers-body t o ways j k powers is known head f = record {
-  some = λ i inner r. f.some i inner.0 (let e = head-place t is i inner.0 in let y = inner.1.0 in omega arith) r;
+  some = λ i inner r. f.some i inner.0 (let e = head-index t is i inner.0 in let y = inner.1.0 in omega arith) r;
   only = λ w m lo hi e. let y = f.only w m e in lift w lo hi y.0 y.1;
 }
   where
@@ -58,7 +58,7 @@ pub filled-more : (t : Tree) (o : Positions) (ways : WaysOn) (j : LoopSetup) (k 
     IsFilled (over t o ways) t k (slice_set powers k (Some b))
 filled-more t o ways j k powers b m is are known head r within f boxed best = record {
   count = length-set powers k (Some b) ∙ f.count;
-  some = λ i known_i le ri. some i known_i le ri (is_or_not (place t i.head) k);
+  some = λ i known_i le ri. some i known_i le ri (is_or_not (index t i.head) k);
   only = λ w n e. only w n e (is_or_not w k);
 }
   where
@@ -68,12 +68,12 @@ filled-more t o ways j k powers b m is are known head r within f boxed best = re
     other : (w : ℕ) → w ≢ k → power_at (slice_set powers k (Some b)) w ≡ power_at powers w
     other w ne = ap (λ y. option_map (λ (b : Box Matrix Global). b.value) y) (get_or-set_other powers k w (Some b) None ne)
 
-    some : (i : LoopSetup) → Contains t.loops i → k ≤ place t i.head → Reachable (graph t) i.head → (place t i.head ≡ k) ⊎ (place t i.head ≢ k) → (n : Matrix) × (power_at (slice_set powers k (Some b)) (place t i.head) ≡ Some n) × IsBest (entry n) (Rounds (net (over t o ways)) i i.limit)
+    some : (i : LoopSetup) → Contains t.loops i → k ≤ index t i.head → Reachable (graph t) i.head → (index t i.head ≡ k) ⊎ (index t i.head ≢ k) → (n : Matrix) × (power_at (slice_set powers k (Some b)) (index t i.head) ≡ Some n) × IsBest (entry n) (Rounds (net (over t o ways)) i i.limit)
     some i known_i le ri (inl e) =
-        let heads : j.head ≡ i.head = sym head ∙ (ap (address t) (sym e) ∙ head-place t is i known_i) in
+        let heads : j.head ≡ i.head = sym head ∙ (ap (address t) (sym e) ∙ head-index t is i known_i) in
         let same : j ≡ i = same_head (over-nested t o ways is are) j i known known_i heads in
         (m, ap (power_at (slice_set powers k (Some b))) e ∙ put, subst (λ (i : LoopSetup). IsBest (entry m) (Rounds (net (over t o ways)) i i.limit)) same best)
-    some i known_i le ri (inr ne) = let y = f.some i known_i (omega arith) ri in (y.0, other (place t i.head) ne ∙ y.1, y.2)
+    some i known_i le ri (inr ne) = let y = f.some i known_i (omega arith) ri in (y.0, other (index t i.head) ne ∙ y.1, y.2)
 
     only : (w : ℕ) (n : Matrix) → power_at (slice_set powers k (Some b)) w ≡ Some n → (w ≡ k) ⊎ (w ≢ k) → (k ≤ w) × ((i : LoopSetup) × Contains t.loops i × (address t w ≡ i.head) × Reachable (graph t) (address t w))
     only w n e (inl same) = (omega arith, (j, known, ap (address t) same ∙ head, subst (λ w. Reachable (graph t) (address t w)) (sym same) r))
@@ -83,13 +83,13 @@ filled-more t o ways j k powers b m is are known head r within f boxed best = re
 pub filled-same : (t : Tree) (o : Positions) (ways : WaysOn) (k : ℕ) (powers : Powers) → IsTree t → ((j : LoopSetup) → Contains t.loops j → address t k ≡ j.head → Reachable (graph t) (address t k) → ⊥) → IsFilled (over t o ways) t (k + 1) powers → IsFilled (over t o ways) t k powers
 filled-same t o ways k powers is none f = record {
   count = f.count;
-  some = λ i known le r. go i known le r (is_or_not (place t i.head) k);
+  some = λ i known le r. go i known le r (is_or_not (index t i.head) k);
   only = λ w n e. let y = f.only w n e in (omega (arith, y.0), y.1);
 }
   where
-    go : (i : LoopSetup) → Contains t.loops i → k ≤ place t i.head → Reachable (graph t) i.head → (place t i.head ≡ k) ⊎ (place t i.head ≢ k) → (n : Matrix) × (power_at powers (place t i.head) ≡ Some n) × IsBest (entry n) (Rounds (net (over t o ways)) i i.limit)
+    go : (i : LoopSetup) → Contains t.loops i → k ≤ index t i.head → Reachable (graph t) i.head → (index t i.head ≡ k) ⊎ (index t i.head ≢ k) → (n : Matrix) × (power_at powers (index t i.head) ≡ Some n) × IsBest (entry n) (Rounds (net (over t o ways)) i i.limit)
     go i known le r (inl e) =
-        let head : address t k ≡ i.head = ap (address t) (sym e) ∙ head-place t is i known in
+        let head : address t k ≡ i.head = ap (address t) (sym e) ∙ head-index t is i known in
         absurd (none i known head (subst (λ v. Reachable (graph t) v) (sym head) r))
     go i known le r (inr ne) = f.some i known (omega arith) r
 
@@ -125,7 +125,7 @@ ready-whole t o ways powers is are f =
 pub filled-none : (t : Tree) (o : Positions) (ways : WaysOn) (powers : Powers) → IsTree t → length powers ≡ length t.words → ((k : ℕ) → power_at powers k ≡ None) → IsFilled (over t o ways) t (length t.words) powers
 filled-none t o ways powers is count none = record {
   count = count;
-  some = λ j known le r. let l = (accepted t is).ordered j known in let w = is.draft.words in let e = head-place t is j known in absurd (omega (arith, l.1, l.2));
+  some = λ j known le r. let l = (accepted t is).ordered j known in let w = is.draft.words in let e = head-index t is j known in absurd (omega (arith, l.1, l.2));
   only = λ k m e. let z : None ≡ Some m = sym (none k) ∙ e in cc;
 }
 

@@ -10,13 +10,13 @@ use Rattle.region_tree.specs.Tree.{IsTree, Tree, graph}
 use Rattle.region_tree.specs.Walk.{CostsOf, Course, IsOwn, Positions}
 use Rattle.region_tree.specs.Walk.CostsOf.{ends}
 use Rattle.region_tree.proofs.EdgeLaws.{edge-is, is-edge}
-use Rattle.region_tree.proofs.GraphLaws.{place-address, place-within, reachable-aligned, reachable-lies}
+use Rattle.region_tree.proofs.GraphLaws.{index-address, index-within, reachable-aligned, reachable-lies}
 use Rattle.bound_calc.specs.declared.hop.Hop.{Hop}
 use Rattle.bound_calc.specs.declared.matrix.Matrix.{Matrix}
 use Rattle.bound_calc.specs.Best.{Entries, In, IsBest, Then, ceiling}
 use Rattle.bound_calc.specs.Bound.{IsBound}
 use Rattle.bound_calc.specs.Hops.{IsHops, IsLargest, IsLeft}
-use Rattle.bound_calc.specs.Passing.{IsMost, IsOut, edges_at, leaves, matrix_at, no_matrix, place, walks, over, moved, AreWays, WaysOn}
+use Rattle.bound_calc.specs.Passing.{IsMost, IsOut, edges_at, leaves, matrix_at, no_matrix, index, walks, over, moved, AreWays, WaysOn}
 use Rattle.bound_calc.specs.Section.{Steps, field, net, whole}
 use Rattle.bound_calc.specs.Ways.{Reaches}
 use Rattle.bound_calc.proofs.Accepted.{accepted}
@@ -150,25 +150,25 @@ most-all t o n at most is frame top best m = is_bound x most (accepted t is) (le
     x : Course
     x = walks t o
 
-    -- the word that a walk reaches has a place
-    placed : {v p c q : ℕ} → Reaches (net (field x)) (whole (field x)) v p c q → (place t v < length t.words) × (address t (place t v) ≡ v)
+    -- the word that a walk reaches has an index
+    placed : {v p c q : ℕ} → Reaches (net (field x)) (whole (field x)) v p c q → (index t v < length t.words) × (address t (index t v) ≡ v)
     placed {v} r =
         let reached : Reachable (graph t) v = walk-reachable first r.walk in
         let lies : Lies (graph t) v = reachable-lies t is.draft v reached in
-        (place-within t is.draft v lies, place-address t is.draft v (reachable-aligned t is.draft v reached) lies)
+        (index-within t is.draft v lies, index-address t is.draft v (reachable-aligned t is.draft v reached) lies)
 
     inside : (p c q v : ℕ) → Reaches (net (field x)) (whole (field x)) v p c q → c ≤ most
     inside p c q v r =
         let w = placed r in
-        let y = (best (place t v) w.0).0 p c q (subst (λ v. Reaches (net (field x)) (whole (field x)) v p c q) (sym w.1) r) in
-        let z = m.inside (place t v) p y.0 q (omega (arith, w.0)) y.1 in
+        let y = (best (index t v) w.0).0 p c q (subst (λ v. Reaches (net (field x)) (whole (field x)) v p c q) (sym w.1) r) in
+        let z = m.inside (index t v) p y.0 q (omega (arith, w.0)) y.1 in
         exact-≤ c most (let s = reach-small t o is frame v p c q r in omega arith) (≤-two (min c ceiling) y.0 most y.2 z)
 
     out : (v p c q : ℕ) (e : Edge) → Contains (x.graph.edges v) e → (Lies x.graph e.to → ⊥) → Then (Reaches (net (field x)) (whole (field x)) v) (Steps x.positions e.lag) p c q → c ≤ most
     out v p c q e known far r =
         let w = placed r.first in
-        let y = (best (place t v) w.0).0 p r.one r.at (subst (λ v. Reaches (net (field x)) (whole (field x)) v p r.one r.at) (sym w.1) r.first) in
-        let z = m.out (place t v) p (y.0 + r.two) q e (omega (arith, w.0)) (subst (λ v. Contains (x.graph.edges v) e) (sym w.1) known) far (record { at = r.at; one = y.0; two = r.two; first = y.1; second = r.second; cost = refl }) in
+        let y = (best (index t v) w.0).0 p r.one r.at (subst (λ v. Reaches (net (field x)) (whole (field x)) v p r.one r.at) (sym w.1) r.first) in
+        let z = m.out (index t v) p (y.0 + r.two) q e (omega (arith, w.0)) (subst (λ v. Contains (x.graph.edges v) e) (sym w.1) known) far (record { at = r.at; one = y.0; two = r.two; first = y.1; second = r.second; cost = refl }) in
         exact-≤ c most (let s = step-small t o is frame v p c q e known r in omega arith) (out-≤ r.one y.0 r.two c most ceiling y.2 r.cost z)
 
 -- where no word has a way of its own, all is by the turns
@@ -176,7 +176,7 @@ pub ways-none : (t : Tree) (o : Positions) (ways : WaysOn) (m : Entries) (v : �
 ways-none t o ways m v none best = subst (λ f. IsBest m (Reaches (net f) (whole f) v)) same best
   where
     same : over t o ways ≡ field (walks t o)
-    same = λ i. record { graph = graph t; own = IsOwn o; move = λ u lag. moved o (none (place t u) i) lag }
+    same = λ i. record { graph = graph t; own = IsOwn o; move = λ u lag. moved o (none (index t u) i) lag }
 
 pub no-ways : (o : Positions) (ways : WaysOn) → ((k : ℕ) → ways k ≡ None) → AreWays o ways
 no-ways o ways none k m e p c q i = let z : None ≡ Some m = sym (none k) ∙ e in cc

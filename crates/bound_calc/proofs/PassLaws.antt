@@ -11,7 +11,7 @@ use Rattle.region_tree.specs.Search.{address}
 use Rattle.region_tree.specs.Tree.{Tree, IsTree, graph, word_at}
 use Rattle.region_tree.specs.Walk.{IsOwn, Positions}
 use Rattle.region_tree.proofs.EdgeLaws.{edge-aligned, edge-is, is-edge, next-short}
-use Rattle.region_tree.proofs.GraphLaws.{reachable-aligned, place-address, address-lies, address-place}
+use Rattle.region_tree.proofs.GraphLaws.{reachable-aligned, index-address, address-lies, address-index}
 use Rattle.bound_calc.specs.declared.matrix.Matrix.{Matrix}
 use Rattle.bound_calc.specs.declared.hop.Hop.{Hop}
 use Rattle.bound_calc.specs.Best.{Costs, Stays, Either, Then, Entries, In, IsBest, ceiling}
@@ -19,7 +19,7 @@ use Rattle.bound_calc.specs.Context.{IsNested, Part, IsPart, body}
 use Rattle.bound_calc.specs.Hops.{Hops, IsHops}
 use Rattle.bound_calc.specs.Matrices.{entry}
 use Rattle.bound_calc.specs.Pass.{Edges, Below, And, AndTo, Brings, Comes}
-use Rattle.bound_calc.specs.Passing.{AreWays, moved, over, edges_at, place, no_matrix, matrix_at, Powers, power_at, IsSpan, up_of, IsBrought, IsPassed, IsReady, WaysOn}
+use Rattle.bound_calc.specs.Passing.{AreWays, moved, over, edges_at, index, no_matrix, matrix_at, Powers, power_at, IsSpan, up_of, IsBrought, IsPassed, IsReady, WaysOn}
 use Rattle.bound_calc.specs.Section.{Field, Steps, net, whole}
 use Rattle.bound_calc.specs.Ways.{Reaches, Enters, Rounds}
 use Rattle.bound_calc.proofs.Accepted.{accepted}
@@ -32,9 +32,9 @@ use Rattle.bound_calc.proofs.Heads.{Fresh, enter, from_below}
 use Rattle.bound_calc.proofs.Passes.{walk-reachable, comes-enters, enters-comes, reach-head, comes-more, comes-same}
 use Rattle.bound_calc.proofs.StepLaws.{nothing, get-none}
 
--- addresses of places
-pub place-aligned : (t : Tree) → IsTree t → (k : ℕ) → address t k % 4 ≡ 0
-place-aligned t is k = let a = is.draft.section.from_aligned in omega arith
+-- addresses of indices
+pub index-aligned : (t : Tree) → IsTree t → (k : ℕ) → address t k % 4 ≡ 0
+index-aligned t is k = let a = is.draft.section.from_aligned in omega arith
 
 -- the steps of a table are those to the next turns
 pub with-steps : {s : Positions} {lag : ℕ} {hops : List (Option Hop)} {m : Entries} {f g : Costs} → IsHops s lag hops → IsBest m (Either f (Then g (Hops hops))) → IsBest m (Either f (Then g (Steps s lag)))
@@ -42,8 +42,8 @@ with-steps h b = best-same
     (λ p c q z. elim z [ inl a ↦ inl a | inr t ↦ inr (record { at = t.at; one = t.one; two = t.two; first = t.first; second = h.found t.at t.two q t.second; cost = t.cost }) ])
     (λ p c q z. elim z [ inl a ↦ inl a | inr t ↦ inr (record { at = t.at; one = t.one; two = t.two; first = t.first; second = h.all t.at t.two q t.second; cost = t.cost }) ]) b
 
-pub hops-places : (s : Positions) (lag : ℕ) (hops : List (Option Hop)) → length s.frame ≤ 8 → IsHops s lag hops → (p d q : ℕ) → Hops hops p d q → (p < 8) × (q < 8)
-hops-places s lag hops frame h p d q is = let t = h.found p d q is in let a = t.start.within in let b = t.own.within in (omega arith, omega arith)
+pub hops-positions : (s : Positions) (lag : ℕ) (hops : List (Option Hop)) → length s.frame ≤ 8 → IsHops s lag hops → (p d q : ℕ) → Hops hops p d q → (p < 8) × (q < 8)
+hops-positions s lag hops frame h p d q is = let t = h.found p d q is in let a = t.start.within in let b = t.own.within in (omega arith, omega arith)
 
 -- a matrix put where an edge leads
 pub is-brought : (to : Option ℕ) (k : ℕ) (here joined : Matrix) (f : Costs) (old : List Matrix) → to ≡ Some k → k < length old → IsBest (entry joined) (Either (In (matrix_at old k)) (Then (In (entry here)) f)) → IsBrought f to here old (slice_set old k joined)
@@ -62,7 +62,7 @@ moved-own o ways are k lag p d q None e m = m.own
 moved-own o ways are k lag p d q (Some w) e m = are k w e p d q m
 
 pub over-nested : (t : Tree) (o : Positions) (ways : WaysOn) → IsTree t → AreWays o ways → IsNested (net (over t o ways))
-over-nested t o ways is are = field-nested (over t o ways) (accepted t is) (λ u lag p d q m. moved-own o ways are (place t u) lag p d q (ways (place t u)) refl m)
+over-nested t o ways is are = field-nested (over t o ways) (accepted t is) (λ u lag p d q m. moved-own o ways are (index t u) lag p d q (ways (index t u)) refl m)
 
 pub along-matrix : (o : Positions) (w here back chained joined : Matrix) (lag : ℕ) → IsBest (entry chained) (Then (In (entry here)) (In (entry w))) → IsBest (entry joined) (Either (In (entry back)) (In (entry chained))) → IsBest (entry joined) (Either (In (entry back)) (Then (In (entry here)) (moved o (Some w) lag)))
 along-matrix o w here back chained joined lag a b = best-either (itself back) a b
@@ -70,16 +70,16 @@ along-matrix o w here back chained joined lag a b = best-either (itself back) a 
     itself : (m : Matrix) → IsBest (entry m) (In (entry m))
     itself m = ((λ p c q z. (c, z, min-under c c ceiling (omega arith))), (λ p e q z. (e, z, refl)))
 
--- the place of a target above
-up-some : (t : Tree) (k last v : ℕ) → address t k < v → v ≤ address t last → up_of t k last (Some v) ≡ Some (place t v)
+-- the index of a target above
+up-some : (t : Tree) (k last v : ℕ) → address t k < v → v ≤ address t last → up_of t k last (Some v) ≡ Some (index t v)
 up-some t k last v a b = let x : nat_lt (address t k) v ≡ true = grind (arith, nat_tests) in let y : nat_le v (address t last) ≡ true = grind (arith, nat_tests) in rw (x, y) refl
 
-pub up-is : (t : Tree) (k last : ℕ) (target : Option ℕ) (w : ℕ) → up_of t k last target ≡ Some w → (v : ℕ) × (target ≡ Some v) × (address t k < v) × (v ≤ address t last) × (w ≡ place t v)
+pub up-is : (t : Tree) (k last : ℕ) (target : Option ℕ) (w : ℕ) → up_of t k last target ≡ Some w → (v : ℕ) × (target ≡ Some v) × (address t k < v) × (v ≤ address t last) × (w ≡ index t v)
 up-is t k last None w e = cc
 up-is t k last (Some v) w e = go (nat_lt (address t k) v) (nat_le v (address t last)) refl refl e
   where
-    go : (a b : Bool) → nat_lt (address t k) v ≡ a → nat_le v (address t last) ≡ b → (if a && b then Some (place t v) else None) ≡ Some w → (u : ℕ) × (Some v ≡ Some u) × (address t k < u) × (u ≤ address t last) × (w ≡ place t u)
-    go true true x y e = (v, refl, grind (arith, nat_tests), grind (arith, nat_tests), (let z : place t v ≡ w = cc in sym z))
+    go : (a b : Bool) → nat_lt (address t k) v ≡ a → nat_le v (address t last) ≡ b → (if a && b then Some (index t v) else None) ≡ Some w → (u : ℕ) × (Some v ≡ Some u) × (address t k < u) × (u ≤ address t last) × (w ≡ index t u)
+    go true true x y e = (v, refl, grind (arith, nat_tests), grind (arith, nat_tests), (let z : index t v ≡ w = cc in sym z))
     go true false x y e = cc
     go false b x y e = cc
 
@@ -87,7 +87,7 @@ up-is t k last (Some v) w e = go (nat_lt (address t k) v) (nat_le v (address t l
 target-is : (target : Option ℕ) (lag : ℕ) (e : Edge) → Contains (edge_to target lag) e → target ≡ Some e.to
 target-is target lag e h = (edge-is target lag e h).0
 
--- one edge of the word at a place
+-- one edge of the word at an index
 pub brought : {x : Field} (t : Tree) {s : Part} {f : Edges} (k last : ℕ) (here : Matrix) (target : Option ℕ) (lag : ℕ) (old new : List Matrix) → IsTree t → Reachable x.graph s.low → address t last ≤ s.high → last < length t.words → x.graph ≡ graph t →
     ((v : ℕ) → target ≡ Some v → v % 4 ≡ 0) → IsBest (entry here) (Reaches (net x) s (address t k)) → IsBrought (x.move (address t k) lag) (up_of t k last target) here old new → (w : ℕ) → k < w → w ≤ last →
     IsBest (matrix_at old w) (Comes x s f (address t w)) → IsBest (matrix_at new w) (Comes x s (AndTo f (address t k) target lag) (address t w))
@@ -113,14 +113,14 @@ brought {x} t {s} {f} k last here (Some v) lag old new is r top inside same alig
             let j : v ≡ z.0 = cc in
             let l = address-lies t is.draft last inside in
             let lies : Lies (graph t) v = (let high = l.high in record { low = omega (arith, z.2); high = omega (arith, z.3) }) in
-            let at : address t (place t v) ≡ v = place-address t is.draft v (aligned v refl) lies in
-            ne (sym at ∙ ap (address t) (ap (place t) j ∙ sym z.4))
+            let at : address t (index t v) ≡ v = index-address t is.draft v (aligned v refl) lies in
+            ne (sym at ∙ ap (address t) (ap (index t) j ∙ sym z.4))
 
     this : v ≡ address t w → IsBest (matrix_at new w) (Comes x s (AndTo f (address t k) (Some v) lag) (address t w))
     this e =
         let above : address t k < v = omega arith in
         let below : v ≤ address t last = omega arith in
-        let at : place t v ≡ w = ap (place t) e ∙ address-place t w in
+        let at : index t v ≡ w = ap (index t) e ∙ address-index t w in
         let joined = b.there w (up-some t k last v above below ∙ ap Some at) in
         let all : IsBest (matrix_at new w) (Either (Comes x s f (address t w)) (Then (Reaches (net x) s (address t k)) (x.move (address t k) lag))) = best-either-then before best joined in
         let all_v : IsBest (matrix_at new w) (Either (Comes x s f v) (Then (Reaches (net x) s (address t k)) (x.move (address t k) lag))) = subst (λ u. IsBest (matrix_at new w) (Either (Comes x s f u) (Then (Reaches (net x) s (address t k)) (x.move (address t k) lag)))) (sym e) all in
@@ -137,7 +137,7 @@ brought {x} t {s} {f} k last here (Some v) lag old new is r top inside same alig
     go (inl e) = this e
     go (inr ne) = other ne
 
--- both edges of the word at a place
+-- both edges of the word at an index
 pub both_edges : {x : Field} (t : Tree) {s : Part} {m : Entries} (k w : ℕ) → IsTree t → x.graph ≡ graph t → Reachable x.graph s.low → let e = edges_at t k in
     IsBest m (Comes x s (AndTo (AndTo (Below x (address t k)) (address t k) e.next e.next_lag) (address t k) e.jump 3) (address t w)) → IsBest m (Comes x s (Below x (address t (k + 1))) (address t w))
 both_edges {x} t {s} {m} k w is same r best = comes-same r there back best
@@ -154,7 +154,7 @@ both_edges {x} t {s} {m} k w is same r best = comes-same r there back best
     there u b a ru (inr z) = (omega (arith, z.0), subst (λ u. Contains (x.graph.edges u) b) (sym z.0) (subst (λ l. Contains l b) (sym edges) (Contains-append_right (edge_to e.next e.next_lag) (edge_to e.jump 3) b z.1)))
 
     back : (u : ℕ) (b : Edge) → b.to ≡ address t w → Reachable x.graph u → Below x (address t (k + 1)) u b → AndTo (AndTo (Below x (address t k)) (address t k) e.next e.next_lag) (address t k) e.jump 3 u b
-    back u b a ru z = go (let au : u % 4 ≡ 0 = reachable-aligned t is.draft u (subst (λ g. Reachable g u) same ru) in let av = place-aligned t is k in let lt : u < address t (k + 1) = z.0 in let y : (u < address t k) ⊎ (u ≡ address t k) = grind arith in y)
+    back u b a ru z = go (let au : u % 4 ≡ 0 = reachable-aligned t is.draft u (subst (λ g. Reachable g u) same ru) in let av = index-aligned t is k in let lt : u < address t (k + 1) = z.0 in let y : (u < address t k) ⊎ (u ≡ address t k) = grind arith in y)
       where
         at : u ≡ address t k → Contains (edge_to e.next e.next_lag) b ⊎ Contains (edge_to e.jump 3) b → AndTo (AndTo (Below x (address t k)) (address t k) e.next e.next_lag) (address t k) e.jump 3 u b
         at here (inl h) = inl (inr (here, h))
@@ -166,13 +166,13 @@ both_edges {x} t {s} {m} k w is same r best = comes-same r there back best
 
 -- targets are multiples of four, and lags at most 3
 pub next-aligned : (t : Tree) → IsTree t → (k v : ℕ) → (edges_at t k).next ≡ Some v → v % 4 ≡ 0
-next-aligned t is k v e = edge-aligned (word_at t (address t k)) (address t k) (record { to = v; lag = w.next_lag }) (place-aligned t is k) (Contains-append_left (edge_to w.next w.next_lag) (edge_to w.jump 3) (record { to = v; lag = w.next_lag }) (is-edge w.next w.next_lag v e))
+next-aligned t is k v e = edge-aligned (word_at t (address t k)) (address t k) (record { to = v; lag = w.next_lag }) (index-aligned t is k) (Contains-append_left (edge_to w.next w.next_lag) (edge_to w.jump 3) (record { to = v; lag = w.next_lag }) (is-edge w.next w.next_lag v e))
   where
     w : EdgesOf
     w = edges_at t k
 
 pub jump-aligned : (t : Tree) → IsTree t → (k v : ℕ) → (edges_at t k).jump ≡ Some v → v % 4 ≡ 0
-jump-aligned t is k v e = edge-aligned (word_at t (address t k)) (address t k) (record { to = v; lag = 3 }) (place-aligned t is k) (Contains-append_right (edge_to w.next w.next_lag) (edge_to w.jump 3) (record { to = v; lag = 3 }) (is-edge w.jump 3 v e))
+jump-aligned t is k v e = edge-aligned (word_at t (address t k)) (address t k) (record { to = v; lag = 3 }) (index-aligned t is k) (Contains-append_right (edge_to w.next w.next_lag) (edge_to w.jump 3) (record { to = v; lag = 3 }) (is-edge w.jump 3 v e))
   where
     w : EdgesOf
     w = edges_at t k
@@ -180,7 +180,7 @@ jump-aligned t is k v e = edge-aligned (word_at t (address t k)) (address t k) (
 pub lag-small : (t : Tree) (k : ℕ) → (edges_at t k).next_lag ≤ 3
 lag-small t k = next-short (word_at t (address t k)) (address t k)
 
--- what reaches the word at a place
+-- what reaches the word at an index
 pub reached : (t : Tree) (o : Positions) (ways : WaysOn) (s : Part) (k : ℕ) (at : List Matrix) (powers : Powers) (here : Matrix) → IsTree t → IsReady (over t o ways) t s powers → IsPassed (over t o ways) t s k at → s.low ≤ address t k → address t k ≤ s.high → k < length t.words →
     MatchOption (power_at powers k) (here ≡ slice_index_or at k no_matrix) (λ m. IsBest (entry here) (Then (In (matrix_at at k)) (In (entry m)))) → IsBest (entry here) (Reaches (net (over t o ways)) s (address t k))
 reached t o ways s k at powers here is y p low high within = go (power_at powers k) refl
@@ -191,8 +191,8 @@ reached t o ways s k at powers here is y p low high within = go (power_at powers
     entered : IsBest (matrix_at at k) (Enters (net x) s (address t k))
     entered = best-same (comes-enters y.reached (address-lies t is.draft k within)) enters-comes (p.ahead k (omega arith) high)
 
-    head_place : (j : LoopSetup) → address t k ≡ j.head → place t j.head ≡ k
-    head_place j e = ap (place t) (sym e) ∙ address-place t k
+    head_index : (j : LoopSetup) → address t k ≡ j.head → index t j.head ≡ k
+    head_index j e = ap (index t) (sym e) ∙ address-index t k
 
     go : (power : Option Matrix) → power_at powers k ≡ power → MatchOption power (here ≡ slice_index_or at k no_matrix) (λ m. IsBest (entry here) (Then (In (matrix_at at k)) (In (entry m)))) → IsBest (entry here) (Reaches (net x) s (address t k))
     go None e same =
@@ -204,7 +204,7 @@ reached t o ways s k at powers here is y p low high within = go (power_at powers
         no_head : Reachable (graph t) (address t k) → (j : LoopSetup) → s.loops j → address t k ≢ j.head
         no_head rv j known head =
             let some = y.rounds.some j known (subst (λ v. Reachable (graph t) v) head rv) in
-            let z : power_at powers k ≡ Some some.0 = ap (power_at powers) (sym (head_place j head)) ∙ some.1 in
+            let z : power_at powers k ≡ Some some.0 = ap (power_at powers) (sym (head_index j head)) ∙ some.1 in
             let w : None ≡ Some some.0 = sym e ∙ z in
             let none : ⊥ = cc in none
     go (Some m) e best = found (y.rounds.only k m low high e)
@@ -212,7 +212,7 @@ reached t o ways s k at powers here is y p low high within = go (power_at powers
         found : (j : LoopSetup) × s.loops j × (address t k ≡ j.head) × Reachable (graph t) (address t k) → IsBest (entry here) (Reaches (net x) s (address t k))
         found (j, known, head, rv) =
             let some = y.rounds.some j known (subst (λ v. Reachable (graph t) v) head rv) in
-            let z : power_at powers k ≡ Some some.0 = ap (power_at powers) (sym (head_place j head)) ∙ some.1 in
+            let z : power_at powers k ≡ Some some.0 = ap (power_at powers) (sym (head_index j head)) ∙ some.1 in
             let w : Some some.0 ≡ Some m = sym z ∙ e in
             let same : some.0 ≡ m = cc in
             let rounds : IsBest (entry m) (Rounds (net x) j j.limit) = subst (λ m. IsBest (entry m) (Rounds (net x) j j.limit)) same some.2 in
@@ -238,10 +238,10 @@ pass-step t o ways s first last k a0 a1 a2 a3 here is r sp p from le best count 
     e = edges_at t k
 
     there : (lag : ℕ) (target : Option ℕ) (a b : List Matrix) → IsBrought (moved o (ways k) lag) (up_of t k last target) here a b → IsBrought (x.move (address t k) lag) (up_of t k last target) here a b
-    there lag target a b y = subst (λ n. IsBrought (moved o (ways n) lag) (up_of t k last target) here a b) (sym (address-place t k)) y
+    there lag target a b y = subst (λ n. IsBrought (moved o (ways n) lag) (up_of t k last target) here a b) (sym (address-index t k)) y
 
     within : (w : ℕ) → address t w ≤ s.high → w ≤ last
-    within w high = let z : address t w ≤ address t last = sp.top (address t w) (place-aligned t is w) high in omega arith
+    within w high = let z : address t w ≤ address t last = sp.top (address t w) (index-aligned t is w) high in omega arith
 
     keeps : (w : ℕ) → w ≢ k → slice_index_or a1 w no_matrix ≡ slice_index_or a0 w no_matrix
     keeps w ne = ap (λ l. slice_index_or l w no_matrix) put ∙ get_or-set_other a0 k w here no_matrix ne
@@ -253,9 +253,9 @@ pass-step t o ways s first last k a0 a1 a2 a3 here is r sp p from le best count 
     above_k target w aligned down at =
         let z = up-is t k last target w at in
         let a : z.0 % 4 ≡ 0 = aligned z.0 z.1 in
-        let b = place-aligned t is k in
+        let b = index-aligned t is k in
         let lt : address t k < z.0 = z.2 in
-        let same : w ≡ place t z.0 = z.4 in
+        let same : w ≡ index t z.0 = z.4 in
         omega arith
 
     later : (w : ℕ) → w ≤ k → slice_index_or a3 w no_matrix ≡ slice_index_or a1 w no_matrix
@@ -290,7 +290,7 @@ pass-start t o ways s first last a one is part sp count none best = record {
         (best-same (λ p c q z. inl (low, z)) (λ p c q z. elim z [ inl y ↦ y.1 | inr b ↦ absurd (nothing_yet (address t w) p c q b) ]) best)
     go w from high (inr up) =
         let at : slice_index_or (slice_set a first one) w no_matrix ≡ slice_index_or a w no_matrix = get_or-set_other a first w one no_matrix (omega arith) in
-        let top : address t w ≤ address t last = sp.top (address t w) (place-aligned t is w) high in (
+        let top : address t w ≤ address t last = sp.top (address t w) (index-aligned t is w) high in (
           (λ p c q z. elim z [ inl y ↦ absurd (let e : address t w ≡ s.low = y.0 in let l = sp.low in omega arith) | inr b ↦ absurd (nothing_yet (address t w) p c q b) ]),
           (λ p c q e. absurd (none w from (omega arith) p q c (ap (λ m. entry m p q) (sym at) ∙ e))),
         )

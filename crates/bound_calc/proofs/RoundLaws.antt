@@ -149,7 +149,7 @@ stays_in_rounds x j p v q before during after known w enters within =
       late = y.late;
       rounds = y.rounds;
       few = subst (λ n. n ≤ j.limit) y.counts (kept x.graph.loops (during ++ before) k j known);
-      last = subst (λ w. AreSteps x j y.at y.late w (position_after (position_after p before) during)) (word-same during) (subst (λ r. AreSteps x j y.at y.late (word_after x.graph.from (during ++ before)) r) (place-same during) y.last);
+      last = subst (λ w. AreSteps x j y.at y.late w (position_after (position_after p before) during)) (word-same during) (subst (λ r. AreSteps x j y.at y.late (word_after x.graph.from (during ++ before)) r) (position-same during) y.last);
       onward = y.onward;
       steps = y.steps;
     }
@@ -158,9 +158,9 @@ stays_in_rounds x j p v q before during after known w enters within =
     word-same [] = entered-word j x.graph.from before enters
     word-same (t ∷ ts) = refl
 
-    place-same : (during : List Step) → position_after p (during ++ before) ≡ position_after (position_after p before) during
-    place-same [] = refl
-    place-same (t ∷ ts) = refl
+    position-same : (during : List Step) → position_after p (during ++ before) ≡ position_after (position_after p before) during
+    position-same [] = refl
+    position-same (t ∷ ts) = refl
 
 -- rounds, and then a part of one more
 record Joined (x : Course) (j : LoopSetup) (p : ℕ) (ts r : List Step) (v q n : ℕ) : Type 0 where

@@ -65,7 +65,7 @@ walk_of x p (t ∷ ts) v q a o l k = go (walk_of x p ts t.from t.at a o l.0 k.0)
     may (inl up) = inl up
     may (inr down) = let b = a.back t.from edge reached l.1.edge l.2 down in inr b
 
-    onto : (n : ℕ) → Walk (net (field x)) (whole (field x)) p n t.to t.place (cost ts + t.cost) (λ j. counter j 0 (t ∷ ts)) → Walk (net (field x)) (whole (field x)) p n v q (cost (t ∷ ts)) (λ j. counter j 0 (t ∷ ts))
+    onto : (n : ℕ) → Walk (net (field x)) (whole (field x)) p n t.to t.position (cost ts + t.cost) (λ j. counter j 0 (t ∷ ts)) → Walk (net (field x)) (whole (field x)) p n v q (cost (t ∷ ts)) (λ j. counter j 0 (t ∷ ts))
     onto n w = subst (λ v. Walk (net (field x)) (whole (field x)) p n v q (cost (t ∷ ts)) (λ j. counter j 0 (t ∷ ts))) (sym l.3) (moved (sym l.4) (omega arith) w)
 
     go : (n : ℕ) × Walk (net (field x)) (whole (field x)) p n t.from t.at (cost ts) (λ j. counter j 0 ts) → (n : ℕ) × Walk (net (field x)) (whole (field x)) p n v q (cost (t ∷ ts)) (λ j. counter j 0 (t ∷ ts))
@@ -84,7 +84,7 @@ path_of {x} {p} (onward {u = u} {q = q} {c = c} {d = d} {v = v} {r = r} {k = k} 
   where
     go : Walked x p u q c k → Walked x p v r (c + d) (λ j. counted u v j (k j))
     go y = record {
-      steps = record { from = u; at = q; lag = arc.lag; cost = d; to = v; place = r } ∷ y.steps;
+      steps = record { from = u; at = q; lag = arc.lag; cost = d; to = v; position = r } ∷ y.steps;
       walk = record {
         own = y.walk.own;
         leads = (y.walk.leads, record { edge = arc.edge; turn = arc.move }, arc.lies, refl, refl);
@@ -103,7 +103,7 @@ costs-within x b a inside out = all
     all c (ends {p} {v} {q} ts w) = let z = walk_of x p ts v q a w.own w.leads w.keeps in inside p (cost ts) q v (record { steps = z.0; counters = λ j. counter j 0 ts; walk = z.1 })
     all c (leaves {p} ts t w s no_more) =
         let z = walk_of x p ts t.from t.at a w.own w.leads w.keeps in
-        out t.from p (cost (t ∷ ts)) t.place (record { to = t.to; lag = t.lag }) s.edge no_more
+        out t.from p (cost (t ∷ ts)) t.position (record { to = t.to; lag = t.lag }) s.edge no_more
         (record { at = t.at; one = cost ts; two = t.cost; first = record { steps = z.0; counters = λ j. counter j 0 ts; walk = z.1 }; second = s.turn; cost = omega arith })
 
 pub is_bound : (x : Course) (b : ℕ) → IsAccepted x.graph → CostsOf x b → ((p c q v : ℕ) → Reaches (net (field x)) (whole (field x)) v p c q → c ≤ b) →
@@ -116,6 +116,6 @@ met-inside x v p c q r = let y = path_of r.walk in subst (λ c. CostsOf x c) y.c
 pub met-out : (x : Course) (v p c q : ℕ) (e : Edge) → Contains (x.graph.edges v) e → (Lies x.graph e.to → ⊥) → Then (Reaches (net (field x)) (whole (field x)) v) (Steps x.positions e.lag) p c q → CostsOf x c
 met-out x v p c q e h out t =
     let y = path_of t.first.walk in
-    let s : Step = record { from = v; at = t.at; lag = e.lag; cost = t.two; to = e.to; place = q } in
+    let s : Step = record { from = v; at = t.at; lag = e.lag; cost = t.two; to = e.to; position = q } in
     let sums : cost (s ∷ y.steps) ≡ c = omega (arith, y.cost_is, t.cost) in
     subst (λ c. CostsOf x c) sums (leaves y.steps s y.walk (record { edge = h; turn = t.second }) out)

@@ -83,11 +83,11 @@ own-neither slots c thread h (inl e) = own-soft slots c thread h e
 own-neither slots c thread h (inr e) = own-nobody slots c thread e
 
 -- a position is its own remainder
-pub own-place : (s : Positions) (p : ℕ) → p < length s.frame → IsOwn s (p % length s.frame) → IsOwn s p
-own-place s p h o = subst (λ n. IsOwn s n) (mod-eq_of_lt h) o
+pub own-position : (s : Positions) (p : ℕ) → p < length s.frame → IsOwn s (p % length s.frame) → IsOwn s p
+own-position s p h o = subst (λ n. IsOwn s n) (mod-eq_of_lt h) o
 
-pub place-own : (s : Positions) (p : ℕ) → IsOwn s p → IsOwn s (p % length s.frame)
-place-own s p o = subst (λ n. IsOwn s n) (sym (mod-eq_of_lt o.within)) o
+pub position-own : (s : Positions) (p : ℕ) → IsOwn s p → IsOwn s (p % length s.frame)
+position-own s p o = subst (λ n. IsOwn s n) (sym (mod-eq_of_lt o.within)) o
 
 -- whole frames later the thread has a turn again
 pub not_yet : (s : Positions) (p lag d : ℕ) → IsOwn s p → d ≤ lag * length s.frame → (IsOwn s ((p + d) % length s.frame) → ⊥) → d < lag * length s.frame
@@ -113,7 +113,7 @@ same_step s lag p d e q r a b = go (let z : (d ≡ e) ⊎ ((d < e) ⊎ (e < d)) 
 
 -- the hop to the next turn is the one step
 abbrev pub hop : ℕ → ℕ → Hop
-hop d q = record { cost = d; place = q }
+hop d q = record { cost = d; position = q }
 
 abbrev pub some_hop : ℕ → ℕ → Option Hop
 some_hop d q = Some (hop d q)
@@ -122,18 +122,18 @@ some-is : (a b : Hop) → Some a ≡ Some b → a ≡ b
 some-is a b e = cc
 
 pub hop-found : (s : Positions) (lag p c r d q : ℕ) → IsNextTurn s lag p c r → some_hop c r ≡ some_hop d q → IsNextTurn s lag p d q
-hop-found s lag p c r d q t e = let same : hop c r ≡ hop d q = some-is (hop c r) (hop d q) e in let a : c ≡ d = ap (λ (h : Hop). h.cost) same in let b : r ≡ q = ap (λ (h : Hop). h.place) same in subst (λ n. IsNextTurn s lag p d n) b (subst (λ n. IsNextTurn s lag p n r) a t)
+hop-found s lag p c r d q t e = let same : hop c r ≡ hop d q = some-is (hop c r) (hop d q) e in let a : c ≡ d = ap (λ (h : Hop). h.cost) same in let b : r ≡ q = ap (λ (h : Hop). h.position) same in subst (λ n. IsNextTurn s lag p d n) b (subst (λ n. IsNextTurn s lag p n r) a t)
 
 pub hop-all : (s : Positions) (lag p c r d q : ℕ) → IsNextTurn s lag p c r → IsNextTurn s lag p d q → some_hop c r ≡ some_hop d q
 hop-all s lag p c r d q t u =
     let same : c ≡ d = same_step s lag p c d r q t u in
-    let place : r ≡ q = t.lands ∙ (ap (λ n. (p + n) % length s.frame) same ∙ sym u.lands) in
-    λ i. Some (record { cost = same i; place = place i })
+    let position : r ≡ q = t.lands ∙ (ap (λ n. (p + n) % length s.frame) same ∙ sym u.lands) in
+    λ i. Some (record { cost = same i; position = position i })
 
 -- positions past the eighth have no turns
 pub hops-all : (s : Positions) (lag : ℕ) (hops : List (Option Hop)) → length s.frame ≤ 8 → length hops ≡ 8 → ((p : ℕ) → p < 8 → ((d q : ℕ) → Hops hops p d q → IsNextTurn s lag p d q) × ((d q : ℕ) → IsNextTurn s lag p d q → Hops hops p d q)) → IsHops s lag hops
 hops-all s lag hops frame count each = record {
-  found = λ p d q h. (each p (let z = within p (record { cost = d; place = q }) h in omega arith)).0 d q h;
+  found = λ p d q h. (each p (let z = within p (record { cost = d; position = q }) h in omega arith)).0 d q h;
   all = λ p d q t. (each p (let w = t.start.within in omega arith)).1 d q t;
 }
   where

@@ -16,13 +16,13 @@ pub ended-none : (s : Positions) (ends : List Bool) (at : List Matrix) (m : Matr
 ended-none s ends at m none = ((λ p c q e. absurd (let b = e.below in omega arith)), (λ p e q i. absurd (none p q e i)))
 
 wider : {s : Positions} {ends : List Bool} {at : List Matrix} {n p c q : ℕ} → Ended s ends at n p c q → Ended s ends at (n + 1) p c q
-wider e = record { place = e.place; below = let b = e.below in omega arith; is = e.is; jump = e.jump }
+wider e = record { index = e.index; below = let b = e.below in omega arith; is = e.is; jump = e.jump }
 
 pub ended-more : (s : Positions) (ends : List Bool) (at : List Matrix) (n : ℕ) (is_end : Bool) (back new : Matrix) → slice_index_or ends n false ≡ is_end → EndedHere s is_end (slice_index_or at n no_matrix) back new → IsBest (entry back) (Ended s ends at n) → IsBest (entry new) (Ended s ends at (n + 1))
-ended-more s ends at n false back new e h best = subst (λ m. IsBest (entry m) (Ended s ends at (n + 1))) (sym (h.other refl)) (best-same (λ p c q z. wider z) (λ p c q z. low p c q z (let y : (z.place < n) ⊎ (z.place ≡ n) = (let b = z.below in grind arith) in y)) best)
+ended-more s ends at n false back new e h best = subst (λ m. IsBest (entry m) (Ended s ends at (n + 1))) (sym (h.other refl)) (best-same (λ p c q z. wider z) (λ p c q z. low p c q z (let y : (z.index < n) ⊎ (z.index ≡ n) = (let b = z.below in grind arith) in y)) best)
   where
-    low : (p c q : ℕ) → (z : Ended s ends at (n + 1) p c q) → (z.place < n) ⊎ (z.place ≡ n) → Ended s ends at n p c q
-    low p c q z (inl lt) = record { place = z.place; below = lt; is = z.is; jump = z.jump }
+    low : (p c q : ℕ) → (z : Ended s ends at (n + 1) p c q) → (z.index < n) ⊎ (z.index ≡ n) → Ended s ends at n p c q
+    low p c q z (inl lt) = record { index = z.index; below = lt; is = z.is; jump = z.jump }
     low p c q z (inr same) = absurd (let w : true ≡ false = sym z.is ∙ (ap (λ k. slice_index_or ends k false) same ∙ e) in let none : ⊥ = cc in none)
 ended-more s ends at n true back new e h best = best-same there away (best-either-then best (itself (slice_index_or at n no_matrix)) (h.there refl))
   where
@@ -31,14 +31,14 @@ ended-more s ends at n true back new e h best = best-same there away (best-eithe
 
     there : Within (Either (Ended s ends at n) (Then (In (matrix_at at n)) (Steps s 3))) (Ended s ends at (n + 1))
     there p c q (inl z) = wider z
-    there p c q (inr t) = record { place = n; below = omega arith; is = e; jump = t }
+    there p c q (inr t) = record { index = n; below = omega arith; is = e; jump = t }
 
-    sorted : (p c q : ℕ) → (z : Ended s ends at (n + 1) p c q) → (z.place < n) ⊎ (z.place ≡ n) → Either (Ended s ends at n) (Then (In (matrix_at at n)) (Steps s 3)) p c q
-    sorted p c q z (inl lt) = inl (record { place = z.place; below = lt; is = z.is; jump = z.jump })
+    sorted : (p c q : ℕ) → (z : Ended s ends at (n + 1) p c q) → (z.index < n) ⊎ (z.index ≡ n) → Either (Ended s ends at n) (Then (In (matrix_at at n)) (Steps s 3)) p c q
+    sorted p c q z (inl lt) = inl (record { index = z.index; below = lt; is = z.is; jump = z.jump })
     sorted p c q z (inr same) = inr (subst (λ k. Then (In (matrix_at at k)) (Steps s 3) p c q) same z.jump)
 
     away : Within (Ended s ends at (n + 1)) (Either (Ended s ends at n) (Then (In (matrix_at at n)) (Steps s 3)))
-    away p c q z = sorted p c q z (let y : (z.place < n) ⊎ (z.place ≡ n) = (let b = z.below in grind arith) in y)
+    away p c q z = sorted p c q z (let y : (z.index < n) ⊎ (z.index ≡ n) = (let b = z.below in grind arith) in y)
 
 -- a step from where the thread stands still
 pub jump-best : (s : Positions) (one : Matrix) (hops : List (Option Hop)) (m : Matrix) → IsBest (entry one) (Stays (IsOwn s)) → IsHops s 3 hops → IsBest (entry m) (Either (In (entry (record { best = replicate 8 (replicate 8 None) }))) (Then (In (entry one)) (Hops hops))) → IsBest (entry m) (Steps s 3)

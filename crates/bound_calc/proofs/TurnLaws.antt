@@ -21,7 +21,7 @@ use Rattle.bound_calc.proofs.Accepted.{accepted}
 use Rattle.bound_calc.proofs.BestLaws.{Within, best-either, best-either-then, best-same, either-lands}
 use Rattle.bound_calc.proofs.Counters.{above}
 use Rattle.bound_calc.proofs.Embed.{is_or_not}
-use Rattle.bound_calc.proofs.PassLaws.{over-nested, place-aligned}
+use Rattle.bound_calc.proofs.PassLaws.{over-nested, index-aligned}
 use Rattle.bound_calc.proofs.Passes.{round-lands, rounds-turns, walk-reachable}
 
 option-is : (target : Option ℕ) (v : ℕ) → (target ≡ Some v) ⊎ (target ≡ Some v → ⊥)
@@ -64,7 +64,7 @@ turned {x} {f} {back} {here} {new} j v target lag r part best t before = go (opt
         subst (λ m. IsBest (entry m) (Turns x j (AndTo f v target lag))) (sym (t.other other))
         (turns-same j r part (λ u e a low ru y. inl y) (λ u e a low ru y. elim y [ inl z ↦ z | inr z ↦ absurd (other ((edge-is target lag e z.1).0 ∙ ap Some a)) ]) before)
 
--- both edges of the word at a place
+-- both edges of the word at an index
 pub turns-word : {m : Entries} (t : Tree) (o : Positions) (ways : WaysOn) (j : LoopSetup) (k : ℕ) → IsTree t → Reachable (graph t) j.head → IsPart (net (over t o ways)) (body (net (over t o ways)) j) → let e = edges_at t k in
     IsBest m (Turns (over t o ways) j (AndTo (AndTo (Below (over t o ways) (address t k)) (address t k) e.next e.next_lag) (address t k) e.jump 3)) → IsBest m (Turns (over t o ways) j (Below (over t o ways) (address t (k + 1))))
 turns-word {m} t o ways j k is r part best = turns-same j r part there back best
@@ -81,7 +81,7 @@ turns-word {m} t o ways j k is r part best = turns-same j r part there back best
     there u b a low ru (inr z) = (omega (arith, z.0), subst (λ u. Contains (x.graph.edges u) b) (sym z.0) (Contains-append_right (edge_to e.next e.next_lag) (edge_to e.jump 3) b z.1))
 
     back : (u : ℕ) (b : Edge) → b.to ≡ j.head → j.head ≤ u → Reachable x.graph u → Below x (address t (k + 1)) u b → AndTo (AndTo (Below x (address t k)) (address t k) e.next e.next_lag) (address t k) e.jump 3 u b
-    back u b a low ru z = go (let au : u % 4 ≡ 0 = reachable-aligned t is.draft u ru in let av = place-aligned t is k in let lt : u < address t (k + 1) = z.0 in let y : (u < address t k) ⊎ (u ≡ address t k) = grind arith in y)
+    back u b a low ru z = go (let au : u % 4 ≡ 0 = reachable-aligned t is.draft u ru in let av = index-aligned t is k in let lt : u < address t (k + 1) = z.0 in let y : (u < address t k) ⊎ (u ≡ address t k) = grind arith in y)
       where
         at : u ≡ address t k → Contains (edge_to e.next e.next_lag) b ⊎ Contains (edge_to e.jump 3) b → AndTo (AndTo (Below x (address t k)) (address t k) e.next e.next_lag) (address t k) e.jump 3 u b
         at here (inl h) = inl (inr (here, h))
@@ -112,7 +112,7 @@ turns-all {m} t o ways j first last is r h part sp best = best-same turning (rou
         let l = a.ordered j h in
         let ru : Reachable (graph t) z.from = walk-reachable r z.walk.walk in
         let au : z.from % 4 ≡ 0 = reachable-aligned t is.draft z.from ru in
-        let av = place-aligned t is last in
+        let av = index-aligned t is last in
         let within : address t last ≤ j.last = sp.within in
         record { from = z.from; at = z.at; one = z.one; two = z.two; walk = z.walk; arc = record { lag = z.lag; edge = z.edge.1; move = z.move; reached = ru; lies = record { low = l.0; high = omega arith } }; held = (above part z.walk.walk, (let y = z.edge.0 in omega arith)); cost = z.cost }
 

@@ -9,7 +9,7 @@ use Rattle.bound_calc.specs.declared.hop.HopRow.{HopRow}
 
 -- the steps of a table, by the position at the start
 abbrev pub Hops : List (Option Hop) → Costs
-Hops hops p d q = slice_index_or hops p None ≡ Some (record { cost = d; place = q })
+Hops hops p d q = slice_index_or hops p None ≡ Some (record { cost = d; position = q })
 
 -- they are those to the next turn after a lag
 pub record IsHops (s : Positions) (lag : ℕ) (hops : List (Option Hop)) : Type 0 where
@@ -20,7 +20,7 @@ pub record IsHops (s : Positions) (lag : ℕ) (hops : List (Option Hop)) : Type 
 abbrev pub raised : Option ℕ → Option Hop → List (Option ℕ) → List (Option ℕ)
 raised None hop row = row
 raised (Some x) None row = row
-raised (Some x) (Some h) row = slice_set row h.place (larger_of (slice_index_or row h.place None) (Some (min (x + h.cost) ceiling)))
+raised (Some x) (Some h) row = slice_set row h.position (larger_of (slice_index_or row h.position None) (Some (min (x + h.cost) ceiling)))
 
 -- A row has taken in the sums of the first n positions of another, each a step longer.
 pub record IsAdvanced (row : List (Option ℕ)) (hops : List (Option Hop)) (n : ℕ) (old new : List (Option ℕ)) : Type 0 where

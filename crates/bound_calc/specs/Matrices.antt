@@ -23,7 +23,7 @@ sum_of None y = None
 sum_of (Some x) None = None
 sum_of (Some x) (Some y) = Some (min (x + y) ceiling)
 
--- the largest sum of two over the places below n
+-- the largest sum of two over the positions below n
 unfoldable pub over : ℕ → (ℕ → Option ℕ) → (ℕ → Option ℕ) → Option ℕ
 over zero f g = None
 over (suc n) f g = larger_of (over n f g) (sum_of (f n) (g n))
@@ -32,6 +32,6 @@ over (suc n) f g = larger_of (over n f g) (sum_of (f n) (g n))
 abbrev pub IsJoin : Matrix → Matrix → Matrix → Type 0
 IsJoin a b m = (p q : ℕ) → p < 8 → q < 8 → cell m p q ≡ larger_of (cell a p q) (cell b p q)
 
--- each entry is the largest sum over the place between
+-- each entry is the largest sum over the position between
 abbrev pub IsProduct : Matrix → Matrix → Matrix → Type 0
 IsProduct a b m = (p q : ℕ) → p < 8 → q < 8 → cell m p q ≡ over 8 (λ r. cell a p r) (λ r. cell b r q)

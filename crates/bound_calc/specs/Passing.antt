@@ -21,27 +21,27 @@ use Rattle.bound_calc.specs.declared.matrix.Matrix.{Matrix}
 abbrev pub walks : Tree → Positions → Course
 walks t s = record { graph = graph t; positions = s }
 
--- the edges of the word at a place
+-- the edges of the word at an index
 abbrev pub edges_at : Tree → ℕ → Edges
 edges_at t k = edges_of (word_at t (address t k)) (address t k)
 
--- the place of an address in the section
-abbrev pub place : Tree → ℕ → ℕ
-place t u = (u - t.section.from) / 4
+-- the index of an address in the section
+abbrev pub index : Tree → ℕ → ℕ
+index t u = (u - t.section.from) / 4
 
 -- a matrix without entries
 abbrev pub no_matrix : Matrix
 no_matrix = record { best = [] }
 
--- the matrix at a place
+-- the matrix at an index
 abbrev pub matrix_at : List Matrix → ℕ → Entries
 matrix_at at k = entry (slice_index_or at k no_matrix)
 
--- by place the matrices of loops, where they were worked out
+-- by index the matrices of loops, where they were worked out
 abbrev pub Powers : Type 0
 Powers = List (Option (Box Matrix Global))
 
--- the power of the loop whose head is the word at a place
+-- the power of the loop whose head is the word at an index
 abbrev pub power_at : Powers → ℕ → Option Matrix
 power_at powers k = option_map (λ b. b.value) (slice_index_or powers k None)
 
@@ -50,7 +50,7 @@ abbrev pub moved : Positions → Option Matrix → ℕ → Costs
 moved s None lag = Steps s lag
 moved s (Some m) lag = In (entry m)
 
--- the matrices of the words that are gone on from at costs of their own, by place
+-- the matrices of the words that are gone on from at costs of their own, by index
 abbrev pub WaysOn : Type 0
 WaysOn = ℕ → Option Matrix
 
@@ -59,18 +59,18 @@ abbrev pub picked : List Matrix → Option ℕ → Option Matrix
 picked costs None = None
 picked costs (Some i) = if nat_lt i (length costs) then Some (slice_index_or costs i no_matrix) else None
 
--- matrices, and by place the index of the one of its word
+-- matrices, and by the index of a word that of its matrix
 pub record WayTable : Type 0 where
   pub indices : List (Option ℕ)
   pub costs : List Matrix
 
--- the matrices of such a table, by place
+-- the matrices of such a table, by index
 abbrev pub ways_on : WayTable → WaysOn
 ways_on w k = picked w.costs (slice_index_or w.indices k None)
 
--- The same walks, where the words at some places are gone on from at the costs of a matrix.
+-- The same walks, where the words at some indices are gone on from at the costs of a matrix.
 abbrev pub over : Tree → Positions → WaysOn → Field
-over t s ways = record { graph = graph t; own = IsOwn s; move = λ u lag. moved s (ways (place t u)) lag }
+over t s ways = record { graph = graph t; own = IsOwn s; move = λ u lag. moved s (ways (index t u)) lag }
 
 -- these matrices lead to the thread's own positions
 abbrev pub AreWays : Positions → WaysOn → Type 0
@@ -81,7 +81,7 @@ abbrev pub part_of : Field → Option LoopSetup → Part
 part_of x None = whole x
 part_of x (Some j) = body (net x) j
 
--- the places of a part's first and last word
+-- the indices of a part's first and last word
 pub record IsSpan (t : Tree) (s : Part) (first last : ℕ) : Type 0 where
   pub low : s.low ≡ address t first
   pub within : address t last ≤ s.high
@@ -89,10 +89,10 @@ pub record IsSpan (t : Tree) (s : Part) (first last : ℕ) : Type 0 where
   pub order : first ≤ last
   pub inside : last < length t.words
 
--- the place of an edge's target, where it is above a place and at most at another
+-- the index of an edge's target, where it is above an index and at most at another
 abbrev pub up_of : Tree → ℕ → ℕ → Option ℕ → Option ℕ
 up_of t k high None = None
-up_of t k high (Some v) = if nat_lt (address t k) v && nat_le v (address t high) then Some (place t v) else None
+up_of t k high (Some v) = if nat_lt (address t k) v && nat_le v (address t high) then Some (index t v) else None
 
 -- a matrix was taken along an edge, at these costs
 pub record IsBrought (f : Costs) (to : Option ℕ) (here : Matrix) (old new : List Matrix) : Type 0 where
@@ -101,15 +101,15 @@ pub record IsBrought (f : Costs) (to : Option ℕ) (here : Matrix) (old new : Li
 
 -- the powers of the loops of a part whose heads are reachable
 pub record IsPowers (x : Field) (t : Tree) (s : Part) (powers : Powers) : Type 0 where
-  pub some : (j : LoopSetup) → s.loops j → Reachable x.graph j.head → (m : Matrix) × (power_at powers (place t j.head) ≡ Some m) × IsBest (entry m) (Rounds (net x) j j.limit)
+  pub some : (j : LoopSetup) → s.loops j → Reachable x.graph j.head → (m : Matrix) × (power_at powers (index t j.head) ≡ Some m) × IsBest (entry m) (Rounds (net x) j j.limit)
   pub only : (k : ℕ) (m : Matrix) → s.low ≤ address t k → address t k ≤ s.high → power_at powers k ≡ Some m → (j : LoopSetup) × s.loops j × (address t k ≡ j.head) × Reachable x.graph (address t k)
 
--- by place what reaches each word of the section
+-- by index what reaches each word of the section
 pub record AreReached (t : Tree) (s : Positions) (ways : WaysOn) (at : List Matrix) : Type 0 where
   pub count : length at ≡ length t.words
   pub best : (k : ℕ) → k < length t.words → IsBest (matrix_at at k) (Reaches (net (over t s ways)) (whole (over t s ways)) (address t k))
 
--- Before the word at place n: what reaches each word below it, and what comes from below it to the
+-- Before the word at index n: what reaches each word below it, and what comes from below it to the
 -- others.
 pub record IsPassed (x : Field) (t : Tree) (s : Part) (n : ℕ) (at : List Matrix) : Type 0 where
   pub count : length at ≡ length t.words
@@ -129,10 +129,10 @@ pub record IsTurned (f : Costs) (back here : Matrix) (target : Option ℕ) (head
   pub other : (target ≡ Some head → ⊥) → new ≡ back
   pub there : target ≡ Some head → IsBest (entry new) (Either (In (entry back)) (Then (In (entry here)) f))
 
--- the powers of the loops whose heads are at place n or above
+-- the powers of the loops whose heads are at index n or above
 pub record IsFilled (x : Field) (t : Tree) (n : ℕ) (powers : Powers) : Type 0 where
   pub count : length powers ≡ length t.words
-  pub some : (j : LoopSetup) → Contains x.graph.loops j → n ≤ place t j.head → Reachable x.graph j.head → (m : Matrix) × (power_at powers (place t j.head) ≡ Some m) × IsBest (entry m) (Rounds (net x) j j.limit)
+  pub some : (j : LoopSetup) → Contains x.graph.loops j → n ≤ index t j.head → Reachable x.graph j.head → (m : Matrix) × (power_at powers (index t j.head) ≡ Some m) × IsBest (entry m) (Rounds (net x) j j.limit)
   pub only : (k : ℕ) (m : Matrix) → power_at powers k ≡ Some m → (n ≤ k) × ((j : LoopSetup) × Contains x.graph.loops j × (address t k ≡ j.head) × Reachable x.graph (address t k))
 
 -- the most so far, with the step along an edge that leaves the section
@@ -146,18 +146,18 @@ abbrev pub leaves : Tree → Option ℕ → Bool
 leaves t None = false
 leaves t (Some v) = not (nat_le t.section.from v && nat_lt v t.section.to)
 
--- the most of the words at the places below n
+-- the most of the words at the indices below n
 pub record IsMost (x : Course) (t : Tree) (n : ℕ) (at : List Matrix) (most : ℕ) : Type 0 where
   pub met : (c : ℕ) × CostsOf x c × (min most ceiling ≡ min c ceiling)
   pub inside : (k p c q : ℕ) → k < n → matrix_at at k p q ≡ Some c → c ≤ most
   pub out : (k p c q : ℕ) (e : Edge) → k < n → Contains (x.graph.edges (address t k)) e → (Lies x.graph e.to → ⊥) → Then (In (matrix_at at k)) (Steps x.positions e.lag) p c q → min c ceiling ≤ most
 
--- what leads to the words below place n that are ends, and then a jump further
+-- what leads to the words below index n that are ends, and then a jump further
 pub record Ended (s : Positions) (ends : List Bool) (at : List Matrix) (n p c q : ℕ) : Type 0 where
-  pub place : ℕ
-  pub below : place < n
-  pub is : slice_index_or ends place false ≡ true
-  pub jump : Then (In (matrix_at at place)) (Steps s 3) p c q
+  pub index : ℕ
+  pub below : index < n
+  pub is : slice_index_or ends index false ≡ true
+  pub jump : Then (In (matrix_at at index)) (Steps s 3) p c q
 
 -- a matrix was taken a jump further, if its word is an end
 pub record EndedHere (s : Positions) (is_end : Bool) (here back new : Matrix) : Type 0 where

@@ -18,7 +18,7 @@ word_after u (t ∷ ts) = t.to
 -- the position after some steps, the last one first
 abbrev pub position_after : ℕ → List Step → ℕ
 position_after p [] = p
-position_after p (t ∷ ts) = t.place
+position_after p (t ∷ ts) = t.position
 
 -- each step begins and ends in the loop
 abbrev pub AreIn : LoopSetup → List Step → Type 0

@@ -16,7 +16,7 @@ fn greater(a: u128, b: u128) -> u128
 
 /// Takes a sum into a row, a step longer.
 fn raise(row: &mut [Option<u128>; 8], sum: Option<u128>, hop: Option<Hop>)
-    requires place { (h : _) → hop ≡ Some h → h.place < 8 }
+    requires position { (h : _) → hop ≡ Some h → h.position < 8 }
     ensures { row.new ≡ raised sum hop row.old }
 {
     let Some(sum) = sum else {
@@ -25,15 +25,15 @@ fn raise(row: &mut [Option<u128>; 8], sum: Option<u128>, hop: Option<Hop>)
     let Some(hop) = hop else {
         return;
     };
-    row[hop.place] = larger(
-        row[hop.place],
+    row[hop.position] = larger(
+        row[hop.position],
         Some(sum.saturating_add(u128::from(hop.cost))),
     );
 }
 
 /// Takes the sums of a row into another, each a step longer.
 fn advance_row(row: &[Option<u128>; 8], hops: &HopRow, onto: &mut [Option<u128>; 8])
-    requires places { (p d q : ℕ) → Hops hops.now.hops p d q → q < 8 }
+    requires positions { (p d q : ℕ) → Hops hops.now.hops p d q → q < 8 }
     ensures { IsAdvanced row.now hops.now.hops 8 onto.old onto.new }
 {
     for r in 0..8 {
@@ -44,7 +44,7 @@ fn advance_row(row: &[Option<u128>; 8], hops: &HopRow, onto: &mut [Option<u128>;
 /// Joins with a matrix another that is taken a step further. It is done in place, since a copy of a
 /// matrix costs as much as the step.
 pub fn advance(here: &Matrix, hops: &HopRow, onto: &mut Matrix)
-    requires places { (p d q : ℕ) → Hops hops.now.hops p d q → (p < 8) × (q < 8) }
+    requires positions { (p d q : ℕ) → Hops hops.now.hops p d q → (p < 8) × (q < 8) }
     ensures { IsBest (entry onto.new)
         (Either (In (entry onto.old)) (Then (In (entry here.now)) (Hops hops.now.hops))) }
 {
@@ -82,7 +82,7 @@ fn leave_row(row: &[Option<u128>; 8], hops: &HopRow, most: u128) -> u128
 
 /// The largest of a number and the sums of a matrix, each a step longer.
 pub fn leave(here: &Matrix, hops: &HopRow, most: u128) -> u128
-    requires places { (p d q : ℕ) → Hops hops.now.hops p d q → (p < 8) × (q < 8) }
+    requires positions { (p d q : ℕ) → Hops hops.now.hops p d q → (p < 8) × (q < 8) }
     ensures { IsLeft here.now hops.now.hops most result }
 {
     let mut farthest = most;

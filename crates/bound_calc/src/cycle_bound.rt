@@ -81,17 +81,17 @@ fn most(tree: &LoopTree, steps: &Steps, at: &[Matrix]) -> u128
     ensures { IsBound (walks tree.now steps.now) result }
 {
     let mut most = 0;
-    for place in 0..at.len() {
-        let edges = edges_at(tree, place);
-        let inside = largest(&at[place], most);
+    for index in 0..at.len() {
+        let edges = edges_at(tree, index);
+        let inside = largest(&at[index], most);
         let next = most_out(
             steps,
-            &at[place],
+            &at[index],
             is_out(tree, edges.next),
             edges.next_lag,
             inside,
         );
-        most = most_out(steps, &at[place], is_out(tree, edges.jump), JUMP_LAG, next);
+        most = most_out(steps, &at[index], is_out(tree, edges.jump), JUMP_LAG, next);
     }
     most
 }

@@ -21,7 +21,7 @@ pub fn empty(alloc: Global, count: usize) -> Result<Vec<Option<Box<Matrix>>>, Al
         ((k : ℕ) → power_at powers.items k ≡ None)) }
 {
     let mut powers = Vec::new(alloc);
-    for _place in 0..count {
+    for _index in 0..count {
         powers.push(None)?;
     }
     Ok(powers)
@@ -40,25 +40,25 @@ fn loop_at(loops: &[LoopSetup], head: u32) -> Option<LoopSetup>
     None
 }
 
-/// The power of the loop whose head is the word at a place, if it is one that is reachable.
+/// The power of the loop whose head is the word at an index, if it is one that is reachable.
 fn fill_word(
     alloc: Global,
     tree: &LoopTree,
     steps: &Steps,
     ways: &Ways,
-    place: usize,
+    index: usize,
     powers: &mut [Option<Box<Matrix>>],
     at: &mut [Matrix],
 ) -> Result<(), AllocError>
     requires own { AreWays steps.now (ways_on ways.now) }
-    requires place { place < length tree.now.words }
+    requires index { index < length tree.now.words }
     requires filled { IsFilled (over tree.now steps.now (ways_on ways.now)) tree.now
-        (place + 1) powers.old }
+        (index + 1) powers.old }
     requires room { length at.old ≡ length tree.now.words }
     ensures { OnOk result (IsFilled (over tree.now steps.now (ways_on ways.now))
-        tree.now place powers.new) }
+        tree.now index powers.new) }
 {
-    let address = tree.section().from + 4 * place as u32;
+    let address = tree.section().from + 4 * index as u32;
     if !tree.is_reachable(address) {
         return Ok(());
     }
@@ -66,7 +66,7 @@ fn fill_word(
         return Ok(());
     };
     let power = rounds(tree, steps, ways, powers, j, at);
-    powers[place] = Some(Box::new(alloc, power)?);
+    powers[index] = Some(Box::new(alloc, power)?);
     Ok(())
 }
 
@@ -90,10 +90,10 @@ pub fn fill(
     ensures { OnOk result (IsFilled (over tree.now steps.now (ways_on ways.now))
         tree.now 0 powers.new) }
 {
-    let mut place = at.len();
-    while place > 0 {
-        place -= 1;
-        fill_word(alloc, tree, steps, ways, place, powers, at)?;
+    let mut index = at.len();
+    while index > 0 {
+        index -= 1;
+        fill_word(alloc, tree, steps, ways, index, powers, at)?;
     }
     Ok(())
 }

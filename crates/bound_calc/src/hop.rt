@@ -6,7 +6,7 @@ pub struct Hop {
     /// The number of cycles until that turn.
     pub cost: u64,
     /// That turn's position in the frame, 0 to 7.
-    pub place: usize,
+    pub position: usize,
 }
 
 /// For each frame position that is the thread's the step from there, after one lag.

@@ -65,7 +65,7 @@ impl Matrix {
         Matrix { best }
     }
 
-    /// The largest sum over the place between, for each pair of positions.
+    /// The largest sum over the position between, for each pair of positions.
     pub fn chain(&self, other: &Matrix) -> Matrix
         ensures largest { IsProduct self.now other.now result }
         ensures best { IsBest (entry result) (Then (In (entry self.now)) (In (entry other.now))) }

@@ -17,17 +17,17 @@ use crate::ways::Ways;
 use fp_setup::LoopSetup;
 use region_tree::{Edges, JUMP_LAG, LoopTree, edges_of};
 
-/// The places of a part's first and last word.
+/// The indices of a part's first and last word.
 #[derive(Clone, Copy)]
 pub struct Span {
-    /// The place of the first word: its distance from the section's first word, in words.
+    /// The index of the first word: its distance from the section's first word, in words.
     pub first: usize,
-    /// The place of the last word, counted likewise.
+    /// The index of the last word, counted likewise.
     pub last: usize,
 }
 
-/// The places of a loop, or of the whole section.
-pub fn places_of(tree: &LoopTree, around: Option<LoopSetup>) -> Span
+/// The indices of a loop, or of the whole section.
+pub fn span_of(tree: &LoopTree, around: Option<LoopSetup>) -> Span
     requires { IfSome around (λ j. Contains tree.now.loops j) }
     ensures span { (s : _) → (ways : _) →
         IsSpan tree.now (part_of (over tree.now s ways) around) result.first result.last }
@@ -48,24 +48,24 @@ pub fn places_of(tree: &LoopTree, around: Option<LoopSetup>) -> Span
     }
 }
 
-/// The edges of the word at a place.
-pub fn edges_at(tree: &LoopTree, place: usize) -> Edges
-    requires { place < length tree.now.words }
-    ensures { result ≡ edges_at tree.now place }
+/// The edges of the word at an index.
+pub fn edges_at(tree: &LoopTree, index: usize) -> Edges
+    requires { index < length tree.now.words }
+    ensures { result ≡ edges_at tree.now index }
 {
-    let address = tree.section().from + 4 * place as u32;
+    let address = tree.section().from + 4 * index as u32;
     edges_of(tree.word(address), address)
 }
 
-/// The place of an edge's target, where it is above a place and at most at another.
-fn up_to(tree: &LoopTree, place: usize, last: usize, target: Option<u32>) -> Option<usize>
-    requires order { place ≤ last }
+/// The index of an edge's target, where it is above an index and at most at another.
+fn up_to(tree: &LoopTree, index: usize, last: usize, target: Option<u32>) -> Option<usize>
+    requires order { index ≤ last }
     requires within { last < length tree.now.words }
-    ensures { result ≡ up_of tree.now place last target }
+    ensures { result ≡ up_of tree.now index last target }
 {
     let from = tree.section().from;
     match target {
-        Some(to) if from + 4 * (place as u32) < to && to <= from + 4 * (last as u32) => {
+        Some(to) if from + 4 * (index as u32) < to && to <= from + 4 * (last as u32) => {
             Some(((to - from) / 4) as usize)
         }
         _ => None,
@@ -117,7 +117,7 @@ pub fn along(steps: &Steps, way: Option<&Matrix>, here: &Matrix, lag: u64, onto:
     joined
 }
 
-/// Takes a matrix along an edge to a place.
+/// Takes a matrix along an edge to an index.
 fn bring(
     steps: &Steps,
     way: Option<&Matrix>,
@@ -143,8 +143,8 @@ fn clear(at: &mut [Matrix], span: Span)
     ensures { (k : ℕ) → span.first ≤ k → k ≤ span.last →
         (p q c : ℕ) → matrix_at at.new k p q ≡ Some c → ⊥ }
 {
-    for place in span.first..span.last + 1 {
-        at[place] = Matrix::NONE;
+    for index in span.first..span.last + 1 {
+        at[index] = Matrix::NONE;
     }
 }
 
@@ -166,17 +166,17 @@ pub fn pass(
         (k : ℕ) → s.low ≤ address tree.now k → address tree.now k ≤ s.high →
         IsBest (matrix_at at.new k) (Reaches (net f) s (address tree.now k)) }
 {
-    let span = places_of(tree, around);
+    let span = span_of(tree, around);
     clear(at, span);
     at[span.first] = *steps.one();
-    for place in span.first..span.last + 1 {
-        let mut here = at[place];
-        with_rounds(&mut here, &powers[place]);
-        at[place] = here;
-        let edges = edges_at(tree, place);
-        let next = up_to(tree, place, span.last, edges.next);
-        bring(steps, ways.at(place), next, &here, edges.next_lag, at);
-        let jump = up_to(tree, place, span.last, edges.jump);
-        bring(steps, ways.at(place), jump, &here, JUMP_LAG, at);
+    for index in span.first..span.last + 1 {
+        let mut here = at[index];
+        with_rounds(&mut here, &powers[index]);
+        at[index] = here;
+        let edges = edges_at(tree, index);
+        let next = up_to(tree, index, span.last, edges.next);
+        bring(steps, ways.at(index), next, &here, edges.next_lag, at);
+        let jump = up_to(tree, index, span.last, edges.jump);
+        bring(steps, ways.at(index), jump, &here, JUMP_LAG, at);
     }
 }

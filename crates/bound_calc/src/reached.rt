@@ -33,7 +33,7 @@ fn reach_in(
     Ok(())
 }
 
-/// By place the largest costs of what reaches each word of the section. The words that have ways of
+/// By index the largest costs of what reaches each word of the section. The words that have ways of
 /// their own are gone on from at the costs of these, which lead to positions of the thread.
 ///
 /// # Errors

@@ -26,8 +26,8 @@ pub fn through(steps: &Steps, at: &[Matrix], ends: &[bool]) -> Matrix
     ensures { IsBest (entry result) (Ended steps.now ends.now at.now (length at.now)) }
 {
     let mut back = Matrix::NONE;
-    for place in 0..at.len() {
-        end(steps, ends[place], &at[place], &mut back);
+    for index in 0..at.len() {
+        end(steps, ends[index], &at[index], &mut back);
     }
     back
 }

@@ -12,7 +12,7 @@ ghost use Rattle.bound_calc.specs.Matrices.{entry};
 ghost use Rattle.bound_calc.specs.Passing.{AreWays, IsReady, IsTurned, moved, over, ways_on};
 
 use crate::matrix::Matrix;
-use crate::pass::{edges_at, join_along, pass, places_of};
+use crate::pass::{edges_at, join_along, pass, span_of};
 use crate::powers::power;
 use crate::steps::Steps;
 use crate::ways::Ways;
@@ -58,24 +58,24 @@ pub fn rounds(
         (Rounds (net (over tree.now steps.now (ways_on ways.now))) j j.limit) }
 {
     pass(tree, steps, ways, powers, Some(j), at);
-    let span = places_of(tree, Some(j));
+    let span = span_of(tree, Some(j));
     let mut back = Matrix::NONE;
-    for place in span.first..span.last + 1 {
-        let edges = edges_at(tree, place);
+    for index in span.first..span.last + 1 {
+        let edges = edges_at(tree, index);
         turn(
             steps,
-            ways.at(place),
+            ways.at(index),
             &mut back,
-            &at[place],
+            &at[index],
             edges.next,
             edges.next_lag,
             j.head,
         );
         turn(
             steps,
-            ways.at(place),
+            ways.at(index),
             &mut back,
-            &at[place],
+            &at[index],
             edges.jump,
             JUMP_LAG,
             j.head,

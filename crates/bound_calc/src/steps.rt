@@ -59,10 +59,10 @@ fn hop(slots: &SlotTable, thread: u8, position: u64, lag: u64) -> Option<Hop>
     requires thread { thread < 8 }
     requires lag { lag ≤ 3 }
     requires position { position < 8 }
-    ensures found { (d q : ℕ) → result ≡ Some (record { cost = d; place = q }) →
+    ensures found { (d q : ℕ) → result ≡ Some (record { cost = d; position = q }) →
         IsNextTurn (positions slots.now thread) lag position d q }
     ensures all { (d q : ℕ) → IsNextTurn (positions slots.now thread) lag position d q →
-        result ≡ Some (record { cost = d; place = q }) }
+        result ≡ Some (record { cost = d; position = q }) }
 {
     let count = u64::from(slots.frame_len());
     if position >= count || !is_own(slots, thread, position) {
@@ -71,7 +71,7 @@ fn hop(slots: &SlotTable, thread: u8, position: u64, lag: u64) -> Option<Hop>
     let cost = distance(slots, thread, position, lag);
     Some(Hop {
         cost,
-        place: ((position + cost) % count) as usize,
+        position: ((position + cost) % count) as usize,
     })
 }
 

@@ -5,8 +5,8 @@ ghost use Rattle.std.specs.Prelude.{◌≡◌};
 use crate::matrix::Matrix;
 use std::marker::Model;
 
-/// Matrices, and by place the index of the one that says what it costs to go on from a word, where
-/// that isn't told by its lag. Contracts see the two lists.
+/// Matrices, and by the index of a word that of the one that says what it costs to go on from a
+/// word, where that isn't told by its lag. Contracts see the two lists.
 #[derive(Drop)]
 pub struct Ways<'a> {
     indices: &'a [Option<usize>],
@@ -26,7 +26,7 @@ impl<'a> Ways<'a> {
     ghost use Rattle.std.specs.Option.{option_map};
     ghost use Rattle.bound_calc.specs.Passing.{ways_on};
 
-    /// The ways by these indices into these matrices. A place that the indices don't reach, or
+    /// The ways by these indices into these matrices. An index that the indices don't reach, or
     /// whose index the matrices don't, has none.
     pub fn new(indices: &'a [Option<usize>], costs: &'a [Matrix]) -> Ways<'a>
         ensures { result ≡ record { indices = indices.now; costs = costs.now } }
@@ -34,14 +34,14 @@ impl<'a> Ways<'a> {
         Ways { indices, costs }
     }
 
-    /// The matrix of the word at a place.
-    pub fn at(&self, place: usize) -> Option<&Matrix>
-        ensures { option_map (λ m. m.now) result ≡ ways_on self.now place }
+    /// The matrix of the word at an index.
+    pub fn at(&self, word: usize) -> Option<&Matrix>
+        ensures { option_map (λ m. m.now) result ≡ ways_on self.now word }
     {
-        if place >= self.indices.len() {
+        if word >= self.indices.len() {
             return None;
         }
-        let Some(index) = self.indices[place] else {
+        let Some(index) = self.indices[word] else {
             return None;
         };
         if index < self.costs.len() {

@@ -1,4 +1,4 @@
--- Matrices of sets of costs that hold at some place, and of sets that cost the same as far as sums go.
+-- Matrices of sets of costs that hold at some index, and of sets that cost the same as far as sums go.
 use Rattle.std.proofs.Common.{◌≡◌, ℕ, ◌+◌, ◌<◌, ◌≤◌, ◌⊎◌, ◌∙◌, refl, arith, inl, inr, subst, min, Some, Bool, true, false}
 use Rattle.bound_calc.specs.Best.{Costs, Either, Entries, In, IsBest, ceiling}
 use Rattle.bound_calc.proofs.BestLaws.{Within, best-either, best-same}
@@ -68,7 +68,7 @@ any-more f n a b = best-same there (λ p c q z. split f z) (best-onto a b)
     there p c q (inl z) = wider f z
     there p c q (inr z) = last f z
 
--- the same, onto another matrix, where what holds at a place is one of two things
+-- the same, onto another matrix, where what holds at an index is one of two things
 pub onto-none : {m : Entries} {f : ℕ → Costs} → IsBest m (Either (In m) (Any f 0))
 onto-none {m} {f} = (covers, λ p e q is. (e, inl is, refl))
   where

@@ -1,4 +1,4 @@
--- The routine with a head, by its place.
+-- The routine with a head, by its index.
 use Rattle.std.proofs.Common.{◌≡◌, ℕ, suc, ◌+◌, ◌<◌, ◌≤◌, ◌==◌, refl, arith, sym, subst, cond, not, nat_lt, if◌then◌else◌, Some, None, List, [], ◌∷◌, length, slice_index_or, Bool, true, false}
 use Rattle.std.specs.List.{position, position_or_len}
 use Rattle.std.proofs.lemmas.Bool.Decides.{nat_tests}
@@ -8,10 +8,10 @@ use Rattle.call_bounds.specs.declared.routines.Routine.{Routine}
 abbrev pub has : ℕ → Routine → Bool
 has a r = r.head == a
 
-at-place : (rs : List Routine) (a : ℕ) (d : Routine) → position_or_len (has a) rs < length rs → routine_at rs a ≡ Some (slice_index_or rs (position_or_len (has a) rs) d)
+at-index : (rs : List Routine) (a : ℕ) (d : Routine) → position_or_len (has a) rs < length rs → routine_at rs a ≡ Some (slice_index_or rs (position_or_len (has a) rs) d)
 unfolding routine_at
-at-place [] a d h = absurd (omega arith)
-at-place (y ∷ rs) a d h = go (y.head == a) refl h (at-place rs a d)
+at-index [] a d h = absurd (omega arith)
+at-index (y ∷ rs) a d h = go (y.head == a) refl h (at-index rs a d)
   where
     go : (b : Bool) → (y.head == a) ≡ b → cond (not b) (1 + position_or_len (has a) rs) 0 < length (y ∷ rs) → (position_or_len (has a) rs < length rs → routine_at rs a ≡ Some (slice_index_or rs (position_or_len (has a) rs) d)) →
         (if b then Some y else routine_at rs a) ≡ Some (slice_index_or (y ∷ rs) (cond (not b) (1 + position_or_len (has a) rs) 0) d)
@@ -28,19 +28,19 @@ at-none (y ∷ rs) a h = go (y.head == a) refl h (at-none rs a)
     go true e h later = absurd (omega arith)
     go false e h later = later (omega arith)
 
-pub place-none : (rs : List Routine) (a : ℕ) → position (has a) rs ≡ None → routine_at rs a ≡ None
-place-none rs a h = go (nat_lt (position_or_len (has a) rs) (length rs)) refl h
+pub index-none : (rs : List Routine) (a : ℕ) → position (has a) rs ≡ None → routine_at rs a ≡ None
+index-none rs a h = go (nat_lt (position_or_len (has a) rs) (length rs)) refl h
   where
     go : (b : Bool) → nat_lt (position_or_len (has a) rs) (length rs) ≡ b → cond b (Some (position_or_len (has a) rs)) None ≡ None → routine_at rs a ≡ None
     go true e h = cc
     go false e h = at-none rs a (grind (arith, nat_tests))
 
-pub place-some : (rs : List Routine) (a k : ℕ) (d : Routine) → position (has a) rs ≡ Some k → (k < length rs) × (routine_at rs a ≡ Some (slice_index_or rs k d))
-place-some rs a k d h = go (nat_lt (position_or_len (has a) rs) (length rs)) refl h
+pub index-some : (rs : List Routine) (a k : ℕ) (d : Routine) → position (has a) rs ≡ Some k → (k < length rs) × (routine_at rs a ≡ Some (slice_index_or rs k d))
+index-some rs a k d h = go (nat_lt (position_or_len (has a) rs) (length rs)) refl h
   where
     go : (b : Bool) → nat_lt (position_or_len (has a) rs) (length rs) ≡ b → cond b (Some (position_or_len (has a) rs)) None ≡ Some k → (k < length rs) × (routine_at rs a ≡ Some (slice_index_or rs k d))
     go true e h =
         let same : position_or_len (has a) rs ≡ k = cc in
         let lt : position_or_len (has a) rs < length rs = grind (arith, nat_tests) in
-        (omega arith, subst (λ i. routine_at rs a ≡ Some (slice_index_or rs i d)) same (at-place rs a d lt))
+        (omega arith, subst (λ i. routine_at rs a ≡ Some (slice_index_or rs i d)) same (at-index rs a d lt))
     go false e h = cc

@@ -80,8 +80,8 @@ causes-refused l k TreeNo.NoMemory f is r h e = absurd e
 -- of all parts
 all-parts : (l : Listing) (P : Graph → ℕ → Type 0) (r : Option ℕ) → LowestOf (Before (InPart l P) (part_count l)) r → LowestOf (InParts (calls l) P) r
 all-parts l P r = lowest-same (Before (InPart l P) (part_count l)) (InParts (calls l) P) r
-    (λ a h. record { place = part_at l h.0; reached = h.2.0; holds = h.2.1 })
-    (λ a h. let z = reached-number l h.place h.reached in (z.0, z.1, (subst (λ p. IsReached (calls l) p) (sym z.2) h.reached, subst (λ p. P (part (calls l) p) a) (sym z.2) h.holds)))
+    (λ a h. record { within = part_at l h.0; reached = h.2.0; holds = h.2.1 })
+    (λ a h. let z = reached-number l h.within h.reached in (z.0, z.1, (subst (λ p. IsReached (calls l) p) (sym z.2) h.reached, subst (λ p. P (part (calls l) p) a) (sym z.2) h.holds)))
 
 causes-all : (l : Listing) (f : Causes) → AreCauses (λ P. Before (InPart l P) (part_count l)) f → AreCauses (InParts (calls l)) f
 causes-all l f c = record {

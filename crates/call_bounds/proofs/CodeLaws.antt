@@ -12,7 +12,7 @@ use Rattle.call_bounds.specs.Listing.{Listing, calls, part_at, part_count, scrat
 use Rattle.call_bounds.specs.Patched.{part_tree, patch, patched}
 use Rattle.call_bounds.specs.Routines.{AreRoutines, IsRoutine}
 use Rattle.call_bounds.specs.declared.routines.Routine.{Routine}
-use Rattle.call_bounds.proofs.Called.{has, place-none, place-some}
+use Rattle.call_bounds.proofs.Called.{has, index-none, index-some}
 use Rattle.call_bounds.proofs.Numbers.{part-routine, routine-of}
 
 -- the scratchpad has so many words
@@ -26,11 +26,11 @@ callee-at : (x : Calls) (u h w : ℕ) → w ≡ x.word u → Some h ≡ linked u
 callee-at x u h w e f = ap (λ w. linked u (ins w)) (sym e) ∙ sym f
 
 pub callee-none : (x : Calls) (u h w : ℕ) → w ≡ x.word u → Some h ≡ linked u (ins w) → None ≡ position (has h) x.routines → callee x u ≡ None
-callee-none x u h w e f g = ap (routine_to x.routines) (callee-at x u h w e f) ∙ place-none x.routines h (sym g)
+callee-none x u h w e f g = ap (routine_to x.routines) (callee-at x u h w e f) ∙ index-none x.routines h (sym g)
 
 pub callee-some : (l : Listing) (u h w k : ℕ) → w ≡ (calls l).word u → Some h ≡ linked u (ins w) → Some k ≡ position (has h) l.routines → (0 < k + 1) × (k + 1 < part_count l) × (callee (calls l) u ≡ part_at l (k + 1))
 callee-some l u h w k e f g =
-    let z = place-some l.routines h k (record { head = 0; last = 0 }) (sym g) in
+    let z = index-some l.routines h k (record { head = 0; last = 0 }) (sym g) in
     (omega arith, omega (arith, z.0), ap (routine_to l.routines) (callee-at (calls l) u h w e f) ∙ (z.1 ∙ sym (part-routine l k (record { head = 0; last = 0 }) z.0)))
 
 -- the word in the place of a call
@@ -47,6 +47,6 @@ part-words memory s t words is e f = words-length memory s is ∙ ap (λ ws. s.f
 pub tree-eq : (x : Calls) (p : Part) (s : Section) (words : List ℕ) (loops : List LoopSetup) → s ≡ range x p → words ≡ words_of (patched x p) (range x p) → loops ≡ x.loops → tree_with s words loops ≡ part_tree x p
 tree-eq x p s words loops a b c = λ i. tree_with (a i) (b i) (c i)
 
--- a listed routine by its place
+-- a listed routine by its index
 pub routine-is : (rs : List Routine) (k : ℕ) (d : Routine) → AreRoutines rs → k < length rs → IsRoutine (slice_index_or rs k d)
 routine-is rs k d are h = are.each (slice_index_or rs k d) (Contains-get_or rs k d h)

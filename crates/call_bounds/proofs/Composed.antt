@@ -7,7 +7,7 @@ use Rattle.region_tree.specs.Graph.{Edge, Reachable, edge_list}
 use Rattle.region_tree.specs.Tree.{IsSection, graph}
 use Rattle.bound_calc.proofs.BestLaws.{best-same}
 use Rattle.bound_calc.specs.Best.{Entries, IsBest}
-use Rattle.bound_calc.specs.Passing.{WaysOn, over, place}
+use Rattle.bound_calc.specs.Passing.{WaysOn, over, index}
 use Rattle.bound_calc.specs.Section.{IsAccepted, net, whole}
 use Rattle.bound_calc.specs.Ways.{Reaches}
 use Rattle.call_bounds.specs.Calls.{Calls, Part, callee, onward, part, range}
@@ -45,14 +45,14 @@ agrees-back x a is = let g = agrees x a is in record {
 
 -- the ways of a part's calls hold what their routines cost
 abbrev pub HoldsCalls : Route → Part → WaysOn → Type 0
-HoldsCalls x a ways = (u : ℕ) → Reachable (part x.calls a) u → IsWay x (callee x.calls u) (ways (place (part_tree x.calls a) u))
+HoldsCalls x a ways = (u : ℕ) → Reachable (part x.calls a) u → IsWay x (callee x.calls u) (ways (index (part_tree x.calls a) u))
 
 pub best-runs : (x : Route) (a : Part) (ways : WaysOn) (m : Entries) (v : ℕ) → IsSection (range x.calls a) → IsAccepted (part x.calls a) → HoldsCalls x a ways →
     IsBest m (Reaches (net (over (part_tree x.calls a) x.positions ways)) (whole (over (part_tree x.calls a) x.positions ways)) v) → IsBest m (RunsTo x a v)
 best-runs x a ways m v is ok are best = best-same
     (λ p c q r. record { counters = r.counters; run = run_of x r.walk })
     (λ p c q r. let n = netted x ok r.run in record { steps = n.steps; counters = r.counters; walk = n.walk })
-    (ways-stand x a (λ u. ways (place (part_tree x.calls a) u)) (whole (field x a)) m v are
+    (ways-stand x a (λ u. ways (index (part_tree x.calls a) u)) (whole (field x a)) m v are
     (best-same
     (λ p c q r. record { steps = r.steps; counters = r.counters; walk = walks (agrees x.calls a is) r.walk })
     (λ p c q r. record { steps = r.steps; counters = r.counters; walk = walks (agrees-back x.calls a is) r.walk })

@@ -1,4 +1,4 @@
--- A net in whose place another is worked out, with the best of each arc's costs.
+-- A net instead of which another is worked out, with the best of each arc's costs.
 use Rattle.std.proofs.Common.{◌≡◌, ℕ, ◌+◌, ◌≤◌, refl, arith, ◌∙◌, min}
 use Rattle.fp_setup.specs.declared.loop_list.LoopSetup.{LoopSetup}
 use Rattle.region_tree.specs.Walk.{counted}

@@ -7,7 +7,7 @@ use Rattle.call_bounds.specs.Listing.{Listing, calls, part_at}
 use Rattle.call_bounds.specs.Parts.{IsCallee}
 use Rattle.call_bounds.specs.Summaries.{AreCallees, AreReturns}
 
--- the element at a place of a list that got one more
+-- the element at an index of a list that got one more
 each-more : {X : Type 0} (P : ℕ → X → Type 0) (xs : List X) (y d : X) (n : ℕ) → length xs ≡ n → ((k : ℕ) → k < n → P k (slice_index_or xs k d)) → P n y → (k : ℕ) → k < n + 1 → P k (slice_index_or (xs ++ y ∷ []) k d)
 each-more {X} P xs y d n len before last k lt = go (let z : (k < n) ⊎ (k ≡ n) = grind arith in z)
   where

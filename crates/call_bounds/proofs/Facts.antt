@@ -69,10 +69,10 @@ parts x is ok = record { some = some; same = same; once = once; accepted = λ a 
 
     allowed : (a : Part) → IsReached x a → IsAllowed (part x a)
     allowed a r = record {
-      nesting = λ u h. ok.nesting u (record { place = a; reached = r; holds = h });
-      indirect = λ u h. ok.indirect u (record { place = a; reached = r; holds = h });
-      timed = λ u h. ok.timed u (record { place = a; reached = r; holds = h });
-      unbounded = λ u h. ok.unbounded u (record { place = a; reached = r; holds = h });
+      nesting = λ u h. ok.nesting u (record { within = a; reached = r; holds = h });
+      indirect = λ u h. ok.indirect u (record { within = a; reached = r; holds = h });
+      timed = λ u h. ok.timed u (record { within = a; reached = r; holds = h });
+      unbounded = λ u h. ok.unbounded u (record { within = a; reached = r; holds = h });
     }
 
     once : (a : Part) → CallsLead x a a → ⊥

@@ -57,7 +57,7 @@ steps-within x a u v l k is reached lies small held bounds j h = go (is_or_not v
   where
     here : v ≡ j.head → Contains (part x a).loops j
     here e =
-        let same : a ≡ h.place = is.same a h.place v reached h.reached lies (subst (λ z. Lies (part x h.place) z) (sym e) (head-lies x h.place j (is.accepted h.place h.reached) h.known)) in
+        let same : a ≡ h.within = is.same a h.within v reached h.reached lies (subst (λ z. Lies (part x h.within) z) (sym e) (head-lies x h.within j (is.accepted h.within h.reached) h.known)) in
         subst (λ b. Contains (part x b).loops j) (sym same) h.known
 
     back : v ≡ j.head → (Holds j u) ⊎ (Holds j u → ⊥) → counted u v j (l j) ≤ j.limit

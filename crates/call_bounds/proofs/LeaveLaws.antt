@@ -11,7 +11,7 @@ use Rattle.region_tree.proofs.EdgeLaws.{edge-is, is-edge}
 use Rattle.bound_calc.specs.Best.{Costs, Either, In, IsBest, Then, ceiling}
 use Rattle.bound_calc.specs.Hops.{IsLargest}
 use Rattle.bound_calc.specs.Matrices.{entry}
-use Rattle.bound_calc.specs.Passing.{WaysOn, edges_at, leaves, matrix_at, moved, place}
+use Rattle.bound_calc.specs.Passing.{WaysOn, edges_at, leaves, matrix_at, moved, index}
 use Rattle.bound_calc.specs.declared.matrix.Matrix.{Matrix}
 use Rattle.bound_calc.proofs.MostLaws.{leaves-not, not-leaves}
 use Rattle.call_bounds.specs.declared.routines.Routine.{Routine}
@@ -81,7 +81,7 @@ from_leaves x {p} {c} {q} y = go (callee x.calls y.word) refl y.edge y.move
             (subst (λ o. Contains (onward o y.word (edge_list (edges_of (x.calls.word y.word) y.word))) y.by) to edge)
     go (Some t) to edge move = subst (λ c. Leaving x p c q) (omega (arith, y.cost, move.cost)) (Leaving.comes_out y.run to (λ l. y.out (subst (λ v. Lies (part x.calls None) v) (sym (call-is x.calls None y.word t y.by to edge)) l)) move.first move.second)
 
--- the edges of a place's word
+-- the edges of the word at an index
 edges-same : (x : Calls) (k : ℕ) → IsSection (range x None) → k < count (range x None) → edge_list (edges_at (part_tree x None) k) ≡ (part x None).edges ((range x None).from + 4 * k)
 edges-same x k is lt = (agrees x None is).same ((range x None).from + 4 * k) (let a = is.from_aligned in omega arith) (omega arith) (let a = is.from_aligned in let b = is.to_aligned in let c = is.order in omega arith)
 
@@ -100,7 +100,7 @@ sum-among : (a b c one two n : ℕ) → min one n ≡ min a n → min two n ≡ 
 sum-among a b c one two n h1 h2 is = omega arith
 
 -- what leads to the words and from there out of the section costs what walks do that leave it
-pub leaving-alike : (x : Route) (at : List Matrix) (ways : WaysOn) → Gone x None at → ((u : ℕ) → Reachable (part x.calls None) u → IsWayOf x (Through x) (callee x.calls u) (ways (place (part_tree x.calls None) u))) →
+pub leaving-alike : (x : Route) (at : List Matrix) (ways : WaysOn) → Gone x None at → ((u : ℕ) → Reachable (part x.calls None) u → IsWayOf x (Through x) (callee x.calls u) (ways (index (part_tree x.calls None) u))) →
     Alike (Leaving x) (Any (LeavesAt (part_tree x.calls None) x.positions ways at) (count (range x.calls None)))
 leaving-alike x at ways g are = record { covers = λ p c q h. covers p c q (to_leaves x h); among = λ p e q h. among p e q h.0 h.1 h.2 }
   where
@@ -114,22 +114,22 @@ leaving-alike x at ways g are = record { covers = λ p c q h. covers p c q (to_l
     is = g.section
 
     covers : (p c q : ℕ) → Leaves x p c q → (e : ℕ) × Any (LeavesAt t x.positions ways at) (count (range x.calls None)) p e q × (min c ceiling ≤ e)
-    covers p c q y = (r.cost + d.0, (k, r.place.below, out (Contains-append_cases (edge_to e.next e.next_lag) (edge_to e.jump 3) y.by known)), sum-covers y.one y.two c r.cost d.0 ceiling r.covers d.2 y.cost)
+    covers p c q y = (r.cost + d.0, (k, r.index.below, out (Contains-append_cases (edge_to e.next e.next_lag) (edge_to e.jump 3) y.by known)), sum-covers y.one y.two c r.cost d.0 ceiling r.covers d.2 y.cost)
       where
         r : RunAt x None at y.word p y.one y.at
         r = run-at x None at g (record { counters = y.counters; run = y.run })
 
         k : ℕ
-        k = r.place.at
+        k = r.index.at
 
         e : EdgesOf
         e = edges_at t k
 
         d : (e : ℕ) × moved x.positions (ways k) y.by.lag y.at e q × (min y.two ceiling ≤ e)
-        d = subst (λ n. (e : ℕ) × moved x.positions (ways n) y.by.lag y.at e q × (min y.two ceiling ≤ e)) r.place.is (covered x (callee x.calls y.word) (ways (place t y.word)) y.by.lag y.at y.two q (are y.word r.word) y.move)
+        d = subst (λ n. (e : ℕ) × moved x.positions (ways n) y.by.lag y.at e q × (min y.two ceiling ≤ e)) r.index.is (covered x (callee x.calls y.word) (ways (index t y.word)) y.by.lag y.at y.two q (are y.word r.word) y.move)
 
         known : Contains (edge_list e) y.by
-        known = subst (λ l. Contains l y.by) (sym (edges-same x.calls k is r.place.below)) (subst (λ u. Contains ((part x.calls None).edges u) y.by) (sym r.place.address) y.edge)
+        known = subst (λ l. Contains l y.by) (sym (edges-same x.calls k is r.index.below)) (subst (λ u. Contains ((part x.calls None).edges u) y.by) (sym r.index.address) y.edge)
 
         far : Lies (graph t) y.by.to → ⊥
         far l = y.out (record { low = l.low; high = l.high })
@@ -160,8 +160,8 @@ leaving-alike x at ways g are = record { covers = λ p c q h. covers p c q (to_l
         by_edge v lag edge far y =
             let one = (g.best k lt).1 p y.one y.at y.first in
             let r = run-at x None at g one.1 in
-            let same : r.place.at ≡ k = (let a = r.place.address in omega arith) in
-            let w = subst (λ i. IsWayOf x (Through x) (callee x.calls (start + 4 * k)) (ways i)) (r.place.is ∙ same) (are (start + 4 * k) r.word) in
+            let same : r.index.at ≡ k = (let a = r.index.address in omega arith) in
+            let w = subst (λ i. IsWayOf x (Through x) (callee x.calls (start + 4 * k)) (ways i)) (r.index.is ∙ same) (are (start + 4 * k) r.word) in
             let two = found x (callee x.calls (start + 4 * k)) (ways k) lag y.at y.two q w y.second in
             (one.0 + two.0, from_leaves x (record { word = start + 4 * k; at = y.at; one = one.0; two = two.0; counters = one.1.counters; by = record { to = v; lag = lag }; run = one.1.run; edge = subst (λ l. Contains l (record { to = v; lag = lag })) (edges-same x.calls k is lt) edge; out = λ l. far (record { low = l.low; high = l.high }); move = two.1; cost = refl }), sum-among one.0 two.0 e y.one y.two ceiling one.2 two.2 y.cost)
 

@@ -160,7 +160,7 @@ opened x p is (CallWalk.along {u = u} {q = q} {c = c} {d = d} {r = r} {s = s} {k
   where
     go : Top x l p s u q c → Open x (λ j. counted u e.to j (l j)) p s e.to r (c + d)
     go t = cost-is x (λ j. counted u e.to j (l j)) p s e.to r (t.before + (t.own + d)) (c + d) (omega (arith, t.cost)) (t.other (λ j. counted u e.to j (l j)) e.to r (t.own + d) (λ j. counted u e.to j (t.counters j))
-        (Run.along e t.run edge lies turn (λ j h. let a = counted-≤ u e.to j (t.counters j) (l j) (t.few j h) in let b = bounds j (record { place = part_in x.calls s; reached = t.reached; known = h }) in omega arith))
+        (Run.along e t.run edge lies turn (λ j h. let a = counted-≤ u e.to j (t.counters j) (l j) (t.few j h) in let b = bounds j (record { within = part_in x.calls s; reached = t.reached; known = h }) in omega arith))
         (λ j h. counted-≤ u e.to j (t.counters j) (l j) (t.few j h))
         (next e t.word (plain-edge x.calls (part_in x.calls s) u e edge) lies)
         (λ b h. aside x.calls (part_in x.calls s) b l u e.to is (t.over b h) lies))

@@ -82,6 +82,6 @@ part-section l is k h = go (let z : (k ≡ 0) ⊎ (0 < k) = grind arith in z)
     go (inl e) = subst (λ i. IsSection (range (calls l) (part_at l i))) (sym e) is.section
     go (inr some) = let z = routine-of l k some h in subst (λ p. IsSection (range (calls l) p)) (sym z.1) (routine-section z.0 (is.routines.each z.0 z.2))
 
--- the routine that a part is, by its place in the list
+-- the routine that a part is, by its index in the list
 pub routine-part : (l : Listing) (k : ℕ) (d : Routine) → 0 < k → k < part_count l → part_at l k ≡ Some (slice_index_or l.routines (k - 1) d)
 routine-part l k d some h = let e : (k - 1) + 1 ≡ k = omega arith in subst (λ i. part_at l i ≡ Some (slice_index_or l.routines (k - 1) d)) e (part-routine l (k - 1) d (omega arith))

@@ -9,7 +9,7 @@ use Rattle.region_tree.specs.declared.section.Section.{Section}
 use Rattle.bound_calc.proofs.BestLaws.{best-then}
 use Rattle.bound_calc.specs.Best.{Costs, Entries, In, IsBest, Then, ceiling}
 use Rattle.bound_calc.specs.Matrices.{entry}
-use Rattle.bound_calc.specs.Passing.{AreReached, Ended, WayTable, WaysOn, matrix_at, no_matrix, picked, place, ways_on}
+use Rattle.bound_calc.specs.Passing.{AreReached, Ended, WayTable, WaysOn, matrix_at, no_matrix, picked, index, ways_on}
 use Rattle.bound_calc.specs.Section.{IsAccepted, Steps}
 use Rattle.bound_calc.specs.declared.matrix.Matrix.{Matrix}
 use Rattle.call_bounds.specs.declared.routines.Routine.{Routine}
@@ -41,14 +41,14 @@ part-section x (Some t) is r =
 abbrev pub count : Section → ℕ
 count s = (s.to - s.from) / 4
 
--- the place of a reachable word
-pub record PlaceOf (x : Calls) (a : Part) (u : ℕ) : Type 0 where
+-- the index of a reachable word
+pub record IndexOf (x : Calls) (a : Part) (u : ℕ) : Type 0 where
   pub at : ℕ
   pub below : at < count (range x a)
   pub address : (range x a).from + 4 * at ≡ u
-  pub is : place (part_tree x a) u ≡ at
+  pub is : index (part_tree x a) u ≡ at
 
-pub placed : (x : Calls) (a : Part) (u : ℕ) → IsSection (range x a) → Reachable (part x a) u → PlaceOf x a u
+pub placed : (x : Calls) (a : Part) (u : ℕ) → IsSection (range x a) → Reachable (part x a) u → IndexOf x a u
 placed x a u is r =
     let z = reach (agrees-back x a is) r in
     let z1 = z.1 in let z2 = z.2 in let z3 = z.3 in
@@ -69,14 +69,14 @@ picks costs i lt = let b : nat_lt i (length costs) ≡ true = grind (arith, nat_
 -- by the numbers of the callees, each call has the matrix of its routine
 pub holds : (l : Listing) (s : Positions) (n : ℕ) (f : Routine → Costs) (costs : List Matrix) (callees : List (Option ℕ)) → IsSection (range (calls l) (part_at l n)) → AreCallees l (range (calls l) (part_at l n)) (count (range (calls l) (part_at l n))) callees →
     length costs ≡ part_count l → ((k : ℕ) (t : Routine) → k < part_count l → part_at l k ≡ Some t → DoesCall (calls l) (part_at l n) (part_at l k) → IsBest (entry (slice_index_or costs k no_matrix)) (Then (Steps s 3) (f t))) →
-    (u : ℕ) → Reachable (part (calls l) (part_at l n)) u → IsWayOf (route l s) f (callee (calls l) u) (ways_on (record { indices = callees; costs = costs }) (place (part_tree (calls l) (part_at l n)) u))
+    (u : ℕ) → Reachable (part (calls l) (part_at l n)) u → IsWayOf (route l s) f (callee (calls l) u) (ways_on (record { indices = callees; costs = costs }) (index (part_tree (calls l) (part_at l n)) u))
 holds l s n f costs callees is are many known u r = go (slice_index_or callees p.at None) (subst (λ u. IsCallee l u (slice_index_or callees p.at None)) p.address (are.each p.at p.below)) refl
   where
-    p : PlaceOf (calls l) (part_at l n) u
+    p : IndexOf (calls l) (part_at l n) u
     p = placed (calls l) (part_at l n) u is r
 
     w : Option Matrix
-    w = ways_on (record { indices = callees; costs = costs }) (place (part_tree (calls l) (part_at l n)) u)
+    w = ways_on (record { indices = callees; costs = costs }) (index (part_tree (calls l) (part_at l n)) u)
 
     way : (o : Option ℕ) → slice_index_or callees p.at None ≡ o → w ≡ picked costs o
     way o e = ap (λ k. picked costs (slice_index_or callees k None)) p.is ∙ ap (picked costs) e
@@ -95,12 +95,12 @@ pub record Gone (x : Route) (a : Part) (at : List Matrix) : Type 0 where
   pub accepted : IsAccepted (part x.calls a)
   pub best : (k : ℕ) → k < count (range x.calls a) → IsBest (matrix_at at k) (RunsTo x a ((range x.calls a).from + 4 * k))
 
--- a walk's word has a place, with its best
+-- a walk's word has an index, with its best
 pub record RunAt (x : Route) (a : Part) (at : List Matrix) (u p c q : ℕ) : Type 0 where
   pub word : Reachable (part x.calls a) u
-  pub place : PlaceOf x.calls a u
+  pub index : IndexOf x.calls a u
   pub cost : ℕ
-  pub is : matrix_at at place.at p q ≡ Some cost
+  pub is : matrix_at at index.at p q ≡ Some cost
   pub covers : min c ceiling ≤ cost
 
 pub run-at : (x : Route) (a : Part) (at : List Matrix) {u p c q : ℕ} → Gone x a at → RunsTo x a u p c q → RunAt x a at u p c q
@@ -108,7 +108,7 @@ run-at x a at {u} {p} {c} {q} g r =
     let word = (netted x g.accepted r.run).word in
     let y = placed x.calls a u g.section word in
     let e = (g.best y.at y.below).0 p c q (subst (λ u. RunsTo x a u p c q) (sym y.address) r) in
-    record { word = word; place = y; cost = e.0; is = e.1; covers = e.2 }
+    record { word = word; index = y; cost = e.0; is = e.1; covers = e.2 }
 
 sum-covers : (a b c one two n : ℕ) → min a n ≤ one → min b n ≤ two → c ≡ a + b → min c n ≤ one + two
 sum-covers a b c one two n h1 h2 is = omega arith
@@ -125,17 +125,17 @@ ends-on w m here {p} {c} {q} e t = subst (λ w. EndsAt w here p c q) (sym e) (in
 
 -- what ends at the words, or goes on from there by the matrices of their calls, costs what walks do that end in the part
 -- or below it
-pub deep-alike : (x : Route) (a : Part) (at : List Matrix) (into : WaysOn) → Gone x a at → ((u : ℕ) → Reachable (part x.calls a) u → IsWayOf x (λ t. Deep x (Some t)) (callee x.calls u) (into (place (part_tree x.calls a) u))) →
+pub deep-alike : (x : Route) (a : Part) (at : List Matrix) (into : WaysOn) → Gone x a at → ((u : ℕ) → Reachable (part x.calls a) u → IsWayOf x (λ t. Deep x (Some t)) (callee x.calls u) (into (index (part_tree x.calls a) u))) →
     Alike (Deep x a) (Ending into at (count (range x.calls a)))
 deep-alike x a at into g ways = record { covers = covers; among = λ p e q y. among p e q y.0 y.1 (into y.0) refl y.2 }
   where
     covers : (p c q : ℕ) → Deep x a p c q → (e : ℕ) × Ending into at (count (range x.calls a)) p e q × (min c ceiling ≤ e)
-    covers p c q (Deep.ends {k = k} run) = let y = run-at x a at g (record { counters = k; run = run }) in (y.cost, (y.place.at, y.place.below, ends-here (into y.place.at) (matrix_at at y.place.at) y.is), y.covers)
+    covers p c q (Deep.ends {k = k} run) = let y = run-at x a at g (record { counters = k; run = run }) in (y.cost, (y.index.at, y.index.below, ends-here (into y.index.at) (matrix_at at y.index.at) y.is), y.covers)
     covers p c q (Deep.enters {u = u} {q = v} {c = one} {d = d} {r = r} {i = i} {k = k} {t = t} run to turn deep) =
         let y = run-at x a at g (record { counters = k; run = run }) in
-        let w : IsWayOf x (λ t. Deep x (Some t)) (Some t) (into y.place.at) = subst (λ k. IsWayOf x (λ t. Deep x (Some t)) (Some t) (into k)) y.place.is (subst (λ o. IsWayOf x (λ t. Deep x (Some t)) o (into (place (part_tree x.calls a) u))) to (ways u y.word)) in
+        let w : IsWayOf x (λ t. Deep x (Some t)) (Some t) (into y.index.at) = subst (λ k. IsWayOf x (λ t. Deep x (Some t)) (Some t) (into k)) y.index.is (subst (λ o. IsWayOf x (λ t. Deep x (Some t)) o (into (index (part_tree x.calls a) u))) to (ways u y.word)) in
         let e = w.2.0 v (d + i) q (record { at = r; one = d; two = i; first = turn; second = deep; cost = refl }) in
-        (y.cost + e.0, (y.place.at, y.place.below, ends-on (into y.place.at) w.0 (matrix_at at y.place.at) w.1 (record { at = v; one = y.cost; two = e.0; first = y.is; second = e.1; cost = refl })), sum-covers one (d + i) (one + (d + i)) y.cost e.0 ceiling y.covers e.2 refl)
+        (y.cost + e.0, (y.index.at, y.index.below, ends-on (into y.index.at) w.0 (matrix_at at y.index.at) w.1 (record { at = v; one = y.cost; two = e.0; first = y.is; second = e.1; cost = refl })), sum-covers one (d + i) (one + (d + i)) y.cost e.0 ceiling y.covers e.2 refl)
 
     run : (p e q k : ℕ) → k < count (range x.calls a) → matrix_at at k p q ≡ Some e → (c : ℕ) × RunsTo x a ((range x.calls a).from + 4 * k) p c q × (min e ceiling ≡ min c ceiling)
     run p e q k lt is = (g.best k lt).1 p e q is
@@ -149,11 +149,11 @@ deep-alike x a at into g ways = record { covers = covers; among = λ p e q y. am
         z : RunAt x a at ((range x.calls a).from + 4 * k) p y.0 t.at
         z = run-at x a at g y.1
 
-        same : z.place.at ≡ k
-        same = let b = z.place.address in omega arith
+        same : z.index.at ≡ k
+        same = let b = z.index.address in omega arith
 
         w : IsWayOf x (λ t. Deep x (Some t)) (callee x.calls ((range x.calls a).from + 4 * k)) (into k)
-        w = subst (λ i. IsWayOf x (λ t. Deep x (Some t)) (callee x.calls ((range x.calls a).from + 4 * k)) (into i)) (z.place.is ∙ same) (ways ((range x.calls a).from + 4 * k) z.word)
+        w = subst (λ i. IsWayOf x (λ t. Deep x (Some t)) (callee x.calls ((range x.calls a).from + 4 * k)) (into i)) (z.index.is ∙ same) (ways ((range x.calls a).from + 4 * k) z.word)
 
         go : (o : Option Routine) → callee x.calls ((range x.calls a).from + 4 * k) ≡ o → IsWayOf x (λ t. Deep x (Some t)) o (into k) → (c : ℕ) × Deep x a p c q × (min e ceiling ≡ min c ceiling)
         go None to h = absurd (let b : None ≡ Some m = sym h ∙ is in let none : ⊥ = cc in none)
@@ -207,7 +207,7 @@ back-best x a t at ends n m e g many marks best = go (subst (λ a. Gone x a at) 
   where
     go : Gone x (Some t) at → n ≡ count (range x.calls (Some t)) → ((k : ℕ) → k < count (range x.calls (Some t)) → slice_index_or ends k false ≡ returns x.calls (Some t) ((range x.calls (Some t)).from + 4 * k)) → IsBest m (Through x t)
     go g many marks = through-best x t (λ k. t.head + 4 * k) at ends n m
-        (λ u p c q r. let y = (run-at x (Some t) at g r).place in (y.at, (let lt = y.below in omega arith), y.address))
+        (λ u p c q r. let y = (run-at x (Some t) at g r).index in (y.at, (let lt = y.below in omega arith), y.address))
         (λ k lt. g.best k (omega arith)) (λ k lt. marks k (omega arith)) best
 
 -- the matrices of a routine's calls

@@ -62,7 +62,7 @@ unfolding calls
 no_loop a j h = absurd (omega (arith, h.1))
 
 free : (k : LoopSetup → ℕ) → WithinBounds calls k
-free k j h = absurd (no_loop h.place j h.known)
+free k j h = absurd (no_loop h.within j h.known)
 
 in_it : Lies (part calls (Some routine)) 0x104
 unfolding routine

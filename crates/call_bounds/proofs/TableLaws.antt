@@ -8,7 +8,7 @@ use Rattle.region_tree.specs.Graph.{Reachable}
 use Rattle.region_tree.specs.Search.{Before, address}
 use Rattle.region_tree.specs.Tree.{IsDraft, IsSection, Tree, graph}
 use Rattle.region_tree.proofs.DraftLaws.{draft-is}
-use Rattle.region_tree.proofs.GraphLaws.{place-address, place-within, reachable-aligned, reachable-lies}
+use Rattle.region_tree.proofs.GraphLaws.{index-address, index-within, reachable-aligned, reachable-lies}
 use Rattle.call_bounds.specs.Build.{CallsAt, IsRow, IsRowTo, IsTableTo, Marked}
 use Rattle.call_bounds.specs.CallRefusals.{IsListing}
 use Rattle.call_bounds.specs.Calls.{callee, part, range}
@@ -43,19 +43,19 @@ pub unmarked : (row : List Bool) → Marked None row row
 unmarked row = record { count = refl; grows = λ k h. h; here = λ k h. cc; from = λ k h. inl h }
 
 -- the part that a word calls, by what the code says of it
-pub calls-at : (l : Listing) (t : Tree) (place : ℕ) (r : Option ℕ) → IsListing (calls l) → Reachable (graph t) (address t place) →
-    MatchOption r (callee (calls l) (address t place) ≡ None) (λ k. (0 < k) × (k < part_count l) × (callee (calls l) (address t place) ≡ part_at l k)) → (k : ℕ) → (r ≡ Some k) ↔ CallsAt l t place k
-calls-at l t place None is known says k = (λ e. cc, λ (h : CallsAt l t place k). let z = routine-of l k h.routine h.listed in let e : None ≡ Some z.0 = sym says ∙ (h.call ∙ z.1) in cc)
-calls-at l t place (Some j) is known says k = (λ e. let same : j ≡ k = cc in subst (λ k. CallsAt l t place k) same here, λ (h : CallsAt l t place k). once h (routine-of l k h.routine h.listed))
+pub calls-at : (l : Listing) (t : Tree) (index : ℕ) (r : Option ℕ) → IsListing (calls l) → Reachable (graph t) (address t index) →
+    MatchOption r (callee (calls l) (address t index) ≡ None) (λ k. (0 < k) × (k < part_count l) × (callee (calls l) (address t index) ≡ part_at l k)) → (k : ℕ) → (r ≡ Some k) ↔ CallsAt l t index k
+calls-at l t index None is known says k = (λ e. cc, λ (h : CallsAt l t index k). let z = routine-of l k h.routine h.listed in let e : None ≡ Some z.0 = sym says ∙ (h.call ∙ z.1) in cc)
+calls-at l t index (Some j) is known says k = (λ e. let same : j ≡ k = cc in subst (λ k. CallsAt l t index k) same here, λ (h : CallsAt l t index k). once h (routine-of l k h.routine h.listed))
   where
-    here : CallsAt l t place j
+    here : CallsAt l t index j
     here = record { known = known; routine = says.0; listed = says.1; call = says.2 }
 
-    once : (h : CallsAt l t place k) → (r : Routine) × (part_at l k ≡ Some r) × Contains l.routines r → Some j ≡ Some k
+    once : (h : CallsAt l t index k) → (r : Routine) × (part_at l k ≡ Some r) × Contains l.routines r → Some j ≡ Some k
     once h z = ap Some (number-once l is j k z.0 says.1 h.listed (sym says.2 ∙ (h.call ∙ z.1)) z.1)
 
-pub calls-none : (l : Listing) (t : Tree) (place : ℕ) → (Reachable (graph t) (address t place) → ⊥) → (k : ℕ) → (None ≡ Some k) ↔ CallsAt l t place k
-calls-none l t place out k = (λ e. cc, λ (h : CallsAt l t place k). absurd (out h.known))
+pub calls-none : (l : Listing) (t : Tree) (index : ℕ) → (Reachable (graph t) (address t index) → ⊥) → (k : ℕ) → (None ≡ Some k) ↔ CallsAt l t index k
+calls-none l t index out k = (λ e. cc, λ (h : CallsAt l t index k). absurd (out h.known))
 
 -- no word yet
 pub row-start : (l : Listing) (t : Tree) (row : List Bool) → length row ≡ part_count l → ((k : ℕ) → is_met row k ≡ false) → IsRowTo l t 0 row
@@ -99,10 +99,10 @@ row-all l t p row listing within same r = record { count = r.count; exact = λ k
     here k lt h =
         let known : Reachable (graph t) h.word = subst (λ y. Reachable (graph y) h.word) (sym same) (back (part (calls l) (part_at l p)).loops (agrees (calls l) (part_at l p) is) h.known).0 in
         let lies = reachable-lies t d h.word known in
-        let at = place-address t d h.word (reachable-aligned t d h.word known) lies in
+        let at = index-address t d h.word (reachable-aligned t d h.word known) lies in
         let some : 0 < k = pos k (λ e. let y : None ≡ Some h.routine = subst (λ i. part_at l i ≡ Some h.routine) e h.to in cc) in (
           (h.word - t.section.from) / 4,
-          place-within t d h.word lies,
+          index-within t d h.word lies,
           record { known = subst (λ u. Reachable (graph t) u) (sym at) known; routine = some; listed = lt; call = ap (λ u. callee (calls l) u) at ∙ (h.call ∙ sym h.to) },
         )
 

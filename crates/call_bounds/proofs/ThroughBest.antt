@@ -27,11 +27,11 @@ through-best x t address at ends n m placed best marks b = (covers, λ p e q is.
         go (k, lt, same) =
             let one = (best k lt).0 p h.one h.at (subst (λ u. RunsTo x (Some t) u p h.one h.at) (sym same) (record { counters = h.counters; run = h.run })) in
             let mark : slice_index_or ends k false ≡ true = marks k lt ∙ subst (λ u. is_back (x.calls.word u) ≡ true) (sym same) h.back in
-            let s = b.0 p (one.0 + h.two) q (record { place = k; below = lt; is = mark; jump = record { at = h.at; one = one.0; two = h.two; first = one.1; second = h.turn; cost = refl } }) in
+            let s = b.0 p (one.0 + h.two) q (record { index = k; below = lt; is = mark; jump = record { at = h.at; one = one.0; two = h.two; first = one.1; second = h.turn; cost = refl } }) in
             (s.0, s.1, covers-sum h.one h.two c one.0 s.0 ceiling one.2 h.cost s.2)
 
     among : (p e q d : ℕ) → Ended x.positions ends at n p d q → min e ceiling ≡ min d ceiling → (c : ℕ) × Through x t p c q × (min e ceiling ≡ min c ceiling)
     among p e q d y is =
-        let r = (best y.place y.below).1 p y.jump.one y.jump.at y.jump.first in
+        let r = (best y.index y.below).1 p y.jump.one y.jump.at y.jump.first in
         let run = r.1 in
-        (r.0 + y.jump.two, record { word = address y.place; at = y.jump.at; one = r.0; two = y.jump.two; counters = run.counters; run = run.run; back = sym (marks y.place y.below) ∙ y.is; turn = y.jump.second; cost = refl }, among-sum r.0 y.jump.two d y.jump.one e ceiling r.2 y.jump.cost is)
+        (r.0 + y.jump.two, record { word = address y.index; at = y.jump.at; one = r.0; two = y.jump.two; counters = run.counters; run = run.run; back = sym (marks y.index y.below) ∙ y.is; turn = y.jump.second; cost = refl }, among-sum r.0 y.jump.two d y.jump.one e ceiling r.2 y.jump.cost is)

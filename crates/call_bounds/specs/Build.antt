@@ -13,12 +13,12 @@ use Rattle.call_bounds.specs.Calls.{IsReached, callee, part}
 use Rattle.call_bounds.specs.Listing.{DoesCall, IsTreeOf, Listing, calls, part_at, part_count, tree_at}
 use Rattle.call_bounds.specs.declared.causes.Causes.{Causes}
 
--- the word at a place of a tree is reachable and calls a part
-pub record CallsAt (l : Listing) (t : Tree) (place k : ℕ) : Type 0 where
-  pub known : Reachable (graph t) (address t place)
+-- the word at an index of a tree is reachable and calls a part
+pub record CallsAt (l : Listing) (t : Tree) (index k : ℕ) : Type 0 where
+  pub known : Reachable (graph t) (address t index)
   pub routine : 0 < k
   pub listed : k < part_count l
-  pub call : callee (calls l) (address t place) ≡ part_at l k
+  pub call : callee (calls l) (address t index) ≡ part_at l k
 
 -- a part was marked, if there is one
 pub record Marked (o : Option ℕ) (old new : List Bool) : Type 0 where
@@ -27,7 +27,7 @@ pub record Marked (o : Option ℕ) (old new : List Bool) : Type 0 where
   pub here : (k : ℕ) → o ≡ Some k → is_met new k ≡ true
   pub from : (k : ℕ) → is_met new k ≡ true → (is_met old k ≡ true) ⊎ (o ≡ Some k)
 
--- the parts that the words before a place call
+-- the parts that the words before an index call
 pub record IsRowTo (l : Listing) (t : Tree) (c : ℕ) (row : List Bool) : Type 0 where
   pub count : length row ≡ part_count l
   pub exact : (k : ℕ) → (is_met row k ≡ true) ↔ Before (CallsAt l t) c k

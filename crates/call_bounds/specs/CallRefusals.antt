@@ -24,9 +24,9 @@ pub record RecursionAt (x : Calls) (a : ℕ) : Type 0 where
 
 -- what holds in some reached part
 pub record InParts (x : Calls) (P : Graph → ℕ → Type 0) (a : ℕ) : Type 0 where
-  pub place : Part
-  pub reached : IsReached x place
-  pub holds : P (part x place) a
+  pub within : Part
+  pub reached : IsReached x within
+  pub holds : P (part x within) a
 
 -- a reachable word of a reached routine with an edge out of it, or with a call that would come back
 -- out of it

@@ -102,6 +102,6 @@ pub data CallsLead (x : Calls) (p : Part) : Part → Type 0 where
 
 -- the loops that count: those of the reached parts
 pub record Counts (x : Calls) (j : LoopSetup) : Type 0 where
-  pub place : Part
-  pub reached : IsReached x place
-  pub known : Contains (part x place).loops j
+  pub within : Part
+  pub reached : IsReached x within
+  pub known : Contains (part x within).loops j

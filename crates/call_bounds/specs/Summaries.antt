@@ -16,19 +16,19 @@ use Rattle.call_bounds.specs.Listing.{DoesCall, Listing, calls, part_at, part_co
 use Rattle.call_bounds.specs.Parts.{IsCallee}
 use Rattle.call_bounds.specs.Runs.{Deep, Nested, Through}
 
--- of the first words of a section, by place
+-- of the first words of a section, by index
 pub record AreCallees (l : Listing) (s : Section) (n : ℕ) (callees : List (Option ℕ)) : Type 0 where
   pub count : length callees ≡ n
   pub each : (k : ℕ) → k < n → IsCallee l (s.from + 4 * k) (slice_index_or callees k None)
 
--- whether the words of a part are returns, by place
+-- whether the words of a part are returns, by index
 pub record AreReturns (l : Listing) (part : ℕ) (s : Section) (n : ℕ)
     (ends : List Bool) : Type 0 where
   pub count : length ends ≡ n
   pub each : (k : ℕ) → k < n →
       slice_index_or ends k false ≡ returns (calls l) (part_at l part) (s.from + 4 * k)
 
--- what holds at one of the places below n
+-- what holds at one of the indices below n
 abbrev pub Any : (ℕ → Costs) → ℕ → Costs
 Any f n p c q = (k : ℕ) × (k < n) × f k p c q
 
@@ -46,7 +46,7 @@ abbrev pub When : Bool → Costs → Costs
 When true f = f
 When false f = λ p c q. ⊥
 
--- what leads to the word at a place and from there out of the section
+-- what leads to the word at an index and from there out of the section
 abbrev pub LeavesAt : Tree → Positions → WaysOn → List Matrix → ℕ → Costs
 LeavesAt t s ways at k =
     let e = edges_at t k in

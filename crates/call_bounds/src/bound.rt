@@ -50,10 +50,10 @@ fn leaving(part: &LoopTree, steps: &Steps, ways: &Ways, at: &[Matrix], onto: &Ma
         (Any (LeavesAt part.now steps.now (ways_on ways.now) at.now) (length at.now))) }
 {
     let mut out = *onto;
-    for place in 0..at.len() {
-        let edges = edges_at(part, place);
-        let here = &at[place];
-        let way = ways.at(place);
+    for index in 0..at.len() {
+        let edges = edges_at(part, index);
+        let here = &at[index];
+        let way = ways.at(index);
         let next = leave_by(part, steps, way, here, edges.next, edges.next_lag, &out);
         out = leave_by(part, steps, way, here, edges.jump, JUMP_LAG, &next);
     }

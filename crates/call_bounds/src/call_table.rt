@@ -12,18 +12,18 @@ use crate::code::Code;
 use region_tree::{Draft, reachable};
 use std::alloc::{AllocError, Global};
 
-/// The number of the part that the word at a place calls, if the word is reachable and a call.
-fn callee_at(code: &Code, draft: &Draft, met: &[bool], place: usize) -> Option<usize>
+/// The number of the part that the word at an index calls, if the word is reachable and a call.
+fn callee_at(code: &Code, draft: &Draft, met: &[bool], index: usize) -> Option<usize>
     requires listing { IsListing (calls code.now) }
     requires rules { IsDraft draft.now }
     requires met { IsMet draft.now met.now }
-    requires within { place < length draft.now.words }
-    ensures { (k : ℕ) → (result ≡ Some k) ↔ CallsAt code.now draft.now place k }
+    requires within { index < length draft.now.words }
+    ensures { (k : ℕ) → (result ≡ Some k) ↔ CallsAt code.now draft.now index k }
 {
-    if !met[place] {
+    if !met[index] {
         return None;
     }
-    code.called(draft.address(place))
+    code.called(draft.address(index))
 }
 
 /// Marks a part, if there is one.
@@ -50,8 +50,8 @@ fn row_of(alloc: Global, code: &Code, draft: &Draft, met: &[bool]) -> Result<Vec
     ensures { IfOk result (λ row. IsRowTo code.now draft.now (length draft.now.words) row.items) }
 {
     let mut row = unmarked(alloc, code.part_count())?;
-    for place in 0..draft.len() {
-        let callee = callee_at(code, draft, met, place);
+    for index in 0..draft.len() {
+        let callee = callee_at(code, draft, met, index);
         mark(&mut row, callee);
     }
     Ok(row)

@@ -69,8 +69,8 @@ fn linked(address: u32, word: u32) -> Option<u32>
     }
 }
 
-/// The place of the first routine with this head.
-fn place_of(routines: &[Routine], head: u32) -> Option<usize>
+/// The index of the first routine with this head.
+fn index_of(routines: &[Routine], head: u32) -> Option<usize>
     ensures { result ≡ position (λ r. r.head == head) routines.now }
 {
     routines.iter().position(|r| r.head == head)
@@ -180,8 +180,8 @@ impl Code {
         ensures { IsCallee self.now address result }
     {
         let head = linked(address, self.word(address))?;
-        let place = place_of(self.routines(), head)?;
-        Some(place + 1)
+        let index = index_of(self.routines(), head)?;
+        Some(index + 1)
     }
 
     /// Whether the word at an address of a part is a return.
@@ -217,8 +217,8 @@ impl Code {
     {
         let section = self.range(part);
         let mut words = Vec::new(alloc);
-        for place in 0..(section.to - section.from) / 4 {
-            words.push(self.patched(part, section.from + 4 * place))?;
+        for index in 0..(section.to - section.from) / 4 {
+            words.push(self.patched(part, section.from + 4 * index))?;
         }
         Ok(words)
     }

@@ -20,13 +20,13 @@ fn leads_out(section: Section, target: Option<u32>) -> bool
     }
 }
 
-/// Whether the word at a place is reachable and has an edge out of the tree's section.
-fn leaves(tree: &LoopTree, place: usize) -> bool
-    requires { place < length tree.now.words }
-    ensures { IsTrue result ↔ LeavesAt (graph tree.now) (address tree.now place) }
+/// Whether the word at an index is reachable and has an edge out of the tree's section.
+fn leaves(tree: &LoopTree, index: usize) -> bool
+    requires { index < length tree.now.words }
+    ensures { IsTrue result ↔ LeavesAt (graph tree.now) (address tree.now index) }
 {
     let section = tree.section();
-    let address = section.from + 4 * place as u32;
+    let address = section.from + 4 * index as u32;
     if !tree.is_reachable(address) {
         return false;
     }
@@ -39,9 +39,9 @@ fn way_out(tree: &LoopTree) -> Option<u32>
     ensures { LowestOf (LeavesAt (graph tree.now)) result }
 {
     let section = tree.section();
-    for place in 0..((section.to - section.from) / 4) as usize {
-        if leaves(tree, place) {
-            return Some(section.from + 4 * place as u32);
+    for index in 0..((section.to - section.from) / 4) as usize {
+        if leaves(tree, index) {
+            return Some(section.from + 4 * index as u32);
         }
     }
     None

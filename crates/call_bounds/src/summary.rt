@@ -51,8 +51,8 @@ pub fn callees(
         (λ callees. AreCallees tree.now section ((section.to - section.from) / 4) callees.items) }
 {
     let mut callees = Vec::new(alloc);
-    for place in 0..(section.to - section.from) / 4 {
-        callees.push(tree.called(section.from + 4 * place))?;
+    for index in 0..(section.to - section.from) / 4 {
+        callees.push(tree.called(section.from + 4 * index))?;
     }
     Ok(callees)
 }
@@ -71,8 +71,8 @@ fn returns(
         returns.items) }
 {
     let mut returns = Vec::new(alloc);
-    for place in 0..(section.to - section.from) / 4 {
-        returns.push(tree.is_return(number, section.from + 4 * place))?;
+    for index in 0..(section.to - section.from) / 4 {
+        returns.push(tree.is_return(number, section.from + 4 * index))?;
     }
     Ok(returns)
 }
@@ -95,8 +95,8 @@ pub fn deep(into: &Ways, at: &[Matrix]) -> Matrix
     ensures { IsBest (entry result) (Ending (ways_on into.now) at.now (length at.now)) }
 {
     let mut deep = Matrix::NONE;
-    for place in 0..at.len() {
-        deep = end_at(into.at(place), &at[place], &deep);
+    for index in 0..at.len() {
+        deep = end_at(into.at(index), &at[index], &deep);
     }
     deep
 }

@@ -3,7 +3,7 @@
 use crate::expanded::{push_bytes, push_event, push_expanded};
 use std::alloc::{AllocError, Global};
 
-/// A file that is there from its place in the table on.
+/// A file that is there from its row of the table on.
 #[derive(Drop)]
 pub struct File {
     pub name: String,

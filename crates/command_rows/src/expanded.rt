@@ -19,10 +19,10 @@ pub fn push_expanded(to: &mut Vec<u8>, text: &str) -> Result<(), AllocError> {
     Ok(())
 }
 
-/// Appends a line of a trace, whose cycle is put right in ten places.
+/// Appends a line of a trace, whose cycle is put right in ten columns.
 pub fn push_event(to: &mut Vec<u8>, line: &str) -> Result<(), AllocError> {
     let digits = line.find(' ').unwrap_or(0);
-    for _place in digits..10 {
+    for _column in digits..10 {
         to.push(b' ')?;
     }
     push_expanded(to, line)

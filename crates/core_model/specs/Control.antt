@@ -1,4 +1,4 @@
--- Control and status registers: a hart's own, and those of the machine.
+-- Control and status registers: a thread's own, and those of the machine.
 use Rattle.std.specs.Prelude.{ℕ, ◌-◌, ◌*◌, ◌/◌, ◌^◌, ◌==◌, nat_le, Bool, true, false, ◌&&◌, ◌||◌, if◌then◌else◌, Option, Some, None}
 use Rattle.rv_decode.specs.declared.instruction.AluOp.TheVariants.{Or, And}
 use Rattle.rv_exec.specs.Alu.{computed}
@@ -47,7 +47,7 @@ may_hold csr value =
 abbrev pub kept : ℕ → ℕ → ℕ
 kept csr value = if csr == 0x305 || csr == 0x341 then value / 4 * 4 else value
 
--- a hart with another value in one of its own registers
+-- a thread with another value in one of its own registers
 abbrev pub with_csr : Own → ℕ → ℕ → Own
 with_csr t csr value =
     if csr == 0x305 then record t { trap = record t.trap { mtvec = value } }

@@ -1,4 +1,4 @@
--- One whole instruction of one hart, over what it asks of its surroundings.
+-- One whole instruction of one thread, over what it asks of its surroundings.
 use Rattle.std.specs.Prelude.{ℕ, ◌+◌, ◌/◌, ◌%◌, ◌^◌, ◌==◌, Bool, true, not, if◌then◌else◌, List, Option, Some, None}
 use Rattle.rv_decode.specs.Table.{ins}
 use Rattle.rv_decode.specs.declared.instruction.Ins.{Ins}
@@ -16,7 +16,7 @@ use Rattle.core_model.specs.declared.own.Own.{Own}
 use Rattle.core_model.specs.declared.own.CsrOp.{CsrOp}
 use Rattle.core_model.specs.declared.own.CsrOp.TheVariants.{Swap, Set, Clear}
 use Rattle.core_model.specs.Thread.{Thread, Around, Contents, Did, Done, reg_in, reg_effect, regs_after, filled}
-use Rattle.core_model.specs.Parts.{trapped, plain, wrote, load, store, went, branch, delay, wait, with_armed, with_high}
+use Rattle.core_model.specs.Parts.{trapped, plain, wrote, load, store, go_to, branch, delay, wait, with_armed, with_high}
 use Rattle.core_model.specs.Control.{csr_access}
 
 -- the register that a CSR instruction reads, x0 where it has an immediate
@@ -96,28 +96,28 @@ csr_writes Rci src = not (src == 0)
 
 -- an instruction whose result has no trap, by that result and the values of its sources. The last
 -- line stands for ECALL, EBREAK and an illegal word, whose result always has one
-unfoldable pub goes : Around → ℕ → Own → ℕ → ℕ → ℕ → Outcome → Ins → Did
-goes a pc t word x y o (Lui rd imm) = wrote pc t word 1 rd o.value
-goes a pc t word x y o (Auipc rd imm) = wrote pc t word 1 rd o.value
-goes a pc t word x y o (Jal rd off) = went t word o.target (reg_effect rd o.value)
-goes a pc t word x y o (Jalr rd rs1 imm) = went t word o.target (reg_effect rd o.value)
-goes a pc t word x y o (Branch op rs1 rs2 off) = branch pc t word o.taken o.target
-goes a pc t word x y o (Load op rd rs1 imm) = load pc t word o.address (a.load o.address (load_size op))
-goes a pc t word x y o (Store op rs1 rs2 imm) = store pc t word o.address (store_size op) (y % 256 ^ store_size op) (a.store o.address (store_size op))
-goes a pc t word x y o (OpImm op rd rs1 imm) = wrote pc t word 1 rd o.value
-goes a pc t word x y o (Shift op rd rs1 amount) = wrote pc t word 1 rd o.value
-goes a pc t word x y o (Op op rd rs1 rs2) = wrote pc t word 1 rd o.value
-goes a pc t word x y o (Muldiv op rd rs1 rs2) = plain pc t word 2 Nothing
-goes a pc t word x y o (Fence w) = plain pc t word 1 Nothing
-goes a pc t word x y o Mret = went t word t.trap.mepc Nothing
-goes a pc t word x y o (Csr op rd csr src) = csr_access a.thread pc t word rd csr (csr_op op) (csr_operand op src x) (csr_writes op src) (a.shared csr)
-goes a pc t word x y o (Gt rd) = wrote pc (with_high t (a.now / 2 ^ 32)) word 1 rd (a.now % 2 ^ 32)
-goes a pc t word x y o (Gth rd) = wrote pc t word 1 rd t.timer.high
-goes a pc t word x y o (Du rs1 rs2) = delay a.now pc t word (moment x y)
-goes a pc t word x y o (Wu rs1 rs2) = wait a.now pc t word (moment x y)
-goes a pc t word x y o (Ee rs1 rs2) = plain pc (with_armed t (Some (moment x y))) word 3 Nothing
-goes a pc t word x y o De = plain pc (with_armed t None) word 3 Nothing
-goes a pc t word x y o _ = trapped pc t word 2
+unfoldable pub execute_untrapped : Around → ℕ → Own → ℕ → ℕ → ℕ → Outcome → Ins → Did
+execute_untrapped a pc t word x y o (Lui rd imm) = wrote pc t word 1 rd o.value
+execute_untrapped a pc t word x y o (Auipc rd imm) = wrote pc t word 1 rd o.value
+execute_untrapped a pc t word x y o (Jal rd off) = go_to t word o.target (reg_effect rd o.value)
+execute_untrapped a pc t word x y o (Jalr rd rs1 imm) = go_to t word o.target (reg_effect rd o.value)
+execute_untrapped a pc t word x y o (Branch op rs1 rs2 off) = branch pc t word o.taken o.target
+execute_untrapped a pc t word x y o (Load op rd rs1 imm) = load pc t word o.address (a.load o.address (load_size op))
+execute_untrapped a pc t word x y o (Store op rs1 rs2 imm) = store pc t word o.address (store_size op) (y % 256 ^ store_size op) (a.store o.address (store_size op))
+execute_untrapped a pc t word x y o (OpImm op rd rs1 imm) = wrote pc t word 1 rd o.value
+execute_untrapped a pc t word x y o (Shift op rd rs1 amount) = wrote pc t word 1 rd o.value
+execute_untrapped a pc t word x y o (Op op rd rs1 rs2) = wrote pc t word 1 rd o.value
+execute_untrapped a pc t word x y o (Muldiv op rd rs1 rs2) = plain pc t word 2 Nothing
+execute_untrapped a pc t word x y o (Fence w) = plain pc t word 1 Nothing
+execute_untrapped a pc t word x y o Mret = go_to t word t.trap.mepc Nothing
+execute_untrapped a pc t word x y o (Csr op rd csr src) = csr_access a.thread pc t word rd csr (csr_op op) (csr_operand op src x) (csr_writes op src) (a.shared csr)
+execute_untrapped a pc t word x y o (Gt rd) = wrote pc (with_high t (a.now / 2 ^ 32)) word 1 rd (a.now % 2 ^ 32)
+execute_untrapped a pc t word x y o (Gth rd) = wrote pc t word 1 rd t.timer.high
+execute_untrapped a pc t word x y o (Du rs1 rs2) = delay a.now pc t word (moment x y)
+execute_untrapped a pc t word x y o (Wu rs1 rs2) = wait a.now pc t word (moment x y)
+execute_untrapped a pc t word x y o (Ee rs1 rs2) = plain pc (with_armed t (Some (moment x y))) word 3 Nothing
+execute_untrapped a pc t word x y o De = plain pc (with_armed t None) word 3 Nothing
+execute_untrapped a pc t word x y o _ = trapped pc t word 2
 
 -- a result with a trap comes first
 abbrev pub unless_trap : ℕ → Own → ℕ → Option ℕ → Did → Did
@@ -125,21 +125,21 @@ unless_trap pc t word (Some cause) d = trapped pc t word cause
 unless_trap pc t word None d = d
 
 -- what an instruction does, with the values of its sources
-unfoldable pub run : Around → ℕ → Own → ℕ → ℕ → ℕ → Ins → Did
-run a pc t word x y i = let o = result_of i pc x y in unless_trap pc t word o.trap (goes a pc t word x y o i)
+unfoldable pub run_at : Around → ℕ → Own → ℕ → ℕ → ℕ → Ins → Did
+run_at a pc t word x y i = let o = result_of i pc x y in unless_trap pc t word o.trap (execute_untrapped a pc t word x y o i)
 
 -- the instruction executed, but for a late value. An expiry, cause 24, comes before all else and
 -- disarms; then a fetch that is refused, cause 1. Neither shows a word
-unfoldable pub act : Around → ℕ → Own → Bool → ℕ → ℕ → ℕ → Did
-act a pc t expired word x y =
+unfoldable pub execute_in : Around → ℕ → Own → Bool → ℕ → ℕ → ℕ → Did
+execute_in a pc t expired word x y =
     if expired then trapped pc (with_armed t None) 0 24
-    else if a.fetch pc then run a pc t word x y (ins word)
+    else if a.fetch pc then run_at a pc t word x y (ins word)
     else trapped pc t 0 1
 
--- a word executed at the hart's pc, with the hart's own sources
-unfoldable pub acts_on : Around → ℕ → Thread → Did
-acts_on a word t =
-    act a t.pc t.own (is_due t.own.timer.armed a.now) word (reg_in t.regs (source_1 (ins word))) (reg_in t.regs (source_2 (ins word)))
+-- a word executed at the thread's pc, with the thread's own sources
+unfoldable pub execute_word : Around → ℕ → Thread → Did
+execute_word a word t =
+    execute_in a t.pc t.own (is_due t.own.timer.armed a.now) word (reg_in t.regs (source_1 (ins word))) (reg_in t.regs (source_2 (ins word)))
 
 -- the late value, by the registers and the words that the instruction finds
 abbrev pub value_in : Contents → List ℕ → Did → ℕ
@@ -149,10 +149,10 @@ value_in m regs d = let i = ins d.word in late_value i (m.at d.address) d.addres
 unfoldable pub effect_of : Contents → List ℕ → Did → Option Effect
 effect_of m regs d = filled (late_rd (ins d.word)) (value_in m regs d) d.effect
 
--- what the hart is once the instruction is done
+-- what the thread is once the instruction is done
 abbrev pub done_by : ℕ → List ℕ → Did → Option Effect → Done
 done_by c regs d e = record { thread = record { pc = d.pc; ready = c + d.lag; own = d.own; regs = regs_after e regs }; word = d.word; effect = e }
 
 -- one whole instruction, in cycle c
 unfoldable pub issue : Around → Contents → ℕ → Thread → Done
-issue a m c t = let d = acts_on a (m.code t.pc) t in done_by c t.regs d (effect_of m t.regs d)
+issue a m c t = let d = execute_word a (m.code t.pc) t in done_by c t.regs d (effect_of m t.regs d)

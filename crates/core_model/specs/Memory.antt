@@ -1,7 +1,7 @@
 -- The words of the two scratchpads. size is that of each scratchpad, in bytes.
 use Rattle.std.specs.Prelude.{ℕ, List, slice_index_or, slice_set, if◌then◌else◌}
 use Rattle.rv_exec.specs.Access.{lanes_at, merged}
-use Rattle.region_guard.specs.Regions.{in_i, in_d, index_of}
+use Rattle.region_guard.specs.Regions.{is_code, is_data, index_of}
 
 -- the word of a list of words at an address
 abbrev pub word_at : ℕ → List ℕ → ℕ → ℕ
@@ -14,11 +14,11 @@ stored size words address width value =
 
 -- the word of the instruction scratchpad, 0 outside
 unfoldable pub code_at : ℕ → List ℕ → ℕ → ℕ
-code_at size i_words pc = if in_i size pc then word_at size i_words pc else 0
+code_at size i_words pc = if is_code size pc then word_at size i_words pc else 0
 
 -- the word at an address where a load is allowed: in a scratchpad, or at the port
 unfoldable pub data_at : ℕ → List ℕ → List ℕ → ℕ → ℕ → ℕ
 data_at size i_words d_words port address =
-    if in_i size address then word_at size i_words address
-    else if in_d size address then word_at size d_words address
+    if is_code size address then word_at size i_words address
+    else if is_data size address then word_at size d_words address
     else port

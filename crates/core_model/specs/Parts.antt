@@ -1,5 +1,5 @@
 -- The outcomes of an instruction, each over plain answers. A lag is the number of cycles after
--- which the hart's next instruction may issue.
+-- which the thread's next instruction may issue.
 use Rattle.std.specs.Prelude.{ℕ, ◌+◌, ◌%◌, ◌^◌, nat_le, min, Bool, if◌then◌else◌, Option, Some, None}
 use Rattle.rv_exec.specs.declared.outcome.Effect.{Effect}
 use Rattle.rv_exec.specs.declared.outcome.Effect.TheVariants.{Nothing, Store, Trap, Wait}
@@ -22,11 +22,11 @@ trapped pc t word cause =
       effect = Some (Trap cause t.trap.mtvec);
     }
 
--- the hart goes on to the next word after a lag
+-- the thread goes on to the next word after a lag
 abbrev pub plain : ℕ → Own → ℕ → ℕ → Effect → Did
 plain pc t word lag effect = record { pc = plus pc 4; own = t; lag = lag; word = word; address = 0; effect = Some effect }
 
--- a register is written, and the hart goes on to the next word
+-- a register is written, and the thread goes on to the next word
 abbrev pub wrote : ℕ → Own → ℕ → ℕ → ℕ → ℕ → Did
 wrote pc t word lag rd value = plain pc t word lag (reg_effect rd value)
 
@@ -43,18 +43,18 @@ unfoldable pub store : ℕ → Own → ℕ → ℕ → ℕ → ℕ → Bool → 
 store pc t word address width value allowed = if allowed then accessed pc t word 1 address (Store address width value) else trapped pc t word 7
 
 -- a jump, with what it does to a register
-abbrev pub went : Own → ℕ → ℕ → Effect → Did
-went t word target effect = record { pc = target; own = t; lag = 3; word = word; address = 0; effect = Some effect }
+abbrev pub go_to : Own → ℕ → ℕ → Effect → Did
+go_to t word target effect = record { pc = target; own = t; lag = 3; word = word; address = 0; effect = Some effect }
 
 -- a branch: lag 3 where it is taken, else 1
 unfoldable pub branch : ℕ → Own → ℕ → Bool → ℕ → Did
-branch pc t word taken target = if taken then went t word target Nothing else plain pc t word 1 Nothing
+branch pc t word taken target = if taken then go_to t word target Nothing else plain pc t word 1 Nothing
 
 -- a turn that is spent at the same word, without an event
 abbrev pub held : ℕ → Own → ℕ → Did
 held pc t word = record { pc = pc; own = t; lag = 3; word = word; address = 0; effect = None }
 
--- DU: the hart is held until the moment
+-- DU: the thread is held until the moment
 unfoldable pub delay : ℕ → ℕ → Own → ℕ → ℕ → Did
 delay now pc t word until = if nat_le until now then plain pc t word 3 Nothing else held pc t word
 
@@ -63,13 +63,13 @@ abbrev pub or_armed : ℕ → Option ℕ → ℕ
 or_armed until None = until
 or_armed until (Some armed) = min until armed
 
--- WU: the hart sleeps until the moment, or until its armed moment where that is earlier
+-- WU: the thread sleeps until the moment, or until its armed moment where that is earlier
 unfoldable pub wait : ℕ → ℕ → Own → ℕ → ℕ → Did
 wait now pc t word until =
     if nat_le until now then plain pc t word 3 Nothing
     else plain pc (record t { sleep = or_armed until t.timer.armed }) word 3 Wait
 
--- a hart with another armed moment, or none
+-- a thread with another armed moment, or none
 abbrev pub with_armed : Own → Option ℕ → Own
 with_armed t moment = record t { timer = record t.timer { armed = moment } }
 

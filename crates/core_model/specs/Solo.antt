@@ -1,16 +1,17 @@
--- One hart by itself, from its view: no other hart, no pick and no pipeline stage has a part in it.
+-- One thread by itself, from its view: no other thread, no pick and no pipeline stage has a part in
+-- it.
 use Rattle.std.specs.Prelude.{ℕ, zero, suc, ◌-◌, ◌%◌, nat_le, Bool, false, ◌&&◌, if◌then◌else◌, List, [], ◌∷◌, ◌++◌, slice_index_or, length, Option, Some, None}
 use Rattle.rv_exec.specs.declared.outcome.Effect.{Effect}
 use Rattle.rv_exec.specs.declared.outcome.Effect.TheVariants.{Store}
 use Rattle.rv_exec.specs.declared.outcome.Event.{Event}
-use Rattle.region_guard.specs.Regions.{Standing, is_mine, in_d}
+use Rattle.region_guard.specs.Regions.{Standing, is_mine, is_data}
 use Rattle.timer_unit.specs.Time.{time}
 use Rattle.core_model.specs.Thread.{Thread, Contents, Done}
 use Rattle.core_model.specs.Issue.{issue}
 use Rattle.core_model.specs.Memory.{code_at, data_at, stored}
 use Rattle.core_model.specs.View.{Setting, View, kind_at, around_alone}
 
--- the hart, and the words of the data scratchpad as it knows them
+-- the thread, and the words of the data scratchpad as it knows them
 pub record Alone : Type 0 where
   pub thread : Thread
   pub words : List ℕ
@@ -29,14 +30,14 @@ pub record Past : Type 0 where
 abbrev pub contents_by : ℕ → List ℕ → List ℕ → ℕ → Contents
 contents_by size i_words d_words port = record { code = code_at size i_words; at = data_at size i_words d_words port }
 
--- what a load and a fetch find, by the hart's own words and port
+-- what a load and a fetch find, by the thread's own words and port
 abbrev pub contents_alone : Setting → ℕ → List ℕ → Contents
 contents_alone s port words = contents_by s.size s.i_words words port
 
 -- a store into a region of its own changes its words; every other one is an event alone
 abbrev pub own_by : ℕ → List Standing → Option Effect → List ℕ → List ℕ
 own_by size d_kinds (Some (Store address width value)) words =
-    if in_d size address && is_mine (kind_at size d_kinds address) then stored size words address width value else words
+    if is_data size address && is_mine (kind_at size d_kinds address) then stored size words address width value else words
 own_by size d_kinds _ words = words
 
 -- its words after an effect
@@ -48,16 +49,16 @@ abbrev pub own_event : Setting → ℕ → ℕ → ℕ → Option Effect → Opt
 own_event s c pc word None = None
 own_event s c pc word (Some effect) = Some (record { cycle = c; thread = s.thread; pc = pc; word = word; effect = effect })
 
--- whether cycle c has a position of the frame that is the hart's
+-- whether cycle c has a position of the frame that is the thread's
 abbrev pub has_position : List Bool → ℕ → Bool
 has_position own c = slice_index_or own (c % length own) false
 
--- whether the hart issues in cycle c: at a position of its own, from its first ready cycle on,
+-- whether the thread issues in cycle c: at a position of its own, from its first ready cycle on,
 -- awake
 unfoldable pub may_go : Setting → ℕ → Thread → Bool
 may_go s c t = has_position s.own c && nat_le t.ready c && nat_le t.own.sleep (time s.period c)
 
--- an issue: the hart after it, with its words and the event
+-- an issue: the thread after it, with its words and the event
 abbrev pub gone : Setting → ℕ → Alone → Done → Turned
 gone s c t d =
     record {
@@ -91,7 +92,7 @@ oldest_first [] = []
 oldest_first (None ∷ events) = oldest_first events
 oldest_first (Some e ∷ events) = oldest_first events ++ e ∷ []
 
--- the hart's events that have retired after n cycles: those of the cycles c with c + 4 < n, which
+-- the thread's events that have retired after n cycles: those of the cycles c with c + 4 < n, which
 -- are the first n - 4
 abbrev pub solo : View → ℕ → List Event
 solo v n = oldest_first (solo_at v (n - 4)).events

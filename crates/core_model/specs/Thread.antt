@@ -1,11 +1,11 @@
--- A hart, what an instruction of it asks and finds, and what is known after each half of it.
+-- A thread, what an instruction of it asks and finds, and what is known after each half of it.
 use Rattle.std.specs.Prelude.{ℕ, ◌-◌, ◌==◌, Bool, if◌then◌else◌, List, slice_index_or, slice_set, Option, Some, replicate}
 use Rattle.rv_exec.specs.declared.outcome.Effect.{Effect}
 use Rattle.rv_exec.specs.declared.outcome.Effect.TheVariants.{Nothing, Reg, Csr}
 use Rattle.timer_unit.specs.Time.{no_timer}
 use Rattle.core_model.specs.declared.own.Own.{Own}
 
--- a hart between two of its instructions
+-- a thread between two of its instructions
 pub record Thread : Type 0 where
   pub pc : ℕ
   pub ready : ℕ  -- the first cycle in which its next instruction may issue
@@ -35,7 +35,7 @@ pub record Did : Type 0 where
   pub address : ℕ  -- of a load or store that is allowed, else 0
   pub effect : Option Effect  -- none for a turn without an event
 
--- what an issue leaves: the hart, the word, and the effect if there is an event
+-- what an issue leaves: the thread, the word, and the effect if there is an event
 pub record Done : Type 0 where
   pub thread : Thread
   pub word : ℕ
@@ -50,7 +50,7 @@ no_own =
       sleep = 0;
     }
 
--- a hart at its entry: every register is 0, and it is ready
+-- a thread at its entry: every register is 0, and it is ready
 abbrev pub fresh : ℕ → Thread
 fresh entry = record { pc = entry; ready = 0; own = no_own; regs = replicate 31 0 }
 
@@ -66,7 +66,7 @@ reg_set regs x value = if x == 0 then regs else slice_set regs (x - 1) value
 abbrev pub reg_effect : ℕ → ℕ → Effect
 reg_effect rd value = if rd == 0 then Nothing else Reg rd value
 
--- what an effect does to the registers of its hart
+-- what an effect does to the registers of its thread
 abbrev pub regs_after : Option Effect → List ℕ → List ℕ
 regs_after (Some (Reg rd value)) regs = reg_set regs rd value
 regs_after (Some (Csr csr value rd old)) regs = reg_set regs rd old

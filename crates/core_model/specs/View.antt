@@ -1,6 +1,6 @@
--- What a hart may depend on, and what its instructions may do by it.
+-- What a thread may depend on, and what its instructions may do by it.
 use Rattle.std.specs.Prelude.{ℕ, Bool, ◌&&◌, if◌then◌else◌, List, slice_index_or, None}
-use Rattle.region_guard.specs.Regions.{Standing, is_readable, is_writable, in_i, in_d, at_port, region_of}
+use Rattle.region_guard.specs.Regions.{Standing, is_readable, is_writable, is_code, is_data, is_port, region_of}
 use Rattle.region_guard.specs.Regions.Standing.{Foreign}
 use Rattle.timer_unit.specs.Time.{time}
 use Rattle.core_model.specs.Thread.{Thread, Around}
@@ -10,19 +10,19 @@ pub record Setting : Type 0 where
   pub period : ℕ  -- of a cycle, in nanoseconds
   pub size : ℕ  -- of each scratchpad, in bytes
   pub thread : ℕ
-  pub own : List Bool  -- of each position of the frame, whether it is the hart's
-  pub i_kinds : List Standing  -- what each region of a scratchpad is to the hart
+  pub own : List Bool  -- of each position of the frame, whether it is the thread's
+  pub i_kinds : List Standing  -- what each region of a scratchpad is to the thread
   pub d_kinds : List Standing
   pub i_words : List ℕ  -- 0 in the regions that it may not read
 
--- a hart's view: besides that, how it starts, and the word of its port in each cycle
+-- a thread's view: besides that, how it starts, and the word of its port in each cycle
 pub record View : Type 0 where
   pub setting : Setting
   pub first : Thread
   pub d_words : List ℕ  -- 0 in the regions that it may not read
   pub shown : List ℕ
 
--- what the region of an address is to the hart
+-- what the region of an address is to the thread
 abbrev pub kind_at : ℕ → List Standing → ℕ → Standing
 kind_at size kinds address = slice_index_or kinds (region_of size address) Foreign
 
@@ -34,14 +34,14 @@ around_by thread size i_kinds d_kinds now =
     record {
       thread = thread;
       now = now;
-      fetch = λ pc. in_i size pc && is_readable (kind_at size i_kinds pc);
+      fetch = λ pc. is_code size pc && is_readable (kind_at size i_kinds pc);
       load = λ address width.
-          if in_i size address then is_readable (kind_at size i_kinds address)
-          else if in_d size address then is_readable (kind_at size d_kinds address)
-          else at_port address width;
+          if is_code size address then is_readable (kind_at size i_kinds address)
+          else if is_data size address then is_readable (kind_at size d_kinds address)
+          else is_port address width;
       store = λ address width.
-          if in_d size address then is_writable (kind_at size d_kinds address)
-          else at_port address width;
+          if is_data size address then is_writable (kind_at size d_kinds address)
+          else is_port address width;
       shared = λ csr. None;
     }
 

@@ -1,5 +1,5 @@
-//! The definitions of the machine: what one instruction of one hart does, over what it asks of its
-//! surroundings, and what a hart does by itself. They stand in specs/, below every engine.
+//! The definitions of the machine: what one instruction of one thread does, over what it asks of
+//! its surroundings, and what a thread does by itself. They stand in specs/, below every engine.
 
 #![tactic(auto)]
 

@@ -1,10 +1,11 @@
-//! What a hart has besides its pc and its registers x1 to x31.
+//! What a thread has besides its pc and its registers x1 to x31.
 
 ghost use Rattle.std.specs.Prelude.{◌≡◌};
 
 use timer_unit::Timer;
 
-/// The hart's trap registers (RISC-V privileged manual, "Machine-Level CSRs"). The two low bits of
+/// The thread's trap registers (RISC-V privileged manual, "Machine-Level CSRs"). The two low bits
+/// of
 /// `mtvec` and `mepc` are 0.
 #[derive(Clone, Copy, Debug)]
 pub struct Trapping {
@@ -18,21 +19,21 @@ pub struct Trapping {
     pub mcause: u32,
 }
 
-/// A hart's timer, its trap registers, and the moment until which it sleeps, in nanoseconds.
+/// A thread's timer, its trap registers, and the moment until which it sleeps, in nanoseconds.
 #[derive(Clone, Copy, Debug)]
 pub struct Own {
     /// The armed expiry and the latched high word of GT.
     pub timer: Timer,
     /// The trap registers.
     pub trap: Trapping,
-    /// The moment in nanoseconds from which the hart is awake; 0 where it never slept.
+    /// The moment in nanoseconds from which the thread is awake; 0 where it never slept.
     pub sleep: u64,
 }
 
 impl Own {
     ghost use Rattle.core_model.specs.Thread.{no_own};
 
-    /// What a hart starts with: nothing is armed, it is awake, and every register is 0.
+    /// What a thread starts with: nothing is armed, it is awake, and every register is 0.
     pub fn new() -> Self
         ensures { result ≡ no_own }
     {

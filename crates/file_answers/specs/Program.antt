@@ -16,7 +16,7 @@ use Rattle.file_answers.specs.Answer.Answer.{Says}
 
 abbrev pub of_setup : Result Settings Fault → Result Settings Answer
 of_setup (Ok s) = Ok s
-of_setup (Err fault) = Err (refused (Setup (setup_code fault.code) fault.place))
+of_setup (Err fault) = Err (refused (Setup (setup_code fault.code) fault.path))
 
 -- the setup of a file's bytes
 unfoldable pub setup_in : List ℕ → Result Settings Answer

@@ -13,7 +13,7 @@ ghost use Rattle.file_answers.specs.Stops.{IsFetchStop, IsStopIn, IsStopOf, Make
 use crate::stop::Stop;
 use fp_image::{Image, ImageNo, ImageRefused, read_image};
 use fp_io::{FetchFault, Files};
-use fp_setup::{Name, Place, Setup, SetupNo, SetupRefused, read_setup};
+use fp_setup::{KeyPath, Name, Setup, SetupNo, SetupRefused, read_setup};
 use std::alloc::Global;
 use trace_print::Refusal;
 
@@ -56,12 +56,12 @@ pub fn fetch<F: Files>(
 }
 
 /// The refusal of a setup.
-fn setup_refusal(code: SetupNo, place: Place) -> Refusal
-    ensures { result ≡ Refusal.Setup (setup_code code) place }
+fn setup_refusal(code: SetupNo, path: KeyPath) -> Refusal
+    ensures { result ≡ Refusal.Setup (setup_code code) path }
 {
     Refusal::Setup {
         code: code as u8,
-        place,
+        path,
     }
 }
 
@@ -73,9 +73,7 @@ fn setup_in(alloc: Global, bytes: &[u8]) -> Result<Setup, Stop>
 {
     match read_setup(alloc, bytes) {
         Ok(setup) => Ok(setup),
-        Err(SetupRefused::Fault { code, place }) => {
-            Err(Stop::Refused(setup_refusal(code, place)))
-        }
+        Err(SetupRefused::Fault { code, path }) => { Err(Stop::Refused(setup_refusal(code, path))) }
         Err(SetupRefused::NoMemory) => Err(Stop::NoMemory),
     }
 }

@@ -1,4 +1,4 @@
--- The promises for one hart, from what a command said.
+-- The promises for one thread, from what a command said.
 use Rattle.std.proofs.Common.{◌≡◌, ℕ, ◌<◌, List, Option, Some, None, Result, Ok, Err, inl, inr, refl, ap, sym, subst, ◌∙◌, arith, nat_lt, eqb-true, Bool, true, false, not, if◌then◌else◌, ◌==◌}
 use Rattle.std.specs.Prelude.{IfSome, option_map}
 use Rattle.std.specs.Io.KnownBytes.{Appends}

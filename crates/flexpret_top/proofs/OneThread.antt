@@ -36,7 +36,7 @@ use Rattle.file_answers.specs.Answer.{Answer, differs_text, over_file}
 use Rattle.flexpret_top.specs.Alone.{compared, same_text}
 use Rattle.file_answers.specs.Answer.Answer.{Says}
 
--- one of the threads stands at its own place
+-- one of the threads stands at its own index
 thread-at : (i : ℕ) → i < 8 → get_or the_threads i 0 ≡ i
 thread-at i small = get_or-range_with_len 0 8 i 0 small ∙ omega arith
 

@@ -21,7 +21,7 @@ use Rattle.flexpret_top.specs.Endings.{Ends}
 
 -- a refusal's status is one of 3 to 6, or 10
 refusal_number : (refusal : Refusal) (n : ℕ) → n ≡ status_of refusal → (3 ≤ n) × ((n ≤ 6) ⊎ (n ≡ 10))
-refusal_number (Setup code place) n is = (omega (arith, is), inl (omega (arith, is)))
+refusal_number (Setup code path) n is = (omega (arith, is), inl (omega (arith, is)))
 refusal_number (Section code) n is = (omega (arith, is), inl (omega (arith, is)))
 refusal_number (Image code offset) n is = (omega (arith, is), inl (omega (arith, is)))
 refusal_number (Source line code) n is = (omega (arith, is), inl (omega (arith, is)))

@@ -1,4 +1,4 @@
--- What the text of a command promises of a hart whatever the seven others run.
+-- What the text of a command promises of a thread whatever the seven others run.
 use Rattle.std.specs.Prelude.{◌≡◌, ℕ, ◌-◌, ◌≤◌, List, Option, Some, Ok}
 use Rattle.std.specs.Io.KnownBytes.{Appends}
 use Rattle.fp_io.specs.Content.{FileMap}
@@ -50,7 +50,7 @@ WritesAsRun (Some (Solo setup i n)) files ports before after =
     (p : Program) → program files setup ≡ Ok p → IsQuiet (machine_of p ports) n → Appends before after (trace (machine_of p ports) i n)
 WritesAsRun _ files ports before after = Unit {0}
 
--- For every confined hart that no setting of the run makes soft active, in a run that writes no region register, what
+-- For every confined thread that no setting of the run makes soft active, in a run that writes no region register, what
 -- `run` wrote is the text of the one-thread definition over the thread's view and these settings, whose lines `phases`
 -- writes.
 abbrev pub WritesByPhases : Option Ask → FileMap → List (Option Row) → Option (List ℕ) → Option (List ℕ) → Type 0

@@ -1,4 +1,4 @@
--- What stands between separators, from a place of a list on.
+-- What stands between separators, from an index of a list on.
 use Rattle.std.proofs.Common.{◌≡◌, ℕ, suc, ◌<◌, ◌≤◌, ◌+◌, ◌-◌, Bool, true, false, List, [], ◌∷◌, ◌++◌, length, take, drop, get_or, refl, sym, ap, arith, add-one, length-drop}
 use Rattle.std.proofs.Math.Seq.{drop-cons, take-suc}
 use Rattle.std.proofs.lemmas.List.{get_or-drop, take_all}
@@ -6,7 +6,7 @@ use Rattle.std.proofs.Math.ListN.{drop_of_length-le}
 use Rattle.fp_asm.specs.Between.{between_from, between}
 
 module _ {A B : Type 0} (p : A → Bool) (ended last : List A → B) where
-  -- from place i on, where the item at hand begins at `start`
+  -- from index i on, where the item at hand begins at `start`
   pub cut : List A → ℕ → ℕ → List B
   cut xs start i = between_from p ended last (take (i - start) (drop start xs)) (drop i xs)
 

@@ -5,7 +5,7 @@ use Rattle.fp_asm.specs.OperandsAsDefined.{target_seen}
 use Rattle.fp_asm.specs.declared.operands.Target.TheVariants as target
 use Rattle.std.proofs.lemmas.Bool.Decides.{nat_tests}
 use Rattle.std.proofs.lemmas.Int.{ints}
-use Rattle.fp_asm.specs.Statements.{Statement, aligned_to, checked, checked_as, place_after, place_as, size_of}
+use Rattle.fp_asm.specs.Statements.{Statement, aligned_to, checked, checked_as, location_after, location_as, size_of}
 use Rattle.fp_asm.specs.Words.{is_within}
 use Rattle.fp_asm.specs.Faults.{holds}
 use Rattle.fp_asm.specs.declared.table.Makes.{Makes}
@@ -45,23 +45,23 @@ pub org_small : (s : Statement) → checked s ≡ passed → s.makes ≡ Org →
 unfolding checked
 org_small s h e = omega (arith, (is_aligned (2 ^ 32 - 4) s.operands.given (rw e at h)).small)
 
-stays : (place n : ℕ) → place % 4 ≡ 0 → (place + 4 * n) % 2 ^ 32 % 4 ≡ 0
-stays place n h = omega (arith, h)
+stays : (location n : ℕ) → location % 4 ≡ 0 → (location + 4 * n) % 2 ^ 32 % 4 ≡ 0
+stays location n h = omega (arith, h)
 
--- a statement keeps the place a multiple of four
-pub after_aligned : (place : ℕ) (s : Statement) → checked s ≡ passed → place % 4 ≡ 0 → place_after place s % 4 ≡ 0
-unfolding checked place_after
-after_aligned place s h k = go s.makes h
+-- a statement keeps the location a multiple of four
+pub after_aligned : (location : ℕ) (s : Statement) → checked s ≡ passed → location % 4 ≡ 0 → location_after location s % 4 ≡ 0
+unfolding checked location_after
+after_aligned location s h k = go s.makes h
   where
-    go : (m : Makes) → checked_as m s.operands.given ≡ passed → place_as m place s % 4 ≡ 0
+    go : (m : Makes) → checked_as m s.operands.given ≡ passed → location_as m location s % 4 ≡ 0
     go Org h = (is_aligned (2 ^ 32 - 4) s.operands.given h).multiple
-    go (Plain p) h = stays place (size_of s) k
-    go (Branch op) h = stays place (size_of s) k
-    go Jal h = stays place (size_of s) k
-    go Li h = stays place (size_of s) k
-    go La h = stays place (size_of s) k
-    go Words h = stays place (size_of s) k
-    go Space h = stays place (size_of s) k
+    go (Plain p) h = stays location (size_of s) k
+    go (Branch op) h = stays location (size_of s) k
+    go Jal h = stays location (size_of s) k
+    go Li h = stays location (size_of s) k
+    go La h = stays location (size_of s) k
+    go Words h = stays location (size_of s) k
+    go Space h = stays location (size_of s) k
 
 -- the values of a statement are as many as the code's
 pub values_count : (xs : List target.the_data) → length (map target_seen xs) ≡ length xs

@@ -16,7 +16,7 @@ Given = Bor (List piece.the_data)
 here : {A : Type 0} (xs : List A) (i : ℕ) (d : A) → i < length xs → drop i xs ≡ get_or xs i d ∷ drop (i + 1) xs
 here xs i d h = rw (add-one i) (drop-cons xs i d h)
 
--- the targets from place i on, after those of a list
+-- the targets from index i on, after those of a list
 pub targets_from : List Target → List Given → ℕ → Option (List Target)
 targets_from found operands i = option_map (λ vs. found ++ vs) (all_targets (map operand_seen (drop i operands)))
 

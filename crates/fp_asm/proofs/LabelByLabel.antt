@@ -7,7 +7,7 @@ use Rattle.std.specs.BTreeMap.{insert_entry, is_at}
 use Rattle.std.specs.Map.{lookup}
 use Rattle.std.proofs.lemmas.List.{take_all}
 use Rattle.fp_asm.specs.Pieces.{Piece, name, number, comma, colon, opening, closing, plus, minus}
-use Rattle.fp_asm.specs.First.{Labels, place_of, with_label, labelled, has_label}
+use Rattle.fp_asm.specs.First.{Labels, location_of, with_label, labelled, has_label}
 use Rattle.fp_asm.specs.Second.{after_labels}
 use Rattle.fp_asm.specs.Faults.{IsStopOf}
 use Rattle.fp_asm.specs.declared.refusal.AsmNo.{AsmNo}
@@ -19,9 +19,9 @@ use Rattle.fp_asm.specs.declared.refusal.Stop.TheVariants as stop
 abbrev pub seen : List (Bor (List ℕ) × ℕ) → Labels
 seen es = map (λ e. (e.0.now, e.1)) es
 
-pub place_seen : (es : List (Bor (List ℕ) × ℕ)) (x : List ℕ) → place_of (seen es) x ≡ lookup (λ k. is_at (slice_cmp nat_cmp x) k.now) es
-place_seen [] x = refl
-place_seen (e ∷ es) x = rw (place_seen es x) refl
+pub location_seen : (es : List (Bor (List ℕ) × ℕ)) (x : List ℕ) → location_of (seen es) x ≡ lookup (λ k. is_at (slice_cmp nat_cmp x) k.now) es
+location_seen [] x = refl
+location_seen (e ∷ es) x = rw (location_seen es x) refl
 
 insert_seen : (es : List (Bor (List ℕ) × ℕ)) (x : Bor (List ℕ)) (p : ℕ) → seen (insert_entry (λ a b. slice_cmp nat_cmp a.now b.now) es x p) ≡ insert_entry (slice_cmp nat_cmp) (seen es) x.now p
 insert_seen [] x p = refl
@@ -34,23 +34,23 @@ insert_seen (e ∷ es) x p = go (insert_seen es x p) (slice_cmp nat_cmp x.now e.
 
 pub label_there : (es : List (Bor (List ℕ) × ℕ)) (x : List ℕ) (p : ℕ) → is_some (lookup (λ k. is_at (slice_cmp nat_cmp x) k.now) es) ≡ true → with_label p (seen es) x ≡ Err no.DoubleLabel
 unfolding with_label
-label_there es x p h = rw (place_seen es x, h) refl
+label_there es x p h = rw (location_seen es x, h) refl
 
 pub label_new : (es : List (Bor (List ℕ) × ℕ)) (x : Bor (List ℕ)) (p : ℕ) → is_some (lookup (λ k. is_at (slice_cmp nat_cmp x.now) k.now) es) ≡ false → with_label p (seen es) x.now ≡ Ok (seen (insert_entry (λ a b. slice_cmp nat_cmp a.now b.now) es x p))
 unfolding with_label
-label_new es x p h = rw (place_seen es x.now, h, insert_seen es x p) refl
+label_new es x p h = rw (location_seen es x.now, h, insert_seen es x p) refl
 
-pub labelled_step : (place : ℕ) (labels more : Labels) (x : List ℕ) (ps rest : List Piece) → ps ≡ name x ∷ (colon ∷ rest) → with_label place labels x ≡ Ok more → labelled place labels ps ≡ labelled place more rest
+pub labelled_step : (location : ℕ) (labels more : Labels) (x : List ℕ) (ps rest : List Piece) → ps ≡ name x ∷ (colon ∷ rest) → with_label location labels x ≡ Ok more → labelled location labels ps ≡ labelled location more rest
 unfolding labelled
-labelled_step place labels more x ps rest e h = rw (e, h) refl
+labelled_step location labels more x ps rest e h = rw (e, h) refl
 
-labelled_fault : (place : ℕ) (labels : Labels) (x : List ℕ) (ps rest : List Piece) (c : AsmNo) → ps ≡ name x ∷ (colon ∷ rest) → with_label place labels x ≡ Err c → labelled place labels ps ≡ Err c
+labelled_fault : (location : ℕ) (labels : Labels) (x : List ℕ) (ps rest : List Piece) (c : AsmNo) → ps ≡ name x ∷ (colon ∷ rest) → with_label location labels x ≡ Err c → labelled location labels ps ≡ Err c
 unfolding labelled
-labelled_fault place labels x ps rest c e h = rw (e, h) refl
+labelled_fault location labels x ps rest c e h = rw (e, h) refl
 
-pub stop_step : (whole : Result (Labels × List Piece) AsmNo) (place : ℕ) (labels : Labels) (x : List ℕ) (ps rest : List Piece) (s : Stop) → whole ≡ labelled place labels ps → ps ≡ name x ∷ (colon ∷ rest) → IsStopOf (with_label place labels x) s → IsStopOf whole s
-stop_step whole place labels x ps rest (stop.Fault code) so e h = so ∙ labelled_fault place labels x ps rest code e h
-stop_step whole place labels x ps rest stop.NoMemory so e h = tt
+pub stop_step : (whole : Result (Labels × List Piece) AsmNo) (location : ℕ) (labels : Labels) (x : List ℕ) (ps rest : List Piece) (s : Stop) → whole ≡ labelled location labels ps → ps ≡ name x ∷ (colon ∷ rest) → IsStopOf (with_label location labels x) s → IsStopOf whole s
+stop_step whole location labels x ps rest (stop.Fault code) so e h = so ∙ labelled_fault location labels x ps rest code e h
+stop_step whole location labels x ps rest stop.NoMemory so e h = tt
 
 pub rest_all : {A : Type 0} (xs : List A) (n : ℕ) → take (length xs - n) (drop n xs) ≡ drop n xs
 rest_all xs n = take_all (length xs - n) (drop n xs) (rw length-drop (omega arith))
@@ -59,25 +59,25 @@ pub two_more : {A : Type 0} (xs : List A) (n : ℕ) → drop 2 (drop n xs) ≡ d
 two_more xs n = drop-drop 2 n xs
 
 -- pieces that begin with no label
-pub labelled_none : (place : ℕ) (labels : Labels) (ps : List Piece) → has_label ps ≡ false → labelled place labels ps ≡ Ok (labels, ps)
+pub labelled_none : (location : ℕ) (labels : Labels) (ps : List Piece) → has_label ps ≡ false → labelled location labels ps ≡ Ok (labels, ps)
 unfolding labelled has_label
-labelled_none place labels [] h = refl
-labelled_none place labels (name x ∷ []) h = refl
-labelled_none place labels (name x ∷ name y ∷ ps) h = refl
-labelled_none place labels (name x ∷ number y ∷ ps) h = refl
-labelled_none place labels (name x ∷ comma ∷ ps) h = refl
-labelled_none place labels (name x ∷ colon ∷ ps) h = absurd (true≢false h)
-labelled_none place labels (name x ∷ opening ∷ ps) h = refl
-labelled_none place labels (name x ∷ closing ∷ ps) h = refl
-labelled_none place labels (name x ∷ plus ∷ ps) h = refl
-labelled_none place labels (name x ∷ minus ∷ ps) h = refl
-labelled_none place labels (number x ∷ ps) h = refl
-labelled_none place labels (comma ∷ ps) h = refl
-labelled_none place labels (colon ∷ ps) h = refl
-labelled_none place labels (opening ∷ ps) h = refl
-labelled_none place labels (closing ∷ ps) h = refl
-labelled_none place labels (plus ∷ ps) h = refl
-labelled_none place labels (minus ∷ ps) h = refl
+labelled_none location labels [] h = refl
+labelled_none location labels (name x ∷ []) h = refl
+labelled_none location labels (name x ∷ name y ∷ ps) h = refl
+labelled_none location labels (name x ∷ number y ∷ ps) h = refl
+labelled_none location labels (name x ∷ comma ∷ ps) h = refl
+labelled_none location labels (name x ∷ colon ∷ ps) h = absurd (true≢false h)
+labelled_none location labels (name x ∷ opening ∷ ps) h = refl
+labelled_none location labels (name x ∷ closing ∷ ps) h = refl
+labelled_none location labels (name x ∷ plus ∷ ps) h = refl
+labelled_none location labels (name x ∷ minus ∷ ps) h = refl
+labelled_none location labels (number x ∷ ps) h = refl
+labelled_none location labels (comma ∷ ps) h = refl
+labelled_none location labels (colon ∷ ps) h = refl
+labelled_none location labels (opening ∷ ps) h = refl
+labelled_none location labels (closing ∷ ps) h = refl
+labelled_none location labels (plus ∷ ps) h = refl
+labelled_none location labels (minus ∷ ps) h = refl
 
 pub after_step : (x : List ℕ) (ps rest : List Piece) → ps ≡ name x ∷ (colon ∷ rest) → after_labels ps ≡ after_labels rest
 unfolding after_labels

@@ -6,9 +6,9 @@ use Rattle.std.specs.Ordering.{nat_cmp, match_ordering, MatchOrdering}
 use Rattle.std.specs.BTreeSet.{insert_key}
 use Rattle.std.proofs.lemmas.Cmp.{ranked}
 use Rattle.fp_asm.specs.Pieces.{Text, Piece, name, number, comma, colon, opening, closing, plus, minus, pieces_of, operands_of}
-use Rattle.fp_asm.specs.Statements.{Statement, checked, statement_named, statement_of, statement_in, size_of, place_after}
+use Rattle.fp_asm.specs.Statements.{Statement, checked, statement_named, statement_of, statement_in, size_of, location_after}
 use Rattle.fp_asm.specs.Mnemonics.{Mnemonic, mnemonic}
-use Rattle.fp_asm.specs.First.{Labels, Placed, start, is_inside, is_taken, addresses, with_taken, take_places, labelled, sized, placed_by, first_line, first_pass}
+use Rattle.fp_asm.specs.First.{Labels, Placed, start, is_inside, is_taken, addresses, with_taken, take_addresses, labelled, sized, placed_by, first_line, first_pass}
 use Rattle.fp_asm.specs.Runs.{ArePlaced}
 use Rattle.fp_asm.specs.Faults.{next, holds, present, in_line}
 use Rattle.fp_asm.specs.declared.refusal.AsmNo.{AsmNo}
@@ -39,13 +39,13 @@ all_placed xs a (suc n) k h ps = go (is_inside a) refl h (λ here rest. all_plac
     go true e h more = more e h
     go false e h more = absurd (cc)
 
--- what the first pass knows is sound: the place is a multiple of four, and the addresses may all be placed
+-- what the first pass knows is sound: the location is a multiple of four, and the addresses may all be placed
 pub record IsSound (p : Placed) : Type 0 where
-  pub aligned : p.place % 4 ≡ 0
+  pub aligned : p.location % 4 ≡ 0
   pub placed : ArePlaced 0 p.taken
 
-take_sound : (xs ys : List ℕ) (a n : ℕ) → a % 4 ≡ 0 → ArePlaced 0 xs → take_places xs (addresses a n) ≡ Ok ys → ArePlaced 0 ys
-unfolding take_places
+take_sound : (xs ys : List ℕ) (a n : ℕ) → a % 4 ≡ 0 → ArePlaced 0 xs → take_addresses xs (addresses a n) ≡ Ok ys → ArePlaced 0 ys
+unfolding take_addresses
 take_sound xs ys a n k ps h = by_inside (list_all is_inside (addresses a n)) refl h
   where
     by_free : (free : Bool) → list_all is_inside (addresses a n) ≡ true → holds free no.Overlap (Ok (with_taken xs (addresses a n))) ≡ Ok ys → ArePlaced 0 ys
@@ -92,46 +92,46 @@ found_checked (closing ∷ ps) s h = absurd (cc)
 found_checked (plus ∷ ps) s h = absurd (cc)
 found_checked (minus ∷ ps) s h = absurd (cc)
 
--- the place after a line is a multiple of four
-sized_aligned : (place : ℕ) (ps : List Piece) (t : ℕ × ℕ) → place % 4 ≡ 0 → sized place ps ≡ Ok (Some t) → t.1 % 4 ≡ 0
+-- the location after a line is a multiple of four
+sized_aligned : (location : ℕ) (ps : List Piece) (t : ℕ × ℕ) → location % 4 ≡ 0 → sized location ps ≡ Ok (Some t) → t.1 % 4 ≡ 0
 unfolding sized
-sized_aligned place ps t k h = go (statement_of ps) refl h
+sized_aligned location ps t k h = go (statement_of ps) refl h
   where
-    go : (r : Result (Option Statement) AsmNo) → statement_of ps ≡ r → next r (λ s. Ok (option_map (λ s. (size_of s, place_after place s)) s)) ≡ Ok (Some t) → t.1 % 4 ≡ 0
+    go : (r : Result (Option Statement) AsmNo) → statement_of ps ≡ r → next r (λ s. Ok (option_map (λ s. (size_of s, location_after location s)) s)) ≡ Ok (Some t) → t.1 % 4 ≡ 0
     go (Ok None) e h = absurd (cc)
-    go (Ok (Some s)) e h = let same : place_after place s ≡ t.1 = cc in subst (λ x. x % 4 ≡ 0) same (after_aligned place s (found_checked ps s e) k)
+    go (Ok (Some s)) e h = let same : location_after location s ≡ t.1 = cc in subst (λ x. x % 4 ≡ 0) same (after_aligned location s (found_checked ps s e) k)
     go (Err c) e h = absurd (cc)
 
 placed_sound : (p q : Placed) (t : ℕ × ℕ) → IsSound p → t.1 % 4 ≡ 0 → placed_by p (Some t) ≡ Ok q → IsSound q
 unfolding placed_by
-placed_sound p q t s k h = go (take_places p.taken (addresses p.place t.0)) refl h
+placed_sound p q t s k h = go (take_addresses p.taken (addresses p.location t.0)) refl h
   where
-    go : (r : Result (List ℕ) AsmNo) → take_places p.taken (addresses p.place t.0) ≡ r → next r (λ taken. Ok (record { place = t.1; labels = p.labels; taken = taken })) ≡ Ok q → IsSound q
+    go : (r : Result (List ℕ) AsmNo) → take_addresses p.taken (addresses p.location t.0) ≡ r → next r (λ taken. Ok (record { location = t.1; labels = p.labels; taken = taken })) ≡ Ok q → IsSound q
     go (Ok taken) e h =
-        let after : Placed = record { place = t.1; labels = p.labels; taken = taken } in
+        let after : Placed = record { location = t.1; labels = p.labels; taken = taken } in
         let same : after ≡ q = cc in
-        subst IsSound same (record { aligned = k; placed = take_sound p.taken taken p.place t.0 s.aligned s.placed e })
+        subst IsSound same (record { aligned = k; placed = take_sound p.taken taken p.location t.0 s.aligned s.placed e })
     go (Err c) e h = absurd (cc)
 
-sized_sound : (p q : Placed) (ps : List Piece) → IsSound p → next (sized p.place ps) (placed_by p) ≡ Ok q → IsSound q
+sized_sound : (p q : Placed) (ps : List Piece) → IsSound p → next (sized p.location ps) (placed_by p) ≡ Ok q → IsSound q
 unfolding placed_by
-sized_sound p q ps s h = go (sized p.place ps) refl h
+sized_sound p q ps s h = go (sized p.location ps) refl h
   where
-    go : (r : Result (Option (ℕ × ℕ)) AsmNo) → sized p.place ps ≡ r → next r (placed_by p) ≡ Ok q → IsSound q
+    go : (r : Result (Option (ℕ × ℕ)) AsmNo) → sized p.location ps ≡ r → next r (placed_by p) ≡ Ok q → IsSound q
     go (Ok None) e h = let same : p ≡ q = cc in subst IsSound same s
-    go (Ok (Some t)) e h = placed_sound p q t s (sized_aligned p.place ps t s.aligned e) h
+    go (Ok (Some t)) e h = placed_sound p q t s (sized_aligned p.location ps t s.aligned e) h
     go (Err c) e h = absurd (cc)
 
 line_sound : (p q : Placed) (line : Text) → IsSound p → first_line p line ≡ Ok q → IsSound q
 unfolding first_line
 line_sound p q line s h = by_pieces (pieces_of line) h
   where
-    by_labels : (r : Result (Labels × List Piece) AsmNo) → next r (λ l. next (sized p.place l.1) (placed_by (record p { labels = l.0 }))) ≡ Ok q → IsSound q
+    by_labels : (r : Result (Labels × List Piece) AsmNo) → next r (λ l. next (sized p.location l.1) (placed_by (record p { labels = l.0 }))) ≡ Ok q → IsSound q
     by_labels (Ok l) h = sized_sound (record p { labels = l.0 }) q l.1 (record { aligned = s.aligned; placed = s.placed }) h
     by_labels (Err c) h = absurd (cc)
 
-    by_pieces : (r : Result (List Piece) AsmNo) → next r (λ ps. next (labelled p.place p.labels ps) (λ l. next (sized p.place l.1) (placed_by (record p { labels = l.0 })))) ≡ Ok q → IsSound q
-    by_pieces (Ok ps) h = by_labels (labelled p.place p.labels ps) h
+    by_pieces : (r : Result (List Piece) AsmNo) → next r (λ ps. next (labelled p.location p.labels ps) (λ l. next (sized p.location l.1) (placed_by (record p { labels = l.0 })))) ≡ Ok q → IsSound q
+    by_pieces (Ok ps) h = by_labels (labelled p.location p.labels ps) h
     by_pieces (Err c) h = absurd (cc)
 
 pass_sound : (n : ℕ) (p q : Placed) (lines : List Text) → IsSound p → first_pass n p lines ≡ Ok q → IsSound q

@@ -16,7 +16,7 @@ Targets = List target.the_data
 here : (xs : Targets) (i : ℕ) (d : target.the_data) → i < length xs → drop i xs ≡ get_or xs i d ∷ drop (i + 1) xs
 here xs i d h = rw (add-one i) (drop-cons xs i d h)
 
--- the words from place i on, after those of a list
+-- the words from index i on, after those of a list
 pub resolved_from : Labels → List ℕ → Targets → ℕ → Result (List ℕ) AsmNo
 resolved_from labels found targets i = next (all_resolved labels (map target_seen (drop i targets))) (λ ws. Ok (found ++ ws))
 

@@ -12,8 +12,8 @@ use Rattle.fp_asm.specs.Mnemonics.{mnemonics, mnemonic}
 use Rattle.fp_asm.specs.Names.{registers, register, csrs, csr}
 use Rattle.fp_asm.specs.Operands.{register_in, number_in, target_in, csr_in, memory_in, filled, all_filled, all_targets}
 use Rattle.fp_asm.specs.Words.{signed_12, up_to, instruction, halves, load_instructions}
-use Rattle.fp_asm.specs.Statements.{some_targets, statement_in, aligned_to, checked, statement_named, statement_of, size_of, place_after}
-use Rattle.fp_asm.specs.First.{with_label, labelled, addresses, take_places, sized, placed_by, first_line, first_pass}
+use Rattle.fp_asm.specs.Statements.{some_targets, statement_in, aligned_to, checked, statement_named, statement_of, size_of, location_after}
+use Rattle.fp_asm.specs.First.{with_label, labelled, addresses, take_addresses, sized, placed_by, first_line, first_pass}
 use Rattle.fp_asm.specs.Second.{after_labels, resolved, all_resolved, jump, plain_word, branch_word, jal_word, address_words, value_words, words_of, with_words, written_by, second_line, second_pass}
 use Rattle.fp_asm.specs.Runs.{runs_from, runs_of, bytes_from}
 use Rattle.fp_asm.specs.Source.{segments_at, assembled_lines, assembled}
@@ -34,7 +34,7 @@ rows : List (Text × Result (List Segment) AsmRefused)
 rows =
     -- a label before its instruction, and a branch back to it
     (codes "start: li x5, 1\nbeq x5, x0, start", Ok (words 0 (0x00100293 ∷ 0xfe028ee3 ∷ []) ∷ []))
-    -- words at a place in the data scratchpad
+    -- words at a location in the data scratchpad
     ∷ (codes ".org 0x20000000\n.word 42", Ok (words 0x20000000 (0x0000002a ∷ []) ∷ []))
     -- nothing is an image without segments
     ∷ (codes "", Ok [])
@@ -44,7 +44,7 @@ rows =
     ∷ (codes "la x5, 0\nla x5, 2048\nla x6, here\nhere: nop", Ok (words 0 (0x000002b7 ∷ 0x00028293 ∷ 0x000012b7 ∷ 0x80028293 ∷ 0x00000337 ∷ 0x01830313 ∷ 0x00000013 ∷ []) ∷ []))
     -- words of some mnemonics whose rows differ from those of the plain instructions
     ∷ (codes "nop\nneg x5, x6\nret\ncsrw mtvec, x11\nfence\nfence.i", Ok (words 0 (0x00000013 ∷ 0x406002b3 ∷ 0x00008067 ∷ 0x30559073 ∷ 0x0ff0000f ∷ 0x0000100f ∷ []) ∷ []))
-    -- places in any order: maximal runs, rising
+    -- locations in any order: maximal runs, rising
     ∷ (codes ".org 8\nnop\n.org 0\nnop\nnop\n.org 0x10\nnop", Ok (words 0 (0x00000013 ∷ 0x00000013 ∷ 0x00000013 ∷ []) ∷ words 16 (0x00000013 ∷ []) ∷ []))
     -- a label twice
     ∷ (codes "a:\na:", Err (refused.Fault 2 no.DoubleLabel))
@@ -71,7 +71,7 @@ rows =
     ∷ []
 
 worked : map (λ row. assembled row.0) rows ≡ map (λ row. row.1) rows
-unfolding rows words bytes run number_from number_of digits_at number_at token_at tokens_from tokens_of encoded between_from without_return lines_of piece pieces_of commas operands_of mnemonics mnemonic registers register csrs csr register_in number_in target_in csr_in memory_in filled all_filled all_targets signed_12 up_to instruction halves load_instructions some_targets statement_in aligned_to checked statement_named statement_of size_of place_after with_label labelled addresses take_places sized placed_by first_line first_pass after_labels resolved all_resolved jump plain_word branch_word jal_word address_words value_words words_of with_words written_by second_line second_pass runs_from runs_of bytes_from segments_at assembled_lines assembled
+unfolding rows words bytes run number_from number_of digits_at number_at token_at tokens_from tokens_of encoded between_from without_return lines_of piece pieces_of commas operands_of mnemonics mnemonic registers register csrs csr register_in number_in target_in csr_in memory_in filled all_filled all_targets signed_12 up_to instruction halves load_instructions some_targets statement_in aligned_to checked statement_named statement_of size_of location_after with_label labelled addresses take_addresses sized placed_by first_line first_pass after_labels resolved all_resolved jump plain_word branch_word jal_word address_words value_words words_of with_words written_by second_line second_pass runs_from runs_of bytes_from segments_at assembled_lines assembled
 worked = refl
 
 -- pseudo-instructions, and the instructions that they are
@@ -86,5 +86,5 @@ pseudo =
     ∷ []
 
 same : map (λ row. assembled row.0) pseudo ≡ map (λ row. assembled row.1) pseudo
-unfolding pseudo run number_from number_of digits_at number_at token_at tokens_from tokens_of encoded between_from without_return lines_of piece pieces_of commas operands_of mnemonics mnemonic registers register csrs csr register_in number_in target_in csr_in memory_in filled all_filled all_targets signed_12 up_to instruction halves load_instructions some_targets statement_in aligned_to checked statement_named statement_of size_of place_after with_label labelled addresses take_places sized placed_by first_line first_pass after_labels resolved all_resolved jump plain_word branch_word jal_word address_words value_words words_of with_words written_by second_line second_pass runs_from runs_of bytes_from segments_at assembled_lines assembled
+unfolding pseudo run number_from number_of digits_at number_at token_at tokens_from tokens_of encoded between_from without_return lines_of piece pieces_of commas operands_of mnemonics mnemonic registers register csrs csr register_in number_in target_in csr_in memory_in filled all_filled all_targets signed_12 up_to instruction halves load_instructions some_targets statement_in aligned_to checked statement_named statement_of size_of location_after with_label labelled addresses take_addresses sized placed_by first_line first_pass after_labels resolved all_resolved jump plain_word branch_word jal_word address_words value_words words_of with_words written_by second_line second_pass runs_from runs_of bytes_from segments_at assembled_lines assembled
 same = refl

@@ -1,4 +1,4 @@
--- The first pass: labels and places.
+-- The first pass: labels and locations.
 use Rattle.std.specs.Prelude.{ℕ, zero, suc, ◌+◌, ◌^◌, ◌%◌, ◌&&◌, ◌||◌, not, Bool, true, false, List, [], ◌∷◌, Option, Some, None, is_some, Result, Ok, Err, if◌then◌else◌, nat_lt, nat_le, option_map}
 use Rattle.std.specs.List.{list_any, list_all}
 use Rattle.std.specs.Ordering.{nat_cmp}
@@ -7,23 +7,23 @@ use Rattle.std.specs.BTreeMap.{insert_entry, is_at}
 use Rattle.std.specs.BTreeSet.{insert_key}
 use Rattle.std.specs.Map.{lookup}
 use Rattle.fp_asm.specs.Pieces.{Text, Piece, name, colon, pieces_of}
-use Rattle.fp_asm.specs.Statements.{statement_of, size_of, place_after}
+use Rattle.fp_asm.specs.Statements.{statement_of, size_of, location_after}
 use Rattle.fp_asm.specs.Faults.{next, holds, in_line}
 use Rattle.fp_asm.specs.declared.refusal.AsmNo.{AsmNo}
 use Rattle.fp_asm.specs.declared.refusal.AsmNo.TheVariants as no
 use Rattle.fp_asm.specs.declared.refusal.AsmRefused.{AsmRefused}
 
--- a finite map from labels to places: its entries in the order of their names
+-- a finite map from labels to locations: its entries in the order of their names
 abbrev pub Labels : Type 0
 Labels = List (Text × ℕ)
 
--- the place of a label, if there is one
-abbrev pub place_of : Labels → Text → Option ℕ
-place_of labels x = lookup (is_at (slice_cmp nat_cmp x)) labels
+-- the location of a label, if there is one
+abbrev pub location_of : Labels → Text → Option ℕ
+location_of labels x = lookup (is_at (slice_cmp nat_cmp x)) labels
 
--- with one more label at a place, which must be new
+-- with one more label at a location, which must be new
 unfoldable pub with_label : ℕ → Labels → Text → Result Labels AsmNo
-with_label place labels x = if is_some (place_of labels x) then Err no.DoubleLabel else Ok (insert_entry (slice_cmp nat_cmp) labels x place)
+with_label location labels x = if is_some (location_of labels x) then Err no.DoubleLabel else Ok (insert_entry (slice_cmp nat_cmp) labels x location)
 
 -- the pieces begin with a label
 unfoldable pub has_label : List Piece → Bool
@@ -32,14 +32,14 @@ has_label _ = false
 
 -- with the labels at the head of the pieces, and the pieces after them
 unfoldable pub labelled : ℕ → Labels → List Piece → Result (Labels × List Piece) AsmNo
-labelled place labels (name x ∷ colon ∷ ps) = next (with_label place labels x) (λ more. labelled place more ps)
-labelled place labels ps = Ok (labels, ps)
+labelled location labels (name x ∷ colon ∷ ps) = next (with_label location labels x) (λ more. labelled location more ps)
+labelled location labels ps = Ok (labels, ps)
 
 -- a scratchpad has the address: 16,384 bytes from 0 and from 0x20000000 on
 abbrev pub is_inside : ℕ → Bool
 is_inside a = nat_lt a 16384 || (nat_le 0x20000000 a && nat_lt a 0x20004000)
 
--- the addresses of n words from a place on
+-- the addresses of n words from a location on
 unfoldable pub addresses : ℕ → ℕ → List ℕ
 addresses a zero = []
 addresses a (suc n) = a ∷ addresses ((a + 4) % 2 ^ 32) n
@@ -54,34 +54,34 @@ with_taken taken [] = taken
 with_taken taken (a ∷ more) = with_taken (insert_key nat_cmp taken a) more
 
 -- with these addresses, which must be in scratchpads and new
-unfoldable pub take_places : List ℕ → List ℕ → Result (List ℕ) AsmNo
-take_places taken more = holds (list_all is_inside more) no.OutsideMemory (holds (list_all (λ a. not (is_taken taken a)) more) no.Overlap (Ok (with_taken taken more)))
+unfoldable pub take_addresses : List ℕ → List ℕ → Result (List ℕ) AsmNo
+take_addresses taken more = holds (list_all is_inside more) no.OutsideMemory (holds (list_all (λ a. not (is_taken taken a)) more) no.Overlap (Ok (with_taken taken more)))
 
--- What the first pass knows: the place, the labels, and the addresses that were placed.
+-- What the first pass knows: the location, the labels, and the addresses that were placed.
 pub record Placed : Type 0 where
-  pub place : ℕ
+  pub location : ℕ
   pub labels : Labels
   pub taken : List ℕ
 
 -- before the first line
 abbrev pub start : Placed
-start = record { place = 0; labels = []; taken = [] }
+start = record { location = 0; labels = []; taken = [] }
 
--- how many words the statement that follows the labels places, and the place after it
+-- how many words the statement that follows the labels places, and the location after it
 unfoldable pub sized : ℕ → List Piece → Result (Option (ℕ × ℕ)) AsmNo
-sized place ps = next (statement_of ps) (λ s. Ok (option_map (λ s. (size_of s, place_after place s)) s))
+sized location ps = next (statement_of ps) (λ s. Ok (option_map (λ s. (size_of s, location_after location s)) s))
 
 -- with the words of a statement, if there is one
 unfoldable pub placed_by : Placed → Option (ℕ × ℕ) → Result Placed AsmNo
 placed_by p None = Ok p
-placed_by p (Some s) = next (take_places p.taken (addresses p.place s.0)) (λ taken. Ok (record { place = s.1; labels = p.labels; taken = taken }))
+placed_by p (Some s) = next (take_addresses p.taken (addresses p.location s.0)) (λ taken. Ok (record { location = s.1; labels = p.labels; taken = taken }))
 
 -- the first pass over a line
 unfoldable pub first_line : Placed → Text → Result Placed AsmNo
 first_line p line =
     next (pieces_of line) (λ ps.
-    next (labelled p.place p.labels ps) (λ l.
-    next (sized p.place l.1) (placed_by (record p { labels = l.0 }))))
+    next (labelled p.location p.labels ps) (λ l.
+    next (sized p.location l.1) (placed_by (record p { labels = l.0 }))))
 
 -- the first pass from line number n on
 unfoldable pub first_pass : ℕ → Placed → List Text → Result Placed AsmRefused

@@ -7,8 +7,8 @@ use Rattle.fp_asm.specs.declared.second.Second.{Second}
 
 -- what the first pass knows, as plain data
 abbrev pub placed_seen : First → Placed
-placed_seen f = record { place = f.place; labels = labels_seen f.labels; taken = f.taken.keys }
+placed_seen f = record { location = f.location; labels = labels_seen f.labels; taken = f.taken.keys }
 
 -- what the second pass knows, as plain data
 abbrev pub written_seen : Second → Written
-written_seen s = record { place = s.place; memory = s.memory.entries }
+written_seen s = record { location = s.location; memory = s.memory.entries }

@@ -8,9 +8,9 @@ use Rattle.rv_decode.specs.Encoding.{low_bits, encoded}
 use Rattle.rv_decode.specs.declared.instruction.Ins.TheVariants.{Branch, Jal}
 use Rattle.fp_asm.specs.Pieces.{Text, Piece, name, colon, pieces_of}
 use Rattle.fp_asm.specs.Operands.{Target, plain, label, Operands}
-use Rattle.fp_asm.specs.Statements.{Statement, statement_of, size_of, place_after}
+use Rattle.fp_asm.specs.Statements.{Statement, statement_of, size_of, location_after}
 use Rattle.fp_asm.specs.Words.{is_within, instruction, halves, load_instructions}
-use Rattle.fp_asm.specs.First.{Labels, place_of}
+use Rattle.fp_asm.specs.First.{Labels, location_of}
 use Rattle.fp_asm.specs.Faults.{next, holds, present, in_line}
 use Rattle.rv_decode.specs.declared.instruction.BranchOp.{BranchOp}
 use Rattle.fp_asm.specs.declared.table.Plain.{Plain}
@@ -28,26 +28,26 @@ after_labels ps = ps
 -- a target as a word, modulo 2^32
 unfoldable pub resolved : Labels → Target → Result ℕ AsmNo
 resolved labels (plain n) = Ok (low_bits 32 n)
-resolved labels (label x n) = next (present no.NoLabel (place_of labels x)) (λ a. Ok ((a + low_bits 32 n) % 2 ^ 32))
+resolved labels (label x n) = next (present no.NoLabel (location_of labels x)) (λ a. Ok ((a + low_bits 32 n) % 2 ^ 32))
 
 -- each target as a word
 unfoldable pub all_resolved : Labels → List Target → Result (List ℕ) AsmNo
 all_resolved labels [] = Ok []
-all_resolved labels (v ∷ vs) = next (resolved labels v) (λ a. next (all_resolved labels vs) (λ places. Ok (a ∷ places)))
+all_resolved labels (v ∷ vs) = next (resolved labels v) (λ a. next (all_resolved labels vs) (λ others. Ok (a ∷ others)))
 
 -- a number that a word holds, with or without sign; a label is one always
 abbrev pub fits_word : Target → Bool
 fits_word (plain n) = is_within (neg_ℤ (pos (2 ^ 31))) (pos (2 ^ 32 - 1)) n
 fits_word (label x n) = true
 
--- the way from a place to an address, modulo 2^32 and read with sign
+-- the way from a location to an address, modulo 2^32 and read with sign
 abbrev pub way : ℕ → ℕ → ℤ
-way place to = sign_extended 32 ((to + (2 ^ 32 - place)) % 2 ^ 32)
+way location to = sign_extended 32 ((to + (2 ^ 32 - location)) % 2 ^ 32)
 
 -- the way that a branch or a jump takes, which has a range, to an address that must be a multiple
 -- of four
 unfoldable pub jump : ℤ → ℤ → ℕ → ℕ → Result ℤ AsmNo
-jump low high place to = holds (is_within low high (way place to)) no.OutOfRange (holds (to % 4 == 0) no.Misaligned (Ok (way place to)))
+jump low high location to = holds (is_within low high (way location to)) no.OutOfRange (holds (to % 4 == 0) no.Misaligned (Ok (way location to)))
 
 -- the word of an instruction that names no address
 unfoldable pub plain_word : Plain → Operands → Result ℕ AsmNo
@@ -55,13 +55,13 @@ plain_word p o = next (present no.OutOfRange (instruction p o)) (λ i. Ok (encod
 
 -- a branch, to addresses from 4,096 bytes before to 4,094 after
 unfoldable pub branch_word : BranchOp → Labels → ℕ → Operands → Result ℕ AsmNo
-branch_word op labels place o =
-    next (resolved labels o.target) (λ to. next (jump (neg_ℤ (pos 4096)) (pos 4094) place to) (λ off. Ok (encoded (Branch op o.rs1 o.rs2 off))))
+branch_word op labels location o =
+    next (resolved labels o.target) (λ to. next (jump (neg_ℤ (pos 4096)) (pos 4094) location to) (λ off. Ok (encoded (Branch op o.rs1 o.rs2 off))))
 
 -- a jump, to addresses from 1,048,576 bytes before to 1,048,574 after
 unfoldable pub jal_word : Labels → ℕ → Operands → Result ℕ AsmNo
-jal_word labels place o =
-    next (resolved labels o.target) (λ to. next (jump (neg_ℤ (pos 1048576)) (pos 1048574) place to) (λ off. Ok (encoded (Jal o.rd off))))
+jal_word labels location o =
+    next (resolved labels o.target) (λ to. next (jump (neg_ℤ (pos 1048576)) (pos 1048574) location to) (λ off. Ok (encoded (Jal o.rd off))))
 
 -- the words that give a register an address
 unfoldable pub address_words : Labels → Operands → Result (List ℕ) AsmNo
@@ -77,41 +77,41 @@ one_word r = next r (λ w. Ok (w ∷ []))
 
 -- the words by what the statement makes
 abbrev pub words_as : Makes → Labels → ℕ → Statement → Result (List ℕ) AsmNo
-words_as (makes.Plain p) labels place s = one_word (plain_word p s.operands)
-words_as (makes.Branch op) labels place s = one_word (branch_word op labels place s.operands)
-words_as makes.Jal labels place s = one_word (jal_word labels place s.operands)
-words_as makes.Li labels place s = Ok (map encoded (load_instructions s.operands.rd (low_bits 32 s.operands.given)))
-words_as makes.La labels place s = address_words labels s.operands
-words_as makes.Words labels place s = value_words labels s.values
-words_as makes.Org labels place s = Ok []
-words_as makes.Space labels place s = Ok (replicate (size_of s) 0)
+words_as (makes.Plain p) labels location s = one_word (plain_word p s.operands)
+words_as (makes.Branch op) labels location s = one_word (branch_word op labels location s.operands)
+words_as makes.Jal labels location s = one_word (jal_word labels location s.operands)
+words_as makes.Li labels location s = Ok (map encoded (load_instructions s.operands.rd (low_bits 32 s.operands.given)))
+words_as makes.La labels location s = address_words labels s.operands
+words_as makes.Words labels location s = value_words labels s.values
+words_as makes.Org labels location s = Ok []
+words_as makes.Space labels location s = Ok (replicate (size_of s) 0)
 
--- the words that a statement makes at a place
+-- the words that a statement makes at a location
 unfoldable pub words_of : Labels → ℕ → Statement → Result (List ℕ) AsmNo
-words_of labels place s = words_as s.makes labels place s
+words_of labels location s = words_as s.makes labels location s
 
 -- the words in memory, by rising address
 abbrev pub Memory : Type 0
 Memory = List (ℕ × ℕ)
 
--- with words from a place on
+-- with words from a location on
 unfoldable pub with_words : Memory → ℕ → List ℕ → Memory
-with_words memory place [] = memory
-with_words memory place (w ∷ ws) = with_words (insert_entry nat_cmp memory place w) ((place + 4) % 2 ^ 32) ws
+with_words memory location [] = memory
+with_words memory location (w ∷ ws) = with_words (insert_entry nat_cmp memory location w) ((location + 4) % 2 ^ 32) ws
 
--- What the second pass knows: the place, and the words so far.
+-- What the second pass knows: the location, and the words so far.
 pub record Written : Type 0 where
-  pub place : ℕ
+  pub location : ℕ
   pub memory : Memory
 
 -- before the first line
 abbrev pub nothing_written : Written
-nothing_written = record { place = 0; memory = [] }
+nothing_written = record { location = 0; memory = [] }
 
 -- with the words of a statement, if there is one
 unfoldable pub written_by : Labels → Written → Option Statement → Result Written AsmNo
 written_by labels w None = Ok w
-written_by labels w (Some s) = next (words_of labels w.place s) (λ ws. Ok (record { place = place_after w.place s; memory = with_words w.memory w.place ws }))
+written_by labels w (Some s) = next (words_of labels w.location s) (λ ws. Ok (record { location = location_after w.location s; memory = with_words w.memory w.location ws }))
 
 -- the second pass over a line
 unfoldable pub second_line : Labels → Written → Text → Result Written AsmNo

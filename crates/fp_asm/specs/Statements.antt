@@ -72,11 +72,11 @@ size_as _ n values = 1
 unfoldable pub size_of : Statement → ℕ
 size_of s = size_as s.makes s.operands.given s.values
 
--- the place after a statement, by what it makes
-abbrev pub place_as : Makes → ℕ → Statement → ℕ
-place_as Org place s = nat_abs s.operands.given
-place_as _ place s = (place + 4 * size_of s) % 2 ^ 32
+-- the location after a statement, by what it makes
+abbrev pub location_as : Makes → ℕ → Statement → ℕ
+location_as Org location s = nat_abs s.operands.given
+location_as _ location s = (location + 4 * size_of s) % 2 ^ 32
 
--- the place after the statement
-unfoldable pub place_after : ℕ → Statement → ℕ
-place_after place s = place_as s.makes place s
+-- the location after the statement
+unfoldable pub location_after : ℕ → Statement → ℕ
+location_after location s = location_as s.makes location s

@@ -61,7 +61,7 @@ fn assemble_lines(alloc: Global, lines: &[&[u8]]) -> Result<Image, AsmRefused>
 /// # Errors
 ///
 /// The first fault of the source, in this order: a source that is too long; the faults of a first
-/// pass over the lines, which knows places and labels; those of a second pass, which knows all
+/// pass over the lines, which knows locations and labels; those of a second pass, which knows all
 /// labels; more than 16 segments. `NoMemory` where memory was refused.
 #[tactic(auto, unfolding(crate::specs::Source::assembled))]
 pub fn assemble(alloc: Global, source: &[u8]) -> Result<Image, AsmRefused>

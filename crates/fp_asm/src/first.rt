@@ -1,15 +1,15 @@
-//! The first pass: labels and places.
+//! The first pass: labels and locations.
 
 ghost use Rattle.std.specs.Prelude.{◌≡◌, ◌≤◌, ◌<◌, ◌^◌, IfOk, IfErr, OnOk, Ok, option_map, map, length, All};
 ghost use Rattle.fp_asm.specs.First.{sized as sized_of, first_line, first_pass as first_pass_of};
 ghost use Rattle.fp_asm.specs.Faults.{IsStopOf, IsFaultOf};
 ghost use Rattle.fp_asm.specs.Views.{piece_seen};
 
+use super::addresses::take_addresses;
 use super::labels::{Labels, add_labels};
 use super::pieces::{Piece, pieces};
-use super::places::take_places;
 use super::refusal::{AsmRefused, Stop};
-use super::size::{place_after, size};
+use super::size::{location_after, size};
 use super::statement::statement_after;
 use std::alloc::Global;
 use std::collections::{BTreeMap, BTreeSet};
@@ -18,22 +18,22 @@ use std::collections::{BTreeMap, BTreeSet};
 #[derive(Drop)]
 pub(crate) struct First<'a> {
     /// The address at which the next word is placed.
-    place: u32,
+    location: u32,
     /// The address of each label.
     pub(crate) labels: Labels<'a>,
     /// The addresses of the words that were placed.
     pub(crate) taken: BTreeSet<u32>,
 }
 
-// How many words the statement that follows the labels places, and the place after it.
+// How many words the statement that follows the labels places, and the location after it.
 #[tactic(auto, unfolding(crate::specs::First::sized))]
-fn sized(alloc: Global, place: u32, pieces: &[Piece]) -> Result<Option<(u32, u32)>, Stop>
+fn sized(alloc: Global, location: u32, pieces: &[Piece]) -> Result<Option<(u32, u32)>, Stop>
     requires { length pieces.now ≤ 64 }
-    ensures ok { IfOk result (λ s. sized_of place (map piece_seen pieces.now) ≡ Ok s) }
-    ensures refused { IfErr result (IsStopOf (sized_of place (map piece_seen pieces.now))) }
+    ensures ok { IfOk result (λ s. sized_of location (map piece_seen pieces.now) ≡ Ok s) }
+    ensures refused { IfErr result (IsStopOf (sized_of location (map piece_seen pieces.now))) }
 {
     match statement_after(alloc, pieces)? {
-        Some(statement) => Ok(Some((size(&statement), place_after(place, &statement)))),
+        Some(statement) => Ok(Some((size(&statement), location_after(location, &statement)))),
         None => Ok(None),
     }
 }
@@ -42,12 +42,12 @@ impl<'a> First<'a> {
     ghost use Rattle.fp_asm.specs.First.{start};
     ghost use Rattle.fp_asm.specs.PassesAsDefined.{placed_seen};
 
-    /// Before the first line: the place is 0, and there is no label and no word.
+    /// Before the first line: the location is 0, and there is no label and no word.
     pub(crate) fn new(alloc: Global) -> First<'a>
         ensures { placed_seen result ≡ start }
     {
         First {
-            place: 0,
+            location: 0,
             labels: BTreeMap::new(alloc),
             taken: BTreeSet::new(alloc),
         }
@@ -61,10 +61,10 @@ impl<'a> First<'a> {
         ensures refused { IfErr result (IsStopOf (first_line (placed_seen self.old) line.now)) }
     {
         let pieces = pieces(alloc, line)?;
-        let n = add_labels(&mut self.labels, self.place, &pieces)?;
-        if let Some((size, after)) = sized(alloc, self.place, &pieces[n..])? {
-            take_places(&mut self.taken, self.place, size)?;
-            self.place = after;
+        let n = add_labels(&mut self.labels, self.location, &pieces)?;
+        if let Some((size, after)) = sized(alloc, self.location, &pieces[n..])? {
+            take_addresses(&mut self.taken, self.location, size)?;
+            self.location = after;
         }
         Ok(())
     }

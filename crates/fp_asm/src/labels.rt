@@ -1,4 +1,4 @@
-//! Labels and their places.
+//! Labels and their locations.
 
 ghost use Rattle.std.specs.Prelude.{◌≡◌, ◌≤◌, ◌+◌, ◌∷◌, IfOk, IfErr, IfSome, IfNone, OnOk, Ok, map, length, drop, false};
 ghost use Rattle.fp_asm.specs.Pieces.{name, colon};
@@ -11,21 +11,21 @@ use super::pieces::Piece;
 use super::refusal::{AsmNo, Stop};
 use std::collections::BTreeMap;
 
-/// The places of labels, whose names are slices of the source.
+/// The locations of labels, whose names are slices of the source.
 pub(crate) type Labels<'a> = BTreeMap<&'a [u8], u32>;
 
 #[tactic(auto, using(crate::proofs::LabelByLabel::label_there, crate::proofs::LabelByLabel::label_new))]
-fn add_label<'a>(labels: &mut Labels<'a>, name: &'a [u8], place: u32) -> Result<(), Stop>
-    ensures ok { OnOk result (with_label place (labels_seen labels.old) name.now
+fn add_label<'a>(labels: &mut Labels<'a>, name: &'a [u8], location: u32) -> Result<(), Stop>
+    ensures ok { OnOk result (with_label location (labels_seen labels.old) name.now
         ≡ Ok (labels_seen labels.new)) }
-    ensures refused { IfErr result (IsStopOf (with_label place (labels_seen labels.old) name.now)) }
+    ensures refused { IfErr result (IsStopOf (with_label location (labels_seen labels.old) name.now)) }
 {
     if labels.contains_key(name) {
         return Err(Stop::Fault {
             code: AsmNo::DoubleLabel,
         });
     }
-    labels.insert(name, place)?;
+    labels.insert(name, location)?;
     Ok(())
 }
 
@@ -42,7 +42,7 @@ fn label_at<'a>(pieces: &[Piece<'a>]) -> Option<&'a [u8]>
     }
 }
 
-// The label at a place of the pieces, where there is one.
+// The label at an index of the pieces, where there is one.
 #[tactic(auto, using(crate::proofs::LabelByLabel::rest_all, crate::proofs::LabelByLabel::two_more))]
 fn label_from<'a>(pieces: &[Piece<'a>], n: usize) -> Option<&'a [u8]>
     requires { n ≤ length pieces.now }
@@ -62,19 +62,19 @@ fn label_from<'a>(pieces: &[Piece<'a>], n: usize) -> Option<&'a [u8]>
 #[tactic(auto, using(crate::proofs::LabelByLabel::labelled_step, crate::proofs::LabelByLabel::stop_step, crate::proofs::LabelByLabel::labelled_none))]
 pub(crate) fn add_labels<'a>(
     labels: &mut Labels<'a>,
-    place: u32,
+    location: u32,
     pieces: &[Piece<'a>],
 ) -> Result<usize, Stop>
-    ensures ok { IfOk result (λ n. labelled place (labels_seen labels.old)
+    ensures ok { IfOk result (λ n. labelled location (labels_seen labels.old)
         (map piece_seen pieces.now) ≡ Ok
         (labels_seen labels.new, map piece_seen (drop n pieces.now))) }
     ensures within { IfOk result (λ n. n ≤ length pieces.now) }
     ensures refused { IfErr result
-        (IsStopOf (labelled place (labels_seen labels.old) (map piece_seen pieces.now))) }
+        (IsStopOf (labelled location (labels_seen labels.old) (map piece_seen pieces.now))) }
 {
     let mut n = 0;
     while let Some(text) = label_from(pieces, n) {
-        if let Err(stop) = add_label(labels, text, place) {
+        if let Err(stop) = add_label(labels, text, location) {
             return Err(stop);
         }
         n += 2;

@@ -1,11 +1,12 @@
 //! The assembler: from a source text to an image, or to the first fault with its line.
 //!
-//! [`assemble`] makes two passes over the lines. The first knows the places of labels and of what
-//! each line places, and the second makes the words. The mnemonics are one table of rows, and the
-//! words are those of `rv_decode`.
+//! [`assemble`] makes two passes over the lines. The first knows the locations of labels and of
+//! what each line places, and the second makes the words. The mnemonics are one table of rows, and
+//! the words are those of `rv_decode`.
 
 #![tactic(auto)]
 
+mod addresses;
 mod assembler;
 mod build;
 mod first;
@@ -17,7 +18,6 @@ mod memory;
 mod names;
 mod operands;
 mod pieces;
-mod places;
 mod refusal;
 mod runs;
 mod second;

@@ -29,7 +29,7 @@ pub enum AsmNo {
     /// A label that is nowhere.
     #[error("an unknown label")]
     NoLabel = 7,
-    /// A place, a size or a branch's address that is no multiple of four.
+    /// A location, a size or a branch's address that is no multiple of four.
     #[error("no multiple of four")]
     Misaligned = 8,
     /// A word outside the scratchpads.

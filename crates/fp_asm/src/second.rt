@@ -12,17 +12,17 @@ use super::labels::{Labels, skip_labels};
 use super::memory::write_words;
 use super::pieces::pieces;
 use super::refusal::{AsmRefused, Stop};
-use super::size::place_after;
+use super::size::location_after;
 use super::statement::{Statement, statement_after};
 use super::words::words_of;
 use std::alloc::Global;
 use std::collections::BTreeMap;
 
-/// What the second pass knows after some lines: the place, and the words by address.
+/// What the second pass knows after some lines: the location, and the words by address.
 #[derive(Drop)]
 pub(crate) struct Second {
     /// The address at which the next word is placed.
-    place: u32,
+    location: u32,
     /// The words that were placed, by address.
     pub(crate) memory: BTreeMap<u32, u32>,
 }
@@ -31,12 +31,12 @@ impl Second {
     ghost use Rattle.fp_asm.specs.Second.{nothing_written};
     ghost use Rattle.fp_asm.specs.PassesAsDefined.{written_seen};
 
-    /// Before the first line: the place is 0, and there is no word.
+    /// Before the first line: the location is 0, and there is no word.
     pub(crate) fn new(alloc: Global) -> Second
         ensures { written_seen result ≡ nothing_written }
     {
         Second {
-            place: 0,
+            location: 0,
             memory: BTreeMap::new(alloc),
         }
     }
@@ -52,18 +52,18 @@ impl Second {
         requires registers { IfSome statement.now (λ s. HasRegisters (operands_seen s.operands)) }
         requires checked { IfSome statement.now (λ s. checked (statement_seen s) ≡ Ok tt) }
         requires few { IfSome statement.now (λ s. length s.values.items ≤ 64) }
-        requires aligned { self.old.place % 4 ≡ 0 }
+        requires aligned { self.old.location % 4 ≡ 0 }
         ensures ok { OnOk result (written_by (labels_seen labels.now) (written_seen self.old)
             (option_map statement_seen statement.now) ≡ Ok (written_seen self.new)) }
-        ensures aligned { OnOk result (self.new.place % 4 ≡ 0) }
+        ensures aligned { OnOk result (self.new.location % 4 ≡ 0) }
         ensures refused { IfErr result
             (IsStopOf (written_by (labels_seen labels.now) (written_seen self.old)
             (option_map statement_seen statement.now))) }
     {
         if let Some(statement) = statement {
-            let words = words_of(alloc, labels, self.place, statement)?;
-            write_words(&mut self.memory, self.place, words.as_slice())?;
-            self.place = place_after(self.place, statement);
+            let words = words_of(alloc, labels, self.location, statement)?;
+            write_words(&mut self.memory, self.location, words.as_slice())?;
+            self.location = location_after(self.location, statement);
         }
         Ok(())
     }
@@ -71,10 +71,10 @@ impl Second {
     #[tactic(auto, unfolding(crate::specs::Second::second_line))]
     fn line(&mut self, alloc: Global, labels: &Labels, line: &[u8]) -> Result<(), Stop>
         requires short { length line.now < 2 ^ 32 }
-        requires aligned { self.old.place % 4 ≡ 0 }
+        requires aligned { self.old.location % 4 ≡ 0 }
         ensures ok { OnOk result (second_line (labels_seen labels.now) (written_seen self.old)
             line.now ≡ Ok (written_seen self.new)) }
-        ensures aligned { OnOk result (self.new.place % 4 ≡ 0) }
+        ensures aligned { OnOk result (self.new.location % 4 ≡ 0) }
         ensures refused { IfErr result
             (IsStopOf (second_line (labels_seen labels.now) (written_seen self.old) line.now)) }
     {
@@ -99,7 +99,7 @@ impl Second {
     ) -> Result<(), AsmRefused>
         requires short { All (λ l. length l.now < 2 ^ 32) lines.now }
         requires few { length lines.now < 2 ^ 31 }
-        requires aligned { self.old.place % 4 ≡ 0 }
+        requires aligned { self.old.location % 4 ≡ 0 }
         ensures ok { OnOk result (second_pass_of 1 (labels_seen labels.now) (written_seen self.old)
             (map (λ l. l.now) lines.now) ≡ Ok (written_seen self.new)) }
         ensures refused { IfErr result

@@ -1,7 +1,7 @@
-//! How many words a statement places, and the place after it.
+//! How many words a statement places, and the location after it.
 
 ghost use Rattle.std.specs.Prelude.{◌≡◌, ◌≤◌, ◌<◌, ◌%◌, ◌^◌, Ok, length, nat_abs};
-ghost use Rattle.fp_asm.specs.Statements.{checked, size_of, place_after as place_after_of};
+ghost use Rattle.fp_asm.specs.Statements.{checked, size_of, location_after as location_after_of};
 ghost use Rattle.fp_asm.specs.OperandsAsDefined.{statement_seen};
 
 use super::instruction::{load_size, low_word};
@@ -33,15 +33,15 @@ pub(crate) fn size(statement: &Statement) -> u32
     }
 }
 
-/// The place after the statement.
-#[tactic(auto, unfolding(crate::specs::Statements::place_after))]
-pub(crate) fn place_after(place: u32, statement: &Statement) -> u32
+/// The location after the statement.
+#[tactic(auto, unfolding(crate::specs::Statements::location_after))]
+pub(crate) fn location_after(location: u32, statement: &Statement) -> u32
     requires checked { checked (statement_seen statement.now) ≡ Ok tt }
     requires few { length statement.now.values.items ≤ 64 }
-    ensures place { result ≡ place_after_of place (statement_seen statement.now) }
+    ensures location { result ≡ location_after_of location (statement_seen statement.now) }
 {
     match statement.makes {
         Makes::Org => magnitude(&statement.operands) as u32,
-        _ => place.wrapping_add(4 * size(statement)),
+        _ => location.wrapping_add(4 * size(statement)),
     }
 }

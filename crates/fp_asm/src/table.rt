@@ -95,7 +95,7 @@ pub(crate) enum Makes {
     La,
     /// Words.
     Words,
-    /// A new place.
+    /// A new location.
     Org,
     /// Zero bytes.
     Space,

@@ -1,7 +1,7 @@
 //! Targets as words.
 
 ghost use Rattle.std.specs.Prelude.{◌≡◌, IfOk, IfErr, Ok, map, pos, neg_ℤ};
-ghost use Rattle.fp_asm.specs.First.{place_of as place_of_label};
+ghost use Rattle.fp_asm.specs.First.{location_of as location_of_label};
 ghost use Rattle.fp_asm.specs.Second.{resolved, all_resolved, fits_word as fits_word_of};
 ghost use Rattle.std.specs.List.{list_all};
 ghost use Rattle.fp_asm.specs.Faults.{IsStopOf};
@@ -14,10 +14,10 @@ use super::operands::Target;
 use super::refusal::{AsmNo, Stop};
 use std::alloc::Global;
 
-// The place of a label.
-#[tactic(auto, using(crate::proofs::LabelByLabel::place_seen))]
-fn place_of(labels: &Labels, name: &[u8]) -> Option<u32>
-    ensures { result ≡ place_of_label (labels_seen labels.now) name.now }
+// The location of a label.
+#[tactic(auto, using(crate::proofs::LabelByLabel::location_seen))]
+fn location_of(labels: &Labels, name: &[u8]) -> Option<u32>
+    ensures { result ≡ location_of_label (labels_seen labels.now) name.now }
 {
     labels.get(name).copied()
 }
@@ -33,8 +33,8 @@ pub(crate) fn resolve(labels: &Labels, target: &Target) -> Result<u32, AsmNo>
 {
     match target {
         Target::Plain { number } => Ok(low_word(*number)),
-        Target::Label { name, plus } => match place_of(labels, *name) {
-            Some(place) => Ok(place.wrapping_add(low_word(*plus))),
+        Target::Label { name, plus } => match location_of(labels, *name) {
+            Some(location) => Ok(location.wrapping_add(low_word(*plus))),
             None => Err(AsmNo::NoLabel),
         },
     }

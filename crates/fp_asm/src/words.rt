@@ -22,21 +22,21 @@ use super::targets::{all_fit, fits_word, resolve, resolve_all};
 use rv_decode::{BranchOp, Ins, encode};
 use std::alloc::Global;
 
-fn way(place: u32, to: u32) -> i32
-    ensures { result ≡ way_of place to }
+fn way(location: u32, to: u32) -> i32
+    ensures { result ≡ way_of location to }
 {
-    to.wrapping_sub(place).cast_signed()
+    to.wrapping_sub(location).cast_signed()
 }
 
-// The way from a place to an address, which must be in a range and lead to a multiple of four.
+// The way from a location to an address, which must be in a range and lead to a multiple of four.
 #[tactic(auto, using(crate::proofs::Ways::way_even), unfolding(crate::specs::Second::jump))]
-fn jump(low: i32, high: i32, place: u32, to: u32) -> Result<i32, AsmNo>
-    requires { place % 4 ≡ 0 }
-    ensures way { result ≡ jump_of low high place to }
+fn jump(low: i32, high: i32, location: u32, to: u32) -> Result<i32, AsmNo>
+    requires { location % 4 ≡ 0 }
+    ensures way { result ≡ jump_of low high location to }
     ensures within { IfOk result (λ off. (low ≤ℤ off) × (off ≤ℤ high)) }
     ensures even { IfOk result IsEven }
 {
-    let off = way(place, to);
+    let off = way(location, to);
     if off < low || off > high {
         return Err(AsmNo::OutOfRange);
     }
@@ -58,13 +58,13 @@ fn plain(plain: Plain, operands: &Operands) -> Result<u32, AsmNo>
 }
 
 #[tactic(auto, unfolding(crate::specs::Second::branch_word))]
-fn branch(op: BranchOp, labels: &Labels, place: u32, operands: &Operands) -> Result<u32, AsmNo>
+fn branch(op: BranchOp, labels: &Labels, location: u32, operands: &Operands) -> Result<u32, AsmNo>
     requires registers { HasRegisters (operands_seen operands.now) }
-    requires aligned { place % 4 ≡ 0 }
-    ensures { result ≡ branch_word op (labels_seen labels.now) place (operands_seen operands.now) }
+    requires aligned { location % 4 ≡ 0 }
+    ensures { result ≡ branch_word op (labels_seen labels.now) location (operands_seen operands.now) }
 {
     let to = resolve(labels, &operands.target)?;
-    let off = jump(-4096, 4094, place, to)?;
+    let off = jump(-4096, 4094, location, to)?;
     Ok(encode(&Ins::Branch {
         op,
         rs1: operands.rs1,
@@ -74,13 +74,13 @@ fn branch(op: BranchOp, labels: &Labels, place: u32, operands: &Operands) -> Res
 }
 
 #[tactic(auto, unfolding(crate::specs::Second::jal_word))]
-fn jal(labels: &Labels, place: u32, operands: &Operands) -> Result<u32, AsmNo>
+fn jal(labels: &Labels, location: u32, operands: &Operands) -> Result<u32, AsmNo>
     requires registers { HasRegisters (operands_seen operands.now) }
-    requires aligned { place % 4 ≡ 0 }
-    ensures { result ≡ jal_word (labels_seen labels.now) place (operands_seen operands.now) }
+    requires aligned { location % 4 ≡ 0 }
+    ensures { result ≡ jal_word (labels_seen labels.now) location (operands_seen operands.now) }
 {
     let to = resolve(labels, &operands.target)?;
-    let off = jump(-1_048_576, 1_048_574, place, to)?;
+    let off = jump(-1_048_576, 1_048_574, location, to)?;
     Ok(encode(&Ins::Jal {
         rd: operands.rd,
         off,
@@ -129,7 +129,7 @@ fn one_word(alloc: Global, word: Result<u32, AsmNo>) -> Result<Vec<u32>, Stop>
     Ok(vec![in alloc; word]?)
 }
 
-/// The words that a statement makes at a place.
+/// The words that a statement makes at a location.
 ///
 /// # Errors
 ///
@@ -139,24 +139,24 @@ fn one_word(alloc: Global, word: Result<u32, AsmNo>) -> Result<Vec<u32>, Stop>
 pub(crate) fn words_of(
     alloc: Global,
     labels: &Labels,
-    place: u32,
+    location: u32,
     statement: &Statement,
 ) -> Result<Vec<u32>, Stop>
     requires registers { HasRegisters (operands_seen statement.now.operands) }
     requires checked { checked (statement_seen statement.now) ≡ Ok tt }
     requires few { length statement.now.values.items ≤ 64 }
-    requires aligned { place % 4 ≡ 0 }
-    ensures words { IfOk result (λ words. words_of_statement (labels_seen labels.now) place
+    requires aligned { location % 4 ≡ 0 }
+    ensures words { IfOk result (λ words. words_of_statement (labels_seen labels.now) location
         (statement_seen statement.now) ≡ Ok words.items) }
     ensures refused { IfErr result
-        (IsStopOf (words_of_statement (labels_seen labels.now) place
+        (IsStopOf (words_of_statement (labels_seen labels.now) location
         (statement_seen statement.now))) }
 {
     let operands = &statement.operands;
     match statement.makes {
         Makes::Plain(makes) => one_word(alloc, plain(makes, operands)),
-        Makes::Branch(op) => one_word(alloc, branch(op, labels, place, operands)),
-        Makes::Jal => one_word(alloc, jal(labels, place, operands)),
+        Makes::Branch(op) => one_word(alloc, branch(op, labels, location, operands)),
+        Makes::Jal => one_word(alloc, jal(labels, location, operands)),
         Makes::Li => Ok(load_words(alloc, operands.rd, low_word(operands.given))?),
         Makes::La => address(alloc, labels, operands),
         Makes::Words => values(alloc, labels, statement.values.as_slice()),

@@ -57,7 +57,7 @@ abbrev pub total_len : List Segment → ℕ
 total_len [] = 0
 total_len (s ∷ more) = length s.bytes + total_len more
 
--- the bytes that are left in both scratchpads from a place on
+-- the bytes that are left in both scratchpads from an offset on
 abbrev room : ℕ → ℕ → ℕ
 room size from = (size - from) + (size - (from - 0x20000000))
 

@@ -18,16 +18,16 @@ longest size = if size == 16384 then 34816 else 139264
 
 -- a number of the file
 abbrev pub number_at : ℕ → List ℕ → ℕ
-number_at place bytes = little_number 4 (drop place bytes)
+number_at offset bytes = little_number 4 (drop offset bytes)
 
--- A check of the file: whether it fails, and the fault and the place in the file that it then
+-- A check of the file: whether it fails, and the fault and the offset in the file that it then
 -- gives.
 pub record Check : Type 0 where
   pub fails : Bool
   pub code : ImageNo
   pub offset : ℕ
 
--- a check by whether it fails, its fault and the place that tells it
+-- a check by whether it fails, its fault and the offset that tells it
 abbrev pub check : Bool → ImageNo → ℕ → Check
 check fails code offset = record { fails = fails; code = code; offset = offset }
 

@@ -31,8 +31,8 @@ pub enum ImageNo {
 /// Why an image was not read.
 #[derive(Clone, Copy, Debug, PartialEq, Eq, Error)]
 pub enum ImageRefused {
-    /// The first fault of the file, and the place in the file that tells it: 0 for the whole file,
-    /// the file's length where it ends too early, the place of the number of segments or of a
+    /// The first fault of the file, and the offset in the file that tells it: 0 for the whole file,
+    /// the file's length where it ends too early, the offset of the number of segments or of a
     /// segment's address field where that is at fault, and of the first byte that is too many.
     #[error("{code} (byte {offset})")]
     Fault { code: ImageNo, offset: u32 },
@@ -41,7 +41,7 @@ pub enum ImageRefused {
     NoMemory,
 }
 
-/// A refusal with the offset of its place.
+/// A refusal with its offset.
 pub(crate) fn fault(code: ImageNo, offset: u32) -> ImageRefused
     ensures { result ≡ ImageRefused.Fault code offset }
 {

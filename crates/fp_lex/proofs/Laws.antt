@@ -33,7 +33,7 @@ none line from n = record { texts = all_none line; rising = tt; few = λ h. omeg
 left : (line : List ℕ) (i b : ℕ) (bs : List ℕ) → drop i line ≡ b ∷ bs → drop (i + 1) line ≡ bs
 left line i b bs h = sym (drop-drop 1 i line) ∙ ap (drop 1) h
 
--- a place that has a byte is inside
+-- an index that has a byte is inside
 placed : (line : List ℕ) (i b : ℕ) (bs : List ℕ) → drop i line ≡ b ∷ bs → i + length (b ∷ bs) ≡ length line
 placed line i b bs h = let size : length line - i ≡ suc (length bs) = sym (length-drop i line) ∙ ap length h in omega (arith, size)
 

@@ -48,7 +48,7 @@ token_at i b bs =
 abbrev pub counted : ℕ → Token → Result Token LexNo
 counted n t = if nat_lt n 64 then Ok t else Err no.TooMany
 
--- the token at a place of the line after n others
+-- the token at an index of the line after n others
 unfoldable pub token_in : List ℕ → ℕ → ℕ → Result Token LexNo
 token_in line i n = next (token_at i (get_or line i 0) (drop (i + 1) line)) (counted n)
 

@@ -1,8 +1,8 @@
-//! The token at a place of a line.
+//! The token at an index of a line.
 
 ghost use Rattle.std.specs.Prelude.{◌≡◌, ◌+◌, ◌≤◌, ◌<◌, ◌^◌, IfOk, length, drop, get_or};
 ghost use Rattle.fp_lex.specs.Bytes.{is_digit as is_digit_of, is_hex as is_hex_of, is_head as is_head_of, is_rest as is_rest_of, run, starts};
-ghost use Rattle.fp_lex.specs.Tokens.{is_prefixed as is_prefixed_of, digits_at as digits_of, number_at as number_token, token_at as token_of, counted as counted_of, token_in as token_of_place};
+ghost use Rattle.fp_lex.specs.Tokens.{is_prefixed as is_prefixed_of, digits_at as digits_of, number_at as number_token, token_at as token_of, counted as counted_of, token_in as token_of_index};
 
 use super::bytes::{is_digit, is_head, is_hex, is_mark, is_rest};
 use super::number::number;
@@ -121,7 +121,7 @@ fn counted(n: usize, token: Token) -> Result<Token, LexNo>
     }
 }
 
-/// The token at a place of the line that is no blank and begins no comment, after n others.
+/// The token at an index of the line that is no blank and begins no comment, after n others.
 ///
 /// # Errors
 ///
@@ -130,7 +130,7 @@ fn counted(n: usize, token: Token) -> Result<Token, LexNo>
 pub(crate) fn token_in(line: &[u8], i: usize, n: usize) -> Result<Token, LexNo>
     requires short { length line.now < 2 ^ 32 }
     requires inside { i < length line.now }
-    ensures token { result ≡ token_of_place line.now i n }
+    ensures token { result ≡ token_of_index line.now i n }
     ensures end { IfOk result (λ t. (i < t.end) × (t.end ≤ length line.now)) }
 {
     let token = token_at(i as u32, &line[i..])?;

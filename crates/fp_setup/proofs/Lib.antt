@@ -1,9 +1,9 @@
 pub mod Digits
 pub mod Lists
-pub mod Placed
+pub mod RowPut
 pub mod TopTable
 pub mod PlainThreads
-pub mod PlaceLaws
+pub mod KeyPathLaws
 pub mod InputByInput
 pub mod TwoChecks
 pub mod ThreadTable

@@ -10,7 +10,7 @@ use Rattle.fp_setup.specs.declared.thread_list.ThreadSetup.{ThreadSetup}
 use Rattle.fp_setup.specs.Threads.{IsThread}
 use Rattle.fp_setup.specs.SetupOfTables.{the_threads}
 use Rattle.fp_setup.specs.Plain.{is_entry, plain_at}
-use Rattle.fp_setup.proofs.Placed.{thread_at}
+use Rattle.fp_setup.proofs.RowPut.{thread_at}
 
 -- each of them keeps the rules, and starts in the scratchpad of version 1
 pub rules_at : (entries : List ℕ) (confined : List Bool) (k : ℕ) → k < length entries → list_all is_entry entries ≡ true

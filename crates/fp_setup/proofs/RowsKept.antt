@@ -6,12 +6,12 @@ use Rattle.std.proofs.lemmas.List.{length-map}
 use Rattle.std.proofs.lemmas.List.Elements.{All-nil, All-cons, All-head, All-tail, All-weaker, All-map}
 use Rattle.std.proofs.lemmas.List.Sums.{list_all-from_AllPass}
 use Rattle.toml.specs.Data.{Data, Members, no_members, as_table, get_member}
-use Rattle.fp_setup.specs.declared.refusal.Place.{Place}
+use Rattle.fp_setup.specs.declared.refusal.KeyPath.{KeyPath}
 use Rattle.fp_setup.specs.declared.refusal.SetupNo.TheVariants as no
 use Rattle.fp_setup.specs.declared.loop_list.LoopSetup.{LoopSetup}
 use Rattle.fp_setup.specs.declared.thread_list.ThreadSetup.{ThreadSetup}
 use Rattle.fp_setup.specs.declared.vocabulary.Words.TheVariants.{Modes}
-use Rattle.fp_setup.specs.Faults.{at_place, key_of, loop_row, thread_row}
+use Rattle.fp_setup.specs.Faults.{fault_at, key_of, loop_row, thread_row}
 use Rattle.fp_setup.specs.Inputs.{AreInputs}
 use Rattle.fp_setup.specs.Loops.{AreLoops, IsLoop}
 use Rattle.fp_setup.specs.Threads.{AreThreads, IsThread}
@@ -23,7 +23,7 @@ use Rattle.fp_setup.specs.Tables.{Around, integers, addresses, value_check, keys
 use Rattle.fp_setup.specs.SetupOfTables.{id_at, loop_of, mode_at, modes_of, named, said_of, table_of, the_threads, thread_of, threads_of, unnamed, unnamed_mode, word_of}
 use Rattle.fp_setup.proofs.Digits.{word_of-small}
 use Rattle.fp_setup.proofs.LoopTable.{is_loop, last_inside}
-use Rattle.fp_setup.proofs.Placed.{unnamed-rules}
+use Rattle.fp_setup.proofs.RowPut.{unnamed-rules}
 use Rattle.fp_setup.proofs.ThreadTable.{entry_inside, is_thread}
 use Rattle.fp_setup.proofs.ValuesKept.{inputs-kept, integer-kept, moment-kept, needed-kept, optional-kept, parts, permit-kept, some-fault, word-kept}
 
@@ -33,7 +33,7 @@ record IsRow (size : ℕ) (ms : Members) : Type 0 where
   thread : IsThread (thread_of ms)
   inside : (thread_of ms).entry < size
 
-thread-table : (size : ℕ) (ids : List ℕ) (row : Place) (ms : Members) → 4 ≤ size → size ≤ 65536 → thread_table_fault size ids row ms ≡ None → IsRow size ms
+thread-table : (size : ℕ) (ids : List ℕ) (row : KeyPath) (ms : Members) → 4 ≤ size → size ≤ 65536 → thread_table_fault size ids row ms ≡ None → IsRow size ms
 unfolding thread_table_fault thread_of
 thread-table size ids row ms low high h =
     let around : Around = record { size = size; table = ms; ids = ids } in
@@ -62,8 +62,8 @@ thread-table size ids row ms low high h =
       inside = entry_inside size (number_at (codes "entry") ms) low starts;
     }
 
-thread-in : (size : ℕ) (ids : List ℕ) (row : Place) (o : Option Members) → 4 ≤ size → size ≤ 65536 → thread_fault size ids row o ≡ None → IsRow size (unwrap_or o no_members)
-thread-in size ids row None low high h = absurd (some-fault (at_place no.WrongType row) h)
+thread-in : (size : ℕ) (ids : List ℕ) (row : KeyPath) (o : Option Members) → 4 ≤ size → size ≤ 65536 → thread_fault size ids row o ≡ None → IsRow size (unwrap_or o no_members)
+thread-in size ids row None low high h = absurd (some-fault (fault_at no.WrongType row) h)
 thread-in size ids row (Some ms) low high h = thread-table size ids row ms low high h
 
 rows-kept : (size index : ℕ) (ids : List ℕ) (ds : List Data) → 4 ≤ size → size ≤ 65536 → threads_from size index ids ds ≡ None → All (IsRow size) (map members ds)
@@ -112,7 +112,7 @@ record IsLoopIn (size : ℕ) (l : LoopSetup) : Type 0 where
   is : IsLoop l
   inside : l.last < size
 
-loop-table : (size : ℕ) (row : Place) (ms : Members) → 4 ≤ size → loop_table_fault size row ms ≡ None → IsLoopIn size (loop_of ms)
+loop-table : (size : ℕ) (row : KeyPath) (ms : Members) → 4 ≤ size → loop_table_fault size row ms ≡ None → IsLoopIn size (loop_of ms)
 unfolding loop_table_fault loop_of
 loop-table size row ms low h =
     let around : Around = record { size = size; table = ms; ids = [] } in
@@ -135,8 +135,8 @@ loop-table size row ms low h =
       inside = last_inside size first (number_at (codes "last") ms) low ends;
     }
 
-loop-in : (size : ℕ) (row : Place) (o : Option Members) → 4 ≤ size → loop_fault size row o ≡ None → IsLoopIn size (loop_of (unwrap_or o no_members))
-loop-in size row None low h = absurd (some-fault (at_place no.WrongType row) h)
+loop-in : (size : ℕ) (row : KeyPath) (o : Option Members) → 4 ≤ size → loop_fault size row o ≡ None → IsLoopIn size (loop_of (unwrap_or o no_members))
+loop-in size row None low h = absurd (some-fault (fault_at no.WrongType row) h)
 loop-in size row (Some ms) low h = loop-table size row ms low h
 
 loops-in : (size index : ℕ) (ds : List Data) → 4 ≤ size → loops_from size index ds ≡ None → All (IsLoopIn size) (map loop_of (map members ds))

@@ -3,7 +3,7 @@ use Rattle.std.specs.Prelude.{◌≡◌, Option, Some, None, Result, Ok, Err}
 use Rattle.fp_setup.specs.declared.refusal.Fault.{Fault}
 use Rattle.fp_setup.specs.declared.refusal.SetupRefused.{SetupRefused}
 use Rattle.fp_setup.specs.declared.refusal.SetupRefused.TheVariants as refused
-use Rattle.fp_setup.specs.Faults.{at_place}
+use Rattle.fp_setup.specs.Faults.{fault_at}
 
 abbrev pub IsRead : {A : Type 0} → Result A Fault → Option Fault → A → Type 0
 IsRead (Ok x) found value = (found ≡ None) × (x ≡ value)
@@ -11,7 +11,7 @@ IsRead (Err e) found value = found ≡ Some e
 
 -- a refusal for another cause than memory is the fault that was found
 abbrev pub IsFound : SetupRefused → Option Fault → Type 0
-IsFound (refused.Fault code place) found = found ≡ Some (at_place code place)
+IsFound (refused.Fault code path) found = found ≡ Some (fault_at code path)
 IsFound refused.NoMemory found = Unit {0}
 
 -- the same where memory may be refused

@@ -34,7 +34,7 @@ pub enum SetupNo {
 
 /// Where a fault stands in a setup.
 #[derive(Clone, Copy, Debug, PartialEq, Eq)]
-pub struct Place {
+pub struct KeyPath {
     /// 0 for the file as a whole, 1 for the top table, 2 for a `thread` table, 3 for a `loop`
     /// table.
     pub table: u8,
@@ -46,49 +46,49 @@ pub struct Place {
     pub item: u32,
 }
 
-impl Place {
+impl KeyPath {
     ghost use Rattle.std.specs.Prelude.{◌≡◌, ◌+◌, ◌<◌, ◌^◌};
-    ghost use Rattle.fp_setup.specs.Faults.{no_place, top, thread_row, loop_row, key_of, element_of};
+    ghost use Rattle.fp_setup.specs.Faults.{no_path, top, thread_row, loop_row, key_of, element_of};
 
     /// The file as a whole.
-    pub(crate) fn none() -> Place
-        ensures { result ≡ no_place }
+    pub(crate) fn none() -> KeyPath
+        ensures { result ≡ no_path }
     {
-        Place::table(0, 0)
+        KeyPath::table(0, 0)
     }
 
     /// The top table.
-    pub(crate) fn top() -> Place
+    pub(crate) fn top() -> KeyPath
         ensures { result ≡ top }
     {
-        Place::table(1, 0)
+        KeyPath::table(1, 0)
     }
 
     /// The value of a key of the top table, by the key's number.
-    pub(crate) fn top_key(key: u8) -> Place
+    pub(crate) fn top_key(key: u8) -> KeyPath
         ensures { result ≡ key_of top key }
     {
-        Place::top().key(key)
+        KeyPath::top().key(key)
     }
 
     /// A table of a thread.
-    pub(crate) fn thread(row: u32) -> Place
+    pub(crate) fn thread(row: u32) -> KeyPath
         ensures { result ≡ thread_row row }
     {
-        Place::table(2, row)
+        KeyPath::table(2, row)
     }
 
     /// A table of a loop.
-    pub(crate) fn of_loop(row: u32) -> Place
+    pub(crate) fn of_loop(row: u32) -> KeyPath
         ensures { result ≡ loop_row row }
     {
-        Place::table(3, row)
+        KeyPath::table(3, row)
     }
 
-    fn table(table: u8, row: u32) -> Place
+    fn table(table: u8, row: u32) -> KeyPath
         ensures { result ≡ record { table = table; row = row; key = 0; item = 0 } }
     {
-        Place {
+        KeyPath {
             table,
             row,
             key: 0,
@@ -97,10 +97,10 @@ impl Place {
     }
 
     /// The value of a key of this table, by the key's number.
-    pub(crate) fn key(self, key: u8) -> Place
+    pub(crate) fn key(self, key: u8) -> KeyPath
         ensures { result ≡ key_of self key }
     {
-        Place {
+        KeyPath {
             table: self.table,
             row: self.row,
             key,
@@ -109,11 +109,11 @@ impl Place {
     }
 
     /// An element of the list that stands here.
-    pub(crate) fn element(self, index: u32) -> Place
+    pub(crate) fn element(self, index: u32) -> KeyPath
         requires { index + 1 < 2 ^ 32 }
         ensures { result ≡ element_of self index }
     {
-        Place {
+        KeyPath {
             table: self.table,
             row: self.row,
             key: self.key,
@@ -122,31 +122,31 @@ impl Place {
     }
 }
 
-/// A fault of a setup with its place.
+/// A fault of a setup with its path.
 #[derive(Clone, Copy, Debug, PartialEq, Eq)]
 pub struct Fault {
     pub code: SetupNo,
-    pub place: Place,
+    pub path: KeyPath,
 }
 
 impl Fault {
     ghost use Rattle.std.specs.Prelude.{◌≡◌};
-    ghost use Rattle.fp_setup.specs.Faults.{at_place};
+    ghost use Rattle.fp_setup.specs.Faults.{fault_at};
 
-    /// A fault at a place.
-    pub(crate) fn new(code: SetupNo, place: Place) -> Fault
-        ensures { result ≡ at_place code place }
+    /// A fault at a path.
+    pub(crate) fn new(code: SetupNo, path: KeyPath) -> Fault
+        ensures { result ≡ fault_at code path }
     {
-        Fault { code, place }
+        Fault { code, path }
     }
 }
 
 /// Why no setup was read.
 #[derive(Clone, Copy, Debug, PartialEq, Eq, Error)]
 pub enum SetupRefused {
-    /// The setup's first fault and its place.
-    #[error("setup fault {code:?} at {place:?}")]
-    Fault { code: SetupNo, place: Place },
+    /// The setup's first fault and its path.
+    #[error("setup fault {code:?} at {path:?}")]
+    Fault { code: SetupNo, path: KeyPath },
     /// Memory was refused. Among the numbers of refusals this is 13.
     #[error("out of memory")]
     NoMemory,
@@ -156,12 +156,12 @@ impl From<Fault> for SetupRefused {
     ghost use Rattle.std.specs.Prelude.{◌≡◌};
     ghost use Rattle.fp_setup.specs.declared.refusal.SetupRefused.{SetupRefused};
 
-    ghost from_gives = { λ f r. r ≡ SetupRefused.Fault f.code f.place };
+    ghost from_gives = { λ f r. r ≡ SetupRefused.Fault f.code f.path };
 
     fn from(fault: Fault) -> SetupRefused {
         SetupRefused::Fault {
             code: fault.code,
-            place: fault.place,
+            path: fault.path,
         }
     }
 }

@@ -4,7 +4,7 @@ ghost use Rattle.std.specs.Prelude.{◌≡◌, ◌<◌, ◌≤◌, ◌==◌, len
 ghost use Rattle.std.specs.List.{All, list_all, list_any};
 ghost use Rattle.toml.specs.Data.{Data, as_table, get_member};
 ghost use Rattle.toml.specs.View.{table_view, view};
-ghost use Rattle.fp_setup.specs.declared.refusal.Place.{Place};
+ghost use Rattle.fp_setup.specs.declared.refusal.KeyPath.{KeyPath};
 ghost use Rattle.fp_setup.specs.declared.thread_list.ThreadSetup.{ThreadSetup};
 ghost use Rattle.fp_setup.specs.Threads.{AreThreads, IsThread};
 ghost use Rattle.fp_setup.specs.Values.{as_list, elements, elements_at, members};
@@ -20,7 +20,7 @@ use crate::keys::{
     member, needed_fresh, needed_integer, needed_word, no_other_key, optional_integer,
     permit_or_false, truth_or_false,
 };
-use crate::refusal::{Place, SetupNo, SetupRefused};
+use crate::refusal::{KeyPath, SetupNo, SetupRefused};
 use crate::thread_list::{ThreadSetup, Threads};
 use crate::values::list;
 use crate::vocabulary::Words;
@@ -98,7 +98,7 @@ fn thread_table(
     table: &Table,
     size: u32,
     ids: &[u8],
-    row: Place,
+    row: KeyPath,
 ) -> Result<ThreadRow, SetupRefused>
     requires low { 4 ≤ size }
     requires high { size ≤ 65536 }
@@ -138,7 +138,7 @@ fn thread_in(
     value: &Value,
     size: u32,
     ids: &[u8],
-    row: Place,
+    row: KeyPath,
 ) -> Result<ThreadRow, SetupRefused>
     requires low { 4 ≤ size }
     requires high { size ≤ 65536 }
@@ -155,7 +155,7 @@ fn thread_in(
         Some(table) => thread_table(alloc, table, size, ids, row),
         None => Err(SetupRefused::Fault {
             code: SetupNo::WrongType,
-            place: row,
+            path: row,
         }),
     }
 }
@@ -180,7 +180,7 @@ fn threads_in(alloc: Global, items: &[Value], size: u32) -> Result<ThreadRows, S
             value,
             size,
             &ids[..index],
-            Place::thread(index as u32),
+            KeyPath::thread(index as u32),
         )?;
         ids[index] = row.id;
         rows.put(row);
@@ -194,12 +194,12 @@ fn threads(
     alloc: Global,
     value: &Value,
     size: u32,
-    place: Place,
+    path: KeyPath,
 ) -> Result<ThreadRows, SetupRefused>
     requires low { 4 ≤ size }
     requires high { size ≤ 65536 }
     ensures read { IsReadInMemory result
-        (list_check 8 (threads_fault size) place (view value.now))
+        (list_check 8 (threads_fault size) path (view value.now))
         (rows_of (map members (elements (view value.now)))) }
     ensures modes { IfOk result (λ r. list_all (λ n. nat_lt n 4) r.modes ≡ true) }
     ensures rules { IfOk result (λ r. AreThreads r.threads) }
@@ -208,13 +208,13 @@ fn threads(
     let Some(items) = list(value) else {
         return Err(SetupRefused::Fault {
             code: SetupNo::WrongType,
-            place,
+            path,
         });
     };
     if items.len() > MOST_ROWS {
         return Err(SetupRefused::Fault {
             code: SetupNo::TooMany,
-            place,
+            path,
         });
     }
     threads_in(alloc, items, size)
@@ -238,12 +238,12 @@ pub(crate) fn threads_or_none(
     table: &Table,
     key: &str,
     size: u32,
-    place: Place,
+    path: KeyPath,
 ) -> Result<ThreadRows, SetupRefused>
     requires low { 4 ≤ size }
     requires high { size ≤ 65536 }
     ensures read { IsReadInMemory result
-        (key_fault (list_check 8 (threads_fault size)) false place
+        (key_fault (list_check 8 (threads_fault size)) false path
         (get_member key.now (table_view table.now)))
         (rows_of (map members (elements_at key.now (table_view table.now)))) }
     ensures modes { IfOk result (λ r. list_all (λ n. nat_lt n 4) r.modes ≡ true) }
@@ -251,7 +251,7 @@ pub(crate) fn threads_or_none(
     ensures inside { IfOk result (λ r. All (λ (t : ThreadSetup). t.entry < size) r.threads) }
 {
     match member(table, key) {
-        Some(value) => threads(alloc, value, size, place),
+        Some(value) => threads(alloc, value, size, path),
         None => Ok(no_threads(alloc)),
     }
 }

@@ -18,13 +18,13 @@ use Rattle.hart_exec.specs.declared.outcome.Onward.{Onward}
 use Rattle.hart_exec.specs.declared.outcome.Onward.TheVariants.{NextWord, LateValue, Elsewhere}
 use Rattle.hart_exec.specs.declared.control.Access.{Access}
 
--- after how many cycles the hart's next instruction may issue
+-- after how many cycles the thread's next instruction may issue
 abbrev pub lag_of : Onward → ℕ
 lag_of NextWord = 1
 lag_of LateValue = 2
 lag_of Elsewhere = 3
 
--- what is known once an instruction is executed, with the hart as it left it
+-- what is known once an instruction is executed, with the thread as it left it
 abbrev pub did : Own → Executed → Did
 did own x = record { pc = x.pc; own = own; lag = lag_of x.onward; word = x.word; address = x.address; effect = x.effect }
 
@@ -47,7 +47,7 @@ abbrev pub IsPlain : Option Effect → Type 0
 IsPlain (Some (Csr csr value rd old)) = ⊥
 IsPlain _ = Unit {0}
 
--- whether an instruction whose result has no trap leaves what its hart owns, and doesn't go by it
+-- whether an instruction whose result has no trap leaves what its thread owns, and doesn't go by it
 unfoldable pub is_plain : Around → Outcome → Ins → Bool
 is_plain a o (row.Lui rd imm) = true
 is_plain a o (row.Auipc rd imm) = true

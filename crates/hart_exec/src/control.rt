@@ -7,7 +7,7 @@ ghost use Rattle.core_model.specs.Control.{csr_value, changed, may_hold, kept, w
 ghost use Rattle.core_model.specs.Issue.{csr_op, csr_operand, csr_writes};
 ghost use Rattle.hart_exec.specs.AsDefined.{did, IsShowable, IsAlignedStore};
 
-use crate::outcome::{Executed, Onward, Place};
+use crate::outcome::{Executed, Onward, PcWord};
 use crate::parts::{go_on, trap, write_to};
 use core_model::{CsrOp, Own};
 use region_guard::Regions;
@@ -53,7 +53,7 @@ impl Access {
 }
 
 /// The value of register `csr`, before any write. `shared` is that of 0x7C0 to 0x7C3, None where
-/// the hart has no permit. None exactly where `csr` is the number of no register, or is one of
+/// the thread has no permit. None exactly where `csr` is the number of no register, or is one of
 /// those and `shared` is None.
 pub fn value_of(own: &Own, thread: u8, csr: u16, shared: Option<u32>) -> Option<u32>
     ensures { result ≡ csr_value thread own.now csr shared }
@@ -84,7 +84,7 @@ pub fn change(op: CsrOp, old: u32, operand: u32) -> u32
 /// Whether a register may hold a word. mhartid takes none; slots, modes and regions take those
 /// whose fields all have a meaning, the others every word.
 #[tactic(auto, unfolding(core_model::specs::Control::may_hold))]
-pub fn can_hold(csr: u16, word: u32) -> bool
+pub fn may_hold(csr: u16, word: u32) -> bool
     ensures { result ≡ may_hold csr word }
 {
     match csr {
@@ -107,7 +107,7 @@ pub fn keep(csr: u16, word: u32) -> u32
     }
 }
 
-/// Puts a value into one of the hart's own registers; other numbers change nothing of it.
+/// Puts a value into one of the thread's own registers; other numbers change nothing of it.
 pub fn put(own: &mut Own, csr: u16, value: u32)
     ensures { own.new ≡ with_csr own.old csr value }
 {
@@ -124,7 +124,7 @@ pub fn put(own: &mut Own, csr: u16, value: u32)
 #[tactic(auto, unfolding(core_model::specs::Control::csr_access))]
 pub fn access_csr(
     own: &mut Own,
-    at: Place,
+    at: PcWord,
     thread: u8,
     rd: u8,
     csr: u16,
@@ -147,7 +147,7 @@ pub fn access_csr(
         return go_on(at, Onward::Elsewhere, write_to(rd, old));
     }
     let word = change(wanted.op, old, wanted.operand);
-    if !can_hold(csr, word) {
+    if !may_hold(csr, word) {
         return trap(own, at, 2);
     }
     let value = keep(csr, word);

@@ -1,6 +1,6 @@
-//! What one hart does with an instruction: its timer, its trap registers and its sleep moment, over
-//! surroundings that answer what the instruction may do. The values of loads, multiplications and
-//! divisions come late, from [`finish`].
+//! What one thread does with an instruction: its timer, its trap registers and its sleep moment,
+//! over surroundings that answer what the instruction may do. The values of loads, multiplications
+//! and divisions come late, from [`finish`].
 #![tactic(auto)]
 
 mod control;
@@ -11,9 +11,9 @@ mod plain;
 mod step;
 mod surroundings;
 
-pub use control::{can_hold, change, keep, put, value_of};
+pub use control::{change, keep, may_hold, put, value_of};
 pub use late::finish;
-pub use outcome::{Executed, Onward, Place, Sources};
+pub use outcome::{Executed, Onward, PcWord, Sources};
 pub use plain::execute_plain;
 pub use step::{execute_in, sources_of};
 pub use surroundings::Surroundings;

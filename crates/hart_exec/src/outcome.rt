@@ -6,7 +6,7 @@ use rv_exec::Effect;
 
 /// Where an instruction stands, and its word.
 #[derive(Clone, Copy, Debug)]
-pub struct Place {
+pub struct PcWord {
     /// Its address, in bytes.
     pub pc: u32,
     /// The word there, as it was fetched.
@@ -22,8 +22,8 @@ pub struct Sources {
     pub b: u32,
 }
 
-/// How a hart goes on after an instruction. Source: this project's profile of the core, whose table
-/// of lags has a row for each instruction.
+/// How a thread goes on after an instruction. Source: this project's profile of the core, whose
+/// table of lags has a row for each instruction.
 #[derive(Clone, Copy, PartialEq, Eq, Debug)]
 pub enum Onward {
     /// With the word that follows, which may issue in the next cycle.
@@ -40,8 +40,8 @@ pub enum Onward {
 impl Onward {
     ghost use Rattle.hart_exec.specs.AsDefined.{lag_of};
 
-    /// The least number of cycles from the issue of the instruction to that of the hart's next one,
-    /// 1 to 3.
+    /// The least number of cycles from the issue of the instruction to that of the thread's next
+    /// one, 1 to 3.
     pub fn lag(self) -> u64
         ensures lag { result ≡ lag_of self }
         ensures short { result ≤ 3 }
@@ -54,10 +54,10 @@ impl Onward {
     }
 }
 
-/// What is known of an instruction once it is executed, besides what it did to its hart.
+/// What is known of an instruction once it is executed, besides what it did to its thread.
 #[derive(Clone, Copy, Debug)]
 pub struct Executed {
-    /// Where the hart goes on: the address of its next word, in bytes.
+    /// Where the thread goes on: the address of its next word, in bytes.
     pub pc: u32,
     /// How it goes on there, which says how soon.
     pub onward: Onward,

@@ -8,7 +8,7 @@ ghost use Rattle.rv_exec.specs.Line.{IsPrintable, IsWidth};
 ghost use Rattle.hart_exec.specs.AsDefined.{did, IsShowable, IsAlignedStore, IsPlain};
 ghost use Rattle.hart_exec.specs.declared.outcome.Onward.TheVariants.{Elsewhere};
 
-use crate::outcome::{Executed, Onward, Place};
+use crate::outcome::{Executed, Onward, PcWord};
 use core_model::Own;
 use rv_exec::Effect;
 
@@ -26,7 +26,7 @@ pub fn write_to(rd: u8, value: u32) -> Effect
 }
 
 /// A trap: it saves pc and cause, and goes to mtvec.
-pub fn trap(own: &mut Own, at: Place, cause: u8) -> Executed
+pub fn trap(own: &mut Own, at: PcWord, cause: u8) -> Executed
     ensures did { did own.new result ≡ trapped at.pc own.old at.word cause }
     ensures showable { IsShowable result.effect }
     ensures store { IsAlignedStore result.effect }
@@ -45,8 +45,8 @@ pub fn trap(own: &mut Own, at: Place, cause: u8) -> Executed
     )
 }
 
-/// The hart goes on to the next word.
-pub fn go_on(at: Place, onward: Onward, effect: Effect) -> Executed
+/// The thread goes on to the next word.
+pub fn go_on(at: PcWord, onward: Onward, effect: Effect) -> Executed
     ensures { result ≡ record {
       pc = plus at.pc 4;
       onward = onward;
@@ -64,8 +64,8 @@ pub fn go_on(at: Place, onward: Onward, effect: Effect) -> Executed
     }
 }
 
-/// The hart goes elsewhere.
-pub fn go_to(at: Place, target: u32, effect: Effect) -> Executed
+/// The thread goes elsewhere.
+pub fn go_to(at: PcWord, target: u32, effect: Effect) -> Executed
     ensures { result ≡ record {
       pc = target;
       onward = Elsewhere;
@@ -85,7 +85,7 @@ pub fn go_to(at: Place, target: u32, effect: Effect) -> Executed
 
 /// A branch, taken or not.
 #[tactic(auto, unfolding(core_model::specs::Parts::branch))]
-pub fn branch_on(at: Place, taken: bool, target: u32) -> Executed
+pub fn branch_on(at: PcWord, taken: bool, target: u32) -> Executed
     ensures did { (own : Own) → did own result ≡ branch at.pc own at.word taken target }
     ensures showable { IsShowable result.effect }
     ensures store { IsAlignedStore result.effect }
@@ -102,7 +102,7 @@ pub fn branch_on(at: Place, taken: bool, target: u32) -> Executed
 
 /// A load that is allowed.
 #[tactic(auto, unfolding(core_model::specs::Parts::load))]
-pub fn load_at(at: Place, address: u32) -> Executed
+pub fn load_at(at: PcWord, address: u32) -> Executed
     ensures did { (own : Own) → did own result ≡ load at.pc own at.word address true }
     ensures showable { IsShowable result.effect }
     ensures store { IsAlignedStore result.effect }
@@ -118,7 +118,7 @@ pub fn load_at(at: Place, address: u32) -> Executed
 
 /// A store that is allowed.
 #[tactic(auto, unfolding(core_model::specs::Parts::store))]
-pub fn store_at(at: Place, address: u32, size: u8, value: u32) -> Executed
+pub fn store_at(at: PcWord, address: u32, size: u8, value: u32) -> Executed
     requires width { IsWidth size }
     requires aligned { address % size ≡ 0 }
     requires cut { value < 256 ^ size }
@@ -143,9 +143,9 @@ pub fn store_at(at: Place, address: u32, size: u8, value: u32) -> Executed
     }
 }
 
-/// DU: the hart stays at its word until the moment.
+/// DU: the thread stays at its word until the moment.
 #[tactic(auto, unfolding(core_model::specs::Parts::delay))]
-pub fn delay_until(at: Place, now: u64, until: u64) -> Executed
+pub fn delay_until(at: PcWord, now: u64, until: u64) -> Executed
     ensures did { (own : Own) → did own result ≡ delay now at.pc own at.word until }
     ensures showable { IsShowable result.effect }
     ensures store { IsAlignedStore result.effect }
@@ -165,9 +165,9 @@ pub fn delay_until(at: Place, now: u64, until: u64) -> Executed
     }
 }
 
-/// WU: the hart sleeps until the moment, or until its armed one where that is earlier.
+/// WU: the thread sleeps until the moment, or until its armed one where that is earlier.
 #[tactic(auto, unfolding(core_model::specs::Parts::wait))]
-pub fn wait_until(own: &mut Own, at: Place, now: u64, until: u64) -> Executed
+pub fn wait_until(own: &mut Own, at: PcWord, now: u64, until: u64) -> Executed
     ensures did { did own.new result ≡ wait now at.pc own.old at.word until }
     ensures showable { IsShowable result.effect }
     ensures store { IsAlignedStore result.effect }

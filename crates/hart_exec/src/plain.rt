@@ -1,19 +1,19 @@
-//! The execution of most instructions, which leave their hart's timer, trap registers and sleep
+//! The execution of most instructions, which leave their thread's timer, trap registers and sleep
 //! moment as they are.
 
 ghost use Rattle.std.specs.Prelude.{◌≡◌, ◌≢◌, ◌<◌, ◌%◌, ◌^◌, IfSome, is_some};
 ghost use Rattle.rv_decode.specs.Table.{ins};
 ghost use Rattle.rv_exec.specs.Access.{IsAligned, store_size};
 ghost use Rattle.core_model.specs.declared.own.Own.{Own};
-ghost use Rattle.core_model.specs.Issue.{goes, act};
+ghost use Rattle.core_model.specs.Issue.{execute_untrapped, execute_in};
 ghost use Rattle.rv_decode.specs.Range.{InRange};
 ghost use Rattle.hart_exec.specs.AsDefined.{did, is_plain, leaves_own, IsShowable, IsAlignedStore, IsPlain};
 
-use crate::outcome::{Executed, Onward, Place, Sources};
+use crate::outcome::{Executed, Onward, PcWord, Sources};
 use crate::parts::{branch_on, delay_until, go_on, go_to, load_at, store_at, write_to};
 use crate::surroundings::Surroundings;
 use rv_decode::{Ins, StoreOp, decode};
-use rv_exec::{Effect, Outcome, execute, size_of_load, size_of_store};
+use rv_exec::{Effect, Outcome, execute, load_size, store_size};
 use timer_unit::moment;
 
 /// The value that a store writes: as many low bytes as it takes.
@@ -28,13 +28,13 @@ fn cut(op: StoreOp, value: u32) -> u32
     }
 }
 
-/// An instruction whose result has no trap; None exactly where it changes what its hart owns or
+/// An instruction whose result has no trap; None exactly where it changes what its thread owns or
 /// goes by it.
-#[tactic(auto, unfolding(core_model::specs::Issue::goes, crate::specs::AsDefined::is_plain), using(crate::proofs::Zero::aligned_zero))]
+#[tactic(auto, unfolding(core_model::specs::Issue::execute_untrapped, crate::specs::AsDefined::is_plain), using(crate::proofs::Zero::aligned_zero))]
 #[inline(always)]
 pub(crate) fn plain<S: Surroundings>(
     around: &S,
-    at: Place,
+    at: PcWord,
     s: Sources,
     o: &Outcome,
     i: &Ins,
@@ -43,7 +43,7 @@ pub(crate) fn plain<S: Surroundings>(
     requires aligned { IsAligned i.now o.now.address }
     ensures answers { is_some result ≡ is_plain (S.asks around.now) o.now i.now }
     ensures did { IfSome result (λ done. (own : Own) → did own done ≡
-        goes (S.asks around.now) at.pc own at.word s.a s.b o.now i.now) }
+        execute_untrapped (S.asks around.now) at.pc own at.word s.a s.b o.now i.now) }
     ensures showable { IfSome result (λ done. IsShowable done.effect) }
     ensures store { IfSome result (λ done. IsAlignedStore done.effect) }
     ensures plain { IfSome result (λ done. IsPlain done.effect) }
@@ -60,11 +60,11 @@ pub(crate) fn plain<S: Surroundings>(
             Some(go_to(at, o.target, write_to(rd, o.value)))
         }
         Ins::Branch { .. } => Some(branch_on(at, o.taken, o.target)),
-        Ins::Load { op, .. } if around.may_load(o.address, size_of_load(op)) => {
+        Ins::Load { op, .. } if around.may_load(o.address, load_size(op)) => {
             Some(load_at(at, o.address))
         }
-        Ins::Store { op, .. } if around.may_store(o.address, size_of_store(op)) => {
-            Some(store_at(at, o.address, size_of_store(op), cut(op, s.b)))
+        Ins::Store { op, .. } if around.may_store(o.address, store_size(op)) => {
+            Some(store_at(at, o.address, store_size(op), cut(op, s.b)))
         }
         Ins::Muldiv { .. } => Some(go_on(at, Onward::LateValue, Effect::Nothing)),
         Ins::Fence { .. } => Some(go_on(at, Onward::NextWord, Effect::Nothing)),
@@ -73,21 +73,21 @@ pub(crate) fn plain<S: Surroundings>(
     }
 }
 
-/// What [`execute_in`](crate::execute_in) does of an instruction at a place; None exactly where
-/// that changes what the hart owns or goes by it, as each trap does. Most instructions are done by
-/// this alone, without a look at what the hart owns.
-#[tactic(auto, unfolding(core_model::specs::Issue::act, core_model::specs::Issue::run, crate::specs::AsDefined::leaves_own), using(crate::proofs::Zero::shown))]
+/// What [`execute_in`](crate::execute_in) does of an instruction at a pc; None exactly where
+/// that changes what the thread owns or goes by it, as each trap does. Most instructions are done
+/// by this alone, without a look at what the thread owns.
+#[tactic(auto, unfolding(core_model::specs::Issue::execute_in, core_model::specs::Issue::run_at, crate::specs::AsDefined::leaves_own), using(crate::proofs::Zero::shown))]
 #[inline(always)]
 pub fn execute_plain<S: Surroundings>(
     around: &S,
-    at: Place,
+    at: PcWord,
     expired: bool,
     s: Sources,
 ) -> Option<Executed>
     ensures answers { is_some result ≡ leaves_own (S.asks around.now) at.pc expired at.word s.a
         s.b }
     ensures did { IfSome result (λ done. (own : Own) → did own done ≡
-        act (S.asks around.now) at.pc own expired at.word s.a s.b) }
+        execute_in (S.asks around.now) at.pc own expired at.word s.a s.b) }
     ensures showable { IfSome result (λ done. IsShowable done.effect) }
     ensures store { IfSome result (λ done. IsAlignedStore done.effect) }
     ensures plain { IfSome result (λ done. IsPlain done.effect) }

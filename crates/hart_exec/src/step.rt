@@ -3,12 +3,12 @@
 ghost use Rattle.std.specs.Prelude.{◌≡◌};
 ghost use Rattle.rv_decode.specs.Table.{ins};
 ghost use Rattle.rv_exec.specs.Access.{IsAligned};
-ghost use Rattle.core_model.specs.Issue.{source_1, source_2, goes, run, act};
+ghost use Rattle.core_model.specs.Issue.{source_1, source_2, execute_untrapped, run_at, execute_in};
 ghost use Rattle.rv_decode.specs.Range.{InRange};
 ghost use Rattle.hart_exec.specs.AsDefined.{did, IsShowable, IsAlignedStore};
 
 use crate::control::{Access, access_csr};
-use crate::outcome::{Executed, Onward, Place, Sources};
+use crate::outcome::{Executed, Onward, PcWord, Sources};
 use crate::parts::{go_on, go_to, trap, wait_until, write_to};
 use crate::plain::plain;
 use crate::surroundings::Surroundings;
@@ -44,19 +44,19 @@ pub fn sources_of(i: &Ins) -> (u8, u8)
 }
 
 /// An instruction whose result has no trap. What `plain` declines is a load or store that is
-/// refused, or goes by what the hart owns.
-#[tactic(auto, unfolding(core_model::specs::Issue::goes, core_model::specs::Parts::load, core_model::specs::Parts::store, crate::specs::AsDefined::is_plain), using(crate::proofs::Zero::aligned_zero))]
-fn go<S: Surroundings>(
+/// refused, or goes by what the thread owns.
+#[tactic(auto, unfolding(core_model::specs::Issue::execute_untrapped, core_model::specs::Parts::load, core_model::specs::Parts::store, crate::specs::AsDefined::is_plain), using(crate::proofs::Zero::aligned_zero))]
+fn execute_untrapped<S: Surroundings>(
     own: &mut Own,
     around: &S,
-    at: Place,
+    at: PcWord,
     s: Sources,
     o: &Outcome,
     i: &Ins,
 ) -> Executed
     requires range { InRange i.now }
     requires aligned { IsAligned i.now o.now.address }
-    ensures did { did own.new result ≡ goes (S.asks around.now) at.pc own.old at.word s.a s.b o.now
+    ensures did { did own.new result ≡ execute_untrapped (S.asks around.now) at.pc own.old at.word s.a s.b o.now
         i.now }
     ensures showable { IsShowable result.effect }
     ensures store { IsAlignedStore result.effect }
@@ -102,10 +102,10 @@ fn go<S: Surroundings>(
 }
 
 /// What an instruction does; a trap of its result comes first.
-#[tactic(auto, unfolding(core_model::specs::Issue::run), using(crate::proofs::Zero::aligned_zero))]
-fn run_at<S: Surroundings>(own: &mut Own, around: &S, at: Place, s: Sources, i: &Ins) -> Executed
+#[tactic(auto, unfolding(core_model::specs::Issue::run_at), using(crate::proofs::Zero::aligned_zero))]
+fn run_at<S: Surroundings>(own: &mut Own, around: &S, at: PcWord, s: Sources, i: &Ins) -> Executed
     requires range { InRange i.now }
-    ensures did { did own.new result ≡ run (S.asks around.now) at.pc own.old at.word s.a s.b i.now }
+    ensures did { did own.new result ≡ run_at (S.asks around.now) at.pc own.old at.word s.a s.b i.now }
     ensures showable { IsShowable result.effect }
     ensures store { IsAlignedStore result.effect }
     ensures word { result.word ≡ at.word }
@@ -114,21 +114,21 @@ fn run_at<S: Surroundings>(own: &mut Own, around: &S, at: Place, s: Sources, i: 
     let o = execute(i, at.pc, s.a, s.b);
     match o.trap {
         Some(cause) => trap(own, at, cause),
-        None => go(own, around, at, s, &o, i),
+        None => execute_untrapped(own, around, at, s, &o, i),
     }
 }
 
-/// Executes the instruction at a place, but for a late value. An expiry comes before all else and
+/// Executes the instruction at a pc, but for a late value. An expiry comes before all else and
 /// disarms; then a fetch that is refused. Neither shows a word.
-#[tactic(auto, unfolding(core_model::specs::Issue::act), using(crate::proofs::Zero::aligned_zero))]
+#[tactic(auto, unfolding(core_model::specs::Issue::execute_in), using(crate::proofs::Zero::aligned_zero))]
 pub fn execute_in<S: Surroundings>(
     own: &mut Own,
     around: &S,
-    at: Place,
+    at: PcWord,
     expired: bool,
     s: Sources,
 ) -> Executed
-    ensures did { did own.new result ≡ act (S.asks around.now) at.pc own.old expired at.word s.a
+    ensures did { did own.new result ≡ execute_in (S.asks around.now) at.pc own.old expired at.word s.a
         s.b }
     ensures showable { IsShowable result.effect }
     ensures store { IsAlignedStore result.effect }
@@ -136,10 +136,10 @@ pub fn execute_in<S: Surroundings>(
 {
     if expired {
         own.timer.armed = None;
-        return trap(own, Place { word: 0, ..at }, 24);
+        return trap(own, PcWord { word: 0, ..at }, 24);
     }
     if !around.may_fetch(at.pc) {
-        return trap(own, Place { word: 0, ..at }, 1);
+        return trap(own, PcWord { word: 0, ..at }, 1);
     }
     run_at(own, around, at, s, &decode(at.word))
 }

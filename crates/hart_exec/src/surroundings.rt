@@ -1,6 +1,6 @@
 //! What an instruction asks while it is executed.
 
-/// The answers for one hart in one cycle.
+/// The answers for one thread in one cycle.
 pub trait Surroundings {
     ghost use Rattle.std.specs.Prelude.{◌≡◌};
     ghost use Rattle.core_model.specs.Thread.{Around};
@@ -8,7 +8,7 @@ pub trait Surroundings {
     // The answers, as the definitions have them.
     ghost asks: { Self → Around };
 
-    /// The hart's number.
+    /// The thread's number.
     fn thread(&self) -> u8
         ensures { result ≡ (asks self.now).thread };
 
@@ -28,7 +28,7 @@ pub trait Surroundings {
     fn may_store(&self, address: u32, width: u8) -> bool
         ensures { result ≡ (asks self.now).store address width };
 
-    /// The value of one of the machine's registers 0x7C0 to 0x7C3, or None where the hart has no
+    /// The value of one of the machine's registers 0x7C0 to 0x7C3, or None where the thread has no
     /// permit.
     fn shared(&self, csr: u16) -> Option<u32>
         ensures { result ≡ (asks self.now).shared csr };

@@ -10,7 +10,7 @@ use Rattle.timer_unit.specs.declared.row.Timer.{Timer}
 use Rattle.region_guard.specs.Regions.{may_fetch}
 use Rattle.core_model.specs.declared.own.Trapping.{Trapping}
 use Rattle.core_model.specs.Thread.{Thread, Around, fresh, no_own}
-use Rattle.core_model.specs.Issue.{act, acts_on, issue}
+use Rattle.core_model.specs.Issue.{execute_in, execute_word, issue}
 use Rattle.core_model.specs.Memory.{code_at}
 use Rattle.rv_decode.specs.Table.{ins}
 use Rattle.fp_ports.specs.Rows.{Row, row_at, latch_seen as latch_shown}
@@ -21,10 +21,10 @@ use Rattle.world_model.specs.World.{Start, World, Took, thread_of, recent, world
 use Rattle.world_model.specs.World.Took.{Idle, Lost, Ran}
 use Rattle.world_model.proofs.Turns.{Turned, nexts, behind}
 use Rattle.world_model.proofs.Pace.{run-word}
-use Rattle.pipe_model.specs.declared.latches.Held.TheVariants as latch
-use Rattle.pipe_model.specs.declared.latches.Fetched.{Fetched}
-use Rattle.pipe_model.specs.Stages.{Latches, State}
-use Rattle.pipe_model.specs.Relation.{Begins, pick_in, in_fetch, in_decode, in_execute, in_memory, in_write, did_in, units_of, latches_of, turn_at}
+use Rattle.pipe_model.specs.declared.stage_registers.Held.TheVariants as stage
+use Rattle.pipe_model.specs.declared.stage_registers.Fetched.{Fetched}
+use Rattle.pipe_model.specs.Stages.{StageRegisters, State}
+use Rattle.pipe_model.specs.Relation.{Begins, pick_in, in_fetch, in_decode, in_execute, in_memory, in_write, did_in, units_of, stage_registers_of, turn_at}
 use Rattle.std.proofs.Math.ListN.{length-set}
 use Rattle.machine.specs.DumpedState.{picked_in, held_in, stages_seen, shared_seen, registers_seen, traps_seen, timer_seen, thread_seen, words_seen, seen}
 use Rattle.machine.specs.Fields.{fetched_held, decoded_held, executed_held, stored_held, written_held, head_line, thread_line, dump_line, dumped}
@@ -42,8 +42,8 @@ unfolding world recent
 eight s zero b = b.eight
 eight s (suc c) b = eight_after s c (world s c) (world s (suc c)) _ (nexts s c).turned ∙ eight s c b
 
--- what the latches show
-flushed-or : (b : Bool) (k : ℕ) (x : Fetched) → fetched_held (if b then latch.Flushed k else latch.Issue k x) ≡ Picked k
+-- what the stage registers show
+flushed-or : (b : Bool) (k : ℕ) (x : Fetched) → fetched_held (if b then stage.Flushed k else stage.Issue k x) ≡ Picked k
 flushed-or true k x = refl
 flushed-or false k x = refl
 
@@ -52,8 +52,8 @@ held-f s c w turn Idle = refl
 held-f s c w turn (Lost k) = flushed-or _ k _
 held-f s c w turn (Ran k pc word effect) = flushed-or _ k _
 
-act-shown : (a : Around) (t : Thread) (expired fetches : Bool) (word x y : ℕ) → a.fetch t.pc ≡ fetches → (act a t.pc t.own expired word x y).word ≡ (if expired || not fetches then 0 else word)
-unfolding act
+act-shown : (a : Around) (t : Thread) (expired fetches : Bool) (word x y : ℕ) → a.fetch t.pc ≡ fetches → (execute_in a t.pc t.own expired word x y).word ≡ (if expired || not fetches then 0 else word)
+unfolding execute_in
 act-shown a t true fetches word x y e = refl
 act-shown a t false true word x y e = rw e (run-word a t.pc t.own word x y (ins word))
 act-shown a t false false word x y e = rw e refl
@@ -64,7 +64,7 @@ issue-word s n w k = refl
 
 did-word : (s : Start) (n : ℕ) (w : World) (k : ℕ) → let t = thread_of w k in (did_in s n w k).word
     ≡ (if is_due t.own.timer.armed (time s.period n) || not (may_fetch k s.size (get_or s.confined k true) w.registers.iregions t.pc) then 0 else code_at s.size s.i_words t.pc)
-unfolding acts_on around
+unfolding execute_word around
 did-word s n w k = act-shown (surroundings s n w k) (thread_of w k) (is_due (thread_of w k).own.timer.armed (time s.period n)) _ (code_at s.size s.i_words (thread_of w k).pc) _ _ refl
 
 held-d : (s : Start) (c n : ℕ) (w after : World) (took : Took) (ports : List (Option Row)) → world s (c - 2) ≡ w → Turned s n w took after → decoded_held s.size s.confined (world s (c - 2)).registers.iregions (in_decode s n w took) ≡ held_in took
@@ -90,7 +90,7 @@ held-w (Lost k) = refl
 held-w (Ran k pc word effect) = refl
 
 -- the lines of the stages
-abbrev stages_of : Latches → State → List ℕ
+abbrev stages_of : StageRegisters → State → List ℕ
 stages_of p u =
     stage_text (codes "F") (fetched_held p.f)
     ++ (stage_text (codes "D") (decoded_held u.size u.confined u.control.registers.iregions p.d)
@@ -103,7 +103,7 @@ five : (a b c d e a' b' c' d' e' : Held) → a ≡ a' → b ≡ b' → c ≡ c' 
     ≡ (stage_text (codes "F") a' ++ (stage_text (codes "D") b' ++ (stage_text (codes "E") c' ++ (stage_text (codes "M") d' ++ stage_text (codes "W") e'))))
 five a b c d e a' b' c' d' e' p q r s t = cc
 
-stages-are : (s : Start) (c : ℕ) (next : List ℕ) (ports : List (Option Row)) → stages_of (latches_of s c next) (units_of s c ports) ≡ stages_seen s c
+stages-are : (s : Start) (c : ℕ) (next : List ℕ) (ports : List (Option Row)) → stages_of (stage_registers_of s c next) (units_of s c ports) ≡ stages_seen s c
 stages-are s c next ports =
     five _ _ _ _ _ _ _ _ _ _
     (held-f s c (world s (c - 2)) (turn_at s c 1) (turn_at s c 0))
@@ -112,10 +112,10 @@ stages-are s c next ports =
     (held-m (turn_at s c 3))
     (held-w (turn_at s c 4))
 
-abbrev head_of : Latches → State → ℕ → List ℕ
+abbrev head_of : StageRegisters → State → ℕ → List ℕ
 head_of p u at = cycles_text at ++ (stages_of p u ++ shared_seen u.control.registers)
 
-head-is : (p : Latches) (u : State) (at : ℕ) → flat_map (dump_line p u at) (range_with_len 0 10) ≡ head_of p u at
+head-is : (p : StageRegisters) (u : State) (at : ℕ) → flat_map (dump_line p u at) (range_with_len 0 10) ≡ head_of p u at
 unfolding dump_line head_line
 head-is p u at = simp (append_assoc, append-nil)
 
@@ -142,7 +142,7 @@ six i regs regs' trap trap' timer timer' sleep sleep' latch latch' p q r s t =
     ap (λ x. thread_by i x trap timer sleep latch) p ∙ ap (λ x. thread_by i regs' x timer sleep latch) q ∙ ap (λ x. thread_by i regs' trap' x sleep latch) r
     ∙ ap (λ x. thread_by i regs' trap' timer' x latch) s ∙ ap (λ x. thread_by i regs' trap' timer' sleep' x) t
 
-thread-seen : (s : Start) (c n : ℕ) (p : Latches) (u : State) (at : ℕ) (plan : List (Option ℕ)) → Standing s c n p u at plan → (i : ℕ) → i < 8 → thread_lines (units_of s c u.ports) i ≡ thread_seen s c i
+thread-seen : (s : Start) (c n : ℕ) (p : StageRegisters) (u : State) (at : ℕ) (plan : List (Option ℕ)) → Standing s c n p u at plan → (i : ℕ) → i < 8 → thread_lines (units_of s c u.ports) i ≡ thread_seen s c i
 thread-seen s c n p u at plan st i below =
     let old : i < length (world s (c - 4)).threads = omega (arith, eight s (c - 4) st.begins) in
     let new : i < length (world s (c - 2)).threads = omega (arith, eight s (c - 2) st.begins) in
@@ -153,7 +153,7 @@ thread-seen s c n p u at plan st i below =
     (get_or-map (λ (t : Thread). t.own.sleep) (world s (c - 2)).threads i (fresh 0) 0 new)
     (latch-is (row_at u.ports i) _ (get_or (world s (c - 3)).latches i 0) (st.ports.there i below) (st.stands.ports i below))
 
-threads-are : (p : Latches) (u : State) (at : ℕ) → flat_map (dump_line p u at) (range_with_len 10 56) ≡ flat_map (thread_lines u) (range_with_len 0 8)
+threads-are : (p : StageRegisters) (u : State) (at : ℕ) → flat_map (dump_line p u at) (range_with_len 10 56) ≡ flat_map (thread_lines u) (range_with_len 0 8)
 unfolding dump_line
 threads-are p u at = simp (append_assoc, append-nil)
 
@@ -178,7 +178,7 @@ same-all : (f g : ℕ → List ℕ) (a m : ℕ) → ((i : ℕ) → f i ≡ g i) 
 same-all f g a zero h = refl
 same-all f g a (suc m) h = ap₂ (λ (x : List ℕ) (xs : List ℕ). x ++ xs) (h a) (same-all f g (a + 1) m h)
 
-word-line : (p : Latches) (u : State) (at k : ℕ) → dump_line p u at (66 + k) ≡ words_seen u.d_words k
+word-line : (p : StageRegisters) (u : State) (at k : ℕ) → dump_line p u at (66 + k) ≡ words_seen u.d_words k
 unfolding dump_line
 word-line p u at k = go (nat_lt (66 + k) 10) (nat_lt (66 + k) 66) refl refl
   where
@@ -188,14 +188,14 @@ word-line p u at k = go (nat_lt (66 + k) 10) (nat_lt (66 + k) 66) refl refl
     go false true q r = absurd (grind (arith, nat_tests))
     go false false q r = let e : 66 + k - 66 ≡ k = omega arith in rw e refl
 
-words-are : (p : Latches) (u : State) (at m : ℕ) → flat_map (dump_line p u at) (range_with_len 66 m) ≡ flat_map (words_seen u.d_words) (range_with_len 0 m)
+words-are : (p : StageRegisters) (u : State) (at m : ℕ) → flat_map (dump_line p u at) (range_with_len 66 m) ≡ flat_map (words_seen u.d_words) (range_with_len 0 m)
 words-are p u at m =
     let e : 66 ≡ 66 + 0 = omega arith in
     ap (λ a. flat_map (dump_line p u at) (range_with_len a m)) e ∙ shift (dump_line p u at) 66 0 m
     ∙ same-all (λ j. dump_line p u at (66 + j)) (words_seen u.d_words) 0 m (word-line p u at)
 
 -- all lines
-whole : (p : Latches) (u : State) (at m : ℕ) → flat_map (dump_line p u at) (range_with_len 0 (66 + m))
+whole : (p : StageRegisters) (u : State) (at m : ℕ) → flat_map (dump_line p u at) (range_with_len 0 (66 + m))
     ≡ head_of p u at ++ (flat_map (thread_lines u) (range_with_len 0 8) ++ flat_map (words_seen u.d_words) (range_with_len 0 m))
 whole p u at m =
     let D : ℕ → List ℕ = dump_line p u at in
@@ -206,10 +206,10 @@ whole p u at m =
 grouped : (a b c d : List ℕ) → (a ++ (b ++ c)) ++ d ≡ a ++ (b ++ (c ++ d))
 grouped a b c d = simp append_assoc
 
-in_world : (s : Start) (c n : ℕ) (p : Latches) (u : State) (at : ℕ) (plan : List (Option ℕ)) → Standing s c n p u at plan → dumped (latches_of s c p.next) (units_of s c u.ports) c ≡ seen s c
+in_world : (s : Start) (c n : ℕ) (p : StageRegisters) (u : State) (at : ℕ) (plan : List (Option ℕ)) → Standing s c n p u at plan → dumped (stage_registers_of s c p.next) (units_of s c u.ports) c ≡ seen s c
 unfolding seen
 in_world s c n p u at plan st =
-    let q : Latches = latches_of s c p.next in
+    let q : StageRegisters = stage_registers_of s c p.next in
     let v : State = units_of s c u.ports in
     let threads : List ℕ = flat_map (thread_seen s c) (range_with_len 0 8) in
     let words : List ℕ = flat_map (words_seen (world s (c - 3)).d_words) (range_with_len 0 (s.size / 32)) in
@@ -220,5 +220,5 @@ in_world s c n p u at plan st =
 
 pub dumps : Dumps
 dumps s c n p u at plan st =
-    ap (dumped p u) st.cycle ∙ ap (λ (x : Latches). dumped x u c) st.stands.latches ∙ ap (λ (x : State). dumped (latches_of s c p.next) x c) st.stands.units
+    ap (dumped p u) st.cycle ∙ ap (λ (x : StageRegisters). dumped x u c) st.stands.stage_registers ∙ ap (λ (x : State). dumped (stage_registers_of s c p.next) x c) st.stands.units
     ∙ in_world s c n p u at plan st

@@ -94,7 +94,7 @@ seen_three (Some x) o c h = go (nat_lt c (x + 3)) (nat_le x (c - 3)) refl refl
 pub unplugs : Unplugs
 unplugs s c n p u at plan st within eight = record {
   stands = record {
-    latches = st.stands.latches;
+    stage_registers = st.stands.stage_registers;
     fronts = st.stands.fronts;
     units = ap (λ (v : State). record v { ports = kept_in plan c u.ports 8 }) st.stands.units;
     ports = λ k below. latch_left k below;

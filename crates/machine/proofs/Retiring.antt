@@ -7,12 +7,12 @@ use Rattle.rv_exec.specs.declared.outcome.Effect.{Effect}
 use Rattle.rv_exec.specs.declared.outcome.Event.{Event}
 use Rattle.world_model.specs.World.{Start}
 use Rattle.pipe_model.specs.Stages.{event_at}
-use Rattle.pipe_model.specs.Relation.{of_hart, stays_in}
+use Rattle.pipe_model.specs.Relation.{of_thread, stays_in}
 use Rattle.machine.specs.FieldRelation.{kept_in}
 use Rattle.machine.specs.declared.state.Machine.{Machine}
 use Rattle.machine.specs.WorldRelation.{Ticks}
 
-pub of_others : (i cycle k pc word : ℕ) (effect : Option Effect) → (k == i) ≡ false → of_hart i (event_at cycle k pc word effect) ≡ []
+pub of_others : (i cycle k pc word : ℕ) (effect : Option Effect) → (k == i) ≡ false → of_thread i (event_at cycle k pc word effect) ≡ []
 of_others i cycle k pc word None other = refl
 of_others i cycle k pc word (Some effect) other = rw other refl
 

@@ -10,9 +10,9 @@ use Rattle.rv_exec.specs.declared.outcome.Event.{Event}
 use Rattle.trace_print.specs.Text.{line_text, text}
 use Rattle.world_model.specs.World.{Start, recent, world, events}
 use Rattle.pipe_model.specs.Stages.{Ticked}
-use Rattle.pipe_model.specs.Relation.{Begins, Shows, Stands, Kept, event_in, turn_at, of_hart, words_of, stays_in}
+use Rattle.pipe_model.specs.Relation.{Begins, Shows, Stands, Kept, event_in, turn_at, of_thread, words_of, stays_in}
 use Rattle.pipe_model.specs.PipelineLaws.{EventsGrow}
-use Rattle.pipeline_core.specs.AsDefined.{latches_by, state_by, ticked_by}
+use Rattle.pipeline_core.specs.AsDefined.{stage_registers_by, state_by, ticked_by}
 use Rattle.machine.specs.FieldRelation.{Standing, kept_in}
 use Rattle.machine.specs.FieldLaws.{Unplugged, with_kept}
 use Rattle.machine.proofs.PortLemmas.{unplugs, goes_on, kept-row}
@@ -43,18 +43,18 @@ left_all ports k below = go (row_at ports k)
 
 -- a cycle, by the ports that are left in it
 pub ticks : (s : Start) (n : ℕ) (m after : Machine) (rows between new : List (Option Row)) (event : Option Event) → length rows ≡ 8 → between ≡ kept_in m.unplugs m.at rows 8 → m.at < n + 3 → StandsFor s m.at n m rows →
-    (Begins s → Shows s m.at between → Stands s m.at (latches_by m.pipe) (state_by m.units between) → Kept s m.at between (ticked_by after.pipe after.units new event)) →
+    (Begins s → Shows s m.at between → Stands s m.at (stage_registers_by m.pipe) (state_by m.units between) → Kept s m.at between (ticked_by after.pipe after.units new event)) →
     after.at ≡ m.at + 1 → after.unplugs ≡ m.unplugs → Ticks s m.at n rows after new event
 ticks s n m after rows between new event eight is within st keeps at plan =
     let t : Ticked = ticked_by after.pipe after.units new event in
-    let left : Unplugged s m.at (latches_by m.pipe) (with_kept (state_by m.units rows) m.at m.unplugs) = unplugs s m.at n (latches_by m.pipe) (state_by m.units rows) m.at m.unplugs st within eight in
+    let left : Unplugged s m.at (stage_registers_by m.pipe) (with_kept (state_by m.units rows) m.at m.unplugs) = unplugs s m.at n (stage_registers_by m.pipe) (state_by m.units rows) m.at m.unplugs st within eight in
     let P : List (Option Row) → Type 0 = λ x. Shows s m.at x in
-    let Q : List (Option Row) → Type 0 = λ x. Stands s m.at (latches_by m.pipe) (state_by m.units x) in
+    let Q : List (Option Row) → Type 0 = λ x. Stands s m.at (stage_registers_by m.pipe) (state_by m.units x) in
     let R : List (Option Row) → Type 0 = λ x. Kept s m.at x t in
     let kept : Kept s m.at (kept_in m.unplugs m.at rows 8) t = subst R is (keeps st.begins (subst P (sym is) left.shows) (subst Q (sym is) left.stands)) in
-    let next : Standing s (suc m.at) n (latches_by after.pipe) (state_by after.units new) (suc m.at) m.unplugs = goes_on s m.at n (latches_by m.pipe) (state_by m.units rows) m.at m.unplugs t st eight kept in
-    let A : ℕ → Type 0 = λ k. Standing s (suc m.at) n (latches_by after.pipe) (state_by after.units new) k m.unplugs in
-    let B : List (Option ℕ) → Type 0 = λ xs. Standing s (suc m.at) n (latches_by after.pipe) (state_by after.units new) after.at xs in
+    let next : Standing s (suc m.at) n (stage_registers_by after.pipe) (state_by after.units new) (suc m.at) m.unplugs = goes_on s m.at n (stage_registers_by m.pipe) (state_by m.units rows) m.at m.unplugs t st eight kept in
+    let A : ℕ → Type 0 = λ k. Standing s (suc m.at) n (stage_registers_by after.pipe) (state_by after.units new) k m.unplugs in
+    let B : List (Option ℕ) → Type 0 = λ xs. Standing s (suc m.at) n (stage_registers_by after.pipe) (state_by after.units new) after.at xs in
     record { stands = subst B (sym plan) (subst A (sym (add-one m.at) ∙ sym at) next); event_is = kept.event; left = λ k below. left_is (row_at rows k) (row_at new k) (row_at (kept_in m.unplugs m.at rows 8) k) (get_or m.unplugs k None) m.at (kept.ports k) (kept-row m.unplugs m.at rows k eight below) }
 
 no_events : (s : Start) (i : ℕ) → events s i 0 ≡ []
@@ -64,9 +64,9 @@ no_events s i = refl
 text-append : (xs ys : List Event) → text (xs ++ ys) ≡ text xs ++ text ys
 text-append xs ys = flat_map-append line_text xs ys
 
-text-next : EventsGrow → (s : Start) (i c : ℕ) (event : Option Event) → event ≡ event_in (c - 4) (turn_at s c 3) → text (events s i (suc c)) ≡ text (events s i c) ++ text (of_hart i event)
+text-next : EventsGrow → (s : Start) (i c : ℕ) (event : Option Event) → event ≡ event_in (c - 4) (turn_at s c 3) → text (events s i (suc c)) ≡ text (events s i c) ++ text (of_thread i event)
 text-next grows s i c event e =
-    ap text (grows s i c) ∙ text-append (events s i c) (of_hart i (event_in (c - 4) (turn_at s c 3))) ∙ ap (λ x. text (events s i c) ++ text (of_hart i x)) (sym e)
+    ap text (grows s i c) ∙ text-append (events s i c) (of_thread i (event_in (c - 4) (turn_at s c 3))) ∙ ap (λ x. text (events s i c) ++ text (of_thread i x)) (sym e)
 
 -- later cycles leave the text of earlier ones
 text_goes_on : EventsGrow → (s : Start) (i c more : ℕ) → (rest : List ℕ) × (text (events s i (c + more)) ≡ text (events s i c) ++ rest)
@@ -75,7 +75,7 @@ text_goes_on grows s i c (suc more) =
     let (rest, is) = text_goes_on grows s i c more in
     let e : Option Event = event_in (c + more - 4) (turn_at s (c + more) 3) in
     let next : c + suc more ≡ suc (c + more) = omega arith in
-    (rest ++ text (of_hart i e), ap (λ k. text (events s i k)) next ∙ text-next grows s i (c + more) e refl ∙ ap (λ zs. zs ++ text (of_hart i e)) is ∙ append_assoc (text (events s i c)) rest (text (of_hart i e)))
+    (rest ++ text (of_thread i e), ap (λ k. text (events s i k)) next ∙ text-next grows s i (c + more) e refl ∙ ap (λ zs. zs ++ text (of_thread i e)) is ∙ append_assoc (text (events s i c)) rest (text (of_thread i e)))
 
 pub run_begins : (s : Start) (n thread : ℕ) (m : Machine) (rows : List (Option Row)) (told : Option (List ℕ)) → StandsFor s 0 n m rows → HasRun s 0 n thread rows m rows told told
 run_begins s n thread m rows told st =
@@ -84,14 +84,14 @@ run_begins s n thread m rows told st =
 
 -- one more cycle of a run
 pub run_on : EventsGrow → (s : Start) (k n thread : ℕ) (first : List (Option Row)) (m after : Machine) (rows new : List (Option Row)) (before between now : Option (List ℕ)) (event : Option Event) → HasRun s k n thread first m rows before between → m.at ≡ k →
-    (StandsFor s m.at n m rows → Ticks s m.at n rows after new event) → Appends between now (text (of_hart thread event)) → HasRun s (k + 1) n thread first after new before now
+    (StandsFor s m.at n m rows → Ticks s m.at n rows after new event) → Appends between now (text (of_thread thread event)) → HasRun s (k + 1) n thread first after new before now
 run_on grows s k n thread first m after rows new before between now event run at tick put =
     let At : ℕ → Type 0 = λ c. StandsFor s c n m rows in
     let After : ℕ → Type 0 = λ c. Ticks s c n rows after new event in
     let ticked : Ticks s k n rows after new event = subst After at (tick (subst At (sym at) run.stands)) in
     let Told : List ℕ → Type 0 = λ x. Appends before now x in
     let done : HasRun s (suc k) n thread first after new before now = record {
-      put = subst Told (sym (text-next grows s thread k event ticked.event_is)) (appends_more before between now (text (events s thread k)) (text (of_hart thread event)) run.put put);
+      put = subst Told (sym (text-next grows s thread k event ticked.event_is)) (appends_more before between now (text (events s thread k)) (text (of_thread thread event)) run.put put);
       stands = ticked.stands;
       left = λ i below. left_more (row_at first i) (row_at rows i) (row_at new i) (run.left i below) (ticked.left i below);
     } in
@@ -107,7 +107,7 @@ beyond (Some told) (Some more) (Some most) xs ys first (n, within, taken) = (tak
 
 -- a run that stops in a cycle
 pub run_stops : EventsGrow → (s : Start) (k n thread : ℕ) (first : List (Option Row)) (m after : Machine) (rows new : List (Option Row)) (before between now : Option (List ℕ)) (event : Option Event) → k < n → HasRun s k n thread first m rows before between → m.at ≡ k →
-    (StandsFor s m.at n m rows → Ticks s m.at n rows after new event) → AppendsFront between now (text (of_hart thread event)) → Stopped s n thread first after new before now
+    (StandsFor s m.at n m rows → Ticks s m.at n rows after new event) → AppendsFront between now (text (of_thread thread event)) → Stopped s n thread first after new before now
 run_stops grows s k n thread first m after rows new before between now event within run at tick put =
     let At : ℕ → Type 0 = λ c. StandsFor s c n m rows in
     let After : ℕ → Type 0 = λ c. Ticks s c n rows after new event in
@@ -115,18 +115,18 @@ run_stops grows s k n thread first m after rows new before between now event wit
     let here : after.at ≡ suc k = ticked.stands.cycle in
     let (rest, goes) = text_goes_on grows s thread (suc k) (n - suc k) in
     let end : n ≡ suc k + (n - suc k) = omega arith in
-    let whole : text (events s thread n) ≡ (text (events s thread k) ++ text (of_hart thread event)) ++ rest =
+    let whole : text (events s thread n) ≡ (text (events s thread k) ++ text (of_thread thread event)) ++ rest =
     ap (λ c. text (events s thread c)) end ∙ goes ∙ ap (λ zs. zs ++ rest) (text-next grows s thread k event ticked.event_is) in
     let Here : ℕ → Type 0 = λ c. StandsFor s c n after new in
     let last : k ≡ after.at - 1 = omega (arith, here) in
     let Beyond : ℕ → Type 0 = λ c. AppendsBeyond before now (text (events s thread c)) in
     let Front : List ℕ → Type 0 = λ x. AppendsFront before now x in
-    let grown : text (events s thread k) ++ text (of_hart thread event) ≡ text (events s thread after.at) =
+    let grown : text (events s thread k) ++ text (of_thread thread event) ≡ text (events s thread after.at) =
     sym (ap (λ c. text (events s thread c)) here ∙ text-next grows s thread k event ticked.event_is) in
     record {
-      put = appends_front before between now (text (events s thread k)) (text (of_hart thread event)) rest (text (events s thread n)) whole run.put put;
-      before_last = subst Beyond last (beyond before between now (text (events s thread k)) (text (of_hart thread event)) run.put put);
-      with_last = subst Front grown (front_after before between now (text (events s thread k)) (text (of_hart thread event)) run.put put);
+      put = appends_front before between now (text (events s thread k)) (text (of_thread thread event)) rest (text (events s thread n)) whole run.put put;
+      before_last = subst Beyond last (beyond before between now (text (events s thread k)) (text (of_thread thread event)) run.put put);
+      with_last = subst Front grown (front_after before between now (text (events s thread k)) (text (of_thread thread event)) run.put put);
       within = omega (arith, here);
       stands = subst Here (sym here) ticked.stands;
       left = λ i below. left_more (row_at first i) (row_at rows i) (row_at new i) (run.left i below) (ticked.left i below);

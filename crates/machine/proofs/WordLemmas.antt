@@ -8,12 +8,12 @@ use Rattle.rv_exec.specs.declared.outcome.Effect.{Effect}
 use Rattle.rv_exec.specs.declared.outcome.Effect.TheVariants.{Nothing, Reg, Store, Csr, Trap, Wait}
 use Rattle.fp_ports.specs.Rows.{Row, row_at, written}
 use Rattle.world_model.specs.World.{world}
-use Rattle.pipe_model.specs.declared.latches.Held.{Held}
-use Rattle.pipe_model.specs.declared.latches.Held.TheVariants.{Bubble, Flushed, Issue}
-use Rattle.pipe_model.specs.declared.latches.Stored.{Stored}
-use Rattle.pipe_model.specs.Stages.{Latches, State, Ticked, ports_stored, put_at_port, step}
+use Rattle.pipe_model.specs.declared.stage_registers.Held.{Held}
+use Rattle.pipe_model.specs.declared.stage_registers.Held.TheVariants.{Bubble, Flushed, Issue}
+use Rattle.pipe_model.specs.declared.stage_registers.Stored.{Stored}
+use Rattle.pipe_model.specs.Stages.{StageRegisters, State, Ticked, ports_stored, put_at_port, step}
 use Rattle.pipe_model.specs.Relation.{words_of}
-use Rattle.pipeline_core.specs.AsDefined.{latches_by, state_by}
+use Rattle.pipeline_core.specs.AsDefined.{stage_registers_by, state_by}
 use Rattle.machine.specs.FieldRelation.{kept_in}
 use Rattle.machine.specs.DumpedState.{is_kept}
 use Rattle.machine.proofs.PortLemmas.{kept-row}
@@ -46,7 +46,7 @@ stored-words Bubble ports = refl
 stored-words (Flushed k) ports = refl
 stored-words (Issue k x) ports = put-words ports k x.effect
 
-step-words : (p : Latches) (u : State) (c : ℕ) → map words_of (step p u c).state.ports ≡ map words_of u.ports
+step-words : (p : StageRegisters) (u : State) (c : ℕ) → map words_of (step p u c).state.ports ≡ map words_of u.ports
 unfolding step
 step-words p u c = stored-words _ u.ports
 
@@ -56,9 +56,9 @@ row-words before after k same =
 
 -- the ports that a cycle leaves show the words from before
 pub cycle_words : (m : Machine) (rows between : List (Option Row)) (t : Ticked) → length rows ≡ 8 → between ≡ kept_in m.unplugs m.at rows 8 →
-    t ≡ step (latches_by m.pipe) (state_by m.units between) m.at → AreLeft rows t.state.ports
+    t ≡ step (stage_registers_by m.pipe) (state_by m.units between) m.at → AreLeft rows t.state.ports
 cycle_words m rows between t eight is stepped k below =
-    let same : map words_of t.state.ports ≡ map words_of between = ap (λ (x : Ticked). map words_of x.state.ports) stepped ∙ step-words (latches_by m.pipe) (state_by m.units between) m.at in
+    let same : map words_of t.state.ports ≡ map words_of between = ap (λ (x : Ticked). map words_of x.state.ports) stepped ∙ step-words (stage_registers_by m.pipe) (state_by m.units between) m.at in
     left_is (row_at rows k) (row_at t.state.ports k) (row_at between k) (get_or m.unplugs k None) m.at (row-words between t.state.ports k same) (ap (λ (xs : List (Option Row)). row_at xs k) is ∙ kept-row m.unplugs m.at rows k eight below)
 
 -- a port that is there is what was there with another latch

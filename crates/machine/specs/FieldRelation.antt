@@ -3,7 +3,7 @@ use Rattle.std.specs.Prelude.{◌≡◌, ℕ, zero, suc, ◌+◌, ◌<◌, ◌�
 use Rattle.fp_ports.specs.Rows.{Row, row_at, word_seen}
 use Rattle.fp_ports.specs.ShownWords.{is_gone}
 use Rattle.world_model.specs.World.{Start, port_word}
-use Rattle.pipe_model.specs.Stages.{Latches, State}
+use Rattle.pipe_model.specs.Stages.{StageRegisters, State}
 use Rattle.pipe_model.specs.Relation.{Stands, Begins, stays_in}
 use Rattle.machine.specs.DumpedState.{is_kept}
 
@@ -19,7 +19,7 @@ pub record Plugged (s : Start) (c n : ℕ) (ports : List (Option Row)) : Type 0 
 
 -- the machine by its fields: the pipeline, the units with the ports, the cycles done and the cycles
 -- in which ports are taken away
-pub record Standing (s : Start) (c n : ℕ) (p : Latches) (u : State) (at : ℕ) (unplugs : List (Option ℕ)) : Type 0 where
+pub record Standing (s : Start) (c n : ℕ) (p : StageRegisters) (u : State) (at : ℕ) (unplugs : List (Option ℕ)) : Type 0 where
   pub begins : Begins s
   pub stands : Stands s c p u
   pub cycle : at ≡ c

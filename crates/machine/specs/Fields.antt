@@ -7,23 +7,23 @@ use Rattle.fp_ports.specs.Rows as rows
 use Rattle.trace_print.specs.declared.dump_lines.Held.{Held}
 use Rattle.trace_print.specs.declared.dump_lines.Held.TheVariants.{Nothing, Picked, Flushed, Issue}
 use Rattle.trace_print.specs.DumpLines.{cycles_text, stage_text, word_text, thread_words_text, latch_text}
-use Rattle.pipe_model.specs.declared.latches.Held.{Held as Latch}
-use Rattle.pipe_model.specs.declared.latches.Held.TheVariants as latch
-use Rattle.pipe_model.specs.declared.latches.Fetched.{Fetched}
-use Rattle.pipe_model.specs.declared.latches.Decoded.{Decoded}
-use Rattle.pipe_model.specs.declared.latches.Executed.{Executed}
-use Rattle.pipe_model.specs.declared.latches.Stored.{Stored}
-use Rattle.pipe_model.specs.declared.latches.Written.{Written}
+use Rattle.pipe_model.specs.declared.stage_registers.Held.{Held as InStage}
+use Rattle.pipe_model.specs.declared.stage_registers.Held.TheVariants as stage
+use Rattle.pipe_model.specs.declared.stage_registers.Fetched.{Fetched}
+use Rattle.pipe_model.specs.declared.stage_registers.Decoded.{Decoded}
+use Rattle.pipe_model.specs.declared.stage_registers.Executed.{Executed}
+use Rattle.pipe_model.specs.declared.stage_registers.Stored.{Stored}
+use Rattle.pipe_model.specs.declared.stage_registers.Written.{Written}
 use Rattle.world_model.specs.World.{Registers}
-use Rattle.pipe_model.specs.Stages.{Latches, State}
+use Rattle.pipe_model.specs.Stages.{StageRegisters, State}
 use Rattle.machine.specs.DumpedState.{eight_from, traps_seen, timer_seen, words_seen}
 use Rattle.core_model.specs.Thread.{reg_in}
 
--- what a latch shows
-abbrev pub fetched_held : Latch Fetched → Held
-fetched_held latch.Bubble = Nothing
-fetched_held (latch.Flushed k) = Picked k
-fetched_held (latch.Issue k x) = Picked k
+-- what a stage register shows
+abbrev pub fetched_held : InStage Fetched → Held
+fetched_held stage.Bubble = Nothing
+fetched_held (stage.Flushed k) = Picked k
+fetched_held (stage.Issue k x) = Picked k
 
 -- the word isn't shown where an expiry or a refused fetch will take the turn
 abbrev pub shown_word : ℕ → List Bool → ℕ → ℕ → Decoded → ℕ
@@ -31,31 +31,31 @@ shown_word size confined iregions k x =
     if x.expired || not (may_fetch k size (slice_index_or confined k true) iregions x.pc) then 0 else x.word
 
 -- what the second stage shows
-abbrev pub decoded_held : ℕ → List Bool → ℕ → Latch Decoded → Held
-decoded_held size confined iregions latch.Bubble = Nothing
-decoded_held size confined iregions (latch.Flushed k) = Flushed k
-decoded_held size confined iregions (latch.Issue k x) = Issue k x.pc (shown_word size confined iregions k x)
+abbrev pub decoded_held : ℕ → List Bool → ℕ → InStage Decoded → Held
+decoded_held size confined iregions stage.Bubble = Nothing
+decoded_held size confined iregions (stage.Flushed k) = Flushed k
+decoded_held size confined iregions (stage.Issue k x) = Issue k x.pc (shown_word size confined iregions k x)
 
 -- what the third stage shows
-abbrev pub executed_held : Latch Executed → Held
-executed_held latch.Bubble = Nothing
-executed_held (latch.Flushed k) = Flushed k
-executed_held (latch.Issue k x) = Issue k x.pc x.word
+abbrev pub executed_held : InStage Executed → Held
+executed_held stage.Bubble = Nothing
+executed_held (stage.Flushed k) = Flushed k
+executed_held (stage.Issue k x) = Issue k x.pc x.word
 
 -- what the fourth stage shows
-abbrev pub stored_held : Latch Stored → Held
-stored_held latch.Bubble = Nothing
-stored_held (latch.Flushed k) = Flushed k
-stored_held (latch.Issue k x) = Issue k x.pc x.word
+abbrev pub stored_held : InStage Stored → Held
+stored_held stage.Bubble = Nothing
+stored_held (stage.Flushed k) = Flushed k
+stored_held (stage.Issue k x) = Issue k x.pc x.word
 
 -- what the fifth stage shows
-abbrev pub written_held : Latch Written → Held
-written_held latch.Bubble = Nothing
-written_held (latch.Flushed k) = Flushed k
-written_held (latch.Issue k x) = Issue k x.pc x.word
+abbrev pub written_held : InStage Written → Held
+written_held stage.Bubble = Nothing
+written_held (stage.Flushed k) = Flushed k
+written_held (stage.Issue k x) = Issue k x.pc x.word
 
 -- the ten lines of the machine
-unfoldable pub head_line : Latches → ℕ → List Bool → Registers → ℕ → ℕ → List ℕ
+unfoldable pub head_line : StageRegisters → ℕ → List Bool → Registers → ℕ → ℕ → List ℕ
 head_line p size confined registers at k =
     if k == 0 then cycles_text at
     else if k == 1 then stage_text (codes "F") (fetched_held p.f)
@@ -80,16 +80,16 @@ thread_line u i k =
     else latch_text i (rows.latch_seen (rows.row_at u.ports i))
 
 -- any line; from number 66 on those of the data scratchpad
-unfoldable pub dump_line : Latches → State → ℕ → ℕ → List ℕ
+unfoldable pub dump_line : StageRegisters → State → ℕ → ℕ → List ℕ
 dump_line p u at k =
     if nat_lt k 10 then head_line p u.size u.confined u.control.registers at k
     else if nat_lt k 66 then thread_line u ((k - 10) / 7) ((k - 10) % 7)
     else words_seen u.d_words (k - 66)
 
 -- the lines before number k
-abbrev pub lines_before : Latches → State → ℕ → ℕ → List ℕ
+abbrev pub lines_before : StageRegisters → State → ℕ → ℕ → List ℕ
 lines_before p u at k = flat_map (dump_line p u at) (range_with_len 0 k)
 
 -- the whole dump, by the fields of a machine
-abbrev pub dumped : Latches → State → ℕ → List ℕ
+abbrev pub dumped : StageRegisters → State → ℕ → List ℕ
 dumped p u at = lines_before p u at (66 + u.size / 32)

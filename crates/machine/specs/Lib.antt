@@ -9,7 +9,7 @@ pub use Rattle.fp_io.specs.Causes
 pub use Rattle.fp_io.specs.Content
 pub use Rattle.fp_ports.specs.Rows
 pub use Rattle.pipe_model.specs.Stages
-pub use Rattle.pipeline_core.specs.LatchFacts
+pub use Rattle.pipeline_core.specs.StageFacts
 pub use Rattle.run_laws.specs.TraceLaws
 pub use Rattle.trace_print.specs.Text
 pub use Rattle.world_model.specs.World

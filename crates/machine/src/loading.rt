@@ -5,7 +5,7 @@ ghost use Rattle.fp_ports.specs.Rows.{Row};
 ghost use Rattle.fp_setup.specs.declared.thread_list.ThreadSetup.{ThreadSetup};
 ghost use Rattle.fp_setup.specs.Settings.{size_of};
 ghost use Rattle.setup_model.specs.Start.{words_from};
-ghost use Rattle.pipeline_core.specs.LatchFacts.{IsPc};
+ghost use Rattle.pipeline_core.specs.StageFacts.{IsPc};
 ghost use Rattle.pipeline_core.specs.AsDefined.{state_by};
 ghost use Rattle.machine.specs.WorldRelation.{StandsFor, start_beside, units_at_start};
 

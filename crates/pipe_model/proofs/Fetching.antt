@@ -10,16 +10,16 @@ use Rattle.core_model.specs.Memory.{code_at}
 use Rattle.world_model.specs.World.{Start, World, Took, world, thread_of}
 use Rattle.world_model.specs.World.Took.{Idle, Lost, Ran}
 use Rattle.world_model.proofs.Turns.{Turned, Does, behind, real}
-use Rattle.pipe_model.specs.declared.latches.Held.{Held}
-use Rattle.pipe_model.specs.declared.latches.Held.TheVariants.{Bubble, Flushed, Issue}
-use Rattle.pipe_model.specs.declared.latches.Decoded.{Decoded}
-use Rattle.pipe_model.specs.declared.latches.Executed.{Executed}
-use Rattle.pipe_model.specs.declared.latches.Fetched.{Fetched}
-use Rattle.pipe_model.specs.declared.latches.Stored.{Stored}
-use Rattle.pipe_model.specs.declared.latches.Redirect.{Redirect}
-use Rattle.pipe_model.specs.Stages.{Latches, State, decode_latch, flushes_d, operand}
+use Rattle.pipe_model.specs.declared.stage_registers.Held.{Held}
+use Rattle.pipe_model.specs.declared.stage_registers.Held.TheVariants.{Bubble, Flushed, Issue}
+use Rattle.pipe_model.specs.declared.stage_registers.Decoded.{Decoded}
+use Rattle.pipe_model.specs.declared.stage_registers.Executed.{Executed}
+use Rattle.pipe_model.specs.declared.stage_registers.Fetched.{Fetched}
+use Rattle.pipe_model.specs.declared.stage_registers.Stored.{Stored}
+use Rattle.pipe_model.specs.declared.stage_registers.Redirect.{Redirect}
+use Rattle.pipe_model.specs.Stages.{StageRegisters, State, decode_stage, flushes_d, operand}
 use Rattle.pipe_model.specs.Relation.{turn_at, in_memory, in_execute, in_decode, in_fetch, decoded_in, pick_in, bank_in, control_in, Begins, Stands}
-use Rattle.pipe_model.specs.LatchView.{FetchHolds}
+use Rattle.pipe_model.specs.StageView.{FetchHolds}
 use Rattle.pipe_model.proofs.Moved.{eight}
 use Rattle.pipe_model.proofs.Late.{redirect_in}
 use Rattle.pipe_model.proofs.Young.{decode-is}
@@ -33,8 +33,8 @@ thin (Issue k d) = Issue k (record { pc = d.pc; word = d.word })
 
 -- where a turn goes on in D it was in f
 from-decoded : (bank : List (List ℕ)) (m : Held Stored) (e : Held Executed) (timers : List Timer) (r : Option Redirect) (now : ℕ) (f : Held Fetched) (k : ℕ) (d : Decoded) →
-    decode_latch bank m e timers r now f ≡ Issue k d → f ≡ thin (Issue k d)
-unfolding decode_latch
+    decode_stage bank m e timers r now f ≡ Issue k d → f ≡ thin (Issue k d)
+unfolding decode_stage
 from-decoded bank m e timers r now Bubble k d h = cc
 from-decoded bank m e timers r now (Flushed j) k d h = cc
 from-decoded bank m e timers r now (Issue j x) k d h = go (flushes_d j r) h
@@ -50,8 +50,8 @@ from-decoded bank m e timers r now (Issue j x) k d h = go (flushes_d j r) h
     go false g = ap thin g
 
 from-flushed : (bank : List (List ℕ)) (m : Held Stored) (e : Held Executed) (timers : List Timer) (r : Option Redirect) (now : ℕ) (k : ℕ) (t : Took) (s : Start) (n : ℕ) (w : World) →
-    decode_latch bank m e timers r now (Flushed k) ≡ in_decode s n w t → t ≡ Lost k
-unfolding decode_latch
+    decode_stage bank m e timers r now (Flushed k) ≡ in_decode s n w t → t ≡ Lost k
+unfolding decode_stage
 from-flushed bank m e timers r now k Idle s n w h = cc
 from-flushed bank m e timers r now k (Lost j) s n w h = let P : Held Decoded → Took = who in ap P (sym h)
   where
@@ -66,7 +66,7 @@ pc-of s n w after t k pc word effect turned e =
     let does : Does s n w after k pc word effect = subst (λ (x : Took). Turned s n w x after) e turned in
     does.pc_is
 
-pub holds : (s : Start) (c : ℕ) (p : Latches) (u : State) → Begins s → Stands s c p u → FetchHolds s p.f (turn_at s c 0)
+pub holds : (s : Start) (c : ℕ) (p : StageRegisters) (u : State) → Begins s → Stands s c p u → FetchHolds s p.f (turn_at s c 0)
 holds s c p u begins stands = record {
   flushed = λ k h. from-flushed _ _ _ _ _ _ k (turn_at s c 0) s (c - 1) (world s (c - 1)) (subst Decodes (sym f-is ∙ h) decoded);
   issue = λ k pc word effect e. issue k pc word effect e;
@@ -76,10 +76,10 @@ holds s c p u begins stands = record {
     f = in_fetch s c (world s (c - 2)) (turn_at s c 1) (pick_in (turn_at s c 0))
 
     f-is : p.f ≡ f
-    f-is = ap (λ (x : Latches). x.f) stands.latches
+    f-is = ap (λ (x : StageRegisters). x.f) stands.stage_registers
 
     Decodes : Held Fetched → Type 0
-    Decodes x = decode_latch (bank_in (world s (c - 3))) (in_memory (turn_at s c 2)) (in_execute s (c - 2) (world s (c - 2)) (turn_at s c 1)) (control_in (world s (c - 1))).timers
+    Decodes x = decode_stage (bank_in (world s (c - 3))) (in_memory (turn_at s c 2)) (in_execute s (c - 2) (world s (c - 2)) (turn_at s c 1)) (control_in (world s (c - 1))).timers
         (redirect_in s (c - 2) (world s (c - 2)) (turn_at s c 1)) (time s.period (c - 1)) x ≡ in_decode s (c - 1) (world s (c - 1)) (turn_at s c 0)
 
     decoded : Decodes f

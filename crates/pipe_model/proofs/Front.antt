@@ -1,4 +1,4 @@
--- What the turn of c - 2 does to the younger turns of a hart.
+-- What the turn of c - 2 does to the younger turns of a thread.
 use Rattle.std.proofs.Common.{◌≡◌, ℕ, suc, ◌+◌, ◌<◌, ◌≤◌, ◌⊎◌, inl, inr, Bool, true, false, List, get_or, length, Some, None, refl, ap, sym, ◌∙◌, subst, arith}
 use Rattle.std.specs.Prelude.{if◌then◌else◌, Option, ◌==◌, nat_le}
 use Rattle.std.proofs.lemmas.List.{get_or-set_same, get_or-set_other, length-set}
@@ -13,9 +13,9 @@ use Rattle.world_model.specs.World.{Start, World, Took, thread_of, issue_of, con
 use Rattle.world_model.specs.World.Took.{Idle, Lost, Ran}
 use Rattle.world_model.proofs.Turns.{Does, Turned}
 use Rattle.world_model.proofs.Pace.{Paced, is_csr, filled-csr}
-use Rattle.pipe_model.specs.declared.latches.Redirect.{Redirect}
-use Rattle.pipe_model.specs.declared.latches.Way.{Way}
-use Rattle.pipe_model.specs.declared.latches.Way.TheVariants.{LateValue, Elsewhere}
+use Rattle.pipe_model.specs.declared.stage_registers.Redirect.{Redirect}
+use Rattle.pipe_model.specs.declared.stage_registers.Way.{Way}
+use Rattle.pipe_model.specs.declared.stage_registers.Way.TheVariants.{LateValue, Elsewhere}
 use Rattle.pipe_model.specs.Stages.{forward, from_e, from_m, flushes_d, reaches_f, flushes_f, way_of, redirected, redirect_of}
 use Rattle.pipe_model.specs.Relation.{issues, after_issue, did_in, in_execute, in_memory}
 use Rattle.pipe_model.proofs.Moved.{did-pace, unequal, equals}
@@ -31,7 +31,7 @@ forwards (Some (Csr n x y z)) regs h = cc
 forwards (Some (Trap x y)) regs h = refl
 forwards (Some Wait) regs h = refl
 
--- the hart of an issue, after it
+-- the thread of an issue, after it
 after-is : (s : Start) (n : ℕ) (w after : World) (k pc word : ℕ) (effect : Option Effect) → length w.threads ≡ 8 → Does s n w after k pc word effect →
     thread_of after k ≡ (issue_of s n w k).thread
 after-is s n w after k pc word effect l t =
@@ -73,7 +73,7 @@ forwarded-m s n w after (Ran j pc word effect) k l t h = go (j == k) refl h
     go false e h = ap (λ (x : Thread). x.regs) (ap (λ (xs : List Thread). get_or xs k (fresh 0)) t.threads ∙ get_or-set_other w.threads j k (issue_of s n w j).thread (fresh 0) (unequal j k e))
     go true e h = subst P (equals j k e) same (h refl)
 
--- the turn of n = c - 2 flushes none of the hart's younger turns
+-- the turn of n = c - 2 flushes none of the thread's younger turns
 pub record Spared (s : Start) (c n : ℕ) (w after : World) (took : Took) (k : ℕ) (pcs : List ℕ) : Type 0 where
   pub one : flushes_d k (redirect_in s n w took) ≡ false
   pub two : flushes_f k (redirect_in s n w took) ≡ false
@@ -93,7 +93,7 @@ pub record Killed (s : Start) (c n : ℕ) (w after : World) (took : Took) (k : �
   pub next : get_or (redirected (redirect_in s n w took) pcs) k 0 ≡ (thread_of after k).pc
   pub count : length (redirected (redirect_in s n w took) pcs) ≡ length pcs
 
--- a turn that is no issue of the hart
+-- a turn that is no issue of the thread
 pub elsewhere : (s : Start) (c n : ℕ) (w after : World) (took : Took) (k : ℕ) (pcs : List ℕ) → issues k took ≡ false → thread_of after k ≡ thread_of w k → (thread_of w k).ready ≤ c →
     Spared s c n w after took k pcs
 unfolding redirected
@@ -132,7 +132,7 @@ elsewhere s c n w after (Ran j pc word effect) k pcs i e h = record {
     counts true = refl
     counts false = length-set pcs j d.pc
 
--- an issue of the hart
+-- an issue of the thread
 pub here : (s : Start) (c n : ℕ) (w after : World) (k pc word : ℕ) (effect : Option Effect) (pcs : List ℕ) → length w.threads ≡ 8 → length pcs ≡ 8 →
     c ≡ n + 2 → Does s n w after k pc word effect →
     Spared s c n w after (Ran k pc word effect) k pcs ⊎ Killed s c n w after (Ran k pc word effect) k pcs

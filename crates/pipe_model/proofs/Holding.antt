@@ -1,17 +1,17 @@
--- What the latches hold of the last five turns.
+-- What the stage registers hold of the last five turns.
 use Rattle.std.proofs.Common.{◌≡◌, ℕ, ◌-◌, refl, ap, sym, ◌∙◌}
 use Rattle.std.specs.Prelude.{Option}
 use Rattle.rv_decode.specs.Table.{ins}
 use Rattle.rv_exec.specs.declared.outcome.Effect.{Effect}
 use Rattle.timer_unit.specs.Time.{time, is_due}
 use Rattle.core_model.specs.Thread.{Did, filled, reg_in}
-use Rattle.core_model.specs.Issue.{acts_on, issue, effect_of, late_rd, value_in, source_1, source_2}
+use Rattle.core_model.specs.Issue.{execute_word, issue, effect_of, late_rd, value_in, source_1, source_2}
 use Rattle.core_model.specs.Memory.{code_at}
 use Rattle.world_model.specs.World.{Start, World, Took, world, thread_of, around, contents}
 use Rattle.world_model.specs.World.Took.{Idle, Lost, Ran}
 use Rattle.world_model.proofs.Turns.{Does, Turned, behind}
-use Rattle.pipe_model.specs.declared.latches.Held.TheVariants.{Issue}
-use Rattle.pipe_model.specs.Stages.{Latches}
+use Rattle.pipe_model.specs.declared.stage_registers.Held.TheVariants.{Issue}
+use Rattle.pipe_model.specs.Stages.{StageRegisters}
 use Rattle.pipe_model.specs.Relation.{turn_at, in_execute, in_decode, decoded_in, executed_in, did_in}
 use Rattle.pipe_model.specs.Contents.{is_expiry, decoded_by, decode_holds, before_late, address_of, unless_trapped, executed_by, execute_holds}
 use Rattle.pipe_model.specs.PipelineLaws.{HoldsTurns}
@@ -19,10 +19,10 @@ use Rattle.pipe_model.proofs.Told.{ActTold, act-told, filled-expiry, filled-earl
 use Rattle.pipe_model.proofs.Fetching.{holds}
 
 did-told : (s : Start) (n : ℕ) (w : World) (k : ℕ) → ActTold (thread_of w k).regs (is_due (thread_of w k).own.timer.armed (time s.period n)) (did_in s n w k)
-unfolding around acts_on
+unfolding around execute_word
 did-told s n w k = act-told _ _ _ (thread_of w k).regs _ _ _
 
--- an issue of hart k, by its turn
+-- an issue of thread k, by its turn
 module _ (s : Start) (n : ℕ) (w after : World) (k pc word : ℕ) (effect : Option Effect) (does : Does s n w after k pc word effect) where
   abbrev d : Did
   d = did_in s n w k
@@ -84,8 +84,8 @@ in-execute s n w after (Ran k pc word effect) t = ap (Issue k) (executed-is s n 
 pub held : HoldsTurns
 held s c p u begins stands = record {
   f = holds s c p u begins stands;
-  d = ap (λ (x : Latches). x.d) stands.latches ∙ in-decode s (c - 2) (world s (c - 2)) (world s (c - 1)) (turn_at s c 1) (behind s c 1);
-  e = ap (λ (x : Latches). x.e) stands.latches ∙ in-execute s (c - 3) (world s (c - 3)) (world s (c - 2)) (turn_at s c 2) (behind s c 2);
-  m = ap (λ (x : Latches). x.m) stands.latches;
-  w = ap (λ (x : Latches). x.w) stands.latches;
+  d = ap (λ (x : StageRegisters). x.d) stands.stage_registers ∙ in-decode s (c - 2) (world s (c - 2)) (world s (c - 1)) (turn_at s c 1) (behind s c 1);
+  e = ap (λ (x : StageRegisters). x.e) stands.stage_registers ∙ in-execute s (c - 3) (world s (c - 3)) (world s (c - 2)) (turn_at s c 2) (behind s c 2);
+  m = ap (λ (x : StageRegisters). x.m) stands.stage_registers;
+  w = ap (λ (x : StageRegisters). x.w) stands.stage_registers;
 }

@@ -11,19 +11,19 @@ use Rattle.world_model.specs.World.{Start, World, Took, world, thread_of, takes,
 use Rattle.world_model.specs.World.Took.{Idle, Lost, Ran}
 use Rattle.world_model.proofs.Picks.{pick-below}
 use Rattle.world_model.proofs.Turns.{Turned, behind, real, turn-older, next_takes, next_last, picked}
-use Rattle.pipe_model.specs.declared.latches.Held.{Held}
-use Rattle.pipe_model.specs.declared.latches.Fetched.{Fetched}
-use Rattle.pipe_model.specs.declared.latches.Stored.{Stored}
-use Rattle.pipe_model.specs.declared.latches.Redirect.{Redirect}
-use Rattle.pipe_model.specs.Stages.{Latches, State, After, Ticked, bank_after, memory_latch, ports_stored, execution, write_latch, retired, decode_latch, redirected, advanced, finish, step}
-use Rattle.pipe_model.specs.Relation.{turn_at, in_write, in_memory, in_execute, in_decode, in_fetch, pick_in, issues, next_of, bank_in, control_in, units_of, latches_of, Fronts, HasLatches, Stands, Shows, Begins, event_in, Kept}
+use Rattle.pipe_model.specs.declared.stage_registers.Held.{Held}
+use Rattle.pipe_model.specs.declared.stage_registers.Fetched.{Fetched}
+use Rattle.pipe_model.specs.declared.stage_registers.Stored.{Stored}
+use Rattle.pipe_model.specs.declared.stage_registers.Redirect.{Redirect}
+use Rattle.pipe_model.specs.Stages.{StageRegisters, State, After, Ticked, bank_after, memory_stage, ports_stored, execute_stage, writeback_stage, retired, decode_stage, redirected, advanced, finish, step}
+use Rattle.pipe_model.specs.Relation.{turn_at, in_write, in_memory, in_execute, in_decode, in_fetch, pick_in, issues, next_of, bank_in, control_in, units_of, stage_registers_of, Fronts, HasLatches, Stands, Shows, Begins, event_in, Kept}
 use Rattle.pipe_model.proofs.Moved.{Moves, eight, equals, moved, soon_lagging}
-use Rattle.pipe_model.proofs.Late.{writes, stored-is, stores-is, execution-is, redirect_in, after_in}
+use Rattle.pipe_model.proofs.Late.{writes, stored-is, stores-is, execute_stage-is, redirect_in, after_in}
 use Rattle.pipe_model.proofs.Front.{Spared, Killed, elsewhere, here, forwarded-m}
 use Rattle.pipe_model.proofs.Young.{Fate, Ahead, decode-is, ahead, fetch-is, advanced-count, advanced-is}
 use Rattle.pipe_model.proofs.Ports.{eight_latches, same-ports, ports-is, plugged}
 
--- the newest turn is the picked hart's
+-- the newest turn is the picked thread's
 takes-pick : (s : Start) (n : ℕ) (w : World) (last : ℕ) (o : Pick) → pick_in (newest (takes s n w last o)) ≡ o
 takes-pick s n w last chosen.Bubble = refl
 takes-pick s n w last (chosen.Issue k) = go (nat_lt n (thread_of w k).ready)
@@ -35,8 +35,8 @@ takes-pick s n w last (chosen.Issue k) = go (nat_lt n (thread_of w k).ready)
 picked-is : (s : Start) (c : ℕ) → pick_in (turn_at s (suc c) 0) ≡ (picked s c).pick
 picked-is s c = rw (next_takes s c) (takes-pick s c (world s c) (picked s c).last (picked s c).pick)
 
-pub write-is : (t : Took) → write_latch (in_memory t) ≡ in_write t
-unfolding write_latch
+pub write-is : (t : Took) → writeback_stage (in_memory t) ≡ in_write t
+unfolding writeback_stage
 write-is Idle = refl
 write-is (Lost k) = refl
 write-is (Ran k pc word effect) = refl
@@ -118,8 +118,8 @@ module _ (s : Start) (c : ℕ) (begins : Begins s) where
       let d : suc c - 2 ≡ c - 1 = omega arith in
       rw (a, b, d, next_last s c) refl
 
-  abbrev latches_after : List ℕ → Latches
-  latches_after pcs = record {
+  abbrev stage_registers_after : List ℕ → StageRegisters
+  stage_registers_after pcs = record {
     next = pcs;
     f = in_fetch s (suc c) w1 t0 (picked s c).pick;
     d = in_decode s (c - 1) w1 t0;
@@ -128,13 +128,13 @@ module _ (s : Start) (c : ℕ) (begins : Begins s) where
     w = in_write t3;
   }
 
-  latches-next : (pcs : List ℕ) → latches_after pcs ≡ latches_of s (suc c) pcs
-  latches-next pcs =
+  stage_registers-next : (pcs : List ℕ) → stage_registers_after pcs ≡ stage_registers_of s (suc c) pcs
+  stage_registers-next pcs =
       let b : suc c - 3 ≡ c - 2 = omega arith in
       let d : suc c - 2 ≡ c - 1 = omega arith in
       rw (b, d, turn-older s c 0, turn-older s c 1, turn-older s c 2, turn-older s c 3, picked-is s c) refl
 
-  module _ (ports : List (Option Row)) (shows : Shows s c ports) (has : HasLatches w3 ports) (pcs : List ℕ) (fronts : Fronts s c (latches_of s c pcs).f pcs) where
+  module _ (ports : List (Option Row)) (shows : Shows s c ports) (has : HasLatches w3 ports) (pcs : List ℕ) (fronts : Fronts s c (stage_registers_of s c pcs).f pcs) where
     abbrev r : Option Redirect
     r = redirect_in s (c - 2) w2 t1
 
@@ -165,16 +165,16 @@ module _ (s : Start) (c : ℕ) (begins : Begins s) where
     abbrev u : State
     u = units_of s c ports
 
-    abbrev p : Latches
-    p = latches_of s c pcs
+    abbrev p : StageRegisters
+    p = stage_registers_of s c pcs
 
-    m-of : (t : Took) → Turned s (c - 3) w3 t w2 → (2 < c) ⊎ (t ≡ Idle) → memory_latch u.size u.i_words u.d_words u.ports (c - 3) (in_execute s (c - 3) w3 t) ≡ in_memory t
-    unfolding memory_latch
+    m-of : (t : Took) → Turned s (c - 3) w3 t w2 → (2 < c) ⊎ (t ≡ Idle) → memory_stage u.size u.i_words u.d_words u.ports (c - 3) (in_execute s (c - 3) w3 t) ≡ in_memory t
+    unfolding memory_stage
     m-of t h (inl l) = stored-is s (c - 3) w3 w2 ports t h (λ k b. shows.words k b l)
     m-of t h (inr e) = rw e refl
 
-    e-is : execution u.size u.confined u.permit (time u.period (c - 2)) u.control p.d ≡ after_in s (c - 2) w2 w1 t1
-    e-is = execution-is s (c - 2) w2 w1 t1 (behind s c 1)
+    e-is : execute_stage u.size u.confined u.permit (time u.period (c - 2)) u.control p.d ≡ after_in s (c - 2) w2 w1 t1
+    e-is = execute_stage-is s (c - 2) w2 w1 t1 (behind s c 1)
 
     has-of : (t : Took) → Turned s (c - 3) w3 t w2 → (2 < c) ⊎ (t ≡ Idle) → HasLatches w2 (ports_stored (in_memory t) ports)
     unfolding ports_stored
@@ -184,17 +184,17 @@ module _ (s : Start) (c : ℕ) (begins : Begins s) where
         rw e (λ k b. rw none.latches (has k b))
 
     abbrev outcome : Ticked
-    outcome = record { latches = latches_after pcs'; state = units_after ports'; event = event_in (c - 4) t3 }
+    outcome = record { stage_registers = stage_registers_after pcs'; state = units_after ports'; event = event_in (c - 4) t3 }
 
     bank-is : bank_after p.m u.bank ≡ bank_in w3
     bank-is = writes s (c - 4) w4 w3 t3 (eight s (c - 4) begins) (behind s c 3)
 
     finished : finish p u c (picked s c) (in_memory t2) (after_in s (c - 2) w2 w1 t1) ≡ outcome
     finished = λ j. record {
-      latches = record {
+      stage_registers = record {
         next = pcs';
         f = fetch-is s c w3 w2 w1 w0 t2 t1 t0 pcs three each (behind s c 0) (real s c 0) (picked s c).pick (λ k e. on k (low k e)) j;
-        d = (ap (λ (bank : List (List ℕ)). decode_latch bank (in_memory t2) (in_execute s (c - 2) w2 t1) (control_in w1).timers r (time s.period (c - 1)) p.f) bank-is
+        d = (ap (λ (bank : List (List ℕ)). decode_stage bank (in_memory t2) (in_execute s (c - 2) w2 t1) (control_in w1).timers r (time s.period (c - 1)) p.f) bank-is
             ∙ decode-is s c w3 w2 w1 w0 t2 t1 t0 pcs three each (behind s c 0) (real s c 0) t0 (behind s c 0) (real s c 0)) j;
         e = in_execute s (c - 2) w2 t1;
         m = in_memory t2;
@@ -219,13 +219,13 @@ module _ (s : Start) (c : ℕ) (begins : Begins s) where
     unfolding step
     stepped = ap₂ (λ (m : Held Stored) (e : After). finish p u c (picked s c) m e) (m-of t2 (behind s c 2) (real s c 2)) e-is ∙ finished
 
-    fronts-next : Fronts s (suc c) (latches_after pcs').f pcs'
+    fronts-next : Fronts s (suc c) (stage_registers_after pcs').f pcs'
     fronts-next = record {
       count = advanced-count s c w3 w2 w1 w0 t2 t1 t0 pcs three each (behind s c 0) (real s c 0) (picked s c).pick count;
       next = λ k h. nexts-is k h;
     }
       where
-        nexts-is : (k : ℕ) → k < 8 → get_or pcs' k 0 ≡ next_of (world s (suc c - 2)) (turn_at s (suc c) 1) (latches_after pcs').f k
+        nexts-is : (k : ℕ) → k < 8 → get_or pcs' k 0 ≡ next_of (world s (suc c - 2)) (turn_at s (suc c) 1) (stage_registers_after pcs').f k
         nexts-is k h =
             let d : suc c - 2 ≡ c - 1 = omega arith in
             rw (d, turn-older s c 0)
@@ -237,7 +237,7 @@ module _ (s : Start) (c : ℕ) (begins : Begins s) where
 
     outcome-kept : Kept s c ports outcome
     outcome-kept = record {
-      stands = record { latches = latches-next pcs'; fronts = fronts-next; units = units-next ports'; ports = ports-next };
+      stands = record { stage_registers = stage_registers-next pcs'; fronts = fronts-next; units = units-next ports'; ports = ports-next };
       event = refl;
       ports = same-ports ports t2;
     }
@@ -246,8 +246,8 @@ module _ (s : Start) (c : ℕ) (begins : Begins s) where
     step-kept = let P : Ticked → Type 0 = Kept s c ports in subst P (sym stepped) outcome-kept
 
 -- the whole
-pub keeps : (s : Start) (c : ℕ) (p : Latches) (u : State) → Begins s → Shows s c u.ports → Stands s c p u → Kept s c u.ports (step p u c)
+pub keeps : (s : Start) (c : ℕ) (p : StageRegisters) (u : State) → Begins s → Shows s c u.ports → Stands s c p u → Kept s c u.ports (step p u c)
 keeps s c p u begins shows stands =
-    let P : Latches → State → Type 0 = λ x y. Kept s c u.ports (step x y c) in
-    let Q : Latches → Type 0 = λ x. Fronts s c x.f p.next in
-    subst₂ P (sym stands.latches) (sym stands.units) (step-kept s c begins u.ports shows stands.ports p.next (subst Q stands.latches stands.fronts))
+    let P : StageRegisters → State → Type 0 = λ x y. Kept s c u.ports (step x y c) in
+    let Q : StageRegisters → Type 0 = λ x. Fronts s c x.f p.next in
+    subst₂ P (sym stands.stage_registers) (sym stands.units) (step-kept s c begins u.ports shows stands.ports p.next (subst Q stands.stage_registers stands.fronts))

@@ -13,18 +13,18 @@ use Rattle.timer_unit.specs.Time.{time, is_due, no_timer}
 use Rattle.fp_ports.specs.Rows.{Row, row_at, word_seen}
 use Rattle.core_model.specs.declared.own.Trapping.{Trapping}
 use Rattle.core_model.specs.Thread.{Thread, Did, fresh, regs_after, filled, reg_in}
-use Rattle.core_model.specs.Issue.{acts_on, issue, effect_of, late_rd, late_value, value_in, source_1, source_2}
+use Rattle.core_model.specs.Issue.{execute_word, issue, effect_of, late_rd, late_value, value_in, source_1, source_2}
 use Rattle.core_model.specs.Memory.{code_at, data_at}
 use Rattle.world_model.specs.World.{Start, World, Took, thread_of, issue_of, port_word, registers_after, around, surroundings, contents}
 use Rattle.world_model.specs.World.Took.{Idle, Lost, Ran}
 use Rattle.world_model.proofs.Turns.{Same, Does, Turned}
 use Rattle.world_model.proofs.Pace.{filled-registers, act-word}
-use Rattle.pipe_model.specs.declared.latches.Held.TheVariants.{Bubble, Flushed, Issue}
-use Rattle.pipe_model.specs.declared.latches.Redirect.{Redirect}
-use Rattle.pipe_model.specs.Stages.{bank_after, memory_latch, words_stored, After, executes, execution, execute, executed, controlled, redirect_of, own_in}
+use Rattle.pipe_model.specs.declared.stage_registers.Held.TheVariants.{Bubble, Flushed, Issue}
+use Rattle.pipe_model.specs.declared.stage_registers.Redirect.{Redirect}
+use Rattle.pipe_model.specs.Stages.{bank_after, memory_stage, words_stored, After, executes, execute_stage, execute, executed, controlled, redirect_of, own_in}
 use Rattle.pipe_model.specs.Relation.{in_memory, in_execute, in_decode, decoded_in, executed_in, did_in, bank_in, control_in}
 
--- the registers of a hart of the world
+-- the registers of a thread of the world
 pub row-is : (w : World) (k : ℕ) → length w.threads ≡ 8 → k < 8 → get_or (bank_in w) k [] ≡ (thread_of w k).regs
 row-is w k l h = let f : Thread → List ℕ = λ t. t.regs in bounded.get_or-map f w.threads k (fresh 0) [] (rw l h)
 
@@ -42,8 +42,8 @@ writes s n w after (Ran k pc word effect) l t =
 -- M: a late value is what the world's issue finds
 pub stored-is : (s : Start) (n : ℕ) (w after : World) (ports : List (Option Row)) (t : Took) → Turned s n w t after →
     ((k : ℕ) → k < 8 → word_seen (row_at ports k) n ≡ port_word s n k) →
-    memory_latch s.size s.i_words w.d_words ports n (in_execute s n w t) ≡ in_memory t
-unfolding memory_latch issue effect_of
+    memory_stage s.size s.i_words w.d_words ports n (in_execute s n w t) ≡ in_memory t
+unfolding memory_stage issue effect_of
 stored-is s n w after ports Idle t h = refl
 stored-is s n w after ports (Lost k) t h = refl
 stored-is s n w after ports (Ran k pc word effect) t h = λ j. Issue k (record { pc = sym t.pc_is j; word = sym t.word_is j; effect = e j })
@@ -60,7 +60,7 @@ stores-is s n w after Idle t = sym t.words
 stores-is s n w after (Lost k) t = sym t.same.words
 stores-is s n w after (Ran k pc word effect) t = sym t.words
 
--- E: the hart's own state
+-- E: the thread's own state
 pub timer-is : (w : World) (k : ℕ) → get_or (map (λ x. x.own.timer) w.threads) k no_timer ≡ (thread_of w k).own.timer
 timer-is w k = let f : Thread → Timer = λ x. x.own.timer in get_or-map f w.threads k (fresh 0)
 
@@ -72,7 +72,7 @@ own-is w k =
 
 execute-is : (s : Start) (n : ℕ) (w : World) (k : ℕ) →
     execute s.size s.confined s.permit (time s.period n) (control_in w) k (decoded_in s n (thread_of w k)) ≡ did_in s n w k
-unfolding around acts_on
+unfolding around execute_word
 execute-is s n w k = rw (own-is w k) refl
 
 ins-zero : ins 0 ≡ Illegal 0
@@ -93,7 +93,7 @@ shown-operand w v x regs source z e h = go (v == 0) refl h
     go false f (inr k) = absurd (grind (arith, nat_tests))
 
 executed-is : (s : Start) (n : ℕ) (w : World) (k : ℕ) → executed (decoded_in s n (thread_of w k)) (did_in s n w k) ≡ executed_in (did_in s n w k) (thread_of w k)
-unfolding around acts_on
+unfolding around execute_word
 executed-is s n w k = λ j. record { pc = t.pc; word = d.word; a = a j; b = b j; address = d.address; effect = d.effect }
   where
     t : Thread
@@ -151,12 +151,12 @@ controlled-is s n w after k pc word effect t =
     λ j. record { registers = registers j; timers = timers j; traps = traps j; sleeps = sleeps j }
 
 -- E
-pub execution-is : (s : Start) (n : ℕ) (w after : World) (t : Took) → Turned s n w t after →
-    execution s.size s.confined s.permit (time s.period n) (control_in w) (in_decode s n w t) ≡ after_in s n w after t
-unfolding execution
-execution-is s n w after Idle t = λ j. record { e = Bubble; control = still w after t j; redirect = None }
-execution-is s n w after (Lost k) t = λ j. record { e = Flushed k; control = still w after t.same j; redirect = None }
-execution-is s n w after (Ran k pc word effect) t =
+pub execute_stage-is : (s : Start) (n : ℕ) (w after : World) (t : Took) → Turned s n w t after →
+    execute_stage s.size s.confined s.permit (time s.period n) (control_in w) (in_decode s n w t) ≡ after_in s n w after t
+unfolding execute_stage
+execute_stage-is s n w after Idle t = λ j. record { e = Bubble; control = still w after t j; redirect = None }
+execute_stage-is s n w after (Lost k) t = λ j. record { e = Flushed k; control = still w after t.same j; redirect = None }
+execute_stage-is s n w after (Ran k pc word effect) t =
     let x : Did = did_in s n w k in
     ap (executes k (decoded_in s n (thread_of w k)) (control_in w)) (execute-is s n w k)
     ∙ (λ j. record { e = Issue k (executed-is s n w k j); control = controlled-is s n w after k pc word effect t j; redirect = redirect_of k x })

@@ -1,11 +1,11 @@
--- What a turn does to one hart.
+-- What a turn does to one thread.
 use Rattle.std.proofs.Common.{◌≡◌, ◌≢◌, ℕ, zero, suc, ◌+◌, ◌-◌, ◌<◌, ◌≤◌, inl, inr, ◌⊎◌, Bool, true, false, List, get_or, length, refl, ap, ◌∙◌, subst, arith}
 use Rattle.std.specs.Prelude.{Option, ◌==◌}
 use Rattle.std.proofs.lemmas.List.{get_or-set_same, get_or-set_other, length-set}
 use Rattle.std.proofs.lemmas.Bool.{cases_lt}
 use Rattle.std.proofs.lemmas.Bool.Decides.{nat_tests}
 use Rattle.core_model.specs.Thread.{Thread, Did, fresh}
-use Rattle.core_model.specs.Issue.{acts_on, issue}
+use Rattle.core_model.specs.Issue.{execute_word, issue}
 use Rattle.world_model.specs.World.{Start, World, Took, world, thread_of, issue_of, recent}
 use Rattle.world_model.specs.World.Took.{Idle, Lost, Ran}
 use Rattle.world_model.proofs.Turns.{Turned, nexts}
@@ -18,7 +18,7 @@ equals a b h = grind (arith, nat_tests)
 pub unequal : (a b : ℕ) → (a == b) ≡ false → b ≢ a
 unequal a b h = λ e. grind (arith, nat_tests)
 
--- one hart over one turn: it issues, or it stays
+-- one thread over one turn: it issues, or it stays
 pub record Moves (s : Start) (n : ℕ) (w after : World) (k : ℕ) : Type 0 where
   pub ready : (thread_of w k).ready ≤ n
   pub thread : thread_of after k ≡ (issue_of s n w k).thread
@@ -41,7 +41,7 @@ moved s n w after (Ran j pc word effect) k l t = go (j == k) refl
           }),
         )
 
--- eight harts
+-- eight threads
 eight_after : (s : Start) (n : ℕ) (w after : World) (took : Took) → Turned s n w took after → length after.threads ≡ length w.threads
 eight_after s n w after Idle t = ap length t.threads
 eight_after s n w after (Lost j) t = ap length t.same.threads
@@ -53,7 +53,7 @@ eight s zero b = b.eight
 eight s (suc c) b = eight_after s c (world s c) (world s (suc c)) _ (nexts s c).turned ∙ eight s c b
 
 pub did-pace : (s : Start) (n : ℕ) (w : World) (k : ℕ) → Pace (thread_of w k).pc (did_in s n w k)
-unfolding acts_on
+unfolding execute_word
 did-pace s n w k = act-pace _ (thread_of w k).pc _ _ _ _ _
 
 lag-three : (d : Did) (pc : ℕ) (o : Option ℕ) → Paced pc o d → d.lag ≤ 3

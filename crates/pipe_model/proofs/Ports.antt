@@ -51,7 +51,7 @@ shown-written : (row : Option Row) (value : ℕ) → Shown (written row value) v
 shown-written None value = tt
 shown-written (Some r) value = refl
 
--- a store of a value at the port of hart j: its row, with the row that was there
+-- a store of a value at the port of thread j: its row, with the row that was there
 row-put : (ports : List (Option Row)) (j value : ℕ) (P : Option Row → Type 0) → P None → P (written (row_at ports j) value) → P (row_at (set ports j (written (row_at ports j) value)) j)
 row-put ports j value P none some = go (cases_lt j (length ports))
   where
@@ -99,7 +99,7 @@ same-ports ports Idle k = refl
 same-ports ports (Lost j) k = refl
 same-ports ports (Ran j pc word effect) k = same-effect ports j effect k
 
--- the latches of ports and world after an effect of hart j, whose port is there for the world where it is there
+-- the latches of ports and world after an effect of thread j, whose port is there for the world where it is there
 module _ (j : ℕ) (there : Bool) (ports : List (Option Row)) (ls : List ℕ) (eight : length ls ≡ 8) (below : j < 8)
     (has : (k : ℕ) → k < 8 → Shown (row_at ports k) (get_or ls k 0))
     (real : is_some (row_at ports j) ≡ true → there ≡ true) where

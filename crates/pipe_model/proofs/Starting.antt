@@ -8,7 +8,7 @@ use Rattle.pipe_model.specs.PipelineLaws.{Starts}
 pub starts : Starts
 unfolding world recent
 starts s ports b h = record {
-  latches = refl;
+  stage_registers = refl;
   fronts = record { count = length-map s.threads pc ∙ b.eight; next = λ k l. get_or-map pc s.threads k (fresh 0) };
   units = refl;
   ports = h;

@@ -11,9 +11,9 @@ use Rattle.rv_exec.specs.Access.{store_size}
 use Rattle.core_model.specs.declared.own.CsrOp.{CsrOp}
 use Rattle.core_model.specs.declared.own.Own.{Own}
 use Rattle.core_model.specs.Thread.{Around, Did, reg_in, reg_effect, filled}
-use Rattle.core_model.specs.Parts.{load, store, branch, went, delay, wait, or_armed, trapped, plain, wrote, held, with_high}
+use Rattle.core_model.specs.Parts.{load, store, branch, go_to, delay, wait, or_armed, trapped, plain, wrote, held, with_high}
 use Rattle.core_model.specs.Control.{csr_access, csr_done, csr_put, csr_written, csr_value, changed, kept, may_hold}
-use Rattle.core_model.specs.Issue.{goes, unless_trap, run, act, late_rd, source_1, csr_op, csr_operand, csr_writes}
+use Rattle.core_model.specs.Issue.{execute_untrapped, unless_trap, run_at, execute_in, late_rd, source_1, csr_op, csr_operand, csr_writes}
 use Rattle.world_model.proofs.Pace.{run-word}
 use Rattle.pipe_model.specs.Contents.{is_expiry, before_late, address_of, unless_trapped}
 
@@ -28,10 +28,10 @@ wrote-told pc t w lag rd v = go (rd == 0)
     go true = (refl, refl, refl)
     go false = (refl, refl, refl)
 
-went-told : (t : Own) (w target rd v : ℕ) → Told None 0 (went t w target (reg_effect rd v))
+went-told : (t : Own) (w target rd v : ℕ) → Told None 0 (go_to t w target (reg_effect rd v))
 went-told t w target rd v = go (rd == 0)
   where
-    go : (b : Bool) → Told None 0 (went t w target (if b then Nothing else Reg rd v))
+    go : (b : Bool) → Told None 0 (go_to t w target (if b then Nothing else Reg rd v))
     go true = (refl, refl, refl)
     go false = (refl, refl, refl)
 
@@ -62,9 +62,9 @@ csr-told pc t w rd n op operand writes None = (refl, refl, refl)
 csr-told pc t w rd n op operand true (Some old) = put-told pc t w rd n (changed op old operand) old
 csr-told pc t w rd n op operand false (Some old) = wrote-told pc t w 3 rd old
 
-access-told : (hart pc : ℕ) (t : Own) (w rd n : ℕ) (op : CsrOp) (operand : ℕ) (writes : Bool) (shared : Option ℕ) → Told None 0 (csr_access hart pc t w rd n op operand writes shared)
+access-told : (thread pc : ℕ) (t : Own) (w rd n : ℕ) (op : CsrOp) (operand : ℕ) (writes : Bool) (shared : Option ℕ) → Told None 0 (csr_access thread pc t w rd n op operand writes shared)
 unfolding csr_access
-access-told hart pc t w rd n op operand writes shared = csr-told pc t w rd n op operand writes (csr_value hart t n shared)
+access-told thread pc t w rd n op operand writes shared = csr-told pc t w rd n op operand writes (csr_value thread t n shared)
 
 delay-told : (now pc : ℕ) (t : Own) (w m : ℕ) → Told None 0 (delay now pc t w m)
 unfolding delay
@@ -82,8 +82,8 @@ wait-told now pc t w m = go (nat_le m now)
     go true = (refl, refl, refl)
     go false = (refl, refl, refl)
 
-goes-told : (a : Around) (pc : ℕ) (t : Own) (w x y : ℕ) (n : Ins) → Told (late_rd n) (address_of n x) (goes a pc t w x y (result_of n pc x y) n)
-unfolding goes result_of
+goes-told : (a : Around) (pc : ℕ) (t : Own) (w x y : ℕ) (n : Ins) → Told (late_rd n) (address_of n x) (execute_untrapped a pc t w x y (result_of n pc x y) n)
+unfolding execute_untrapped result_of
 goes-told a pc t w x y (i.Lui rd imm) = wrote-told pc t w 1 rd _
 goes-told a pc t w x y (i.Auipc rd imm) = wrote-told pc t w 1 rd _
 goes-told a pc t w x y (i.Jal rd off) = let o = result_of (i.Jal rd off) pc x y in went-told t w o.target rd o.value
@@ -141,8 +141,8 @@ unless-told : (pc : ℕ) (t : Own) (w : ℕ) (o : Option ℕ) (address : ℕ) (t
 unless-told pc t w o address (Some cause) d b h = trap-told pc t w cause o address b
 unless-told pc t w o address None d b h = h
 
-run-told : (a : Around) (pc : ℕ) (t : Own) (w x y : ℕ) (n : Ins) → Told (late_rd n) (address_of n x) (run a pc t w x y n)
-unfolding run
+run-told : (a : Around) (pc : ℕ) (t : Own) (w x y : ℕ) (n : Ins) → Told (late_rd n) (address_of n x) (run_at a pc t w x y n)
+unfolding run_at
 run-told a pc t w x y n = unless-told pc t w (late_rd n) (address_of n x) _ _ (result-below pc x y n) (goes-told a pc t w x y n)
 
 -- of the whole act, on the value of its word's first source
@@ -155,17 +155,17 @@ early-trap : (o : Option ℕ) (cause target : ℕ) → before_late o (Some (Trap
 early-trap None cause target = refl
 early-trap (Some rd) cause target = refl
 
-pub act-told : (a : Around) (pc : ℕ) (t : Own) (regs : List ℕ) (expired : Bool) (w y : ℕ) → ActTold regs expired (act a pc t expired w (reg_in regs (source_1 (ins w))) y)
-unfolding act
+pub act-told : (a : Around) (pc : ℕ) (t : Own) (regs : List ℕ) (expired : Bool) (w y : ℕ) → ActTold regs expired (execute_in a pc t expired w (reg_in regs (source_1 (ins w))) y)
+unfolding execute_in
 act-told a pc t regs true w y = record { expiry = refl; early = early-trap _ 24 _; address = refl }
 act-told a pc t regs false w y = go (a.fetch pc)
   where
     x : ℕ
     x = reg_in regs (source_1 (ins w))
 
-    go : (b : Bool) → ActTold regs false (if b then run a pc t w x y (ins w) else trapped pc t 0 1)
+    go : (b : Bool) → ActTold regs false (if b then run_at a pc t w x y (ins w) else trapped pc t 0 1)
     go true =
-        let told : Told (late_rd (ins w)) (address_of (ins w) x) (run a pc t w x y (ins w)) = run-told a pc t w x y (ins w) in
+        let told : Told (late_rd (ins w)) (address_of (ins w) x) (run_at a pc t w x y (ins w)) = run-told a pc t w x y (ins w) in
         record { expiry = told.0; early = rw (run-word a pc t w x y (ins w)) told.1; address = rw (run-word a pc t w x y (ins w)) told.2 }
     go false = record { expiry = refl; early = early-trap _ 1 _; address = refl }
 

@@ -13,16 +13,16 @@ use Rattle.core_model.specs.Memory.{code_at}
 use Rattle.world_model.specs.World.{Start, World, Took, thread_of}
 use Rattle.world_model.specs.World.Took.{Idle, Lost, Ran}
 use Rattle.world_model.proofs.Turns.{Turned}
-use Rattle.pipe_model.specs.declared.latches.Held.TheVariants.{Flushed, Issue}
-use Rattle.pipe_model.specs.declared.latches.Decoded.{Decoded}
-use Rattle.pipe_model.specs.declared.latches.Redirect.{Redirect}
-use Rattle.pipe_model.specs.Stages.{from_m, operand, flushes_f, redirected, decode_latch, fetch_latch, advanced}
+use Rattle.pipe_model.specs.declared.stage_registers.Held.TheVariants.{Flushed, Issue}
+use Rattle.pipe_model.specs.declared.stage_registers.Decoded.{Decoded}
+use Rattle.pipe_model.specs.declared.stage_registers.Redirect.{Redirect}
+use Rattle.pipe_model.specs.Stages.{from_m, operand, flushes_f, redirected, decode_stage, fetch_stage, advanced}
 use Rattle.pipe_model.specs.Relation.{issues, after_issue, pick_in, in_execute, in_memory, in_decode, decoded_in, in_fetch, fetched_in, fetches, next_of, bank_in, control_in}
 use Rattle.pipe_model.proofs.Moved.{equals, unequal}
 use Rattle.pipe_model.proofs.Late.{redirect_in, timer-is, row-is}
 use Rattle.pipe_model.proofs.Front.{Spared, Killed}
 
--- what the turn of c - 2 does to hart k, and its registers in m
+-- what the turn of c - 2 does to thread k, and its registers in m
 pub record Fate (s : Start) (c : ℕ) (w3 w2 w1 : World) (t2 t1 : Took) (pcs : List ℕ) (k : ℕ) : Type 0 where
   pub fate : Spared s c (c - 2) w2 w1 t1 k pcs ⊎ Killed s c (c - 2) w2 w1 t1 k pcs
   pub regs : (thread_of w2 k).ready < c → (thread_of w2 k).regs ≡ from_m k (in_memory t2) (thread_of w3 k).regs
@@ -58,22 +58,22 @@ module _ (s : Start) (c : ℕ) (w3 w2 w1 w0 : World) (t2 t1 t0 : Took) (pcs : Li
   due a b n e h = sym e ∙ grind (arith, nat_tests)
 
   pub decode-is : (t : Took) → Turned s (c - 1) w1 t w0 → (0 < c) ⊎ (t ≡ Idle) →
-      decode_latch bank (in_memory t2) (in_execute s (c - 2) w2 t1) (control_in w1).timers r (time s.period (c - 1)) (in_fetch s c w2 t1 (pick_in t))
+      decode_stage bank (in_memory t2) (in_execute s (c - 2) w2 t1) (control_in w1).timers r (time s.period (c - 1)) (in_fetch s c w2 t1 (pick_in t))
       ≡ in_decode s (c - 1) w1 t
-  unfolding decode_latch
+  unfolding decode_stage
   decode-is Idle t h = refl
   decode-is (Lost k) t (inr h) = cc
   decode-is (Lost k) t (inl h) = go (fates k t.below).fate
     where
       go : Spared s c (c - 2) w2 w1 t1 k pcs ⊎ Killed s c (c - 2) w2 w1 t1 k pcs →
-          decode_latch bank (in_memory t2) (in_execute s (c - 2) w2 t1) (control_in w1).timers r (time s.period (c - 1)) (if nat_le c (thread_of w2 k).ready then Flushed k else Issue k (fetched_in s w2 t1 k)) ≡ Flushed k
+          decode_stage bank (in_memory t2) (in_execute s (c - 2) w2 t1) (control_in w1).timers r (time s.period (c - 1)) (if nat_le c (thread_of w2 k).ready then Flushed k else Issue k (fetched_in s w2 t1 k)) ≡ Flushed k
       go (inl f) = let e : nat_le c (thread_of w1 k).ready ≡ true = not_due c (thread_of w1 k).ready _ refl (let l = t.late in omega arith) in rw (← f.late, e) refl
       go (inr f) = let e : nat_le c (thread_of w2 k).ready ≡ false = due c (thread_of w2 k).ready _ refl f.first in rw (e, f.one) refl
   decode-is (Ran k pc word effect) t (inr h) = cc
   decode-is (Ran k pc word effect) t (inl h) = go (fates k t.below).fate
     where
       go : Spared s c (c - 2) w2 w1 t1 k pcs ⊎ Killed s c (c - 2) w2 w1 t1 k pcs →
-          decode_latch bank (in_memory t2) (in_execute s (c - 2) w2 t1) (control_in w1).timers r (time s.period (c - 1)) (if nat_le c (thread_of w2 k).ready then Flushed k else Issue k (fetched_in s w2 t1 k)) ≡ Issue k (decoded_in s (c - 1) (thread_of w1 k))
+          decode_stage bank (in_memory t2) (in_execute s (c - 2) w2 t1) (control_in w1).timers r (time s.period (c - 1)) (if nat_le c (thread_of w2 k).ready then Flushed k else Issue k (fetched_in s w2 t1 k)) ≡ Issue k (decoded_in s (c - 1) (thread_of w1 k))
       go (inl f) =
           let l = t.ready in
           let e : nat_le c (thread_of w2 k).ready ≡ false = sym f.late ∙ due c (thread_of w1 k).ready _ refl (omega arith) in
@@ -81,7 +81,7 @@ module _ (s : Start) (c : ℕ) (w3 w2 w1 w0 : World) (t2 t1 t0 : Took) (pcs : Li
           rw (e, f.one) (ap (λ (d : Decoded). Issue k d) (decoded-is k t.below f ((fates k t.below).regs below)))
       go (inr f) = let l = t.ready in let m = f.late in absurd (omega arith)
 
-  -- a hart's turn in f goes on exactly where it is an issue
+  -- a thread's turn in f goes on exactly where it is an issue
   spared-fetches : (k : ℕ) (t : Took) → Spared s c (c - 2) w2 w1 t1 k pcs → Turned s (c - 1) w1 t w0 → (0 < c) ⊎ (t ≡ Idle) →
       fetches k (in_fetch s c w2 t1 (pick_in t)) ≡ issues k t
   spared-fetches k Idle f t h = refl
@@ -147,8 +147,8 @@ module _ (s : Start) (c : ℕ) (w3 w2 w1 w0 : World) (t2 t1 t0 : Took) (pcs : Li
       }
 
   -- F
-  pub fetch-is : (o : Pick) → ((k : ℕ) → o ≡ chosen.Issue k → Ahead k) → fetch_latch s.size s.i_words r (redirected r pcs) o ≡ in_fetch s (suc c) w1 t0 o
-  unfolding fetch_latch
+  pub fetch-is : (o : Pick) → ((k : ℕ) → o ≡ chosen.Issue k → Ahead k) → fetch_stage s.size s.i_words r (redirected r pcs) o ≡ in_fetch s (suc c) w1 t0 o
+  unfolding fetch_stage
   fetch-is chosen.Bubble h = refl
   fetch-is (chosen.Issue k) h = let a = h k refl in rw (a.two, a.next) refl
 
@@ -162,8 +162,8 @@ module _ (s : Start) (c : ℕ) (w3 w2 w1 w0 : World) (t2 t1 t0 : Took) (pcs : Li
       go false = length-set (redirected r pcs) k _ ∙ h
 
   pub advanced-is : (o : Pick) (k : ℕ) → k < 8 → length (redirected r pcs) ≡ 8 → Ahead k →
-      get_or (advanced r o (redirected r pcs)) k 0 ≡ next_of w1 t0 (fetch_latch s.size s.i_words r (redirected r pcs) o) k
-  unfolding advanced fetch_latch
+      get_or (advanced r o (redirected r pcs)) k 0 ≡ next_of w1 t0 (fetch_stage s.size s.i_words r (redirected r pcs) o) k
+  unfolding advanced fetch_stage
   advanced-is chosen.Bubble k h l a = a.next
   advanced-is (chosen.Issue j) k h l a = go (flushes_f j r) (j == k) refl
     where

@@ -1,5 +1,5 @@
--- What the latches hold of the last five turns, said by the pc, the word and the effect of each turn and by the
--- registers of its hart before it.
+-- What the stage registers hold of the last five turns, said by the pc, the word and the effect of each turn and by the
+-- registers of its thread before it.
 use Rattle.std.specs.Prelude.{◌≡◌, ℕ, ◌-◌, ◌==◌, Bool, false, List, Option, Some}
 use Rattle.rv_decode.specs.Table.{ins}
 use Rattle.rv_decode.specs.declared.instruction.Ins.{Ins}
@@ -12,13 +12,13 @@ use Rattle.core_model.specs.Issue.{late_rd, source_1, source_2}
 use Rattle.core_model.specs.Memory.{code_at}
 use Rattle.world_model.specs.World.{Start, World, Took, world, thread_of}
 use Rattle.world_model.specs.World.Took.{Idle, Lost, Ran}
-use Rattle.pipe_model.specs.declared.latches.Held.{Held}
-use Rattle.pipe_model.specs.declared.latches.Held.TheVariants.{Bubble, Flushed, Issue}
-use Rattle.pipe_model.specs.declared.latches.Decoded.{Decoded}
-use Rattle.pipe_model.specs.declared.latches.Executed.{Executed}
-use Rattle.pipe_model.specs.Stages.{Latches}
+use Rattle.pipe_model.specs.declared.stage_registers.Held.{Held}
+use Rattle.pipe_model.specs.declared.stage_registers.Held.TheVariants.{Bubble, Flushed, Issue}
+use Rattle.pipe_model.specs.declared.stage_registers.Decoded.{Decoded}
+use Rattle.pipe_model.specs.declared.stage_registers.Executed.{Executed}
+use Rattle.pipe_model.specs.Stages.{StageRegisters}
 use Rattle.pipe_model.specs.Relation.{turn_at, in_memory, in_write}
-use Rattle.pipe_model.specs.LatchView.{FetchHolds}
+use Rattle.pipe_model.specs.StageView.{FetchHolds}
 
 -- the turn was taken by an expiry, cause 24
 abbrev pub is_expiry : Option Effect → Bool
@@ -75,8 +75,8 @@ execute_holds w Idle = Bubble
 execute_holds w (Lost k) = Flushed k
 execute_holds w (Ran k pc word effect) = Issue k (executed_by (thread_of w k).regs pc word effect)
 
--- the latches before cycle c
-pub record Contents (s : Start) (c : ℕ) (p : Latches) : Type 0 where
+-- the stage registers before cycle c
+pub record Contents (s : Start) (c : ℕ) (p : StageRegisters) : Type 0 where
   pub f : FetchHolds s p.f (turn_at s c 0)
   pub d : p.d ≡ decode_holds s (world s (c - 2)) (turn_at s c 1)
   pub e : p.e ≡ execute_holds (world s (c - 3)) (turn_at s c 2)

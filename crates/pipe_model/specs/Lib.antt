@@ -1,5 +1,5 @@
 pub mod Stages
 pub mod Relation
-pub mod LatchView
+pub mod StageView
 pub mod Contents
 pub mod PipelineLaws

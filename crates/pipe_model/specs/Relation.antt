@@ -1,4 +1,4 @@
--- Which latches, units and ports stand for a cycle of a world. The turn of cycle c is in F in that cycle,
+-- Which stage registers, units and ports stand for a cycle of a world. The turn of cycle c is in F in that cycle,
 -- in D at c + 1, in E at c + 2, in M at c + 3 and in W at c + 4; so before cycle c the registers are those
 -- of the world four cycles before, memory and ports those of three cycles before, and what E changes that
 -- of two cycles before. Before cycle 0 stands the start, and a cycle before it is nobody's.
@@ -11,18 +11,18 @@ use Rattle.timer_unit.specs.Time.{time, is_due}
 use Rattle.fp_ports.specs.Rows.{Row, row_at, word_seen}
 use Rattle.core_model.specs.Thread.{Thread, Did, fresh, reg_in}
 use Rattle.core_model.specs.Parts.{plus}
-use Rattle.core_model.specs.Issue.{acts_on, source_1, source_2}
+use Rattle.core_model.specs.Issue.{execute_word, source_1, source_2}
 use Rattle.core_model.specs.Memory.{code_at}
 use Rattle.world_model.specs.World.{Start, World, Took, thread_of, world, surroundings, port_word}
 use Rattle.world_model.specs.World.Took.{Idle, Lost, Ran}
-use Rattle.pipe_model.specs.declared.latches.Held.{Held}
-use Rattle.pipe_model.specs.declared.latches.Held.TheVariants.{Bubble, Flushed, Issue}
-use Rattle.pipe_model.specs.declared.latches.Fetched.{Fetched}
-use Rattle.pipe_model.specs.declared.latches.Decoded.{Decoded}
-use Rattle.pipe_model.specs.declared.latches.Executed.{Executed}
-use Rattle.pipe_model.specs.declared.latches.Stored.{Stored}
-use Rattle.pipe_model.specs.declared.latches.Written.{Written}
-use Rattle.pipe_model.specs.Stages.{Latches, Control, State, Ticked, event_at}
+use Rattle.pipe_model.specs.declared.stage_registers.Held.{Held}
+use Rattle.pipe_model.specs.declared.stage_registers.Held.TheVariants.{Bubble, Flushed, Issue}
+use Rattle.pipe_model.specs.declared.stage_registers.Fetched.{Fetched}
+use Rattle.pipe_model.specs.declared.stage_registers.Decoded.{Decoded}
+use Rattle.pipe_model.specs.declared.stage_registers.Executed.{Executed}
+use Rattle.pipe_model.specs.declared.stage_registers.Stored.{Stored}
+use Rattle.pipe_model.specs.declared.stage_registers.Written.{Written}
+use Rattle.pipe_model.specs.Stages.{StageRegisters, Control, State, Ticked, event_at}
 
 -- the turn of cycle c - 1 - e
 abbrev pub turn_at : Start → ℕ → ℕ → Took
@@ -39,9 +39,10 @@ in_memory Idle = Bubble
 in_memory (Lost k) = Flushed k
 in_memory (Ran k pc word effect) = Issue k (record { pc = pc; word = word; effect = effect })
 
--- e: what the instruction of hart k did in cycle n, in the world w before it, but for a late value
+-- e: what the instruction of thread k did in cycle n, in the world w before it, but for a late
+-- value
 abbrev pub did_in : Start → ℕ → World → ℕ → Did
-did_in s n w k = acts_on (surroundings s n w k) (code_at s.size s.i_words (thread_of w k).pc) (thread_of w k)
+did_in s n w k = execute_word (surroundings s n w k) (code_at s.size s.i_words (thread_of w k).pc) (thread_of w k)
 
 -- with the values of the sources of the word that it shows
 abbrev pub executed_in : Did → Thread → Executed
@@ -60,7 +61,7 @@ in_execute s n w Idle = Bubble
 in_execute s n w (Lost k) = Flushed k
 in_execute s n w (Ran k pc word effect) = Issue k (executed_in (did_in s n w k) (thread_of w k))
 
--- d: the word at the hart's pc, with the values of its sources
+-- d: the word at the thread's pc, with the values of its sources
 abbrev pub decoded_in : Start → ℕ → Thread → Decoded
 decoded_in s n t =
     let word = code_at s.size s.i_words t.pc in
@@ -77,7 +78,7 @@ in_decode s n w Idle = Bubble
 in_decode s n w (Lost k) = Flushed k
 in_decode s n w (Ran k pc word effect) = Issue k (decoded_in s n (thread_of w k))
 
--- whether a turn is an issue of the hart, and whom it picked
+-- whether a turn is an issue of the thread, and whom it picked
 abbrev pub issues : ℕ → Took → Bool
 issues k Idle = false
 issues k (Lost j) = false
@@ -88,18 +89,18 @@ pick_in Idle = chosen.Bubble
 pick_in (Lost k) = chosen.Issue k
 pick_in (Ran k pc word effect) = chosen.Issue k
 
--- the pc after one more word of the hart, if there is one
+-- the pc after one more word of the thread, if there is one
 abbrev pub after_issue : Bool → ℕ → ℕ
 after_issue there pc = if there then plus pc 4 else pc
 
 -- f: what is fetched before the instruction ahead is executed: the word that follows it. turn is that of
--- c - 2, in the world w before it, and hart k was picked in c - 1
+-- c - 2, in the world w before it, and thread k was picked in c - 1
 abbrev pub fetched_in : Start → World → Took → ℕ → Fetched
 fetched_in s w turn k =
     let pc = after_issue (issues k turn) (thread_of w k).pc in
     record { pc = pc; word = code_at s.size s.i_words pc }
 
--- it is flushed already where an instruction of c - 3 or before keeps the hart from being ready
+-- it is flushed already where an instruction of c - 3 or before keeps the thread from being ready
 abbrev pub in_fetch : Start → ℕ → World → Took → Pick → Held Fetched
 in_fetch s c w turn chosen.Bubble = Bubble
 in_fetch s c w turn (chosen.Issue k) = if nat_le c (thread_of w k).ready then Flushed k else Issue k (fetched_in s w turn k)
@@ -109,7 +110,7 @@ fetches k Bubble = false
 fetches k (Flushed j) = false
 fetches k (Issue j x) = j == k
 
--- the pc that the hart fetches next: the word after those in d and f
+-- the pc that the thread fetches next: the word after those in d and f
 abbrev pub next_of : World → Took → Held Fetched → ℕ → ℕ
 next_of w turn f k = after_issue (fetches k f) (after_issue (issues k turn) (thread_of w k).pc)
 
@@ -142,9 +143,9 @@ units_of s c ports =
       ports = ports;
     }
 
--- what the latches hold before cycle c, beside the pcs to fetch next
-abbrev pub latches_of : Start → ℕ → List ℕ → Latches
-latches_of s c next =
+-- what the stage registers hold before cycle c, beside the pcs to fetch next
+abbrev pub stage_registers_of : Start → ℕ → List ℕ → StageRegisters
+stage_registers_of s c next =
     record {
       next = next;
       f = in_fetch s c (world s (c - 2)) (turn_at s c 1) (pick_in (turn_at s c 0));
@@ -163,14 +164,14 @@ pub record Fronts (s : Start) (c : ℕ) (f : Held Fetched) (pcs : List ℕ) : Ty
 abbrev pub HasLatches : World → List (Option Row) → Type 0
 HasLatches w ports = (k : ℕ) → k < 8 → IfSome (row_at ports k) (λ row. row.latch ≡ slice_index_or w.latches k 0)
 
--- latches, units and ports stand for cycle c of the world
-pub record Stands (s : Start) (c : ℕ) (p : Latches) (u : State) : Type 0 where
-  pub latches : p ≡ latches_of s c p.next
+-- stage registers, units and ports stand for cycle c of the world
+pub record Stands (s : Start) (c : ℕ) (p : StageRegisters) (u : State) : Type 0 where
+  pub stage_registers : p ≡ stage_registers_of s c p.next
   pub fronts : Fronts s c p.f p.next
   pub units : u ≡ units_of s c u.ports
   pub ports : HasLatches (world s (c - 3)) u.ports
 
--- a machine of eight harts, each of them ready
+-- a machine of eight threads, each of them ready
 pub record Begins (s : Start) : Type 0 where
   pub eight : length s.threads ≡ 8
   pub ready : (k : ℕ) → (slice_index_or s.threads k (fresh 0)).ready ≡ 0
@@ -203,11 +204,11 @@ SamePorts before after = (k : ℕ) → words_of (row_at after k) ≡ words_of (r
 -- what a cycle left stands for the next one; the event is that of the issue of c - 4, and the ports show
 -- what they did
 pub record Kept (s : Start) (c : ℕ) (before : List (Option Row)) (t : Ticked) : Type 0 where
-  pub stands : Stands s (suc c) t.latches t.state
+  pub stands : Stands s (suc c) t.stage_registers t.state
   pub event : t.event ≡ event_in (c - 4) (turn_at s c 3)
   pub ports : SamePorts before t.state.ports
 
--- an event, where it is one of the hart's
-abbrev pub of_hart : ℕ → Option Event → List Event
-of_hart i None = []
-of_hart i (Some e) = if e.thread == i then e ∷ [] else []
+-- an event, where it is one of the thread's
+abbrev pub of_thread : ℕ → Option Event → List Event
+of_thread i None = []
+of_thread i (Some e) = if e.thread == i then e ∷ [] else []

@@ -1,5 +1,5 @@
--- One cycle of the pipeline, over plain values: what each stage makes of the latch before it, and what
--- it does to the units. Harts, stages and registers are this project's profile of the core.
+-- One cycle of the pipeline, over plain values: what each stage makes of the stage register before it, and what
+-- it does to the units. Threads, stages and registers are this project's profile of the core.
 use Rattle.std.specs.Prelude.{ℕ, ◌-◌, ◌==◌, Bool, true, false, ◌&&◌, if◌then◌else◌, List, [], slice_index_or, slice_set, Option, Some, None}
 use Rattle.rv_decode.specs.Table.{ins}
 use Rattle.rv_exec.specs.declared.outcome.Effect.{Effect}
@@ -15,22 +15,22 @@ use Rattle.core_model.specs.declared.own.Own.{Own}
 use Rattle.core_model.specs.declared.own.Trapping.{Trapping}
 use Rattle.core_model.specs.Thread.{Did, no_own, filled, regs_after, reg_in, reg_set}
 use Rattle.core_model.specs.Parts.{plus}
-use Rattle.core_model.specs.Issue.{act, late_rd, late_value, source_1, source_2}
+use Rattle.core_model.specs.Issue.{execute_in, late_rd, late_value, source_1, source_2}
 use Rattle.core_model.specs.Memory.{code_at, data_at}
 use Rattle.world_model.specs.World.{Registers, sched_by, around, words_after, registers_after}
-use Rattle.pipe_model.specs.declared.latches.Held.{Held}
-use Rattle.pipe_model.specs.declared.latches.Held.TheVariants.{Bubble, Flushed, Issue}
-use Rattle.pipe_model.specs.declared.latches.Fetched.{Fetched}
-use Rattle.pipe_model.specs.declared.latches.Decoded.{Decoded}
-use Rattle.pipe_model.specs.declared.latches.Executed.{Executed}
-use Rattle.pipe_model.specs.declared.latches.Stored.{Stored}
-use Rattle.pipe_model.specs.declared.latches.Written.{Written}
-use Rattle.pipe_model.specs.declared.latches.Redirect.{Redirect}
-use Rattle.pipe_model.specs.declared.latches.Way.{Way}
-use Rattle.pipe_model.specs.declared.latches.Way.TheVariants.{LateValue, Elsewhere}
+use Rattle.pipe_model.specs.declared.stage_registers.Held.{Held}
+use Rattle.pipe_model.specs.declared.stage_registers.Held.TheVariants.{Bubble, Flushed, Issue}
+use Rattle.pipe_model.specs.declared.stage_registers.Fetched.{Fetched}
+use Rattle.pipe_model.specs.declared.stage_registers.Decoded.{Decoded}
+use Rattle.pipe_model.specs.declared.stage_registers.Executed.{Executed}
+use Rattle.pipe_model.specs.declared.stage_registers.Stored.{Stored}
+use Rattle.pipe_model.specs.declared.stage_registers.Written.{Written}
+use Rattle.pipe_model.specs.declared.stage_registers.Redirect.{Redirect}
+use Rattle.pipe_model.specs.declared.stage_registers.Way.{Way}
+use Rattle.pipe_model.specs.declared.stage_registers.Way.TheVariants.{LateValue, Elsewhere}
 
--- the pc that each hart fetches next, and the latches
-pub record Latches : Type 0 where
+-- the pc that each thread fetches next, and the stage registers
+pub record StageRegisters : Type 0 where
   pub next : List ℕ
   pub f : Held Fetched
   pub d : Held Decoded
@@ -38,7 +38,7 @@ pub record Latches : Type 0 where
   pub m : Held Stored
   pub w : Held Written
 
--- what the execute stage reads and writes: the machine's own registers, and of each hart the timer, the
+-- what the execute stage reads and writes: the machine's own registers, and of each thread the timer, the
 -- trap registers and the moment until which it sleeps
 pub record Control : Type 0 where
   pub registers : Registers
@@ -48,11 +48,11 @@ pub record Control : Type 0 where
 
 -- what the units and the ports hold
 pub record State : Type 0 where
-  pub bank : List (List ℕ)  -- x1 to x31 of each hart
+  pub bank : List (List ℕ)  -- x1 to x31 of each thread
   pub i_words : List ℕ  -- of the instruction scratchpad
   pub d_words : List ℕ  -- of the data scratchpad
   pub control : Control
-  pub last : ℕ  -- the place of the search for a soft hart
+  pub last : ℕ  -- the round-robin pointer: the soft thread that was picked last by donation
   pub period : ℕ  -- of a cycle, in nanoseconds
   pub size : ℕ  -- of each scratchpad, in bytes
   pub confined : List Bool
@@ -65,10 +65,10 @@ bank_after Bubble bank = bank
 bank_after (Flushed k) bank = bank
 bank_after (Issue k x) bank = slice_set bank k (regs_after x.effect (slice_index_or bank k []))
 
-unfoldable pub write_latch : Held Stored → Held Written
-write_latch Bubble = Bubble
-write_latch (Flushed k) = Flushed k
-write_latch (Issue k x) = Issue k (record { pc = x.pc; word = x.word })
+unfoldable pub writeback_stage : Held Stored → Held Written
+writeback_stage Bubble = Bubble
+writeback_stage (Flushed k) = Flushed k
+writeback_stage (Issue k x) = Issue k (record { pc = x.pc; word = x.word })
 
 -- its event, by the cycle of its issue
 abbrev pub event_at : ℕ → ℕ → ℕ → ℕ → Option Effect → Option Event
@@ -81,16 +81,16 @@ retired cycle (Flushed k) = None
 retired cycle (Issue k x) = event_at cycle k x.pc x.word x.effect
 
 -- M: the late value of a load, multiplication or division goes into its effect. A load finds its word in
--- a scratchpad, or at the hart's port, which shows the word of a cycle
-unfoldable pub memory_latch : ℕ → List ℕ → List ℕ → List (Option Row) → ℕ → Held Executed → Held Stored
-memory_latch size i_words d_words ports cycle Bubble = Bubble
-memory_latch size i_words d_words ports cycle (Flushed k) = Flushed k
-memory_latch size i_words d_words ports cycle (Issue k x) =
+-- a scratchpad, or at the thread's port, which shows the word of a cycle
+unfoldable pub memory_stage : ℕ → List ℕ → List ℕ → List (Option Row) → ℕ → Held Executed → Held Stored
+memory_stage size i_words d_words ports cycle Bubble = Bubble
+memory_stage size i_words d_words ports cycle (Flushed k) = Flushed k
+memory_stage size i_words d_words ports cycle (Issue k x) =
     let found = data_at size i_words d_words (word_seen (row_at ports k) cycle) x.address in
     let value = late_value (ins x.word) found x.address x.a x.b in
     Issue k (record { pc = x.pc; word = x.word; effect = filled (late_rd (ins x.word)) value x.effect })
 
--- and a store changes the words of the data scratchpad, or goes to the hart's port
+-- and a store changes the words of the data scratchpad, or goes to the thread's port
 unfoldable pub words_stored : ℕ → Held Stored → List ℕ → List ℕ
 words_stored size Bubble words = words
 words_stored size (Flushed k) words = words
@@ -105,12 +105,12 @@ ports_stored Bubble ports = ports
 ports_stored (Flushed k) ports = ports
 ports_stored (Issue k x) ports = put_at_port k x.effect ports
 
--- E: what the instruction does at a time, by the hart's own state
+-- E: what the instruction does at a time, by the thread's own state
 abbrev pub own_in : Control → ℕ → Own
 own_in u k = record { timer = slice_index_or u.timers k no_own.timer; trap = slice_index_or u.traps k no_own.trap; sleep = slice_index_or u.sleeps k no_own.sleep }
 
 abbrev pub execute : ℕ → List Bool → List Bool → ℕ → Control → ℕ → Decoded → Did
-execute size confined permit now u k x = act (around now size confined permit u.registers k) x.pc (own_in u k) x.expired x.word x.a x.b
+execute size confined permit now u k x = execute_in (around now size confined permit u.registers k) x.pc (own_in u k) x.expired x.word x.a x.b
 
 abbrev pub executed : Decoded → Did → Executed
 executed x d =
@@ -132,7 +132,7 @@ controlled k d u =
       sleeps = slice_set u.sleeps k d.own.sleep;
     }
 
--- a hart whose next instruction may not issue in the next cycle goes on at the pc that follows, in a way
+-- a thread whose next instruction may not issue in the next cycle goes on at the pc that follows, in a way
 abbrev pub way_of : Did → Way
 way_of d = if d.lag == 2 then LateValue else Elsewhere
 
@@ -148,12 +148,13 @@ pub record After : Type 0 where
 abbrev pub executes : ℕ → Decoded → Control → Did → After
 executes k x u d = record { e = Issue k (executed x d); control = controlled k d u; redirect = redirect_of k d }
 
-unfoldable pub execution : ℕ → List Bool → List Bool → ℕ → Control → Held Decoded → After
-execution size confined permit now u Bubble = record { e = Bubble; control = u; redirect = None }
-execution size confined permit now u (Flushed k) = record { e = Flushed k; control = u; redirect = None }
-execution size confined permit now u (Issue k x) = executes k x u (execute size confined permit now u k x)
+unfoldable pub execute_stage : ℕ → List Bool → List Bool → ℕ → Control → Held Decoded → After
+execute_stage size confined permit now u Bubble = record { e = Bubble; control = u; redirect = None }
+execute_stage size confined permit now u (Flushed k) = record { e = Flushed k; control = u; redirect = None }
+execute_stage size confined permit now u (Issue k x) = executes k x u (execute size confined permit now u k x)
 
--- whether a redirect flushes the turn of hart k in D, and in F: behind a late value only that in D
+-- whether a redirect flushes the turn of thread k in D, and in F: behind a late value only that in
+-- D
 abbrev pub flushes_d : ℕ → Option Redirect → Bool
 flushes_d k None = false
 flushes_d k (Some r) = r.thread == k
@@ -181,15 +182,15 @@ from_m k Bubble regs = regs
 from_m k (Flushed j) regs = regs
 from_m k (Issue j x) regs = if j == k then forward x.effect regs else regs
 
--- a source register of hart k: the younger turns come after the bank
+-- a source register of thread k: the younger turns come after the bank
 abbrev pub operand : List (List ℕ) → Held Stored → Held Executed → ℕ → ℕ → ℕ
 operand bank m e k x = reg_in (from_e k e (from_m k m (slice_index_or bank k []))) x
 
 -- D: the turn is flushed, or it gets its sources, and knows whether its armed moment is reached
-unfoldable pub decode_latch : List (List ℕ) → Held Stored → Held Executed → List Timer → Option Redirect → ℕ → Held Fetched → Held Decoded
-decode_latch bank m e timers r now Bubble = Bubble
-decode_latch bank m e timers r now (Flushed k) = Flushed k
-decode_latch bank m e timers r now (Issue k x) =
+unfoldable pub decode_stage : List (List ℕ) → Held Stored → Held Executed → List Timer → Option Redirect → ℕ → Held Fetched → Held Decoded
+decode_stage bank m e timers r now Bubble = Bubble
+decode_stage bank m e timers r now (Flushed k) = Flushed k
+decode_stage bank m e timers r now (Issue k x) =
     if flushes_d k r then Flushed k
     else Issue k (record {
       pc = x.pc;
@@ -199,15 +200,15 @@ decode_latch bank m e timers r now (Issue k x) =
       b = operand bank m e k (source_2 (ins x.word));
     })
 
--- F: the redirected hart goes on where it is told to
+-- F: the redirected thread goes on where it is told to
 unfoldable pub redirected : Option Redirect → List ℕ → List ℕ
 redirected None next = next
 redirected (Some r) next = slice_set next r.thread r.pc
 
--- the picked hart's turn is flushed, or it fetches its next word
-unfoldable pub fetch_latch : ℕ → List ℕ → Option Redirect → List ℕ → Pick → Held Fetched
-fetch_latch size i_words r next chosen.Bubble = Bubble
-fetch_latch size i_words r next (chosen.Issue k) =
+-- the picked thread's turn is flushed, or it fetches its next word
+unfoldable pub fetch_stage : ℕ → List ℕ → Option Redirect → List ℕ → Pick → Held Fetched
+fetch_stage size i_words r next chosen.Bubble = Bubble
+fetch_stage size i_words r next (chosen.Issue k) =
     if flushes_f k r then Flushed k
     else (let pc = slice_index_or next k 0 in Issue k (record { pc = pc; word = code_at size i_words pc }))
 
@@ -217,23 +218,23 @@ advanced r (chosen.Issue k) next = if flushes_f k r then next else slice_set nex
 
 -- what a cycle leaves, and the event that retires in it
 pub record Ticked : Type 0 where
-  pub latches : Latches
+  pub stage_registers : StageRegisters
   pub state : State
   pub event : Option Event
 
 -- the younger stages go by what the older ones leave
-abbrev pub finish : Latches → State → ℕ → Picked → Held Stored → After → Ticked
+abbrev pub finish : StageRegisters → State → ℕ → Picked → Held Stored → After → Ticked
 finish p u c picked m e =
     let bank = bank_after p.m u.bank in
     let next = redirected e.redirect p.next in
     record {
-      latches = record {
+      stage_registers = record {
         next = advanced e.redirect picked.pick next;
-        f = fetch_latch u.size u.i_words e.redirect next picked.pick;
-        d = decode_latch bank m e.e e.control.timers e.redirect (time u.period (c - 1)) p.f;
+        f = fetch_stage u.size u.i_words e.redirect next picked.pick;
+        d = decode_stage bank m e.e e.control.timers e.redirect (time u.period (c - 1)) p.f;
         e = e.e;
         m = m;
-        w = write_latch p.m;
+        w = writeback_stage p.m;
       };
       state = record u {
         bank = bank;
@@ -247,9 +248,9 @@ finish p u c picked m e =
 
 -- cycle c. The pick goes by the registers as they stand before E. The turn in M was issued three cycles
 -- ago and sees the port's word of that cycle, the turn in E two cycles ago, with the time of that cycle
-unfoldable pub step : Latches → State → ℕ → Ticked
+unfoldable pub step : StageRegisters → State → ℕ → Ticked
 step p u c =
     let picked = pick (sched_by u.control.registers u.control.sleeps) c (time u.period c) u.last in
-    let m = memory_latch u.size u.i_words u.d_words u.ports (c - 3) p.e in
-    let e = execution u.size u.confined u.permit (time u.period (c - 2)) u.control p.d in
+    let m = memory_stage u.size u.i_words u.d_words u.ports (c - 3) p.e in
+    let e = execute_stage u.size u.confined u.permit (time u.period (c - 2)) u.control p.d in
     finish p u c picked m e

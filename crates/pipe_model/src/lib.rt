@@ -1,13 +1,14 @@
-//! The pipeline of five stages, as definitions: what its latches hold, what one cycle does to them
-//! and to the units, and which of its states stand for a cycle of the machine's world. They stand
-//! in specs/, below the pipeline in code; the laws on them are the contracts of the functions here.
+//! The pipeline of five stages, as definitions: what its stage registers hold, what one cycle does
+//! to them and to the units, and which of its states stand for a cycle of the machine's world. They
+//! stand in specs/, below the pipeline in code; the laws on them are the contracts of the functions
+//! here.
 #![tactic(auto)]
 
-mod latches;
+mod stage_registers;
 
 ghost use Rattle.pipe_model.specs.PipelineLaws.{EventsGrow, HoldsTurns, Keeps, LosesPort, ShowsTurns, Starts};
 
-pub use latches::{Decoded, Executed, Fetched, Held, Redirect, Stored, Way, Written};
+pub use stage_registers::{Decoded, Executed, Fetched, Held, Redirect, Stored, Way, Written};
 
 /// A cycle of the pipeline takes what stands for a cycle of a world to what stands for the next
 /// one, whatever the words are. The contract is the law; the call does nothing.
@@ -15,7 +16,7 @@ pub fn keeps_standing()
     ensures { Keeps }
 {}
 
-/// An empty pipeline at the entries of its harts stands for cycle 0. The contract is the law; the
+/// An empty pipeline at the entries of its threads stands for cycle 0. The contract is the law; the
 /// call does nothing.
 pub fn starts_standing()
     ensures { Starts }
@@ -27,20 +28,20 @@ pub fn stands_without_port()
     ensures { LosesPort }
 {}
 
-/// After one more cycle a hart has one event more, if the turn that retires is an issue of it with
-/// an event. The contract is the law; the call does nothing.
+/// After one more cycle a thread has one event more, if the turn that retires is an issue of it
+/// with an event. The contract is the law; the call does nothing.
 pub fn events_grow()
     ensures { EventsGrow }
 {}
 
-/// The latches that stand for a cycle show the turns of the last five cycles, each with its hart,
-/// and from D on with its pc and word. The contract is the law; the call does nothing.
+/// The stage registers that stand for a cycle show the turns of the last five cycles, each with its
+/// thread, and from D on with its pc and word. The contract is the law; the call does nothing.
 pub fn shows_turns()
     ensures { ShowsTurns }
 {}
 
-/// The latches that stand for a cycle hold of the last five turns what the profile of the core
-/// says, by the turn's pc, word and effect. The contract is the law; the call does nothing.
+/// The stage registers that stand for a cycle hold of the last five turns what the profile of the
+/// core says, by the turn's pc, word and effect. The contract is the law; the call does nothing.
 pub fn holds_turns()
     ensures { HoldsTurns }
 {}

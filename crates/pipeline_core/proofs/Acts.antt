@@ -13,14 +13,14 @@ use Rattle.rv_exec.specs.Result.{result_of, unless, is_taken}
 use Rattle.core_model.specs.declared.own.Own.{Own}
 use Rattle.core_model.specs.declared.own.CsrOp.{CsrOp}
 use Rattle.core_model.specs.Thread.{Around, Did, no_own, reg_effect}
-use Rattle.core_model.specs.Parts.{load, store, branch, delay, wait, trapped, plain, wrote, went}
+use Rattle.core_model.specs.Parts.{load, store, branch, delay, wait, trapped, plain, wrote, go_to}
 use Rattle.core_model.specs.Control.{csr_value, changed, may_hold, kept, with_csr, csr_put, csr_done, csr_access}
-use Rattle.core_model.specs.Issue.{csr_op, csr_operand, csr_writes, goes, unless_trap, run, act}
+use Rattle.core_model.specs.Issue.{csr_op, csr_operand, csr_writes, execute_untrapped, unless_trap, run_at, execute_in}
 use Rattle.hart_exec.specs.declared.outcome.Executed.{Executed}
 use Rattle.hart_exec.specs.AsDefined.{did}
 use Rattle.trap_unit.specs.Rows.{IsAlignedTrap}
 use Rattle.trap_unit.proofs.Aligned.{held_as_kept}
-use Rattle.pipeline_core.specs.LatchFacts.{IsPc, IsAccepted}
+use Rattle.pipeline_core.specs.StageFacts.{IsPc, IsAccepted}
 use Rattle.pipeline_core.proofs.Pcs.{pc_after}
 
 pub record Keeps (d : Did) : Type 0 where
@@ -44,7 +44,7 @@ plain-keeps pc t w lag e h k a = record { pc = pc_after pc h; trap = k; csr = a 
 wrote-keeps : (pc : ℕ) (t : Own) (w lag rd v : ℕ) → IsPc pc → IsAlignedTrap t.trap → Keeps (wrote pc t w lag rd v)
 wrote-keeps pc t w lag rd v h k = plain-keeps pc t w lag (reg_effect rd v) h k (reg-accepted rd v)
 
-went-keeps : (t : Own) (w target : ℕ) (e : Effect) → IsPc target → IsAlignedTrap t.trap → IsAccepted (Some e) → Keeps (went t w target e)
+went-keeps : (t : Own) (w target : ℕ) (e : Effect) → IsPc target → IsAlignedTrap t.trap → IsAccepted (Some e) → Keeps (go_to t w target e)
 went-keeps t w target e h k a = record { pc = h; trap = k; csr = a }
 
 load-keeps : (pc : ℕ) (t : Own) (w a : ℕ) (b : Bool) → IsPc pc → IsAlignedTrap t.trap → Keeps (load pc t w a b)
@@ -141,8 +141,8 @@ goes-well (i.Jalr rd rs1 imm) pc x y h = unless-none _ 0 h
 goes-well (i.Branch op rs1 rs2 off) pc x y h = branch-none (is_taken op x y) _ h
 goes-well _ pc x y h = tt
 
-goes-keeps : (a : Around) (pc : ℕ) (t : Own) (w x y : ℕ) (o : Outcome) (n : Ins) → IsPc pc → IsAlignedTrap t.trap → GoesWell n o → Keeps (goes a pc t w x y o n)
-unfolding goes
+goes-keeps : (a : Around) (pc : ℕ) (t : Own) (w x y : ℕ) (o : Outcome) (n : Ins) → IsPc pc → IsAlignedTrap t.trap → GoesWell n o → Keeps (execute_untrapped a pc t w x y o n)
+unfolding execute_untrapped
 goes-keeps a pc t w x y o (i.Lui rd imm) h k g = wrote-keeps pc t w 1 rd o.value h k
 goes-keeps a pc t w x y o (i.Auipc rd imm) h k g = wrote-keeps pc t w 1 rd o.value h k
 goes-keeps a pc t w x y o (i.Jal rd off) h k g = went-keeps t w o.target (reg_effect rd o.value) g k (reg-accepted rd o.value)
@@ -167,30 +167,30 @@ goes-keeps a pc t w x y o i.Ecall h k g = trapped-keeps pc t w 2 h k
 goes-keeps a pc t w x y o i.Ebreak h k g = trapped-keeps pc t w 2 h k
 goes-keeps a pc t w x y o (i.Illegal v) h k g = trapped-keeps pc t w 2 h k
 
-run-keeps : (a : Around) (pc : ℕ) (t : Own) (w x y : ℕ) (n : Ins) → IsPc pc → IsAlignedTrap t.trap → Keeps (run a pc t w x y n)
-unfolding run
+run-keeps : (a : Around) (pc : ℕ) (t : Own) (w x y : ℕ) (n : Ins) → IsPc pc → IsAlignedTrap t.trap → Keeps (run_at a pc t w x y n)
+unfolding run_at
 run-keeps a pc t w x y n h k = go (result_of n pc x y).trap refl
   where
-    go : (trap : Option ℕ) → (result_of n pc x y).trap ≡ trap → Keeps (unless_trap pc t w trap (goes a pc t w x y (result_of n pc x y) n))
+    go : (trap : Option ℕ) → (result_of n pc x y).trap ≡ trap → Keeps (unless_trap pc t w trap (execute_untrapped a pc t w x y (result_of n pc x y) n))
     go (Some cause) e = trapped-keeps pc t w cause h k
     go None e = goes-keeps a pc t w x y (result_of n pc x y) n h k (goes-well n pc x y e)
 
-pub act-keeps : (a : Around) (pc : ℕ) (t : Own) (expired : Bool) (w x y : ℕ) → IsPc pc → IsAlignedTrap t.trap → Keeps (act a pc t expired w x y)
-unfolding act
+pub act-keeps : (a : Around) (pc : ℕ) (t : Own) (expired : Bool) (w x y : ℕ) → IsPc pc → IsAlignedTrap t.trap → Keeps (execute_in a pc t expired w x y)
+unfolding execute_in
 act-keeps a pc t true w x y h k = record { pc = k.0; trap = (k.0, h); csr = tt }
 act-keeps a pc t false w x y h k = go (a.fetch pc)
   where
-    go : (b : Bool) → Keeps (if b then run a pc t w x y (ins w) else trapped pc t 0 1)
+    go : (b : Bool) → Keeps (if b then run_at a pc t w x y (ins w) else trapped pc t 0 1)
     go true = run-keeps a pc t w x y (ins w) h k
     go false = trapped-keeps pc t 0 1 h k
 
 -- the same of what the code knows
 pub done-keeps : (own : Own) (x : Executed) (a : Around) (pc : ℕ) (t : Own) (expired : Bool) (w p q : ℕ) →
-    did own x ≡ act a pc t expired w p q → IsPc pc → IsAlignedTrap t.trap → Keeps (did own x)
+    did own x ≡ execute_in a pc t expired w p q → IsPc pc → IsAlignedTrap t.trap → Keeps (did own x)
 done-keeps own x a pc t expired w p q e h k = rw e (act-keeps a pc t expired w p q h k)
 
--- an instruction that does the same whatever its hart owns goes on at a multiple of four
+-- an instruction that does the same whatever its thread owns goes on at a multiple of four
 pub plain_pc : (a : Around) (pc : ℕ) (expired : Bool) (w p q : ℕ) (r : Option Executed) →
-    IfSome r (λ x. (own : Own) → did own x ≡ act a pc own expired w p q) → IsPc pc → IfSome r (λ x. IsPc x.pc)
+    IfSome r (λ x. (own : Own) → did own x ≡ execute_in a pc own expired w p q) → IsPc pc → IfSome r (λ x. IsPc x.pc)
 plain_pc a pc expired w p q None same h = tt
 plain_pc a pc expired w p q (Some x) same h = (done-keeps no_own x a pc no_own expired w p q (same no_own) h (refl, refl)).pc

@@ -7,13 +7,13 @@ use Rattle.rv_exec.specs.declared.outcome.Effect.{Effect}
 use Rattle.rv_exec.specs.declared.outcome.Effect.TheVariants.{Nothing, Reg, Store, Csr, Trap, Wait}
 use Rattle.core_model.specs.declared.own.Own.{Own}
 use Rattle.core_model.specs.Thread.{Around, Did, no_own}
-use Rattle.core_model.specs.Issue.{act}
+use Rattle.core_model.specs.Issue.{execute_in}
 use Rattle.world_model.specs.World.{Registers, registers_after}
 use Rattle.hart_exec.specs.declared.outcome.Executed.{Executed}
 use Rattle.hart_exec.specs.AsDefined.{did, IsPlain}
-use Rattle.pipe_model.specs.declared.latches.Held.TheVariants.{Issue}
-use Rattle.pipe_model.specs.declared.latches.Decoded.{Decoded}
-use Rattle.pipe_model.specs.declared.latches.Executed as latch
+use Rattle.pipe_model.specs.declared.stage_registers.Held.TheVariants.{Issue}
+use Rattle.pipe_model.specs.declared.stage_registers.Decoded.{Decoded}
+use Rattle.pipe_model.specs.declared.stage_registers.Executed as stage
 use Rattle.pipe_model.specs.Stages.{Control, own_in, executed, controlled, redirect_of, executes}
 
 registers-left : (e : Option Effect) (r : Registers) → IsPlain e → registers_after e r ≡ r
@@ -31,9 +31,9 @@ control_left k x u d same h =
 
 -- what such an issue leaves in E
 pub plain_after : (a b : Around) (k : ℕ) (x : Decoded) (u : Control) (done : Executed) → a ≡ b →
-    ((own : Own) → did own done ≡ act a x.pc own x.expired x.word x.a x.b) → IsPlain done.effect →
+    ((own : Own) → did own done ≡ execute_in a x.pc own x.expired x.word x.a x.b) → IsPlain done.effect →
     record { e = Issue k (executed x (did no_own done)); control = u; redirect = redirect_of k (did no_own done) }
-    ≡ executes k x u (act b x.pc (own_in u k) x.expired x.word x.a x.b)
+    ≡ executes k x u (execute_in b x.pc (own_in u k) x.expired x.word x.a x.b)
 plain_after a b k x u done around same h =
     rw (← around, ← same (own_in u k), ← control_left k done u (did (own_in u k) done) refl h) refl
 
@@ -41,7 +41,7 @@ source : (w v : ℕ) → w ≢ 0 → v ≡ (if w == 0 then 0 else v)
 source w v h = grind (arith, nat_tests)
 
 -- a word that is shown keeps its sources
-pub shown_latch : (x : Decoded) (done : Executed) → done.word ≢ 0 →
-    let l : latch.Executed = record { pc = x.pc; word = done.word; a = x.a; b = x.b; address = done.address; effect = done.effect } in
+pub shown_executed : (x : Decoded) (done : Executed) → done.word ≢ 0 →
+    let l : stage.Executed = record { pc = x.pc; word = done.word; a = x.a; b = x.b; address = done.address; effect = done.effect } in
     l ≡ executed x (did no_own done)
-shown_latch x done h = rw (← source done.word x.a h, ← source done.word x.b h) refl
+shown_executed x done h = rw (← source done.word x.a h, ← source done.word x.b h) refl

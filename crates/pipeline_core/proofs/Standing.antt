@@ -3,11 +3,11 @@ use Rattle.std.proofs.Common.{◌≡◌, ℕ, List, map}
 use Rattle.std.specs.Prelude.{Option}
 use Rattle.fp_ports.specs.Rows.{Row}
 use Rattle.world_model.specs.World.{Start, start_world}
-use Rattle.pipe_model.specs.Stages.{Latches, State, Ticked, step}
+use Rattle.pipe_model.specs.Stages.{StageRegisters, State, Ticked, step}
 use Rattle.pipe_model.specs.Relation.{Begins, Shows, Stands, Kept, HasLatches}
 use Rattle.pipe_model.specs.PipelineLaws.{Keeps, Starts, empty, first_units}
 
-pub kept_by : Keeps → (s : Start) (c : ℕ) (p : Latches) (u : State) (t : Ticked) → t ≡ step p u c →
+pub kept_by : Keeps → (s : Start) (c : ℕ) (p : StageRegisters) (u : State) (t : Ticked) → t ≡ step p u c →
     Begins s → Shows s c u.ports → Stands s c p u → Kept s c u.ports t
 kept_by keeps s c p u t e begins shows stands = rw e (keeps s c p u begins shows stands)
 

@@ -6,40 +6,40 @@ use Rattle.timer_unit.specs.Time.{time}
 use Rattle.slot_scheduler.specs.declared.picking.Pick.{Pick}
 use Rattle.slot_scheduler.specs.Picking.{pick}
 use Rattle.world_model.specs.World.{sched_by}
-use Rattle.pipe_model.specs.declared.latches.Held.{Held}
-use Rattle.pipe_model.specs.declared.latches.Fetched.{Fetched}
-use Rattle.pipe_model.specs.declared.latches.Decoded.{Decoded}
-use Rattle.pipe_model.specs.declared.latches.Executed.{Executed}
-use Rattle.pipe_model.specs.declared.latches.Stored.{Stored}
-use Rattle.pipe_model.specs.declared.latches.Written.{Written}
-use Rattle.pipe_model.specs.declared.latches.Redirect.{Redirect}
-use Rattle.pipe_model.specs.Stages.{Latches, State, Control, Ticked, bank_after, write_latch, memory_latch, words_stored, ports_stored, execution, redirected, fetch_latch, advanced, decode_latch, retired, step}
+use Rattle.pipe_model.specs.declared.stage_registers.Held.{Held}
+use Rattle.pipe_model.specs.declared.stage_registers.Fetched.{Fetched}
+use Rattle.pipe_model.specs.declared.stage_registers.Decoded.{Decoded}
+use Rattle.pipe_model.specs.declared.stage_registers.Executed.{Executed}
+use Rattle.pipe_model.specs.declared.stage_registers.Stored.{Stored}
+use Rattle.pipe_model.specs.declared.stage_registers.Written.{Written}
+use Rattle.pipe_model.specs.declared.stage_registers.Redirect.{Redirect}
+use Rattle.pipe_model.specs.Stages.{StageRegisters, State, Control, Ticked, bank_after, writeback_stage, memory_stage, words_stored, ports_stored, execute_stage, redirected, fetch_stage, advanced, decode_stage, retired, step}
 
 -- with no redirect the pcs to fetch next stay
 pub straight : (next : List ℕ) → next ≡ redirected None next
 unfolding redirected
 straight next = refl
 
-pub steps : (p : Latches) (u : State) (c : ℕ) (w : Held Written) (m : Held Stored) (e : Held Executed) (d : Held Decoded) (f : Held Fetched) (next between : List ℕ)
+pub steps : (p : StageRegisters) (u : State) (c : ℕ) (w : Held Written) (m : Held Stored) (e : Held Executed) (d : Held Decoded) (f : Held Fetched) (next between : List ℕ)
     (bank : List (List ℕ)) (words : List ℕ) (ports : List (Option Row)) (control : Control) (size now last : ℕ) (chosen : Pick) (r : Option Redirect) →
     bank ≡ bank_after p.m u.bank →
-    w ≡ write_latch p.m →
-    m ≡ memory_latch u.size u.i_words u.d_words u.ports (c - 3) p.e →
+    w ≡ writeback_stage p.m →
+    m ≡ memory_stage u.size u.i_words u.d_words u.ports (c - 3) p.e →
     words ≡ words_stored u.size m u.d_words →
     ports ≡ ports_stored m u.ports →
     now ≡ time u.period c →
     chosen ≡ (pick (sched_by u.control.registers u.control.sleeps) c now u.last).pick →
     last ≡ (pick (sched_by u.control.registers u.control.sleeps) c now u.last).last →
-    e ≡ (execution u.size u.confined u.permit (time u.period (c - 2)) u.control p.d).e →
-    r ≡ (execution u.size u.confined u.permit (time u.period (c - 2)) u.control p.d).redirect →
-    control ≡ (execution u.size u.confined u.permit (time u.period (c - 2)) u.control p.d).control →
+    e ≡ (execute_stage u.size u.confined u.permit (time u.period (c - 2)) u.control p.d).e →
+    r ≡ (execute_stage u.size u.confined u.permit (time u.period (c - 2)) u.control p.d).redirect →
+    control ≡ (execute_stage u.size u.confined u.permit (time u.period (c - 2)) u.control p.d).control →
     size ≡ u.size →
     between ≡ redirected r p.next →
-    f ≡ fetch_latch size u.i_words r between chosen →
+    f ≡ fetch_stage size u.i_words r between chosen →
     next ≡ advanced r chosen between →
-    d ≡ decode_latch bank m e control.timers r (time u.period (c - 1)) p.f →
+    d ≡ decode_stage bank m e control.timers r (time u.period (c - 1)) p.f →
     let t : Ticked = record {
-      latches = record { next = next; f = f; d = d; e = e; m = m; w = w };
+      stage_registers = record { next = next; f = f; d = d; e = e; m = m; w = w };
       state = record u { bank = bank; d_words = words; control = control; last = last; size = size; ports = ports };
       event = retired (c - 4) p.m;
     } in

@@ -7,13 +7,13 @@ use Rattle.slot_scheduler.specs.declared.picking.Sched.{Sched}
 use Rattle.timer_unit.specs.declared.row.Timer.{Timer}
 use Rattle.core_model.specs.declared.own.Trapping.{Trapping}
 use Rattle.world_model.specs.World.{Registers}
-use Rattle.pipe_model.specs.Stages.{Latches, Control, State, Ticked}
+use Rattle.pipe_model.specs.Stages.{StageRegisters, Control, State, Ticked}
 use Rattle.pipeline_core.specs.declared.pipe.Pipe.{Pipe}
 use Rattle.pipeline_core.specs.declared.units.Units.{Units}
 
--- the latches, and the pc that each thread fetches next
-abbrev pub latches_by : Pipe → Latches
-latches_by p = record { next = p.next; f = p.f; d = p.d; e = p.e; m = p.m; w = p.w }
+-- the stage registers, and the pc that each thread fetches next
+abbrev pub stage_registers_by : Pipe → StageRegisters
+stage_registers_by p = record { next = p.next; f = p.f; d = p.d; e = p.e; m = p.m; w = p.w }
 
 -- the machine's own registers
 abbrev pub registers_by : Sched → Guard → Registers
@@ -41,4 +41,4 @@ state_by u ports =
 
 -- what a cycle left, and the event that it answered
 abbrev pub ticked_by : Pipe → Units → List (Option Row) → Option Event → Ticked
-ticked_by p u ports event = record { latches = latches_by p; state = state_by u ports; event = event }
+ticked_by p u ports event = record { stage_registers = stage_registers_by p; state = state_by u ports; event = event }

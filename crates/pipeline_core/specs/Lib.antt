@@ -1,4 +1,4 @@
-pub mod LatchFacts
+pub mod StageFacts
 pub mod AsDefined
 pub mod AccessRights
 pub use Rattle.core_model.specs.Memory
@@ -9,7 +9,7 @@ pub use Rattle.hart_exec.specs.AsDefined as HartExecAsDefined
 pub use Rattle.pipe_model.specs.PipelineLaws
 pub use Rattle.pipe_model.specs.Relation
 pub use Rattle.pipe_model.specs.Stages
-pub use Rattle.pipe_model.specs.declared.latches.Held
+pub use Rattle.pipe_model.specs.declared.stage_registers.Held
 pub use Rattle.region_guard.specs.Regions
 pub use Rattle.rv_exec.specs.declared.outcome.Effect
 pub use Rattle.slot_scheduler.specs.Picking

@@ -4,8 +4,8 @@ ghost use Rattle.std.specs.Prelude.{◌≡◌, ◌-◌, ◌<◌, ℕ, List, leng
 ghost use Rattle.timer_unit.specs.Time.{is_due, time, timer_of};
 ghost use Rattle.core_model.specs.Thread.{reg_in};
 ghost use Rattle.regfile_bank.specs.Registers.{registers_of};
-ghost use Rattle.pipe_model.specs.Stages.{forward, from_m, from_e, operand, flushes_d, decode_latch};
-ghost use Rattle.pipeline_core.specs.LatchFacts.{EffectFits, FetchedFits, DecodedFits, ExecutedFits, StoredFits};
+ghost use Rattle.pipe_model.specs.Stages.{forward, from_m, from_e, operand, flushes_d, decode_stage};
+ghost use Rattle.pipeline_core.specs.StageFacts.{EffectFits, FetchedFits, DecodedFits, ExecutedFits, StoredFits};
 
 use hart_exec::sources_of;
 use pipe_model::{Decoded, Executed, Fetched, Held, Redirect, Stored};
@@ -15,7 +15,7 @@ use rv_exec::Effect;
 use timer_unit::{Clock, Timers};
 
 /// Whether a redirect flushes a thread's turn in D: each one of its own thread does.
-fn is_flushed(thread: u8, redirect: Option<Redirect>) -> bool
+fn flushes_d(thread: u8, redirect: Option<Redirect>) -> bool
     ensures { result ≡ flushes_d thread redirect }
 {
     match redirect {
@@ -86,7 +86,7 @@ fn sources(
 }
 
 /// Whether a thread's armed moment was reached in the cycle before this one.
-fn was_due(timers: &Timers, clock: &Clock, cycle: u64, thread: u8) -> bool
+fn is_due(timers: &Timers, clock: &Clock, cycle: u64, thread: u8) -> bool
     requires thread { thread < 8 }
     requires cycle { cycle < 4000000000 }
     ensures { result ≡ is_due (timer_of timers.now thread).armed (time clock.now (cycle - 1)) }
@@ -99,9 +99,9 @@ fn was_due(timers: &Timers, clock: &Clock, cycle: u64, thread: u8) -> bool
 
 /// Leaves in `d` the turn with its sources, and whether its thread's armed moment was reached when
 /// it was issued, in the cycle before this one, if the turn isn't flushed. Inlined, as `fetch` is.
-#[tactic(auto, unfolding(pipe_model::specs::Stages::decode_latch))]
+#[tactic(auto, unfolding(pipe_model::specs::Stages::decode_stage))]
 #[inline(always)]
-pub fn read(
+pub fn decode_stage(
     bank: &Bank,
     m: &Held<Stored>,
     e: &Held<Executed>,
@@ -116,7 +116,7 @@ pub fn read(
     requires e { ExecutedFits e.now }
     requires f { FetchedFits held.now }
     requires cycle { cycle < 4000000000 }
-    ensures latch { d.new ≡ decode_latch bank.now m.now e.now timers.now redirect
+    ensures stage { d.new ≡ decode_stage bank.now m.now e.now timers.now redirect
         (time clock.now (cycle - 1)) held.now }
     ensures fits { DecodedFits d.new }
 {
@@ -131,7 +131,7 @@ pub fn read(
         }
         Held::Issue { thread, what } => (*thread, what),
     };
-    if is_flushed(thread, redirect) {
+    if flushes_d(thread, redirect) {
         *d = Held::Flushed { thread };
         return;
     }
@@ -142,7 +142,7 @@ pub fn read(
         what: Decoded {
             pc: x.pc,
             word: x.word,
-            expired: was_due(timers, clock, cycle, thread),
+            expired: is_due(timers, clock, cycle, thread),
             a,
             b,
         },

@@ -3,22 +3,22 @@
 ghost use Rattle.std.specs.Prelude.{◌≡◌, ◌≢◌, ◌-◌, ◌<◌, ◌==◌, if◌then◌else◌, IfSome, is_some, length};
 ghost use Rattle.rv_decode.specs.Table.{ins};
 ghost use Rattle.rv_exec.specs.Access.{IsAligned};
-ghost use Rattle.core_model.specs.Issue.{act};
+ghost use Rattle.core_model.specs.Issue.{execute_in};
 ghost use Rattle.core_model.specs.Thread.{no_own};
 ghost use Rattle.core_model.specs.declared.own.Own.{Own};
 ghost use Rattle.hart_exec.specs.AsDefined.{did, leaves_own, IsPlain};
 ghost use Rattle.timer_unit.specs.Time.{time};
 ghost use Rattle.trap_unit.specs.Rows.{IsAlignedTrap};
-ghost use Rattle.pipe_model.specs.Stages.{own_in, executed, redirect_of, execution};
-ghost use Rattle.pipe_model.specs.declared.latches.Held.TheVariants.{Issue};
-ghost use Rattle.pipeline_core.specs.LatchFacts.{IsPc, EffectFits, DecodedFits, ExecutedFits, RedirectFits, IsAccepted};
+ghost use Rattle.pipe_model.specs.Stages.{own_in, executed, redirect_of, execute_stage};
+ghost use Rattle.pipe_model.specs.declared.stage_registers.Held.TheVariants.{Issue};
+ghost use Rattle.pipeline_core.specs.StageFacts.{IsPc, EffectFits, DecodedFits, ExecutedFits, RedirectFits, IsAccepted};
 ghost use Rattle.pipeline_core.specs.AsDefined.{registers_by, control_by};
 ghost use Rattle.pipeline_core.specs.AccessRights.{asked};
 ghost use Rattle.world_model.specs.World.{registers_after};
 
 use crate::rights::Rights;
 use core_model::Own;
-use hart_exec::{Executed as Done, Onward, Place, Sources, execute_in, execute_plain};
+use hart_exec::{Executed as Done, Onward, PcWord, Sources, execute_in, execute_plain};
 use pipe_model::{Decoded, Executed, Held, Redirect, Way};
 use region_guard::Guard;
 use rv_exec::Effect;
@@ -34,7 +34,7 @@ struct Step {
 }
 
 /// What a thread has, besides its pc and its registers.
-fn own_of(guard: &Guard, sched: &Sched, timers: &Timers, traps: &Traps, thread: u8) -> Own
+fn own_in(guard: &Guard, sched: &Sched, timers: &Timers, traps: &Traps, thread: u8) -> Own
     requires { thread < 8 }
     ensures own { result ≡ own_in (control_by sched.now guard.now timers.now traps.now) thread }
     ensures trap { IsAlignedTrap result.trap }
@@ -51,14 +51,14 @@ fn execute_at(mut own: Own, rights: &Rights<'_>, x: &Decoded) -> Step
     requires pc { IsPc x.now.pc }
     requires trap { IsAlignedTrap own.trap }
     ensures did { did result.own result.done ≡
-        act (asked rights.now) x.now.pc own x.now.expired x.now.word x.now.a x.now.b }
+        execute_in (asked rights.now) x.now.pc own x.now.expired x.now.word x.now.a x.now.b }
     ensures effect { EffectFits result.done.effect }
     ensures address { IsAligned (ins result.done.word) result.done.address }
     ensures pc { IsPc result.done.pc }
     ensures trap { IsAlignedTrap result.own.trap }
     ensures csr { IsAccepted result.done.effect }
 {
-    let at = Place {
+    let at = PcWord {
         pc: x.pc,
         word: x.word,
     };
@@ -74,14 +74,14 @@ fn execute_plainly(rights: &Rights<'_>, x: &Decoded) -> Option<Done>
     ensures answers { is_some result ≡ leaves_own (asked rights.now) x.now.pc x.now.expired
         x.now.word x.now.a x.now.b }
     ensures did { IfSome result (λ done. (own : Own) → did own done ≡
-        act (asked rights.now) x.now.pc own x.now.expired x.now.word x.now.a x.now.b) }
+        execute_in (asked rights.now) x.now.pc own x.now.expired x.now.word x.now.a x.now.b) }
     ensures effect { IfSome result (λ done. EffectFits done.effect) }
     ensures plain { IfSome result (λ done. IsPlain done.effect) }
     ensures shown { IfSome result (λ done. done.word ≢ 0) }
     ensures address { IfSome result (λ done. IsAligned (ins done.word) done.address) }
     ensures pc { IfSome result (λ done. IsPc done.pc) }
 {
-    let at = Place {
+    let at = PcWord {
         pc: x.pc,
         word: x.word,
     };
@@ -101,8 +101,8 @@ fn shown(x: &Decoded, done: &Done) -> Decoded
     }
 }
 
-/// What stands in the latch of an executed instruction with its effect.
-fn latch_of(x: &Decoded, done: &Done, effect: Option<Effect>) -> Executed
+/// What stands in the stage register of an executed instruction with its effect.
+fn executed_of(x: &Decoded, done: &Done, effect: Option<Effect>) -> Executed
     ensures { result ≡ record {
       pc = x.now.pc;
       word = done.now.word;
@@ -126,7 +126,7 @@ fn latch_of(x: &Decoded, done: &Done, effect: Option<Effect>) -> Executed
 /// and of these no more than their own fields is moved: an effect as a whole has all those of its
 /// largest variant.
 #[inline(always)]
-fn put_latch(thread: u8, x: &Decoded, done: &Done, e: &mut Held<Executed>)
+fn put_executed(thread: u8, x: &Decoded, done: &Done, e: &mut Held<Executed>)
     ensures { e.new ≡ Issue thread (record {
       pc = x.now.pc;
       word = done.now.word;
@@ -138,15 +138,15 @@ fn put_latch(thread: u8, x: &Decoded, done: &Done, e: &mut Held<Executed>)
 {
     match done.effect {
         Some(Effect::Reg { rd, value }) => {
-            let what = latch_of(x, done, Some(Effect::Reg { rd, value }));
+            let what = executed_of(x, done, Some(Effect::Reg { rd, value }));
             *e = Held::Issue { thread, what };
         }
         Some(Effect::Nothing) => {
-            let what = latch_of(x, done, Some(Effect::Nothing));
+            let what = executed_of(x, done, Some(Effect::Nothing));
             *e = Held::Issue { thread, what };
         }
         effect => {
-            let what = latch_of(x, done, effect);
+            let what = executed_of(x, done, effect);
             *e = Held::Issue { thread, what };
         }
     }
@@ -171,13 +171,13 @@ fn leave(thread: u8, x: &Decoded, done: &Done, e: &mut Held<Executed>) -> Option
 {
     let way = match done.onward {
         Onward::NextWord => {
-            put_latch(thread, x, done, e);
+            put_executed(thread, x, done, e);
             return None;
         }
         Onward::LateValue => Way::LateValue,
         Onward::Elsewhere => Way::Elsewhere,
     };
-    put_latch(thread, x, done, e);
+    put_executed(thread, x, done, e);
     Some(Redirect {
         thread,
         pc: done.pc,
@@ -200,7 +200,7 @@ fn write_registers(guard: &mut Guard, sched: &mut Sched, effect: Option<Effect>)
 
 /// Executes an issue over what its thread has, and changes that and the machine's own registers.
 #[cold]
-#[tactic(auto, unfolding(pipe_model::specs::Stages::execution))]
+#[tactic(auto, unfolding(pipe_model::specs::Stages::execute_stage))]
 fn execute_fully(
     guard: &mut Guard,
     sched: &mut Sched,
@@ -217,21 +217,21 @@ fn execute_fully(
     requires thread { thread < 8 }
     requires cycle { cycle < 4000000000 }
     requires pc { IsPc x.now.pc }
-    ensures e { e.new ≡ (execution guard.old.size confined.now permit.now
+    ensures e { e.new ≡ (execute_stage guard.old.size confined.now permit.now
         (time clock.now (cycle - 2)) (control_by sched.old guard.old timers.old traps.old)
         (Issue thread x.now)).e }
-    ensures redirect { result ≡ (execution guard.old.size confined.now permit.now
+    ensures redirect { result ≡ (execute_stage guard.old.size confined.now permit.now
         (time clock.now (cycle - 2)) (control_by sched.old guard.old timers.old traps.old)
         (Issue thread x.now)).redirect }
     ensures control { control_by sched.new guard.new timers.new traps.new ≡
-        (execution guard.old.size confined.now permit.now (time clock.now (cycle - 2))
+        (execute_stage guard.old.size confined.now permit.now (time clock.now (cycle - 2))
         (control_by sched.old guard.old timers.old traps.old) (Issue thread x.now)).control }
     ensures size { guard.new.size ≡ guard.old.size }
     ensures fits { ExecutedFits e.new }
     ensures redirect_fits { RedirectFits result }
 {
     let rights = Rights::of(thread, clock, cycle, guard, sched, confined, permit);
-    let own = own_of(guard, sched, timers, traps, thread);
+    let own = own_in(guard, sched, timers, traps, thread);
     let step = execute_at(own, &rights, x);
     timers.set_row(thread, step.own.timer);
     traps.set_row(thread, step.own.trap);
@@ -241,7 +241,7 @@ fn execute_fully(
 }
 
 /// Executes an issue. Most leave what their thread has, and are done without a look at it.
-#[tactic(auto, unfolding(pipe_model::specs::Stages::execution))]
+#[tactic(auto, unfolding(pipe_model::specs::Stages::execute_stage))]
 fn execute_issue(
     guard: &mut Guard,
     sched: &mut Sched,
@@ -258,14 +258,14 @@ fn execute_issue(
     requires thread { thread < 8 }
     requires cycle { cycle < 4000000000 }
     requires pc { IsPc x.now.pc }
-    ensures e { e.new ≡ (execution guard.old.size confined.now permit.now
+    ensures e { e.new ≡ (execute_stage guard.old.size confined.now permit.now
         (time clock.now (cycle - 2)) (control_by sched.old guard.old timers.old traps.old)
         (Issue thread x.now)).e }
-    ensures redirect { result ≡ (execution guard.old.size confined.now permit.now
+    ensures redirect { result ≡ (execute_stage guard.old.size confined.now permit.now
         (time clock.now (cycle - 2)) (control_by sched.old guard.old timers.old traps.old)
         (Issue thread x.now)).redirect }
     ensures control { control_by sched.new guard.new timers.new traps.new ≡
-        (execution guard.old.size confined.now permit.now (time clock.now (cycle - 2))
+        (execute_stage guard.old.size confined.now permit.now (time clock.now (cycle - 2))
         (control_by sched.old guard.old timers.old traps.old) (Issue thread x.now)).control }
     ensures size { guard.new.size ≡ guard.old.size }
     ensures fits { ExecutedFits e.new }
@@ -283,8 +283,8 @@ fn execute_issue(
 /// Executes the turn that was issued two cycles ago, and tells where its thread goes on if the next
 /// turns are flushed. What it changes of its thread and of the machine's own registers is changed
 /// here.
-#[tactic(auto, unfolding(pipe_model::specs::Stages::execution))]
-pub fn execute(
+#[tactic(auto, unfolding(pipe_model::specs::Stages::execute_stage))]
+pub fn execute_stage(
     guard: &mut Guard,
     sched: &mut Sched,
     timers: &mut Timers,
@@ -298,14 +298,14 @@ pub fn execute(
 ) -> Option<Redirect>
     requires fits { DecodedFits held.now }
     requires cycle { cycle < 4000000000 }
-    ensures e { e.new ≡ (execution guard.old.size confined.now permit.now
+    ensures e { e.new ≡ (execute_stage guard.old.size confined.now permit.now
         (time clock.now (cycle - 2)) (control_by sched.old guard.old timers.old traps.old)
         held.now).e }
-    ensures redirect { result ≡ (execution guard.old.size confined.now permit.now
+    ensures redirect { result ≡ (execute_stage guard.old.size confined.now permit.now
         (time clock.now (cycle - 2)) (control_by sched.old guard.old timers.old traps.old)
         held.now).redirect }
     ensures control { control_by sched.new guard.new timers.new traps.new ≡
-        (execution guard.old.size confined.now permit.now (time clock.now (cycle - 2))
+        (execute_stage guard.old.size confined.now permit.now (time clock.now (cycle - 2))
         (control_by sched.old guard.old timers.old traps.old) held.now).control }
     ensures size { guard.new.size ≡ guard.old.size }
     ensures fits { ExecutedFits e.new }

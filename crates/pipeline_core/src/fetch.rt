@@ -2,8 +2,8 @@
 
 ghost use Rattle.std.specs.Prelude.{◌≡◌, ◌/◌, All, Some, length};
 ghost use Rattle.slot_scheduler.specs.Picking.{IsPick};
-ghost use Rattle.pipe_model.specs.Stages.{flushes_f, redirected, fetch_latch, advanced};
-ghost use Rattle.pipeline_core.specs.LatchFacts.{IsPc, FetchedFits, RedirectFits};
+ghost use Rattle.pipe_model.specs.Stages.{flushes_f, redirected, fetch_stage, advanced};
+ghost use Rattle.pipeline_core.specs.StageFacts.{IsPc, FetchedFits, RedirectFits};
 
 use crate::memory::code_word;
 use pipe_model::{Fetched, Held, Redirect, Way};
@@ -12,7 +12,7 @@ use scratchpad::Spm;
 use slot_scheduler::Pick;
 
 /// Whether a redirect flushes a thread's turn in F: only one that leads elsewhere does.
-fn is_flushed(thread: u8, redirect: Option<Redirect>) -> bool
+fn flushes_f(thread: u8, redirect: Option<Redirect>) -> bool
     ensures { result ≡ flushes_f thread redirect }
 {
     let Some(redirect) = redirect else {
@@ -37,9 +37,9 @@ pub fn redirect_to(next: &mut [u32; 8], redirect: Redirect)
 
 /// Fetches the next word of the picked thread, if its turn isn't flushed. Inlined, as `read` is:
 /// each stands twice in the step, of which the one without a redirect has no test of it.
-#[tactic(auto, unfolding(pipe_model::specs::Stages::fetch_latch, pipe_model::specs::Stages::advanced), using(crate::proofs::Pcs::pcs_set, crate::proofs::Pcs::pc_at, crate::proofs::Pcs::pc_after))]
+#[tactic(auto, unfolding(pipe_model::specs::Stages::fetch_stage, pipe_model::specs::Stages::advanced), using(crate::proofs::Pcs::pcs_set, crate::proofs::Pcs::pc_at, crate::proofs::Pcs::pc_after))]
 #[inline(always)]
-pub fn fetch(
+pub fn fetch_stage(
     guard: &Guard,
     imem: &Spm,
     redirect: Option<Redirect>,
@@ -49,7 +49,7 @@ pub fn fetch(
     requires imem { length imem.now ≡ guard.now.size / 4 }
     requires pcs { All IsPc next.old }
     requires pick { IsPick pick }
-    ensures latch { result ≡ fetch_latch guard.now.size imem.now redirect next.old pick }
+    ensures stage { result ≡ fetch_stage guard.now.size imem.now redirect next.old pick }
     ensures next { next.new ≡ advanced redirect pick next.old }
     ensures pcs { All IsPc next.new }
     ensures fits { FetchedFits result }
@@ -57,7 +57,7 @@ pub fn fetch(
     let Pick::Issue { thread } = pick else {
         return Held::Bubble;
     };
-    if is_flushed(thread, redirect) {
+    if flushes_f(thread, redirect) {
         return Held::Flushed { thread };
     }
     let pc = next[thread as usize];

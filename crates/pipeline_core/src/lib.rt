@@ -2,15 +2,15 @@
 //! hardware threads go, one stage in each cycle.
 #![tactic(auto)]
 
-mod access;
 mod decode;
 mod execute;
 mod fetch;
 mod memory;
+mod memory_stage;
 mod pipe;
 mod rights;
 mod units;
-mod write;
+mod writeback;
 
 pub use pipe::Pipe;
 pub use pipe_model::{Decoded, Executed, Fetched, Held, Stored, Written};

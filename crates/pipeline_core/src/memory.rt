@@ -1,13 +1,13 @@
 //! The words of the two scratchpads, as fetches, loads and stores reach them.
 
 ghost use Rattle.std.specs.Prelude.{◌≡◌, ◌-◌, ◌<◌, ◌/◌, ◌%◌, IsTrue, length, vec_len};
-ghost use Rattle.region_guard.specs.Regions.{IsSize, in_i, in_d, index_of};
+ghost use Rattle.region_guard.specs.Regions.{IsSize, is_code, is_data, index_of};
 ghost use Rattle.rv_exec.specs.Access.{lanes_at};
 ghost use Rattle.rv_exec.specs.Line.{IsWidth};
 ghost use Rattle.core_model.specs.Memory.{code_at, data_at};
 ghost use Rattle.world_model.specs.World.{words_after};
 ghost use Rattle.fp_ports.specs.Rows.{rows_of, row_at, word_seen};
-ghost use Rattle.pipeline_core.specs.LatchFacts.{EffectFits};
+ghost use Rattle.pipeline_core.specs.StageFacts.{EffectFits};
 
 use fp_ports::{Port, Ports, read_port};
 use region_guard::Guard;
@@ -20,7 +20,7 @@ const DATA: u32 = 0x2000_0000;
 /// The index of an address's word in the instruction scratchpad.
 #[tactic(auto, unfolding(region_guard::specs::Regions::index_of))]
 fn code_index(guard: &Guard, address: u32) -> u32
-    requires { IsTrue (in_i guard.now.size address) }
+    requires { IsTrue (is_code guard.now.size address) }
     ensures index { result ≡ index_of guard.now.size address }
     ensures small { result < guard.now.size / 4 }
 {
@@ -30,7 +30,7 @@ fn code_index(guard: &Guard, address: u32) -> u32
 /// The index of an address's word in the data scratchpad.
 #[tactic(auto, unfolding(region_guard::specs::Regions::index_of))]
 fn data_index(guard: &Guard, address: u32) -> u32
-    requires { IsTrue (in_d guard.now.size address) }
+    requires { IsTrue (is_data guard.now.size address) }
     ensures index { result ≡ index_of guard.now.size address }
     ensures small { result < guard.now.size / 4 }
 {
@@ -39,14 +39,14 @@ fn data_index(guard: &Guard, address: u32) -> u32
 
 /// Whether an address lies in the instruction scratchpad.
 fn is_code(guard: &Guard, address: u32) -> bool
-    ensures { result ≡ in_i guard.now.size address }
+    ensures { result ≡ is_code guard.now.size address }
 {
     address < guard.size
 }
 
 /// Whether an address lies in the data scratchpad.
 fn is_data(guard: &Guard, address: u32) -> bool
-    ensures { result ≡ in_d guard.now.size address }
+    ensures { result ≡ is_data guard.now.size address }
 {
     address >= DATA && address < DATA + guard.size
 }

@@ -1,15 +1,15 @@
-//! The latches between the stages.
+//! The stage registers.
 
 ghost use Rattle.std.specs.Prelude.{◌≡◌, All};
 ghost use Rattle.std.proofs.Props.{props};
-ghost use Rattle.pipeline_core.specs.LatchFacts.{IsPc, FetchedFits, DecodedFits, ExecutedFits, StoredFits, WrittenFits, FetchedFits-prop, DecodedFits-prop, ExecutedFits-prop, StoredFits-prop, WrittenFits-prop};
+ghost use Rattle.pipeline_core.specs.StageFacts.{IsPc, FetchedFits, DecodedFits, ExecutedFits, StoredFits, WrittenFits, FetchedFits-prop, DecodedFits-prop, ExecutedFits-prop, StoredFits-prop, WrittenFits-prop};
 
-use crate::access::access;
-use crate::decode::read;
-use crate::execute::execute;
-use crate::fetch::{fetch, redirect_to};
+use crate::decode::decode_stage;
+use crate::execute::execute_stage;
+use crate::fetch::{fetch_stage, redirect_to};
+use crate::memory_stage::memory_stage;
 use crate::units::Units;
-use crate::write::{retire, write};
+use crate::writeback::{retire, writeback_stage};
 use fp_ports::{Port, Ports};
 use pipe_model::{
     Decoded, Executed, Fetched, Held, Redirect, Stored, Written, keeps_standing, starts_standing,
@@ -50,22 +50,22 @@ impl Pipe {
     ghost use Rattle.world_model.specs.World.{Start, start_world};
     ghost use Rattle.slot_scheduler.specs.Picking.{IsPick};
     ghost use Rattle.timer_unit.specs.Time.{time};
-    ghost use Rattle.pipe_model.specs.Stages.{advanced, decode_latch, fetch_latch, retired, step};
+    ghost use Rattle.pipe_model.specs.Stages.{advanced, decode_stage, fetch_stage, retired, step};
     ghost use Rattle.pipe_model.specs.Relation.{Begins, Shows, Stands, Kept, HasLatches};
     ghost use Rattle.pipe_model.specs.PipelineLaws.{empty, first_units};
-    ghost use Rattle.pipeline_core.specs.LatchFacts.{IsEventShowable};
-    ghost use Rattle.pipeline_core.specs.AsDefined.{latches_by, state_by, ticked_by};
+    ghost use Rattle.pipeline_core.specs.StageFacts.{IsEventShowable};
+    ghost use Rattle.pipeline_core.specs.AsDefined.{stage_registers_by, state_by, ticked_by};
 
     /// A pipeline with nothing in it, whose threads start at these entries. It stands for cycle 0
     /// of each world whose threads start there, beside units and ports that hold that world's
     /// start.
     pub fn new(entries: [u32; 8]) -> Pipe
         requires { All IsPc entries }
-        ensures latches { latches_by result ≡ empty entries }
+        ensures stage_registers { stage_registers_by result ≡ empty entries }
         ensures stands { (s : Start) (ports : List (Option Row)) → Begins s →
             HasLatches (start_world s) ports →
             map (λ t. t.pc) s.threads ≡ entries →
-            Stands s 0 (latches_by result) (first_units s ports) }
+            Stands s 0 (stage_registers_by result) (first_units s ports) }
     {
         starts_standing();
         Pipe {
@@ -88,10 +88,10 @@ impl Pipe {
         ensures relation { let before = rows_of latched word_at ports.old.items in let after =
             rows_of latched word_at ports.new.items in
             (s : Start) → Begins s → Shows s cycle before →
-            Stands s cycle (latches_by self.old) (state_by units.old before) →
+            Stands s cycle (stage_registers_by self.old) (state_by units.old before) →
             Kept s cycle before (ticked_by self.new units.new after result) }
         ensures step { ticked_by self.new units.new (rows_of latched word_at ports.new.items)
-            result ≡ step (latches_by self.old)
+            result ≡ step (stage_registers_by self.old)
             (state_by units.old (rows_of latched word_at ports.old.items)) cycle }
         ensures eight { vec_len ports.new ≡ 8 }
         ensures retires { result ≡ retired (cycle - 4) self.old.m }
@@ -115,12 +115,12 @@ impl Pipe {
         requires eight { vec_len ports.old ≡ 8 }
         ensures step { ticked_by self.new units.new (rows_of latched word_at ports.new.items)
             (retired (cycle - 4) self.old.m) ≡
-            step (latches_by self.old) (state_by units.old
+            step (stage_registers_by self.old) (state_by units.old
             (rows_of latched word_at ports.old.items)) cycle }
         ensures eight { vec_len ports.new ≡ 8 }
     {
-        write(&mut units.bank, &self.m, &mut self.w);
-        access(
+        writeback_stage(&mut units.bank, &self.m, &mut self.w);
+        memory_stage(
             &units.guard,
             &units.imem,
             &mut units.dmem,
@@ -131,7 +131,7 @@ impl Pipe {
         );
         let now = units.clock.now(cycle);
         let pick = units.scheduler.pick(&units.sched, cycle, now);
-        let redirect = execute(
+        let redirect = execute_stage(
             &mut units.guard,
             &mut units.sched,
             &mut units.timers,
@@ -158,17 +158,17 @@ impl Pipe {
     fn follow(&mut self, units: &Units, redirect: Option<Redirect>, pick: Pick, cycle: u64)
         requires cycle { cycle < 4000000000 }
         requires pick { IsPick pick }
-        ensures d { self.new.d ≡ decode_latch units.now.bank self.old.m self.old.e units.now.timers
+        ensures d { self.new.d ≡ decode_stage units.now.bank self.old.m self.old.e units.now.timers
             redirect (time units.now.clock (cycle - 1)) self.old.f }
         ensures f { self.new.f ≡
-            fetch_latch units.now.guard.size units.now.imem redirect self.old.next pick }
+            fetch_stage units.now.guard.size units.now.imem redirect self.old.next pick }
         ensures next { self.new.next ≡ advanced redirect pick self.old.next }
         ensures e { self.new.e ≡ self.old.e }
         ensures m { self.new.m ≡ self.old.m }
         ensures w { self.new.w ≡ self.old.w }
     {
-        let fetched = fetch(&units.guard, &units.imem, redirect, &mut self.next, pick);
-        read(
+        let fetched = fetch_stage(&units.guard, &units.imem, redirect, &mut self.next, pick);
+        decode_stage(
             &units.bank,
             &self.m,
             &self.e,

@@ -21,7 +21,7 @@ pub struct Units {
     pub dmem: Spm,
     /// The region registers, and the size of each scratchpad.
     pub guard: Guard,
-    /// The place of the search for a soft thread.
+    /// The round-robin pointer of donation.
     pub scheduler: Scheduler,
     /// Slots, modes and sleep moments, as the execute stage leaves them.
     pub sched: Sched,

@@ -56,14 +56,14 @@ is_mine Shared = false
 is_mine Foreign = false
 
 -- the instruction scratchpad, the data scratchpad, and the word of the port
-abbrev pub in_i : ℕ → ℕ → Bool
-in_i size address = nat_lt address size
+abbrev pub is_code : ℕ → ℕ → Bool
+is_code size address = nat_lt address size
 
-abbrev pub in_d : ℕ → ℕ → Bool
-in_d size address = nat_le 0x20000000 address && nat_lt address (0x20000000 + size)
+abbrev pub is_data : ℕ → ℕ → Bool
+is_data size address = nat_le 0x20000000 address && nat_lt address (0x20000000 + size)
 
-abbrev pub at_port : ℕ → ℕ → Bool
-at_port address width = address == 0x40000000 && width == 4
+abbrev pub is_port : ℕ → ℕ → Bool
+is_port address width = address == 0x40000000 && width == 4
 
 -- the region of an address in its scratchpad, and the index of its word there
 unfoldable pub region_of : ℕ → ℕ → ℕ
@@ -85,15 +85,15 @@ may_read thread size confined regions address =
 -- who may fetch, load and store where. The address is aligned for the width, which is in bytes
 unfoldable pub may_fetch : ℕ → ℕ → Bool → ℕ → ℕ → Bool
 may_fetch thread size confined iregions address =
-    in_i size address && may_read thread size confined iregions address
+    is_code size address && may_read thread size confined iregions address
 
 unfoldable pub may_load : ℕ → ℕ → Bool → ℕ → ℕ → ℕ → ℕ → Bool
 may_load thread size confined iregions dregions address width =
-    if in_i size address then may_read thread size confined iregions address
-    else if in_d size address then may_read thread size confined dregions address
-    else at_port address width
+    if is_code size address then may_read thread size confined iregions address
+    else if is_data size address then may_read thread size confined dregions address
+    else is_port address width
 
 unfoldable pub may_store : ℕ → ℕ → ℕ → ℕ → ℕ → Bool
 may_store thread size dregions address width =
-    if in_d size address then is_writable (standing_at thread size dregions address)
-    else at_port address width
+    if is_data size address then is_writable (standing_at thread size dregions address)
+    else is_port address width

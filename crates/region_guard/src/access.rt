@@ -1,7 +1,7 @@
 //! Who may fetch, load and store where.
 
 ghost use Rattle.std.specs.Prelude.{◌≡◌, ◌<◌, not, ◌||◌};
-ghost use Rattle.region_guard.specs.Regions.{IsSize, IsSize-prop, at_port, in_d, may_fetch, may_load, may_read, may_store, region_of};
+ghost use Rattle.region_guard.specs.Regions.{IsSize, IsSize-prop, is_port, is_data, may_fetch, may_load, may_read, may_store, region_of};
 
 use crate::register::Regions;
 
@@ -26,7 +26,7 @@ const PORT: u32 = 0x4000_0000;
 
 // The region of an address in its scratchpad.
 #[tactic(auto, unfolding(crate::specs::Regions::region_of))]
-fn region_at(size: u32, address: u32) -> u8
+fn region_of(size: u32, address: u32) -> u8
     requires { IsSize size }
     ensures region { result ≡ region_of size address }
     ensures small { result < 8 }
@@ -42,14 +42,14 @@ fn region_at(size: u32, address: u32) -> u8
 // Whether an address is in the data scratchpad.
 fn is_data(size: u32, address: u32) -> bool
     requires { IsSize size }
-    ensures { result ≡ in_d size address }
+    ensures { result ≡ is_data size address }
 {
     address.wrapping_sub(DATA) < size
 }
 
 // Whether an access is one of the whole word of the port.
 fn is_port(address: u32, size: u8) -> bool
-    ensures { result ≡ at_port address size }
+    ensures { result ≡ is_port address size }
 {
     address == PORT && size == 4
 }
@@ -59,7 +59,7 @@ impl Guard {
     fn may_read(&self, regions: &Regions, thread: u8, confined: bool, address: u32) -> bool
         ensures { result ≡ may_read thread self.now.size confined regions.now address }
     {
-        !confined || regions.lets_read(region_at(self.size, address), thread)
+        !confined || regions.is_readable(region_of(self.size, address), thread)
     }
 
     /// Whether a thread may fetch at an address: in the instruction scratchpad, and if it is
@@ -97,6 +97,6 @@ impl Guard {
         if !is_data(self.size, address) {
             return is_port(address, size);
         }
-        self.d.lets_write(region_at(self.size, address), thread)
+        self.d.is_writable(region_of(self.size, address), thread)
     }
 }

@@ -57,7 +57,7 @@ const SHARED: u8 = 8;
 /// The nibble of a read only region.
 const READ_ONLY: u8 = 12;
 
-fn is_accepted(nibble: u8) -> bool
+fn is_owner(nibble: u8) -> bool
     ensures { result ≡ is_owner nibble }
 {
     nibble <= SHARED || nibble == READ_ONLY
@@ -68,12 +68,12 @@ fn bad_region(nibbles: &[u8; 8]) -> Option<usize>
     ensures first { result ≡ position (λ nibble. not (is_owner nibble)) nibbles.now }
     ensures within { IfSome result (λ index. index < 8) }
 {
-    nibbles.iter().position(|nibble| !is_accepted(*nibble))
+    nibbles.iter().position(|nibble| !is_owner(*nibble))
 }
 
 /// Whether a nibble names a region where a confined thread may load and fetch.
 #[tactic(auto, unfolding(crate::specs::Regions::standing))]
-fn lets_read(nibble: u8, thread: u8) -> bool
+fn is_readable(nibble: u8, thread: u8) -> bool
     ensures { result ≡ is_readable (standing thread nibble) }
 {
     nibble == thread || nibble == READ_ONLY
@@ -81,7 +81,7 @@ fn lets_read(nibble: u8, thread: u8) -> bool
 
 /// Whether a nibble names a region where a thread may store.
 #[tactic(auto, unfolding(crate::specs::Regions::standing))]
-fn lets_write(nibble: u8, thread: u8) -> bool
+fn is_writable(nibble: u8, thread: u8) -> bool
     ensures { result ≡ is_writable (standing thread nibble) }
 {
     nibble == thread || nibble == SHARED
@@ -156,26 +156,26 @@ impl Regions {
     }
 
     // Whether a confined thread may load and fetch in a region, which is 0 to 7.
-    pub(crate) fn lets_read(&self, region: u8, thread: u8) -> bool
+    pub(crate) fn is_readable(&self, region: u8, thread: u8) -> bool
         requires { region < 8 }
         ensures { result ≡ is_readable (standing thread (nibble_at self.now region)) }
     {
         if thread < 8 {
             (self.readable[thread as usize] >> region) % 2 == 1
         } else {
-            lets_read(nibble(self.word, region), thread)
+            is_readable(nibble(self.word, region), thread)
         }
     }
 
     // Whether a thread may store in a region, which is 0 to 7.
-    pub(crate) fn lets_write(&self, region: u8, thread: u8) -> bool
+    pub(crate) fn is_writable(&self, region: u8, thread: u8) -> bool
         requires { region < 8 }
         ensures { result ≡ is_writable (standing thread (nibble_at self.now region)) }
     {
         if thread < 8 {
             (self.writable[thread as usize] >> region) % 2 == 1
         } else {
-            lets_write(nibble(self.word, region), thread)
+            is_writable(nibble(self.word, region), thread)
         }
     }
 }

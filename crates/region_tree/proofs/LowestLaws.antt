@@ -10,7 +10,7 @@ use Rattle.region_tree.specs.Refusals.{CrossedAt, DeepAt, EnteredAt, UnboundedAt
 use Rattle.region_tree.specs.Search.{Before, CrossedHere, DeepHere, EntersOff, EnteredHere, EnteredBy, EnteredFrom, GoesBack, ReturnsBadly, LowestOf, address, lower_of}
 use Rattle.region_tree.specs.Tree.{Tree, IsDraft, graph, word_at}
 use Rattle.region_tree.proofs.EdgeLaws.{edge-is, is-edge}
-use Rattle.region_tree.proofs.GraphLaws.{reachable-aligned, reachable-lies, place-address, place-within}
+use Rattle.region_tree.proofs.GraphLaws.{reachable-aligned, reachable-lies, index-address, index-within}
 
 pub lowest-same : (P Q : ℕ → Type 0) (r : Option ℕ) → ((a : ℕ) → P a → Q a) → ((a : ℕ) → Q a → P a) → LowestOf P r → LowestOf Q r
 lowest-same P Q None there back none = λ a q. none a (back a q)
@@ -31,7 +31,7 @@ lowest-either P Q (Some x) (Some y) p q = record {
     pick (inl e) = inl (subst P (sym e) p.holds)
     pick (inr e) = inr (subst Q (sym e) q.holds)
 
--- of one place more
+-- of one index more
 pub lowest-next : (C : ℕ → ℕ → Type 0) (n : ℕ) (f r : Option ℕ) → LowestOf (Before C n) f → LowestOf (C n) r → LowestOf (Before C (n + 1)) (lower_of f r)
 lowest-next C n f r p q = lowest-same (λ a. Before C n a ⊎ C n a) (Before C (n + 1)) (lower_of f r) (λ a h. elim h [ inl z ↦ (z.0, omega (arith, z.1), z.2) | inr z ↦ (n, omega arith, z) ]) (λ a h. last a h (let z : (h.0 < n) ⊎ (n ≡ h.0) = grind (arith, h.1) in z)) (lowest-either (Before C n) (C n) f r p q)
   where
@@ -39,12 +39,12 @@ lowest-next C n f r p q = lowest-same (λ a. Before C n a ⊎ C n a) (Before C (
     last a h (inl below) = inl (h.0, below, h.2)
     last a h (inr same) = inr (subst (λ k. C k a) (sym same) h.2)
 
--- a loop of the list is the one at its place
-pub at-place : (loops : List LoopSetup) (j : LoopSetup) (h : Contains loops j) → loop_at loops h.0 ≡ j
-at-place loops j h = get_or_default loops h.0 (record { head = 0; last = 0; limit = 0 }) j h.1 ∙ h.2
+-- a loop of the list is the one at its index
+pub at-index : (loops : List LoopSetup) (j : LoopSetup) (h : Contains loops j) → loop_at loops h.0 ≡ j
+at-index loops j h = get_or_default loops h.0 (record { head = 0; last = 0; limit = 0 }) j h.1 ∙ h.2
 
-pub known-place : (loops : List LoopSetup) (k : ℕ) → k < length loops → Contains loops (loop_at loops k)
-known-place loops k h = Contains-get_or loops k (record { head = 0; last = 0; limit = 0 }) h
+pub known-index : (loops : List LoopSetup) (k : ℕ) → k < length loops → Contains loops (loop_at loops k)
+known-index loops k h = Contains-get_or loops k (record { head = 0; last = 0; limit = 0 }) h
 
 pub crossed-all : (loops : List LoopSetup) (n : ℕ) (r : Option ℕ) → n ≡ length loops → LowestOf (Before (CrossedHere loops) n) r → LowestOf (CrossedAt loops) r
 crossed-all loops n r all l = lowest-same (Before (CrossedHere loops) n) (CrossedAt loops) r
@@ -53,8 +53,8 @@ crossed-all loops n r all l = lowest-same (Before (CrossedHere loops) n) (Crosse
 
 pub deep-all : (loops : List LoopSetup) (n : ℕ) (r : Option ℕ) → n ≡ length loops → LowestOf (Before (DeepHere loops) n) r → LowestOf (DeepAt loops) r
 deep-all loops n r all l = lowest-same (Before (DeepHere loops) n) (DeepAt loops) r
-    (λ a h. record { deep = loop_at loops h.0; known = known-place loops h.0 (omega (arith, h.1)); depth = h.2.depth; address = h.2.address })
-    (λ a h. let same = at-place loops h.deep h.known in
+    (λ a h. record { deep = loop_at loops h.0; known = known-index loops h.0 (omega (arith, h.1)); depth = h.2.depth; address = h.2.address })
+    (λ a h. let same = at-index loops h.deep h.known in
     (h.known.0, omega (arith, h.known.1), record { depth = subst (λ j. 4 < depth loops j) (sym same) h.depth; address = subst (λ j. a ≡ j.head) (sym same) h.address })) l
 
 pub entered-by : (loops : List LoopSetup) (u v n : ℕ) (target r : Option ℕ) → target ≡ Some v → n ≡ length loops → LowestOf (Before (EnteredHere loops u v) n) r → LowestOf (EnteredBy loops u target) r
@@ -62,7 +62,7 @@ entered-by loops u v n target r is all l = lowest-same (Before (EnteredHere loop
     (λ a h. (v, is, subst (λ n. Before (EnteredHere loops u v) n a) all h))
     (λ a h. let k : Some v ≡ Some h.0 = sym is ∙ h.1 in let same : h.0 ≡ v = cc in subst (λ n. Before (EnteredHere loops u v) n a) (sym all) (subst (λ v. Before (EnteredHere loops u v) (length loops) a) same h.2)) l
 
--- an edge to a target of the word at a place
+-- an edge to a target of the word at an index
 pub edge-by : (t : Tree) (k v : ℕ) → let e = edges_of (word_at t (address t k)) (address t k) in (e.next ≡ Some v) ⊎ (e.jump ≡ Some v) → (b : Edge) × Contains ((graph t).edges (address t k)) b × (b.to ≡ v)
 edge-by t k v (inl is) = (record { to = v; lag = e.next_lag }, Contains-append_left (edge_to e.next e.next_lag) (edge_to e.jump 3) (record { to = v; lag = e.next_lag }) (is-edge e.next e.next_lag v is), refl)
   where
@@ -93,7 +93,7 @@ entered-all t n r d all l = lowest-same (Before (EnteredFrom t) n) (EnteredAt (g
         let b = edge-by t k v is in
         record {
           entered = loop_at t.loops h.0;
-          known = known-place t.loops h.0 h.1;
+          known = known-index t.loops h.0 h.1;
           from = address t k;
           by = b.0;
           reached = f.reached;
@@ -111,17 +111,17 @@ entered-all t n r d all l = lowest-same (Before (EnteredFrom t) n) (EnteredAt (g
     back : (a : ℕ) → EnteredAt (graph t) a → Before (EnteredFrom t) n a
     back a h =
         let k = (h.from - t.section.from) / 4 in
-        let at : address t k ≡ h.from = place-address t d h.from (reachable-aligned t d h.from h.reached) (reachable-lies t d h.from h.reached) in
+        let at : address t k ≡ h.from = index-address t d h.from (reachable-aligned t d h.from h.reached) (reachable-lies t d h.from h.reached) in
         let here : EnteredAt (graph t) a = record { entered = h.entered; known = h.known; from = address t k; by = h.by; reached = subst (λ u. Reachable (graph t) u) (sym at) h.reached; edge = subst (λ u. Contains ((graph t).edges u) h.by) (sym at) h.edge; inner = h.inner; outer = subst (λ u. Holds h.entered u → ⊥) (sym at) h.outer; other = h.other; address = h.address } in
-        let same = at-place t.loops h.entered h.known in
+        let same = at-index t.loops h.entered h.known in
         let entered : Before (EnteredHere t.loops (address t k) h.by.to) (length t.loops) a =
         (h.known.0, h.known.1, record { enters = subst (λ j. EntersOff j (address t k) h.by.to) (sym same) (record { inner = here.inner; outer = here.outer; other = here.other }); address = subst (λ j. a ≡ j.head) (sym same) h.address }) in (
           k,
-          (let z = place-within t d h.from (reachable-lies t d h.from h.reached) in omega arith),
+          (let z = index-within t d h.from (reachable-lies t d h.from h.reached) in omega arith),
           record { reached = here.reached; by = elim (by-edge t k h.by here.edge) [ inl e ↦ inl (h.by.to, e, entered) | inr e ↦ inr (h.by.to, e, entered) ] },
         )
 
--- the first place at which a fact of reachable words holds
+-- the first index at which a fact of reachable words holds
 pub lowest-first : (t : Tree) (P : ℕ → Type 0) (n : ℕ) → IsDraft t → ((u : ℕ) → P u → Reachable (graph t) u) → ((k : ℕ) → k < n → P (address t k) → ⊥) → P (address t n) → IsLowest P (address t n)
 lowest-first t P n d is none holds = record { holds = holds; lowest = λ b h. go b h (let z : (address t n ≤ b) ⊎ (b < address t n) = grind arith in z) }
   where
@@ -129,14 +129,14 @@ lowest-first t P n d is none holds = record { holds = holds; lowest = λ b h. go
     go b h (inl le) = le
     go b h (inr lt) =
         let r = is b h in
-        let at : address t ((b - t.section.from) / 4) ≡ b = place-address t d b (reachable-aligned t d b r) (reachable-lies t d b r) in
+        let at : address t ((b - t.section.from) / 4) ≡ b = index-address t d b (reachable-aligned t d b r) (reachable-lies t d b r) in
         absurd (none ((b - t.section.from) / 4) (let l = (reachable-lies t d b r).low in omega arith) (subst P (sym at) h))
 
 pub lowest-never : (t : Tree) (P : ℕ → Type 0) (n : ℕ) → IsDraft t → n ≡ length t.words → ((u : ℕ) → P u → Reachable (graph t) u) → ((k : ℕ) → k < n → P (address t k) → ⊥) → Nowhere P
 lowest-never t P n d all is none b h =
     let r = is b h in
-    let at : address t ((b - t.section.from) / 4) ≡ b = place-address t d b (reachable-aligned t d b r) (reachable-lies t d b r) in
-    none ((b - t.section.from) / 4) (let z = place-within t d b (reachable-lies t d b r) in omega arith) (subst P (sym at) h)
+    let at : address t ((b - t.section.from) / 4) ≡ b = index-address t d b (reachable-aligned t d b r) (reachable-lies t d b r) in
+    none ((b - t.section.from) / 4) (let z = index-within t d b (reachable-lies t d b r) in omega arith) (subst P (sym at) h)
 
 -- a word that leads back without a bound, by its two edges
 pub unbounded-by : (t : Tree) (k : ℕ) → Reachable (graph t) (address t k) → let e = edges_of (word_at t (address t k)) (address t k) in ReturnsBadly t (address t k) e.next ⊎ ReturnsBadly t (address t k) e.jump → UnboundedAt (graph t) (address t k)

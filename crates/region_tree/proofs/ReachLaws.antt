@@ -9,17 +9,17 @@ use Rattle.region_tree.specs.declared.edges.Edges.{Edges}
 use Rattle.region_tree.specs.Edges.{edges_of}
 use Rattle.region_tree.specs.Graph.{Lies, Reachable, edge_to}
 use Rattle.region_tree.specs.Graph.Reachable.{first, next}
-use Rattle.region_tree.specs.Search.{IsVisited, IsGathered, IsMet, IsClosed, address, is_met, unmet, place_of}
+use Rattle.region_tree.specs.Search.{IsVisited, IsGathered, IsMet, IsClosed, address, is_met, unmet, index_of}
 use Rattle.region_tree.specs.Tree.{Tree, IsDraft, graph, word_at}
 use Rattle.region_tree.proofs.EdgeLaws.{edge-is, is-edge}
-use Rattle.region_tree.proofs.GraphLaws.{reachable-aligned, reachable-lies, place-address, address-place}
+use Rattle.region_tree.proofs.GraphLaws.{reachable-aligned, reachable-lies, index-address, address-index}
 
 pub is_or_not : (a b : ℕ) → (a ≡ b) ⊎ (a ≢ b)
 is_or_not a b = grind arith
 
 -- a word that wasn't met yet
-pub visited : (place : Option ℕ) (k : ℕ) (met : List Bool) (todo todo' : List ℕ) → place ≡ Some k → k < length met → is_met met k ≡ false → todo' ≡ todo ++ k ∷ [] → IsVisited place met (slice_set met k true) todo todo'
-visited place k met todo todo' is lt fresh pushed = record {
+pub visited : (index : Option ℕ) (k : ℕ) (met : List Bool) (todo todo' : List ℕ) → index ≡ Some k → k < length met → is_met met k ≡ false → todo' ≡ todo ++ k ∷ [] → IsVisited index met (slice_set met k true) todo todo'
+visited index k met todo todo' is lt fresh pushed = record {
   count = length-set met k true;
   grows = λ u h. grows u h (is_or_not u k);
   here = λ u h. let same : Some k ≡ Some u = sym is ∙ h in let e : k ≡ u = cc in subst (λ u. is_met (slice_set met k true) u ≡ true) e (get_or-set_same met k true false lt);
@@ -38,11 +38,11 @@ visited place k met todo todo' is lt fresh pushed = record {
     grows u h (inl same) = subst (λ u. is_met (slice_set met k true) u ≡ true) (sym same) (get_or-set_same met k true false lt)
     grows u h (inr other) = get_or-set_other met k u true false other ∙ h
 
-    came : (u : ℕ) → is_met (slice_set met k true) u ≡ true → (u ≡ k) ⊎ (u ≢ k) → (is_met met u ≡ true) ⊎ (place ≡ Some u)
+    came : (u : ℕ) → is_met (slice_set met k true) u ≡ true → (u ≡ k) ⊎ (u ≢ k) → (is_met met u ≡ true) ⊎ (index ≡ Some u)
     came u h (inl same) = inr (is ∙ ap Some (sym same))
     came u h (inr other) = inl (sym (get_or-set_other met k u true false other) ∙ h)
 
--- a word that is met has a place
+-- a word that is met has an index
 pub met-within : (met : List Bool) (k : ℕ) → is_met met k ≡ true → k < length met
 met-within met k h = go (let z : (k < length met) ⊎ (length met ≤ k) = grind arith in z)
   where
@@ -50,21 +50,21 @@ met-within met k h = go (let z : (k < length met) ⊎ (length met ≤ k) = grind
     go (inl lt) = lt
     go (inr past) = absurd (let z : false ≡ true = sym (get_or_past met k false past) ∙ h in cc)
 
--- where a target lies in the section its place is that of the word
-pub place-is : (s : Section) (v k : ℕ) → place_of s (Some v) ≡ Some k → (s.from ≤ v) × (v < s.to) × (k ≡ (v - s.from) / 4)
-place-is s v k e = go (nat_le s.from v) (nat_lt v s.to) refl refl e
+-- where a target lies in the section its index is that of the word
+pub index-is : (s : Section) (v k : ℕ) → index_of s (Some v) ≡ Some k → (s.from ≤ v) × (v < s.to) × (k ≡ (v - s.from) / 4)
+index-is s v k e = go (nat_le s.from v) (nat_lt v s.to) refl refl e
   where
     go : (a b : Bool) → nat_le s.from v ≡ a → nat_lt v s.to ≡ b → (if a && b then Some ((v - s.from) / 4) else None) ≡ Some k → (s.from ≤ v) × (v < s.to) × (k ≡ (v - s.from) / 4)
     go true true x y e = (grind (arith, nat_tests), grind (arith, nat_tests), (let z : (v - s.from) / 4 ≡ k = cc in sym z))
     go true false x y e = cc
     go false b x y e = cc
 
-pub place-some : (s : Section) (v : ℕ) → s.from ≤ v → v < s.to → place_of s (Some v) ≡ Some ((v - s.from) / 4)
-place-some s v a b = let x : nat_le s.from v ≡ true = grind (arith, nat_tests) in let y : nat_lt v s.to ≡ true = grind (arith, nat_tests) in rw (x, y) refl
+pub index-some : (s : Section) (v : ℕ) → s.from ≤ v → v < s.to → index_of s (Some v) ≡ Some ((v - s.from) / 4)
+index-some s v a b = let x : nat_le s.from v ≡ true = grind (arith, nat_tests) in let y : nat_lt v s.to ≡ true = grind (arith, nat_tests) in rw (x, y) refl
 
-pub target-is : (s : Section) (target : Option ℕ) (k : ℕ) → place_of s target ≡ Some k → (v : ℕ) × (target ≡ Some v) × (s.from ≤ v) × (v < s.to) × (k ≡ (v - s.from) / 4)
+pub target-is : (s : Section) (target : Option ℕ) (k : ℕ) → index_of s target ≡ Some k → (v : ℕ) × (target ≡ Some v) × (s.from ≤ v) × (v < s.to) × (k ≡ (v - s.from) / 4)
 target-is s None k e = cc
-target-is s (Some v) k e = let z = place-is s v k e in (v, refl, z.0, z.1, z.2)
+target-is s (Some v) k e = let z = index-is s v k e in (v, refl, z.0, z.1, z.2)
 
 pub gather-start : (t : Tree) (met met' : List Bool) (todo : List ℕ) → length met ≡ length t.words → ((k : ℕ) → is_met met k ≡ false) → IsVisited (Some 0) met met' [] todo → IsGathered t (λ k. ⊥) met' todo
 gather-start t met met' todo count none v = record {
@@ -91,7 +91,7 @@ gather-pop t met todo todo' k is g = record {
 abbrev pub Leads : Tree → Option ℕ → Type 0
 Leads t target = (v : ℕ) → target ≡ Some v → Lies (graph t) v → Reachable (graph t) v
 
-pub gather-visit : (t : Tree) (out : ℕ → Type 0) (target : Option ℕ) (met met' : List Bool) (todo todo' : List ℕ) → IsDraft t → Leads t target → IsVisited (place_of t.section target) met met' todo todo' → IsGathered t out met todo → IsGathered t out met' todo'
+pub gather-visit : (t : Tree) (out : ℕ → Type 0) (target : Option ℕ) (met met' : List Bool) (todo todo' : List ℕ) → IsDraft t → Leads t target → IsVisited (index_of t.section target) met met' todo todo' → IsGathered t out met todo → IsGathered t out met' todo'
 gather-visit t out target met met' todo todo' d leads v g = record {
   count = v.count ∙ g.count;
   first = v.grows 0 g.first;
@@ -100,12 +100,12 @@ gather-visit t out target met met' todo todo' d leads v g = record {
   closed = λ k h. elim (v.done k h) [ inl old ↦ later k (g.closed k old) | inr new ↦ inl (inl new) ];
 }
   where
-    reached : (k : ℕ) → place_of t.section target ≡ Some k → Reachable (graph t) (address t k)
+    reached : (k : ℕ) → index_of t.section target ≡ Some k → Reachable (graph t) (address t k)
     reached k e =
         let z = target-is t.section target k e in
         let lies : Lies (graph t) z.0 = record { low = z.2; high = z.3 } in
         let r : Reachable (graph t) z.0 = leads z.0 z.1 lies in
-        let same : z.0 ≡ address t k = sym (ap (address t) z.4 ∙ place-address t d z.0 (reachable-aligned t d z.0 r) lies) in
+        let same : z.0 ≡ address t k = sym (ap (address t) z.4 ∙ index-address t d z.0 (reachable-aligned t d z.0 r) lies) in
         subst (λ u. Reachable (graph t) u) same r
 
     later : (k : ℕ) → (Contains todo k ⊎ out k) ⊎ IsClosed t met k → (Contains todo' k ⊎ out k) ⊎ IsClosed t met' k
@@ -114,18 +114,18 @@ gather-visit t out target met met' todo todo' d leads v g = record {
     later k (inr done) = inr (λ e h l. v.grows ((e.to - t.section.from) / 4) (done e h l))
 
 -- both edges of a word
-pub closed-by : (t : Tree) (k : ℕ) (m0 m1 m2 : List Bool) (d0 d1 d2 : List ℕ) → let e = edges_of (word_at t (address t k)) (address t k) in IsVisited (place_of t.section e.next) m0 m1 d0 d1 → IsVisited (place_of t.section e.jump) m1 m2 d1 d2 → IsClosed t m2 k
+pub closed-by : (t : Tree) (k : ℕ) (m0 m1 m2 : List Bool) (d0 d1 d2 : List ℕ) → let e = edges_of (word_at t (address t k)) (address t k) in IsVisited (index_of t.section e.next) m0 m1 d0 d1 → IsVisited (index_of t.section e.jump) m1 m2 d1 d2 → IsClosed t m2 k
 closed-by t k m0 m1 m2 d0 d1 d2 n j e h l = go (Contains-append_cases (edge_to w.next w.next_lag) (edge_to w.jump 3) e h)
   where
     w : Edges
     w = edges_of (word_at t (address t k)) (address t k)
 
-    place : (o : Option ℕ) → o ≡ Some e.to → place_of t.section o ≡ Some ((e.to - t.section.from) / 4)
-    place o is = ap (place_of t.section) is ∙ place-some t.section e.to l.low l.high
+    index : (o : Option ℕ) → o ≡ Some e.to → index_of t.section o ≡ Some ((e.to - t.section.from) / 4)
+    index o is = ap (index_of t.section) is ∙ index-some t.section e.to l.low l.high
 
     go : Contains (edge_to w.next w.next_lag) e ⊎ Contains (edge_to w.jump 3) e → is_met m2 ((e.to - t.section.from) / 4) ≡ true
-    go (inl a) = j.grows ((e.to - t.section.from) / 4) (n.here ((e.to - t.section.from) / 4) (place w.next (edge-is w.next w.next_lag e a).0))
-    go (inr b) = j.here ((e.to - t.section.from) / 4) (place w.jump (edge-is w.jump 3 e b).0)
+    go (inl a) = j.grows ((e.to - t.section.from) / 4) (n.here ((e.to - t.section.from) / 4) (index w.next (edge-is w.next w.next_lag e a).0))
+    go (inr b) = j.here ((e.to - t.section.from) / 4) (index w.jump (edge-is w.jump 3 e b).0)
 
 pub gather-done : (t : Tree) (k : ℕ) (met : List Bool) (todo : List ℕ) → IsClosed t met k → IsGathered t (λ u. k ≡ u) met todo → IsGathered t (λ u. ⊥) met todo
 gather-done t k met todo c g = record {
@@ -141,7 +141,7 @@ reach-met t met d g u first = let z : 0 ≡ (t.section.from - t.section.from) / 
 reach-met t met d g u (next {u = v} e r h l) = go (g.closed ((v - t.section.from) / 4) (reach-met t met d g v r))
   where
     back : address t ((v - t.section.from) / 4) ≡ v
-    back = place-address t d v (reachable-aligned t d v r) (reachable-lies t d v r)
+    back = index-address t d v (reachable-aligned t d v r) (reachable-lies t d v r)
 
     go : (Contains [] ((v - t.section.from) / 4) ⊎ ⊥) ⊎ IsClosed t met ((v - t.section.from) / 4) → is_met met ((e.to - t.section.from) / 4) ≡ true
     go (inl (inl none)) = absurd (omega (arith, none.1))
@@ -151,7 +151,7 @@ reach-met t met d g u (next {u = v} e r h l) = go (g.closed ((v - t.section.from
 pub gather-end : (t : Tree) (met : List Bool) (todo : List ℕ) → IsDraft t → todo ≡ [] → IsGathered t (λ u. ⊥) met todo → IsMet t met
 gather-end t met todo d none g = record {
   count = g.count;
-  exact = λ k h. (g.sound k, λ r. subst (λ k. is_met met k ≡ true) (address-place t k) (reach-met t met d (subst (λ l. IsGathered t (λ u. ⊥) met l) none g) (address t k) r));
+  exact = λ k h. (g.sound k, λ r. subst (λ k. is_met met k ≡ true) (address-index t k) (reach-met t met d (subst (λ l. IsGathered t (λ u. ⊥) met l) none g) (address t k) r));
 }
 
 -- the targets of a reachable word

@@ -6,7 +6,7 @@ use Rattle.region_tree.specs.declared.edges.Stop.TheVariants.{Indirect, Timed}
 use Rattle.region_tree.specs.declared.tree.TreeNo.{TreeNo}
 use Rattle.region_tree.specs.declared.tree.TreeNo.TheVariants.{Nesting, IndirectJump, TimedWait, UnboundedBackEdge, NoMemory}
 
--- the loop at a place of the list
+-- the loop at an index of the list
 abbrev pub loop_at : List LoopSetup → ℕ → LoopSetup
 loop_at loops k = slice_index_or loops k (record { head = 0; last = 0; limit = 0 })
 

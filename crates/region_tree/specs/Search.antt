@@ -7,14 +7,14 @@ use Rattle.region_tree.specs.Edges.{edges_of}
 use Rattle.region_tree.specs.Refusals.{Crosses, depth, loop_at, Nowhere, IsLowest}
 use Rattle.region_tree.specs.Tree.{Tree, graph, word_at}
 
--- the address of a tree's word by its place
+-- the address of a tree's word by its index
 abbrev pub address : Tree → ℕ → ℕ
 address t k = t.section.from + 4 * k
 
--- the place of the word at a target, where it lies in the section
-abbrev pub place_of : Section → Option ℕ → Option ℕ
-place_of s None = None
-place_of s (Some v) = if nat_le s.from v && nat_lt v s.to then Some ((v - s.from) / 4) else None
+-- the index of the word at a target, where it lies in the section
+abbrev pub index_of : Section → Option ℕ → Option ℕ
+index_of s None = None
+index_of s (Some v) = if nat_le s.from v && nat_lt v s.to then Some ((v - s.from) / 4) else None
 
 -- which of the words are met
 abbrev pub is_met : List Bool → ℕ → Bool
@@ -29,18 +29,18 @@ pub record IsMet (t : Tree) (met : List Bool) : Type 0 where
 abbrev pub unmet : List Bool → ℕ
 unmet met = sum_by (λ b. cond b 0 1) met
 
--- a word at a place was met, and put on the list of words to do if it wasn't met before
-pub record IsVisited (place : Option ℕ) (met met' : List Bool) (todo todo' : List ℕ) : Type 0 where
+-- a word at an index was met, and put on the list of words to do if it wasn't met before
+pub record IsVisited (index : Option ℕ) (met met' : List Bool) (todo todo' : List ℕ) : Type 0 where
   pub count : length met' ≡ length met
   pub grows : (k : ℕ) → is_met met k ≡ true → is_met met' k ≡ true
-  pub here : (k : ℕ) → place ≡ Some k → is_met met' k ≡ true
-  pub from : (k : ℕ) → is_met met' k ≡ true → (is_met met k ≡ true) ⊎ (place ≡ Some k)
+  pub here : (k : ℕ) → index ≡ Some k → is_met met' k ≡ true
+  pub from : (k : ℕ) → is_met met' k ≡ true → (is_met met k ≡ true) ⊎ (index ≡ Some k)
   pub stays : (k : ℕ) → Contains todo k → Contains todo' k
   pub done : (k : ℕ) → is_met met' k ≡ true → (is_met met k ≡ true) ⊎ Contains todo' k
-  pub came : (k : ℕ) → Contains todo' k → Contains todo k ⊎ (place ≡ Some k)
+  pub came : (k : ℕ) → Contains todo' k → Contains todo k ⊎ (index ≡ Some k)
   pub less : 2 * unmet met' + length todo' ≤ 2 * unmet met + length todo
 
--- every edge of the word at a place leads to a word that is met, or out of the section
+-- every edge of the word at an index leads to a word that is met, or out of the section
 abbrev pub IsClosed : Tree → List Bool → ℕ → Type 0
 IsClosed t met k = (e : Edge) → Contains ((graph t).edges (address t k)) e → Lies (graph t) e.to → is_met met ((e.to - t.section.from) / 4) ≡ true
 
@@ -62,18 +62,18 @@ lower_of None b = b
 lower_of (Some x) None = Some x
 lower_of (Some x) (Some y) = Some (min x y)
 
--- what holds for one of the places below n
+-- what holds for one of the indices below n
 abbrev pub Before : (ℕ → ℕ → Type 0) → ℕ → ℕ → Type 0
 Before C n a = (k : ℕ) × (k < n) × C k a
 
--- the head of the loop at a place, where an earlier loop crosses it
+-- the head of the loop at an index, where an earlier loop crosses it
 pub record CrossedHere (loops : List LoopSetup) (later a : ℕ) : Type 0 where
   pub earlier : ℕ
   pub order : earlier < later
   pub crosses : Crosses (loop_at loops earlier) (loop_at loops later)
   pub address : a ≡ (loop_at loops later).head
 
--- the head of the loop at a place, where it lies in more than three others
+-- the head of the loop at an index, where it lies in more than three others
 pub record DeepHere (loops : List LoopSetup) (k a : ℕ) : Type 0 where
   pub depth : 4 < depth loops (loop_at loops k)
   pub address : a ≡ (loop_at loops k).head
@@ -84,7 +84,7 @@ pub record EntersOff (j : LoopSetup) (u v : ℕ) : Type 0 where
   pub outer : Holds j u → ⊥
   pub other : v ≢ j.head
 
--- the head of the loop at a place that such an edge enters
+-- the head of the loop at an index that such an edge enters
 pub record EnteredHere (loops : List LoopSetup) (u v k a : ℕ) : Type 0 where
   pub enters : EntersOff (loop_at loops k) u v
   pub address : a ≡ (loop_at loops k).head
@@ -93,7 +93,7 @@ pub record EnteredHere (loops : List LoopSetup) (u v k a : ℕ) : Type 0 where
 abbrev pub EnteredBy : List LoopSetup → ℕ → Option ℕ → ℕ → Type 0
 EnteredBy loops u target a = (v : ℕ) × (target ≡ Some v) × Before (EnteredHere loops u v) (length loops) a
 
--- the head of a loop that an edge of the word at a place enters
+-- the head of a loop that an edge of the word at an index enters
 pub record EnteredFrom (t : Tree) (k a : ℕ) : Type 0 where
   pub reached : Reachable (graph t) (address t k)
   pub by : let e = edges_of (word_at t (address t k)) (address t k) in EnteredBy t.loops (address t k) e.next a ⊎ EnteredBy t.loops (address t k) e.jump a

@@ -35,18 +35,18 @@ pub record Step : Type 0 where
   pub lag : ℕ
   pub cost : ℕ
   pub to : ℕ
-  pub place : ℕ
+  pub position : ℕ
 
 -- A step of a walk goes along an edge of the graph, and to the first turn after its lag.
 pub record IsStep (x : Course) (t : Step) : Type 0 where
   pub edge : Contains (x.graph.edges t.from) (record { to = t.to; lag = t.lag })
-  pub turn : IsNextTurn x.positions t.lag t.at t.cost t.place
+  pub turn : IsNextTurn x.positions t.lag t.at t.cost t.position
 
 -- Steps inside the section, the newest first, each from where the one before it ended: from word u
 -- at position p to word v at position q.
 abbrev pub Leads : Course → ℕ → ℕ → List Step → ℕ → ℕ → Type 0
 Leads x u p [] v q = (v ≡ u) × (q ≡ p)
-Leads x u p (t ∷ ts) v q = Leads x u p ts t.from t.at × IsStep x t × Lies x.graph t.to × (v ≡ t.to) × (q ≡ t.place)
+Leads x u p (t ∷ ts) v q = Leads x u p ts t.from t.at × IsStep x t × Lies x.graph t.to × (v ≡ t.to) × (q ≡ t.position)
 
 -- the cycles from the first issue to the last
 abbrev pub cost : List Step → ℕ

@@ -41,8 +41,8 @@ pub fn words(alloc: Global, image: &Image, section: Section) -> Result<Vec<u32>,
     ensures { IfOk result (λ words. words.items ≡ words_of (word image.now) section) }
 {
     let mut words = Vec::new(alloc);
-    for place in 0..(section.to - section.from) / 4 {
-        words.push(image.code_word(section.from + 4 * place))?;
+    for index in 0..(section.to - section.from) / 4 {
+        words.push(image.code_word(section.from + 4 * index))?;
     }
     Ok(words)
 }
@@ -73,7 +73,7 @@ fn counting(
 impl Draft {
     ghost use Rattle.fp_image.specs.Rules.{word};
     ghost use Rattle.region_tree.specs.Edges.{edges_of};
-    ghost use Rattle.region_tree.specs.Search.{address, place_of};
+    ghost use Rattle.region_tree.specs.Search.{address, index_of};
     ghost use Rattle.region_tree.specs.Tree.{IsDraft, IsSection, tree_of, tree_with, word_at};
 
     /// A section with these words, and with those of the loops that count in it.
@@ -151,30 +151,30 @@ impl Draft {
         self.loops.as_slice()
     }
 
-    /// The address of a word by its place: its distance from the first word, in words.
-    pub fn address(&self, place: usize) -> u32
-        requires { place < length self.now.words }
-        ensures value { result ≡ address self.now place }
+    /// The address of a word by its index: its distance from the first word, in words.
+    pub fn address(&self, index: usize) -> u32
+        requires { index < length self.now.words }
+        ensures value { result ≡ address self.now index }
         ensures aligned { result % 4 ≡ 0 }
         ensures low { self.now.section.from ≤ result }
         ensures high { result < self.now.section.to }
     {
-        self.section.from + 4 * place as u32
+        self.section.from + 4 * index as u32
     }
 
-    /// The edges of a word by its place.
-    pub fn edges(&self, place: usize) -> Edges
-        requires { place < length self.now.words }
-        ensures { result ≡ edges_of (word_at self.now (address self.now place))
-            (address self.now place) }
+    /// The edges of a word by its index.
+    pub fn edges(&self, index: usize) -> Edges
+        requires { index < length self.now.words }
+        ensures { result ≡ edges_of (word_at self.now (address self.now index))
+            (address self.now index) }
     {
-        let address = self.address(place);
+        let address = self.address(index);
         edges_of(self.word(address), address)
     }
 
-    /// The place of the word at a target, where it lies in the section.
-    pub fn place_of(&self, target: Option<u32>) -> Option<usize>
-        ensures { result ≡ place_of self.now.section target }
+    /// The index of the word at a target, where it lies in the section.
+    pub fn index_of(&self, target: Option<u32>) -> Option<usize>
+        ensures { result ≡ index_of self.now.section target }
     {
         match target {
             Some(to) if self.section.from <= to && to < self.section.to => {

@@ -28,38 +28,38 @@ impl Frontier {
         })
     }
 
-    /// Meets the word at a place, if there is one.
-    fn visit(&mut self, place: Option<usize>) -> Result<(), AllocError>
-        requires { IfSome place (λ k. k < length self.old.met.items) }
-        ensures { OnOk result (IsVisited place self.old.met.items self.new.met.items
+    /// Meets the word at an index, if there is one.
+    fn visit(&mut self, index: Option<usize>) -> Result<(), AllocError>
+        requires { IfSome index (λ k. k < length self.old.met.items) }
+        ensures { OnOk result (IsVisited index self.old.met.items self.new.met.items
             self.old.todo.items self.new.todo.items) }
     {
-        let Some(place) = place else {
+        let Some(index) = index else {
             return Ok(());
         };
-        if self.met[place] {
+        if self.met[index] {
             return Ok(());
         }
-        self.todo.push(place)?;
-        self.met[place] = true;
+        self.todo.push(index)?;
+        self.met[index] = true;
         Ok(())
     }
 
-    /// Meets the words to which the edges of the word at a place lead.
-    fn follow(&mut self, draft: &Draft, place: usize) -> Result<(), AllocError>
+    /// Meets the words to which the edges of the word at an index lead.
+    fn follow(&mut self, draft: &Draft, index: usize) -> Result<(), AllocError>
         requires rules { IsDraft draft.now }
-        requires within { place < length draft.now.words }
-        requires reached { Reachable (graph draft.now) (address draft.now place) }
-        requires gathered { IsGathered draft.now (λ k. place ≡ k) self.old.met.items
+        requires within { index < length draft.now.words }
+        requires reached { Reachable (graph draft.now) (address draft.now index) }
+        requires gathered { IsGathered draft.now (λ k. index ≡ k) self.old.met.items
             self.old.todo.items }
         ensures gathered { OnOk result
             (IsGathered draft.now (λ _. ⊥) self.new.met.items self.new.todo.items) }
         ensures less { OnOk result (2 * unmet self.new.met.items + length self.new.todo.items
             ≤ 2 * unmet self.old.met.items + length self.old.todo.items) }
     {
-        let edges = draft.edges(place);
-        self.visit(draft.place_of(edges.next))?;
-        self.visit(draft.place_of(edges.jump))
+        let edges = draft.edges(index);
+        self.visit(draft.index_of(edges.next))?;
+        self.visit(draft.index_of(edges.jump))
     }
 
     /// Follows edges until no word is left to do.
@@ -68,14 +68,14 @@ impl Frontier {
         requires gathered { IsGathered draft.now (λ _. ⊥) self.old.met.items self.old.todo.items }
         ensures { OnOk result (IsMet draft.now self.new.met.items) }
     {
-        while let Some(place) = self.todo.pop() {
-            self.follow(draft, place)?;
+        while let Some(index) = self.todo.pop() {
+            self.follow(draft, index)?;
         }
         Ok(())
     }
 }
 
-/// Which words edges inside the section lead to from its first word, by their places.
+/// Which words edges inside the section lead to from its first word, by their indices.
 ///
 /// # Errors
 ///

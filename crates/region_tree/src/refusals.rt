@@ -43,7 +43,7 @@ fn crosses(j: &LoopSetup, i: &LoopSetup) -> bool
     j.head <= i.last && i.head <= j.last && !is_inside(j, i) && !is_inside(i, j)
 }
 
-/// The head of the loop at a place, where an earlier one crosses it.
+/// The head of the loop at an index, where an earlier one crosses it.
 fn crossed_here(loops: &[LoopSetup], later: usize) -> Option<u32>
     requires { later < length loops.now }
     ensures { LowestOf (CrossedHere loops.now later) result }
@@ -80,12 +80,12 @@ fn depth(loops: &[LoopSetup], j: LoopSetup) -> usize
         .count()
 }
 
-/// The head of the loop at a place, where it lies in more than three others.
-fn deep_here(loops: &[LoopSetup], place: usize) -> Option<u32>
-    requires { place < length loops.now }
-    ensures { LowestOf (DeepHere loops.now place) result }
+/// The head of the loop at an index, where it lies in more than three others.
+fn deep_here(loops: &[LoopSetup], index: usize) -> Option<u32>
+    requires { index < length loops.now }
+    ensures { LowestOf (DeepHere loops.now index) result }
 {
-    let j = loops[place];
+    let j = loops[index];
     if depth(loops, j) > DEEPEST {
         Some(j.head)
     } else {
@@ -98,8 +98,8 @@ fn deep(loops: &[LoopSetup]) -> Option<u32>
     ensures { LowestOf (DeepAt loops.now) result }
 {
     let mut found = None;
-    for place in 0..loops.len() {
-        found = lower(found, deep_here(loops, place));
+    for index in 0..loops.len() {
+        found = lower(found, deep_here(loops, index));
     }
     found
 }
@@ -111,12 +111,12 @@ fn enters_off(j: &LoopSetup, from: u32, to: u32) -> bool
     holds(j, to) && !holds(j, from) && to != j.head
 }
 
-/// The head of the loop at a place, where an edge enters it, but not there.
-fn entered_here(loops: &[LoopSetup], from: u32, to: u32, place: usize) -> Option<u32>
-    requires { place < length loops.now }
-    ensures { LowestOf (EnteredHere loops.now from to place) result }
+/// The head of the loop at an index, where an edge enters it, but not there.
+fn entered_here(loops: &[LoopSetup], from: u32, to: u32, index: usize) -> Option<u32>
+    requires { index < length loops.now }
+    ensures { LowestOf (EnteredHere loops.now from to index) result }
 {
-    let j = loops[place];
+    let j = loops[index];
     if enters_off(&j, from, to) {
         Some(j.head)
     } else {
@@ -130,23 +130,23 @@ fn entered_by(loops: &[LoopSetup], from: u32, target: Option<u32>) -> Option<u32
 {
     let to = target?;
     let mut found = None;
-    for place in 0..loops.len() {
-        found = lower(found, entered_here(loops, from, to, place));
+    for index in 0..loops.len() {
+        found = lower(found, entered_here(loops, from, to, index));
     }
     found
 }
 
-/// The lowest head of a loop that an edge of the word at a place enters, but not there.
-fn entered_from(draft: &Draft, met: &[bool], place: usize) -> Option<u32>
+/// The lowest head of a loop that an edge of the word at an index enters, but not there.
+fn entered_from(draft: &Draft, met: &[bool], index: usize) -> Option<u32>
     requires met { IsMet draft.now met.now }
-    requires within { place < length draft.now.words }
-    ensures { LowestOf (EnteredFrom draft.now place) result }
+    requires within { index < length draft.now.words }
+    ensures { LowestOf (EnteredFrom draft.now index) result }
 {
-    if !met[place] {
+    if !met[index] {
         return None;
     }
-    let address = draft.address(place);
-    let edges = draft.edges(place);
+    let address = draft.address(index);
+    let edges = draft.edges(index);
     let next = entered_by(draft.loops(), address, edges.next);
     lower(next, entered_by(draft.loops(), address, edges.jump))
 }
@@ -157,8 +157,8 @@ fn entered(draft: &Draft, met: &[bool]) -> Option<u32>
     ensures { LowestOf (EnteredAt (graph draft.now)) result }
 {
     let mut found = None;
-    for place in 0..draft.len() {
-        found = lower(found, entered_from(draft, met, place));
+    for index in 0..draft.len() {
+        found = lower(found, entered_from(draft, met, index));
     }
     found
 }
@@ -178,9 +178,9 @@ fn stopped(draft: &Draft, met: &[bool], stop: Stop) -> Option<u32>
     ensures { LowestOf (λ u. Reachable (graph draft.now) u × ((graph draft.now).stop u ≡ stop))
         result }
 {
-    for place in 0..draft.len() {
-        if met[place] && draft.edges(place).stop == stop {
-            return Some(draft.address(place));
+    for index in 0..draft.len() {
+        if met[index] && draft.edges(index).stop == stop {
+            return Some(draft.address(index));
         }
     }
     None
@@ -214,17 +214,17 @@ fn returns_badly(draft: &Draft, from: u32, target: Option<u32>) -> bool
     }
 }
 
-/// Whether the word at a place is reachable and leads back without a bound.
-fn is_unbounded(draft: &Draft, met: &[bool], place: usize) -> bool
+/// Whether the word at an index is reachable and leads back without a bound.
+fn is_unbounded(draft: &Draft, met: &[bool], index: usize) -> bool
     requires met { IsMet draft.now met.now }
-    requires within { place < length draft.now.words }
-    ensures { IsTrue result ↔ UnboundedAt (graph draft.now) (address draft.now place) }
+    requires within { index < length draft.now.words }
+    ensures { IsTrue result ↔ UnboundedAt (graph draft.now) (address draft.now index) }
 {
-    if !met[place] {
+    if !met[index] {
         return false;
     }
-    let address = draft.address(place);
-    let edges = draft.edges(place);
+    let address = draft.address(index);
+    let edges = draft.edges(index);
     returns_badly(draft, address, edges.next) || returns_badly(draft, address, edges.jump)
 }
 
@@ -233,9 +233,9 @@ fn unbounded(draft: &Draft, met: &[bool]) -> Option<u32>
     requires { IsMet draft.now met.now }
     ensures { LowestOf (UnboundedAt (graph draft.now)) result }
 {
-    for place in 0..draft.len() {
-        if is_unbounded(draft, met, place) {
-            return Some(draft.address(place));
+    for index in 0..draft.len() {
+        if is_unbounded(draft, met, index) {
+            return Some(draft.address(index));
         }
     }
     None

@@ -45,7 +45,7 @@ fn field(text: &str) -> (&str, &str) {
     text.split_once('\t').unwrap_or((text, ""))
 }
 
-/// `bound` and the number, or `refused` with the number, the name and the place of the refusal; a
+/// `bound` and the number, or `refused` with the number, the name and the address of the refusal; a
 /// dash where no bound may be asked.
 pub fn push_answer(text: &mut String, alloc: Global, call: &str) -> Result<(), AllocError> {
     let (words, rest) = field(call);

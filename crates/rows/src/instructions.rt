@@ -1,17 +1,17 @@
-//! Words, lags, outcomes, loads and stores at each place, and runs.
+//! Words, lags, outcomes, loads and stores in each lane, and runs.
 //!
 //! GNU as 2.40 made the words of `decode.txt` from text, which gave the answers, for the
 //! architecture `rv32im_zicsr_zifencei`; those that are illegal are words of other extensions,
 //! which were made for `rv64imafdh_zicsr_zifencei_zba_zbb_zbc_zbs_zicbom_zicboz`. It also made the
 //! words of `results.txt`, for the architecture `rv32im`, and qemu-riscv32 7.2 ran them in a static
-//! program: each stands at a place of its own, in a field of jumps that keep where they stand.
+//! program: each stands at an address of its own, in a field of jumps that keep where they stand.
 //! Operands are the edges of ranges in about half of the rows, and random in the others. Numbers
 //! that a kind of instruction doesn't use are 0.
 
 use crate::numbers::{head, low_word, numbers};
 use crate::runs::push_run;
 use rv_decode::{Ins, LoadOp, StoreOp, decode, encode, lag_of};
-use rv_exec::{execute, load_value, size_of_load, size_of_store, store_lanes};
+use rv_exec::{execute, load_size, load_value, store_lanes, store_size};
 use std::alloc::AllocError;
 use std::fmt::Write;
 
@@ -51,14 +51,14 @@ fn push_moved(text: &mut String, ins: &Ins, address: u32, value: u32) -> Result<
 }
 
 fn push_loaded(text: &mut String, op: LoadOp, address: u32, word: u32) -> Result<(), AllocError> {
-    if address % u32::from(size_of_load(op)) != 0 {
+    if address % u32::from(load_size(op)) != 0 {
         return text.push_str("misaligned");
     }
     write!(text, "{:x}", load_value(op, address, word))
 }
 
 fn push_stored(text: &mut String, op: StoreOp, address: u32, value: u32) -> Result<(), AllocError> {
-    if address % u32::from(size_of_store(op)) != 0 {
+    if address % u32::from(store_size(op)) != 0 {
         return text.push_str("misaligned");
     }
     let lanes = store_lanes(op, address, value);

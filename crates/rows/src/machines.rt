@@ -1,7 +1,7 @@
 //! That the machine's whole state stands in its fields.
 
 ghost use Rattle.std.specs.Prelude.{◌≡◌, All, length};
-ghost use Rattle.pipeline_core.specs.LatchFacts.{IsPc};
+ghost use Rattle.pipeline_core.specs.StageFacts.{IsPc};
 
 use crate::pipelines::{guard, sched};
 use fp_io::MemSink;

@@ -33,11 +33,11 @@ pub fn hexadecimal(digits: &str) -> Option<u32> {
     u32::from_str_radix(digits, 16).ok()
 }
 
-/// Reads hexadecimal numbers into places. None where a place gets none.
-pub fn read_hexadecimals(text: &str, places: &mut [u32]) -> Option<()> {
+/// Reads as many hexadecimal numbers as there are elements. None where there are fewer.
+pub fn read_hexadecimals(text: &str, numbers: &mut [u32]) -> Option<()> {
     let mut words = text.split_whitespace();
-    for place in places {
-        *place = hexadecimal(words.next()?)?;
+    for number in numbers {
+        *number = hexadecimal(words.next()?)?;
     }
     Some(())
 }

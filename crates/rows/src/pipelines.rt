@@ -2,7 +2,7 @@
 
 ghost use Rattle.std.specs.Prelude.{◌≡◌, ◌≤◌, All, IfOk, IfSome, length, vec_len};
 ghost use Rattle.rv_exec.specs.Line.{IsPrintable};
-ghost use Rattle.pipeline_core.specs.LatchFacts.{IsPc};
+ghost use Rattle.pipeline_core.specs.StageFacts.{IsPc};
 
 use crate::numbers::{low_word, numbers};
 use fp_ports::{HeldPort, Ports, feed_port, latch_of};
@@ -39,7 +39,7 @@ pub fn guard(data: u32) -> Option<Guard>
     })
 }
 
-/// A scratchpad of code, of pairs of a word's place and the word.
+/// A scratchpad of code, of pairs of a word's index and the word.
 fn code_of(alloc: Global, pairs: &str) -> Result<Spm, AllocError>
     ensures { IfOk result (λ imem. length imem ≡ 4096) }
 {
@@ -147,7 +147,7 @@ fn push_shown(
 }
 
 /// Appends the events of a program: the registers of slots and modes, the entry of thread 1 and how
-/// many cycles; the words of its code after their places; and what thread 0's port is fed.
+/// many cycles; the words of its code after their indices; and what thread 0's port is fed.
 pub fn push_program(alloc: Global, text: &mut String, program: &str) -> Result<(), AllocError> {
     let mut parts = program.split(", ");
     let n = numbers(parts.next().unwrap_or(""));

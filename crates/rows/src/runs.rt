@@ -45,9 +45,9 @@ fn left_by(ins: &Ins, pc: u32, a: u32, b: u32, content: u32) -> Option<[u32; 4]>
 /// A word with the bytes that lanes name in place of its own.
 fn merge(word: u32, lanes: Lanes) -> u32 {
     let mut bytes = word.to_le_bytes();
-    for (place, byte) in lanes.value.to_le_bytes().iter().enumerate() {
-        if lanes.mask >> place & 1 == 1 {
-            bytes[place] = *byte;
+    for (lane, byte) in lanes.value.to_le_bytes().iter().enumerate() {
+        if lanes.mask >> lane & 1 == 1 {
+            bytes[lane] = *byte;
         }
     }
     u32::from_le_bytes(bytes)

@@ -3,7 +3,7 @@
 //! The answers of `sources.txt` were worked out from the rules of the language by hand and by a
 //! model in another language. GNU as 2.40 with GNU ld made the words of `gnu.txt`, for the
 //! architecture `rv32im_zicsr_zifencei` without relaxation: every mnemonic that both assemblers
-//! know, each at a place that `.org` gives. The rows of `longest.txt` are sources of the most
+//! know, each at a location that `.org` gives. The rows of `longest.txt` are sources of the most
 //! bytes, and of one byte more.
 
 use crate::escapes::unescaped;

@@ -12,7 +12,7 @@ use Rattle.core_model.specs.Thread.{Around, Contents, Did, Done, Thread, filled,
 use Rattle.core_model.specs.View.{kind_at}
 use Rattle.run_laws.specs.Isolation.{IsHard}
 use Rattle.run_laws.specs.Wide.{around_of, executed, found_at, issue_wide, leaves, Wide, WideView, around_wide, contents_of, data_wide, finds, is_pending, rest_after, shared_of, wide_turn, wide_view}
-use Rattle.region_guard.specs.Regions.{IsSize, Standing, at_port, in_d, in_i, is_readable, is_writable, may_fetch, may_load, may_store, standing_at}
+use Rattle.region_guard.specs.Regions.{IsSize, Standing, is_port, is_data, is_code, is_readable, is_writable, may_fetch, may_load, may_store, standing_at}
 use Rattle.world_model.specs.Viewed.{kinds_of, seen, setting_of, view}
 use Rattle.timer_unit.specs.Time.{time}
 use Rattle.world_model.specs.World.{Registers, Start, World, around, contents, granted, issue_of, issued, leaves_registers, port_word, register, registers_after, surroundings, thread_of}
@@ -44,15 +44,15 @@ around-wide s c i n w h free same = λ j. record {
   shared = λ x. shares x j;
 }
   where
-    fetches : (pc : ℕ) → may_fetch i s.size (get_or s.confined i true) w.registers.iregions pc ≡ in_i s.size pc
-    fetches pc = rw free (and-true (in_i s.size pc))
+    fetches : (pc : ℕ) → may_fetch i s.size (get_or s.confined i true) w.registers.iregions pc ≡ is_code s.size pc
+    fetches pc = rw free (and-true (is_code s.size pc))
 
-    stores : (address width : ℕ) → may_store i s.size w.registers.dregions address width ≡ (if in_d s.size address then is_writable (kind_at s.size (kinds_of i s.registers.dregions) address) else at_port address width)
+    stores : (address width : ℕ) → may_store i s.size w.registers.dregions address width ≡ (if is_data s.size address then is_writable (kind_at s.size (kinds_of i s.registers.dregions) address) else is_port address width)
     stores address width = ap (λ (r : Registers). may_store i s.size r.dregions address width) same ∙ same_store i s.size s.registers.dregions h address width
 
     loads : (address width : ℕ) → may_load i s.size (get_or s.confined i true) w.registers.iregions w.registers.dregions address width
-        ≡ (in_i s.size address || in_d s.size address || at_port address width)
-    loads address width = rw free (one-of (in_i s.size address) (in_d s.size address) (at_port address width))
+        ≡ (is_code s.size address || is_data s.size address || is_port address width)
+    loads address width = rw free (one-of (is_code s.size address) (is_data s.size address) (is_port address width))
 
     shares : (x : ℕ) → granted (get_or s.permit i false) (register w.registers x) ≡ shared_of (if get_or s.permit i false then Some s.registers else None) x
     shares x = go (get_or s.permit i false)
@@ -85,7 +85,7 @@ pub word-at : (s : Start) (c i : ℕ) (w : World) (d : Did) (rest : List ℕ) �
     data_at s.size s.i_words w.d_words (port_word s c i) d.address
     ≡ data_wide s.size s.i_words (kinds_of i s.registers.dregions) (seen s.size (kinds_of i s.registers.dregions) w.d_words) (found_at s w i d ++ rest) (port_word s c i) d.address
 unfolding data_at data_wide
-word-at s c i w d rest z h e = go (in_i s.size d.address) (in_d s.size d.address) refl (is_readable (standing_at i s.size s.registers.dregions d.address)) refl
+word-at s c i w d rest z h e = go (is_code s.size d.address) (is_data s.size d.address) refl (is_readable (standing_at i s.size s.registers.dregions d.address)) refl
   where
     K : Standing
     K = kind_at s.size (kinds_of i s.registers.dregions) d.address
@@ -96,7 +96,7 @@ word-at s c i w d rest z h e = go (in_i s.size d.address) (in_d s.size d.address
     W : List ℕ
     W = seen s.size (kinds_of i s.registers.dregions) w.d_words
 
-    go : (a b : Bool) → in_d s.size d.address ≡ b → (r : Bool) → is_readable (standing_at i s.size s.registers.dregions d.address) ≡ r →
+    go : (a b : Bool) → is_data s.size d.address ≡ b → (r : Bool) → is_readable (standing_at i s.size s.registers.dregions d.address) ≡ r →
         (if a then word_at s.size s.i_words d.address else if b then word_at s.size w.d_words d.address else port_word s c i)
         ≡ (if a then word_at s.size s.i_words d.address
         else if b then (if is_readable K then word_at s.size W d.address else get_or (found_at s w i d ++ rest) 0 0)

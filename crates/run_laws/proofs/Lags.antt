@@ -15,14 +15,14 @@ use Rattle.core_model.specs.declared.own.Own.{Own}
 use Rattle.core_model.specs.Thread.{Thread, Around, Contents, Did, reg_in, reg_effect, filled}
 use Rattle.core_model.specs.Parts.{trapped, load, store, branch, delay, wait, with_armed}
 use Rattle.core_model.specs.Control.{csr_access}
-use Rattle.core_model.specs.Issue.{goes, unless_trap, run, act, acts_on, effect_of, value_in, issue, source_1, source_2, late_rd}
+use Rattle.core_model.specs.Issue.{execute_untrapped, unless_trap, run_at, execute_in, execute_word, effect_of, value_in, issue, source_1, source_2, late_rd}
 use Rattle.run_laws.specs.LagLaw.{is_trap, HasLagOfTable}
 
 abbrev pub HasLag : Ins → Outcome → Did → Type 0
 HasLag n o d = d.lag ≡ lag n o.taken (is_trap d.effect)
 
-goes_lag : (a : Around) (pc : ℕ) (t : Own) (w x y : ℕ) (o : Outcome) (n : Ins) → HasLag n o (goes a pc t w x y o n)
-unfolding goes lag load store branch csr_access delay wait
+goes_lag : (a : Around) (pc : ℕ) (t : Own) (w x y : ℕ) (o : Outcome) (n : Ins) → HasLag n o (execute_untrapped a pc t w x y o n)
+unfolding execute_untrapped lag load store branch csr_access delay wait
 goes_lag a pc t w x y o (i.Lui rd imm) = grind (arith, nat_tests)
 goes_lag a pc t w x y o (i.Auipc rd imm) = grind (arith, nat_tests)
 goes_lag a pc t w x y o (i.Jal rd off) = grind (arith, nat_tests)
@@ -52,15 +52,15 @@ unfolding lag
 unless_lag pc t w n o (Some cause) d h = refl
 unless_lag pc t w n o None d h = h
 
-run_lag : (a : Around) (pc : ℕ) (t : Own) (w x y : ℕ) (n : Ins) → HasLag n (result_of n pc x y) (run a pc t w x y n)
-unfolding run
+run_lag : (a : Around) (pc : ℕ) (t : Own) (w x y : ℕ) (n : Ins) → HasLag n (result_of n pc x y) (run_at a pc t w x y n)
+unfolding run_at
 run_lag a pc t w x y n = unless_lag pc t w n (result_of n pc x y) _ _ (goes_lag a pc t w x y (result_of n pc x y) n)
 
-act_lag : (a : Around) (pc : ℕ) (t : Own) (expired : Bool) (w x y : ℕ) → HasLag (ins w) (result_of (ins w) pc x y) (act a pc t expired w x y)
-unfolding act lag
+act_lag : (a : Around) (pc : ℕ) (t : Own) (expired : Bool) (w x y : ℕ) → HasLag (ins w) (result_of (ins w) pc x y) (execute_in a pc t expired w x y)
+unfolding execute_in lag
 act_lag a pc t expired w x y = go expired (a.fetch pc)
   where
-    go : (e f : Bool) → HasLag (ins w) (result_of (ins w) pc x y) (if e then trapped pc (with_armed t None) 0 24 else if f then run a pc t w x y (ins w) else trapped pc t 0 1)
+    go : (e f : Bool) → HasLag (ins w) (result_of (ins w) pc x y) (if e then trapped pc (with_armed t None) 0 24 else if f then run_at a pc t w x y (ins w) else trapped pc t 0 1)
     go true f = refl
     go false true = run_lag a pc t w x y (ins w)
     go false false = refl
@@ -88,7 +88,7 @@ unfolding effect_of
 done_lag m c regs n o d h = rw (filled_trap (late_rd (ins d.word)) (value_in m regs d) d.effect) (ap (λ k. c + k) h)
 
 pub issue_lag : (a : Around) (m : Contents) (c : ℕ) (t : Thread) → HasLagOfTable a m c t
-unfolding issue acts_on
+unfolding issue execute_word
 issue_lag a m c t =
     let w : ℕ = m.code t.pc in
     let x : ℕ = reg_in t.regs (source_1 (ins w)) in

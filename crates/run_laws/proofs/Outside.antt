@@ -8,7 +8,7 @@ use Rattle.core_model.specs.Memory.{stored, word_at}
 use Rattle.core_model.specs.Solo.{own_after}
 use Rattle.core_model.specs.View.{kind_at}
 use Rattle.nibble_word.specs.Nibbles.{nibbles}
-use Rattle.region_guard.specs.Regions.{IsSize, Standing, in_d, index_of, is_mine, is_writable, may_store, region_of, standing_at}
+use Rattle.region_guard.specs.Regions.{IsSize, Standing, is_data, index_of, is_mine, is_writable, may_store, region_of, standing_at}
 use Rattle.rv_exec.specs.Access.{lanes_at, merged}
 use Rattle.world_model.specs.Viewed.{setting_of, kinds_of, seen, sees}
 use Rattle.world_model.specs.World.{Registers, Start, Took, leaves_registers, registers_after, words_after}
@@ -21,7 +21,7 @@ use Rattle.run_laws.proofs.Standings.{kind-is, sees-is, others_write, writes_own
 abbrev pub IsAllowed : ℕ → ℕ → ℕ → Option Effect → Type 0
 IsAllowed k Z regions e = (address width value : ℕ) → e ≡ Some (Store address width value) → may_store k Z regions address width ≡ true
 
-store_allows : (k Z regions address width : ℕ) → in_d Z address ≡ true → may_store k Z regions address width ≡ true → is_writable (standing_at k Z regions address) ≡ true
+store_allows : (k Z regions address width : ℕ) → is_data Z address ≡ true → may_store k Z regions address width ≡ true → is_writable (standing_at k Z regions address) ≡ true
 unfolding may_store
 store_allows k Z regions address width d h = rw d at h
 
@@ -33,9 +33,9 @@ others_words i k Z regions (Some (Reg rd value)) words z h l d a = refl
 others_words i k Z regions (Some (Csr n value rd old)) words z h l d a = refl
 others_words i k Z regions (Some (Trap cause target)) words z h l d a = refl
 others_words i k Z regions (Some Wait) words z h l d a = refl
-others_words i k Z regions (Some (Store address width value)) words z h l d a = go (in_d Z address) refl
+others_words i k Z regions (Some (Store address width value)) words z h l d a = go (is_data Z address) refl
   where
-    go : (b : Bool) → in_d Z address ≡ b → seen Z (kinds_of i regions) (if b then stored Z words address width value else words) ≡ seen Z (kinds_of i regions) words
+    go : (b : Bool) → is_data Z address ≡ b → seen Z (kinds_of i regions) (if b then stored Z words address width value else words) ≡ seen Z (kinds_of i regions) words
     go false e = refl
     go true e =
         let w : is_writable (standing_at k Z regions address) ≡ true = store_allows k Z regions address width e (a address width value refl) in
@@ -52,9 +52,9 @@ own_words s i (Some (Reg rd value)) words z h a = refl
 own_words s i (Some (Csr n value rd old)) words z h a = refl
 own_words s i (Some (Trap cause target)) words z h a = refl
 own_words s i (Some Wait) words z h a = refl
-own_words s i (Some (Store address width value)) words z h a = go (in_d s.size address) refl
+own_words s i (Some (Store address width value)) words z h a = go (is_data s.size address) refl
   where
-    mine : in_d s.size address ≡ true → (m : Bool) → is_mine (standing_at i s.size s.registers.dregions address) ≡ m →
+    mine : is_data s.size address ≡ true → (m : Bool) → is_mine (standing_at i s.size s.registers.dregions address) ≡ m →
         seen s.size (kinds_of i s.registers.dregions) (stored s.size words address width value) ≡ (if m then stored s.size (seen s.size (kinds_of i s.registers.dregions) words) address width value else seen s.size (kinds_of i s.registers.dregions) words)
     mine d true m =
         let e : sees s.size (kinds_of i s.registers.dregions) (0 + index_of s.size address) ≡ true =
@@ -64,7 +64,7 @@ own_words s i (Some (Store address width value)) words z h a = go (in_d s.size a
     mine d false m = seen-set_unseen (sees s.size (kinds_of i s.registers.dregions)) 0 words (index_of s.size address) (merged (word_at s.size words address) (lanes_at width address value))
         (rw zero-add (sees-is i s.size s.registers.dregions address z h ∙ writes_own i (get_or (nibbles s.registers.dregions) (region_of s.size address) 15) h (store_allows i s.size s.registers.dregions address width d (a address width value refl)) ∙ m))
 
-    go : (b : Bool) → in_d s.size address ≡ b → seen s.size (kinds_of i s.registers.dregions) (if b then stored s.size words address width value else words)
+    go : (b : Bool) → is_data s.size address ≡ b → seen s.size (kinds_of i s.registers.dregions) (if b then stored s.size words address width value else words)
         ≡ (if b && is_mine (kind_at s.size (kinds_of i s.registers.dregions) address) then stored s.size (seen s.size (kinds_of i s.registers.dregions) words) address width value else seen s.size (kinds_of i s.registers.dregions) words)
     go false e = refl
     go true e = mine e (is_mine (standing_at i s.size s.registers.dregions address)) refl

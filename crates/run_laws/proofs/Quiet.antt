@@ -1,4 +1,4 @@
--- A quiet run has one setting, and over it the hart goes as alone.
+-- A quiet run has one setting, and over it the thread goes as alone.
 use Rattle.std.proofs.Common.{◌≡◌, ℕ, zero, suc, ◌-◌, true, false, List, [], ◌∷◌, ◌++◌, length, Some, None, refl, ap, ap₂, ◌∙◌, arith}
 use Rattle.std.specs.Prelude.{◌==◌, nat_le}
 use Rattle.std.specs.List.{list_all}

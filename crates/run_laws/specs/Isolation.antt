@@ -1,4 +1,4 @@
--- What the rest of the machine can't change for one hart.
+-- What the rest of the machine can't change for one thread.
 use Rattle.std.specs.Prelude.{◌≡◌, ℕ, ◌<◌, true, false, length, slice_index_or}
 use Rattle.std.specs.List.{list_all}
 use Rattle.region_guard.specs.Regions.{IsSize}
@@ -10,7 +10,7 @@ use Rattle.phase_model.specs.Phases.{phases, keeps_regions, is_never_soft}
 use Rattle.phase_model.specs.Phased.{phased}
 use Rattle.run_laws.specs.Wide.{wide_view, wide_solo}
 
--- hart i is one of the eight, confined, without a permit, and hard active at the start
+-- thread i is one of the eight, confined, without a permit, and hard active at the start
 pub record IsConfined (s : Start) (i : ℕ) : Type 0 where
   pub size : IsSize s.size
   pub thread : i < 8
@@ -19,7 +19,7 @@ pub record IsConfined (s : Start) (i : ℕ) : Type 0 where
   pub permit : slice_index_or s.permit i false ≡ false
   pub hard : mode_of s.registers.modes i ≡ 0
 
--- hart i is one of the eight, confined and without a permit
+-- thread i is one of the eight, confined and without a permit
 pub record IsApart (s : Start) (i : ℕ) : Type 0 where
   pub size : IsSize s.size
   pub thread : i < 8
@@ -27,28 +27,28 @@ pub record IsApart (s : Start) (i : ℕ) : Type 0 where
   pub confined : slice_index_or s.confined i true ≡ true
   pub permit : slice_index_or s.permit i false ≡ false
 
--- whatever the other harts run, and whatever they write to slots and modes: while no region
--- register is written, and no setting of the scheduling makes such a hart soft active, its events
--- are those of the definition of one hart by itself, over its view and the run's settings
+-- whatever the other threads run, and whatever they write to slots and modes: while no region
+-- register is written, and no setting of the scheduling makes such a thread soft active, its events
+-- are those of the definition of one thread by itself, over its view and the run's settings
 abbrev pub PhasedIsolation : Type 0
 PhasedIsolation = (s : Start) (i n : ℕ) → IsApart s i → list_all (is_never_soft i) (phases s n) ≡ true → keeps_regions s n ≡ true
     → events s i n ≡ phased (view s i) (phases s n) n
 
--- whatever the other harts run: while none of the machine's own registers is written, the events of
--- such a hart are those of the definition of one hart by itself, over its view
+-- whatever the other threads run: while none of the machine's own registers is written, the events
+-- of such a thread are those of the definition of one thread by itself, over its view
 abbrev pub Isolation : Type 0
 Isolation = (s : Start) (i n : ℕ) → IsConfined s i → is_quiet s n ≡ true → events s i n ≡ solo (view s i) n
 
--- two machines in which the hart has the same view show the same events of it
+-- two machines in which the thread has the same view show the same events of it
 abbrev pub EqualViews : Type 0
 EqualViews = (s t : Start) (i n : ℕ) → IsConfined s i → IsConfined t i → is_quiet s n ≡ true → is_quiet t n ≡ true
     → view s i ≡ view t i → events s i n ≡ events t i n
 
--- where no hart has a permit, every run is quiet
+-- where no thread has a permit, every run is quiet
 abbrev pub QuietUnpermitted : Type 0
 QuietUnpermitted = (s : Start) → ((k : ℕ) → slice_index_or s.permit k false ≡ false) → (n : ℕ) → is_quiet s n ≡ true
 
--- hart i is one of the eight, not confined, and hard active at the start
+-- thread i is one of the eight, not confined, and hard active at the start
 pub record IsHard (s : Start) (i : ℕ) : Type 0 where
   pub size : IsSize s.size
   pub thread : i < 8
@@ -56,7 +56,7 @@ pub record IsHard (s : Start) (i : ℕ) : Type 0 where
   pub free : slice_index_or s.confined i true ≡ false
   pub hard : mode_of s.registers.modes i ≡ 0
 
--- in a quiet run the events of such a hart are those of the definition of one hart over its wide
--- view
+-- in a quiet run the events of such a thread are those of the definition of one thread over its
+-- wide view
 abbrev pub WideIsolation : Type 0
 WideIsolation = (s : Start) (i n : ℕ) → IsHard s i → is_quiet s n ≡ true → events s i n ≡ wide_solo (wide_view s i n) n

@@ -13,17 +13,17 @@ abbrev pub is_trap : Option Effect → Bool
 is_trap (Some (Trap cause target)) = true
 is_trap _ = false
 
--- the word at the hart's pc is a branch that is taken
+-- the word at the thread's pc is a branch that is taken
 abbrev pub is_taken_at : Contents → Thread → Bool
 is_taken_at m t =
     let i = ins (m.code t.pc) in
     (result_of i t.pc (reg_in t.regs (source_1 i)) (reg_in t.regs (source_2 i))).taken
 
--- the lag of the instruction at the hart's pc, by whether it took a branch, and whether what was
+-- the lag of the instruction at the thread's pc, by whether it took a branch, and whether what was
 -- left is a trap: one of the instruction's own, or an expiry or a refused fetch in its place
 abbrev pub lag_at : Contents → Thread → Done → ℕ
 lag_at m t d = lag (ins (m.code t.pc)) (is_taken_at m t) (is_trap d.effect)
 
--- after an issue in cycle c the hart is ready that lag later
+-- after an issue in cycle c the thread is ready that lag later
 abbrev pub HasLagOfTable : Around → Contents → ℕ → Thread → Type 0
 HasLagOfTable a m c t = (issue a m c t).thread.ready ≡ c + lag_at m t (issue a m c t)

@@ -1,4 +1,4 @@
--- What the trace of a hart can't depend on, for the machine of a setup that keeps the rules, as
+-- What the trace of a thread can't depend on, for the machine of a setup that keeps the rules, as
 -- each accepted one does, of an image and of ports.
 use Rattle.std.specs.Prelude.{◌≡◌, ℕ, true, false, List, map, slice_index_or, Option}
 use Rattle.std.specs.List.{All, list_all}
@@ -25,7 +25,7 @@ pub record Machine : Type 0 where
   pub image : List Segment
   pub ports : List (Option Row)
 
--- the trace of hart i after n cycles
+-- the trace of thread i after n cycles
 abbrev pub trace : Machine → ℕ → ℕ → List ℕ
 trace m i n = text (events (start m.setup m.image m.ports n) i n)
 
@@ -33,7 +33,7 @@ trace m i n = text (events (start m.setup m.image m.ports n) i n)
 abbrev pub IsQuiet : Machine → ℕ → Type 0
 IsQuiet m n = is_quiet (start m.setup m.image m.ports n) n ≡ true
 
--- what hart i may depend on in n cycles
+-- what thread i may depend on in n cycles
 abbrev pub view_of : Machine → ℕ → ℕ → View
 view_of m i n = view (start m.setup m.image m.ports n) i
 
@@ -41,18 +41,18 @@ view_of m i n = view (start m.setup m.image m.ports n) i
 abbrev pub wide_view_of : Machine → ℕ → ℕ → WideView
 wide_view_of m i n = wide_view (start m.setup m.image m.ports n) i n
 
--- hart i is confined, and hard active at the start
+-- thread i is confined, and hard active at the start
 pub record IsConfinedHard (m : Machine) (i : ℕ) : Type 0 where
   pub confined : (thread_of m.setup i).confined ≡ true
   pub hard : mode_of m.setup.modes i ≡ 0
 
--- hart i is one of the setup's that isn't confined, and hard active at the start
+-- thread i is one of the setup's that isn't confined, and hard active at the start
 pub record IsFreeHard (m : Machine) (i : ℕ) : Type 0 where
   pub free : slice_index_or (map (λ (t : ThreadSetup). t.confined) m.setup.threads) i true ≡ false
   pub hard : mode_of m.setup.modes i ≡ 0
 
--- in a quiet run the trace of a confined hard hart is that of the definition of one hart over its
--- view
+-- in a quiet run the trace of a confined hard thread is that of the definition of one thread over
+-- its view
 abbrev pub TraceAlone : Type 0
 TraceAlone = (m : Machine) (i n : ℕ) → KeepsRules m.setup → IsConfinedHard m i → IsQuiet m n → trace m i n ≡ text (solo (view_of m i n) n)
 
@@ -60,7 +60,7 @@ TraceAlone = (m : Machine) (i n : ℕ) → KeepsRules m.setup → IsConfinedHard
 abbrev pub phases_in : Machine → ℕ → List Phase
 phases_in m n = phases (start m.setup m.image m.ports n) n
 
--- hart i is confined, and no setting makes it soft active
+-- thread i is confined, and no setting makes it soft active
 pub record IsConfinedThrough (m : Machine) (i n : ℕ) : Type 0 where
   pub confined : (thread_of m.setup i).confined ≡ true
   pub never : list_all (is_never_soft i) (phases_in m n) ≡ true
@@ -69,7 +69,7 @@ pub record IsConfinedThrough (m : Machine) (i n : ℕ) : Type 0 where
 abbrev pub KeepsRegions : Machine → ℕ → Type 0
 KeepsRegions m n = keeps_regions (start m.setup m.image m.ports n) n ≡ true
 
--- then the trace of such a hart is that of the definition of one hart over its view and those
+-- then the trace of such a thread is that of the definition of one thread over its view and those
 -- settings
 abbrev pub TraceByPhases : Type 0
 TraceByPhases = (m : Machine) (i n : ℕ) → KeepsRules m.setup → IsConfinedThrough m i n → KeepsRegions m n
@@ -84,7 +84,7 @@ EqualTraces = (m k : Machine) (i n : ℕ) → KeepsRules m.setup → KeepsRules 
 abbrev pub QuietSetup : Type 0
 QuietSetup = (m : Machine) (n : ℕ) → All (λ (t : ThreadSetup). t.permit ≡ false) m.setup.threads → IsQuiet m n
 
--- in a quiet run the trace of a hard hart that isn't confined follows from its wide view
+-- in a quiet run the trace of a hard thread that isn't confined follows from its wide view
 abbrev pub TraceByWideView : Type 0
 TraceByWideView = (m : Machine) (i n : ℕ) → KeepsRules m.setup → IsFreeHard m i → IsQuiet m n
     → trace m i n ≡ text (wide_solo (wide_view_of m i n) n)

@@ -1,22 +1,22 @@
-//! The laws of isolation: what the rest of the machine can't change for one hart. Each is the
+//! The laws of isolation: what the rest of the machine can't change for one thread. Each is the
 //! contract of a call that does nothing; its statement stands in specs/Isolation.antt.
 
 ghost use Rattle.run_laws.specs.Isolation.{EqualViews, Isolation, PhasedIsolation, QuietUnpermitted, WideIsolation};
 
-/// A confined hard hart runs as if it were alone: in a quiet run its events are those of the
-/// definition of one hart, over its view.
+/// A confined hard thread runs as if it were alone: in a quiet run its events are those of the
+/// definition of one thread, over its view.
 pub fn runs_alone()
     ensures { Isolation }
 {}
 
-/// A confined hart that is never soft active runs as if it were alone over the settings of the
+/// A confined thread that is never soft active runs as if it were alone over the settings of the
 /// scheduling: while no region register is written, its events are those of the definition of one
-/// hart, over its view and the settings of the run.
+/// thread, over its view and the settings of the run.
 pub fn runs_by_phases()
     ensures { PhasedIsolation }
 {}
 
-/// Two machines that agree in such a hart's view show equal events of it.
+/// Two machines that agree in such a thread's view show equal events of it.
 pub fn shows_equal_events()
     ensures { EqualViews }
 {}
@@ -26,8 +26,8 @@ pub fn stays_quiet()
     ensures { QuietUnpermitted }
 {}
 
-/// A hard hart that isn't confined runs by its wide view: in a quiet run its events are those of
-/// the definition of one hart, over the view and what its loads find where others may write.
+/// A hard thread that isn't confined runs by its wide view: in a quiet run its events are those of
+/// the definition of one thread, over the view and what its loads find where others may write.
 pub fn runs_by_wide_view()
     ensures { WideIsolation }
 {}

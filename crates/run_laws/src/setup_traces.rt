@@ -4,8 +4,8 @@
 
 ghost use Rattle.run_laws.specs.TraceLaws.{EqualTraces, QuietSetup, TraceAlone, TraceByPhases, TraceByWideView};
 
-/// In a quiet run the trace of a confined hard hart is that of the definition of one hart over its
-/// view, whatever the seven others run.
+/// In a quiet run the trace of a confined hard thread is that of the definition of one thread over
+/// its view, whatever the seven others run.
 pub fn traces_alone()
     ensures { TraceAlone }
 {
@@ -13,15 +13,15 @@ pub fn traces_alone()
 }
 
 /// While no region register is written, and no setting of the scheduling makes it soft active, the
-/// trace of a confined hart is that of the definition of one hart over its view and the settings of
-/// the run.
+/// trace of a confined thread is that of the definition of one thread over its view and the
+/// settings of the run.
 pub fn traces_by_phases()
     ensures { TraceByPhases }
 {
     crate::isolation::runs_by_phases();
 }
 
-/// Machines that agree in such a hart's view write equal traces of it.
+/// Machines that agree in such a thread's view write equal traces of it.
 pub fn writes_equal_traces()
     ensures { EqualTraces }
 {
@@ -35,7 +35,7 @@ pub fn stays_quiet()
     crate::isolation::stays_quiet();
 }
 
-/// In a quiet run the trace of a hard hart that isn't confined follows from its wide view.
+/// In a quiet run the trace of a hard thread that isn't confined follows from its wide view.
 pub fn traces_by_wide_view()
     ensures { TraceByWideView }
 {

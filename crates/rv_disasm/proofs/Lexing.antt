@@ -77,8 +77,8 @@ unfolding tokens_from
 one_token i n b bs rest t hash blank here ends few =
     let small : nat_lt n 64 ≡ true = grind (arith, nat_tests) in
     let size : t.end - (i + 1) ≡ length bs = omega arith in
-    let place : (i + 1) + length bs ≡ i + suc (length bs) = omega arith in
-    rw (hash, blank, here, small, size, skipped bs rest (i + 1) (n + 1), place) refl
+    let location : (i + 1) + length bs ≡ i + suc (length bs) = omega arith in
+    rw (hash, blank, here, small, size, skipped bs rest (i + 1) (n + 1), location) refl
 
 piece_more : (line : Text) (t : Token) (p : Piece) (r : Result (List Token) LexNo) (ps : List Piece) → piece line t ≡ p → pieces_or_fault line r ≡ Ok ps → pieces_or_fault line (next r (λ ts. Ok (t ∷ ts))) ≡ Ok (p ∷ ps)
 piece_more line t p (Ok ts) ps e h = let more : map (piece line) ts ≡ ps = cc in rw (e, more) refl
@@ -102,7 +102,7 @@ digits_ok i skip base bs count v rest some e small after ends =
 abbrev pub part_piece : Part → Piece
 part_piece (named x) = name x
 part_piece (counted n) = number n
-part_piece (digits places n) = number n
+part_piece (digits width n) = number n
 part_piece comma = comma_piece
 part_piece opening = opening_piece
 part_piece closing = closing_piece
@@ -115,14 +115,14 @@ is_name (b ∷ bs) = is_head b && list_all is_rest bs
 abbrev pub IsSound : Part → Type 0
 IsSound (named x) = is_name x ≡ true
 IsSound (counted n) = n < 2 ^ 32
-IsSound (digits places n) = (0 < places) × (n < 16 ^ places) × (n < 2 ^ 32)
+IsSound (digits width n) = (0 < width) × (n < 16 ^ width) × (n < 2 ^ 32)
 IsSound _ = Unit {0}
 
 -- what follows a name or a number doesn't go on with it
 abbrev pub IsApart : Part → Text → Type 0
 IsApart (named x) rest = starts is_rest rest ≡ false
 IsApart (counted n) rest = starts is_rest rest ≡ false
-IsApart (digits places n) rest = starts is_rest rest ≡ false
+IsApart (digits width n) rest = starts is_rest rest ≡ false
 IsApart _ rest = Unit {0}
 
 -- the pieces from a part on, where those behind it are known
@@ -249,22 +249,22 @@ hex_glyph k h = by_test (nat_lt k 10) refl
         rw e (x, rw (c, d) (omega arith))
 
 -- so many hexadecimal digits of a number that they hold
-record IsHexadecimal (places n : ℕ) (hs : Text) : Type 0 where
+record IsHexadecimal (width n : ℕ) (hs : Text) : Type 0 where
   digits_only : AllBytes is_hex hs
   valued : number_of 16 hs ≡ n
 
-hex_digits : (places n : ℕ) → n < 16 ^ places → IsHexadecimal places n (hex places n)
+hex_digits : (width n : ℕ) → n < 16 ^ width → IsHexadecimal width n (hex width n)
 unfolding hex number_of number_from
 hex_digits zero n h = let h1 = simp unary_clauses at h in record { digits_only = tt; valued = omega (arith, h1) }
-hex_digits (suc places) n h =
-    let power : 16 ^ suc places ≡ 16 ^ places * 16 = simp unary_clauses (omega arith) in
-    let small : n / 16 < 16 ^ places = omega (arith, power) in
-    let d = hex_digits places (n / 16) small in
+hex_digits (suc width) n h =
+    let power : 16 ^ suc width ≡ 16 ^ width * 16 = simp unary_clauses (omega arith) in
+    let small : n / 16 < 16 ^ width = omega (arith, power) in
+    let d = hex_digits width (n / 16) small in
     let g = hex_glyph (n % 16) (omega arith) in
     let whole : (n / 16) * 16 + n % 16 ≡ n = omega arith in
     record {
-      digits_only = all_append is_hex (hex places (n / 16)) (hex_digit (n % 16) ∷ []) d.digits_only (g.0, tt);
-      valued = number_more 16 0 (hex places (n / 16)) (hex_digit (n % 16)) ∙ rw (d.valued, g.1) whole;
+      digits_only = all_append is_hex (hex width (n / 16)) (hex_digit (n % 16) ∷ []) d.digits_only (g.0, tt);
+      valued = number_more 16 0 (hex width (n / 16)) (hex_digit (n % 16)) ∙ rw (d.valued, g.1) whole;
     }
 
 reads_hex : (n : ℕ) (hs : Text) → 0 < length hs → n < 2 ^ 32 → AllBytes is_hex hs → number_of 16 hs ≡ n → (line pre rest : Text) (k : ℕ) (ps : List Piece)
@@ -284,18 +284,18 @@ reads_hex n hs some small only valued line pre rest k ps e apart few more =
     let at : token_at (length pre) 48 ((120 ∷ hs) ++ rest) ≡ Ok t = rw size made in
     rw (one_token (length pre) k 48 (120 ∷ hs) rest t refl refl at (omega arith) few) (piece_more line t (number n) _ ps refl more)
 
-reads_hexadecimal : (places n : ℕ) → (0 < places) × (n < 16 ^ places) × (n < 2 ^ 32) → Reads (digits places n)
-reads_hexadecimal places n h line pre rest k ps e apart few more =
-    let d = hex_digits places n h.1 in
-    let some : 0 < length (hex places n) = rw (length-hex places n) h.0 in
-    reads_hex n (hex places n) some h.2 d.digits_only d.valued line pre rest k ps e apart few more
+reads_hexadecimal : (width n : ℕ) → (0 < width) × (n < 16 ^ width) × (n < 2 ^ 32) → Reads (digits width n)
+reads_hexadecimal width n h line pre rest k ps e apart few more =
+    let d = hex_digits width n h.1 in
+    let some : 0 < length (hex width n) = rw (length-hex width n) h.0 in
+    reads_hex n (hex width n) some h.2 d.digits_only d.valued line pre rest k ps e apart few more
 
 reads_comma : Reads comma
 unfolding token_at piece tokens_from
 reads_comma line pre rest k ps e apart few more =
     let t : Token = mark_at (length pre) 44 in
-    let place : (length pre + 1) + 1 ≡ length pre + 2 = omega arith in
-    rw (one_token (length pre) k 44 [] (32 ∷ rest) t refl refl refl refl few) (piece_more line t comma_piece _ ps refl (rw place more))
+    let location : (length pre + 1) + 1 ≡ length pre + 2 = omega arith in
+    rw (one_token (length pre) k 44 [] (32 ∷ rest) t refl refl refl refl few) (piece_more line t comma_piece _ ps refl (rw location more))
 
 reads_opening : Reads opening
 unfolding token_at piece
@@ -318,7 +318,7 @@ reads_minus line pre rest k ps e apart few more =
 reads : (p : Part) → IsSound p → Reads p
 reads (named x) h = reads_name x h
 reads (counted n) h = reads_decimal n h
-reads (digits places n) h = reads_hexadecimal places n h
+reads (digits width n) h = reads_hexadecimal width n h
 reads comma h = reads_comma
 reads opening h = reads_opening
 reads closing h = reads_closing

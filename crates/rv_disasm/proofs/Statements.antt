@@ -34,7 +34,7 @@ use Rattle.rv_disasm.specs.Names.{branch_name, load_name, store_name, imm_name, 
 use Rattle.rv_disasm.specs.Parts.{Line, line, Part, named, digits, comma, opening, closing, register, signed, csr_part, two_registers, three_registers, with_number, with_memory, with_csr}
 use Rattle.rv_disasm.proofs.Lexing.{part_piece, is_name, and_true, IsSound, IsApart, AreSound}
 use Rattle.fp_asm.specs.Words.{signed_12, up_to, instruction}
-use Rattle.fp_asm.specs.Statements.{some_targets, statement_in, checked, statement_named, size_of, place_after}
+use Rattle.fp_asm.specs.Statements.{some_targets, statement_in, checked, statement_named, size_of, location_after}
 use Rattle.fp_asm.specs.First.{Labels}
 use Rattle.fp_asm.specs.Second.{way, resolved, all_resolved, jump, plain_word, branch_word, jal_word, value_words, words_of}
 use Rattle.fp_asm.specs.Faults.{next}
@@ -82,12 +82,12 @@ pub register_name : (r : ℕ) → r < 32 → is_name (codes "x" ++ decimal r) �
 unfolding reads_back
 register_name r h = (and_true _ _ (in_table 32 r h thirty_two)).1
 
--- What the assembler makes of a mnemonic with its operands: how many words, the place after them, and the words at an address.
+-- What the assembler makes of a mnemonic with its operands: how many words, the location after them, and the words at an address.
 abbrev pub made : ℕ → Labels → ℕ → Text → List Piece → Result (ℕ × ℕ × Result (List ℕ) AsmNo) AsmNo
-made pc labels place m ps = next (statement_named m ps) (λ s. Ok (size_of s, place_after place s, words_of labels pc s))
+made pc labels location m ps = next (statement_named m ps) (λ s. Ok (size_of s, location_after location s, words_of labels pc s))
 
 abbrev pub Gives : ℕ → ℕ → Text → List Part → Type 0
-Gives pc w m parts = (labels : Labels) (place : ℕ) → made pc labels place m (map part_piece parts) ≡ Ok (1, (place + 4) % 2 ^ 32, Ok (w ∷ []))
+Gives pc w m parts = (labels : Labels) (location : ℕ) → made pc labels location m (map part_piece parts) ≡ Ok (1, (location + 4) % 2 ^ 32, Ok (w ∷ []))
 
 -- A line that is read as a statement of this one word.
 pub record IsAssembled (pc w : ℕ) (l : Line) : Type 0 where
@@ -143,166 +143,166 @@ unfolding jump
 jump_back low high pc off h g below above four = rw (way_back pc off h g, below, above, four) refl
 
 alu : (op : AluOp) (pc w d a b : ℕ) → d < 32 → a < 32 → b < 32 → encoded (Op op d a b) ≡ w → Gives pc w (alu_name op) (three_registers d a b)
-unfolding statement_named mnemonic mnemonics statement_in operands_of commas between_from all_filled filled register_in number_in memory_in csr_in target_in checked size_of place_after words_of plain_word instruction branch_word jal_word resolved all_targets some_targets all_resolved value_words
-alu Add pc w d a b h0 h1 h2 e labels place = rw (read d h0, read a h1, read b h2, e) refl
-alu Sub pc w d a b h0 h1 h2 e labels place = rw (read d h0, read a h1, read b h2, e) refl
-alu Sll pc w d a b h0 h1 h2 e labels place = rw (read d h0, read a h1, read b h2, e) refl
-alu Slt pc w d a b h0 h1 h2 e labels place = rw (read d h0, read a h1, read b h2, e) refl
-alu Sltu pc w d a b h0 h1 h2 e labels place = rw (read d h0, read a h1, read b h2, e) refl
-alu Xor pc w d a b h0 h1 h2 e labels place = rw (read d h0, read a h1, read b h2, e) refl
-alu Srl pc w d a b h0 h1 h2 e labels place = rw (read d h0, read a h1, read b h2, e) refl
-alu Sra pc w d a b h0 h1 h2 e labels place = rw (read d h0, read a h1, read b h2, e) refl
-alu Or pc w d a b h0 h1 h2 e labels place = rw (read d h0, read a h1, read b h2, e) refl
-alu And pc w d a b h0 h1 h2 e labels place = rw (read d h0, read a h1, read b h2, e) refl
+unfolding statement_named mnemonic mnemonics statement_in operands_of commas between_from all_filled filled register_in number_in memory_in csr_in target_in checked size_of location_after words_of plain_word instruction branch_word jal_word resolved all_targets some_targets all_resolved value_words
+alu Add pc w d a b h0 h1 h2 e labels location = rw (read d h0, read a h1, read b h2, e) refl
+alu Sub pc w d a b h0 h1 h2 e labels location = rw (read d h0, read a h1, read b h2, e) refl
+alu Sll pc w d a b h0 h1 h2 e labels location = rw (read d h0, read a h1, read b h2, e) refl
+alu Slt pc w d a b h0 h1 h2 e labels location = rw (read d h0, read a h1, read b h2, e) refl
+alu Sltu pc w d a b h0 h1 h2 e labels location = rw (read d h0, read a h1, read b h2, e) refl
+alu Xor pc w d a b h0 h1 h2 e labels location = rw (read d h0, read a h1, read b h2, e) refl
+alu Srl pc w d a b h0 h1 h2 e labels location = rw (read d h0, read a h1, read b h2, e) refl
+alu Sra pc w d a b h0 h1 h2 e labels location = rw (read d h0, read a h1, read b h2, e) refl
+alu Or pc w d a b h0 h1 h2 e labels location = rw (read d h0, read a h1, read b h2, e) refl
+alu And pc w d a b h0 h1 h2 e labels location = rw (read d h0, read a h1, read b h2, e) refl
 
 mul : (op : MulOp) (pc w d a b : ℕ) → d < 32 → a < 32 → b < 32 → encoded (Muldiv op d a b) ≡ w → Gives pc w (mul_name op) (three_registers d a b)
-unfolding statement_named mnemonic mnemonics statement_in operands_of commas between_from all_filled filled register_in number_in memory_in csr_in target_in checked size_of place_after words_of plain_word instruction branch_word jal_word resolved all_targets some_targets all_resolved value_words
-mul Mul pc w d a b h0 h1 h2 e labels place = rw (read d h0, read a h1, read b h2, e) refl
-mul Mulh pc w d a b h0 h1 h2 e labels place = rw (read d h0, read a h1, read b h2, e) refl
-mul Mulhsu pc w d a b h0 h1 h2 e labels place = rw (read d h0, read a h1, read b h2, e) refl
-mul Mulhu pc w d a b h0 h1 h2 e labels place = rw (read d h0, read a h1, read b h2, e) refl
-mul Div pc w d a b h0 h1 h2 e labels place = rw (read d h0, read a h1, read b h2, e) refl
-mul Divu pc w d a b h0 h1 h2 e labels place = rw (read d h0, read a h1, read b h2, e) refl
-mul Rem pc w d a b h0 h1 h2 e labels place = rw (read d h0, read a h1, read b h2, e) refl
-mul Remu pc w d a b h0 h1 h2 e labels place = rw (read d h0, read a h1, read b h2, e) refl
+unfolding statement_named mnemonic mnemonics statement_in operands_of commas between_from all_filled filled register_in number_in memory_in csr_in target_in checked size_of location_after words_of plain_word instruction branch_word jal_word resolved all_targets some_targets all_resolved value_words
+mul Mul pc w d a b h0 h1 h2 e labels location = rw (read d h0, read a h1, read b h2, e) refl
+mul Mulh pc w d a b h0 h1 h2 e labels location = rw (read d h0, read a h1, read b h2, e) refl
+mul Mulhsu pc w d a b h0 h1 h2 e labels location = rw (read d h0, read a h1, read b h2, e) refl
+mul Mulhu pc w d a b h0 h1 h2 e labels location = rw (read d h0, read a h1, read b h2, e) refl
+mul Div pc w d a b h0 h1 h2 e labels location = rw (read d h0, read a h1, read b h2, e) refl
+mul Divu pc w d a b h0 h1 h2 e labels location = rw (read d h0, read a h1, read b h2, e) refl
+mul Rem pc w d a b h0 h1 h2 e labels location = rw (read d h0, read a h1, read b h2, e) refl
+mul Remu pc w d a b h0 h1 h2 e labels location = rw (read d h0, read a h1, read b h2, e) refl
 
 imm : (op : ImmOp) (pc w d a : ℕ) (z : ℤ) → d < 32 → a < 32 → IsSigned 12 z → encoded (OpImm op d a z) ≡ w → Gives pc w (imm_name op) (with_number d a z)
-unfolding statement_named mnemonic mnemonics statement_in operands_of commas between_from all_filled filled register_in number_in memory_in csr_in target_in checked size_of place_after words_of plain_word instruction branch_word jal_word resolved all_targets some_targets all_resolved value_words
-imm Addi pc w d a (pos n) h0 h1 h2 e labels place = rw (read d h0, read a h1, small_12 (pos n) h2, e) refl
-imm Addi pc w d a (negsuc n) h0 h1 h2 e labels place = rw (read d h0, read a h1, small_12 (negsuc n) h2, e) refl
-imm Slti pc w d a (pos n) h0 h1 h2 e labels place = rw (read d h0, read a h1, small_12 (pos n) h2, e) refl
-imm Slti pc w d a (negsuc n) h0 h1 h2 e labels place = rw (read d h0, read a h1, small_12 (negsuc n) h2, e) refl
-imm Sltiu pc w d a (pos n) h0 h1 h2 e labels place = rw (read d h0, read a h1, small_12 (pos n) h2, e) refl
-imm Sltiu pc w d a (negsuc n) h0 h1 h2 e labels place = rw (read d h0, read a h1, small_12 (negsuc n) h2, e) refl
-imm Xori pc w d a (pos n) h0 h1 h2 e labels place = rw (read d h0, read a h1, small_12 (pos n) h2, e) refl
-imm Xori pc w d a (negsuc n) h0 h1 h2 e labels place = rw (read d h0, read a h1, small_12 (negsuc n) h2, e) refl
-imm Ori pc w d a (pos n) h0 h1 h2 e labels place = rw (read d h0, read a h1, small_12 (pos n) h2, e) refl
-imm Ori pc w d a (negsuc n) h0 h1 h2 e labels place = rw (read d h0, read a h1, small_12 (negsuc n) h2, e) refl
-imm Andi pc w d a (pos n) h0 h1 h2 e labels place = rw (read d h0, read a h1, small_12 (pos n) h2, e) refl
-imm Andi pc w d a (negsuc n) h0 h1 h2 e labels place = rw (read d h0, read a h1, small_12 (negsuc n) h2, e) refl
+unfolding statement_named mnemonic mnemonics statement_in operands_of commas between_from all_filled filled register_in number_in memory_in csr_in target_in checked size_of location_after words_of plain_word instruction branch_word jal_word resolved all_targets some_targets all_resolved value_words
+imm Addi pc w d a (pos n) h0 h1 h2 e labels location = rw (read d h0, read a h1, small_12 (pos n) h2, e) refl
+imm Addi pc w d a (negsuc n) h0 h1 h2 e labels location = rw (read d h0, read a h1, small_12 (negsuc n) h2, e) refl
+imm Slti pc w d a (pos n) h0 h1 h2 e labels location = rw (read d h0, read a h1, small_12 (pos n) h2, e) refl
+imm Slti pc w d a (negsuc n) h0 h1 h2 e labels location = rw (read d h0, read a h1, small_12 (negsuc n) h2, e) refl
+imm Sltiu pc w d a (pos n) h0 h1 h2 e labels location = rw (read d h0, read a h1, small_12 (pos n) h2, e) refl
+imm Sltiu pc w d a (negsuc n) h0 h1 h2 e labels location = rw (read d h0, read a h1, small_12 (negsuc n) h2, e) refl
+imm Xori pc w d a (pos n) h0 h1 h2 e labels location = rw (read d h0, read a h1, small_12 (pos n) h2, e) refl
+imm Xori pc w d a (negsuc n) h0 h1 h2 e labels location = rw (read d h0, read a h1, small_12 (negsuc n) h2, e) refl
+imm Ori pc w d a (pos n) h0 h1 h2 e labels location = rw (read d h0, read a h1, small_12 (pos n) h2, e) refl
+imm Ori pc w d a (negsuc n) h0 h1 h2 e labels location = rw (read d h0, read a h1, small_12 (negsuc n) h2, e) refl
+imm Andi pc w d a (pos n) h0 h1 h2 e labels location = rw (read d h0, read a h1, small_12 (pos n) h2, e) refl
+imm Andi pc w d a (negsuc n) h0 h1 h2 e labels location = rw (read d h0, read a h1, small_12 (negsuc n) h2, e) refl
 
 load : (op : LoadOp) (pc w d a : ℕ) (z : ℤ) → d < 32 → a < 32 → IsSigned 12 z → encoded (Load op d a z) ≡ w → Gives pc w (load_name op) (with_memory d z a)
-unfolding statement_named mnemonic mnemonics statement_in operands_of commas between_from all_filled filled register_in number_in memory_in csr_in target_in checked size_of place_after words_of plain_word instruction branch_word jal_word resolved all_targets some_targets all_resolved value_words
-load Lb pc w d a (pos n) h0 h1 h2 e labels place = rw (read d h0, read a h1, small_12 (pos n) h2, e) refl
-load Lb pc w d a (negsuc n) h0 h1 h2 e labels place = rw (read d h0, read a h1, small_12 (negsuc n) h2, e) refl
-load Lh pc w d a (pos n) h0 h1 h2 e labels place = rw (read d h0, read a h1, small_12 (pos n) h2, e) refl
-load Lh pc w d a (negsuc n) h0 h1 h2 e labels place = rw (read d h0, read a h1, small_12 (negsuc n) h2, e) refl
-load Lw pc w d a (pos n) h0 h1 h2 e labels place = rw (read d h0, read a h1, small_12 (pos n) h2, e) refl
-load Lw pc w d a (negsuc n) h0 h1 h2 e labels place = rw (read d h0, read a h1, small_12 (negsuc n) h2, e) refl
-load Lbu pc w d a (pos n) h0 h1 h2 e labels place = rw (read d h0, read a h1, small_12 (pos n) h2, e) refl
-load Lbu pc w d a (negsuc n) h0 h1 h2 e labels place = rw (read d h0, read a h1, small_12 (negsuc n) h2, e) refl
-load Lhu pc w d a (pos n) h0 h1 h2 e labels place = rw (read d h0, read a h1, small_12 (pos n) h2, e) refl
-load Lhu pc w d a (negsuc n) h0 h1 h2 e labels place = rw (read d h0, read a h1, small_12 (negsuc n) h2, e) refl
+unfolding statement_named mnemonic mnemonics statement_in operands_of commas between_from all_filled filled register_in number_in memory_in csr_in target_in checked size_of location_after words_of plain_word instruction branch_word jal_word resolved all_targets some_targets all_resolved value_words
+load Lb pc w d a (pos n) h0 h1 h2 e labels location = rw (read d h0, read a h1, small_12 (pos n) h2, e) refl
+load Lb pc w d a (negsuc n) h0 h1 h2 e labels location = rw (read d h0, read a h1, small_12 (negsuc n) h2, e) refl
+load Lh pc w d a (pos n) h0 h1 h2 e labels location = rw (read d h0, read a h1, small_12 (pos n) h2, e) refl
+load Lh pc w d a (negsuc n) h0 h1 h2 e labels location = rw (read d h0, read a h1, small_12 (negsuc n) h2, e) refl
+load Lw pc w d a (pos n) h0 h1 h2 e labels location = rw (read d h0, read a h1, small_12 (pos n) h2, e) refl
+load Lw pc w d a (negsuc n) h0 h1 h2 e labels location = rw (read d h0, read a h1, small_12 (negsuc n) h2, e) refl
+load Lbu pc w d a (pos n) h0 h1 h2 e labels location = rw (read d h0, read a h1, small_12 (pos n) h2, e) refl
+load Lbu pc w d a (negsuc n) h0 h1 h2 e labels location = rw (read d h0, read a h1, small_12 (negsuc n) h2, e) refl
+load Lhu pc w d a (pos n) h0 h1 h2 e labels location = rw (read d h0, read a h1, small_12 (pos n) h2, e) refl
+load Lhu pc w d a (negsuc n) h0 h1 h2 e labels location = rw (read d h0, read a h1, small_12 (negsuc n) h2, e) refl
 
 store : (op : StoreOp) (pc w a b : ℕ) (z : ℤ) → a < 32 → b < 32 → IsSigned 12 z → encoded (Store op a b z) ≡ w → Gives pc w (store_name op) (with_memory b z a)
-unfolding statement_named mnemonic mnemonics statement_in operands_of commas between_from all_filled filled register_in number_in memory_in csr_in target_in checked size_of place_after words_of plain_word instruction branch_word jal_word resolved all_targets some_targets all_resolved value_words
-store Sb pc w a b (pos n) h0 h1 h2 e labels place = rw (read b h1, read a h0, small_12 (pos n) h2, e) refl
-store Sb pc w a b (negsuc n) h0 h1 h2 e labels place = rw (read b h1, read a h0, small_12 (negsuc n) h2, e) refl
-store Sh pc w a b (pos n) h0 h1 h2 e labels place = rw (read b h1, read a h0, small_12 (pos n) h2, e) refl
-store Sh pc w a b (negsuc n) h0 h1 h2 e labels place = rw (read b h1, read a h0, small_12 (negsuc n) h2, e) refl
-store Sw pc w a b (pos n) h0 h1 h2 e labels place = rw (read b h1, read a h0, small_12 (pos n) h2, e) refl
-store Sw pc w a b (negsuc n) h0 h1 h2 e labels place = rw (read b h1, read a h0, small_12 (negsuc n) h2, e) refl
+unfolding statement_named mnemonic mnemonics statement_in operands_of commas between_from all_filled filled register_in number_in memory_in csr_in target_in checked size_of location_after words_of plain_word instruction branch_word jal_word resolved all_targets some_targets all_resolved value_words
+store Sb pc w a b (pos n) h0 h1 h2 e labels location = rw (read b h1, read a h0, small_12 (pos n) h2, e) refl
+store Sb pc w a b (negsuc n) h0 h1 h2 e labels location = rw (read b h1, read a h0, small_12 (negsuc n) h2, e) refl
+store Sh pc w a b (pos n) h0 h1 h2 e labels location = rw (read b h1, read a h0, small_12 (pos n) h2, e) refl
+store Sh pc w a b (negsuc n) h0 h1 h2 e labels location = rw (read b h1, read a h0, small_12 (negsuc n) h2, e) refl
+store Sw pc w a b (pos n) h0 h1 h2 e labels location = rw (read b h1, read a h0, small_12 (pos n) h2, e) refl
+store Sw pc w a b (negsuc n) h0 h1 h2 e labels location = rw (read b h1, read a h0, small_12 (negsuc n) h2, e) refl
 
 jalr : (pc w d a : ℕ) (z : ℤ) → d < 32 → a < 32 → IsSigned 12 z → encoded (Jalr d a z) ≡ w → Gives pc w (codes "jalr") (with_memory d z a)
-unfolding statement_named mnemonic mnemonics statement_in operands_of commas between_from all_filled filled register_in number_in memory_in csr_in target_in checked size_of place_after words_of plain_word instruction branch_word jal_word resolved all_targets some_targets all_resolved value_words
-jalr pc w d a (pos n) h0 h1 h2 e labels place = rw (read d h0, read a h1, small_12 (pos n) h2, e) refl
-jalr pc w d a (negsuc n) h0 h1 h2 e labels place = rw (read d h0, read a h1, small_12 (negsuc n) h2, e) refl
+unfolding statement_named mnemonic mnemonics statement_in operands_of commas between_from all_filled filled register_in number_in memory_in csr_in target_in checked size_of location_after words_of plain_word instruction branch_word jal_word resolved all_targets some_targets all_resolved value_words
+jalr pc w d a (pos n) h0 h1 h2 e labels location = rw (read d h0, read a h1, small_12 (pos n) h2, e) refl
+jalr pc w d a (negsuc n) h0 h1 h2 e labels location = rw (read d h0, read a h1, small_12 (negsuc n) h2, e) refl
 
 shift : (op : ShiftOp) (pc w d a n : ℕ) → d < 32 → a < 32 → n ≤ 31 → encoded (Shift op d a n) ≡ w → Gives pc w (shift_name op) (with_number d a (pos n))
-unfolding statement_named mnemonic mnemonics statement_in operands_of commas between_from all_filled filled register_in number_in memory_in csr_in target_in checked size_of place_after words_of plain_word instruction branch_word jal_word resolved all_targets some_targets all_resolved value_words
-shift Slli pc w d a n h0 h1 h2 e labels place = rw (read d h0, read a h1, up_small 31 n h2, e) refl
-shift Srli pc w d a n h0 h1 h2 e labels place = rw (read d h0, read a h1, up_small 31 n h2, e) refl
-shift Srai pc w d a n h0 h1 h2 e labels place = rw (read d h0, read a h1, up_small 31 n h2, e) refl
+unfolding statement_named mnemonic mnemonics statement_in operands_of commas between_from all_filled filled register_in number_in memory_in csr_in target_in checked size_of location_after words_of plain_word instruction branch_word jal_word resolved all_targets some_targets all_resolved value_words
+shift Slli pc w d a n h0 h1 h2 e labels location = rw (read d h0, read a h1, up_small 31 n h2, e) refl
+shift Srli pc w d a n h0 h1 h2 e labels location = rw (read d h0, read a h1, up_small 31 n h2, e) refl
+shift Srai pc w d a n h0 h1 h2 e labels location = rw (read d h0, read a h1, up_small 31 n h2, e) refl
 
 lui : (pc w d n : ℕ) → d < 32 → n ≤ 1048575 → encoded (Lui d n) ≡ w → Gives pc w (codes "lui") (register d ∷ comma ∷ digits 5 n ∷ [])
-unfolding statement_named mnemonic mnemonics statement_in operands_of commas between_from all_filled filled register_in number_in memory_in csr_in target_in checked size_of place_after words_of plain_word instruction branch_word jal_word resolved all_targets some_targets all_resolved value_words
-lui pc w d n h0 h1 e labels place = rw (read d h0, up_small 1048575 n h1, e) refl
+unfolding statement_named mnemonic mnemonics statement_in operands_of commas between_from all_filled filled register_in number_in memory_in csr_in target_in checked size_of location_after words_of plain_word instruction branch_word jal_word resolved all_targets some_targets all_resolved value_words
+lui pc w d n h0 h1 e labels location = rw (read d h0, up_small 1048575 n h1, e) refl
 
 auipc : (pc w d n : ℕ) → d < 32 → n ≤ 1048575 → encoded (Auipc d n) ≡ w → Gives pc w (codes "auipc") (register d ∷ comma ∷ digits 5 n ∷ [])
-unfolding statement_named mnemonic mnemonics statement_in operands_of commas between_from all_filled filled register_in number_in memory_in csr_in target_in checked size_of place_after words_of plain_word instruction branch_word jal_word resolved all_targets some_targets all_resolved value_words
-auipc pc w d n h0 h1 e labels place = rw (read d h0, up_small 1048575 n h1, e) refl
+unfolding statement_named mnemonic mnemonics statement_in operands_of commas between_from all_filled filled register_in number_in memory_in csr_in target_in checked size_of location_after words_of plain_word instruction branch_word jal_word resolved all_targets some_targets all_resolved value_words
+auipc pc w d n h0 h1 e labels location = rw (read d h0, up_small 1048575 n h1, e) refl
 
 gt : (pc w d : ℕ) → d < 32 → encoded (Gt d) ≡ w → Gives pc w (codes "gt") (register d ∷ [])
-unfolding statement_named mnemonic mnemonics statement_in operands_of commas between_from all_filled filled register_in number_in memory_in csr_in target_in checked size_of place_after words_of plain_word instruction branch_word jal_word resolved all_targets some_targets all_resolved value_words
-gt pc w d h0 e labels place = rw (read d h0, e) refl
+unfolding statement_named mnemonic mnemonics statement_in operands_of commas between_from all_filled filled register_in number_in memory_in csr_in target_in checked size_of location_after words_of plain_word instruction branch_word jal_word resolved all_targets some_targets all_resolved value_words
+gt pc w d h0 e labels location = rw (read d h0, e) refl
 
 gth : (pc w d : ℕ) → d < 32 → encoded (Gth d) ≡ w → Gives pc w (codes "gth") (register d ∷ [])
-unfolding statement_named mnemonic mnemonics statement_in operands_of commas between_from all_filled filled register_in number_in memory_in csr_in target_in checked size_of place_after words_of plain_word instruction branch_word jal_word resolved all_targets some_targets all_resolved value_words
-gth pc w d h0 e labels place = rw (read d h0, e) refl
+unfolding statement_named mnemonic mnemonics statement_in operands_of commas between_from all_filled filled register_in number_in memory_in csr_in target_in checked size_of location_after words_of plain_word instruction branch_word jal_word resolved all_targets some_targets all_resolved value_words
+gth pc w d h0 e labels location = rw (read d h0, e) refl
 
 du : (pc w a b : ℕ) → a < 32 → b < 32 → encoded (Du a b) ≡ w → Gives pc w (codes "du") (two_registers a b)
-unfolding statement_named mnemonic mnemonics statement_in operands_of commas between_from all_filled filled register_in number_in memory_in csr_in target_in checked size_of place_after words_of plain_word instruction branch_word jal_word resolved all_targets some_targets all_resolved value_words
-du pc w a b h0 h1 e labels place = rw (read a h0, read b h1, e) refl
+unfolding statement_named mnemonic mnemonics statement_in operands_of commas between_from all_filled filled register_in number_in memory_in csr_in target_in checked size_of location_after words_of plain_word instruction branch_word jal_word resolved all_targets some_targets all_resolved value_words
+du pc w a b h0 h1 e labels location = rw (read a h0, read b h1, e) refl
 
 wu : (pc w a b : ℕ) → a < 32 → b < 32 → encoded (Wu a b) ≡ w → Gives pc w (codes "wu") (two_registers a b)
-unfolding statement_named mnemonic mnemonics statement_in operands_of commas between_from all_filled filled register_in number_in memory_in csr_in target_in checked size_of place_after words_of plain_word instruction branch_word jal_word resolved all_targets some_targets all_resolved value_words
-wu pc w a b h0 h1 e labels place = rw (read a h0, read b h1, e) refl
+unfolding statement_named mnemonic mnemonics statement_in operands_of commas between_from all_filled filled register_in number_in memory_in csr_in target_in checked size_of location_after words_of plain_word instruction branch_word jal_word resolved all_targets some_targets all_resolved value_words
+wu pc w a b h0 h1 e labels location = rw (read a h0, read b h1, e) refl
 
 ee : (pc w a b : ℕ) → a < 32 → b < 32 → encoded (Ee a b) ≡ w → Gives pc w (codes "ee") (two_registers a b)
-unfolding statement_named mnemonic mnemonics statement_in operands_of commas between_from all_filled filled register_in number_in memory_in csr_in target_in checked size_of place_after words_of plain_word instruction branch_word jal_word resolved all_targets some_targets all_resolved value_words
-ee pc w a b h0 h1 e labels place = rw (read a h0, read b h1, e) refl
+unfolding statement_named mnemonic mnemonics statement_in operands_of commas between_from all_filled filled register_in number_in memory_in csr_in target_in checked size_of location_after words_of plain_word instruction branch_word jal_word resolved all_targets some_targets all_resolved value_words
+ee pc w a b h0 h1 e labels location = rw (read a h0, read b h1, e) refl
 
 de : (pc w : ℕ) → encoded (De) ≡ w → Gives pc w (codes "de") []
-unfolding statement_named mnemonic mnemonics statement_in operands_of commas between_from all_filled filled register_in number_in memory_in csr_in target_in checked size_of place_after words_of plain_word instruction branch_word jal_word resolved all_targets some_targets all_resolved value_words
-de pc w e labels place = rw (e) refl
+unfolding statement_named mnemonic mnemonics statement_in operands_of commas between_from all_filled filled register_in number_in memory_in csr_in target_in checked size_of location_after words_of plain_word instruction branch_word jal_word resolved all_targets some_targets all_resolved value_words
+de pc w e labels location = rw (e) refl
 
 ecall : (pc w : ℕ) → encoded (Ecall) ≡ w → Gives pc w (codes "ecall") []
-unfolding statement_named mnemonic mnemonics statement_in operands_of commas between_from all_filled filled register_in number_in memory_in csr_in target_in checked size_of place_after words_of plain_word instruction branch_word jal_word resolved all_targets some_targets all_resolved value_words
-ecall pc w e labels place = rw (e) refl
+unfolding statement_named mnemonic mnemonics statement_in operands_of commas between_from all_filled filled register_in number_in memory_in csr_in target_in checked size_of location_after words_of plain_word instruction branch_word jal_word resolved all_targets some_targets all_resolved value_words
+ecall pc w e labels location = rw (e) refl
 
 ebreak : (pc w : ℕ) → encoded (Ebreak) ≡ w → Gives pc w (codes "ebreak") []
-unfolding statement_named mnemonic mnemonics statement_in operands_of commas between_from all_filled filled register_in number_in memory_in csr_in target_in checked size_of place_after words_of plain_word instruction branch_word jal_word resolved all_targets some_targets all_resolved value_words
-ebreak pc w e labels place = rw (e) refl
+unfolding statement_named mnemonic mnemonics statement_in operands_of commas between_from all_filled filled register_in number_in memory_in csr_in target_in checked size_of location_after words_of plain_word instruction branch_word jal_word resolved all_targets some_targets all_resolved value_words
+ebreak pc w e labels location = rw (e) refl
 
 mret : (pc w : ℕ) → encoded (Mret) ≡ w → Gives pc w (codes "mret") []
-unfolding statement_named mnemonic mnemonics statement_in operands_of commas between_from all_filled filled register_in number_in memory_in csr_in target_in checked size_of place_after words_of plain_word instruction branch_word jal_word resolved all_targets some_targets all_resolved value_words
-mret pc w e labels place = rw (e) refl
+unfolding statement_named mnemonic mnemonics statement_in operands_of commas between_from all_filled filled register_in number_in memory_in csr_in target_in checked size_of location_after words_of plain_word instruction branch_word jal_word resolved all_targets some_targets all_resolved value_words
+mret pc w e labels location = rw (e) refl
 
 fence : (pc : ℕ) → Gives pc 0x0ff0000f (codes "fence") []
-unfolding statement_named mnemonic mnemonics statement_in operands_of commas between_from all_filled filled register_in number_in memory_in csr_in target_in checked size_of place_after words_of plain_word instruction branch_word jal_word resolved all_targets some_targets all_resolved value_words encoded
-fence pc labels place = refl
+unfolding statement_named mnemonic mnemonics statement_in operands_of commas between_from all_filled filled register_in number_in memory_in csr_in target_in checked size_of location_after words_of plain_word instruction branch_word jal_word resolved all_targets some_targets all_resolved value_words encoded
+fence pc labels location = refl
 
 fence_i : (pc : ℕ) → Gives pc 0x0000100f (codes "fence.i") []
-unfolding statement_named mnemonic mnemonics statement_in operands_of commas between_from all_filled filled register_in number_in memory_in csr_in target_in checked size_of place_after words_of plain_word instruction branch_word jal_word resolved all_targets some_targets all_resolved value_words encoded
-fence_i pc labels place = refl
+unfolding statement_named mnemonic mnemonics statement_in operands_of commas between_from all_filled filled register_in number_in memory_in csr_in target_in checked size_of location_after words_of plain_word instruction branch_word jal_word resolved all_targets some_targets all_resolved value_words encoded
+fence_i pc labels location = refl
 
 csr_by_name : (op : CsrKind) (pc w d a n : ℕ) (x : Text) → d < 32 → csr x ≡ Some n → n ≤ 4095 → a < 32 → encoded (CsrIns op d n a) ≡ w → Gives pc w (csr_name op) (register d ∷ comma ∷ named x ∷ comma ∷ csr_source op a ∷ [])
-unfolding statement_named mnemonic mnemonics statement_in operands_of commas between_from all_filled filled register_in number_in memory_in csr_in target_in checked size_of place_after words_of plain_word instruction branch_word jal_word resolved all_targets some_targets all_resolved value_words
-csr_by_name Rw pc w d a n x h0 h1 h2 h3 e labels place = rw (read d h0, h1, read a h3, up_small 4095 n h2, e) refl
-csr_by_name Rs pc w d a n x h0 h1 h2 h3 e labels place = rw (read d h0, h1, read a h3, up_small 4095 n h2, e) refl
-csr_by_name Rc pc w d a n x h0 h1 h2 h3 e labels place = rw (read d h0, h1, read a h3, up_small 4095 n h2, e) refl
-csr_by_name Rwi pc w d a n x h0 h1 h2 h3 e labels place = let h4 : a ≤ 31 = omega arith in rw (read d h0, h1, up_small 4095 n h2, up_small 31 a h4, e) refl
-csr_by_name Rsi pc w d a n x h0 h1 h2 h3 e labels place = let h4 : a ≤ 31 = omega arith in rw (read d h0, h1, up_small 4095 n h2, up_small 31 a h4, e) refl
-csr_by_name Rci pc w d a n x h0 h1 h2 h3 e labels place = let h4 : a ≤ 31 = omega arith in rw (read d h0, h1, up_small 4095 n h2, up_small 31 a h4, e) refl
+unfolding statement_named mnemonic mnemonics statement_in operands_of commas between_from all_filled filled register_in number_in memory_in csr_in target_in checked size_of location_after words_of plain_word instruction branch_word jal_word resolved all_targets some_targets all_resolved value_words
+csr_by_name Rw pc w d a n x h0 h1 h2 h3 e labels location = rw (read d h0, h1, read a h3, up_small 4095 n h2, e) refl
+csr_by_name Rs pc w d a n x h0 h1 h2 h3 e labels location = rw (read d h0, h1, read a h3, up_small 4095 n h2, e) refl
+csr_by_name Rc pc w d a n x h0 h1 h2 h3 e labels location = rw (read d h0, h1, read a h3, up_small 4095 n h2, e) refl
+csr_by_name Rwi pc w d a n x h0 h1 h2 h3 e labels location = let h4 : a ≤ 31 = omega arith in rw (read d h0, h1, up_small 4095 n h2, up_small 31 a h4, e) refl
+csr_by_name Rsi pc w d a n x h0 h1 h2 h3 e labels location = let h4 : a ≤ 31 = omega arith in rw (read d h0, h1, up_small 4095 n h2, up_small 31 a h4, e) refl
+csr_by_name Rci pc w d a n x h0 h1 h2 h3 e labels location = let h4 : a ≤ 31 = omega arith in rw (read d h0, h1, up_small 4095 n h2, up_small 31 a h4, e) refl
 
 csr_by_number : (op : CsrKind) (pc w d a n : ℕ) → d < 32 → n ≤ 4095 → a < 32 → encoded (CsrIns op d n a) ≡ w → Gives pc w (csr_name op) (register d ∷ comma ∷ digits 3 n ∷ comma ∷ csr_source op a ∷ [])
-unfolding statement_named mnemonic mnemonics statement_in operands_of commas between_from all_filled filled register_in number_in memory_in csr_in target_in checked size_of place_after words_of plain_word instruction branch_word jal_word resolved all_targets some_targets all_resolved value_words
-csr_by_number Rw pc w d a n h0 h2 h3 e labels place = rw (read d h0, read a h3, up_small 4095 n h2, e) refl
-csr_by_number Rs pc w d a n h0 h2 h3 e labels place = rw (read d h0, read a h3, up_small 4095 n h2, e) refl
-csr_by_number Rc pc w d a n h0 h2 h3 e labels place = rw (read d h0, read a h3, up_small 4095 n h2, e) refl
-csr_by_number Rwi pc w d a n h0 h2 h3 e labels place = let h4 : a ≤ 31 = omega arith in rw (read d h0, up_small 4095 n h2, up_small 31 a h4, e) refl
-csr_by_number Rsi pc w d a n h0 h2 h3 e labels place = let h4 : a ≤ 31 = omega arith in rw (read d h0, up_small 4095 n h2, up_small 31 a h4, e) refl
-csr_by_number Rci pc w d a n h0 h2 h3 e labels place = let h4 : a ≤ 31 = omega arith in rw (read d h0, up_small 4095 n h2, up_small 31 a h4, e) refl
+unfolding statement_named mnemonic mnemonics statement_in operands_of commas between_from all_filled filled register_in number_in memory_in csr_in target_in checked size_of location_after words_of plain_word instruction branch_word jal_word resolved all_targets some_targets all_resolved value_words
+csr_by_number Rw pc w d a n h0 h2 h3 e labels location = rw (read d h0, read a h3, up_small 4095 n h2, e) refl
+csr_by_number Rs pc w d a n h0 h2 h3 e labels location = rw (read d h0, read a h3, up_small 4095 n h2, e) refl
+csr_by_number Rc pc w d a n h0 h2 h3 e labels location = rw (read d h0, read a h3, up_small 4095 n h2, e) refl
+csr_by_number Rwi pc w d a n h0 h2 h3 e labels location = let h4 : a ≤ 31 = omega arith in rw (read d h0, up_small 4095 n h2, up_small 31 a h4, e) refl
+csr_by_number Rsi pc w d a n h0 h2 h3 e labels location = let h4 : a ≤ 31 = omega arith in rw (read d h0, up_small 4095 n h2, up_small 31 a h4, e) refl
+csr_by_number Rci pc w d a n h0 h2 h3 e labels location = let h4 : a ≤ 31 = omega arith in rw (read d h0, up_small 4095 n h2, up_small 31 a h4, e) refl
 
 target_small : (pc : ℕ) (off : ℤ) → target pc off < 2 ^ 32
 target_small pc off = omega arith
 
 branch : (op : BranchOp) (pc w a b to : ℕ) (off : ℤ) → a < 32 → b < 32 → to < 2 ^ 32 → jump (neg_ℤ (pos 4096)) (pos 4094) pc to ≡ Ok off → encoded (Branch op a b off) ≡ w → Gives pc w (branch_name op) (register a ∷ comma ∷ register b ∷ comma ∷ digits 8 to ∷ [])
-unfolding statement_named mnemonic mnemonics statement_in operands_of commas between_from all_filled filled register_in number_in memory_in csr_in target_in checked size_of place_after words_of plain_word instruction branch_word jal_word resolved all_targets some_targets all_resolved value_words
-branch Beq pc w a b to off h0 h1 h2 h3 e labels place = let whole : to % 2 ^ 32 ≡ to = mod-eq_of_lt h2 in rw (read a h0, read b h1, whole, h3, e) refl
-branch Bne pc w a b to off h0 h1 h2 h3 e labels place = let whole : to % 2 ^ 32 ≡ to = mod-eq_of_lt h2 in rw (read a h0, read b h1, whole, h3, e) refl
-branch Blt pc w a b to off h0 h1 h2 h3 e labels place = let whole : to % 2 ^ 32 ≡ to = mod-eq_of_lt h2 in rw (read a h0, read b h1, whole, h3, e) refl
-branch Bge pc w a b to off h0 h1 h2 h3 e labels place = let whole : to % 2 ^ 32 ≡ to = mod-eq_of_lt h2 in rw (read a h0, read b h1, whole, h3, e) refl
-branch Bltu pc w a b to off h0 h1 h2 h3 e labels place = let whole : to % 2 ^ 32 ≡ to = mod-eq_of_lt h2 in rw (read a h0, read b h1, whole, h3, e) refl
-branch Bgeu pc w a b to off h0 h1 h2 h3 e labels place = let whole : to % 2 ^ 32 ≡ to = mod-eq_of_lt h2 in rw (read a h0, read b h1, whole, h3, e) refl
+unfolding statement_named mnemonic mnemonics statement_in operands_of commas between_from all_filled filled register_in number_in memory_in csr_in target_in checked size_of location_after words_of plain_word instruction branch_word jal_word resolved all_targets some_targets all_resolved value_words
+branch Beq pc w a b to off h0 h1 h2 h3 e labels location = let whole : to % 2 ^ 32 ≡ to = mod-eq_of_lt h2 in rw (read a h0, read b h1, whole, h3, e) refl
+branch Bne pc w a b to off h0 h1 h2 h3 e labels location = let whole : to % 2 ^ 32 ≡ to = mod-eq_of_lt h2 in rw (read a h0, read b h1, whole, h3, e) refl
+branch Blt pc w a b to off h0 h1 h2 h3 e labels location = let whole : to % 2 ^ 32 ≡ to = mod-eq_of_lt h2 in rw (read a h0, read b h1, whole, h3, e) refl
+branch Bge pc w a b to off h0 h1 h2 h3 e labels location = let whole : to % 2 ^ 32 ≡ to = mod-eq_of_lt h2 in rw (read a h0, read b h1, whole, h3, e) refl
+branch Bltu pc w a b to off h0 h1 h2 h3 e labels location = let whole : to % 2 ^ 32 ≡ to = mod-eq_of_lt h2 in rw (read a h0, read b h1, whole, h3, e) refl
+branch Bgeu pc w a b to off h0 h1 h2 h3 e labels location = let whole : to % 2 ^ 32 ≡ to = mod-eq_of_lt h2 in rw (read a h0, read b h1, whole, h3, e) refl
 
 jal : (pc w d to : ℕ) (off : ℤ) → d < 32 → to < 2 ^ 32 → jump (neg_ℤ (pos 1048576)) (pos 1048574) pc to ≡ Ok off → encoded (Jal d off) ≡ w → Gives pc w (codes "jal") (register d ∷ comma ∷ digits 8 to ∷ [])
-unfolding statement_named mnemonic mnemonics statement_in operands_of commas between_from all_filled filled register_in number_in memory_in csr_in target_in checked size_of place_after words_of plain_word instruction branch_word jal_word resolved all_targets some_targets all_resolved value_words
-jal pc w d to off h0 h2 h3 e labels place = let whole : to % 2 ^ 32 ≡ to = mod-eq_of_lt h2 in rw (read d h0, whole, h3, e) refl
+unfolding statement_named mnemonic mnemonics statement_in operands_of commas between_from all_filled filled register_in number_in memory_in csr_in target_in checked size_of location_after words_of plain_word instruction branch_word jal_word resolved all_targets some_targets all_resolved value_words
+jal pc w d to off h0 h2 h3 e labels location = let whole : to % 2 ^ 32 ≡ to = mod-eq_of_lt h2 in rw (read d h0, whole, h3, e) refl
 
 word : (pc w : ℕ) → w < 2 ^ 32 → Gives pc w (codes ".word") (digits 8 w ∷ [])
-unfolding statement_named mnemonic mnemonics statement_in operands_of commas between_from all_filled filled register_in number_in memory_in csr_in target_in checked size_of place_after words_of plain_word instruction branch_word jal_word resolved all_targets some_targets all_resolved value_words
-word pc w h labels place =
+unfolding statement_named mnemonic mnemonics statement_in operands_of commas between_from all_filled filled register_in number_in memory_in csr_in target_in checked size_of location_after words_of plain_word instruction branch_word jal_word resolved all_targets some_targets all_resolved value_words
+word pc w h labels location =
     let whole : w % 2 ^ 32 ≡ w = mod-eq_of_lt h in
     let low : le_z (neg_ℤ (pos (2 ^ 31))) (pos w) ≡ true = grind (arith, ints) in
     let high : le_z (pos w) (pos (2 ^ 32 - 1)) ≡ true = grind (arith, ints) in

@@ -16,7 +16,7 @@ pub data Part : Type 0 where
 abbrev pub part_text : Part → Text
 part_text (named x) = x
 part_text (counted n) = decimal n
-part_text (digits places n) = codes "0x" ++ hex places n
+part_text (digits width n) = codes "0x" ++ hex width n
 part_text comma = codes ", "
 part_text opening = codes "("
 part_text closing = codes ")"

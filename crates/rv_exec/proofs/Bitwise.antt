@@ -4,7 +4,7 @@ use Rattle.std.proofs.lemmas.Nat.{xor_block, or_block, and_block, mod-pow-add, m
 use Rattle.std.proofs.Math.Nat.{mod-eq_of_lt, mod-one}
 use Rattle.rv_exec.specs.Words.{bitwise, bit}
 
--- an operation on numbers is a function of two bits at each place
+-- an operation on numbers is a function of two bits at each index
 pub record IsBitwise (operation f : ℕ → ℕ → ℕ) : Type 0 where
   pub none : operation 0 0 ≡ 0
   pub bits : (x y : ℕ) → x < 2 → y < 2 → operation x y ≡ f x y

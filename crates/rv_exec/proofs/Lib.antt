@@ -1,3 +1,3 @@
 pub mod Bitwise
-pub mod Places
+pub mod ByteLanes
 pub mod Remainder

@@ -50,8 +50,8 @@ loaded Lw address w = bytes_at 4 address w
 loaded Lbu address w = bytes_at 1 address w
 loaded Lhu address w = bytes_at 2 address w
 
--- so many low bytes of a value in their places in the aligned word, with 0 in the others, and the
--- mask of these places
+-- so many low bytes of a value in their lanes in the aligned word, with 0 in the others, and the
+-- mask of these lanes
 unfoldable pub lanes_at : ℕ → ℕ → ℕ → Lanes
 lanes_at size address value = record {
   mask = (2 ^ size - 1) * 2 ^ (address % 4);
@@ -62,13 +62,13 @@ lanes_at size address value = record {
 abbrev pub lanes : StoreOp → ℕ → ℕ → Lanes
 lanes op address b = lanes_at (store_size op) address b
 
--- the byte at a place of a word, 0 to 3
+-- the byte at a lane of a word, 0 to 3
 abbrev pub byte : ℕ → ℕ → ℕ
-byte w place = w / 256 ^ place % 256
+byte w lane = w / 256 ^ lane % 256
 
--- the byte at a place once lanes are written: theirs where the mask names it, else the old one
+-- the byte at a lane once lanes are written: theirs where the mask names it, else the old one
 abbrev pub merged_byte : ℕ → Lanes → ℕ → ℕ
-merged_byte old l place = if bit l.mask place == 1 then byte l.value place else byte old place
+merged_byte old l lane = if bit l.mask lane == 1 then byte l.value lane else byte old lane
 
 -- a word once lanes are written
 unfoldable pub merged : ℕ → Lanes → ℕ

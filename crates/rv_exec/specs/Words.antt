@@ -23,15 +23,15 @@ below (negsuc a) (negsuc b) = nat_lt b a
 abbrev pub one_if : Bool → ℕ
 one_if b = if b then 1 else 0
 
--- the bit at a place, 0 or 1
+-- the bit at an index, 0 or 1
 abbrev pub bit : ℕ → ℕ → ℕ
-bit a place = a / 2 ^ place % 2
+bit a index = a / 2 ^ index % 2
 
--- a function of two bits, at each of the lowest places of two words: the sum of its values times
+-- a function of two bits, for each of the lowest bits of two words: the sum of its values times
 -- the powers of two
 unfoldable pub bitwise : (ℕ → ℕ → ℕ) → ℕ → ℕ → ℕ → ℕ
 bitwise f zero a b = 0
-bitwise f (suc places) a b = bitwise f places a b + f (bit a places) (bit b places) * 2 ^ places
+bitwise f (suc width) a b = bitwise f width a b + f (bit a width) (bit b width) * 2 ^ width
 
 -- a quotient rounded down: the greatest whole number not above it
 abbrev pub floor_div : ℤ → ℕ → ℤ

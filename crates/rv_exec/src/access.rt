@@ -8,7 +8,7 @@ use crate::outcome::Lanes;
 use rv_decode::{LoadOp, StoreOp};
 
 /// The number of bytes that a load takes: 1, 2 or 4.
-pub fn size_of_load(op: LoadOp) -> u8
+pub fn load_size(op: LoadOp) -> u8
     ensures size { result ≡ load_size op }
     ensures width { IsWidth result }
 {
@@ -20,7 +20,7 @@ pub fn size_of_load(op: LoadOp) -> u8
 }
 
 /// The number of bytes that a store writes: 1, 2 or 4.
-pub fn size_of_store(op: StoreOp) -> u8
+pub fn store_size(op: StoreOp) -> u8
     ensures size { result ≡ store_size op }
     ensures width { IsWidth result }
 {
@@ -50,8 +50,8 @@ pub fn load_value(op: LoadOp, address: u32, word: u32) -> u32
     }
 }
 
-/// The bytes of an aligned word from the place of an address on.
-#[tactic(auto, using(crate::proofs::Places::place_power))]
+/// The bytes of an aligned word from the lane of an address on.
+#[tactic(auto, using(crate::proofs::ByteLanes::lane_power))]
 fn bytes_from(word: u32, address: u32) -> u32
     ensures { result ≡ word / 256 ^ (address % 4) }
 {
@@ -66,15 +66,15 @@ pub fn store_lanes(op: StoreOp, address: u32, b: u32) -> Lanes
     ensures { result ≡ lanes op address b }
 {
     match op {
-        StoreOp::Sb => placed(address, 0b0001, b & 0xff),
-        StoreOp::Sh => placed(address, 0b0011, b & 0xffff),
-        StoreOp::Sw => placed(address, 0b1111, b),
+        StoreOp::Sb => in_lanes(address, 0b0001, b & 0xff),
+        StoreOp::Sh => in_lanes(address, 0b0011, b & 0xffff),
+        StoreOp::Sw => in_lanes(address, 0b1111, b),
     }
 }
 
-/// The lanes of the lowest bytes of a word, moved to the place of an address.
-#[tactic(auto, using(crate::proofs::Places::place_power))]
-fn placed(address: u32, mask: u8, value: u32) -> Lanes
+/// The lanes of the lowest bytes of a word, moved to the lane of an address.
+#[tactic(auto, using(crate::proofs::ByteLanes::lane_power))]
+fn in_lanes(address: u32, mask: u8, value: u32) -> Lanes
     requires mask { mask * 2 ^ (address % 4) < 2 ^ 8 }
     requires value { value * 256 ^ (address % 4) < 2 ^ 32 }
     ensures { result ≡ record {
@@ -82,9 +82,9 @@ fn placed(address: u32, mask: u8, value: u32) -> Lanes
       value = value * 256 ^ (address % 4);
     } }
 {
-    let place = address % 4;
+    let lane = address % 4;
     Lanes {
-        mask: mask << place,
-        value: value << (place * 8),
+        mask: mask << lane,
+        value: value << (lane * 8),
     }
 }

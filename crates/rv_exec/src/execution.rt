@@ -4,7 +4,7 @@ ghost use Rattle.std.specs.Prelude.{◌≡◌, None};
 ghost use Rattle.rv_exec.specs.Access.{IsAligned};
 ghost use Rattle.rv_exec.specs.Result.{is_taken, offset, result_of};
 
-use crate::access::{size_of_load, size_of_store};
+use crate::access::{load_size, store_size};
 use crate::alu::{compute, compute_with, shift};
 use crate::muldiv::multiply;
 use crate::outcome::Outcome;
@@ -28,8 +28,8 @@ pub fn execute(i: &Ins, pc: u32, a: u32, b: u32) -> Outcome
             Outcome::of_jump(pc.wrapping_add(4), sum - sum % 2)
         }
         Ins::Branch { op, off, .. } => Outcome::of_branch(takes(op, a, b), add_offset(pc, off)),
-        Ins::Load { op, imm, .. } => Outcome::of_load(add_offset(a, imm), size_of_load(op)),
-        Ins::Store { op, imm, .. } => Outcome::of_store(add_offset(a, imm), size_of_store(op)),
+        Ins::Load { op, imm, .. } => Outcome::of_load(add_offset(a, imm), load_size(op)),
+        Ins::Store { op, imm, .. } => Outcome::of_store(add_offset(a, imm), store_size(op)),
         Ins::OpImm { op, imm, .. } => Outcome::of_value(compute_with(op, a, imm)),
         Ins::Shift { op, amount, .. } => Outcome::of_value(shift(op, a, amount)),
         Ins::Op { op, .. } => Outcome::of_value(compute(op, a, b)),

@@ -11,7 +11,7 @@ use Rattle.fp_setup.specs.SetupOfTables.{the_threads}
 use Rattle.rv_exec.specs.declared.outcome.Event.{Event}
 use Rattle.trace_print.specs.Text.{line_text, text}
 use Rattle.world_model.specs.World.{Start, recent, world, events}
-use Rattle.pipe_model.specs.Relation.{of_hart, event_in, turn_at}
+use Rattle.pipe_model.specs.Relation.{of_thread, event_in, turn_at}
 use Rattle.pipe_model.specs.PipelineLaws.{EventsGrow}
 use Rattle.machine.specs.WorldRelation.{StandsFor, Ticks, start_beside}
 use Rattle.fp_image.specs.declared.parts.Segment.{Segment}
@@ -60,15 +60,15 @@ one_changed F G v a (suc n) (suc j) others this =
     one_changed F G v (a + 1) n j (λ k ne. others k (λ e. ne (e ∙ sym moved))) (λ below. ap G moved ∙ this (omega arith)) in
     ap (λ x. x ∷ map G (range_with_len (a + 1) n)) head ∙ ap (λ xs. F a ∷ xs) rest
 
-of_other : (k : ℕ) (e : Event) → k ≢ e.thread → of_hart k (Some e) ≡ []
+of_other : (k : ℕ) (e : Event) → k ≢ e.thread → of_thread k (Some e) ≡ []
 of_other k e other =
     elim (eqb_tells e.thread k) [ inl is ↦ absurd (other (sym is.1)) | inr not_is ↦ ap (λ (b : Bool). if b then e ∷ [] else []) not_is.0 ]
 
-of_same : (e : Event) → of_hart e.thread (Some e) ≡ e ∷ []
+of_same : (e : Event) → of_thread e.thread (Some e) ≡ e ∷ []
 of_same e = let is : (e.thread == e.thread) ≡ true = eq-eqb e.thread e.thread refl in ap (λ (b : Bool). if b then e ∷ [] else []) is
 
 -- the tallies after a cycle, by its event
-counted_by : (old new : ℕ → List Event) (event : Option Event) → ((k : ℕ) → new k ≡ old k ++ of_hart k event) →
+counted_by : (old new : ℕ → List Event) (event : Option Event) → ((k : ℕ) → new k ≡ old k ++ of_thread k event) →
     map (λ k. tally_of (new k)) (range_with_len 0 8) ≡ counted (map (λ k. tally_of (old k)) (range_with_len 0 8)) event
 counted_by old new None grows =
     let v : Tally = tally_of (new 8) in
@@ -84,7 +84,7 @@ counted_by old new (Some e) grows =
 
 next_tallies : EventsGrow → (s : Start) (c : ℕ) (event : Option Event) → event ≡ event_in (c - 4) (turn_at s c 3) → tallies_of s (suc c) ≡ counted (tallies_of s c) event
 next_tallies grows s c event is =
-    counted_by (λ k. events s k c) (λ k. events s k (suc c)) event (λ k. grows s k c ∙ ap (λ e. events s k c ++ of_hart k e) (sym is))
+    counted_by (λ k. events s k c) (λ k. events s k (suc c)) event (λ k. grows s k c ∙ ap (λ e. events s k c ++ of_thread k e) (sym is))
 
 no_events : (s : Start) (i : ℕ) → events s i 0 ≡ []
 unfolding world recent

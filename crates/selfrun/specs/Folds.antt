@@ -21,9 +21,9 @@ ArePairs pairs = (byte : ℕ) → byte < 256 → slice_index_or pairs byte 0 ≡
 abbrev pub with_pair : ℕ → ℕ → ℕ
 with_pair h byte = with_byte (with_byte h (hex_digit (byte / 16))) (hex_digit (byte % 16))
 
--- what stands in some places before the last digit of a number, by the tenth of the number
+-- what stands in some columns before the last digit of a number, by the tenth of the number
 unfoldable pub upper_text : ℕ → ℕ → List ℕ
-upper_text places tens = if tens == 0 then replicate places 32 else right places tens
+upper_text width tens = if tens == 0 then replicate width 32 else right width tens
 
 -- the line of an event with something else in the place of the effect and the line feed
 abbrev pub line_with : Event → List ℕ → List ℕ

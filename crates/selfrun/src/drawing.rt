@@ -34,7 +34,7 @@ fn push_drawn(bytes: &mut Vec<u8>, first: u32) -> Result<u32, AllocError>
     ensures last { IfOk result (λ x. x ≡ drawn first 124) }
 {
     let mut x = first;
-    for _place in 0..DRAWS {
+    for _draw in 0..DRAWS {
         x = next_draw(x);
         push_ins(bytes, &drawn_ins(x))?;
     }

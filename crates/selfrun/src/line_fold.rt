@@ -67,25 +67,25 @@ impl Piece {
 }
 
 /// Spaces.
-fn blanks(places: usize) -> Piece
-    ensures { IsPiece result (replicate places 32) }
+fn blanks(width: usize) -> Piece
+    ensures { IsPiece result (replicate width 32) }
 {
     let mut piece = Piece::EMPTY;
-    for _place in 0..places {
+    for _column in 0..width {
         piece = piece.then(b' ');
     }
     piece
 }
 
-/// What stands before the last digit of a number that is right in some places, by the tenth of the
-/// number and how many places those are.
-fn upper(places: usize, tens: u64) -> Piece
-    ensures { IsPiece result (upper_text places tens) }
+/// What stands before the last digit of a number that is right in some columns, by the tenth of the
+/// number and how many columns those are.
+fn upper(width: usize, tens: u64) -> Piece
+    ensures { IsPiece result (upper_text width tens) }
 {
     if tens == 0 {
-        return blanks(places);
+        return blanks(width);
     }
-    upper(places.saturating_sub(1), tens / 10).then(b'0' + (tens % 10) as u8)
+    upper(width.saturating_sub(1), tens / 10).then(b'0' + (tens % 10) as u8)
 }
 
 /// A hexadecimal digit.
@@ -187,7 +187,7 @@ impl LineFolder {
         with_byte(self.word(h, event.word), b' ')
     }
 
-    /// A fold with a cycle right in ten places.
+    /// A fold with a cycle right in ten columns.
     fn cycle(&mut self, h: u32, cycle: u64) -> u32
         ensures { result ≡ folded h (right 10 cycle) }
     {

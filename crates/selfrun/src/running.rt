@@ -6,7 +6,7 @@ ghost use Rattle.fp_io.specs.Causes.{Rose};
 ghost use Rattle.fp_io.specs.Content.{AppendsFront};
 ghost use Rattle.fp_ports.specs.Rows.{Row, rows_of};
 ghost use Rattle.setup_model.specs.Start.{no_ports};
-ghost use Rattle.pipeline_core.specs.LatchFacts.{IsEventShowable};
+ghost use Rattle.pipeline_core.specs.StageFacts.{IsEventShowable};
 ghost use Rattle.world_model.specs.World.{Start};
 ghost use Rattle.machine.specs.WorldRelation.{StandsFor, start_beside};
 ghost use Rattle.selfrun.specs.Drawn.{own_setup, programs};

@@ -14,12 +14,12 @@ use Rattle.slot_scheduler.specs.Picking.{after_last, is_awake, takes_donated}
 use Rattle.slot_scheduler.specs.declared.picking.Sched.{Sched}
 use Rattle.slot_scheduler.proofs.Masks.{soft_below, thread_bit}
 
--- the places of a mask's bits, and the threads that stand so far after the last one
-pub places : ℕ → List ℕ
-places left = filter (λ place. left / 2 ^ place % 2 == 1) (0 ∷ 1 ∷ 2 ∷ 3 ∷ 4 ∷ 5 ∷ 6 ∷ 7 ∷ [])
+-- the offsets of a mask's bits, and the threads that stand so far after the last one
+pub offsets : ℕ → List ℕ
+offsets left = filter (λ offset. left / 2 ^ offset % 2 == 1) (0 ∷ 1 ∷ 2 ∷ 3 ∷ 4 ∷ 5 ∷ 6 ∷ 7 ∷ [])
 
 pub threads_in : ℕ → ℕ → List ℕ
-threads_in last left = map (λ place. (last + 1 + place) % 8) (places left)
+threads_in last left = map (λ offset. (last + 1 + offset) % 8) (offsets left)
 
 abbrev pub in_mask : ℕ → ℕ → Bool
 in_mask soft thread = soft / 2 ^ thread % 2 == 1
@@ -38,7 +38,7 @@ abbrev turned : ℕ → ℕ → Bool
 turned last soft = pointwise nat_eq (threads_in last (soft * 257 / 2 ^ (last + 1) % 256)) (filter (in_mask soft) (after_last last))
 
 all_turned : list_all (λ last. list_all (turned last) (range_with_len 0 256)) (range_with_len 0 8) ≡ true
-unfolding after_last threads_in places
+unfolding after_last threads_in offsets
 all_turned = refl
 
 pub threads-turned : (last soft : ℕ) → last < 8 → soft < 256 → threads_in last (soft * 257 / 2 ^ (last + 1) % 256) ≡ filter (in_mask soft) (after_last last)
@@ -46,19 +46,19 @@ threads-turned last soft few small =
     let row = tried (λ last. list_all (turned last) (range_with_len 0 256)) 0 8 all_turned last (omega arith) few in
     same_text _ _ (sym (tried (turned last) 0 256 row soft (omega arith) small))
 
--- the lowest bit is the first place, and the others are the rest
+-- the lowest bit is the first offset, and the others are the rest
 abbrev splits : ℕ → Bool
-splits left = pointwise nat_eq (places left) (trailing_zeros w32 left ∷ places (bit_and left (left - 1)))
+splits left = pointwise nat_eq (offsets left) (trailing_zeros w32 left ∷ offsets (bit_and left (left - 1)))
 
 all_split : list_all splits (range_with_len 1 255) ≡ true
-unfolding places count_trailing_zeros
+unfolding offsets count_trailing_zeros
 all_split = refl
 
 all_fewer : list_all (λ left. nat_lt (bit_and left (left - 1)) left) (range_with_len 1 255) ≡ true
 all_fewer = refl
 
-pub places-split : (left : ℕ) → 0 < left → left < 256 → places left ≡ trailing_zeros w32 left ∷ places (bit_and left (left - 1))
-places-split left some small =
+pub offsets-split : (left : ℕ) → 0 < left → left < 256 → offsets left ≡ trailing_zeros w32 left ∷ offsets (bit_and left (left - 1))
+offsets-split left some small =
     same_text _ _ (sym (tried splits 1 255 all_split left some small))
 
 -- what is found among those that pass one test and another
@@ -87,7 +87,7 @@ find-turned takes awake last soft few small told =
 -- the thread of the lowest bit is the first that is tried
 pub threads-split : (last left : ℕ) → 0 < left → left < 256 → threads_in last left ≡ (last + 1 + trailing_zeros w32 left) % 8 ∷ threads_in last (bit_and left (left - 1))
 unfolding threads_in
-threads-split last left some small = ap (map (λ place. (last + 1 + place) % 8)) (places-split left some small)
+threads-split last left some small = ap (map (λ offset. (last + 1 + offset) % 8)) (offsets-split left some small)
 
 pub fewer : (left : ℕ) → 0 < left → left < 256 → bit_and left (left - 1) < left
 fewer left some small =
@@ -118,7 +118,7 @@ pub found-masked : (s : Sched) (now last : ℕ) → last < 8 →
 found-masked s now last few = find-turned (takes_donated s now) (slept s now) last (threads_that is_soft s.modes) few (soft_below s.modes) (takes-masked s now)
 
 none_turned : list_all (λ last. pointwise nat_eq (threads_in last (0 * 257 / 2 ^ (last + 1) % 256)) []) (range_with_len 0 8) ≡ true
-unfolding threads_in places
+unfolding threads_in offsets
 none_turned = refl
 
 -- it finds none where no thread is soft
@@ -136,5 +136,5 @@ pub found-later : (awake : ℕ → Bool) (last left : ℕ) → 0 < left → left
 found-later awake last left some small not = rw (threads-split last left some small, not) refl
 
 pub found-no_more : (awake : ℕ → Bool) (last : ℕ) → find awake (threads_in last 0) ≡ None
-unfolding threads_in places
+unfolding threads_in offsets
 found-no_more awake last = refl

@@ -22,7 +22,7 @@ takes_donated s now thread = mode_of s.modes thread == 2 && is_awake s now threa
 unfoldable pub after_last : ℕ → List ℕ
 after_last last = map (λ d. (last + d) % 8) (1 ∷ 2 ∷ 3 ∷ 4 ∷ 5 ∷ 6 ∷ 7 ∷ 8 ∷ [])
 
--- who is picked, and the new place of the search
+-- who is picked, and the new round-robin pointer
 pub record Picked : Type 0 where
   pub pick : Pick
   pub last : ℕ
@@ -35,7 +35,7 @@ found (Some thread) last = record { pick = Issue thread; last = thread }
 unfoldable pub donated : Sched → ℕ → ℕ → Picked
 donated s now last = found (find (takes_donated s now) (after_last last)) last
 
--- a thread picked by its own slot, hard or soft, doesn't move the place of the search
+-- a thread picked by its own slot, hard or soft, doesn't move the round-robin pointer
 abbrev pub pick_in : Sched → ℕ → ℕ → Turn → Picked
 pick_in s now last Nobody = record { pick = Bubble; last = last }
 pick_in s now last Soft = donated s now last
@@ -43,7 +43,7 @@ pick_in s now last (Thread thread) =
     if is_awake s now thread then record { pick = Issue thread; last = last }
     else donated s now last
 
--- the pick of a cycle, by slots, modes and sleep moments, the time, and the place of the search
+-- the pick of a cycle, by slots, modes and sleep moments, the time, and the round-robin pointer
 unfoldable pub pick : Sched → ℕ → ℕ → ℕ → Picked
 pick s cycle now last = pick_in s now last (turn s.slots cycle)
 

@@ -27,7 +27,7 @@ pub enum Pick {
     Bubble,
 }
 
-/// The place of the search for a soft thread: the one that such a search picked last, at first 7.
+/// The round-robin pointer: the soft thread that was picked last by donation, at first 7.
 #[derive(Clone, Copy, Debug)]
 pub struct Scheduler {
     last: u8,
@@ -61,7 +61,7 @@ impl Sched {
 
     // The first soft thread that is awake, of those after the last one and that one at the end.
     //
-    // Bit j of `left` is the thread j places after `first`, and each turn of the loop takes the
+    // Bit j of `left` is the thread j after `first`, and each turn of the loop takes the
     // lowest one away: so no hard thread is visited, and it ends at once where none is soft.
     fn next_soft(&self, now: u64, last: u8) -> Option<u8>
         requires { last < 8 }
@@ -86,7 +86,7 @@ impl Sched {
 }
 
 impl Scheduler {
-    /// The place from which the first search starts with thread 0.
+    /// The pointer from which the first search starts with thread 0.
     pub fn new() -> Scheduler
         ensures { result ≡ 7 }
     {
@@ -99,7 +99,7 @@ impl Scheduler {
     #[tactic(auto, unfolding(crate::specs::Picking::pick))]
     pub fn pick(&mut self, s: &Sched, cycle: u64, now: u64) -> Pick
         ensures pick { result ≡ (pick s.now cycle now self.old).pick }
-        ensures place { self.new ≡ (pick s.now cycle now self.old).last }
+        ensures pointer { self.new ≡ (pick s.now cycle now self.old).last }
         ensures thread { IsPick result }
     {
         let slot = s.slots.slot(cycle);
@@ -116,7 +116,7 @@ impl Scheduler {
     #[tactic(auto, unfolding(crate::specs::Picking::donated))]
     fn donate(&mut self, s: &Sched, now: u64) -> Pick
         ensures pick { result ≡ (donated s.now now self.old).pick }
-        ensures place { self.new ≡ (donated s.now now self.old).last }
+        ensures pointer { self.new ≡ (donated s.now now self.old).last }
         ensures thread { IsPick result }
     {
         match s.next_soft(now, self.last) {

@@ -1,4 +1,4 @@
--- The place of a cycle in its frame, by a multiplication.
+-- The position of a cycle in its frame, by a multiplication.
 use Rattle.std.proofs.Common.{◌≡◌, ◌<◌, ◌≤◌, ℕ, zero, suc, ◌*◌, ◌/◌, ◌%◌, ◌==◌, if◌then◌else◌, arith}
 use Rattle.slot_table.specs.Table.{magic_of}
 
@@ -23,14 +23,14 @@ by_7 c early = omega (arith, early)
 by_8 : (c : ℕ) → c < 2305843009213693952 → 2305843009213693952 * c % 18446744073709551616 * 8 / 18446744073709551616 ≡ c % 8
 by_8 c early = omega (arith, early)
 
-pub place_by : (len c : ℕ) → len ≤ 8 → c < 2305843009213693952 → magic_of len * c % 18446744073709551616 * len / 18446744073709551616 ≡ (if len == 0 then 0 else c % len)
-place_by zero c small early = omega arith
-place_by (suc zero) c small early = omega arith
-place_by (suc (suc zero)) c small early = by_2 c early
-place_by (suc (suc (suc zero))) c small early = by_3 c early
-place_by (suc (suc (suc (suc zero)))) c small early = by_4 c early
-place_by (suc (suc (suc (suc (suc zero))))) c small early = by_5 c early
-place_by (suc (suc (suc (suc (suc (suc zero)))))) c small early = by_6 c early
-place_by (suc (suc (suc (suc (suc (suc (suc zero))))))) c small early = by_7 c early
-place_by (suc (suc (suc (suc (suc (suc (suc (suc zero)))))))) c small early = by_8 c early
-place_by (suc (suc (suc (suc (suc (suc (suc (suc (suc k))))))))) c small early = absurd (omega (arith, small))
+pub position_by : (len c : ℕ) → len ≤ 8 → c < 2305843009213693952 → magic_of len * c % 18446744073709551616 * len / 18446744073709551616 ≡ (if len == 0 then 0 else c % len)
+position_by zero c small early = omega arith
+position_by (suc zero) c small early = omega arith
+position_by (suc (suc zero)) c small early = by_2 c early
+position_by (suc (suc (suc zero))) c small early = by_3 c early
+position_by (suc (suc (suc (suc zero)))) c small early = by_4 c early
+position_by (suc (suc (suc (suc (suc zero))))) c small early = by_5 c early
+position_by (suc (suc (suc (suc (suc (suc zero)))))) c small early = by_6 c early
+position_by (suc (suc (suc (suc (suc (suc (suc zero))))))) c small early = by_7 c early
+position_by (suc (suc (suc (suc (suc (suc (suc (suc zero)))))))) c small early = by_8 c early
+position_by (suc (suc (suc (suc (suc (suc (suc (suc (suc k))))))))) c small early = absurd (omega (arith, small))

@@ -22,9 +22,9 @@ unless_bad word (Some index) = Err (record { index = index })
 unfoldable pub table_of : ℕ → Result ℕ BadSlot
 table_of word = unless_bad word (bad_slot word)
 
--- the slots of a frame in eight places, of which those past its end are disabled
-abbrev pub in_places : List ℕ → List ℕ
-in_places slots = slots ++ replicate (8 - length slots) 15
+-- the slots of a frame in eight positions, of which those past its end are disabled
+abbrev pub in_positions : List ℕ → List ℕ
+in_positions slots = slots ++ replicate (8 - length slots) 15
 
 -- 2 ^ 64 by a length, rounded up, in 64 bits
 abbrev pub magic_of : ℕ → ℕ
@@ -32,4 +32,4 @@ magic_of len = (18446744073709551615 / max len 1 + 1) % 18446744073709551616
 
 abbrev pub laid_out : List ℕ → Frame
 laid_out slots =
-    record { slots = in_places slots; len = length slots; magic = magic_of (length slots) }
+    record { slots = in_positions slots; len = length slots; magic = magic_of (length slots) }

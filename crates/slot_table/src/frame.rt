@@ -25,12 +25,13 @@ pub struct BadSlot {
     pub index: u8,
 }
 
-/// The slots of a frame: the first `len` places have their nibbles, the others are disabled.
+/// The slots of a frame: the first `len` positions have their nibbles, the others are disabled.
 #[derive(Clone, Copy, Debug)]
 pub struct Frame {
     pub slots: [u8; 8],
     pub len: u8,
-    /// What a cycle is multiplied by for its place: 2^64 / `len`, rounded up, and 0 for one slot.
+    /// What a cycle is multiplied by for its position: 2^64 / `len`, rounded up, and 0 for one
+    /// slot.
     ///
     /// It is kept because a division by a length that isn't known takes longer than all else that
     /// a pick does, and one by each of the eight lengths needs a jump by a table.
@@ -41,11 +42,12 @@ const SOFT: u8 = 14;
 
 const DISABLED: u8 = 15;
 
-/// The first cycle for which the multiplication doesn't give the place: 2^61. No run comes so far.
+/// The first cycle for which the multiplication doesn't give the position: 2^61. No run comes so
+/// far.
 const EARLY: u64 = 0x2000_0000_0000_0000;
 
 // Whether a nibble may stand in a slot.
-fn is_accepted(nibble: u8) -> bool
+fn is_slot(nibble: u8) -> bool
     ensures { result ≡ is_slot nibble }
 {
     nibble < 8 || nibble == SOFT || nibble == DISABLED
@@ -56,7 +58,7 @@ pub fn bad_slot(slots: &[u8; 8]) -> Option<usize>
     ensures first { result ≡ position (λ nibble. not (is_slot nibble)) slots.now }
     ensures within { IfSome result (λ index. index < 8) }
 {
-    slots.iter().position(|nibble| !is_accepted(*nibble))
+    slots.iter().position(|nibble| !is_slot(*nibble))
 }
 
 /// The turn that a nibble names, of those that may stand in a slot.
@@ -70,7 +72,7 @@ pub fn turn_named(nibble: u8) -> Turn
     }
 }
 
-// What a cycle is multiplied by for its place in a frame of this length.
+// What a cycle is multiplied by for its position in a frame of this length.
 fn magic_of(len: u8) -> u64
     requires { len ≤ 8 }
     ensures { result ≡ magic_of len }
@@ -98,27 +100,27 @@ impl Frame {
         }
     }
 
-    /// The place of a cycle in the frame: its number modulo the frame's length, and 0 where that
+    /// The position of a cycle in the frame: its number modulo the frame's length, and 0 where that
     /// is 0.
-    pub fn place(&self, cycle: u64) -> u64
+    pub fn position_of(&self, cycle: u64) -> u64
         requires len { self.now.len ≤ 8 }
         requires magic { self.now.magic ≡ magic_of self.now.len }
-        ensures place { result ≡ (if self.now.len == 0 then 0 else cycle % self.now.len) }
+        ensures position { result ≡ (if self.now.len == 0 then 0 else cycle % self.now.len) }
         ensures inside { result < 8 }
     {
         if cycle < EARLY {
             let part = self.magic.wrapping_mul(cycle);
             ((u128::from(part) * u128::from(self.len)) >> 64) as u64
         } else {
-            self.late_place(cycle)
+            self.late_position_of(cycle)
         }
     }
 
-    // The place of a cycle that is too late for the multiplication.
+    // The position of a cycle that is too late for the multiplication.
     #[cold]
-    fn late_place(&self, cycle: u64) -> u64
+    fn late_position_of(&self, cycle: u64) -> u64
         requires { self.now.len ≤ 8 }
-        ensures place { result ≡ (if self.now.len == 0 then 0 else cycle % self.now.len) }
+        ensures position { result ≡ (if self.now.len == 0 then 0 else cycle % self.now.len) }
         ensures inside { result < 8 }
     {
         match self.len {

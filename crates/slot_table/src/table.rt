@@ -75,7 +75,7 @@ impl SlotTable {
         ensures slot { IsTrue (is_slot result) }
         ensures turn { turn_named result ≡ turn self.now cycle }
     {
-        self.layout.slots[self.layout.place(cycle) as usize]
+        self.layout.slots[self.layout.position_of(cycle) as usize]
     }
 
     /// Whose turn a cycle is: that of the frame's entry which has the cycle's number modulo the

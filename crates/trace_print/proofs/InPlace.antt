@@ -30,29 +30,29 @@ pub word_behind : (before : List ℕ) (w : ℕ) →
     (((before ++ hex 2 (w / 0x1000000)) ++ hex 2 (w / 0x10000 % 0x100)) ++ hex 2 (w / 0x100 % 0x100)) ++ hex 2 (w % 0x100) ≡ before ++ hex 8 w
 word_behind before w = rw (hex_by_bytes w) (simp append_assoc)
 
--- the upper and the lower places of a number with five to ten digits
+-- the upper and the lower columns of a number with five to ten digits
 right-parts : (n : ℕ) → 10000 ≤ n → n < 10 ^ 10 → right 10 n ≡ right 6 (n / 10000) ++ (two_digits (n % 10000 / 100) ++ two_digits (n % 10000 % 100))
 unfolding right two_digits
 right-parts n low high =
     let digits = decimal_four n low (omega arith) in
     let long = length_four n low (omega arith) in
-    let places : 10 - length (decimal n) ≡ 6 - length (decimal (n / 10000)) = omega (arith, long) in
-    rw (places, digits) (sym (append_assoc (replicate (6 - length (decimal (n / 10000))) 32) (decimal (n / 10000)) _))
+    let width : 10 - length (decimal n) ≡ 6 - length (decimal (n / 10000)) = omega (arith, long) in
+    rw (width, digits) (sym (append_assoc (replicate (6 - length (decimal (n / 10000))) 32) (decimal (n / 10000)) _))
 
 length-upper : (n : ℕ) → n < 10 ^ 10 → length (right 6 (n / 10000)) ≡ 6
 length-upper n high = length-right 6 (n / 10000) (length-decimal-le 6 (n / 10000) (omega arith) (omega arith) (omega arith))
 
-length-places : (n : ℕ) → n < 10 ^ 10 → length (right 10 n) ≡ 10
-length-places n high = length-right 10 n (length-decimal-le 10 n (omega arith) high (omega arith))
+length-width : (n : ℕ) → n < 10 ^ 10 → length (right 10 n) ≡ 10
+length-width n high = length-right 10 n (length-decimal-le 10 n (omega arith) high (omega arith))
 
 -- a cycle that stands in the text
 pub stands : (new bytes : List ℕ) (n : ℕ) → n < 10 ^ 10 → take (0 + length bytes) new ≡ bytes → bytes ≡ right 10 n → take 10 new ≡ right 10 n
 stands new bytes n high written is =
-    let long : length bytes ≡ 10 = ap length is ∙ length-places n high in
+    let long : length bytes ≡ 10 = ap length is ∙ length-width n high in
     let ten : 10 ≡ 0 + length bytes = omega (arith, long) in
     ap (λ k. take k new) ten ∙ written ∙ is
 
--- its upper places are those of the 10,000 cycles from a multiple of 10,000 on
+-- its upper columns are those of the 10,000 cycles from a multiple of 10,000 on
 pub kept_from : (n : ℕ) (text : List ℕ) → take 10 text ≡ right 10 n → 10000 ≤ n → n < 10 ^ 10 → IsKept (n - n % 10000) text
 kept_from n text is low high = λ lower small inside.
     let upper : (n - n % 10000 + lower) / 10000 ≡ n / 10000 = omega arith in
@@ -65,7 +65,7 @@ kept_from n text is low high = λ lower small inside.
 -- other bytes behind the cycle leave them
 pub upper_left : (n m : ℕ) (before after more : List ℕ) → n < 10 ^ 10 → take 10 before ≡ right 10 n → take m after ≡ take 10 before ++ more → 6 ≤ m → take 6 after ≡ take 6 before
 upper_left n m before after more high is written inside =
-    let long : length (take 10 before) ≡ 10 = ap length is ∙ length-places n high in
+    let long : length (take 10 before) ≡ 10 = ap length is ∙ length-width n high in
     sym (take-take 6 m after inside) ∙ ap (take 6) written ∙ take-append-le 6 (take 10 before) more (omega (arith, long)) ∙ take-take 6 10 before (omega arith)
 
 pub kept_on : (first : ℕ) (before after : List ℕ) → take 6 after ≡ take 6 before → IsKept first before → IsKept first after

@@ -10,16 +10,16 @@ use Rattle.rv_exec.specs.Line.{IsPrintable, IsWidth}
 use Rattle.trace_print.specs.Digits.{hex, two_digits, right}
 use Rattle.trace_print.specs.Text.{register_text, store_text, csr_text, trap_text, effect_text, line_text}
 
-pub length-hex : (places n : ℕ) → length (hex places n) ≡ places
+pub length-hex : (width n : ℕ) → length (hex width n) ≡ width
 unfolding hex
 length-hex zero n = refl
-length-hex (suc places) n =
-    let rest = length-hex places (n / 16) in
+length-hex (suc width) n =
+    let rest = length-hex width (n / 16) in
     simp length-append (omega (arith, rest))
 
-pub length-right : (places n : ℕ) → length (decimal n) ≤ places → length (right places n) ≡ places
+pub length-right : (width n : ℕ) → length (decimal n) ≤ width → length (right width n) ≡ width
 unfolding right
-length-right places n h = simp (length-append, length-replicate) (omega arith)
+length-right width n h = simp (length-append, length-replicate) (omega arith)
 
 length-register : (rd value : ℕ) → length (register_text rd value) ≡ 12
 unfolding register_text two_digits

@@ -8,12 +8,12 @@ hex_digit n = if nat_lt n 10 then 48 + n else 87 + n
 -- so many hexadecimal digits of a number, the lowest last
 unfoldable pub hex : ℕ → ℕ → List ℕ
 hex zero n = []
-hex (suc places) n = hex places (n / 16) ++ hex_digit (n % 16) ∷ []
+hex (suc width) n = hex width (n / 16) ++ hex_digit (n % 16) ∷ []
 
 -- a number below 100 in two decimal digits
 unfoldable pub two_digits : ℕ → List ℕ
 two_digits n = (48 + n / 10) ∷ (48 + n % 10) ∷ []
 
--- a number in decimal, right in so many places filled with spaces; longer where it needs more
+-- a number in decimal, right in so many columns filled with spaces; longer where it needs more
 unfoldable pub right : ℕ → ℕ → List ℕ
-right places n = replicate (places - length (decimal n)) 32 ++ decimal n
+right width n = replicate (width - length (decimal n)) 32 ++ decimal n

@@ -2,7 +2,7 @@
 use Rattle.std.specs.Prelude.{◌≡◌, ℕ, ◌+◌, ◌/◌, ◌%◌, ◌^◌, ◌<◌, List, ◌++◌, take}
 use Rattle.trace_print.specs.Digits.{two_digits, right}
 
--- the first six bytes are those of each of the 10,000 cycles from `first` on, in ten places
+-- the first six bytes are those of each of the 10,000 cycles from `first` on, in ten columns
 abbrev pub IsKept : ℕ → List ℕ → Type 0
 IsKept first text =
     (lower : ℕ) → lower < 10000 → first + lower < 10 ^ 10 →

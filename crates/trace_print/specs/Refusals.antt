@@ -3,7 +3,7 @@ use Rattle.std.specs.Prelude.{ℕ, ◌==◌, ◌%◌, ◌^◌, List, [], ◌∷�
 use Rattle.trace_print.specs.declared.refusals.Refusal.{Refusal}
 use Rattle.trace_print.specs.declared.refusals.Refusal.TheVariants.{Setup, Section, Image, Source, Bound, Routines}
 use Rattle.trace_print.specs.Digits.{hex}
-use Rattle.trace_print.specs.Places.{place_text}
+use Rattle.trace_print.specs.KeyPaths.{path_text}
 
 -- a code and its name
 pub record Named : Type 0 where
@@ -118,8 +118,8 @@ unfoldable pub bound_value : ℕ → ℕ → List ℕ
 bound_value code value = if code == 6 then decimal value else hex 8 (value % 2 ^ 32)
 
 unfoldable pub refusal_text : Refusal → List ℕ
-refusal_text (Setup code place) =
-    codes "refused setup " ++ (code_text setup_names code ++ (codes " " ++ (place_text place ++ codes "\n")))
+refusal_text (Setup code path) =
+    codes "refused setup " ++ (code_text setup_names code ++ (codes " " ++ (path_text path ++ codes "\n")))
 refusal_text (Section code) = codes "refused section " ++ (code_text section_names code ++ codes "\n")
 refusal_text (Image code offset) =
     codes "refused image " ++ (code_text image_names code ++ (codes " " ++ (decimal offset ++ codes "\n")))

@@ -32,7 +32,7 @@ effect_text (Csr csr value rd old) =
 effect_text (Trap cause target) = trap_text cause target
 effect_text Wait = codes "wait"
 
--- the cycle right in 10 places, the pc, the word, the effect and a line feed
+-- the cycle right in 10 columns, the pc, the word, the effect and a line feed
 unfoldable pub line_text : Event → List ℕ
 line_text e =
     right 10 e.cycle ++ (codes " " ++ (hex 8 e.pc ++ (codes " " ++ (hex 8 e.word ++ (codes " " ++

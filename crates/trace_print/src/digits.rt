@@ -17,32 +17,32 @@ pub fn push_decimal<I: Integer>(text: &mut ArrayString<96>, number: I)
     text.push_str(Buffer::new().format(number));
 }
 
-/// Appends a number in decimal, right in `places` places filled with spaces. A number that needs
-/// more places takes them.
+/// Appends a number in decimal, right in `width` columns filled with spaces. A number that needs
+/// more columns takes them.
 #[tactic(auto, unfolding(crate::specs::Digits::right))]
-pub fn push_right(text: &mut ArrayString<96>, number: u64, places: usize)
-    requires few { places ≤ 20 }
+pub fn push_right(text: &mut ArrayString<96>, number: u64, width: usize)
+    requires few { width ≤ 20 }
     requires room { array_string_len text.old + 20 ≤ 96 }
-    ensures text { text.new.bytes ≡ text.old.bytes ++ right places number }
+    ensures text { text.new.bytes ≡ text.old.bytes ++ right width number }
     ensures len { array_string_len text.new ≤ array_string_len text.old + 20 }
 {
     let mut buffer = Buffer::new();
     let digits = buffer.format(number);
-    for _place in digits.len()..places {
+    for _column in digits.len()..width {
         text.push(' ');
     }
     text.push_str(digits);
 }
 
-/// Appends the lowest `places` hexadecimal digits of a number.
+/// Appends the lowest `width` hexadecimal digits of a number.
 #[tactic(auto, unfolding(crate::specs::Digits::hex))]
-pub fn push_hex(text: &mut ArrayString<96>, number: u64, places: usize)
-    requires room { array_string_len text.old + places ≤ 96 }
-    ensures text { text.new.bytes ≡ text.old.bytes ++ hex places number }
-    ensures len { array_string_len text.new ≡ array_string_len text.old + places }
+pub fn push_hex(text: &mut ArrayString<96>, number: u64, width: usize)
+    requires room { array_string_len text.old + width ≤ 96 }
+    ensures text { text.new.bytes ≡ text.old.bytes ++ hex width number }
+    ensures len { array_string_len text.new ≡ array_string_len text.old + width }
 {
-    if places > 0 {
-        push_hex(text, number / 16, places - 1);
+    if width > 0 {
+        push_hex(text, number / 16, width - 1);
         text.push(hex_char((number % 16) as u8));
     }
 }

@@ -19,13 +19,13 @@ const SAME: u64 = 10_000;
 /// The first cycle that is kept where no cycle's upper digits are: one that no line shows.
 const NONE: u64 = 10_000_000_000;
 
-/// The line of an event, in a place that is used again for the line of the next one: empty at
+/// The line of an event, in a buffer that is used again for the line of the next one: empty at
 /// first.
 ///
 /// It has the bytes that [`line`](crate::line) makes, and takes about a fifth of its instructions.
 /// A run with four hard threads spent a third of its instructions in lines: hence this special
 /// case. Digits come in pairs from a table and are written where they stand, and the upper six
-/// places of the cycle, which change once in 10,000 cycles, are left from the line before.
+/// columns of the cycle, which change once in 10,000 cycles, are left from the line before.
 #[derive(Drop)]
 pub struct EventLine {
     /// The line, and behind it bytes of earlier lines.
@@ -98,7 +98,7 @@ impl EventLine {
     }
 }
 
-/// Writes a cycle right in ten places, and answers the first cycle with its upper digits.
+/// Writes a cycle right in ten columns, and answers the first cycle with its upper digits.
 #[inline(always)]
 fn set_cycle(text: &mut [u8; ROOM], first: u64, cycle: u64) -> u64
     requires cycle { cycle < 10 ^ 10 }

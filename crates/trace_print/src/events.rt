@@ -9,7 +9,7 @@ use crate::digits::{push_decimal, push_hex, push_right, push_two_digits, push_wo
 use arrayvec::ArrayString;
 use rv_exec::{Effect, Event};
 
-/// The line of an event: the cycle in decimal, right in 10 places; the pc and the word as eight
+/// The line of an event: the cycle in decimal, right in 10 columns; the pc and the word as eight
 /// hexadecimal digits; the effect; a line feed.
 #[tactic(auto, unfolding(crate::specs::Text::line_text))]
 pub fn line(e: &Event) -> ArrayString<96>

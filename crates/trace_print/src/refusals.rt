@@ -5,15 +5,15 @@ ghost use Rattle.arrayvec.specs.ArrayString.{array_string_len};
 ghost use Rattle.trace_print.specs.Refusals.{name_of, setup_names, section_names, image_names, source_names, bound_names, routine_names, bound_value, refusal_text};
 
 use crate::digits::{push_decimal, push_hex};
-use crate::places::push_place;
+use crate::key_path::push_path;
 use arrayvec::ArrayString;
-use fp_setup::Place;
+use fp_setup::KeyPath;
 
 /// Why something is refused, by the code of its fault. A code without a name prints none.
 #[derive(Clone, Copy, Debug)]
 pub enum Refusal {
-    /// A setup, with the place of the fault.
-    Setup { code: u8, place: Place },
+    /// A setup, with the path of the fault.
+    Setup { code: u8, path: KeyPath },
     /// The section that a bound is asked for.
     Section { code: u8 },
     /// An image or an ELF file, with the offset of the fault in bytes.
@@ -33,11 +33,11 @@ pub fn refusal_line(r: &Refusal) -> ArrayString<96>
 {
     let mut text = ArrayString::new();
     match *r {
-        Refusal::Setup { code, place } => {
+        Refusal::Setup { code, path } => {
             text.push_str("refused setup ");
             push_code(&mut text, code, setup_name(code));
             text.push_str(" ");
-            push_place(&mut text, &place);
+            push_path(&mut text, &path);
         }
         Refusal::Section { code } => {
             text.push_str("refused section ");

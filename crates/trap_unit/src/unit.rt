@@ -7,7 +7,7 @@ ghost use Rattle.trap_unit.specs.Access.{value_by, answer_by, written_in, traps_
 
 use crate::shared::{read_shared, write_shared};
 use core_model::{CsrOp, Own, Trapping};
-use hart_exec::{can_hold, change, keep, put, value_of};
+use hart_exec::{change, keep, may_hold, put, value_of};
 use region_guard::Guard;
 use slot_scheduler::Sched;
 use std::marker::Model;
@@ -206,7 +206,7 @@ impl Traps {
             return Ok(CsrDone { old, written: None });
         }
         let word = change(op, old, operand);
-        if !can_hold(csr, word) {
+        if !may_hold(csr, word) {
             return Err(CsrNo::BadValue);
         }
         let value = keep(csr, word);

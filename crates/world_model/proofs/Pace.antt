@@ -15,7 +15,7 @@ use Rattle.core_model.specs.declared.own.Own.{Own}
 use Rattle.core_model.specs.Thread.{Around, Did, reg_effect, filled}
 use Rattle.core_model.specs.Parts.{plus, load, store, branch, delay, wait, trapped, wrote, with_high}
 use Rattle.core_model.specs.Control.{csr_access}
-use Rattle.core_model.specs.Issue.{goes, unless_trap, run, act, late_rd, csr_op, csr_operand, csr_writes}
+use Rattle.core_model.specs.Issue.{execute_untrapped, unless_trap, run_at, execute_in, late_rd, csr_op, csr_operand, csr_writes}
 use Rattle.world_model.specs.World.{Registers, registers_after}
 
 abbrev pub is_csr : Option Effect → Bool
@@ -48,9 +48,9 @@ branch-paced : (pc : ℕ) (t : Own) (w : ℕ) (b : Bool) (target : ℕ) → Pace
 unfolding branch
 branch-paced pc t w b target = grind (arith, nat_tests)
 
-csr-paced : (hart pc : ℕ) (t : Own) (w rd n : ℕ) (op : CsrOp) (operand : ℕ) (writes : Bool) (shared : Option ℕ) → Paced pc None (csr_access hart pc t w rd n op operand writes shared)
+csr-paced : (thread pc : ℕ) (t : Own) (w rd n : ℕ) (op : CsrOp) (operand : ℕ) (writes : Bool) (shared : Option ℕ) → Paced pc None (csr_access thread pc t w rd n op operand writes shared)
 unfolding csr_access
-csr-paced hart pc t w rd n op operand writes shared = grind (arith, nat_tests)
+csr-paced thread pc t w rd n op operand writes shared = grind (arith, nat_tests)
 
 delay-paced : (now pc : ℕ) (t : Own) (w m : ℕ) → Paced pc None (delay now pc t w m)
 unfolding delay
@@ -60,8 +60,8 @@ wait-paced : (now pc : ℕ) (t : Own) (w m : ℕ) → Paced pc None (wait now pc
 unfolding wait
 wait-paced now pc t w m = grind (arith, nat_tests)
 
-goes-paced : (a : Around) (pc : ℕ) (t : Own) (w x y : ℕ) (o : Outcome) (n : Ins) → Paced pc (late_rd n) (goes a pc t w x y o n)
-unfolding goes
+goes-paced : (a : Around) (pc : ℕ) (t : Own) (w x y : ℕ) (o : Outcome) (n : Ins) → Paced pc (late_rd n) (execute_untrapped a pc t w x y o n)
+unfolding execute_untrapped
 goes-paced a pc t w x y o (i.Lui rd imm) = wrote-paced pc t w rd _
 goes-paced a pc t w x y o (i.Auipc rd imm) = wrote-paced pc t w rd _
 goes-paced a pc t w x y o (i.Jal rd off) = inl refl
@@ -90,13 +90,13 @@ unless-paced : (pc : ℕ) (t : Own) (w : ℕ) (o : Option ℕ) (trap : Option �
 unless-paced pc t w o (Some cause) d h = inl refl
 unless-paced pc t w o None d h = h
 
-run-paced : (a : Around) (pc : ℕ) (t : Own) (w x y : ℕ) (n : Ins) → Paced pc (late_rd n) (run a pc t w x y n)
-unfolding run
+run-paced : (a : Around) (pc : ℕ) (t : Own) (w x y : ℕ) (n : Ins) → Paced pc (late_rd n) (run_at a pc t w x y n)
+unfolding run_at
 run-paced a pc t w x y n = unless-paced pc t w (late_rd n) _ _ (goes-paced a pc t w x y (result_of n pc x y) n)
 
 -- the word of what is executed is the fetched one, or 0 after a trap of the fetch
-goes-word : (a : Around) (pc : ℕ) (t : Own) (w x y : ℕ) (o : Outcome) (n : Ins) → (goes a pc t w x y o n).word ≡ w
-unfolding goes load store branch csr_access delay wait
+goes-word : (a : Around) (pc : ℕ) (t : Own) (w x y : ℕ) (o : Outcome) (n : Ins) → (execute_untrapped a pc t w x y o n).word ≡ w
+unfolding execute_untrapped load store branch csr_access delay wait
 goes-word a pc t w x y o (i.Branch op rs1 rs2 off) = grind (arith, nat_tests)
 goes-word a pc t w x y o (i.Load op rd rs1 imm) = grind (arith, nat_tests)
 goes-word a pc t w x y o (i.Store op rs1 rs2 imm) = grind (arith, nat_tests)
@@ -109,16 +109,16 @@ unless-word : (pc : ℕ) (t : Own) (w : ℕ) (trap : Option ℕ) (d : Did) → d
 unless-word pc t w (Some cause) d h = refl
 unless-word pc t w None d h = h
 
-pub run-word : (a : Around) (pc : ℕ) (t : Own) (w x y : ℕ) (n : Ins) → (run a pc t w x y n).word ≡ w
-unfolding run
+pub run-word : (a : Around) (pc : ℕ) (t : Own) (w x y : ℕ) (n : Ins) → (run_at a pc t w x y n).word ≡ w
+unfolding run_at
 run-word a pc t w x y n = unless-word pc t w _ _ (goes-word a pc t w x y (result_of n pc x y) n)
 
-pub act-word : (a : Around) (pc : ℕ) (t : Own) (expired : Bool) (w x y : ℕ) → ((act a pc t expired w x y).word ≡ w) ⊎ ((act a pc t expired w x y).word ≡ 0)
-unfolding act
+pub act-word : (a : Around) (pc : ℕ) (t : Own) (expired : Bool) (w x y : ℕ) → ((execute_in a pc t expired w x y).word ≡ w) ⊎ ((execute_in a pc t expired w x y).word ≡ 0)
+unfolding execute_in
 act-word a pc t true w x y = inr refl
 act-word a pc t false w x y = go (a.fetch pc)
   where
-    go : (b : Bool) → ((if b then run a pc t w x y (ins w) else trapped pc t 0 1).word ≡ w) ⊎ ((if b then run a pc t w x y (ins w) else trapped pc t 0 1).word ≡ 0)
+    go : (b : Bool) → ((if b then run_at a pc t w x y (ins w) else trapped pc t 0 1).word ≡ w) ⊎ ((if b then run_at a pc t w x y (ins w) else trapped pc t 0 1).word ≡ 0)
     go true = inl (run-word a pc t w x y (ins w))
     go false = inr refl
 
@@ -126,12 +126,12 @@ act-word a pc t false w x y = go (a.fetch pc)
 pub record Pace (pc : ℕ) (d : Did) : Type 0 where
   pub paced : Paced pc (late_rd (ins d.word)) d
 
-pub act-pace : (a : Around) (pc : ℕ) (t : Own) (expired : Bool) (w x y : ℕ) → Pace pc (act a pc t expired w x y)
-unfolding act
+pub act-pace : (a : Around) (pc : ℕ) (t : Own) (expired : Bool) (w x y : ℕ) → Pace pc (execute_in a pc t expired w x y)
+unfolding execute_in
 act-pace a pc t true w x y = record { paced = inl refl }
 act-pace a pc t false w x y = go (a.fetch pc)
   where
-    go : (b : Bool) → Pace pc (if b then run a pc t w x y (ins w) else trapped pc t 0 1)
+    go : (b : Bool) → Pace pc (if b then run_at a pc t w x y (ins w) else trapped pc t 0 1)
     go true = record { paced = rw (run-word a pc t w x y (ins w)) (run-paced a pc t w x y (ins w)) }
     go false = record { paced = inl refl }
 

@@ -1,4 +1,4 @@
--- The view of one hart: what it may depend on.
+-- The view of one thread: what it may depend on.
 use Rattle.std.specs.Prelude.{ℕ, suc, ◌/◌, ◌==◌, Bool, if◌then◌else◌, List, [], ◌∷◌, slice_index_or, map}
 use Rattle.nibble_word.specs.Nibbles.{nibbles}
 use Rattle.slot_table.specs.Frame.{frame}
@@ -13,16 +13,16 @@ abbrev pub seen_from : (ℕ → Bool) → ℕ → List ℕ → List ℕ
 seen_from sees k [] = []
 seen_from sees k (x ∷ xs) = (if sees k then x else 0) ∷ seen_from sees (suc k) xs
 
--- whether the word of an index lies in a region that the hart may read; a region has size / 32
+-- whether the word of an index lies in a region that the thread may read; a region has size / 32
 -- words
 abbrev pub sees : ℕ → List Standing → ℕ → Bool
 sees size kinds k = is_readable (slice_index_or kinds (k / (size / 32)) Foreign)
 
--- the words that a hart sees, and 0 for the others
+-- the words that a thread sees, and 0 for the others
 abbrev pub seen : ℕ → List Standing → List ℕ → List ℕ
 seen size kinds words = seen_from (sees size kinds) 0 words
 
--- what each region is to hart i, by the region register
+-- what each region is to thread i, by the region register
 abbrev pub kinds_of : ℕ → ℕ → List Standing
 kinds_of i regions = map (standing i) (nibbles regions)
 
@@ -39,7 +39,7 @@ setting_of s i =
       i_words = seen s.size (kinds_of i s.registers.iregions) s.i_words;
     }
 
--- the view of hart i
+-- the view of thread i
 unfoldable pub view : Start → ℕ → View
 view s i =
     record {

@@ -1,11 +1,11 @@
--- The machine as a whole, cycle by cycle: each cycle is one turn, in which at most one hart does
+-- The machine as a whole, cycle by cycle: each cycle is one turn, in which at most one thread does
 -- one whole instruction.
 use Rattle.std.specs.Prelude.{ℕ, zero, suc, ◌-◌, ◌==◌, nat_lt, Bool, true, false, not, ◌&&◌, if◌then◌else◌, List, [], ◌∷◌, ◌++◌, slice_index_or, slice_set, map, length, Option, Some, None}
 use Rattle.std.specs.List.{list_all}
 use Rattle.rv_exec.specs.declared.outcome.Effect.{Effect}
 use Rattle.rv_exec.specs.declared.outcome.Effect.TheVariants.{Store, Csr}
 use Rattle.rv_exec.specs.declared.outcome.Event.{Event}
-use Rattle.region_guard.specs.Regions.{may_fetch, may_load, may_store, in_d}
+use Rattle.region_guard.specs.Regions.{may_fetch, may_load, may_store, is_data}
 use Rattle.slot_scheduler.specs.declared.picking.Pick.{Pick}
 use Rattle.slot_scheduler.specs.declared.picking.Pick.TheVariants.{Issue, Bubble}
 use Rattle.slot_scheduler.specs.declared.picking.Sched.{Sched}
@@ -24,7 +24,7 @@ pub record Registers : Type 0 where
   pub dregions : ℕ
   pub iregions : ℕ
 
--- what a run starts from; each list but the words has an entry for each of the eight harts
+-- what a run starts from; each list but the words has an entry for each of the eight threads
 pub record Start : Type 0 where
   pub period : ℕ  -- of a cycle, in nanoseconds
   pub size : ℕ  -- of each scratchpad, in bytes
@@ -34,13 +34,13 @@ pub record Start : Type 0 where
   pub i_words : List ℕ  -- of the instruction scratchpad
   pub d_words : List ℕ  -- of the data scratchpad
   pub registers : Registers
-  pub shown : List (List ℕ)  -- the word of the hart's port in each cycle
+  pub shown : List (List ℕ)  -- the word of the thread's port in each cycle
   pub handed : List Bool  -- whether a port was handed in
   pub unplugs : List (Option ℕ)  -- the cycle from which on it isn't there, if there is one
   pub latches : List ℕ  -- what stands at the port
 
--- what a cycle was: nobody's, lost by a hart that wasn't ready, or one instruction of a hart, which
--- has an effect unless it was held
+-- what a cycle was: nobody's, lost by a thread that wasn't ready, or one instruction of a thread,
+-- which has an effect unless it was held
 pub data Took : Type 0 where
   Idle : Took
   Lost : ℕ → Took
@@ -52,10 +52,10 @@ pub record World : Type 0 where
   pub d_words : List ℕ
   pub registers : Registers
   pub latches : List ℕ
-  pub last : ℕ  -- the place of the search for a soft hart
+  pub last : ℕ  -- the round-robin pointer: the soft thread that was picked last by donation
   pub turns : List Took  -- of the cycles so far, the newest first
 
--- hart k
+-- thread k
 abbrev pub thread_of : World → ℕ → Thread
 thread_of w k = slice_index_or w.threads k (fresh 0)
 
@@ -79,7 +79,7 @@ register r csr =
 abbrev pub granted : Bool → ℕ → Option ℕ
 granted allowed value = if allowed then Some value else None
 
--- what hart k may do at a time, by the registers as they stand
+-- what thread k may do at a time, by the registers as they stand
 unfoldable pub around : ℕ → ℕ → List Bool → List Bool → Registers → ℕ → Around
 around now size confined permit r k =
     record {
@@ -91,21 +91,21 @@ around now size confined permit r k =
       shared = λ csr. granted (slice_index_or permit k false) (register r csr);
     }
 
--- the word of a hart's port in a cycle; a port that isn't there reads as ones
+-- the word of a thread's port in a cycle; a port that isn't there reads as ones
 abbrev pub port_word : Start → ℕ → ℕ → ℕ
 port_word s c k = slice_index_or (slice_index_or s.shown k []) c 0xFFFFFFFF
 
--- what an issue of hart k in cycle c asks, and what it finds
+-- what an issue of thread k in cycle c asks, and what it finds
 abbrev pub surroundings : Start → ℕ → World → ℕ → Around
 surroundings s c w k = around (time s.period c) s.size s.confined s.permit w.registers k
 
--- the words that an issue of hart k in cycle c finds
+-- the words that an issue of thread k in cycle c finds
 abbrev pub contents : Start → ℕ → World → ℕ → Contents
 contents s c w k = contents_by s.size s.i_words w.d_words (port_word s c k)
 
--- what an effect does outside its hart: to the words of the data scratchpad,
+-- what an effect does outside its thread: to the words of the data scratchpad,
 abbrev pub words_after : ℕ → Option Effect → List ℕ → List ℕ
-words_after size (Some (Store address width value)) words = if in_d size address then stored size words address width value else words
+words_after size (Some (Store address width value)) words = if is_data size address then stored size words address width value else words
 words_after size _ words = words
 
 -- to the machine's own registers,
@@ -118,7 +118,7 @@ registers_after (Some (Csr csr value rd old)) r =
     else r
 registers_after _ r = r
 
--- and to the latch of the hart's port, if that is there
+-- and to the latch of the thread's port, if that is there
 abbrev pub latched : Bool → ℕ → Option Effect → List ℕ → List ℕ
 latched there k (Some (Store address width value)) latches = if address == 0x40000000 && there then slice_set latches k value else latches
 latched there k _ latches = latches
@@ -128,15 +128,15 @@ abbrev pub is_plugged : Option ℕ → ℕ → Bool
 is_plugged None c = true
 is_plugged (Some unplug) c = nat_lt c unplug
 
--- whether hart k has a port in a cycle
+-- whether thread k has a port in a cycle
 abbrev pub has_port : Start → ℕ → ℕ → Bool
 has_port s k c = slice_index_or s.handed k false && is_plugged (slice_index_or s.unplugs k None) c
 
--- the latches after an effect of hart k in cycle c
+-- the latches after an effect of thread k in cycle c
 abbrev pub latches_after : Start → ℕ → ℕ → Option Effect → List ℕ → List ℕ
 latches_after s c k effect latches = latched (has_port s k c) k effect latches
 
--- one whole instruction of hart k in cycle c
+-- one whole instruction of thread k in cycle c
 abbrev pub issue_of : Start → ℕ → World → ℕ → Done
 issue_of s c w k = issue (surroundings s c w k) (contents s c w k) c (thread_of w k)
 
@@ -156,7 +156,7 @@ issued s c w last k d =
 abbrev pub passed : World → ℕ → Took → World
 passed w last took = record w { last = last; turns = took ∷ w.turns }
 
--- the turn of the picked hart: lost before its first ready cycle, else an issue
+-- the turn of the picked thread: lost before its first ready cycle, else an issue
 abbrev pub takes : Start → ℕ → World → ℕ → Pick → World
 takes s c w last Bubble = passed w last Idle
 takes s c w last (Issue k) =
@@ -189,17 +189,17 @@ recent s (suc c) = let r = recent s c in record { now = after_turn s c r.now (sc
 unfoldable pub world : Start → ℕ → World
 world s c = (recent s c).now
 
--- the event of a turn in cycle c, if it is one of hart i's that has an effect
+-- the event of a turn in cycle c, if it is one of thread i's that has an effect
 abbrev pub event_of : ℕ → ℕ → Took → List Event
 event_of i c (Ran k pc word (Some effect)) = if k == i then record { cycle = c; thread = k; pc = pc; word = word; effect = effect } ∷ [] else []
 event_of i c _ = []
 
--- the events of hart i, the oldest first, by the turns of the cycles so far
+-- the events of thread i, the oldest first, by the turns of the cycles so far
 abbrev pub events_of : ℕ → List Took → List Event
 events_of i [] = []
 events_of i (took ∷ turns) = events_of i turns ++ event_of i (length turns) took
 
--- the events of hart i that have retired after n cycles: those of the cycles c with c + 4 < n,
+-- the events of thread i that have retired after n cycles: those of the cycles c with c + 4 < n,
 -- which are the first n - 4
 abbrev pub events : Start → ℕ → ℕ → List Event
 events s i n = events_of i (world s (n - 4)).turns

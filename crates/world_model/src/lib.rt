@@ -1,5 +1,5 @@
-//! The definitions of the machine as a whole: its world cycle by cycle, the events of each hart,
-//! and the view of one hart. They stand in specs/, below every engine.
+//! The definitions of the machine as a whole: its world cycle by cycle, the events of each thread,
+//! and the view of one thread. They stand in specs/, below every engine.
 
 #![tactic(auto)]
 

@@ -1,4 +1,4 @@
--- A control loop beside two hard harts and six soft ones, all with code and data of their own. The definitions compute each trace.
+-- A control loop beside two hard threads and six soft ones, all with code and data of their own. The definitions compute each trace.
 use Rattle.std.proofs.Common.{◌≡◌, true, false, List, [], ◌∷◌, ◌++◌, refl, replicate}
 use Rattle.nibble_word.specs.Nibbles.{nibbles}
 use Rattle.rv_decode.specs.Table.{ins, rows, lui_rows, auipc_rows, jal_rows, jalr_rows, branch_rows, load_rows, store_rows, imm_rows, op_rows, fence_rows, system_rows, time_rows}
@@ -16,7 +16,7 @@ use Rattle.slot_scheduler.specs.Picking.{is_awake, after_last, donated, pick}
 use Rattle.core_model.specs.Thread.{fresh}
 use Rattle.core_model.specs.Parts.{load, store, branch, delay, wait}
 use Rattle.core_model.specs.Control.{changed, may_hold, csr_access}
-use Rattle.core_model.specs.Issue.{goes, run, act, acts_on, effect_of, issue}
+use Rattle.core_model.specs.Issue.{execute_untrapped, run_at, execute_in, execute_word, effect_of, issue}
 use Rattle.core_model.specs.Memory.{code_at, data_at}
 use Rattle.core_model.specs.View.{around_by}
 use Rattle.core_model.specs.Solo.{may_go, solo_turn, solo_at, solo}
@@ -24,7 +24,7 @@ use Rattle.world_model.specs.World.{Start, around, after_turn, recent, world, ev
 use Rattle.world_model.specs.Viewed.{setting_of, view}
 use Rattle.world_rows.specs.Base.{base, at}
 
--- two harts write into a shared region; a WU of hart 0 gives its slots away
+-- two threads write into a shared region; a WU of thread 0 gives its slots away
 drive : Start
 drive =
     record (base ((0x200000b7 ∷ 0x40000137 ∷ 0x0000050b ∷ 0x0000158b ∷ 0x00012283 ∷ 0x0050a023 ∷ 0x0000a303 ∷ 0x200011b7 ∷ 0x0061a023 ∷ 0x19050513 ∷ 0x00a5b00b ∷ 0xfe5ff06f ∷ 0x00000000 ∷ 0x00000000 ∷ 0x00000000 ∷ 0x00000000 ∷ 0x0000006f ∷ []) ++ replicate 47 0x0 ++ (0x00108093 ∷ 0xffdff06f ∷ []))) {
@@ -51,7 +51,7 @@ drive-0-trace =
     ∷ at 0 52 0x10 0x00012283 (Reg 5 0x2b) ∷ []
 
 drive-0 : (events drive 0 57 ≡ drive-0-trace) × (solo (view drive 0) 57 ≡ drive-0-trace)
-unfolding drive drive-0-trace ins rows lui_rows auipc_rows jal_rows jalr_rows branch_rows load_rows store_rows imm_rows op_rows fence_rows system_rows time_rows bitwise computed computed_with shifted multiplied is_taken loaded lanes_at merged result_of nibbles standing region_of index_of may_fetch may_load may_store frame turn is_table is_regions is_awake after_last donated pick load store branch delay wait changed may_hold csr_access goes run act acts_on effect_of issue code_at data_at around after_turn recent world around_by may_go solo_turn solo_at setting_of view
+unfolding drive drive-0-trace ins rows lui_rows auipc_rows jal_rows jalr_rows branch_rows load_rows store_rows imm_rows op_rows fence_rows system_rows time_rows bitwise computed computed_with shifted multiplied is_taken loaded lanes_at merged result_of nibbles standing region_of index_of may_fetch may_load may_store frame turn is_table is_regions is_awake after_last donated pick load store branch delay wait changed may_hold csr_access execute_untrapped run_at execute_in execute_word effect_of issue code_at data_at around after_turn recent world around_by may_go solo_turn solo_at setting_of view
 drive-0 = (refl, refl)
 
 drive-6 : events drive 6 60 ≡
@@ -60,5 +60,5 @@ drive-6 : events drive 6 60 ≡
     ∷ at 6 33 0x100 0x00108093 (Reg 1 0x2)
     ∷ at 6 44 0x104 0xffdff06f Nothing
     ∷ at 6 55 0x100 0x00108093 (Reg 1 0x3) ∷ []
-unfolding drive ins rows lui_rows auipc_rows jal_rows jalr_rows branch_rows load_rows store_rows imm_rows op_rows fence_rows system_rows time_rows bitwise computed computed_with shifted multiplied is_taken loaded lanes_at merged result_of nibbles standing region_of index_of may_fetch may_load may_store frame turn is_table is_regions is_awake after_last donated pick load store branch delay wait changed may_hold csr_access goes run act acts_on effect_of issue code_at data_at around after_turn recent world
+unfolding drive ins rows lui_rows auipc_rows jal_rows jalr_rows branch_rows load_rows store_rows imm_rows op_rows fence_rows system_rows time_rows bitwise computed computed_with shifted multiplied is_taken loaded lanes_at merged result_of nibbles standing region_of index_of may_fetch may_load may_store frame turn is_table is_regions is_awake after_last donated pick load store branch delay wait changed may_hold csr_access execute_untrapped run_at execute_in execute_word effect_of issue code_at data_at around after_turn recent world
 drive-6 = refl

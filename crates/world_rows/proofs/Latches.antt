@@ -13,12 +13,12 @@ use Rattle.region_guard.specs.Register.{is_regions}
 use Rattle.slot_scheduler.specs.Picking.{is_awake, after_last, donated, pick}
 use Rattle.core_model.specs.Parts.{load, store, branch, delay, wait}
 use Rattle.core_model.specs.Control.{changed, may_hold, csr_access}
-use Rattle.core_model.specs.Issue.{goes, run, act, acts_on, effect_of, issue}
+use Rattle.core_model.specs.Issue.{execute_untrapped, run_at, execute_in, execute_word, effect_of, issue}
 use Rattle.core_model.specs.Memory.{code_at, data_at}
 use Rattle.world_model.specs.World.{Start, around, after_turn, recent, world}
 use Rattle.world_rows.specs.Base.{base}
 
--- hart 0 writes 1, 2, 3 at its port in the cycles 3, 9 and 15, and after each of them into its own region
+-- thread 0 writes 1, 2, 3 at its port in the cycles 3, 9 and 15, and after each of them into its own region
 writer : Bool → ℕ → Start
 writer handed unplug =
     record (base (0x40000137 ∷ 0x200001b7 ∷ 0x00108093 ∷ 0x00112023 ∷ 0x0031a023 ∷ 0xff5ff06f ∷ [])) {
@@ -33,5 +33,5 @@ latches :
     × ((world (writer false 16) 20).latches ≡ replicate 8 0)
     × ((world (writer true 100) 15).latches ≡ 2 ∷ replicate 7 0)
     × ((world (writer true 100) 16).latches ≡ 3 ∷ replicate 7 0)
-unfolding writer ins rows lui_rows auipc_rows jal_rows jalr_rows branch_rows load_rows store_rows imm_rows op_rows fence_rows system_rows time_rows bitwise computed computed_with shifted multiplied is_taken loaded lanes_at merged result_of nibbles standing region_of index_of may_fetch may_load may_store frame turn is_table is_regions is_awake after_last donated pick load store branch delay wait changed may_hold csr_access goes run act acts_on effect_of issue code_at data_at around after_turn recent world
+unfolding writer ins rows lui_rows auipc_rows jal_rows jalr_rows branch_rows load_rows store_rows imm_rows op_rows fence_rows system_rows time_rows bitwise computed computed_with shifted multiplied is_taken loaded lanes_at merged result_of nibbles standing region_of index_of may_fetch may_load may_store frame turn is_table is_regions is_awake after_last donated pick load store branch delay wait changed may_hold csr_access execute_untrapped run_at execute_in execute_word effect_of issue code_at data_at around after_turn recent world
 latches = (refl, refl, refl, refl, refl)

@@ -1,4 +1,4 @@
--- The distance of issues by the slots, and what other harts can and can't change. The definitions compute each trace.
+-- The distance of issues by the slots, and what other threads can and can't change. The definitions compute each trace.
 use Rattle.std.proofs.Common.{◌≡◌, true, false, List, [], ◌∷◌, ◌++◌, refl, replicate}
 use Rattle.nibble_word.specs.Nibbles.{nibbles}
 use Rattle.rv_decode.specs.Table.{ins, rows, lui_rows, auipc_rows, jal_rows, jalr_rows, branch_rows, load_rows, store_rows, imm_rows, op_rows, fence_rows, system_rows, time_rows}
@@ -16,7 +16,7 @@ use Rattle.slot_scheduler.specs.Picking.{is_awake, after_last, donated, pick}
 use Rattle.core_model.specs.Thread.{fresh}
 use Rattle.core_model.specs.Parts.{load, store, branch, delay, wait}
 use Rattle.core_model.specs.Control.{changed, may_hold, csr_access}
-use Rattle.core_model.specs.Issue.{goes, run, act, acts_on, effect_of, issue}
+use Rattle.core_model.specs.Issue.{execute_untrapped, run_at, execute_in, execute_word, effect_of, issue}
 use Rattle.core_model.specs.Memory.{code_at, data_at}
 use Rattle.core_model.specs.View.{around_by}
 use Rattle.core_model.specs.Solo.{may_go, solo_turn, solo_at, solo}
@@ -24,7 +24,7 @@ use Rattle.world_model.specs.World.{Start, around, after_turn, recent, world, ev
 use Rattle.world_model.specs.Viewed.{setting_of, view}
 use Rattle.world_rows.specs.Base.{base, at}
 
--- one hart by itself: lags show
+-- one thread by itself: lags show
 one_slot : Start
 one_slot = base ((0x00100293 ∷ 0x00002303 ∷ 0x00000463 ∷ 0x00000013 ∷ 0x00200393 ∷ 0x0000006f ∷ []) ++ replicate 10 0x0 ++ (0x200000b7 ∷ 0x0000a023 ∷ []))
 
@@ -36,10 +36,10 @@ one_slot-0-trace =
     ∷ at 0 6 0x10 0x00200393 (Reg 7 0x2) ∷ []
 
 one_slot-0 : (events one_slot 0 11 ≡ one_slot-0-trace) × (solo (view one_slot 0) 11 ≡ one_slot-0-trace)
-unfolding one_slot one_slot-0-trace ins rows lui_rows auipc_rows jal_rows jalr_rows branch_rows load_rows store_rows imm_rows op_rows fence_rows system_rows time_rows bitwise computed computed_with shifted multiplied is_taken loaded lanes_at merged result_of nibbles standing region_of index_of may_fetch may_load may_store frame turn is_table is_regions is_awake after_last donated pick load store branch delay wait changed may_hold csr_access goes run act acts_on effect_of issue code_at data_at around after_turn recent world around_by may_go solo_turn solo_at setting_of view
+unfolding one_slot one_slot-0-trace ins rows lui_rows auipc_rows jal_rows jalr_rows branch_rows load_rows store_rows imm_rows op_rows fence_rows system_rows time_rows bitwise computed computed_with shifted multiplied is_taken loaded lanes_at merged result_of nibbles standing region_of index_of may_fetch may_load may_store frame turn is_table is_regions is_awake after_last donated pick load store branch delay wait changed may_hold csr_access execute_untrapped run_at execute_in execute_word effect_of issue code_at data_at around after_turn recent world around_by may_go solo_turn solo_at setting_of view
 one_slot-0 = (refl, refl)
 
--- one of four harts
+-- one of four threads
 four_slots : Start
 four_slots =
     record (base ((0x00100293 ∷ 0x00002303 ∷ 0x00000463 ∷ 0x00000013 ∷ 0x00200393 ∷ 0x0000006f ∷ []) ++ replicate 10 0x0 ++ (0x200000b7 ∷ 0x0000a023 ∷ []))) {
@@ -54,7 +54,7 @@ four_slots-0-trace =
     ∷ at 0 12 0x10 0x00200393 (Reg 7 0x2) ∷ []
 
 four_slots-0 : (events four_slots 0 17 ≡ four_slots-0-trace) × (solo (view four_slots 0) 17 ≡ four_slots-0-trace)
-unfolding four_slots four_slots-0-trace ins rows lui_rows auipc_rows jal_rows jalr_rows branch_rows load_rows store_rows imm_rows op_rows fence_rows system_rows time_rows bitwise computed computed_with shifted multiplied is_taken loaded lanes_at merged result_of nibbles standing region_of index_of may_fetch may_load may_store frame turn is_table is_regions is_awake after_last donated pick load store branch delay wait changed may_hold csr_access goes run act acts_on effect_of issue code_at data_at around after_turn recent world around_by may_go solo_turn solo_at setting_of view
+unfolding four_slots four_slots-0-trace ins rows lui_rows auipc_rows jal_rows jalr_rows branch_rows load_rows store_rows imm_rows op_rows fence_rows system_rows time_rows bitwise computed computed_with shifted multiplied is_taken loaded lanes_at merged result_of nibbles standing region_of index_of may_fetch may_load may_store frame turn is_table is_regions is_awake after_last donated pick load store branch delay wait changed may_hold csr_access execute_untrapped run_at execute_in execute_word effect_of issue code_at data_at around after_turn recent world around_by may_go solo_turn solo_at setting_of view
 four_slots-0 = (refl, refl)
 
 -- three others store where they may not
@@ -73,17 +73,17 @@ neighbours-0-trace =
     ∷ at 0 12 0x10 0x00200393 (Reg 7 0x2) ∷ []
 
 neighbours-0 : (events neighbours 0 17 ≡ neighbours-0-trace) × (solo (view neighbours 0) 17 ≡ neighbours-0-trace)
-unfolding neighbours neighbours-0-trace ins rows lui_rows auipc_rows jal_rows jalr_rows branch_rows load_rows store_rows imm_rows op_rows fence_rows system_rows time_rows bitwise computed computed_with shifted multiplied is_taken loaded lanes_at merged result_of nibbles standing region_of index_of may_fetch may_load may_store frame turn is_table is_regions is_awake after_last donated pick load store branch delay wait changed may_hold csr_access goes run act acts_on effect_of issue code_at data_at around after_turn recent world around_by may_go solo_turn solo_at setting_of view
+unfolding neighbours neighbours-0-trace ins rows lui_rows auipc_rows jal_rows jalr_rows branch_rows load_rows store_rows imm_rows op_rows fence_rows system_rows time_rows bitwise computed computed_with shifted multiplied is_taken loaded lanes_at merged result_of nibbles standing region_of index_of may_fetch may_load may_store frame turn is_table is_regions is_awake after_last donated pick load store branch delay wait changed may_hold csr_access execute_untrapped run_at execute_in execute_word effect_of issue code_at data_at around after_turn recent world around_by may_go solo_turn solo_at setting_of view
 neighbours-0 = (refl, refl)
 
 neighbours-1 : events neighbours 1 14 ≡
     at 1 1 0x40 0x200000b7 (Reg 1 0x20000000)
     ∷ at 1 5 0x44 0x0000a023 (Trap 7 0x0)
     ∷ at 1 9 0x00 0x00100293 (Reg 5 0x1) ∷ []
-unfolding neighbours ins rows lui_rows auipc_rows jal_rows jalr_rows branch_rows load_rows store_rows imm_rows op_rows fence_rows system_rows time_rows bitwise computed computed_with shifted multiplied is_taken loaded lanes_at merged result_of nibbles standing region_of index_of may_fetch may_load may_store frame turn is_table is_regions is_awake after_last donated pick load store branch delay wait changed may_hold csr_access goes run act acts_on effect_of issue code_at data_at around after_turn recent world
+unfolding neighbours ins rows lui_rows auipc_rows jal_rows jalr_rows branch_rows load_rows store_rows imm_rows op_rows fence_rows system_rows time_rows bitwise computed computed_with shifted multiplied is_taken loaded lanes_at merged result_of nibbles standing region_of index_of may_fetch may_load may_store frame turn is_table is_regions is_awake after_last donated pick load store branch delay wait changed may_hold csr_access execute_untrapped run_at execute_in execute_word effect_of issue code_at data_at around after_turn recent world
 neighbours-1 = refl
 
--- a confined hart may not load from a shared region
+-- a confined thread may not load from a shared region
 shared_region : Start
 shared_region =
     record (base ((0x200010b7 ∷ 0x0000a103 ∷ []))) {
@@ -96,10 +96,10 @@ shared_region-0-trace =
     ∷ at 0 4 0x04 0x0000a103 (Trap 5 0x0) ∷ []
 
 shared_region-0 : (events shared_region 0 9 ≡ shared_region-0-trace) × (solo (view shared_region 0) 9 ≡ shared_region-0-trace)
-unfolding shared_region shared_region-0-trace ins rows lui_rows auipc_rows jal_rows jalr_rows branch_rows load_rows store_rows imm_rows op_rows fence_rows system_rows time_rows bitwise computed computed_with shifted multiplied is_taken loaded lanes_at merged result_of nibbles standing region_of index_of may_fetch may_load may_store frame turn is_table is_regions is_awake after_last donated pick load store branch delay wait changed may_hold csr_access goes run act acts_on effect_of issue code_at data_at around after_turn recent world around_by may_go solo_turn solo_at setting_of view
+unfolding shared_region shared_region-0-trace ins rows lui_rows auipc_rows jal_rows jalr_rows branch_rows load_rows store_rows imm_rows op_rows fence_rows system_rows time_rows bitwise computed computed_with shifted multiplied is_taken loaded lanes_at merged result_of nibbles standing region_of index_of may_fetch may_load may_store frame turn is_table is_regions is_awake after_last donated pick load store branch delay wait changed may_hold csr_access execute_untrapped run_at execute_in execute_word effect_of issue code_at data_at around after_turn recent world around_by may_go solo_turn solo_at setting_of view
 shared_region-0 = (refl, refl)
 
--- two soft harts take turns
+-- two soft threads take turns
 two_soft : Start
 two_soft =
     record (base (replicate 64 0x0 ++ (0x00108093 ∷ 0xffdff06f ∷ []))) {
@@ -113,10 +113,10 @@ two_soft-1 : events two_soft 1 14 ≡
     ∷ at 1 2 0x104 0xffdff06f Nothing
     ∷ at 1 6 0x100 0x00108093 (Reg 1 0x2)
     ∷ at 1 8 0x104 0xffdff06f Nothing ∷ []
-unfolding two_soft ins rows lui_rows auipc_rows jal_rows jalr_rows branch_rows load_rows store_rows imm_rows op_rows fence_rows system_rows time_rows bitwise computed computed_with shifted multiplied is_taken loaded lanes_at merged result_of nibbles standing region_of index_of may_fetch may_load may_store frame turn is_table is_regions is_awake after_last donated pick load store branch delay wait changed may_hold csr_access goes run act acts_on effect_of issue code_at data_at around after_turn recent world
+unfolding two_soft ins rows lui_rows auipc_rows jal_rows jalr_rows branch_rows load_rows store_rows imm_rows op_rows fence_rows system_rows time_rows bitwise computed computed_with shifted multiplied is_taken loaded lanes_at merged result_of nibbles standing region_of index_of may_fetch may_load may_store frame turn is_table is_regions is_awake after_last donated pick load store branch delay wait changed may_hold csr_access execute_untrapped run_at execute_in execute_word effect_of issue code_at data_at around after_turn recent world
 two_soft-1 = refl
 
--- a hart with a permit writes the slots; picking goes by them three cycles later
+-- a thread with a permit writes the slots; picking goes by them three cycles later
 new_slots : Start
 new_slots =
     record (base ((0xf1000093 ∷ 0x7c009073 ∷ 0x00100113 ∷ 0x00100193 ∷ []) ++ replicate 12 0x0 ++ (0x0000006f ∷ []))) {
@@ -131,12 +131,12 @@ new_slots-0 : events new_slots 0 11 ≡
     ∷ at 0 1 0x04 0x7c009073 (Csr 0x7c0 0xffffff10 0 0xfffffff0)
     ∷ at 0 4 0x08 0x00100113 (Reg 2 0x1)
     ∷ at 0 6 0x0c 0x00100193 (Reg 3 0x1) ∷ []
-unfolding new_slots ins rows lui_rows auipc_rows jal_rows jalr_rows branch_rows load_rows store_rows imm_rows op_rows fence_rows system_rows time_rows bitwise computed computed_with shifted multiplied is_taken loaded lanes_at merged result_of nibbles standing region_of index_of may_fetch may_load may_store frame turn is_table is_regions is_awake after_last donated pick load store branch delay wait changed may_hold csr_access goes run act acts_on effect_of issue code_at data_at around after_turn recent world
+unfolding new_slots ins rows lui_rows auipc_rows jal_rows jalr_rows branch_rows load_rows store_rows imm_rows op_rows fence_rows system_rows time_rows bitwise computed computed_with shifted multiplied is_taken loaded lanes_at merged result_of nibbles standing region_of index_of may_fetch may_load may_store frame turn is_table is_regions is_awake after_last donated pick load store branch delay wait changed may_hold csr_access execute_untrapped run_at execute_in execute_word effect_of issue code_at data_at around after_turn recent world
 new_slots-0 = refl
 
 new_slots-1 : events new_slots 1 10 ≡
     at 1 5 0x40 0x0000006f Nothing ∷ []
-unfolding new_slots ins rows lui_rows auipc_rows jal_rows jalr_rows branch_rows load_rows store_rows imm_rows op_rows fence_rows system_rows time_rows bitwise computed computed_with shifted multiplied is_taken loaded lanes_at merged result_of nibbles standing region_of index_of may_fetch may_load may_store frame turn is_table is_regions is_awake after_last donated pick load store branch delay wait changed may_hold csr_access goes run act acts_on effect_of issue code_at data_at around after_turn recent world
+unfolding new_slots ins rows lui_rows auipc_rows jal_rows jalr_rows branch_rows load_rows store_rows imm_rows op_rows fence_rows system_rows time_rows bitwise computed computed_with shifted multiplied is_taken loaded lanes_at merged result_of nibbles standing region_of index_of may_fetch may_load may_store frame turn is_table is_regions is_awake after_last donated pick load store branch delay wait changed may_hold csr_access execute_untrapped run_at execute_in execute_word effect_of issue code_at data_at around after_turn recent world
 new_slots-1 = refl
 
 -- a word that the slots can't hold is refused
@@ -149,5 +149,5 @@ bad_slot =
 
 bad_slot-0 : events bad_slot 0 5 ≡
     at 0 0 0x00 0x7c045073 (Trap 2 0x0) ∷ []
-unfolding bad_slot ins rows lui_rows auipc_rows jal_rows jalr_rows branch_rows load_rows store_rows imm_rows op_rows fence_rows system_rows time_rows bitwise computed computed_with shifted multiplied is_taken loaded lanes_at merged result_of nibbles standing region_of index_of may_fetch may_load may_store frame turn is_table is_regions is_awake after_last donated pick load store branch delay wait changed may_hold csr_access goes run act acts_on effect_of issue code_at data_at around after_turn recent world
+unfolding bad_slot ins rows lui_rows auipc_rows jal_rows jalr_rows branch_rows load_rows store_rows imm_rows op_rows fence_rows system_rows time_rows bitwise computed computed_with shifted multiplied is_taken loaded lanes_at merged result_of nibbles standing region_of index_of may_fetch may_load may_store frame turn is_table is_regions is_awake after_last donated pick load store branch delay wait changed may_hold csr_access execute_untrapped run_at execute_in execute_word effect_of issue code_at data_at around after_turn recent world
 bad_slot-0 = refl

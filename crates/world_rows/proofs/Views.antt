@@ -1,4 +1,4 @@
--- Two machines that differ in all that one hart can't see.
+-- Two machines that differ in all that one thread can't see.
 use Rattle.std.proofs.Common.{◌≡◌, ℕ, true, false, List, [], ◌∷◌, ◌++◌, None, Some, refl, replicate}
 use Rattle.nibble_word.specs.Nibbles.{nibbles}
 use Rattle.rv_decode.specs.Table.{ins, rows, lui_rows, auipc_rows, jal_rows, jalr_rows, branch_rows, load_rows, store_rows, imm_rows, op_rows, fence_rows, system_rows, time_rows}
@@ -14,7 +14,7 @@ use Rattle.slot_scheduler.specs.Picking.{is_awake, after_last, donated, pick}
 use Rattle.core_model.specs.Thread.{fresh}
 use Rattle.core_model.specs.Parts.{load, store, branch, delay, wait}
 use Rattle.core_model.specs.Control.{changed, may_hold, csr_access}
-use Rattle.core_model.specs.Issue.{goes, run, act, acts_on, effect_of, issue}
+use Rattle.core_model.specs.Issue.{execute_untrapped, run_at, execute_in, execute_word, effect_of, issue}
 use Rattle.core_model.specs.Memory.{code_at, data_at}
 use Rattle.world_model.specs.World.{Start, around, after_turn, recent, world, events}
 use Rattle.world_model.specs.Viewed.{setting_of, view}
@@ -23,14 +23,14 @@ use Rattle.world_rows.specs.Base.{words, base}
 code : List ℕ
 code = 0x00100293 ∷ 0x00002303 ∷ 0x200000b7 ∷ 0x0060a023 ∷ 0x0000a383 ∷ 0x40000137 ∷ 0x00012403 ∷ 0xfe5ff06f ∷ []
 
--- hart 0 beside hart 1, which has a region of code and one of data
+-- thread 0 beside thread 1, which has a region of code and one of data
 one : Start
 one =
     record (base code) {
       registers = record { slots = 0xfffffe10; modes = 0xfffc; dregions = 0xccccc810; iregions = 0xcccccc1c };
     }
 
--- the others have other slots, modes, entries, permits and ports; their regions are those of other harts;
+-- the others have other slots, modes, entries, permits and ports; their regions are those of other threads;
 -- and there are words in them and in the shared region
 other : Start
 other =
@@ -52,5 +52,5 @@ unfolding one other code view setting_of nibbles standing frame
 alike = refl
 
 equal : events one 0 40 ≡ events other 0 40
-unfolding one other code ins rows lui_rows auipc_rows jal_rows jalr_rows branch_rows load_rows store_rows imm_rows op_rows fence_rows system_rows time_rows bitwise computed computed_with shifted multiplied is_taken loaded lanes_at merged result_of nibbles standing region_of index_of may_fetch may_load may_store frame turn is_table is_regions is_awake after_last donated pick load store branch delay wait changed may_hold csr_access goes run act acts_on effect_of issue code_at data_at around after_turn recent world
+unfolding one other code ins rows lui_rows auipc_rows jal_rows jalr_rows branch_rows load_rows store_rows imm_rows op_rows fence_rows system_rows time_rows bitwise computed computed_with shifted multiplied is_taken loaded lanes_at merged result_of nibbles standing region_of index_of may_fetch may_load may_store frame turn is_table is_regions is_awake after_last donated pick load store branch delay wait changed may_hold csr_access execute_untrapped run_at execute_in execute_word effect_of issue code_at data_at around after_turn recent world
 equal = refl

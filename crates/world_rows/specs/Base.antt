@@ -9,9 +9,9 @@ use Rattle.world_model.specs.World.{Start}
 abbrev pub words : ℕ → List ℕ → List ℕ
 words size first = first ++ replicate (size / 4 - length first) 0
 
--- cycles of 10 ns; hart 0 is hard, confined and has all cycles, the others are soft asleep; it owns the
--- first region of data, hart 1 the second, the third is shared, and all others are read only; eight
--- ports are there
+-- cycles of 10 ns; thread 0 is hard, confined and has all cycles, the others are soft asleep; it owns the
+-- first region of data, thread 1 the second, the third is shared, and all others are read only;
+-- eight ports are there
 abbrev pub base : List ℕ → Start
 base code =
     record {

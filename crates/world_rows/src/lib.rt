@@ -1,3 +1,3 @@
-//! Programs with their traces, which the definitions of the world and of one hart compute. They
+//! Programs with their traces, which the definitions of the world and of one thread compute. They
 //! stand in proofs/.
 #![tactic(auto)]

@@ -4,7 +4,7 @@ use Rattle.bound_calc.proofs.AdvanceLaws.{best-advanced}
 use Rattle.bound_calc.proofs.advance.advance.Goals as goal
 
 pub advance_row-requires : goal.advance_row-requires
-advance_row-requires c = record { places = λ p d q h. (c.requires.places p d q h).1 }
+advance_row-requires c = record { positions = λ p d q h. (c.requires.positions p d q h).1 }
 
 pub loop-p-preserved : goal.loop-p-preserved
 loop-p-preserved c =
@@ -20,4 +20,4 @@ loop-p-preserved c =
     }
 
 pub returns : goal.returns
-returns c = best-advanced c.args.here.now c.args.onto.now c.loop-p.onto c.args.hops.now.hops c.requires.places (λ p h. c.loop-p.invariant.rows p (omega arith))
+returns c = best-advanced c.args.here.now c.args.onto.now c.loop-p.onto c.args.hops.now.hops c.requires.positions (λ p h. c.loop-p.invariant.rows p (omega arith))

@@ -1,5 +1,5 @@
 use Rattle.bound_calc.specs.Passing.{IsMost, walks}
 use Rattle.bound_calc.proofs.cycle_bound.most.Given as goal
 
-abbrev pub invariant-loop-place : goal.invariant-loop-place
-invariant-loop-place l = IsMost (walks l.tree l.steps) l.tree l.place l.at l.most
+abbrev pub invariant-loop-index : goal.invariant-loop-index
+invariant-loop-index l = IsMost (walks l.tree l.steps) l.tree l.index l.at l.most

@@ -4,10 +4,10 @@ use Rattle.bound_calc.specs.Passing.{Powers, power_at}
 use Rattle.bound_calc.proofs.FillLaws.{none-more}
 use Rattle.bound_calc.proofs.fill.empty.Goals as goal
 
-pub loop-place-preserved : goal.loop-place-preserved
-loop-place-preserved c =
-    let more : length c.push.new.self.items ≡ length c.loop-place.powers.items + 1 = ap length c.in_ok-push.ensures.items ∙ length_push c.loop-place.powers.items None in
+pub loop-index-preserved : goal.loop-index-preserved
+loop-index-preserved c =
+    let more : length c.push.new.self.items ≡ length c.loop-index.powers.items + 1 = ap length c.in_ok-push.ensures.items ∙ length_push c.loop-index.powers.items None in
     record {
-      count = omega (arith, c.loop-place.invariant.count);
-      none = λ k. subst (λ (p : Powers). power_at p k ≡ None) (sym c.in_ok-push.ensures.items) (none-more c.loop-place.powers.items c.loop-place.invariant.none k);
+      count = omega (arith, c.loop-index.invariant.count);
+      none = λ k. subst (λ (p : Powers). power_at p k ≡ None) (sym c.in_ok-push.ensures.items) (none-more c.loop-index.powers.items c.loop-index.invariant.none k);
     }

@@ -2,5 +2,5 @@ use Rattle.std.proofs.Common.{◌≡◌, ℕ, length, None}
 use Rattle.bound_calc.specs.Passing.{power_at}
 use Rattle.bound_calc.proofs.fill.empty.Given as goal
 
-abbrev pub invariant-loop-place : goal.invariant-loop-place
-invariant-loop-place l = record { count : length l.powers.items ≡ l._place; none : (k : ℕ) → power_at l.powers.items k ≡ None }
+abbrev pub invariant-loop-index : goal.invariant-loop-index
+invariant-loop-index l = record { count : length l.powers.items ≡ l._index; none : (k : ℕ) → power_at l.powers.items k ≡ None }

@@ -4,8 +4,8 @@ use Rattle.bound_calc.proofs.fill.fill.Goals as goal
 
 pub fill_word-requires-clause-filled : goal.fill_word-requires-clause-filled
 fill_word-requires-clause-filled c =
-    let next : c.loop-place.place ≡ c.loop-place.place - 1 + 1 = omega arith in
-    subst (λ n. IsFilled (over c.args.tree.now c.args.steps.now (ways_on c.args.ways.now)) c.args.tree.now n c.loop-place.powers) next c.loop-place.invariant.filled
+    let next : c.loop-index.index ≡ c.loop-index.index - 1 + 1 = omega arith in
+    subst (λ n. IsFilled (over c.args.tree.now c.args.steps.now (ways_on c.args.ways.now)) c.args.tree.now n c.loop-index.powers) next c.loop-index.invariant.filled
 
-pub loop-place-preserved : goal.loop-place-preserved
-loop-place-preserved c = record { top = omega (arith, c.loop-place.invariant.top); filled = c.in_ok-fill_word.ensures }
+pub loop-index-preserved : goal.loop-index-preserved
+loop-index-preserved c = record { top = omega (arith, c.loop-index.invariant.top); filled = c.in_ok-fill_word.ensures }

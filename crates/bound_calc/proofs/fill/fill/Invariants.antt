@@ -2,8 +2,8 @@ use Rattle.std.proofs.Common.{◌≤◌, length}
 use Rattle.bound_calc.specs.Passing.{IsFilled, over, ways_on}
 use Rattle.bound_calc.proofs.fill.fill.Given as goal
 
-abbrev pub invariant-loop-place : goal.invariant-loop-place
-invariant-loop-place l = record { top : l.place ≤ length l.tree.words; filled : IsFilled (over l.tree l.steps (ways_on l.ways)) l.tree l.place l.powers }
+abbrev pub invariant-loop-index : goal.invariant-loop-index
+invariant-loop-index l = record { top : l.index ≤ length l.tree.words; filled : IsFilled (over l.tree l.steps (ways_on l.ways)) l.tree l.index l.powers }
 
-abbrev pub decreases-loop-place : goal.decreases-loop-place
-decreases-loop-place l = l.place
+abbrev pub decreases-loop-index : goal.decreases-loop-index
+decreases-loop-index l = l.index

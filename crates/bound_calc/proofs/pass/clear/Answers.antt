@@ -2,5 +2,5 @@ use Rattle.std.proofs.Common.{◌≡◌, ◌<◌, ◌⊎◌, arith}
 use Rattle.bound_calc.proofs.PassLaws.{cleared}
 use Rattle.bound_calc.proofs.pass.clear.Goals as goal
 
-pub loop-place-preserved : goal.loop-place-preserved
-loop-place-preserved c = λ k a b. cleared c.loop-place.at k c.loop-place.place (omega (arith, c.loop-place.auto.at)) (let z : (k < c.loop-place.place) ⊎ (k ≡ c.loop-place.place) = grind arith in z) (λ h. c.loop-place.invariant k a h)
+pub loop-index-preserved : goal.loop-index-preserved
+loop-index-preserved c = λ k a b. cleared c.loop-index.at k c.loop-index.index (omega (arith, c.loop-index.auto.at)) (let z : (k < c.loop-index.index) ⊎ (k ≡ c.loop-index.index) = grind arith in z) (λ h. c.loop-index.invariant k a h)

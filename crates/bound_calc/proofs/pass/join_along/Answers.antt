@@ -3,11 +3,11 @@ use Rattle.std.specs.Option.{option_map}
 use Rattle.bound_calc.specs.Best.{Either, In, IsBest, Then}
 use Rattle.bound_calc.specs.Matrices.{entry}
 use Rattle.bound_calc.specs.Passing.{moved}
-use Rattle.bound_calc.proofs.PassLaws.{along-matrix, hops-places, with-steps}
+use Rattle.bound_calc.proofs.PassLaws.{along-matrix, hops-positions, with-steps}
 use Rattle.bound_calc.proofs.pass.join_along.Goals as goal
 
 pub advance-requires : goal.advance-requires
-advance-requires c = record { places = hops-places c.args.steps.now c.args.lag c.hops.result.now.hops c.hops.ensures.frame c.hops.ensures.hops }
+advance-requires c = record { positions = hops-positions c.args.steps.now c.args.lag c.hops.result.now.hops c.hops.ensures.frame c.hops.ensures.hops }
 
 pub returns-in-None : goal.returns-in-None
 returns-in-None c =

@@ -3,5 +3,5 @@ use Rattle.bound_calc.specs.Matrices.{entry}
 use Rattle.bound_calc.specs.Passing.{Ended}
 use Rattle.bound_calc.proofs.returns.through.Given as goal
 
-abbrev pub invariant-loop-place : goal.invariant-loop-place
-invariant-loop-place l = IsBest (entry l.back) (Ended l.steps l.ends l.at l.place)
+abbrev pub invariant-loop-index : goal.invariant-loop-index
+invariant-loop-index l = IsBest (entry l.back) (Ended l.steps l.ends l.at l.index)

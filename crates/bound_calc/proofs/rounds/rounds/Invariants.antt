@@ -5,5 +5,5 @@ use Rattle.bound_calc.specs.Passing.{over, ways_on}
 use Rattle.region_tree.specs.Search.{address}
 use Rattle.bound_calc.proofs.rounds.rounds.Given as goal
 
-abbrev pub invariant-loop-place : goal.invariant-loop-place
-invariant-loop-place l = IsBest (entry l.back) (Turns (over l.tree l.steps (ways_on l.ways)) l.j (Below (over l.tree l.steps (ways_on l.ways)) (address l.tree l.place)))
+abbrev pub invariant-loop-index : goal.invariant-loop-index
+invariant-loop-index l = IsBest (entry l.back) (Turns (over l.tree l.steps (ways_on l.ways)) l.j (Below (over l.tree l.steps (ways_on l.ways)) (address l.tree l.index)))

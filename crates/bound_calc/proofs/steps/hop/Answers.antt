@@ -1,14 +1,14 @@
 use Rattle.std.proofs.Common.{◌≡◌, arith, sym, ◌∙◌, false, true}
 use Rattle.bound_calc.specs.Bound.{positions}
-use Rattle.bound_calc.proofs.StepLaws.{own-place, place-own}
+use Rattle.bound_calc.proofs.StepLaws.{own-position, position-own}
 use Rattle.bound_calc.proofs.steps.hop.Goals as goal
 use Rattle.bound_calc.proofs.steps.hop.Goals.{then-position-count-via-then-position-count, then-position-count-via-else-position-count+then-not-is_own}
 
 pub returns-then-position-count-clause-all : goal.returns-then-position-count-clause-all
 returns-then-position-count-clause-all c = λ d q t. absurd (elim c.then-position-count.branch [
   | then-position-count-via-then-position-count w ↦ (let s = t.start.within in omega (arith, w.if-position-count.true, c.frame_len.ensures, c.from-count.ensures))
-  | then-position-count-via-else-position-count+then-not-is_own w ↦ (let z : false ≡ true = sym w.if-not-is_own.true ∙ w.is_own.ensures.1 (place-own (positions c.args.slots.now c.args.thread) c.args.position t.start) in cc)
+  | then-position-count-via-else-position-count+then-not-is_own w ↦ (let z : false ≡ true = sym w.if-not-is_own.true ∙ w.is_own.ensures.1 (position-own (positions c.args.slots.now c.args.thread) c.args.position t.start) in cc)
 ])
 
 pub distance-cost-requires-clause-own : goal.distance-cost-requires-clause-own
-distance-cost-requires-clause-own c = own-place (positions c.args.slots.now c.args.thread) c.args.position (omega (arith, c.frame_len.ensures, c.from-count.ensures)) (c.is_own.ensures.0 c.if-not-is_own.false)
+distance-cost-requires-clause-own c = own-position (positions c.args.slots.now c.args.thread) c.args.position (omega (arith, c.frame_len.ensures, c.from-count.ensures)) (c.is_own.ensures.0 c.if-not-is_own.false)

@@ -4,5 +4,5 @@ use Rattle.bound_calc.specs.Passing.{ways_on}
 use Rattle.call_bounds.specs.Summaries.{Any, LeavesAt}
 use Rattle.call_bounds.proofs.bound.leaving.Given as goal
 
-abbrev pub invariant-loop-place : goal.invariant-loop-place
-invariant-loop-place l = IsBest (entry l.out) (Either (In (entry l.onto)) (Any (LeavesAt l.part l.steps (ways_on l.ways) l.at) l.place))
+abbrev pub invariant-loop-index : goal.invariant-loop-index
+invariant-loop-index l = IsBest (entry l.out) (Either (In (entry l.onto)) (Any (LeavesAt l.part l.steps (ways_on l.ways) l.at) l.index))

@@ -4,5 +4,5 @@ use Rattle.region_tree.specs.Tree.{graph}
 use Rattle.call_bounds.specs.Build.{LeavesAt}
 use Rattle.call_bounds.proofs.escape.way_out.Given as goal
 
-abbrev pub invariant-loop-place : goal.invariant-loop-place
-invariant-loop-place l = (k : ℕ) → k < l.place → LeavesAt (graph l.tree) (address l.tree k) → ⊥
+abbrev pub invariant-loop-index : goal.invariant-loop-index
+invariant-loop-index l = (k : ℕ) → k < l.index → LeavesAt (graph l.tree) (address l.tree k) → ⊥

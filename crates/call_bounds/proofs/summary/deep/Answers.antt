@@ -8,12 +8,12 @@ use Rattle.call_bounds.specs.Summaries.{EndsAt}
 use Rattle.call_bounds.proofs.AnyLaws.{any-more, any-none}
 use Rattle.call_bounds.proofs.summary.deep.Goals as goal
 
-pub loop-place-init : goal.loop-place-init
-loop-place-init c = any-none none-entry
+pub loop-index-init : goal.loop-index-init
+loop-index-init c = any-none none-entry
 
-pub loop-place-preserved : goal.loop-place-preserved
-loop-place-preserved c =
+pub loop-index-preserved : goal.loop-index-preserved
+loop-index-preserved c =
     let into = ways_on c.args.into.now in
     let at = c.args.at.now in
-    any-more (λ k. EndsAt (into k) (matrix_at at k)) c.loop-place.place c.loop-place.invariant
-    (subst (λ (w : Option Matrix). IsBest (entry c.end_at-deep.result) (Either (In (entry c.loop-place.deep)) (EndsAt w (matrix_at at c.loop-place.place)))) c.at.ensures c.end_at-deep.ensures)
+    any-more (λ k. EndsAt (into k) (matrix_at at k)) c.loop-index.index c.loop-index.invariant
+    (subst (λ (w : Option Matrix). IsBest (entry c.end_at-deep.result) (Either (In (entry c.loop-index.deep)) (EndsAt w (matrix_at at c.loop-index.index)))) c.at.ensures c.end_at-deep.ensures)

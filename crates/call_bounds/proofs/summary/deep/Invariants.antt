@@ -4,5 +4,5 @@ use Rattle.bound_calc.specs.Passing.{ways_on}
 use Rattle.call_bounds.specs.Summaries.{Ending}
 use Rattle.call_bounds.proofs.summary.deep.Given as goal
 
-abbrev pub invariant-loop-place : goal.invariant-loop-place
-invariant-loop-place l = IsBest (entry l.deep) (Ending (ways_on l.into) l.at l.place)
+abbrev pub invariant-loop-index : goal.invariant-loop-index
+invariant-loop-index l = IsBest (entry l.deep) (Ending (ways_on l.into) l.at l.index)

@@ -1,18 +1,18 @@
 -- Loads and stores that are allowed, and what is declined.
 use Rattle.std.proofs.Common.{arith}
 use Rattle.std.proofs.lemmas.Grind.{common_steps}
-use Rattle.core_model.specs.Issue.{goes}
+use Rattle.core_model.specs.Issue.{execute_untrapped}
 use Rattle.hart_exec.specs.AsDefined.{is_plain}
 use Rattle.hart_exec.proofs.plain.plain.Goals as goal
 
 pub returns-in-Store-clause-answers : goal.returns-in-Store-clause-answers
-unfolding goes is_plain
+unfolding execute_untrapped is_plain
 returns-in-Store-clause-answers g c = grind (arith, common_steps)
 
 pub returns-in-Store-clause-did : goal.returns-in-Store-clause-did
-unfolding goes is_plain
+unfolding execute_untrapped is_plain
 returns-in-Store-clause-did g c = grind (arith, common_steps)
 
 pub returns-in_default-2-clause-answers : goal.returns-in_default-2-clause-answers
-unfolding goes is_plain
+unfolding execute_untrapped is_plain
 returns-in_default-2-clause-answers g c = grind (arith, common_steps)

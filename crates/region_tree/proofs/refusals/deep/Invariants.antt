@@ -1,5 +1,5 @@
 use Rattle.region_tree.specs.Search.{Before, DeepHere, LowestOf}
 use Rattle.region_tree.proofs.refusals.deep.Given as goal
 
-abbrev pub invariant-loop-place : goal.invariant-loop-place
-invariant-loop-place l = LowestOf (Before (DeepHere l.loops) l.place) l.found
+abbrev pub invariant-loop-index : goal.invariant-loop-index
+invariant-loop-index l = LowestOf (Before (DeepHere l.loops) l.index) l.found

@@ -3,8 +3,8 @@ use Rattle.region_tree.specs.Search.{Before, EnteredHere, LowestOf}
 use Rattle.region_tree.proofs.LowestLaws.{lowest-next, entered-by}
 use Rattle.region_tree.proofs.refusals.entered_by.Goals as goal
 
-pub loop-place-preserved : goal.loop-place-preserved
-loop-place-preserved c = subst (LowestOf (Before (EnteredHere c.args.loops.now c.args.from c.in_ok-to.to) (c.loop-place.place + 1))) (sym c.lower-found.ensures) (lowest-next (EnteredHere c.args.loops.now c.args.from c.in_ok-to.to) c.loop-place.place c.loop-place.found c.entered_here.result c.loop-place.invariant c.entered_here.ensures)
+pub loop-index-preserved : goal.loop-index-preserved
+loop-index-preserved c = subst (LowestOf (Before (EnteredHere c.args.loops.now c.args.from c.in_ok-to.to) (c.loop-index.index + 1))) (sym c.lower-found.ensures) (lowest-next (EnteredHere c.args.loops.now c.args.from c.in_ok-to.to) c.loop-index.index c.loop-index.found c.entered_here.result c.loop-index.invariant c.entered_here.ensures)
 
 pub returns : goal.returns
-returns c = entered-by c.args.loops.now c.args.from c.in_ok-to.to c.loop-place.place c.args.target c.loop-place.found c.in_ok-to.was (omega arith) c.loop-place.invariant
+returns c = entered-by c.args.loops.now c.args.from c.in_ok-to.to c.loop-index.index c.args.target c.loop-index.found c.in_ok-to.was (omega arith) c.loop-index.invariant

@@ -4,5 +4,5 @@ use Rattle.region_tree.specs.Search.{address}
 use Rattle.region_tree.specs.Tree.{graph}
 use Rattle.region_tree.proofs.refusals.unbounded.Given as goal
 
-abbrev pub invariant-loop-place : goal.invariant-loop-place
-invariant-loop-place l = (k : ℕ) → k < l.place → UnboundedAt (graph l.draft) (address l.draft k) → ⊥
+abbrev pub invariant-loop-index : goal.invariant-loop-index
+invariant-loop-index l = (k : ℕ) → k < l.index → UnboundedAt (graph l.draft) (address l.draft k) → ⊥

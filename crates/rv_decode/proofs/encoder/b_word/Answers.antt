@@ -1,4 +1,4 @@
--- The bits of an offset in their places.
+-- The bits of an offset at their positions.
 use Rattle.std.proofs.Common.{arith}
 use Rattle.std.proofs.lemmas.Grind.{common_steps}
 use Rattle.rv_decode.proofs.encoder.b_word.Goals as goal

@@ -2,5 +2,5 @@ use Rattle.std.specs.Prelude.{replicate}
 use Rattle.selfrun.specs.Folds.{IsPiece}
 use Rattle.selfrun.proofs.line_fold.blanks.Given as goal
 
-abbrev pub invariant-loop-place : goal.invariant-loop-place
-invariant-loop-place l = IsPiece l.piece (replicate l._place 32)
+abbrev pub invariant-loop-column : goal.invariant-loop-column
+invariant-loop-column l = IsPiece l.piece (replicate l._column 32)

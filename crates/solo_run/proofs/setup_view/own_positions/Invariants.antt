@@ -4,8 +4,8 @@ use Rattle.slot_table.specs.Frame.{frame}
 use Rattle.solo_run.specs.View.{positions}
 use Rattle.solo_run.proofs.setup_view.own_positions.Given as goal
 
-abbrev pub invariant-loop-place : goal.invariant-loop-place
-invariant-loop-place l = record {
-  mine : positions l.own (length (frame l.slots) - l.place) ≡ map (λ slot. slot == l.thread) (drop l.place (frame l.slots));
-  inside : l.own < 2 ^ (length (frame l.slots) - l.place);
+abbrev pub invariant-loop-position : goal.invariant-loop-position
+invariant-loop-position l = record {
+  mine : positions l.own (length (frame l.slots) - l.position) ≡ map (λ slot. slot == l.thread) (drop l.position (frame l.slots));
+  inside : l.own < 2 ^ (length (frame l.slots) - l.position);
 }

@@ -1,4 +1,4 @@
 use Rattle.trace_print.proofs.digits.+push_hex.Given as goal
 
 abbrev pub decreases-push_hex : goal.decreases-push_hex
-decreases-push_hex l = l.places
+decreases-push_hex l = l.width

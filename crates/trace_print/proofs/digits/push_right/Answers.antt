@@ -3,9 +3,9 @@ use Rattle.std.proofs.lemmas.Grind.{common_steps}
 use Rattle.trace_print.specs.Digits.{right}
 use Rattle.trace_print.proofs.digits.push_right.Goals as goal
 
-pub loop-place-init : goal.loop-place-init
+pub loop-column-init : goal.loop-column-init
 unfolding right
-loop-place-init c = search rules
+loop-column-init c = search rules
 
 pub returns-clause-text : goal.returns-clause-text
 unfolding right

@@ -11,6 +11,6 @@ pub returns-in_err-size-clause-refused : goal.returns-in_err-size-clause-refused
 unfolding first_line placed_by
 returns-in_err-size-clause-refused c = grind (arith, common_steps)
 
-pub returns-in_err-take_places-clause-refused : goal.returns-in_err-take_places-clause-refused
+pub returns-in_err-take_addresses-clause-refused : goal.returns-in_err-take_addresses-clause-refused
 unfolding first_line placed_by
-returns-in_err-take_places-clause-refused c = grind (arith, common_steps)
+returns-in_err-take_addresses-clause-refused c = grind (arith, common_steps)

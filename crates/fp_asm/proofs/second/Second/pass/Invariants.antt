@@ -6,6 +6,6 @@ use Rattle.fp_asm.proofs.second.Second.pass.Given as goal
 
 abbrev pub invariant-loop-i : goal.invariant-loop-i
 invariant-loop-i l = record {
-  aligned : l.self.place % 4 ≡ 0;
+  aligned : l.self.location % 4 ≡ 0;
   so_far : second_pass 1 (labels_seen l.labels) (written_seen l.initial.self) (map (λ x. x.now) l.lines) ≡ second_pass (l.i + 1) (labels_seen l.labels) (written_seen l.self) (map (λ x. x.now) (drop l.i l.lines));
 }

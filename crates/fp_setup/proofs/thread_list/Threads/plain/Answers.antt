@@ -5,7 +5,7 @@ use Rattle.fp_setup.specs.declared.thread_list.ThreadSetup.{ThreadSetup}
 use Rattle.fp_setup.specs.Threads.{IsThread}
 use Rattle.fp_setup.specs.SetupOfTables.{the_threads, unnamed}
 use Rattle.fp_setup.specs.Plain.{plain_at, plain_threads}
-use Rattle.fp_setup.proofs.Placed.{unnamed-rules}
+use Rattle.fp_setup.proofs.RowPut.{unnamed-rules}
 use Rattle.fp_setup.proofs.PlainThreads.{rules_at, made-more}
 use Rattle.fp_setup.proofs.thread_list.Threads.plain.Goals as goal
 

@@ -1,7 +1,7 @@
 use Rattle.std.proofs.Common.{◌<◌, [], ◌∷◌, filter, length, take, get_or, refl, arith, length-append}
 use Rattle.std.proofs.lemmas.List.{take_all}
 use Rattle.slot_table.specs.Frame.{is_used}
-use Rattle.slot_table.proofs.Turns.{used-kept, used-left, in_places-push}
+use Rattle.slot_table.proofs.Turns.{used-kept, used-left, in_positions-push}
 use Rattle.slot_table.proofs.frame.Frame.of_slots.Goals as goal
 use Rattle.slot_table.proofs.frame.Frame.of_slots.Goals.{then-slot-ne-DISABLED, else-slot-ne-DISABLED}
 
@@ -15,7 +15,7 @@ loop-slot-preserved c =
     elim c.if-slot-ne-DISABLED.branch [
       | then-slot-ne-DISABLED w ↦
           let more = used-kept slots i inside w.if-slot-ne-DISABLED.true in
-          let used = in_places-push before (get_or slots i 0) few in
+          let used = in_positions-push before (get_or slots i 0) few in
           let len = length-append before (get_or slots i 0 ∷ []) in
           record { used = cc; len = rw more (omega arith); few = omega arith }
       | else-slot-ne-DISABLED w ↦

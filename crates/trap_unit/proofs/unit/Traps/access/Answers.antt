@@ -13,8 +13,8 @@ returns-then-writes-clause-answer c = search rules
 pub returns-then-not-writes-clause-answer : goal.returns-then-not-writes-clause-answer
 returns-then-not-writes-clause-answer c = search rules
 
-pub returns-then-not-can_hold-clause-answer : goal.returns-then-not-can_hold-clause-answer
-returns-then-not-can_hold-clause-answer c = search rules
+pub returns-then-not-may_hold-clause-answer : goal.returns-then-not-may_hold-clause-answer
+returns-then-not-may_hold-clause-answer c = search rules
 
 pub returns-clause-answer : goal.returns-clause-answer
 returns-clause-answer c = search rules

@@ -1,0 +1,96 @@
+//! The addresses that are placed.
+
+ghost use Rattle.std.specs.Prelude.{◌≡◌, ◌≤◌, IfErr, OnOk, Ok, not};
+ghost use Rattle.std.specs.List.{list_all};
+ghost use Rattle.fp_asm.specs.First.{is_inside as is_inside_of, addresses, is_taken, with_taken, take_addresses as take_addresses_of};
+ghost use Rattle.fp_asm.specs.Faults.{IsStopOf};
+
+use super::refusal::{AsmNo, Stop};
+use std::alloc::AllocError;
+use std::collections::BTreeSet;
+
+/// The bytes of each scratchpad.
+const SPM_BYTES: u32 = 16_384;
+
+/// The address of the first byte of the data scratchpad.
+const DATA: u32 = 0x2000_0000;
+
+fn is_inside(a: u32) -> bool
+    ensures { result ≡ is_inside_of a }
+{
+    a < SPM_BYTES || (DATA <= a && a < DATA + SPM_BYTES)
+}
+
+// Whether the scratchpads have n words from a location on.
+#[tactic(auto, using(crate::proofs::WordByWord::addresses_here, crate::proofs::WordByWord::addresses_end))]
+fn are_inside(location: u32, n: u32) -> bool
+    ensures { result ≡ list_all is_inside_of (addresses location n) }
+{
+    let mut a = location;
+    let mut left = n;
+    while left != 0 {
+        if !is_inside(a) {
+            return false;
+        }
+        a = a.wrapping_add(4);
+        left -= 1;
+    }
+    true
+}
+
+// Whether none of n words from a location on was placed.
+#[tactic(auto, using(crate::proofs::WordByWord::addresses_here, crate::proofs::WordByWord::addresses_end))]
+fn are_free(taken: &BTreeSet<u32>, location: u32, n: u32) -> bool
+    ensures { result ≡ list_all (λ a. not (is_taken taken.now.keys a)) (addresses location n) }
+{
+    let mut a = location;
+    let mut left = n;
+    while left != 0 {
+        if taken.contains(&a) {
+            return false;
+        }
+        a = a.wrapping_add(4);
+        left -= 1;
+    }
+    true
+}
+
+#[tactic(auto, using(crate::proofs::WordByWord::addresses_here, crate::proofs::WordByWord::addresses_end))]
+fn take(taken: &mut BTreeSet<u32>, location: u32, n: u32) -> Result<(), AllocError>
+    ensures { OnOk result (taken.new.keys ≡ with_taken taken.old.keys (addresses location n)) }
+{
+    let mut a = location;
+    let mut left = n;
+    while left != 0 {
+        taken.insert(a)?;
+        a = a.wrapping_add(4);
+        left -= 1;
+    }
+    Ok(())
+}
+
+/// Places n words from a location on.
+///
+/// # Errors
+///
+/// [`AsmNo::OutsideMemory`] where a word is outside the scratchpads, and then [`AsmNo::Overlap`]
+/// where there is a word at one of the locations; or memory was refused.
+#[tactic(auto, unfolding(crate::specs::First::take_addresses))]
+pub(crate) fn take_addresses(taken: &mut BTreeSet<u32>, location: u32, n: u32) -> Result<(), Stop>
+    ensures ok { OnOk result (take_addresses_of taken.old.keys (addresses location n)
+        ≡ Ok taken.new.keys) }
+    ensures refused { IfErr result (IsStopOf (take_addresses_of taken.old.keys (addresses location n))) }
+{
+    if !are_inside(location, n) {
+        return Err(Stop::Fault {
+            code: AsmNo::OutsideMemory,
+        });
+    }
+    if !are_free(taken, location, n) {
+        return Err(Stop::Fault {
+            code: AsmNo::Overlap,
+        });
+    }
+    take(taken, location, n)?;
+    Ok(())
+}

@@ -1,0 +1,102 @@
+//! What stands between two stages. A turn goes from stage to stage, one in each cycle: F fetches, D
+//! reads registers, E executes, M goes to memory and to the ports, and W writes registers.
+
+use rv_exec::Effect;
+
+/// What a stage register holds of a turn.
+#[derive(Clone, Copy, Debug)]
+pub enum Held<T> {
+    /// Nobody was picked.
+    Bubble,
+    /// The turn of a thread that wasn't ready.
+    Flushed { thread: u8 },
+    /// An instruction of a thread, 0 to 7, with what is known of it.
+    Issue { thread: u8, what: T },
+}
+
+/// After F: an address and its word, 0 outside the instruction scratchpad.
+#[derive(Clone, Copy, Debug)]
+pub struct Fetched {
+    /// The address of the word, in bytes, a multiple of 4.
+    pub pc: u32,
+    /// The word there.
+    pub word: u32,
+}
+
+/// After D: the word with the values of its source registers, 0 where it has none. `expired` says
+/// that the thread's armed moment was reached in the cycle of the issue.
+#[derive(Clone, Copy, Debug)]
+pub struct Decoded {
+    /// The address of the word, in bytes.
+    pub pc: u32,
+    /// The word there.
+    pub word: u32,
+    /// Whether an expiry takes the turn.
+    pub expired: bool,
+    /// The value of rs1.
+    pub a: u32,
+    /// The value of rs2.
+    pub b: u32,
+}
+
+/// After E: the word is 0 where an expiry or a refused fetch took the turn, and so are the sources.
+/// `address` is that of a load or store that doesn't trap, else 0. `effect` is none for an
+/// instruction that was held, and `Nothing` where M works out the value.
+#[derive(Clone, Copy, Debug)]
+pub struct Executed {
+    /// The address of the word, in bytes.
+    pub pc: u32,
+    /// The word that the event shows.
+    pub word: u32,
+    /// The value of rs1.
+    pub a: u32,
+    /// The value of rs2.
+    pub b: u32,
+    /// Where M loads or stores, in bytes.
+    pub address: u32,
+    /// The effect but for a late value.
+    pub effect: Option<Effect>,
+}
+
+/// After M: the effect is the event's, none for an instruction that was held.
+#[derive(Clone, Copy, Debug)]
+pub struct Stored {
+    /// The address of the word, in bytes.
+    pub pc: u32,
+    /// The word that the event shows.
+    pub word: u32,
+    /// The effect of the event.
+    pub effect: Option<Effect>,
+}
+
+/// After W.
+#[derive(Clone, Copy, Debug)]
+pub struct Written {
+    /// The address of the word, in bytes.
+    pub pc: u32,
+    /// The word that the event showed.
+    pub word: u32,
+}
+
+/// How a thread goes on whose next instruction may not issue in the next cycle. Source: this
+/// project's profile of the core.
+#[derive(Clone, Copy, PartialEq, Eq, Debug)]
+pub enum Way {
+    /// Behind a value that M works out: the turn in D is flushed, which would read its registers
+    /// before the value is there, and that in F goes on.
+    LateValue,
+    /// At a pc that only E knew, or by what only E changed: the turns in D and in F are flushed.
+    Elsewhere,
+}
+
+/// What E tells D and F in the same cycle: the thread, 0 to 7, fetches at `pc` next, and its
+/// turns in D and F are flushed as the way says. Turns of other threads aren't touched.
+#[derive(Clone, Copy, Debug)]
+pub struct Redirect {
+    /// Whose turns are flushed.
+    pub thread: u8,
+    /// The address of the word that it fetches next, in bytes, a multiple of 4.
+    pub pc: u32,
+    /// Which of them are.
+    pub way: Way,
+}

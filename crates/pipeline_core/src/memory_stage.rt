@@ -1,0 +1,180 @@
+//! M: loads and stores reach the scratchpads and the ports.
+
+ghost use Rattle.std.specs.Prelude.{◌≡◌, ◌-◌, ◌<◌, ◌/◌, Some, length, vec_len};
+ghost use Rattle.rv_decode.specs.Table.{ins};
+ghost use Rattle.rv_exec.specs.Access.{IsAligned};
+ghost use Rattle.core_model.specs.Thread.{filled};
+ghost use Rattle.core_model.specs.Issue.{late_rd, late_value};
+ghost use Rattle.core_model.specs.Memory.{data_at};
+ghost use Rattle.fp_ports.specs.Rows.{rows_of, row_at, word_seen};
+ghost use Rattle.pipe_model.specs.declared.stage_registers.Held.TheVariants.{Issue};
+ghost use Rattle.rv_exec.specs.declared.outcome.Effect.TheVariants.{Reg};
+ghost use Rattle.pipe_model.specs.Stages.{memory_stage, words_stored, ports_stored, put_at_port};
+ghost use Rattle.pipeline_core.specs.StageFacts.{EffectFits, ExecutedFits, StoredFits};
+
+use crate::memory::{data_word, store_word};
+use fp_ports::{Port, Ports, write_port};
+use hart_exec::{Sources, finish};
+use pipe_model::{Executed, Held, Stored};
+use region_guard::Guard;
+use rv_decode::{Ins, decode};
+use rv_exec::Effect;
+use scratchpad::Spm;
+
+const PORT: u32 = 0x4000_0000;
+
+/// The effect of an instruction whose value may come late, with that value. A load at the port
+/// finds the word of three cycles ago, when it was issued.
+fn late_effect(
+    guard: &Guard,
+    imem: &Spm,
+    dmem: &Spm,
+    ports: &mut Ports,
+    thread: u8,
+    cycle: u64,
+    x: &Executed,
+) -> Option<Effect>
+    requires imem { length imem.now ≡ guard.now.size / 4 }
+    requires dmem { length dmem.now ≡ guard.now.size / 4 }
+    requires eight { vec_len ports.old ≡ 8 }
+    requires thread { thread < 8 }
+    requires fits { EffectFits x.now.effect }
+    requires aligned { IsAligned (ins x.now.word) x.now.address }
+    ensures effect { let found = data_at guard.now.size imem.now dmem.now
+        (word_seen (row_at (rows_of latched word_at ports.old.items) thread) (cycle - 3))
+        x.now.address in
+        result ≡ filled (late_rd (ins x.now.word))
+        (late_value (ins x.now.word) found x.now.address x.now.a x.now.b) x.now.effect }
+    ensures fits { EffectFits result }
+    ensures rows { rows_of latched word_at ports.new.items ≡
+        rows_of latched word_at ports.old.items }
+    ensures eight { vec_len ports.new ≡ 8 }
+{
+    let i = decode(x.word);
+    let found = match i {
+        Ins::Load { .. } => data_word(guard, imem, dmem, ports, thread, cycle, x.address),
+        _ => 0,
+    };
+    let sources = Sources { a: x.a, b: x.b };
+    finish(x.effect, &i, found, x.address, sources)
+}
+
+/// What stands in the stage register of an instruction with its effect.
+fn stored(x: &Executed, effect: Option<Effect>) -> Stored
+    ensures { result ≡ record { pc = x.now.pc; word = x.now.word; effect = effect } }
+{
+    Stored {
+        pc: x.pc,
+        word: x.word,
+        effect,
+    }
+}
+
+/// Leaves in `m` an instruction that gives a register its value: a function of its own, so that no
+/// byte of another effect is moved.
+#[inline(always)]
+fn put_register(thread: u8, x: &Executed, rd: u8, value: u32, m: &mut Held<Stored>)
+    ensures { m.new ≡ Issue thread (record {
+      pc = x.now.pc;
+      word = x.now.word;
+      effect = Some (Reg rd value);
+    }) }
+{
+    let what = stored(x, Some(Effect::Reg { rd, value }));
+    *m = Held::Issue { thread, what };
+}
+
+/// Does what a thread's effect does at its port.
+fn put_word(ports: &mut Ports, thread: u8, effect: &Option<Effect>)
+    requires eight { vec_len ports.old ≡ 8 }
+    requires thread { thread < 8 }
+    ensures rows { rows_of latched word_at ports.new.items ≡
+        put_at_port thread effect.now (rows_of latched word_at ports.old.items) }
+    ensures eight { vec_len ports.new ≡ 8 }
+{
+    if let Some(Effect::Store { address, value, .. }) = effect
+        && *address == PORT
+    {
+        write_port(ports, thread, *value);
+    }
+}
+
+/// Leaves in `m` what M makes of an instruction that was issued three cycles ago, and stores what
+/// it stores, in the data scratchpad or at its thread's port.
+#[tactic(auto, unfolding(pipe_model::specs::Stages::memory_stage, pipe_model::specs::Stages::words_stored, pipe_model::specs::Stages::ports_stored))]
+fn access_issue(
+    guard: &Guard,
+    imem: &Spm,
+    dmem: &mut Spm,
+    ports: &mut Ports,
+    cycle: u64,
+    thread: u8,
+    x: &Executed,
+    m: &mut Held<Stored>,
+)
+    requires imem { length imem.now ≡ guard.now.size / 4 }
+    requires dmem { length dmem.old ≡ guard.now.size / 4 }
+    requires eight { vec_len ports.old ≡ 8 }
+    requires fits { ExecutedFits (Issue thread x.now) }
+    ensures stage { m.new ≡ memory_stage guard.now.size imem.now dmem.old
+        (rows_of latched word_at ports.old.items) (cycle - 3) (Issue thread x.now) }
+    ensures fits { StoredFits m.new }
+    ensures words { dmem.new ≡ words_stored guard.now.size m.new dmem.old }
+    ensures length { length dmem.new ≡ length dmem.old }
+    ensures rows { rows_of latched word_at ports.new.items ≡
+        ports_stored m.new (rows_of latched word_at ports.old.items) }
+    ensures eight { vec_len ports.new ≡ 8 }
+{
+    // The most frequent effect stores nothing, and no more than its own fields is moved.
+    if let Some(Effect::Reg { rd, value }) = x.effect {
+        put_register(thread, x, rd, value, m);
+        return;
+    }
+    let effect = match x.effect {
+        Some(Effect::Nothing) => late_effect(guard, imem, dmem, ports, thread, cycle, x),
+        effect => effect,
+    };
+    // So it is where the value came late.
+    if let Some(Effect::Reg { rd, value }) = effect {
+        put_register(thread, x, rd, value, m);
+        return;
+    }
+    store_word(guard, dmem, &effect);
+    put_word(ports, thread, &effect);
+    let what = stored(x, effect);
+    *m = Held::Issue { thread, what };
+}
+
+/// Leaves in `m` what M makes of a turn that was issued three cycles ago, and stores what it
+/// stores.
+#[tactic(auto, unfolding(pipe_model::specs::Stages::memory_stage, pipe_model::specs::Stages::words_stored, pipe_model::specs::Stages::ports_stored))]
+pub fn memory_stage(
+    guard: &Guard,
+    imem: &Spm,
+    dmem: &mut Spm,
+    ports: &mut Ports,
+    cycle: u64,
+    held: &Held<Executed>,
+    m: &mut Held<Stored>,
+)
+    requires imem { length imem.now ≡ guard.now.size / 4 }
+    requires dmem { length dmem.old ≡ guard.now.size / 4 }
+    requires eight { vec_len ports.old ≡ 8 }
+    requires fits { ExecutedFits held.now }
+    ensures stage { m.new ≡ memory_stage guard.now.size imem.now dmem.old
+        (rows_of latched word_at ports.old.items) (cycle - 3) held.now }
+    ensures fits { StoredFits m.new }
+    ensures words { dmem.new ≡ words_stored guard.now.size m.new dmem.old }
+    ensures length { length dmem.new ≡ length dmem.old }
+    ensures rows { rows_of latched word_at ports.new.items ≡
+        ports_stored m.new (rows_of latched word_at ports.old.items) }
+    ensures eight { vec_len ports.new ≡ 8 }
+{
+    match held {
+        Held::Bubble => *m = Held::Bubble,
+        Held::Flushed { thread } => *m = Held::Flushed { thread: *thread },
+        Held::Issue { thread, what } => {
+            access_issue(guard, imem, dmem, ports, cycle, *thread, what, m);
+        }
+    }
+}

@@ -1,0 +1,84 @@
+//! W: registers are written, and events retire.
+
+ghost use Rattle.std.specs.Prelude.{◌≡◌, ◌-◌, ◌<◌, [], slice_index_or, slice_set};
+ghost use Rattle.core_model.specs.Thread.{reg_set, regs_after};
+ghost use Rattle.pipe_model.specs.Stages.{bank_after, writeback_stage, retired};
+ghost use Rattle.pipeline_core.specs.StageFacts.{EffectFits, StoredFits, WrittenFits, IsEventShowable};
+
+use pipe_model::{Held, Stored, Written};
+use regfile_bank::Bank;
+use rv_exec::{Effect, Event};
+
+/// The event that retires in a cycle, if there is one: that of the turn that was issued four cycles
+/// ago.
+#[tactic(auto, unfolding(pipe_model::specs::Stages::retired))]
+pub fn retire(held: &Held<Stored>, cycle: u64) -> Option<Event>
+    requires { StoredFits held.now }
+    ensures event { result ≡ retired (cycle - 4) held.now }
+    ensures showable { IsEventShowable result }
+{
+    let Held::Issue { thread, what } = held else {
+        return None;
+    };
+    Some(Event {
+        cycle: cycle.saturating_sub(4),
+        thread: *thread,
+        pc: what.pc,
+        word: what.word,
+        effect: what.effect?,
+    })
+}
+
+/// Writes the register of a control and status register's access. It is rare, and apart so that the
+/// way of all others carries nothing of it.
+#[cold]
+#[inline(never)]
+fn write_old(bank: &mut Bank, thread: u8, rd: u8, old: u32)
+    requires thread { thread < 8 }
+    requires rd { rd < 32 }
+    ensures { bank.new ≡ slice_set bank.old thread
+        (reg_set (slice_index_or bank.old thread []) rd old) }
+{
+    bank.write(thread, rd, old);
+}
+
+/// Writes the register of an effect, if it has one.
+#[tactic(auto, using(crate::proofs::Registers::unwritten))]
+fn write_register(bank: &mut Bank, thread: u8, effect: &Option<Effect>)
+    requires thread { thread < 8 }
+    requires fits { EffectFits effect.now }
+    ensures { bank.new ≡ slice_set bank.old thread
+        (regs_after effect.now (slice_index_or bank.old thread [])) }
+{
+    // One test for the most frequent effect, and the other one behind it: a match of both asks
+    // first whether it is any of the two.
+    if let Some(Effect::Reg { rd, value }) = effect {
+        bank.write(thread, *rd, *value);
+    } else if let Some(Effect::Csr { rd, old, .. }) = effect {
+        write_old(bank, thread, *rd, *old);
+    }
+}
+
+/// Writes the register of the turn's effect, if it has one, and leaves the turn in `w`.
+#[tactic(auto, unfolding(pipe_model::specs::Stages::bank_after, pipe_model::specs::Stages::writeback_stage))]
+pub fn writeback_stage(bank: &mut Bank, held: &Held<Stored>, w: &mut Held<Written>)
+    requires { StoredFits held.now }
+    ensures bank { bank.new ≡ bank_after held.now bank.old }
+    ensures stage { w.new ≡ writeback_stage held.now }
+    ensures fits { WrittenFits w.new }
+{
+    match held {
+        Held::Bubble => *w = Held::Bubble,
+        Held::Flushed { thread } => *w = Held::Flushed { thread: *thread },
+        Held::Issue { thread, what } => {
+            write_register(bank, *thread, &what.effect);
+            *w = Held::Issue {
+                thread: *thread,
+                what: Written {
+                    pc: what.pc,
+                    word: what.word,
+                },
+            };
+        }
+    }
+}

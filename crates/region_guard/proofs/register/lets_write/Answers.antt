@@ -1,7 +1,0 @@
-use Rattle.std.proofs.Common.{rules}
-use Rattle.region_guard.specs.Regions.{standing}
-use Rattle.region_guard.proofs.register.lets_write.Goals as goal
-
-pub returns-else-nibble-thread : goal.returns-else-nibble-thread
-unfolding standing
-returns-else-nibble-thread c = search rules

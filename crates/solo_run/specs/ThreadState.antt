@@ -1,0 +1,18 @@
+-- The code's thread as that of the definitions.
+use Rattle.core_model.specs.Thread.{Thread, Done, Around}
+use Rattle.core_model.specs.View.{around_by}
+use Rattle.solo_run.specs.declared.thread_state.ThreadState.{ThreadState}
+use Rattle.solo_run.specs.declared.thread_state.Issued.{Issued}
+use Rattle.solo_run.specs.declared.rights.Rights.{Rights}
+use Rattle.solo_run.specs.Kinds.{kinds_of}
+
+abbrev pub thread_of : ThreadState → Thread
+thread_of h = record { pc = h.pc; ready = h.ready; own = h.own; regs = h.registers }
+
+-- what an issue left
+abbrev pub done_of : ThreadState → Issued → Done
+done_of h issued = record { thread = thread_of h; word = issued.word; effect = issued.effect }
+
+-- what its instructions may do
+abbrev pub asked : Rights → Around
+asked r = around_by r.thread r.size (kinds_of r.i_kind) (kinds_of r.d_kind) r.time
