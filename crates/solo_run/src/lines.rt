@@ -1,0 +1,47 @@
+//! The lines of a run's events.
+
+ghost use Rattle.std.specs.Prelude.{◌≡◌, ◌≤◌, ◌<◌, ◌^◌, IfSome, OnOk, OnErr};
+ghost use Rattle.std.specs.Io.KnownBytes.{Appends};
+ghost use Rattle.fp_io.specs.Causes.{Rose};
+ghost use Rattle.fp_io.specs.Content.{AppendsFront};
+ghost use Rattle.rv_exec.specs.Line.{IsPrintable};
+ghost use Rattle.trace_print.specs.Text.{line_text};
+ghost use Rattle.solo_run.specs.Text.{IsEventShowable, event_text};
+
+use fp_io::{PutFailed, Sink};
+use rv_exec::Event;
+use trace_print::EventLine;
+
+/// Makes the line of an event.
+#[inline(always)]
+pub(crate) fn set_line(line: &mut EventLine, event: &Event)
+    requires cycle { event.now.cycle < 10 ^ 10 }
+    requires showable { IsPrintable event.now.effect }
+    ensures { line.new ≡ line_text event.now }
+{
+    line.set(event.cycle, event.pc, event.word, &event.effect);
+}
+
+/// Puts the line of an event, if there is one. The line is made in the place of an earlier one.
+#[inline(always)]
+pub(crate) fn put_event<K: Sink>(
+    out: &mut K,
+    line: &mut EventLine,
+    event: Option<Event>,
+) -> Result<(), PutFailed>
+    requires cycle { IfSome event (λ e. e.cycle < 10 ^ 10) }
+    requires showable { IsEventShowable event }
+    ensures counted { K.faults out.old ≤ K.faults out.new }
+    ensures ok { OnOk result (Appends (K.taken out.old) (K.taken out.new) (event_text event)) }
+    ensures err { OnErr result (AppendsFront (K.taken out.old) (K.taken out.new)
+        (event_text event)) }
+    ensures failed { OnErr result (Rose (K.faults out.old) (K.faults out.new)) }
+{
+    match event {
+        Some(event) => {
+            set_line(line, &event);
+            out.put(line.as_bytes())
+        }
+        None => Ok(()),
+    }
+}
