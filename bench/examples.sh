@@ -8,4 +8,12 @@ for file in examples/{calls,drive,sum}.* examples/c/pid.*; do
     cmp "$file" "crates/command_rows/data/${file##*/}" || differ=1
 done
 cmp examples/drive.toml crates/rows/data/drive.toml || differ=1
+for file in examples/device/ramp.{toml,fpx}; do
+    cmp "$file" "crates/ramp_cli/data/$file" || differ=1
+done
+for file in examples/device/loop.toml examples/c/pid.fpx; do
+    cmp "$file" "crates/closed_loop/data/$file" || differ=1
+done
+cmp examples/device/ramp.trace crates/ramp_cli/stdout || differ=1
+cmp examples/device/loop.txt crates/closed_loop/stdout || differ=1
 exit "$differ"

@@ -1,0 +1,108 @@
+//! The machine with a plant beside it.
+
+ghost use Rattle.std.specs.Prelude.{◌≡◌, ◌+◌, ◌≤◌, IfOk, OnOk, vec_len};
+
+use crate::plant::Plant;
+use file_answers::Program;
+use fp_ports::{Ports, feed_port, latch_of};
+use machine::Machine;
+use std::alloc::{AllocError, Global};
+
+/// The thread of the controller.
+const CONTROLLER: u8 = 0;
+
+/// For how many cycles the plant is driven by the same word.
+const CYCLES: u64 = 100;
+
+/// How many such steps of the plant a period of the controller has.
+const STEPS: u8 = 8;
+
+/// The cycle from which on the plant has a load.
+const LOADED: u64 = 64_000;
+
+/// The load, with 16 bits behind the point.
+const LOAD: i32 = 4 * 0x1_0000;
+
+/// The machine, with a plant that is driven by the latch of the controller's port and answers at
+/// that port.
+#[derive(Drop)]
+pub struct ControlLoop {
+    machine: Machine,
+    ports: Ports,
+    plant: Plant,
+}
+
+impl ControlLoop {
+    /// The machine of a setup and its image at cycle 0 beside devices that show what they are fed,
+    /// the plant at rest. The setup's inputs are left out.
+    ///
+    /// # Errors
+    ///
+    /// Memory was refused.
+    pub fn new(alloc: Global, program: &Program, ports: Ports) -> Result<ControlLoop, AllocError>
+        requires { vec_len ports ≡ 8 }
+        ensures eight { IfOk result (λ l. vec_len l.ports ≡ 8) }
+        ensures start { IfOk result (λ l. l.machine.at ≡ 0) }
+    {
+        Ok(ControlLoop {
+            machine: Machine::load(alloc, &program.setup, &program.image)?,
+            ports,
+            plant: Plant::REST,
+        })
+    }
+
+    /// How many cycles were done.
+    pub fn cycle(&self) -> u64
+        ensures { result ≡ self.now.machine.at }
+    {
+        self.machine.cycle()
+    }
+
+    /// What the controller has written last, as a number with 16 bits behind the point.
+    pub fn drive(&self) -> i32
+        requires { vec_len self.now.ports ≡ 8 }
+    {
+        latch_of(&self.ports, CONTROLLER).unwrap_or(0).cast_signed()
+    }
+
+    /// What the plant's sensor shows.
+    pub fn measured(&self) -> i32 {
+        self.plant.measured()
+    }
+
+    /// Goes on for a period of the controller.
+    ///
+    /// # Errors
+    ///
+    /// Memory was refused.
+    pub fn period(&mut self) -> Result<(), AllocError>
+        requires eight { vec_len self.old.ports ≡ 8 }
+        requires cycles { self.old.machine.at + 800 ≤ 4000000000 }
+        ensures eight { vec_len self.new.ports ≡ 8 }
+        ensures cycles { OnOk result (self.new.machine.at ≡ self.old.machine.at + 800) }
+    {
+        for _step in 0..STEPS {
+            self.plant_step()?;
+        }
+        Ok(())
+    }
+
+    /// Goes on for a step of the plant: the machine does its cycles, and the plant answers to the
+    /// word that then stands in the latch, from the next cycle on.
+    fn plant_step(&mut self) -> Result<(), AllocError>
+        requires eight { vec_len self.old.ports ≡ 8 }
+        requires cycles { self.old.machine.at + 100 ≤ 4000000000 }
+        ensures eight { vec_len self.new.ports ≡ 8 }
+        ensures cycles { self.new.machine.at ≡ self.old.machine.at + 100 }
+    {
+        for _cycle in 0..CYCLES {
+            self.machine.tick(&mut self.ports);
+        }
+        let now = self.machine.cycle();
+        let load = if now < LOADED { 0 } else { LOAD };
+        let drive = self.drive();
+        self.plant.step(drive, load);
+        let shown = self.plant.measured().cast_unsigned();
+        feed_port(&mut self.ports, CONTROLLER, now, shown)
+    }
+}

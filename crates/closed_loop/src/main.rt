@@ -1,0 +1,84 @@
+//! A closed loop: the controller of `examples/c/t0_pid.c`, and a plant at its port that answers to
+//! what it writes.
+//!
+//! A device at a port shows words that don't hang on what is written to it, so the plant is none.
+//! It stands beside the machine, which goes on cycle by cycle; between two cycles the latch of the
+//! port is read, and the plant's answer is fed to the port. That all of this is safe and ends is
+//! proved. No clause says what a run is: each cycle is the machine's, but after a feeding the
+//! machine stands for no cycle of a world that is known from the start, and so no theorem on runs,
+//! traces and isolation speaks of it.
+#![tactic(auto)]
+
+mod control_loop;
+mod fixed;
+mod plant;
+
+ghost use Rattle.std.specs.Prelude.{◌≡◌, vec_len};
+
+use crate::control_loop::ControlLoop;
+use crate::fixed::Fixed;
+use anyhow::{Result, bail};
+use file_answers::{Program, Stop, load};
+use fp_io::RealFiles;
+use fp_ports::{HeldPort, Ports};
+use fp_setup::Name;
+
+/// The setup, whose thread 0 is the controller.
+const SETUP: &str = "examples/device/loop.toml";
+
+/// How many periods of the controller the run has.
+const PERIODS: u64 = 160;
+
+/// What the controller is to hold, as it is written there.
+const SET_POINT: Fixed = Fixed(16 * 0x1_0000);
+
+/// The setup and its image.
+fn read_program(rt: HostRuntime) -> Result<Program> {
+    let name = Name::from_str(rt.alloc(), SETUP)?;
+    match load(rt.alloc(), &name, &mut RealFiles::new(rt)) {
+        Ok(program) => Ok(program),
+        Err(Stop::NoMemory) => bail!("out of memory"),
+        Err(_) => bail!("{SETUP} or its image can't be read, or has a fault"),
+    }
+}
+
+/// Prints a line: the time in nanoseconds, the set point, what drives the plant, and what its
+/// sensor shows.
+fn print_line(rt: HostRuntime, ns: u64, closed: &ControlLoop) -> Result<()>
+    requires { vec_len closed.now.ports ≡ 8 }
+{
+    let drive = Fixed(closed.drive());
+    let measured = Fixed(closed.measured());
+    println!(rt; "{ns} {SET_POINT} {drive} {measured}")?;
+    Ok(())
+}
+
+/// Does the periods of a run from cycle 0 on, of so many nanoseconds a cycle, and prints a line
+/// after each.
+fn print_periods(rt: HostRuntime, closed: &mut ControlLoop, ns: u64) -> Result<()>
+    requires eight { vec_len closed.old.ports ≡ 8 }
+    requires start { closed.old.machine.at ≡ 0 }
+{
+    println!(rt; "# ns set-point drive value")?;
+    for _period in 0..PERIODS {
+        closed.period()?;
+        print_line(rt, closed.cycle().saturating_mul(ns), closed)?;
+    }
+    Ok(())
+}
+
+/// Closes the loop over a device at each of the eight ports that shows 0 until it is fed.
+fn run(rt: HostRuntime, program: &Program) -> Result<()> {
+    let alloc = rt.alloc();
+    let mut ports: Ports = Vec::new(alloc);
+    for _thread in 0..8u8 {
+        ports.push(Some(Box::new(alloc, HeldPort::new(alloc))?))?;
+    }
+    let mut closed = ControlLoop::new(alloc, program, ports)?;
+    print_periods(rt, &mut closed, u64::from(program.setup.period))
+}
+
+fn main(rt: HostRuntime) -> Result<()> {
+    let program = read_program(rt)?;
+    run(rt, &program)
+}

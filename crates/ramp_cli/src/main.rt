@@ -1,0 +1,57 @@
+//! The program of `flexpret_cli` with a device of one's own: thread 0's port shows a ramp.
+#![tactic(auto)]
+
+use flexpret_top::flexpret;
+use fp_io::{Gathered, OutSink, PutFailed, RealFiles};
+use fp_ports::{HeldPort, Ports};
+use ramp_port::RampPort;
+use std::alloc::AllocError;
+use std::process::ExitCode;
+use std::{env, io};
+
+/// For how many cycles each word of the ramp stands.
+const EVERY: u64 = 16;
+
+/// The status where the words aren't UTF-8.
+const USAGE: u8 = 2;
+
+/// The status where standard output can't be written.
+const WRITE: u8 = 8;
+
+/// The status where memory is refused.
+const NO_MEMORY: u8 = 9;
+
+/// Runs the command that the words ask, beside a ramp at thread 0's port and a device at each other
+/// one that shows 0 until it is fed.
+fn answer(rt: HostRuntime, words: &[String]) -> Result<u8, AllocError> {
+    let alloc = rt.alloc();
+    let mut ports: Ports = Vec::new(alloc);
+    ports.push(Some(Box::new(alloc, RampPort::new(alloc, EVERY))?))?;
+    for _thread in 1..8u8 {
+        ports.push(Some(Box::new(alloc, HeldPort::new(alloc))?))?;
+    }
+    let mut files = RealFiles::new(rt);
+    let mut out = Gathered::new(OutSink::new(rt));
+    let status = flexpret(alloc, words, &mut files, &mut out, &mut ports);
+    Ok(match out.flush() {
+        Ok(()) => status,
+        Err(PutFailed) => WRITE,
+    })
+}
+
+/// The words after the program's name, or the status where they can't be made.
+fn read_args(rt: HostRuntime) -> Result<Vec<String>, u8> {
+    match env::args(&rt) {
+        Ok(args) => args.skip(1).collect(rt.alloc()).map_err(|_| NO_MEMORY),
+        Err(error) if error.kind() == io::ErrorKind::InvalidData => Err(USAGE),
+        Err(_) => Err(NO_MEMORY),
+    }
+}
+
+fn main(rt: HostRuntime) -> ExitCode {
+    let status = match read_args(rt) {
+        Ok(words) => answer(rt, &words).unwrap_or(NO_MEMORY),
+        Err(status) => status,
+    };
+    ExitCode::from(status)
+}

@@ -1,0 +1,27 @@
+-- A ramp at a port.
+use Rattle.std.specs.Prelude.{ℕ, ◌/◌, ◌%◌, ◌^◌, Bool, false, Option, Some, None, nat_le, if◌then◌else◌}
+use Rattle.fp_ports.specs.Kinds.{Held, new_held, held_word}
+
+-- a port that shows a ramp until it is fed: for how many cycles each word of the ramp stands, the
+-- first fed cycle, and what was fed
+pub record Ramp : Type 0 where
+  pub every : ℕ
+  pub first : Option ℕ
+  pub held : Held
+
+-- nothing was fed
+abbrev pub new_ramp : ℕ → Ramp
+new_ramp every = record { every = every; first = None; held = new_held }
+
+-- it rises by 1 every so many cycles, from 0 in cycle 0, and begins anew past 32 bits
+abbrev pub ramp : ℕ → ℕ → ℕ
+ramp every c = c / every % 2 ^ 32
+
+-- the cycle is at or after the first fed one, if there is one
+abbrev pub is_fed : Option ℕ → ℕ → Bool
+is_fed None c = false
+is_fed (Some first) c = nat_le first c
+
+-- the ramp until the first fed cycle, and then the fed words
+abbrev pub shown_word : Ramp → ℕ → ℕ
+shown_word port c = if is_fed port.first c then held_word port.held c else ramp port.every c
