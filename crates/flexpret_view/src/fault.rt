@@ -1,0 +1,76 @@
+//! Why nothing, or not all, was shown.
+
+use file_answers::Stop;
+use std::alloc::{AllocError, AllocFailed};
+use std::io;
+use trace_print::Refusal;
+
+/// Why nothing, or not all, was shown.
+#[derive(Clone, Copy)]
+pub enum Fault {
+    /// The words ask nothing.
+    Usage,
+    /// The words ask nothing, which was told.
+    Told,
+    /// The setup or its image has a fault.
+    Refused(Refusal),
+    /// A file isn't there, or could not be read.
+    Read,
+    /// What was asked for could not be written whole.
+    Write,
+    /// Memory was refused.
+    NoMemory,
+}
+
+impl Fault {
+    /// The status of the program, which is that of `flexpret` for the same fault.
+    pub fn status(&self) -> u8 {
+        match self {
+            Fault::Usage | Fault::Told => 2,
+            Fault::Refused(Refusal::Image { .. }) => 4,
+            Fault::Refused(_) => 3,
+            Fault::Read => 7,
+            Fault::Write => 8,
+            Fault::NoMemory => 9,
+        }
+    }
+
+    /// The line that standard error gets, if it gets one.
+    pub fn complaint(&self) -> Option<&'static str> {
+        match self {
+            Fault::Usage => Some("flexpret_view: usage"),
+            Fault::Told | Fault::Refused(_) => None,
+            Fault::Read => Some("flexpret_view: read failed"),
+            Fault::Write => Some("flexpret_view: write failed"),
+            Fault::NoMemory => Some("flexpret_view: out of memory"),
+        }
+    }
+}
+
+impl From<Stop> for Fault {
+    fn from(stop: Stop) -> Fault {
+        match stop {
+            Stop::Refused(refusal) => Fault::Refused(refusal),
+            Stop::Read | Stop::Differs { .. } => Fault::Read,
+            Stop::NoMemory => Fault::NoMemory,
+        }
+    }
+}
+
+impl From<AllocError> for Fault {
+    fn from(_error: AllocError) -> Fault {
+        Fault::NoMemory
+    }
+}
+
+impl<T: Drop> From<AllocFailed<T>> for Fault {
+    fn from(_refused: AllocFailed<T>) -> Fault {
+        Fault::NoMemory
+    }
+}
+
+impl From<io::Error> for Fault {
+    fn from(_error: io::Error) -> Fault {
+        Fault::Write
+    }
+}

@@ -1,0 +1,108 @@
+//! The program: `flexpret_view turns SETUP --from a --to b` shows what the pipeline does in each
+//! cycle of a window, as text, for a viewer, or as a picture.
+#![tactic(auto)]
+
+ghost use Rattle.std.specs.Prelude.{◌≡◌, vec_len};
+
+mod fault;
+mod words;
+
+use crate::fault::Fault;
+use crate::words::{Ask, WordsNo, read_words};
+use file_answers::load;
+use fp_io::RealFiles;
+use fp_ports::{HeldPort, Ports};
+use fp_setup::Name;
+use machine::{Machine, feed_inputs};
+use pipe_view::put_view;
+use std::alloc::Global;
+use std::io::{BufWriter, Write};
+use std::process::ExitCode;
+use std::{env, fs, io};
+use trace_print::refusal_line;
+
+/// The file name that stands for standard output.
+const STANDARD_OUTPUT: &str = "-";
+
+/// The words of the command line, the program's name among them. A word that isn't UTF-8 is no word
+/// of a command.
+fn read_args(rt: HostRuntime) -> Result<Vec<String>, Fault> {
+    match env::args(&rt) {
+        Ok(args) => Ok(args.collect(rt.alloc())?),
+        Err(error) if error.kind() == io::ErrorKind::InvalidData => Err(Fault::Usage),
+        Err(_) => Err(Fault::NoMemory),
+    }
+}
+
+/// Runs the machine of a setup, and writes what is asked for to a writer.
+fn write_view<W: Write + Drop>(
+    alloc: Global,
+    ask: &Ask<'_>,
+    mut machine: Machine,
+    ports: &mut Ports,
+    to: W,
+) -> Result<(), Fault>
+    requires start { machine.at ≡ 0 }
+    requires eight { vec_len ports.old ≡ 8 }
+{
+    let mut out = BufWriter::new(alloc, to)?;
+    put_view(&mut out, ask.form, &ask.window, &mut machine, ports)?;
+    out.flush()?;
+    Ok(())
+}
+
+/// Answers what is asked, beside a device at each of the eight ports that shows 0 until it is fed.
+fn answer(rt: HostRuntime, ask: &Ask<'_>) -> Result<(), Fault> {
+    let alloc = rt.alloc();
+    let mut ports: Ports = Vec::new(alloc);
+    for _thread in 0..8u8 {
+        ports.push(Some(Box::new(alloc, HeldPort::new(alloc))?))?;
+    }
+    let name = Name::from_str(alloc, ask.setup)?;
+    let program = load(alloc, &name, &mut RealFiles::new(rt))?;
+    let machine = Machine::load(alloc, &program.setup, &program.image)?;
+    feed_inputs(&program.setup, &mut ports)?;
+    if ask.file == STANDARD_OUTPUT {
+        write_view(alloc, ask, machine, &mut ports, io::writer(&rt))
+    } else {
+        write_view(alloc, ask, machine, &mut ports, fs::create(&rt, ask.file)?)
+    }
+}
+
+/// The status of what the words ask.
+fn run(rt: HostRuntime) -> Result<(), Fault> {
+    let words = read_args(rt)?;
+    match read_words(rt.alloc(), &words) {
+        Ok(ask) => answer(rt, &ask),
+        Err(WordsNo::Told(error)) => {
+            error.print(&rt)?;
+            if error.use_stderr() {
+                Err(Fault::Told)
+            } else {
+                Ok(())
+            }
+        }
+        Err(WordsNo::Usage) => Err(Fault::Usage),
+        Err(WordsNo::NoMemory) => Err(Fault::NoMemory),
+    }
+}
+
+/// Tells a fault: a refusal on standard output, as `flexpret` does, and others on standard error.
+fn tell(rt: HostRuntime, fault: &Fault) -> u8 {
+    if let Fault::Refused(refusal) = fault {
+        if rt.print(refusal_line(refusal).as_str()).is_err() {
+            return Fault::Write.status();
+        }
+    }
+    if let Some(line) = fault.complaint() {
+        let _ = rt.eprintln(line);
+    }
+    fault.status()
+}
+
+fn main(rt: HostRuntime) -> ExitCode {
+    match run(rt) {
+        Ok(()) => ExitCode::from(0),
+        Err(fault) => ExitCode::from(tell(rt, &fault)),
+    }
+}

@@ -1,0 +1,158 @@
+//! What the words of the command line ask.
+
+use clap::builder::ValueParser;
+use clap::error::ErrorKind;
+use clap::{Arg, ArgAction, ArgMatches, Command, Error};
+use pipe_view::{Form, Window};
+use std::alloc::{AllocError, Global};
+
+/// The most columns of a picture.
+const MOST_COLUMNS: u64 = 2000;
+
+/// What `--help` says behind the options.
+const AFTER: &str = "The cycles from `from` on are shown, up to the one before `to`. \
+Without --konata, --vcd and --svg they are shown as text; FILE is `-` for standard output. \
+A picture has at most 2000 cycles.\n\n\
+The program is proved to be safe and to end. Nothing is proved of what it shows; it reads the \
+machine that `flexpret` runs.";
+
+/// What is asked.
+#[derive(Clone, Copy, Debug)]
+pub struct Ask<'a> {
+    /// The file name of the setup.
+    pub setup: &'a str,
+    /// The cycles that are shown.
+    pub window: Window,
+    /// The form in which they are shown.
+    pub form: Form,
+    /// The file that gets it; `-` for standard output.
+    pub file: &'a str,
+}
+
+/// Why the words ask nothing.
+#[derive(Drop)]
+pub enum WordsNo {
+    /// The parser says what is wrong, or shows its help.
+    Told(Error),
+    /// The cycles are no window.
+    Usage,
+    /// Memory was refused.
+    NoMemory,
+}
+
+impl From<Error> for WordsNo {
+    fn from(error: Error) -> WordsNo {
+        match error.kind() {
+            ErrorKind::OutOfMemory => WordsNo::NoMemory,
+            _ => WordsNo::Told(error),
+        }
+    }
+}
+
+impl From<AllocError> for WordsNo {
+    fn from(_error: AllocError) -> WordsNo {
+        WordsNo::NoMemory
+    }
+}
+
+/// An option that is a cycle.
+fn cycle_option<'a>(alloc: Global, name: &'a str, help: &'a str) -> Arg<'a> {
+    Arg::new(alloc, name)
+        .long(name)
+        .required(true)
+        .action(ArgAction::Set)
+        .value_name("CYCLE")
+        .value_parser(ValueParser::unsigned(0, Window::MOST))
+        .help(help)
+}
+
+/// An option that names the file of a form. It is never given beside one of the two others.
+fn form_option<'a>(
+    alloc: Global,
+    name: &'a str,
+    others: (&'a str, &'a str),
+    help: &'a str,
+) -> Result<Arg<'a>, AllocError> {
+    Arg::new(alloc, name)
+        .long(name)
+        .action(ArgAction::Set)
+        .value_name("FILE")
+        .help(help)
+        .conflicts_with(others.0)?
+        .conflicts_with(others.1)
+}
+
+/// The command `turns`.
+fn turns_command<'a>(alloc: Global) -> Result<Command<'a>, AllocError> {
+    let setup = Arg::new(alloc, "setup")
+        .required(true)
+        .action(ArgAction::Set)
+        .value_name("SETUP")
+        .help("the setup of the machine, a TOML file");
+    let konata = "writes the log of the Konata viewer";
+    let vcd = "writes a value change dump, for GTKWave";
+    let svg = "writes a picture, for a browser";
+    Command::new(alloc, "turns")
+        .about("shows what the pipeline does in each cycle of a window")
+        .after_help(AFTER)
+        .arg(setup)?
+        .arg(cycle_option(alloc, "from", "the first cycle"))?
+        .arg(cycle_option(alloc, "to", "the cycle behind the last one"))?
+        .arg(form_option(alloc, "konata", ("vcd", "svg"), konata)?)?
+        .arg(form_option(alloc, "vcd", ("konata", "svg"), vcd)?)?
+        .arg(form_option(alloc, "svg", ("konata", "vcd"), svg)?)
+}
+
+/// The program's commands.
+fn commands<'a>(alloc: Global) -> Result<Command<'a>, AllocError> {
+    Command::new(alloc, "flexpret_view")
+        .about("Shows runs of the FlexPRET core, cycle by cycle")
+        .after_help("The program is proved to be safe and to end, and nothing more.")
+        .subcommand_required(true)
+        .subcommand(turns_command(alloc)?)
+}
+
+/// The form that is asked for, and its file.
+fn form_of<'a>(matches: &ArgMatches<'a>) -> (Form, &'a str) {
+    if let Some(file) = matches.get_str("konata") {
+        (Form::Konata, file)
+    } else if let Some(file) = matches.get_str("vcd") {
+        (Form::Vcd, file)
+    } else if let Some(file) = matches.get_str("svg") {
+        (Form::Svg, file)
+    } else {
+        (Form::Text, "-")
+    }
+}
+
+/// What the words of `turns` ask, if its cycles are a window that its form can show.
+fn asked<'a>(matches: &ArgMatches<'a>) -> Option<Ask<'a>> {
+    let setup = matches.get_str("setup")?;
+    let from = matches.get_one::<u64>("from")?;
+    let to = matches.get_one::<u64>("to")?;
+    let window = Window::new(from, to)?;
+    let (form, file) = form_of(matches);
+    if form == Form::Svg && window.len() > MOST_COLUMNS {
+        return None;
+    }
+    Some(Ask {
+        setup,
+        window,
+        form,
+        file,
+    })
+}
+
+/// What the words of the command line ask, the program's name first.
+///
+/// # Errors
+///
+/// Told with the parser's text where they don't fit the options, or ask for help; Usage where the
+/// cycles are no window or too many for a picture; NoMemory where memory was refused.
+pub fn read_words<'a>(alloc: Global, words: &'a [String]) -> Result<Ask<'a>, WordsNo> {
+    let matches = commands(alloc)?.try_get_matches_from(words)?;
+    match matches.subcommand_matches("turns").and_then(asked) {
+        Some(ask) => Ok(ask),
+        None => Err(WordsNo::Usage),
+    }
+}

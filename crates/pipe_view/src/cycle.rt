@@ -1,0 +1,107 @@
+//! What is seen of one cycle.
+
+use arrayvec::ArrayString;
+use pipeline_core::{Held, Stored};
+use rv_disasm::text_at;
+use rv_exec::Effect;
+use slot_table::Turn;
+
+/// Where the effect begins in a line of a trace.
+const EFFECT: usize = 29;
+
+/// What a thread's mode, timer and port are at the start of a cycle.
+#[derive(Clone, Copy, Debug)]
+pub struct ThreadState {
+    /// Whether its mode is asleep, or the moment until which it sleeps lies ahead.
+    pub asleep: bool,
+    /// The armed moment, in nanoseconds, if there is one.
+    pub armed: Option<u64>,
+    /// What its port's latch holds, if it has a port.
+    pub latch: Option<u32>,
+    /// The word that its port shows in the cycle: ones where it has none.
+    pub input: u32,
+}
+
+/// What the machine holds at the start of a cycle.
+#[derive(Clone, Copy, Debug)]
+pub struct CycleStart {
+    /// The number of the cycle.
+    pub cycle: u64,
+    /// The time of the cycle, in nanoseconds.
+    pub time: u64,
+    /// The frame's slot of the cycle.
+    pub slot: Turn,
+    /// The modes' register: bits 2i and 2i + 1 are thread i's.
+    pub modes: u32,
+    /// By thread, 0 to 7.
+    pub threads: [ThreadState; 8],
+}
+
+/// A cycle, once all is known of the turn that it picked.
+#[derive(Drop)]
+pub struct Cycle {
+    /// What the machine held at its start.
+    pub start: CycleStart,
+    /// The turns that stood in F, D, E, M and W during it. Each is shown as it came out of M, so a
+    /// turn that is flushed in F or D is a flushed one in every stage.
+    pub turns: [Held<Stored>; 5],
+    /// The line that the turn in F leaves in its thread's trace, if it leaves one.
+    pub line: Option<ArrayString<96>>,
+}
+
+/// The thread of a turn, if one was picked.
+pub(crate) fn thread_of(turn: &Held<Stored>) -> Option<u8> {
+    match *turn {
+        Held::Bubble => None,
+        Held::Flushed { thread } | Held::Issue { thread, .. } => Some(thread),
+    }
+}
+
+/// Whether a turn is one that was lost.
+pub(crate) fn is_flushed(turn: &Held<Stored>) -> bool {
+    matches!(turn, Held::Flushed { .. })
+}
+
+impl Cycle {
+    /// The turn that the cycle picked.
+    pub fn turn(&self) -> &Held<Stored> {
+        &self.turns[0]
+    }
+
+    /// Whether the picked turn is a soft thread's in the slot of a hard thread that isn't awake.
+    pub fn is_donated(&self) -> bool {
+        match (self.start.slot, thread_of(self.turn())) {
+            (Turn::Thread(owner), Some(thread)) => owner != thread,
+            _ => false,
+        }
+    }
+
+    /// Whether the picked turn traps.
+    pub fn is_trap(&self) -> bool {
+        match *self.turn() {
+            Held::Issue { what, .. } => matches!(what.effect, Some(Effect::Trap { .. })),
+            _ => false,
+        }
+    }
+
+    /// The text of the picked turn's word at its address; none where it has no word.
+    pub fn instruction(&self) -> ArrayString<96> {
+        match *self.turn() {
+            Held::Issue { what, .. } => text_at(what.pc, what.word),
+            _ => ArrayString::new(),
+        }
+    }
+
+    /// What became of the picked turn: the effect as the trace words it, `held` where it stays at a
+    /// DU and leaves no line, `flushed` where it is lost; nothing where nobody was picked.
+    pub fn outcome(&self) -> &str {
+        match (self.turn(), &self.line) {
+            (Held::Bubble, _) => "",
+            (Held::Flushed { .. }, _) => "flushed",
+            (Held::Issue { .. }, None) => "held",
+            (Held::Issue { .. }, Some(line)) => {
+                line.as_str().get(EFFECT..).unwrap_or("").trim_end()
+            }
+        }
+    }
+}

@@ -1,0 +1,77 @@
+//! A line of text for each cycle.
+
+use crate::cycle::{Cycle, is_flushed, thread_of};
+use pipeline_core::{Held, Stored};
+use slot_table::Turn;
+use std::io;
+use std::io::Write;
+
+/// The name of a slot: `T0` to `T7`, `S` for the soft threads, `-` for nobody.
+pub(crate) fn slot_name(slot: Turn) -> &'static str {
+    match slot {
+        Turn::Thread(0) => "T0",
+        Turn::Thread(1) => "T1",
+        Turn::Thread(2) => "T2",
+        Turn::Thread(3) => "T3",
+        Turn::Thread(4) => "T4",
+        Turn::Thread(5) => "T5",
+        Turn::Thread(6) => "T6",
+        Turn::Thread(_) => "T7",
+        Turn::Soft => "S",
+        Turn::Nobody => "-",
+    }
+}
+
+/// Puts the line that names the columns.
+///
+/// # Errors
+///
+/// The writer's.
+pub fn put_heading<W: Write>(out: &mut W) -> io::Result<()> {
+    out.write_all(b"     cycle            ns slot  F  D  E  M  W  turn\n")
+}
+
+/// Puts what stands in a stage: the thread, with an `x` where its turn is flushed, or a point.
+fn put_stage<W: Write>(out: &mut W, turn: &Held<Stored>) -> io::Result<()> {
+    let Some(thread) = thread_of(turn) else {
+        return out.write_all(b" . ");
+    };
+    let mark = if is_flushed(turn) { "x" } else { " " };
+    write!(out, " {thread}{mark}")
+}
+
+/// Puts the picked turn: its thread, and its address, word, instruction and effect, or that it is
+/// flushed.
+pub(crate) fn put_turn<W: Write>(out: &mut W, cycle: &Cycle) -> io::Result<()> {
+    let outcome = cycle.outcome();
+    match *cycle.turn() {
+        Held::Bubble => out.write_all(b"-"),
+        Held::Flushed { thread } => write!(out, "T{thread} {outcome}"),
+        Held::Issue { thread, what } => {
+            let instruction = cycle.instruction();
+            let text = instruction.as_str();
+            let pc = what.pc;
+            let word = what.word;
+            write!(out, "T{thread} {pc:08x} {word:08x} {text:<26} {outcome}")
+        }
+    }
+}
+
+/// Puts the line of a cycle: its number, its time in nanoseconds, its slot, the thread in each of
+/// the five stages, and its turn.
+///
+/// # Errors
+///
+/// The writer's.
+pub fn put_row<W: Write>(out: &mut W, cycle: &Cycle) -> io::Result<()> {
+    let number = cycle.start.cycle;
+    let time = cycle.start.time;
+    let slot = slot_name(cycle.start.slot);
+    write!(out, "{number:>10} {time:>13} {slot:<4} ")?;
+    for turn in &cycle.turns {
+        put_stage(out, turn)?;
+    }
+    out.write_all(b" ")?;
+    put_turn(out, cycle)?;
+    out.write_all(b"\n")
+}

@@ -1,0 +1,164 @@
+//! A run of which a window of cycles is shown.
+
+ghost use Rattle.std.specs.Prelude.{◌≡◌, ◌+◌, ◌<◌, ◌≤◌, vec_len, OnOk};
+
+use crate::cycle::Cycle;
+use crate::konata::Konata;
+use crate::svg::{Svg, end_svg};
+use crate::text::{put_heading, put_row};
+use crate::vcd::{Vcd, end_vcd};
+use crate::watch::Watch;
+use fp_ports::Ports;
+use machine::Machine;
+use std::io;
+use std::io::Write;
+
+/// How many cycles before the first one that is shown are watched: as many as there are turns
+/// behind the one in F.
+const BEFORE: u64 = 4;
+
+/// How many cycles after its issue a turn comes out of M.
+const UNTIL_WHOLE: u64 = 3;
+
+/// The cycles that are shown: from `from` on, up to the one before `to`.
+#[derive(Clone, Copy, Debug)]
+pub struct Window {
+    from: u64,
+    to: u64,
+    ghost order: { from ≤ to },
+    ghost limit: { to ≤ 3999999997 },
+}
+
+impl Window {
+    /// The last cycle before which a window may end: the machine does three more.
+    pub const MOST: u64 = 3_999_999_997;
+
+    /// The window of these cycles, if it is one: not empty, and before the last cycle.
+    pub fn new(from: u64, to: u64) -> Option<Window> {
+        if from < to && to <= Window::MOST {
+            Some(Window { from, to })
+        } else {
+            None
+        }
+    }
+
+    /// How many cycles it has.
+    pub fn len(&self) -> u64 {
+        self.to - self.from
+    }
+}
+
+/// A form in which cycles are shown.
+#[derive(Clone, Copy, Debug, PartialEq, Eq)]
+pub enum Form {
+    /// A line of text for each cycle.
+    Text,
+    /// The log of the Konata viewer.
+    Konata,
+    /// A value change dump.
+    Vcd,
+    /// A picture.
+    Svg,
+}
+
+/// A form that is being written.
+#[derive(Drop)]
+enum Writing {
+    Text,
+    Konata(Konata),
+    Vcd(Vcd),
+    Svg(Svg),
+}
+
+impl Writing {
+    /// Begins a form.
+    fn begin<W: Write>(out: &mut W, form: Form, window: &Window) -> io::Result<Writing> {
+        match form {
+            Form::Text => {
+                put_heading(out)?;
+                Ok(Writing::Text)
+            }
+            Form::Konata => Ok(Writing::Konata(Konata::begin(out, window.from)?)),
+            Form::Vcd => Ok(Writing::Vcd(Vcd::begin(out)?)),
+            Form::Svg => Ok(Writing::Svg(Svg::begin(out, window.len())?)),
+        }
+    }
+
+    /// Puts a cycle.
+    fn put<W: Write>(&mut self, out: &mut W, cycle: &Cycle) -> io::Result<()> {
+        match self {
+            Writing::Text => put_row(out, cycle),
+            Writing::Konata(log) => log.put(out, cycle),
+            Writing::Vcd(dump) => dump.put(out, cycle),
+            Writing::Svg(picture) => picture.put(out, cycle),
+        }
+    }
+
+    /// Ends the form, with the time of the cycle behind the window.
+    fn end<W: Write>(self, out: &mut W, time: u64) -> io::Result<()> {
+        match self {
+            Writing::Text | Writing::Konata(_) => Ok(()),
+            Writing::Vcd(_) => end_vcd(out, time),
+            Writing::Svg(_) => end_svg(out),
+        }
+    }
+}
+
+/// Does so many cycles from cycle 0 on.
+fn go(machine: &mut Machine, ports: &mut Ports, cycles: u64)
+    requires start { machine.old.at ≡ 0 }
+    requires limit { cycles ≤ 4000000000 }
+    requires eight { vec_len ports.old ≡ 8 }
+    ensures at { machine.new.at ≡ cycles }
+    ensures eight { vec_len ports.new ≡ 8 }
+{
+    for _cycle in 0..cycles {
+        let _event = machine.tick(ports);
+    }
+}
+
+/// Does a cycle, and puts the one that is whole then, if the window has it.
+fn put_cycle<W: Write>(
+    out: &mut W,
+    writing: &mut Writing,
+    watch: &mut Watch,
+    window: &Window,
+    machine: &mut Machine,
+    ports: &mut Ports,
+) -> io::Result<()>
+    requires cycle { machine.old.at < 4000000000 }
+    requires eight { vec_len ports.old ≡ 8 }
+    ensures at { machine.new.at ≡ machine.old.at + 1 }
+    ensures eight { vec_len ports.new ≡ 8 }
+{
+    match watch.tick(machine, ports) {
+        Some(cycle) if cycle.start.cycle >= window.from => writing.put(out, &cycle),
+        _ => Ok(()),
+    }
+}
+
+/// Runs a machine from cycle 0 on until all is known of a window's cycles, and puts them as they
+/// come. It takes no memory.
+///
+/// # Errors
+///
+/// The writer's.
+pub fn put_view<W: Write>(
+    out: &mut W,
+    form: Form,
+    window: &Window,
+    machine: &mut Machine,
+    ports: &mut Ports,
+) -> io::Result<()>
+    requires start { machine.old.at ≡ 0 }
+    requires eight { vec_len ports.old ≡ 8 }
+{
+    let first = window.from.saturating_sub(BEFORE);
+    go(machine, ports, first);
+    let mut writing = Writing::begin(out, form, window)?;
+    let mut watch = Watch::new();
+    for _cycle in first..window.to + UNTIL_WHOLE {
+        put_cycle(out, &mut writing, &mut watch, window, machine, ports)?;
+    }
+    writing.end(out, machine.units.clock.now(window.to))
+}

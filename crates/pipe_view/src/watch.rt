@@ -1,0 +1,112 @@
+//! A machine that is watched cycle by cycle.
+
+ghost use Rattle.std.specs.Prelude.{◌≡◌, ◌+◌, ◌<◌, vec_len};
+
+use crate::cycle::{Cycle, CycleStart, ThreadState};
+use arrayvec::ArrayString;
+use fp_ports::{Ports, latch_of, read_port};
+use machine::Machine;
+use pipeline_core::{Held, Stored};
+use rv_exec::Event;
+use trace_print::line;
+
+/// What is kept of the last cycles until all is known of them.
+#[derive(Drop)]
+pub struct Watch {
+    /// The starts of the last three cycles, the newest first.
+    starts: [Option<CycleStart>; 3],
+    /// The last turns that came out of M, the newest first.
+    turns: [Held<Stored>; 4],
+}
+
+impl Watch {
+    /// One that has seen no cycle.
+    pub fn new() -> Watch {
+        Watch {
+            starts: [None; 3],
+            turns: [Held::Bubble; 4],
+        }
+    }
+
+    /// One cycle of the machine. The answer is the cycle of three cycles ago, whose turn is through
+    /// M now, or None where that wasn't seen. Its turns are whole once seven cycles were seen, or
+    /// all since cycle 0.
+    pub fn tick(&mut self, machine: &mut Machine, ports: &mut Ports) -> Option<Cycle>
+        requires cycle { machine.old.at < 4000000000 }
+        requires eight { vec_len ports.old ≡ 8 }
+        ensures at { machine.new.at ≡ machine.old.at + 1 }
+        ensures eight { vec_len ports.new ≡ 8 }
+    {
+        let start = start_of(machine, ports);
+        let _event = machine.tick(ports);
+        let [newest, second, third] = self.starts;
+        self.starts = [Some(start), newest, second];
+        let [d, e, m, w] = self.turns;
+        let turn = machine.pipe.m;
+        self.turns = [turn, d, e, m];
+        third.map(|start| Cycle {
+            start,
+            turns: [turn, d, e, m, w],
+            line: line_in_m(machine, start.cycle),
+        })
+    }
+}
+
+/// The line of the turn that M holds, which was issued in this cycle, if it leaves one.
+fn line_in_m(machine: &Machine, cycle: u64) -> Option<ArrayString<96>> {
+    let Held::Issue { thread, what } = &machine.pipe.m else {
+        return None;
+    };
+    let Some(effect) = what.effect else {
+        return None;
+    };
+    Some(line(&Event {
+        cycle,
+        thread: *thread,
+        pc: what.pc,
+        word: what.word,
+        effect,
+    }))
+}
+
+/// What a thread's mode, timer and port are at the start of the next cycle.
+fn thread_state(machine: &Machine, ports: &mut Ports, thread: u8) -> ThreadState
+    requires cycle { machine.now.at < 4000000000 }
+    requires eight { vec_len ports.old ≡ 8 }
+    requires thread { thread < 8 }
+    ensures eight { vec_len ports.new ≡ 8 }
+{
+    let units = &machine.units;
+    let now = units.clock.now(machine.at);
+    ThreadState {
+        asleep: units.sched.modes.mode(thread) % 2 == 1
+            || now < units.sched.sleep[usize::from(thread)],
+        armed: units.timers.armed(thread),
+        latch: latch_of(ports, thread),
+        input: read_port(ports, thread, machine.at),
+    }
+}
+
+/// What a machine holds at the start of its next cycle.
+fn start_of(machine: &Machine, ports: &mut Ports) -> CycleStart
+    requires cycle { machine.now.at < 4000000000 }
+    requires eight { vec_len ports.old ≡ 8 }
+    ensures eight { vec_len ports.new ≡ 8 }
+{
+    CycleStart {
+        cycle: machine.at,
+        time: machine.units.clock.now(machine.at),
+        slot: machine.units.sched.slots.turn(machine.at),
+        modes: machine.units.sched.modes.word(),
+        threads: [
+            thread_state(machine, ports, 0),
+            thread_state(machine, ports, 1),
+            thread_state(machine, ports, 2),
+            thread_state(machine, ports, 3),
+            thread_state(machine, ports, 4),
+            thread_state(machine, ports, 5),
+            thread_state(machine, ports, 6),
+            thread_state(machine, ports, 7),
+        ],
+    }
+}
