@@ -94,8 +94,9 @@ class Caller:
             with at_most(self.seconds):
                 return os.waitstatus_to_exitcode(os.waitpid(child, 0)[1])
         except Late:
-            os.kill(child, signal.SIGKILL)
-            os.waitpid(child, 0)
+            with contextlib.suppress(ProcessLookupError):  # it may have ended at that very moment
+                os.kill(child, signal.SIGKILL)
+                os.waitpid(child, 0)
             return None
 
 
