@@ -9,7 +9,7 @@ use Rattle.rv_exec.specs.declared.outcome.Effect.{Effect}
 use Rattle.rv_exec.specs.declared.outcome.Effect.TheVariants.{Reg, Trap}
 use Rattle.rv_exec.specs.declared.outcome.Event.{Event}
 use Rattle.region_guard.specs.Regions.{region_of, index_of}
-use Rattle.region_guard.specs.Regions.Standing.{ReadOnly}
+use Rattle.region_guard.specs.Regions.RegionKind.{ReadOnly}
 use Rattle.core_model.specs.Thread.{fresh}
 use Rattle.core_model.specs.Parts.{load, store, branch, delay, wait}
 use Rattle.core_model.specs.Control.{changed, may_hold, csr_access}

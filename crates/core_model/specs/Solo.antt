@@ -4,7 +4,7 @@ use Rattle.std.specs.Prelude.{ℕ, zero, suc, ◌-◌, ◌%◌, nat_le, Bool, fa
 use Rattle.rv_exec.specs.declared.outcome.Effect.{Effect}
 use Rattle.rv_exec.specs.declared.outcome.Effect.TheVariants.{Store}
 use Rattle.rv_exec.specs.declared.outcome.Event.{Event}
-use Rattle.region_guard.specs.Regions.{Standing, is_mine, is_data}
+use Rattle.region_guard.specs.Regions.{RegionKind, is_mine, is_data}
 use Rattle.timer_unit.specs.Time.{time}
 use Rattle.core_model.specs.Thread.{Thread, Contents, Done}
 use Rattle.core_model.specs.Issue.{issue}
@@ -35,7 +35,7 @@ abbrev pub contents_alone : Setting → ℕ → List ℕ → Contents
 contents_alone s port words = contents_by s.size s.i_words words port
 
 -- a store into a region of its own changes its words; every other one is an event alone
-abbrev pub own_by : ℕ → List Standing → Option Effect → List ℕ → List ℕ
+abbrev pub own_by : ℕ → List RegionKind → Option Effect → List ℕ → List ℕ
 own_by size d_kinds (Some (Store address width value)) words =
     if is_data size address && is_mine (kind_at size d_kinds address) then stored size words address width value else words
 own_by size d_kinds _ words = words

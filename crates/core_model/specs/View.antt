@@ -1,7 +1,7 @@
 -- What a thread may depend on, and what its instructions may do by it.
 use Rattle.std.specs.Prelude.{ℕ, Bool, ◌&&◌, if◌then◌else◌, List, slice_index_or, None}
-use Rattle.region_guard.specs.Regions.{Standing, is_readable, is_writable, is_code, is_data, is_port, region_of}
-use Rattle.region_guard.specs.Regions.Standing.{Foreign}
+use Rattle.region_guard.specs.Regions.{RegionKind, is_readable, is_writable, is_code, is_data, is_port, region_of}
+use Rattle.region_guard.specs.Regions.RegionKind.{Foreign}
 use Rattle.timer_unit.specs.Time.{time}
 use Rattle.core_model.specs.Thread.{Thread, Around}
 
@@ -11,8 +11,8 @@ pub record Setting : Type 0 where
   pub size : ℕ  -- of each scratchpad, in bytes
   pub thread : ℕ
   pub own : List Bool  -- of each position of the frame, whether it is the thread's
-  pub i_kinds : List Standing  -- what each region of a scratchpad is to the thread
-  pub d_kinds : List Standing
+  pub i_kinds : List RegionKind  -- what each region of a scratchpad is to the thread
+  pub d_kinds : List RegionKind
   pub i_words : List ℕ  -- 0 in the regions that it may not read
 
 -- a thread's view: besides that, how it starts, and the word of its port in each cycle
@@ -23,13 +23,13 @@ pub record View : Type 0 where
   pub shown : List ℕ
 
 -- what the region of an address is to the thread
-abbrev pub kind_at : ℕ → List Standing → ℕ → Standing
+abbrev pub kind_at : ℕ → List RegionKind → ℕ → RegionKind
 kind_at size kinds address = slice_index_or kinds (region_of size address) Foreign
 
 -- what its instruction may do at a time, by what the regions are to it: it fetches and loads from
 -- regions that are its own or read only, and stores into regions that are its own or shared. At the
 -- port it may load and store whole words. The machine's own registers are refused
-unfoldable pub around_by : ℕ → ℕ → List Standing → List Standing → ℕ → Around
+unfoldable pub around_by : ℕ → ℕ → List RegionKind → List RegionKind → ℕ → Around
 around_by thread size i_kinds d_kinds now =
     record {
       thread = thread;

@@ -21,35 +21,35 @@ abbrev pub is_owner : ℕ → Bool
 is_owner nibble = nat_le nibble 8 || nibble == 12
 
 -- what a region is to a thread
-pub data Standing : Type 0 where
-  Mine : Standing
-  ReadOnly : Standing
-  Shared : Standing
-  Foreign : Standing
+pub data RegionKind : Type 0 where
+  Mine : RegionKind
+  ReadOnly : RegionKind
+  Shared : RegionKind
+  Foreign : RegionKind
 
 -- by the region's nibble in the register
-unfoldable pub standing : ℕ → ℕ → Standing
-standing thread nibble =
+unfoldable pub region_kind : ℕ → ℕ → RegionKind
+region_kind thread nibble =
     if nibble == thread then Mine
     else if nibble == 8 then Shared
     else if nibble == 12 then ReadOnly
     else Foreign
 
 -- where a confined thread may load and fetch
-abbrev pub is_readable : Standing → Bool
+abbrev pub is_readable : RegionKind → Bool
 is_readable Mine = true
 is_readable ReadOnly = true
 is_readable Shared = false
 is_readable Foreign = false
 
 -- where a thread may store
-abbrev pub is_writable : Standing → Bool
+abbrev pub is_writable : RegionKind → Bool
 is_writable Mine = true
 is_writable ReadOnly = false
 is_writable Shared = true
 is_writable Foreign = false
 
-abbrev pub is_mine : Standing → Bool
+abbrev pub is_mine : RegionKind → Bool
 is_mine Mine = true
 is_mine ReadOnly = false
 is_mine Shared = false
@@ -73,14 +73,14 @@ unfoldable pub index_of : ℕ → ℕ → ℕ
 index_of size address = address % size / 4
 
 -- what the region of an address is to a thread, by the region register
-abbrev pub standing_at : ℕ → ℕ → ℕ → ℕ → Standing
-standing_at thread size regions address =
-    standing thread (nibble_at regions (region_of size address))
+abbrev pub region_kind_at : ℕ → ℕ → ℕ → ℕ → RegionKind
+region_kind_at thread size regions address =
+    region_kind thread (nibble_at regions (region_of size address))
 
 -- whether a confined or an unconfined thread may read there
 abbrev pub may_read : ℕ → ℕ → Bool → ℕ → ℕ → Bool
 may_read thread size confined regions address =
-    not confined || is_readable (standing_at thread size regions address)
+    not confined || is_readable (region_kind_at thread size regions address)
 
 -- who may fetch, load and store where. The address is aligned for the width, which is in bytes
 unfoldable pub may_fetch : ℕ → ℕ → Bool → ℕ → ℕ → Bool
@@ -95,5 +95,5 @@ may_load thread size confined iregions dregions address width =
 
 unfoldable pub may_store : ℕ → ℕ → ℕ → ℕ → ℕ → Bool
 may_store thread size dregions address width =
-    if is_data size address then is_writable (standing_at thread size dregions address)
+    if is_data size address then is_writable (region_kind_at thread size dregions address)
     else is_port address width

@@ -4,7 +4,7 @@ use Rattle.std.specs.List.{list_all}
 use Rattle.nibble_word.specs.Nibbles.{nibbles}
 use Rattle.nibble_word.specs.Masks.{mask_of}
 use Rattle.region_guard.specs.declared.register.BadRegion.{BadRegion}
-use Rattle.region_guard.specs.Regions.{Standing, is_owner, standing}
+use Rattle.region_guard.specs.Regions.{RegionKind, is_owner, region_kind}
 
 -- whether a word may stand in the register
 unfoldable pub is_regions : ℕ → Bool
@@ -23,11 +23,11 @@ unfoldable pub regions_of : ℕ → Result ℕ BadRegion
 regions_of word = unless_bad word (bad_region word)
 
 -- the regions that are to a thread what passes a test, of which region i is bit i
-abbrev pub regions_that : (Standing → Bool) → ℕ → ℕ → ℕ
-regions_that test word thread = mask_of (map (λ nibble. test (standing thread nibble)) (nibbles word))
+abbrev pub regions_that : (RegionKind → Bool) → ℕ → ℕ → ℕ
+regions_that test word thread = mask_of (map (λ nibble. test (region_kind thread nibble)) (nibbles word))
 
 -- those of each of the eight threads
-unfoldable pub by_thread : (Standing → Bool) → ℕ → List ℕ
+unfoldable pub by_thread : (RegionKind → Bool) → ℕ → List ℕ
 by_thread test word = map (regions_that test word) (0 ∷ 1 ∷ 2 ∷ 3 ∷ 4 ∷ 5 ∷ 6 ∷ 7 ∷ [])
 
 -- for each thread the regions whose nibble is its own or another

@@ -3,7 +3,7 @@
 ghost use Rattle.std.specs.Prelude.{◌≡◌, ◌<◌, ◌==◌, ◌||◌, IfSome, IsTrue, is_ok, map, not, position};
 ghost use Rattle.nibble_word.specs.Masks.{bit_of, mask_of};
 ghost use Rattle.nibble_word.specs.Nibbles.{nibble_at};
-ghost use Rattle.region_guard.specs.Regions.{is_owner, is_readable, is_writable, standing};
+ghost use Rattle.region_guard.specs.Regions.{is_owner, is_readable, is_writable, region_kind};
 ghost use Rattle.region_guard.specs.Register.{is_regions, masks_by, regions_of};
 
 use nibble_word::{nibble, nibbles_of};
@@ -72,17 +72,17 @@ fn bad_region(nibbles: &[u8; 8]) -> Option<usize>
 }
 
 /// Whether a nibble names a region where a confined thread may load and fetch.
-#[tactic(auto, unfolding(crate::specs::Regions::standing))]
+#[tactic(auto, unfolding(crate::specs::Regions::region_kind))]
 fn is_readable(nibble: u8, thread: u8) -> bool
-    ensures { result ≡ is_readable (standing thread nibble) }
+    ensures { result ≡ is_readable (region_kind thread nibble) }
 {
     nibble == thread || nibble == READ_ONLY
 }
 
 /// Whether a nibble names a region where a thread may store.
-#[tactic(auto, unfolding(crate::specs::Regions::standing))]
+#[tactic(auto, unfolding(crate::specs::Regions::region_kind))]
 fn is_writable(nibble: u8, thread: u8) -> bool
-    ensures { result ≡ is_writable (standing thread nibble) }
+    ensures { result ≡ is_writable (region_kind thread nibble) }
 {
     nibble == thread || nibble == SHARED
 }
@@ -158,7 +158,7 @@ impl Regions {
     // Whether a confined thread may load and fetch in a region, which is 0 to 7.
     pub(crate) fn is_readable(&self, region: u8, thread: u8) -> bool
         requires { region < 8 }
-        ensures { result ≡ is_readable (standing thread (nibble_at self.now region)) }
+        ensures { result ≡ is_readable (region_kind thread (nibble_at self.now region)) }
     {
         if thread < 8 {
             (self.readable[thread as usize] >> region) % 2 == 1
@@ -170,7 +170,7 @@ impl Regions {
     // Whether a thread may store in a region, which is 0 to 7.
     pub(crate) fn is_writable(&self, region: u8, thread: u8) -> bool
         requires { region < 8 }
-        ensures { result ≡ is_writable (standing thread (nibble_at self.now region)) }
+        ensures { result ≡ is_writable (region_kind thread (nibble_at self.now region)) }
     {
         if thread < 8 {
             (self.writable[thread as usize] >> region) % 2 == 1

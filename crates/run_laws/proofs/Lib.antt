@@ -1,7 +1,7 @@
 mod Lags
 mod Issues
 mod Seen
-mod Standings
+mod RegionKinds
 mod Around
 pub mod Picks
 mod Unpermitted

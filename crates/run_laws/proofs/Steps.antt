@@ -10,7 +10,7 @@ use Rattle.core_model.specs.Solo.{contents_alone, has_position, may_go, own_afte
 use Rattle.core_model.specs.Thread.{Did, Done, Thread, fresh}
 use Rattle.core_model.specs.View.{Setting, around_alone}
 use Rattle.region_guard.specs.Regions.{IsSize, may_store}
-use Rattle.world_model.specs.Viewed.{kinds_of, seen, setting_of}
+use Rattle.world_model.specs.Viewed.{region_kinds, seen, setting_of}
 use Rattle.timer_unit.specs.Time.{time}
 use Rattle.slot_scheduler.specs.declared.picking.Pick.{Pick}
 use Rattle.slot_scheduler.specs.declared.picking.Pick.TheVariants.{Issue, Bubble}
@@ -39,7 +39,7 @@ own_turns i (took ∷ turns) = own_turn i (length turns) took ∷ own_turns i tu
 -- the world and the thread by itself before cycle c
 pub record Tied (s : Start) (i c : ℕ) (w : World) (a : Past) : Type 0 where
   pub thread : a.alone.thread ≡ thread_of w i
-  pub words : a.alone.words ≡ seen s.size (kinds_of i s.registers.dregions) w.d_words
+  pub words : a.alone.words ≡ seen s.size (region_kinds i s.registers.dregions) w.d_words
   pub events : a.events ≡ own_turns i w.turns
   pub regions : SameRegions w.registers s.registers
   pub count : length w.threads ≡ 8
@@ -48,7 +48,7 @@ pub record Tied (s : Start) (i c : ℕ) (w : World) (a : Past) : Type 0 where
 -- a cycle in which the thread does nothing
 pub record Rests (s : Start) (i : ℕ) (w after : World) : Type 0 where
   pub thread : thread_of after i ≡ thread_of w i
-  pub words : seen s.size (kinds_of i s.registers.dregions) after.d_words ≡ seen s.size (kinds_of i s.registers.dregions) w.d_words
+  pub words : seen s.size (region_kinds i s.registers.dregions) after.d_words ≡ seen s.size (region_kinds i s.registers.dregions) w.d_words
   pub turns : own_turns i after.turns ≡ None ∷ own_turns i w.turns
   pub regions : SameRegions after.registers w.registers
   pub count : length after.threads ≡ length w.threads
@@ -124,7 +124,7 @@ own-tied : (s : Start) (p : Phase) (i c : ℕ) (w : World) (a : Past) (last : �
     Tied s i (suc c) (issued s c w last i (issue_of s c w i)) (past_and a (solo_turn (setting_in (setting_of s i) p) c (port_word s c i) a.alone))
 unfolding solo_turn
 own-tied s f i c w a last p t go quiet =
-    let K = kinds_of i s.registers.dregions in
+    let K = region_kinds i s.registers.dregions in
     let d : Done = issue_of s c w i in
     let alike : issue (around_alone (setting_of s i) c) (contents_alone (setting_of s i) (port_word s c i) a.alone.words) c a.alone.thread ≡ issue_of s c w i =
     ap₂ (λ (ws : List ℕ) (u : Thread). issue (around_alone (setting_of s i) c) (contents_alone (setting_of s i) (port_word s c i) ws) c u) t.words t.thread ∙ sym (issue-alone s c i w p.size p.thread p.confined p.permit t.regions) in

@@ -4,7 +4,7 @@ use Rattle.core_model.specs.View.{around_by}
 use Rattle.solo_run.specs.declared.thread_state.ThreadState.{ThreadState}
 use Rattle.solo_run.specs.declared.thread_state.Issued.{Issued}
 use Rattle.solo_run.specs.declared.rights.Rights.{Rights}
-use Rattle.solo_run.specs.Kinds.{kinds_of}
+use Rattle.solo_run.specs.RegionKinds.{kinds_as_defined}
 
 abbrev pub thread_of : ThreadState → Thread
 thread_of h = record { pc = h.pc; ready = h.ready; own = h.own; regs = h.registers }
@@ -15,4 +15,4 @@ done_of h issued = record { thread = thread_of h; word = issued.word; effect = i
 
 -- what its instructions may do
 abbrev pub asked : Rights → Around
-asked r = around_by r.thread r.size (kinds_of r.i_kind) (kinds_of r.d_kind) r.time
+asked r = around_by r.thread r.size (kinds_as_defined r.i_kinds) (kinds_as_defined r.d_kinds) r.time

@@ -2,8 +2,8 @@
 use Rattle.std.specs.Prelude.{ℕ, suc, ◌/◌, ◌==◌, Bool, if◌then◌else◌, List, [], ◌∷◌, slice_index_or, map}
 use Rattle.nibble_word.specs.Nibbles.{nibbles}
 use Rattle.slot_table.specs.Frame.{frame}
-use Rattle.region_guard.specs.Regions.{Standing, standing, is_readable}
-use Rattle.region_guard.specs.Regions.Standing.{Foreign}
+use Rattle.region_guard.specs.Regions.{RegionKind, region_kind, is_readable}
+use Rattle.region_guard.specs.Regions.RegionKind.{Foreign}
 use Rattle.core_model.specs.Thread.{fresh}
 use Rattle.core_model.specs.View.{Setting, View}
 use Rattle.world_model.specs.World.{Start}
@@ -15,16 +15,16 @@ seen_from sees k (x ∷ xs) = (if sees k then x else 0) ∷ seen_from sees (suc 
 
 -- whether the word of an index lies in a region that the thread may read; a region has size / 32
 -- words
-abbrev pub sees : ℕ → List Standing → ℕ → Bool
+abbrev pub sees : ℕ → List RegionKind → ℕ → Bool
 sees size kinds k = is_readable (slice_index_or kinds (k / (size / 32)) Foreign)
 
 -- the words that a thread sees, and 0 for the others
-abbrev pub seen : ℕ → List Standing → List ℕ → List ℕ
+abbrev pub seen : ℕ → List RegionKind → List ℕ → List ℕ
 seen size kinds words = seen_from (sees size kinds) 0 words
 
 -- what each region is to thread i, by the region register
-abbrev pub kinds_of : ℕ → ℕ → List Standing
-kinds_of i regions = map (standing i) (nibbles regions)
+abbrev pub region_kinds : ℕ → ℕ → List RegionKind
+region_kinds i regions = map (region_kind i) (nibbles regions)
 
 -- what stays through a quiet run
 unfoldable pub setting_of : Start → ℕ → Setting
@@ -34,9 +34,9 @@ setting_of s i =
       size = s.size;
       thread = i;
       own = map (λ slot. slot == i) (frame s.registers.slots);
-      i_kinds = kinds_of i s.registers.iregions;
-      d_kinds = kinds_of i s.registers.dregions;
-      i_words = seen s.size (kinds_of i s.registers.iregions) s.i_words;
+      i_kinds = region_kinds i s.registers.iregions;
+      d_kinds = region_kinds i s.registers.dregions;
+      i_words = seen s.size (region_kinds i s.registers.iregions) s.i_words;
     }
 
 -- the view of thread i
@@ -45,6 +45,6 @@ view s i =
     record {
       setting = setting_of s i;
       first = slice_index_or s.threads i (fresh 0);
-      d_words = seen s.size (kinds_of i s.registers.dregions) s.d_words;
+      d_words = seen s.size (region_kinds i s.registers.dregions) s.d_words;
       shown = slice_index_or s.shown i [];
     }

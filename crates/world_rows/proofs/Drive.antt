@@ -8,7 +8,7 @@ use Rattle.rv_exec.specs.Access.{loaded, lanes_at, merged}
 use Rattle.rv_exec.specs.Result.{is_taken, result_of}
 use Rattle.rv_exec.specs.declared.outcome.Event.{Event}
 use Rattle.rv_exec.specs.declared.outcome.Effect.TheVariants.{Nothing, Reg, Store, Wait}
-use Rattle.region_guard.specs.Regions.{standing, region_of, index_of, may_fetch, may_load, may_store}
+use Rattle.region_guard.specs.Regions.{region_kind, region_of, index_of, may_fetch, may_load, may_store}
 use Rattle.slot_table.specs.Frame.{frame, turn}
 use Rattle.slot_table.specs.Table.{is_table}
 use Rattle.region_guard.specs.Register.{is_regions}
@@ -51,7 +51,7 @@ drive-0-trace =
     ∷ at 0 52 0x10 0x00012283 (Reg 5 0x2b) ∷ []
 
 drive-0 : (events drive 0 57 ≡ drive-0-trace) × (solo (view drive 0) 57 ≡ drive-0-trace)
-unfolding drive drive-0-trace ins rows lui_rows auipc_rows jal_rows jalr_rows branch_rows load_rows store_rows imm_rows op_rows fence_rows system_rows time_rows bitwise computed computed_with shifted multiplied is_taken loaded lanes_at merged result_of nibbles standing region_of index_of may_fetch may_load may_store frame turn is_table is_regions is_awake after_last donated pick load store branch delay wait changed may_hold csr_access execute_untrapped run_at execute_in execute_word effect_of issue code_at data_at around after_turn recent world around_by may_go solo_turn solo_at setting_of view
+unfolding drive drive-0-trace ins rows lui_rows auipc_rows jal_rows jalr_rows branch_rows load_rows store_rows imm_rows op_rows fence_rows system_rows time_rows bitwise computed computed_with shifted multiplied is_taken loaded lanes_at merged result_of nibbles region_kind region_of index_of may_fetch may_load may_store frame turn is_table is_regions is_awake after_last donated pick load store branch delay wait changed may_hold csr_access execute_untrapped run_at execute_in execute_word effect_of issue code_at data_at around after_turn recent world around_by may_go solo_turn solo_at setting_of view
 drive-0 = (refl, refl)
 
 drive-6 : events drive 6 60 ≡
@@ -60,5 +60,5 @@ drive-6 : events drive 6 60 ≡
     ∷ at 6 33 0x100 0x00108093 (Reg 1 0x2)
     ∷ at 6 44 0x104 0xffdff06f Nothing
     ∷ at 6 55 0x100 0x00108093 (Reg 1 0x3) ∷ []
-unfolding drive ins rows lui_rows auipc_rows jal_rows jalr_rows branch_rows load_rows store_rows imm_rows op_rows fence_rows system_rows time_rows bitwise computed computed_with shifted multiplied is_taken loaded lanes_at merged result_of nibbles standing region_of index_of may_fetch may_load may_store frame turn is_table is_regions is_awake after_last donated pick load store branch delay wait changed may_hold csr_access execute_untrapped run_at execute_in execute_word effect_of issue code_at data_at around after_turn recent world
+unfolding drive ins rows lui_rows auipc_rows jal_rows jalr_rows branch_rows load_rows store_rows imm_rows op_rows fence_rows system_rows time_rows bitwise computed computed_with shifted multiplied is_taken loaded lanes_at merged result_of nibbles region_kind region_of index_of may_fetch may_load may_store frame turn is_table is_regions is_awake after_last donated pick load store branch delay wait changed may_hold csr_access execute_untrapped run_at execute_in execute_word effect_of issue code_at data_at around after_turn recent world
 drive-6 = refl

@@ -8,7 +8,7 @@ use Rattle.rv_exec.specs.Access.{loaded, lanes_at, merged}
 use Rattle.rv_exec.specs.Result.{is_taken, result_of}
 use Rattle.rv_exec.specs.declared.outcome.Event.{Event}
 use Rattle.rv_exec.specs.declared.outcome.Effect.TheVariants.{Nothing, Reg, Store, Csr, Trap, Wait}
-use Rattle.region_guard.specs.Regions.{standing, region_of, index_of, may_fetch, may_load, may_store}
+use Rattle.region_guard.specs.Regions.{region_kind, region_of, index_of, may_fetch, may_load, may_store}
 use Rattle.slot_table.specs.Frame.{frame, turn}
 use Rattle.slot_table.specs.Table.{is_table}
 use Rattle.region_guard.specs.Register.{is_regions}
@@ -50,7 +50,7 @@ random_50-0 : events random_50 0 200 ≡
     ∷ at 0 177 0x28 0x02468693 (Reg 13 0x24)
     ∷ at 0 185 0x2c 0xbec27313 (Reg 6 0x0)
     ∷ at 0 193 0x30 0x6e638213 (Reg 4 0x6e6) ∷ []
-unfolding random_50 ins rows lui_rows auipc_rows jal_rows jalr_rows branch_rows load_rows store_rows imm_rows op_rows fence_rows system_rows time_rows bitwise computed computed_with shifted multiplied is_taken loaded lanes_at merged result_of nibbles standing region_of index_of may_fetch may_load may_store frame turn is_table is_regions is_awake after_last donated pick load store branch delay wait changed may_hold csr_access execute_untrapped run_at execute_in execute_word effect_of issue code_at data_at around after_turn recent world
+unfolding random_50 ins rows lui_rows auipc_rows jal_rows jalr_rows branch_rows load_rows store_rows imm_rows op_rows fence_rows system_rows time_rows bitwise computed computed_with shifted multiplied is_taken loaded lanes_at merged result_of nibbles region_kind region_of index_of may_fetch may_load may_store frame turn is_table is_regions is_awake after_last donated pick load store branch delay wait changed may_hold csr_access execute_untrapped run_at execute_in execute_word effect_of issue code_at data_at around after_turn recent world
 random_50-0 = refl
 
 random_50-1 : events random_50 1 200 ≡
@@ -125,7 +125,7 @@ random_50-1 : events random_50 1 200 ≡
     ∷ at 1 191 0x840 0x00450123 (Store 0x20000802 1 0x0)
     ∷ at 1 194 0x844 0x00562023 (Store 0x40000000 4 0x0)
     ∷ at 1 195 0x848 0x00759323 (Store 0x20000ff6 2 0x97ef) ∷ []
-unfolding random_50 ins rows lui_rows auipc_rows jal_rows jalr_rows branch_rows load_rows store_rows imm_rows op_rows fence_rows system_rows time_rows bitwise computed computed_with shifted multiplied is_taken loaded lanes_at merged result_of nibbles standing region_of index_of may_fetch may_load may_store frame turn is_table is_regions is_awake after_last donated pick load store branch delay wait changed may_hold csr_access execute_untrapped run_at execute_in execute_word effect_of issue code_at data_at around after_turn recent world
+unfolding random_50 ins rows lui_rows auipc_rows jal_rows jalr_rows branch_rows load_rows store_rows imm_rows op_rows fence_rows system_rows time_rows bitwise computed computed_with shifted multiplied is_taken loaded lanes_at merged result_of nibbles region_kind region_of index_of may_fetch may_load may_store frame turn is_table is_regions is_awake after_last donated pick load store branch delay wait changed may_hold csr_access execute_untrapped run_at execute_in execute_word effect_of issue code_at data_at around after_turn recent world
 random_50-1 = refl
 
 random_50-3-trace : List Event
@@ -156,7 +156,7 @@ random_50-3-trace =
     ∷ at 3 190 0x1830 0x00462103 (Trap 5 0x1830) ∷ []
 
 random_50-3 : (events random_50 3 200 ≡ random_50-3-trace) × (solo (view random_50 3) 200 ≡ random_50-3-trace)
-unfolding random_50 random_50-3-trace ins rows lui_rows auipc_rows jal_rows jalr_rows branch_rows load_rows store_rows imm_rows op_rows fence_rows system_rows time_rows bitwise computed computed_with shifted multiplied is_taken loaded lanes_at merged result_of nibbles standing region_of index_of may_fetch may_load may_store frame turn is_table is_regions is_awake after_last donated pick load store branch delay wait changed may_hold csr_access execute_untrapped run_at execute_in execute_word effect_of issue code_at data_at around after_turn recent world around_by may_go solo_turn solo_at setting_of view
+unfolding random_50 random_50-3-trace ins rows lui_rows auipc_rows jal_rows jalr_rows branch_rows load_rows store_rows imm_rows op_rows fence_rows system_rows time_rows bitwise computed computed_with shifted multiplied is_taken loaded lanes_at merged result_of nibbles region_kind region_of index_of may_fetch may_load may_store frame turn is_table is_regions is_awake after_last donated pick load store branch delay wait changed may_hold csr_access execute_untrapped run_at execute_in execute_word effect_of issue code_at data_at around after_turn recent world around_by may_go solo_turn solo_at setting_of view
 random_50-3 = (refl, refl)
 
 random_50-4-trace : List Event
@@ -181,7 +181,7 @@ random_50-4-trace =
     ∷ at 4 136 0x205c 0x00e0300b Wait ∷ []
 
 random_50-4 : (events random_50 4 200 ≡ random_50-4-trace) × (solo (view random_50 4) 200 ≡ random_50-4-trace)
-unfolding random_50 random_50-4-trace ins rows lui_rows auipc_rows jal_rows jalr_rows branch_rows load_rows store_rows imm_rows op_rows fence_rows system_rows time_rows bitwise computed computed_with shifted multiplied is_taken loaded lanes_at merged result_of nibbles standing region_of index_of may_fetch may_load may_store frame turn is_table is_regions is_awake after_last donated pick load store branch delay wait changed may_hold csr_access execute_untrapped run_at execute_in execute_word effect_of issue code_at data_at around after_turn recent world around_by may_go solo_turn solo_at setting_of view
+unfolding random_50 random_50-4-trace ins rows lui_rows auipc_rows jal_rows jalr_rows branch_rows load_rows store_rows imm_rows op_rows fence_rows system_rows time_rows bitwise computed computed_with shifted multiplied is_taken loaded lanes_at merged result_of nibbles region_kind region_of index_of may_fetch may_load may_store frame turn is_table is_regions is_awake after_last donated pick load store branch delay wait changed may_hold csr_access execute_untrapped run_at execute_in execute_word effect_of issue code_at data_at around after_turn recent world around_by may_go solo_turn solo_at setting_of view
 random_50-4 = (refl, refl)
 
 random_50-5 : events random_50 5 200 ≡
@@ -221,7 +221,7 @@ random_50-5 : events random_50 5 200 ≡
     ∷ at 5 184 0x2844 0x00000000 (Trap 24 0x2838)
     ∷ at 5 188 0x2838 0x07970713 (Reg 14 0x61e)
     ∷ at 5 192 0x283c 0x00e0300b Nothing ∷ []
-unfolding random_50 ins rows lui_rows auipc_rows jal_rows jalr_rows branch_rows load_rows store_rows imm_rows op_rows fence_rows system_rows time_rows bitwise computed computed_with shifted multiplied is_taken loaded lanes_at merged result_of nibbles standing region_of index_of may_fetch may_load may_store frame turn is_table is_regions is_awake after_last donated pick load store branch delay wait changed may_hold csr_access execute_untrapped run_at execute_in execute_word effect_of issue code_at data_at around after_turn recent world
+unfolding random_50 ins rows lui_rows auipc_rows jal_rows jalr_rows branch_rows load_rows store_rows imm_rows op_rows fence_rows system_rows time_rows bitwise computed computed_with shifted multiplied is_taken loaded lanes_at merged result_of nibbles region_kind region_of index_of may_fetch may_load may_store frame turn is_table is_regions is_awake after_last donated pick load store branch delay wait changed may_hold csr_access execute_untrapped run_at execute_in execute_word effect_of issue code_at data_at around after_turn recent world
 random_50-5 = refl
 
 random_50-7 : events random_50 7 200 ≡
@@ -244,7 +244,7 @@ random_50-7 : events random_50 7 200 ≡
     ∷ at 7 135 0x3c 0x0000070b (Reg 14 0x546)
     ∷ at 7 143 0x40 0x3b670713 (Reg 14 0x8fc)
     ∷ at 7 151 0x44 0x00e0300b Wait ∷ []
-unfolding random_50 ins rows lui_rows auipc_rows jal_rows jalr_rows branch_rows load_rows store_rows imm_rows op_rows fence_rows system_rows time_rows bitwise computed computed_with shifted multiplied is_taken loaded lanes_at merged result_of nibbles standing region_of index_of may_fetch may_load may_store frame turn is_table is_regions is_awake after_last donated pick load store branch delay wait changed may_hold csr_access execute_untrapped run_at execute_in execute_word effect_of issue code_at data_at around after_turn recent world
+unfolding random_50 ins rows lui_rows auipc_rows jal_rows jalr_rows branch_rows load_rows store_rows imm_rows op_rows fence_rows system_rows time_rows bitwise computed computed_with shifted multiplied is_taken loaded lanes_at merged result_of nibbles region_kind region_of index_of may_fetch may_load may_store frame turn is_table is_regions is_awake after_last donated pick load store branch delay wait changed may_hold csr_access execute_untrapped run_at execute_in execute_word effect_of issue code_at data_at around after_turn recent world
 random_50-7 = refl
 
 -- seed 63: not quiet, 200 cycles
@@ -317,7 +317,7 @@ random_63-0 : events random_63 0 200 ≡
     ∷ at 0 188 0x105c 0x00000000 (Trap 24 0x1038)
     ∷ at 0 192 0x1038 0x40338133 (Reg 2 0xd2142fc0)
     ∷ at 0 195 0x103c 0x0032b133 (Reg 2 0x1) ∷ []
-unfolding random_63 ins rows lui_rows auipc_rows jal_rows jalr_rows branch_rows load_rows store_rows imm_rows op_rows fence_rows system_rows time_rows bitwise computed computed_with shifted multiplied is_taken loaded lanes_at merged result_of nibbles standing region_of index_of may_fetch may_load may_store frame turn is_table is_regions is_awake after_last donated pick load store branch delay wait changed may_hold csr_access execute_untrapped run_at execute_in execute_word effect_of issue code_at data_at around after_turn recent world
+unfolding random_63 ins rows lui_rows auipc_rows jal_rows jalr_rows branch_rows load_rows store_rows imm_rows op_rows fence_rows system_rows time_rows bitwise computed computed_with shifted multiplied is_taken loaded lanes_at merged result_of nibbles region_kind region_of index_of may_fetch may_load may_store frame turn is_table is_regions is_awake after_last donated pick load store branch delay wait changed may_hold csr_access execute_untrapped run_at execute_in execute_word effect_of issue code_at data_at around after_turn recent world
 random_63-0 = refl
 
 random_63-1 : events random_63 1 200 ≡
@@ -336,7 +336,7 @@ random_63-1 : events random_63 1 200 ≡
     ∷ at 1 42 0x3030 0x00852003 Nothing
     ∷ at 1 46 0x3034 0x005000b3 (Reg 1 0x0)
     ∷ at 1 49 0x3038 0x00052823 (Trap 7 0x3038) ∷ []
-unfolding random_63 ins rows lui_rows auipc_rows jal_rows jalr_rows branch_rows load_rows store_rows imm_rows op_rows fence_rows system_rows time_rows bitwise computed computed_with shifted multiplied is_taken loaded lanes_at merged result_of nibbles standing region_of index_of may_fetch may_load may_store frame turn is_table is_regions is_awake after_last donated pick load store branch delay wait changed may_hold csr_access execute_untrapped run_at execute_in execute_word effect_of issue code_at data_at around after_turn recent world
+unfolding random_63 ins rows lui_rows auipc_rows jal_rows jalr_rows branch_rows load_rows store_rows imm_rows op_rows fence_rows system_rows time_rows bitwise computed computed_with shifted multiplied is_taken loaded lanes_at merged result_of nibbles region_kind region_of index_of may_fetch may_load may_store frame turn is_table is_regions is_awake after_last donated pick load store branch delay wait changed may_hold csr_access execute_untrapped run_at execute_in execute_word effect_of issue code_at data_at around after_turn recent world
 random_63-1 = refl
 
 random_63-3 : events random_63 3 200 ≡
@@ -377,7 +377,7 @@ random_63-3 : events random_63 3 200 ≡
     ∷ at 3 183 0x00 0x00000000 (Trap 1 0x0)
     ∷ at 3 189 0x00 0x00000000 (Trap 1 0x0)
     ∷ at 3 194 0x00 0x00000000 (Trap 1 0x0) ∷ []
-unfolding random_63 ins rows lui_rows auipc_rows jal_rows jalr_rows branch_rows load_rows store_rows imm_rows op_rows fence_rows system_rows time_rows bitwise computed computed_with shifted multiplied is_taken loaded lanes_at merged result_of nibbles standing region_of index_of may_fetch may_load may_store frame turn is_table is_regions is_awake after_last donated pick load store branch delay wait changed may_hold csr_access execute_untrapped run_at execute_in execute_word effect_of issue code_at data_at around after_turn recent world
+unfolding random_63 ins rows lui_rows auipc_rows jal_rows jalr_rows branch_rows load_rows store_rows imm_rows op_rows fence_rows system_rows time_rows bitwise computed computed_with shifted multiplied is_taken loaded lanes_at merged result_of nibbles region_kind region_of index_of may_fetch may_load may_store frame turn is_table is_regions is_awake after_last donated pick load store branch delay wait changed may_hold csr_access execute_untrapped run_at execute_in execute_word effect_of issue code_at data_at around after_turn recent world
 random_63-3 = refl
 
 random_63-5 : events random_63 5 200 ≡
@@ -406,7 +406,7 @@ random_63-5 : events random_63 5 200 ≡
     ∷ at 5 180 0x00 0x00000000 (Trap 1 0x0)
     ∷ at 5 186 0x00 0x00000000 (Trap 1 0x0)
     ∷ at 5 190 0x00 0x00000000 (Trap 1 0x0) ∷ []
-unfolding random_63 ins rows lui_rows auipc_rows jal_rows jalr_rows branch_rows load_rows store_rows imm_rows op_rows fence_rows system_rows time_rows bitwise computed computed_with shifted multiplied is_taken loaded lanes_at merged result_of nibbles standing region_of index_of may_fetch may_load may_store frame turn is_table is_regions is_awake after_last donated pick load store branch delay wait changed may_hold csr_access execute_untrapped run_at execute_in execute_word effect_of issue code_at data_at around after_turn recent world
+unfolding random_63 ins rows lui_rows auipc_rows jal_rows jalr_rows branch_rows load_rows store_rows imm_rows op_rows fence_rows system_rows time_rows bitwise computed computed_with shifted multiplied is_taken loaded lanes_at merged result_of nibbles region_kind region_of index_of may_fetch may_load may_store frame turn is_table is_regions is_awake after_last donated pick load store branch delay wait changed may_hold csr_access execute_untrapped run_at execute_in execute_word effect_of issue code_at data_at around after_turn recent world
 random_63-5 = refl
 
 random_63-6 : events random_63 6 200 ≡
@@ -435,7 +435,7 @@ random_63-6 : events random_63 6 200 ≡
     ∷ at 6 182 0x2054 0x0040b3b3 (Reg 7 0x0)
     ∷ at 6 187 0x2058 0x0076a223 (Trap 7 0x2050)
     ∷ at 6 193 0x2050 0x00e0300b Nothing ∷ []
-unfolding random_63 ins rows lui_rows auipc_rows jal_rows jalr_rows branch_rows load_rows store_rows imm_rows op_rows fence_rows system_rows time_rows bitwise computed computed_with shifted multiplied is_taken loaded lanes_at merged result_of nibbles standing region_of index_of may_fetch may_load may_store frame turn is_table is_regions is_awake after_last donated pick load store branch delay wait changed may_hold csr_access execute_untrapped run_at execute_in execute_word effect_of issue code_at data_at around after_turn recent world
+unfolding random_63 ins rows lui_rows auipc_rows jal_rows jalr_rows branch_rows load_rows store_rows imm_rows op_rows fence_rows system_rows time_rows bitwise computed computed_with shifted multiplied is_taken loaded lanes_at merged result_of nibbles region_kind region_of index_of may_fetch may_load may_store frame turn is_table is_regions is_awake after_last donated pick load store branch delay wait changed may_hold csr_access execute_untrapped run_at execute_in execute_word effect_of issue code_at data_at around after_turn recent world
 random_63-6 = refl
 
 random_63-7 : events random_63 7 200 ≡
@@ -460,7 +460,7 @@ random_63-7 : events random_63 7 200 ≡
     ∷ at 7 64 0x3850 0x27f207b7 (Reg 15 0x27f20000)
     ∷ at 7 68 0x3854 0x37178793 (Reg 15 0x27f20371)
     ∷ at 7 71 0x3858 0x7c079073 (Trap 2 0x3850) ∷ []
-unfolding random_63 ins rows lui_rows auipc_rows jal_rows jalr_rows branch_rows load_rows store_rows imm_rows op_rows fence_rows system_rows time_rows bitwise computed computed_with shifted multiplied is_taken loaded lanes_at merged result_of nibbles standing region_of index_of may_fetch may_load may_store frame turn is_table is_regions is_awake after_last donated pick load store branch delay wait changed may_hold csr_access execute_untrapped run_at execute_in execute_word effect_of issue code_at data_at around after_turn recent world
+unfolding random_63 ins rows lui_rows auipc_rows jal_rows jalr_rows branch_rows load_rows store_rows imm_rows op_rows fence_rows system_rows time_rows bitwise computed computed_with shifted multiplied is_taken loaded lanes_at merged result_of nibbles region_kind region_of index_of may_fetch may_load may_store frame turn is_table is_regions is_awake after_last donated pick load store branch delay wait changed may_hold csr_access execute_untrapped run_at execute_in execute_word effect_of issue code_at data_at around after_turn recent world
 random_63-7 = refl
 
 -- seed 68: quiet, 200 cycles
@@ -508,7 +508,7 @@ random_68-0-trace =
     ∷ at 0 194 0x00 0x00000000 (Trap 1 0x0) ∷ []
 
 random_68-0 : (events random_68 0 200 ≡ random_68-0-trace) × (solo (view random_68 0) 200 ≡ random_68-0-trace)
-unfolding random_68 random_68-0-trace ins rows lui_rows auipc_rows jal_rows jalr_rows branch_rows load_rows store_rows imm_rows op_rows fence_rows system_rows time_rows bitwise computed computed_with shifted multiplied is_taken loaded lanes_at merged result_of nibbles standing region_of index_of may_fetch may_load may_store frame turn is_table is_regions is_awake after_last donated pick load store branch delay wait changed may_hold csr_access execute_untrapped run_at execute_in execute_word effect_of issue code_at data_at around after_turn recent world around_by may_go solo_turn solo_at setting_of view
+unfolding random_68 random_68-0-trace ins rows lui_rows auipc_rows jal_rows jalr_rows branch_rows load_rows store_rows imm_rows op_rows fence_rows system_rows time_rows bitwise computed computed_with shifted multiplied is_taken loaded lanes_at merged result_of nibbles region_kind region_of index_of may_fetch may_load may_store frame turn is_table is_regions is_awake after_last donated pick load store branch delay wait changed may_hold csr_access execute_untrapped run_at execute_in execute_word effect_of issue code_at data_at around after_turn recent world around_by may_go solo_turn solo_at setting_of view
 random_68-0 = (refl, refl)
 
 random_68-3-trace : List Event
@@ -543,7 +543,7 @@ random_68-3-trace =
     ∷ at 3 191 0x30 0x0170d093 (Reg 1 0x0) ∷ []
 
 random_68-3 : (events random_68 3 200 ≡ random_68-3-trace) × (solo (view random_68 3) 200 ≡ random_68-3-trace)
-unfolding random_68 random_68-3-trace ins rows lui_rows auipc_rows jal_rows jalr_rows branch_rows load_rows store_rows imm_rows op_rows fence_rows system_rows time_rows bitwise computed computed_with shifted multiplied is_taken loaded lanes_at merged result_of nibbles standing region_of index_of may_fetch may_load may_store frame turn is_table is_regions is_awake after_last donated pick load store branch delay wait changed may_hold csr_access execute_untrapped run_at execute_in execute_word effect_of issue code_at data_at around after_turn recent world around_by may_go solo_turn solo_at setting_of view
+unfolding random_68 random_68-3-trace ins rows lui_rows auipc_rows jal_rows jalr_rows branch_rows load_rows store_rows imm_rows op_rows fence_rows system_rows time_rows bitwise computed computed_with shifted multiplied is_taken loaded lanes_at merged result_of nibbles region_kind region_of index_of may_fetch may_load may_store frame turn is_table is_regions is_awake after_last donated pick load store branch delay wait changed may_hold csr_access execute_untrapped run_at execute_in execute_word effect_of issue code_at data_at around after_turn recent world around_by may_go solo_turn solo_at setting_of view
 random_68-3 = (refl, refl)
 
 random_68-4 : events random_68 4 200 ≡
@@ -603,7 +603,7 @@ random_68-4 : events random_68 4 200 ≡
     ∷ at 4 188 0x00 0x00000000 (Trap 1 0x0)
     ∷ at 4 192 0x00 0x00000000 (Trap 1 0x0)
     ∷ at 4 195 0x00 0x00000000 (Trap 1 0x0) ∷ []
-unfolding random_68 ins rows lui_rows auipc_rows jal_rows jalr_rows branch_rows load_rows store_rows imm_rows op_rows fence_rows system_rows time_rows bitwise computed computed_with shifted multiplied is_taken loaded lanes_at merged result_of nibbles standing region_of index_of may_fetch may_load may_store frame turn is_table is_regions is_awake after_last donated pick load store branch delay wait changed may_hold csr_access execute_untrapped run_at execute_in execute_word effect_of issue code_at data_at around after_turn recent world
+unfolding random_68 ins rows lui_rows auipc_rows jal_rows jalr_rows branch_rows load_rows store_rows imm_rows op_rows fence_rows system_rows time_rows bitwise computed computed_with shifted multiplied is_taken loaded lanes_at merged result_of nibbles region_kind region_of index_of may_fetch may_load may_store frame turn is_table is_regions is_awake after_last donated pick load store branch delay wait changed may_hold csr_access execute_untrapped run_at execute_in execute_word effect_of issue code_at data_at around after_turn recent world
 random_68-4 = refl
 
 random_68-6-trace : List Event
@@ -654,7 +654,7 @@ random_68-6-trace =
     ∷ at 6 190 0x3044 0x01309313 (Reg 6 0x0) ∷ []
 
 random_68-6 : (events random_68 6 200 ≡ random_68-6-trace) × (solo (view random_68 6) 200 ≡ random_68-6-trace)
-unfolding random_68 random_68-6-trace ins rows lui_rows auipc_rows jal_rows jalr_rows branch_rows load_rows store_rows imm_rows op_rows fence_rows system_rows time_rows bitwise computed computed_with shifted multiplied is_taken loaded lanes_at merged result_of nibbles standing region_of index_of may_fetch may_load may_store frame turn is_table is_regions is_awake after_last donated pick load store branch delay wait changed may_hold csr_access execute_untrapped run_at execute_in execute_word effect_of issue code_at data_at around after_turn recent world around_by may_go solo_turn solo_at setting_of view
+unfolding random_68 random_68-6-trace ins rows lui_rows auipc_rows jal_rows jalr_rows branch_rows load_rows store_rows imm_rows op_rows fence_rows system_rows time_rows bitwise computed computed_with shifted multiplied is_taken loaded lanes_at merged result_of nibbles region_kind region_of index_of may_fetch may_load may_store frame turn is_table is_regions is_awake after_last donated pick load store branch delay wait changed may_hold csr_access execute_untrapped run_at execute_in execute_word effect_of issue code_at data_at around after_turn recent world around_by may_go solo_turn solo_at setting_of view
 random_68-6 = (refl, refl)
 
 -- seed 83: not quiet, 200 cycles
@@ -718,7 +718,7 @@ random_83-0 : events random_83 0 200 ≡
     ∷ at 0 186 0x68 0x00000000 (Trap 24 0x0)
     ∷ at 0 193 0x00 0x20001537 (Reg 10 0x20001000)
     ∷ at 0 195 0x04 0x00050513 (Reg 10 0x20001000) ∷ []
-unfolding random_83 ins rows lui_rows auipc_rows jal_rows jalr_rows branch_rows load_rows store_rows imm_rows op_rows fence_rows system_rows time_rows bitwise computed computed_with shifted multiplied is_taken loaded lanes_at merged result_of nibbles standing region_of index_of may_fetch may_load may_store frame turn is_table is_regions is_awake after_last donated pick load store branch delay wait changed may_hold csr_access execute_untrapped run_at execute_in execute_word effect_of issue code_at data_at around after_turn recent world
+unfolding random_83 ins rows lui_rows auipc_rows jal_rows jalr_rows branch_rows load_rows store_rows imm_rows op_rows fence_rows system_rows time_rows bitwise computed computed_with shifted multiplied is_taken loaded lanes_at merged result_of nibbles region_kind region_of index_of may_fetch may_load may_store frame turn is_table is_regions is_awake after_last donated pick load store branch delay wait changed may_hold csr_access execute_untrapped run_at execute_in execute_word effect_of issue code_at data_at around after_turn recent world
 random_83-0 = refl
 
 random_83-2 : events random_83 2 200 ≡
@@ -750,7 +750,7 @@ random_83-2 : events random_83 2 200 ≡
     ∷ at 2 178 0x3840 0x7c279073 (Trap 2 0x3840)
     ∷ at 2 185 0x3840 0x7c279073 (Trap 2 0x3840)
     ∷ at 2 192 0x3840 0x7c279073 (Trap 2 0x3840) ∷ []
-unfolding random_83 ins rows lui_rows auipc_rows jal_rows jalr_rows branch_rows load_rows store_rows imm_rows op_rows fence_rows system_rows time_rows bitwise computed computed_with shifted multiplied is_taken loaded lanes_at merged result_of nibbles standing region_of index_of may_fetch may_load may_store frame turn is_table is_regions is_awake after_last donated pick load store branch delay wait changed may_hold csr_access execute_untrapped run_at execute_in execute_word effect_of issue code_at data_at around after_turn recent world
+unfolding random_83 ins rows lui_rows auipc_rows jal_rows jalr_rows branch_rows load_rows store_rows imm_rows op_rows fence_rows system_rows time_rows bitwise computed computed_with shifted multiplied is_taken loaded lanes_at merged result_of nibbles region_kind region_of index_of may_fetch may_load may_store frame turn is_table is_regions is_awake after_last donated pick load store branch delay wait changed may_hold csr_access execute_untrapped run_at execute_in execute_word effect_of issue code_at data_at around after_turn recent world
 random_83-2 = refl
 
 random_83-3 : events random_83 3 200 ≡
@@ -808,7 +808,7 @@ random_83-3 : events random_83 3 200 ≡
     ∷ at 3 184 0x183c 0xd0f10393 (Reg 7 0xfffffd0f)
     ∷ at 3 190 0x1840 0x98222393 (Reg 7 0x0)
     ∷ at 3 191 0x1844 0x00852083 (Trap 5 0x1838) ∷ []
-unfolding random_83 ins rows lui_rows auipc_rows jal_rows jalr_rows branch_rows load_rows store_rows imm_rows op_rows fence_rows system_rows time_rows bitwise computed computed_with shifted multiplied is_taken loaded lanes_at merged result_of nibbles standing region_of index_of may_fetch may_load may_store frame turn is_table is_regions is_awake after_last donated pick load store branch delay wait changed may_hold csr_access execute_untrapped run_at execute_in execute_word effect_of issue code_at data_at around after_turn recent world
+unfolding random_83 ins rows lui_rows auipc_rows jal_rows jalr_rows branch_rows load_rows store_rows imm_rows op_rows fence_rows system_rows time_rows bitwise computed computed_with shifted multiplied is_taken loaded lanes_at merged result_of nibbles region_kind region_of index_of may_fetch may_load may_store frame turn is_table is_regions is_awake after_last donated pick load store branch delay wait changed may_hold csr_access execute_untrapped run_at execute_in execute_word effect_of issue code_at data_at around after_turn recent world
 random_83-3 = refl
 
 random_83-7 : events random_83 7 200 ≡
@@ -864,7 +864,7 @@ random_83-7 : events random_83 7 200 ≡
     ∷ at 7 187 0x10 0x40000637 (Reg 12 0x40000000)
     ∷ at 7 189 0x14 0x00060613 (Reg 12 0x40000000)
     ∷ at 7 194 0x18 0x000006b7 (Reg 13 0x0) ∷ []
-unfolding random_83 ins rows lui_rows auipc_rows jal_rows jalr_rows branch_rows load_rows store_rows imm_rows op_rows fence_rows system_rows time_rows bitwise computed computed_with shifted multiplied is_taken loaded lanes_at merged result_of nibbles standing region_of index_of may_fetch may_load may_store frame turn is_table is_regions is_awake after_last donated pick load store branch delay wait changed may_hold csr_access execute_untrapped run_at execute_in execute_word effect_of issue code_at data_at around after_turn recent world
+unfolding random_83 ins rows lui_rows auipc_rows jal_rows jalr_rows branch_rows load_rows store_rows imm_rows op_rows fence_rows system_rows time_rows bitwise computed computed_with shifted multiplied is_taken loaded lanes_at merged result_of nibbles region_kind region_of index_of may_fetch may_load may_store frame turn is_table is_regions is_awake after_last donated pick load store branch delay wait changed may_hold csr_access execute_untrapped run_at execute_in execute_word effect_of issue code_at data_at around after_turn recent world
 random_83-7 = refl
 
 -- seed 103: quiet, 200 cycles
@@ -937,7 +937,7 @@ random_103-1 : events random_103 1 200 ≡
     ∷ at 1 185 0x82c 0x0062d063 Nothing
     ∷ at 1 189 0x82c 0x0062d063 Nothing
     ∷ at 1 192 0x82c 0x0062d063 Nothing ∷ []
-unfolding random_103 ins rows lui_rows auipc_rows jal_rows jalr_rows branch_rows load_rows store_rows imm_rows op_rows fence_rows system_rows time_rows bitwise computed computed_with shifted multiplied is_taken loaded lanes_at merged result_of nibbles standing region_of index_of may_fetch may_load may_store frame turn is_table is_regions is_awake after_last donated pick load store branch delay wait changed may_hold csr_access execute_untrapped run_at execute_in execute_word effect_of issue code_at data_at around after_turn recent world
+unfolding random_103 ins rows lui_rows auipc_rows jal_rows jalr_rows branch_rows load_rows store_rows imm_rows op_rows fence_rows system_rows time_rows bitwise computed computed_with shifted multiplied is_taken loaded lanes_at merged result_of nibbles region_kind region_of index_of may_fetch may_load may_store frame turn is_table is_regions is_awake after_last donated pick load store branch delay wait changed may_hold csr_access execute_untrapped run_at execute_in execute_word effect_of issue code_at data_at around after_turn recent world
 random_103-1 = refl
 
 random_103-2-trace : List Event
@@ -972,7 +972,7 @@ random_103-2-trace =
     ∷ at 2 194 0x00 0x00000000 (Trap 2 0x0) ∷ []
 
 random_103-2 : (events random_103 2 200 ≡ random_103-2-trace) × (solo (view random_103 2) 200 ≡ random_103-2-trace)
-unfolding random_103 random_103-2-trace ins rows lui_rows auipc_rows jal_rows jalr_rows branch_rows load_rows store_rows imm_rows op_rows fence_rows system_rows time_rows bitwise computed computed_with shifted multiplied is_taken loaded lanes_at merged result_of nibbles standing region_of index_of may_fetch may_load may_store frame turn is_table is_regions is_awake after_last donated pick load store branch delay wait changed may_hold csr_access execute_untrapped run_at execute_in execute_word effect_of issue code_at data_at around after_turn recent world around_by may_go solo_turn solo_at setting_of view
+unfolding random_103 random_103-2-trace ins rows lui_rows auipc_rows jal_rows jalr_rows branch_rows load_rows store_rows imm_rows op_rows fence_rows system_rows time_rows bitwise computed computed_with shifted multiplied is_taken loaded lanes_at merged result_of nibbles region_kind region_of index_of may_fetch may_load may_store frame turn is_table is_regions is_awake after_last donated pick load store branch delay wait changed may_hold csr_access execute_untrapped run_at execute_in execute_word effect_of issue code_at data_at around after_turn recent world around_by may_go solo_turn solo_at setting_of view
 random_103-2 = (refl, refl)
 
 random_103-4-trace : List Event
@@ -1007,7 +1007,7 @@ random_103-4-trace =
     ∷ at 4 195 0x2044 0x00668383 (Reg 7 0x0) ∷ []
 
 random_103-4 : (events random_103 4 200 ≡ random_103-4-trace) × (solo (view random_103 4) 200 ≡ random_103-4-trace)
-unfolding random_103 random_103-4-trace ins rows lui_rows auipc_rows jal_rows jalr_rows branch_rows load_rows store_rows imm_rows op_rows fence_rows system_rows time_rows bitwise computed computed_with shifted multiplied is_taken loaded lanes_at merged result_of nibbles standing region_of index_of may_fetch may_load may_store frame turn is_table is_regions is_awake after_last donated pick load store branch delay wait changed may_hold csr_access execute_untrapped run_at execute_in execute_word effect_of issue code_at data_at around after_turn recent world around_by may_go solo_turn solo_at setting_of view
+unfolding random_103 random_103-4-trace ins rows lui_rows auipc_rows jal_rows jalr_rows branch_rows load_rows store_rows imm_rows op_rows fence_rows system_rows time_rows bitwise computed computed_with shifted multiplied is_taken loaded lanes_at merged result_of nibbles region_kind region_of index_of may_fetch may_load may_store frame turn is_table is_regions is_awake after_last donated pick load store branch delay wait changed may_hold csr_access execute_untrapped run_at execute_in execute_word effect_of issue code_at data_at around after_turn recent world around_by may_go solo_turn solo_at setting_of view
 random_103-4 = (refl, refl)
 
 random_103-6 : events random_103 6 200 ≡
@@ -1055,7 +1055,7 @@ random_103-6 : events random_103 6 200 ≡
     ∷ at 6 183 0x3038 0x0000070b (Reg 14 0x2cad8)
     ∷ at 6 184 0x303c 0x3e770713 (Reg 14 0x2cebf)
     ∷ at 6 190 0x3040 0x00e0300b Nothing ∷ []
-unfolding random_103 ins rows lui_rows auipc_rows jal_rows jalr_rows branch_rows load_rows store_rows imm_rows op_rows fence_rows system_rows time_rows bitwise computed computed_with shifted multiplied is_taken loaded lanes_at merged result_of nibbles standing region_of index_of may_fetch may_load may_store frame turn is_table is_regions is_awake after_last donated pick load store branch delay wait changed may_hold csr_access execute_untrapped run_at execute_in execute_word effect_of issue code_at data_at around after_turn recent world
+unfolding random_103 ins rows lui_rows auipc_rows jal_rows jalr_rows branch_rows load_rows store_rows imm_rows op_rows fence_rows system_rows time_rows bitwise computed computed_with shifted multiplied is_taken loaded lanes_at merged result_of nibbles region_kind region_of index_of may_fetch may_load may_store frame turn is_table is_regions is_awake after_last donated pick load store branch delay wait changed may_hold csr_access execute_untrapped run_at execute_in execute_word effect_of issue code_at data_at around after_turn recent world
 random_103-6 = refl
 
 random_103-7-trace : List Event
@@ -1090,7 +1090,7 @@ random_103-7-trace =
     ∷ at 7 193 0x384c 0x00000000 (Trap 24 0x3840) ∷ []
 
 random_103-7 : (events random_103 7 200 ≡ random_103-7-trace) × (solo (view random_103 7) 200 ≡ random_103-7-trace)
-unfolding random_103 random_103-7-trace ins rows lui_rows auipc_rows jal_rows jalr_rows branch_rows load_rows store_rows imm_rows op_rows fence_rows system_rows time_rows bitwise computed computed_with shifted multiplied is_taken loaded lanes_at merged result_of nibbles standing region_of index_of may_fetch may_load may_store frame turn is_table is_regions is_awake after_last donated pick load store branch delay wait changed may_hold csr_access execute_untrapped run_at execute_in execute_word effect_of issue code_at data_at around after_turn recent world around_by may_go solo_turn solo_at setting_of view
+unfolding random_103 random_103-7-trace ins rows lui_rows auipc_rows jal_rows jalr_rows branch_rows load_rows store_rows imm_rows op_rows fence_rows system_rows time_rows bitwise computed computed_with shifted multiplied is_taken loaded lanes_at merged result_of nibbles region_kind region_of index_of may_fetch may_load may_store frame turn is_table is_regions is_awake after_last donated pick load store branch delay wait changed may_hold csr_access execute_untrapped run_at execute_in execute_word effect_of issue code_at data_at around after_turn recent world around_by may_go solo_turn solo_at setting_of view
 random_103-7 = (refl, refl)
 
 -- seed 110: not quiet, 100 cycles
@@ -1126,7 +1126,7 @@ random_110-0 : events random_110 0 100 ≡
     ∷ at 0 66 0x40 0x00108093 (Reg 1 0x3)
     ∷ at 0 70 0x44 0x00108093 (Reg 1 0x4)
     ∷ at 0 74 0x48 0x7c081073 (Csr 0x7c0 0x133ef1f2 0 0x1f0f1ff2) ∷ []
-unfolding random_110 ins rows lui_rows auipc_rows jal_rows jalr_rows branch_rows load_rows store_rows imm_rows op_rows fence_rows system_rows time_rows bitwise computed computed_with shifted multiplied is_taken loaded lanes_at merged result_of nibbles standing region_of index_of may_fetch may_load may_store frame turn is_table is_regions is_awake after_last donated pick load store branch delay wait changed may_hold csr_access execute_untrapped run_at execute_in execute_word effect_of issue code_at data_at around after_turn recent world
+unfolding random_110 ins rows lui_rows auipc_rows jal_rows jalr_rows branch_rows load_rows store_rows imm_rows op_rows fence_rows system_rows time_rows bitwise computed computed_with shifted multiplied is_taken loaded lanes_at merged result_of nibbles region_kind region_of index_of may_fetch may_load may_store frame turn is_table is_regions is_awake after_last donated pick load store branch delay wait changed may_hold csr_access execute_untrapped run_at execute_in execute_word effect_of issue code_at data_at around after_turn recent world
 random_110-0 = refl
 
 random_110-1 : events random_110 1 100 ≡
@@ -1158,7 +1158,7 @@ random_110-1 : events random_110 1 100 ≡
     ∷ at 1 83 0x3038 0x0000400b Nothing
     ∷ at 1 89 0x303c 0x00000000 (Trap 24 0x3038)
     ∷ at 1 95 0x3038 0x0000400b Nothing ∷ []
-unfolding random_110 ins rows lui_rows auipc_rows jal_rows jalr_rows branch_rows load_rows store_rows imm_rows op_rows fence_rows system_rows time_rows bitwise computed computed_with shifted multiplied is_taken loaded lanes_at merged result_of nibbles standing region_of index_of may_fetch may_load may_store frame turn is_table is_regions is_awake after_last donated pick load store branch delay wait changed may_hold csr_access execute_untrapped run_at execute_in execute_word effect_of issue code_at data_at around after_turn recent world
+unfolding random_110 ins rows lui_rows auipc_rows jal_rows jalr_rows branch_rows load_rows store_rows imm_rows op_rows fence_rows system_rows time_rows bitwise computed computed_with shifted multiplied is_taken loaded lanes_at merged result_of nibbles region_kind region_of index_of may_fetch may_load may_store frame turn is_table is_regions is_awake after_last donated pick load store branch delay wait changed may_hold csr_access execute_untrapped run_at execute_in execute_word effect_of issue code_at data_at around after_turn recent world
 random_110-1 = refl
 
 random_110-2 : events random_110 2 100 ≡
@@ -1186,17 +1186,17 @@ random_110-2 : events random_110 2 100 ≡
     ∷ at 2 84 0x183c 0x7c3793f3 (Trap 2 0x1838)
     ∷ at 2 90 0x1838 0x10078793 (Reg 15 0x71372500)
     ∷ at 2 92 0x183c 0x7c3793f3 (Trap 2 0x1838) ∷ []
-unfolding random_110 ins rows lui_rows auipc_rows jal_rows jalr_rows branch_rows load_rows store_rows imm_rows op_rows fence_rows system_rows time_rows bitwise computed computed_with shifted multiplied is_taken loaded lanes_at merged result_of nibbles standing region_of index_of may_fetch may_load may_store frame turn is_table is_regions is_awake after_last donated pick load store branch delay wait changed may_hold csr_access execute_untrapped run_at execute_in execute_word effect_of issue code_at data_at around after_turn recent world
+unfolding random_110 ins rows lui_rows auipc_rows jal_rows jalr_rows branch_rows load_rows store_rows imm_rows op_rows fence_rows system_rows time_rows bitwise computed computed_with shifted multiplied is_taken loaded lanes_at merged result_of nibbles region_kind region_of index_of may_fetch may_load may_store frame turn is_table is_regions is_awake after_last donated pick load store branch delay wait changed may_hold csr_access execute_untrapped run_at execute_in execute_word effect_of issue code_at data_at around after_turn recent world
 random_110-2 = refl
 
 random_110-3 : events random_110 3 100 ≡
     at 3 81 0x2800 0x00000000 (Trap 2 0x0)
     ∷ at 3 87 0x00 0x00000000 (Trap 1 0x0)
     ∷ at 3 93 0x00 0x00000000 (Trap 1 0x0) ∷ []
-unfolding random_110 ins rows lui_rows auipc_rows jal_rows jalr_rows branch_rows load_rows store_rows imm_rows op_rows fence_rows system_rows time_rows bitwise computed computed_with shifted multiplied is_taken loaded lanes_at merged result_of nibbles standing region_of index_of may_fetch may_load may_store frame turn is_table is_regions is_awake after_last donated pick load store branch delay wait changed may_hold csr_access execute_untrapped run_at execute_in execute_word effect_of issue code_at data_at around after_turn recent world
+unfolding random_110 ins rows lui_rows auipc_rows jal_rows jalr_rows branch_rows load_rows store_rows imm_rows op_rows fence_rows system_rows time_rows bitwise computed computed_with shifted multiplied is_taken loaded lanes_at merged result_of nibbles region_kind region_of index_of may_fetch may_load may_store frame turn is_table is_regions is_awake after_last donated pick load store branch delay wait changed may_hold csr_access execute_untrapped run_at execute_in execute_word effect_of issue code_at data_at around after_turn recent world
 random_110-3 = refl
 
 random_110-6 : events random_110 6 100 ≡
     at 6 86 0x00 0x00000000 (Trap 1 0x0) ∷ []
-unfolding random_110 ins rows lui_rows auipc_rows jal_rows jalr_rows branch_rows load_rows store_rows imm_rows op_rows fence_rows system_rows time_rows bitwise computed computed_with shifted multiplied is_taken loaded lanes_at merged result_of nibbles standing region_of index_of may_fetch may_load may_store frame turn is_table is_regions is_awake after_last donated pick load store branch delay wait changed may_hold csr_access execute_untrapped run_at execute_in execute_word effect_of issue code_at data_at around after_turn recent world
+unfolding random_110 ins rows lui_rows auipc_rows jal_rows jalr_rows branch_rows load_rows store_rows imm_rows op_rows fence_rows system_rows time_rows bitwise computed computed_with shifted multiplied is_taken loaded lanes_at merged result_of nibbles region_kind region_of index_of may_fetch may_load may_store frame turn is_table is_regions is_awake after_last donated pick load store branch delay wait changed may_hold csr_access execute_untrapped run_at execute_in execute_word effect_of issue code_at data_at around after_turn recent world
 random_110-6 = refl

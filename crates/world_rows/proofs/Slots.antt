@@ -8,7 +8,7 @@ use Rattle.rv_exec.specs.Access.{loaded, lanes_at, merged}
 use Rattle.rv_exec.specs.Result.{is_taken, result_of}
 use Rattle.rv_exec.specs.declared.outcome.Event.{Event}
 use Rattle.rv_exec.specs.declared.outcome.Effect.TheVariants.{Nothing, Reg, Csr, Trap}
-use Rattle.region_guard.specs.Regions.{standing, region_of, index_of, may_fetch, may_load, may_store}
+use Rattle.region_guard.specs.Regions.{region_kind, region_of, index_of, may_fetch, may_load, may_store}
 use Rattle.slot_table.specs.Frame.{frame, turn}
 use Rattle.slot_table.specs.Table.{is_table}
 use Rattle.region_guard.specs.Register.{is_regions}
@@ -36,7 +36,7 @@ one_slot-0-trace =
     ∷ at 0 6 0x10 0x00200393 (Reg 7 0x2) ∷ []
 
 one_slot-0 : (events one_slot 0 11 ≡ one_slot-0-trace) × (solo (view one_slot 0) 11 ≡ one_slot-0-trace)
-unfolding one_slot one_slot-0-trace ins rows lui_rows auipc_rows jal_rows jalr_rows branch_rows load_rows store_rows imm_rows op_rows fence_rows system_rows time_rows bitwise computed computed_with shifted multiplied is_taken loaded lanes_at merged result_of nibbles standing region_of index_of may_fetch may_load may_store frame turn is_table is_regions is_awake after_last donated pick load store branch delay wait changed may_hold csr_access execute_untrapped run_at execute_in execute_word effect_of issue code_at data_at around after_turn recent world around_by may_go solo_turn solo_at setting_of view
+unfolding one_slot one_slot-0-trace ins rows lui_rows auipc_rows jal_rows jalr_rows branch_rows load_rows store_rows imm_rows op_rows fence_rows system_rows time_rows bitwise computed computed_with shifted multiplied is_taken loaded lanes_at merged result_of nibbles region_kind region_of index_of may_fetch may_load may_store frame turn is_table is_regions is_awake after_last donated pick load store branch delay wait changed may_hold csr_access execute_untrapped run_at execute_in execute_word effect_of issue code_at data_at around after_turn recent world around_by may_go solo_turn solo_at setting_of view
 one_slot-0 = (refl, refl)
 
 -- one of four threads
@@ -54,7 +54,7 @@ four_slots-0-trace =
     ∷ at 0 12 0x10 0x00200393 (Reg 7 0x2) ∷ []
 
 four_slots-0 : (events four_slots 0 17 ≡ four_slots-0-trace) × (solo (view four_slots 0) 17 ≡ four_slots-0-trace)
-unfolding four_slots four_slots-0-trace ins rows lui_rows auipc_rows jal_rows jalr_rows branch_rows load_rows store_rows imm_rows op_rows fence_rows system_rows time_rows bitwise computed computed_with shifted multiplied is_taken loaded lanes_at merged result_of nibbles standing region_of index_of may_fetch may_load may_store frame turn is_table is_regions is_awake after_last donated pick load store branch delay wait changed may_hold csr_access execute_untrapped run_at execute_in execute_word effect_of issue code_at data_at around after_turn recent world around_by may_go solo_turn solo_at setting_of view
+unfolding four_slots four_slots-0-trace ins rows lui_rows auipc_rows jal_rows jalr_rows branch_rows load_rows store_rows imm_rows op_rows fence_rows system_rows time_rows bitwise computed computed_with shifted multiplied is_taken loaded lanes_at merged result_of nibbles region_kind region_of index_of may_fetch may_load may_store frame turn is_table is_regions is_awake after_last donated pick load store branch delay wait changed may_hold csr_access execute_untrapped run_at execute_in execute_word effect_of issue code_at data_at around after_turn recent world around_by may_go solo_turn solo_at setting_of view
 four_slots-0 = (refl, refl)
 
 -- three others store where they may not
@@ -73,14 +73,14 @@ neighbours-0-trace =
     ∷ at 0 12 0x10 0x00200393 (Reg 7 0x2) ∷ []
 
 neighbours-0 : (events neighbours 0 17 ≡ neighbours-0-trace) × (solo (view neighbours 0) 17 ≡ neighbours-0-trace)
-unfolding neighbours neighbours-0-trace ins rows lui_rows auipc_rows jal_rows jalr_rows branch_rows load_rows store_rows imm_rows op_rows fence_rows system_rows time_rows bitwise computed computed_with shifted multiplied is_taken loaded lanes_at merged result_of nibbles standing region_of index_of may_fetch may_load may_store frame turn is_table is_regions is_awake after_last donated pick load store branch delay wait changed may_hold csr_access execute_untrapped run_at execute_in execute_word effect_of issue code_at data_at around after_turn recent world around_by may_go solo_turn solo_at setting_of view
+unfolding neighbours neighbours-0-trace ins rows lui_rows auipc_rows jal_rows jalr_rows branch_rows load_rows store_rows imm_rows op_rows fence_rows system_rows time_rows bitwise computed computed_with shifted multiplied is_taken loaded lanes_at merged result_of nibbles region_kind region_of index_of may_fetch may_load may_store frame turn is_table is_regions is_awake after_last donated pick load store branch delay wait changed may_hold csr_access execute_untrapped run_at execute_in execute_word effect_of issue code_at data_at around after_turn recent world around_by may_go solo_turn solo_at setting_of view
 neighbours-0 = (refl, refl)
 
 neighbours-1 : events neighbours 1 14 ≡
     at 1 1 0x40 0x200000b7 (Reg 1 0x20000000)
     ∷ at 1 5 0x44 0x0000a023 (Trap 7 0x0)
     ∷ at 1 9 0x00 0x00100293 (Reg 5 0x1) ∷ []
-unfolding neighbours ins rows lui_rows auipc_rows jal_rows jalr_rows branch_rows load_rows store_rows imm_rows op_rows fence_rows system_rows time_rows bitwise computed computed_with shifted multiplied is_taken loaded lanes_at merged result_of nibbles standing region_of index_of may_fetch may_load may_store frame turn is_table is_regions is_awake after_last donated pick load store branch delay wait changed may_hold csr_access execute_untrapped run_at execute_in execute_word effect_of issue code_at data_at around after_turn recent world
+unfolding neighbours ins rows lui_rows auipc_rows jal_rows jalr_rows branch_rows load_rows store_rows imm_rows op_rows fence_rows system_rows time_rows bitwise computed computed_with shifted multiplied is_taken loaded lanes_at merged result_of nibbles region_kind region_of index_of may_fetch may_load may_store frame turn is_table is_regions is_awake after_last donated pick load store branch delay wait changed may_hold csr_access execute_untrapped run_at execute_in execute_word effect_of issue code_at data_at around after_turn recent world
 neighbours-1 = refl
 
 -- a confined thread may not load from a shared region
@@ -96,7 +96,7 @@ shared_region-0-trace =
     ∷ at 0 4 0x04 0x0000a103 (Trap 5 0x0) ∷ []
 
 shared_region-0 : (events shared_region 0 9 ≡ shared_region-0-trace) × (solo (view shared_region 0) 9 ≡ shared_region-0-trace)
-unfolding shared_region shared_region-0-trace ins rows lui_rows auipc_rows jal_rows jalr_rows branch_rows load_rows store_rows imm_rows op_rows fence_rows system_rows time_rows bitwise computed computed_with shifted multiplied is_taken loaded lanes_at merged result_of nibbles standing region_of index_of may_fetch may_load may_store frame turn is_table is_regions is_awake after_last donated pick load store branch delay wait changed may_hold csr_access execute_untrapped run_at execute_in execute_word effect_of issue code_at data_at around after_turn recent world around_by may_go solo_turn solo_at setting_of view
+unfolding shared_region shared_region-0-trace ins rows lui_rows auipc_rows jal_rows jalr_rows branch_rows load_rows store_rows imm_rows op_rows fence_rows system_rows time_rows bitwise computed computed_with shifted multiplied is_taken loaded lanes_at merged result_of nibbles region_kind region_of index_of may_fetch may_load may_store frame turn is_table is_regions is_awake after_last donated pick load store branch delay wait changed may_hold csr_access execute_untrapped run_at execute_in execute_word effect_of issue code_at data_at around after_turn recent world around_by may_go solo_turn solo_at setting_of view
 shared_region-0 = (refl, refl)
 
 -- two soft threads take turns
@@ -113,7 +113,7 @@ two_soft-1 : events two_soft 1 14 ≡
     ∷ at 1 2 0x104 0xffdff06f Nothing
     ∷ at 1 6 0x100 0x00108093 (Reg 1 0x2)
     ∷ at 1 8 0x104 0xffdff06f Nothing ∷ []
-unfolding two_soft ins rows lui_rows auipc_rows jal_rows jalr_rows branch_rows load_rows store_rows imm_rows op_rows fence_rows system_rows time_rows bitwise computed computed_with shifted multiplied is_taken loaded lanes_at merged result_of nibbles standing region_of index_of may_fetch may_load may_store frame turn is_table is_regions is_awake after_last donated pick load store branch delay wait changed may_hold csr_access execute_untrapped run_at execute_in execute_word effect_of issue code_at data_at around after_turn recent world
+unfolding two_soft ins rows lui_rows auipc_rows jal_rows jalr_rows branch_rows load_rows store_rows imm_rows op_rows fence_rows system_rows time_rows bitwise computed computed_with shifted multiplied is_taken loaded lanes_at merged result_of nibbles region_kind region_of index_of may_fetch may_load may_store frame turn is_table is_regions is_awake after_last donated pick load store branch delay wait changed may_hold csr_access execute_untrapped run_at execute_in execute_word effect_of issue code_at data_at around after_turn recent world
 two_soft-1 = refl
 
 -- a thread with a permit writes the slots; picking goes by them three cycles later
@@ -131,12 +131,12 @@ new_slots-0 : events new_slots 0 11 ≡
     ∷ at 0 1 0x04 0x7c009073 (Csr 0x7c0 0xffffff10 0 0xfffffff0)
     ∷ at 0 4 0x08 0x00100113 (Reg 2 0x1)
     ∷ at 0 6 0x0c 0x00100193 (Reg 3 0x1) ∷ []
-unfolding new_slots ins rows lui_rows auipc_rows jal_rows jalr_rows branch_rows load_rows store_rows imm_rows op_rows fence_rows system_rows time_rows bitwise computed computed_with shifted multiplied is_taken loaded lanes_at merged result_of nibbles standing region_of index_of may_fetch may_load may_store frame turn is_table is_regions is_awake after_last donated pick load store branch delay wait changed may_hold csr_access execute_untrapped run_at execute_in execute_word effect_of issue code_at data_at around after_turn recent world
+unfolding new_slots ins rows lui_rows auipc_rows jal_rows jalr_rows branch_rows load_rows store_rows imm_rows op_rows fence_rows system_rows time_rows bitwise computed computed_with shifted multiplied is_taken loaded lanes_at merged result_of nibbles region_kind region_of index_of may_fetch may_load may_store frame turn is_table is_regions is_awake after_last donated pick load store branch delay wait changed may_hold csr_access execute_untrapped run_at execute_in execute_word effect_of issue code_at data_at around after_turn recent world
 new_slots-0 = refl
 
 new_slots-1 : events new_slots 1 10 ≡
     at 1 5 0x40 0x0000006f Nothing ∷ []
-unfolding new_slots ins rows lui_rows auipc_rows jal_rows jalr_rows branch_rows load_rows store_rows imm_rows op_rows fence_rows system_rows time_rows bitwise computed computed_with shifted multiplied is_taken loaded lanes_at merged result_of nibbles standing region_of index_of may_fetch may_load may_store frame turn is_table is_regions is_awake after_last donated pick load store branch delay wait changed may_hold csr_access execute_untrapped run_at execute_in execute_word effect_of issue code_at data_at around after_turn recent world
+unfolding new_slots ins rows lui_rows auipc_rows jal_rows jalr_rows branch_rows load_rows store_rows imm_rows op_rows fence_rows system_rows time_rows bitwise computed computed_with shifted multiplied is_taken loaded lanes_at merged result_of nibbles region_kind region_of index_of may_fetch may_load may_store frame turn is_table is_regions is_awake after_last donated pick load store branch delay wait changed may_hold csr_access execute_untrapped run_at execute_in execute_word effect_of issue code_at data_at around after_turn recent world
 new_slots-1 = refl
 
 -- a word that the slots can't hold is refused
@@ -149,5 +149,5 @@ bad_slot =
 
 bad_slot-0 : events bad_slot 0 5 ≡
     at 0 0 0x00 0x7c045073 (Trap 2 0x0) ∷ []
-unfolding bad_slot ins rows lui_rows auipc_rows jal_rows jalr_rows branch_rows load_rows store_rows imm_rows op_rows fence_rows system_rows time_rows bitwise computed computed_with shifted multiplied is_taken loaded lanes_at merged result_of nibbles standing region_of index_of may_fetch may_load may_store frame turn is_table is_regions is_awake after_last donated pick load store branch delay wait changed may_hold csr_access execute_untrapped run_at execute_in execute_word effect_of issue code_at data_at around after_turn recent world
+unfolding bad_slot ins rows lui_rows auipc_rows jal_rows jalr_rows branch_rows load_rows store_rows imm_rows op_rows fence_rows system_rows time_rows bitwise computed computed_with shifted multiplied is_taken loaded lanes_at merged result_of nibbles region_kind region_of index_of may_fetch may_load may_store frame turn is_table is_regions is_awake after_last donated pick load store branch delay wait changed may_hold csr_access execute_untrapped run_at execute_in execute_word effect_of issue code_at data_at around after_turn recent world
 bad_slot-0 = refl

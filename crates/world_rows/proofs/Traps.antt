@@ -8,7 +8,7 @@ use Rattle.rv_exec.specs.Access.{loaded, lanes_at, merged}
 use Rattle.rv_exec.specs.Result.{is_taken, result_of}
 use Rattle.rv_exec.specs.declared.outcome.Event.{Event}
 use Rattle.rv_exec.specs.declared.outcome.Effect.TheVariants.{Nothing, Reg, Trap}
-use Rattle.region_guard.specs.Regions.{standing, region_of, index_of, may_fetch, may_load, may_store}
+use Rattle.region_guard.specs.Regions.{region_kind, region_of, index_of, may_fetch, may_load, may_store}
 use Rattle.slot_table.specs.Frame.{frame, turn}
 use Rattle.slot_table.specs.Table.{is_table}
 use Rattle.region_guard.specs.Register.{is_regions}
@@ -34,7 +34,7 @@ empty-0-trace =
     ∷ at 0 3 0x00 0x00000000 (Trap 2 0x0) ∷ []
 
 empty-0 : (events empty 0 8 ≡ empty-0-trace) × (solo (view empty 0) 8 ≡ empty-0-trace)
-unfolding empty empty-0-trace ins rows lui_rows auipc_rows jal_rows jalr_rows branch_rows load_rows store_rows imm_rows op_rows fence_rows system_rows time_rows bitwise computed computed_with shifted multiplied is_taken loaded lanes_at merged result_of nibbles standing region_of index_of may_fetch may_load may_store frame turn is_table is_regions is_awake after_last donated pick load store branch delay wait changed may_hold csr_access execute_untrapped run_at execute_in execute_word effect_of issue code_at data_at around after_turn recent world around_by may_go solo_turn solo_at setting_of view
+unfolding empty empty-0-trace ins rows lui_rows auipc_rows jal_rows jalr_rows branch_rows load_rows store_rows imm_rows op_rows fence_rows system_rows time_rows bitwise computed computed_with shifted multiplied is_taken loaded lanes_at merged result_of nibbles region_kind region_of index_of may_fetch may_load may_store frame turn is_table is_regions is_awake after_last donated pick load store branch delay wait changed may_hold csr_access execute_untrapped run_at execute_in execute_word effect_of issue code_at data_at around after_turn recent world around_by may_go solo_turn solo_at setting_of view
 empty-0 = (refl, refl)
 
 -- a jump to an address that is no multiple of four
@@ -48,7 +48,7 @@ misaligned-0-trace =
     ∷ at 0 4 0x10 0x002280e7 (Trap 0 0x0) ∷ []
 
 misaligned-0 : (events misaligned 0 9 ≡ misaligned-0-trace) × (solo (view misaligned 0) 9 ≡ misaligned-0-trace)
-unfolding misaligned misaligned-0-trace ins rows lui_rows auipc_rows jal_rows jalr_rows branch_rows load_rows store_rows imm_rows op_rows fence_rows system_rows time_rows bitwise computed computed_with shifted multiplied is_taken loaded lanes_at merged result_of nibbles standing region_of index_of may_fetch may_load may_store frame turn is_table is_regions is_awake after_last donated pick load store branch delay wait changed may_hold csr_access execute_untrapped run_at execute_in execute_word effect_of issue code_at data_at around after_turn recent world around_by may_go solo_turn solo_at setting_of view
+unfolding misaligned misaligned-0-trace ins rows lui_rows auipc_rows jal_rows jalr_rows branch_rows load_rows store_rows imm_rows op_rows fence_rows system_rows time_rows bitwise computed computed_with shifted multiplied is_taken loaded lanes_at merged result_of nibbles region_kind region_of index_of may_fetch may_load may_store frame turn is_table is_regions is_awake after_last donated pick load store branch delay wait changed may_hold csr_access execute_untrapped run_at execute_in execute_word effect_of issue code_at data_at around after_turn recent world around_by may_go solo_turn solo_at setting_of view
 misaligned-0 = (refl, refl)
 
 -- multiplication and division
@@ -65,7 +65,7 @@ divided-0-trace =
     ∷ at 0 8 0x14 0x0200d333 (Reg 6 0xffffffff) ∷ []
 
 divided-0 : (events divided 0 13 ≡ divided-0-trace) × (solo (view divided 0) 13 ≡ divided-0-trace)
-unfolding divided divided-0-trace ins rows lui_rows auipc_rows jal_rows jalr_rows branch_rows load_rows store_rows imm_rows op_rows fence_rows system_rows time_rows bitwise computed computed_with shifted multiplied is_taken loaded lanes_at merged result_of nibbles standing region_of index_of may_fetch may_load may_store frame turn is_table is_regions is_awake after_last donated pick load store branch delay wait changed may_hold csr_access execute_untrapped run_at execute_in execute_word effect_of issue code_at data_at around after_turn recent world around_by may_go solo_turn solo_at setting_of view
+unfolding divided divided-0-trace ins rows lui_rows auipc_rows jal_rows jalr_rows branch_rows load_rows store_rows imm_rows op_rows fence_rows system_rows time_rows bitwise computed computed_with shifted multiplied is_taken loaded lanes_at merged result_of nibbles region_kind region_of index_of may_fetch may_load may_store frame turn is_table is_regions is_awake after_last donated pick load store branch delay wait changed may_hold csr_access execute_untrapped run_at execute_in execute_word effect_of issue code_at data_at around after_turn recent world around_by may_go solo_turn solo_at setting_of view
 divided-0 = (refl, refl)
 
 -- a scratchpad of 65,536 bytes
@@ -83,7 +83,7 @@ large-0-trace =
     at 0 0 0x8000 0x00100293 (Reg 5 0x1) ∷ []
 
 large-0 : (events large 0 5 ≡ large-0-trace) × (solo (view large 0) 5 ≡ large-0-trace)
-unfolding large large-0-trace ins rows lui_rows auipc_rows jal_rows jalr_rows branch_rows load_rows store_rows imm_rows op_rows fence_rows system_rows time_rows bitwise computed computed_with shifted multiplied is_taken loaded lanes_at merged result_of nibbles standing region_of index_of may_fetch may_load may_store frame turn is_table is_regions is_awake after_last donated pick load store branch delay wait changed may_hold csr_access execute_untrapped run_at execute_in execute_word effect_of issue code_at data_at around after_turn recent world around_by may_go solo_turn solo_at setting_of view
+unfolding large large-0-trace ins rows lui_rows auipc_rows jal_rows jalr_rows branch_rows load_rows store_rows imm_rows op_rows fence_rows system_rows time_rows bitwise computed computed_with shifted multiplied is_taken loaded lanes_at merged result_of nibbles region_kind region_of index_of may_fetch may_load may_store frame turn is_table is_regions is_awake after_last donated pick load store branch delay wait changed may_hold csr_access execute_untrapped run_at execute_in execute_word effect_of issue code_at data_at around after_turn recent world around_by may_go solo_turn solo_at setting_of view
 large-0 = (refl, refl)
 
 -- a port that isn't there reads as ones
@@ -120,7 +120,7 @@ unplugged-0-trace =
     ∷ at 0 51 0x04 0x00012283 (Reg 5 0xffffffff) ∷ []
 
 unplugged-0 : (events unplugged 0 56 ≡ unplugged-0-trace) × (solo (view unplugged 0) 56 ≡ unplugged-0-trace)
-unfolding unplugged unplugged-0-trace ins rows lui_rows auipc_rows jal_rows jalr_rows branch_rows load_rows store_rows imm_rows op_rows fence_rows system_rows time_rows bitwise computed computed_with shifted multiplied is_taken loaded lanes_at merged result_of nibbles standing region_of index_of may_fetch may_load may_store frame turn is_table is_regions is_awake after_last donated pick load store branch delay wait changed may_hold csr_access execute_untrapped run_at execute_in execute_word effect_of issue code_at data_at around after_turn recent world around_by may_go solo_turn solo_at setting_of view
+unfolding unplugged unplugged-0-trace ins rows lui_rows auipc_rows jal_rows jalr_rows branch_rows load_rows store_rows imm_rows op_rows fence_rows system_rows time_rows bitwise computed computed_with shifted multiplied is_taken loaded lanes_at merged result_of nibbles region_kind region_of index_of may_fetch may_load may_store frame turn is_table is_regions is_awake after_last donated pick load store branch delay wait changed may_hold csr_access execute_untrapped run_at execute_in execute_word effect_of issue code_at data_at around after_turn recent world around_by may_go solo_turn solo_at setting_of view
 unplugged-0 = (refl, refl)
 
 -- a port's word is that of the issue's cycle
@@ -138,5 +138,5 @@ wave-0-trace =
     ∷ at 0 6 0x04 0x00012283 (Reg 5 0x1) ∷ []
 
 wave-0 : (events wave 0 11 ≡ wave-0-trace) × (solo (view wave 0) 11 ≡ wave-0-trace)
-unfolding wave wave-0-trace ins rows lui_rows auipc_rows jal_rows jalr_rows branch_rows load_rows store_rows imm_rows op_rows fence_rows system_rows time_rows bitwise computed computed_with shifted multiplied is_taken loaded lanes_at merged result_of nibbles standing region_of index_of may_fetch may_load may_store frame turn is_table is_regions is_awake after_last donated pick load store branch delay wait changed may_hold csr_access execute_untrapped run_at execute_in execute_word effect_of issue code_at data_at around after_turn recent world around_by may_go solo_turn solo_at setting_of view
+unfolding wave wave-0-trace ins rows lui_rows auipc_rows jal_rows jalr_rows branch_rows load_rows store_rows imm_rows op_rows fence_rows system_rows time_rows bitwise computed computed_with shifted multiplied is_taken loaded lanes_at merged result_of nibbles region_kind region_of index_of may_fetch may_load may_store frame turn is_table is_regions is_awake after_last donated pick load store branch delay wait changed may_hold csr_access execute_untrapped run_at execute_in execute_word effect_of issue code_at data_at around after_turn recent world around_by may_go solo_turn solo_at setting_of view
 wave-0 = (refl, refl)

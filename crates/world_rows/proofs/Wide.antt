@@ -7,7 +7,7 @@ use Rattle.rv_exec.specs.Alu.{computed, computed_with, shifted, multiplied}
 use Rattle.rv_exec.specs.Access.{loaded, lanes_at, merged}
 use Rattle.rv_exec.specs.Result.{is_taken, result_of}
 use Rattle.rv_exec.specs.declared.outcome.Effect.TheVariants.{Nothing, Reg, Csr, Trap}
-use Rattle.region_guard.specs.Regions.{standing, region_of, index_of, may_fetch, may_load, may_store}
+use Rattle.region_guard.specs.Regions.{region_kind, region_of, index_of, may_fetch, may_load, may_store}
 use Rattle.slot_table.specs.Frame.{frame, turn}
 use Rattle.slot_table.specs.Table.{is_table}
 use Rattle.region_guard.specs.Register.{is_regions}
@@ -33,13 +33,13 @@ loads_shared =
     }
 
 loads_shared-0-found : found_from loads_shared 0 0 9 ≡ 0x0 ∷ []
-unfolding loads_shared ins rows lui_rows auipc_rows jal_rows jalr_rows branch_rows load_rows store_rows imm_rows op_rows fence_rows system_rows time_rows bitwise computed computed_with shifted multiplied is_taken loaded lanes_at merged result_of nibbles standing region_of index_of may_fetch may_load may_store frame turn is_table is_regions is_awake after_last donated pick load store branch delay wait changed may_hold csr_access execute_untrapped run_at execute_in execute_word effect_of issue code_at data_at around after_turn recent world found_from
+unfolding loads_shared ins rows lui_rows auipc_rows jal_rows jalr_rows branch_rows load_rows store_rows imm_rows op_rows fence_rows system_rows time_rows bitwise computed computed_with shifted multiplied is_taken loaded lanes_at merged result_of nibbles region_kind region_of index_of may_fetch may_load may_store frame turn is_table is_regions is_awake after_last donated pick load store branch delay wait changed may_hold csr_access execute_untrapped run_at execute_in execute_word effect_of issue code_at data_at around after_turn recent world found_from
 loads_shared-0-found = refl
 
 loads_shared-0 : wide_solo (wide_view loads_shared 0 9) 9 ≡
     at 0 0 0x00 0x200010b7 (Reg 1 0x20001000)
     ∷ at 0 4 0x04 0x0000a103 (Reg 2 0x0) ∷ []
-unfolding loads_shared ins rows lui_rows auipc_rows jal_rows jalr_rows branch_rows load_rows store_rows imm_rows op_rows fence_rows system_rows time_rows bitwise computed computed_with shifted multiplied is_taken loaded lanes_at merged result_of nibbles standing region_of index_of may_fetch may_load may_store frame turn is_table is_regions is_awake after_last donated pick load store branch delay wait changed may_hold csr_access execute_untrapped run_at execute_in execute_word effect_of issue code_at data_at around after_turn recent world around_by may_go solo_turn solo_at setting_of view found_from wide_view around_wide data_wide issue_wide wide_turn wide_at
+unfolding loads_shared ins rows lui_rows auipc_rows jal_rows jalr_rows branch_rows load_rows store_rows imm_rows op_rows fence_rows system_rows time_rows bitwise computed computed_with shifted multiplied is_taken loaded lanes_at merged result_of nibbles region_kind region_of index_of may_fetch may_load may_store frame turn is_table is_regions is_awake after_last donated pick load store branch delay wait changed may_hold csr_access execute_untrapped run_at execute_in execute_word effect_of issue code_at data_at around after_turn recent world around_by may_go solo_turn solo_at setting_of view found_from wide_view around_wide data_wide issue_wide wide_turn wide_at
 loads_shared-0 = refl
 
 -- with a permit it reads the slots and the modes
@@ -51,7 +51,7 @@ reads_modes =
     }
 
 reads_modes-0-found : found_from reads_modes 0 0 12 ≡ []
-unfolding reads_modes ins rows lui_rows auipc_rows jal_rows jalr_rows branch_rows load_rows store_rows imm_rows op_rows fence_rows system_rows time_rows bitwise computed computed_with shifted multiplied is_taken loaded lanes_at merged result_of nibbles standing region_of index_of may_fetch may_load may_store frame turn is_table is_regions is_awake after_last donated pick load store branch delay wait changed may_hold csr_access execute_untrapped run_at execute_in execute_word effect_of issue code_at data_at around after_turn recent world found_from
+unfolding reads_modes ins rows lui_rows auipc_rows jal_rows jalr_rows branch_rows load_rows store_rows imm_rows op_rows fence_rows system_rows time_rows bitwise computed computed_with shifted multiplied is_taken loaded lanes_at merged result_of nibbles region_kind region_of index_of may_fetch may_load may_store frame turn is_table is_regions is_awake after_last donated pick load store branch delay wait changed may_hold csr_access execute_untrapped run_at execute_in execute_word effect_of issue code_at data_at around after_turn recent world found_from
 reads_modes-0-found = refl
 
 reads_modes-0 : wide_solo (wide_view reads_modes 0 12) 12 ≡
@@ -59,7 +59,7 @@ reads_modes-0 : wide_solo (wide_view reads_modes 0 12) 12 ≡
     ∷ at 0 3 0x04 0x7c1020f3 (Reg 1 0xfffc)
     ∷ at 0 6 0x08 0x00100113 (Reg 2 0x1)
     ∷ at 0 7 0x0c 0x00000000 (Trap 2 0x0) ∷ []
-unfolding reads_modes ins rows lui_rows auipc_rows jal_rows jalr_rows branch_rows load_rows store_rows imm_rows op_rows fence_rows system_rows time_rows bitwise computed computed_with shifted multiplied is_taken loaded lanes_at merged result_of nibbles standing region_of index_of may_fetch may_load may_store frame turn is_table is_regions is_awake after_last donated pick load store branch delay wait changed may_hold csr_access execute_untrapped run_at execute_in execute_word effect_of issue code_at data_at around after_turn recent world around_by may_go solo_turn solo_at setting_of view found_from wide_view around_wide data_wide issue_wide wide_turn wide_at
+unfolding reads_modes ins rows lui_rows auipc_rows jal_rows jalr_rows branch_rows load_rows store_rows imm_rows op_rows fence_rows system_rows time_rows bitwise computed computed_with shifted multiplied is_taken loaded lanes_at merged result_of nibbles region_kind region_of index_of may_fetch may_load may_store frame turn is_table is_regions is_awake after_last donated pick load store branch delay wait changed may_hold csr_access execute_untrapped run_at execute_in execute_word effect_of issue code_at data_at around after_turn recent world around_by may_go solo_turn solo_at setting_of view found_from wide_view around_wide data_wide issue_wide wide_turn wide_at
 reads_modes-0 = refl
 
 -- seed 762, 50 cycles
@@ -77,7 +77,7 @@ random_762 =
     }
 
 random_762-0-found : found_from random_762 0 0 50 ≡ 0x7c868e10 ∷ 0x7c868e10 ∷ 0x7c868e10 ∷ []
-unfolding random_762 ins rows lui_rows auipc_rows jal_rows jalr_rows branch_rows load_rows store_rows imm_rows op_rows fence_rows system_rows time_rows bitwise computed computed_with shifted multiplied is_taken loaded lanes_at merged result_of nibbles standing region_of index_of may_fetch may_load may_store frame turn is_table is_regions is_awake after_last donated pick load store branch delay wait changed may_hold csr_access execute_untrapped run_at execute_in execute_word effect_of issue code_at data_at around after_turn recent world found_from
+unfolding random_762 ins rows lui_rows auipc_rows jal_rows jalr_rows branch_rows load_rows store_rows imm_rows op_rows fence_rows system_rows time_rows bitwise computed computed_with shifted multiplied is_taken loaded lanes_at merged result_of nibbles region_kind region_of index_of may_fetch may_load may_store frame turn is_table is_regions is_awake after_last donated pick load store branch delay wait changed may_hold csr_access execute_untrapped run_at execute_in execute_word effect_of issue code_at data_at around after_turn recent world found_from
 random_762-0-found = refl
 
 random_762-0 : wide_solo (wide_view random_762 0 50) 50 ≡
@@ -104,7 +104,7 @@ random_762-0 : wide_solo (wide_view random_762 0 50) 50 ≡
     ∷ at 0 39 0x54 0x0025c003 Nothing
     ∷ at 0 41 0x58 0x00019523 (Trap 7 0x50)
     ∷ at 0 45 0x50 0xf1406373 (Reg 6 0x0) ∷ []
-unfolding random_762 ins rows lui_rows auipc_rows jal_rows jalr_rows branch_rows load_rows store_rows imm_rows op_rows fence_rows system_rows time_rows bitwise computed computed_with shifted multiplied is_taken loaded lanes_at merged result_of nibbles standing region_of index_of may_fetch may_load may_store frame turn is_table is_regions is_awake after_last donated pick load store branch delay wait changed may_hold csr_access execute_untrapped run_at execute_in execute_word effect_of issue code_at data_at around after_turn recent world around_by may_go solo_turn solo_at setting_of view found_from wide_view around_wide data_wide issue_wide wide_turn wide_at
+unfolding random_762 ins rows lui_rows auipc_rows jal_rows jalr_rows branch_rows load_rows store_rows imm_rows op_rows fence_rows system_rows time_rows bitwise computed computed_with shifted multiplied is_taken loaded lanes_at merged result_of nibbles region_kind region_of index_of may_fetch may_load may_store frame turn is_table is_regions is_awake after_last donated pick load store branch delay wait changed may_hold csr_access execute_untrapped run_at execute_in execute_word effect_of issue code_at data_at around after_turn recent world around_by may_go solo_turn solo_at setting_of view found_from wide_view around_wide data_wide issue_wide wide_turn wide_at
 random_762-0 = refl
 
 -- seed 1331, 50 cycles
@@ -121,7 +121,7 @@ random_1331 =
     }
 
 random_1331-0-found : found_from random_1331 0 0 50 ≡ 0x7a40671f ∷ 0x7a40671f ∷ 0x7a40671f ∷ []
-unfolding random_1331 ins rows lui_rows auipc_rows jal_rows jalr_rows branch_rows load_rows store_rows imm_rows op_rows fence_rows system_rows time_rows bitwise computed computed_with shifted multiplied is_taken loaded lanes_at merged result_of nibbles standing region_of index_of may_fetch may_load may_store frame turn is_table is_regions is_awake after_last donated pick load store branch delay wait changed may_hold csr_access execute_untrapped run_at execute_in execute_word effect_of issue code_at data_at around after_turn recent world found_from
+unfolding random_1331 ins rows lui_rows auipc_rows jal_rows jalr_rows branch_rows load_rows store_rows imm_rows op_rows fence_rows system_rows time_rows bitwise computed computed_with shifted multiplied is_taken loaded lanes_at merged result_of nibbles region_kind region_of index_of may_fetch may_load may_store frame turn is_table is_regions is_awake after_last donated pick load store branch delay wait changed may_hold csr_access execute_untrapped run_at execute_in execute_word effect_of issue code_at data_at around after_turn recent world found_from
 random_1331-0-found = refl
 
 random_1331-0 : wide_solo (wide_view random_1331 0 50) 50 ≡
@@ -143,5 +143,5 @@ random_1331-0 : wide_solo (wide_view random_1331 0 50) 50 ≡
     ∷ at 0 38 0x1040 0x0065d203 (Reg 4 0x7a40)
     ∷ at 0 40 0x1044 0x00064183 (Trap 5 0x1040)
     ∷ at 0 44 0x1040 0x0065d203 (Reg 4 0x7a40) ∷ []
-unfolding random_1331 ins rows lui_rows auipc_rows jal_rows jalr_rows branch_rows load_rows store_rows imm_rows op_rows fence_rows system_rows time_rows bitwise computed computed_with shifted multiplied is_taken loaded lanes_at merged result_of nibbles standing region_of index_of may_fetch may_load may_store frame turn is_table is_regions is_awake after_last donated pick load store branch delay wait changed may_hold csr_access execute_untrapped run_at execute_in execute_word effect_of issue code_at data_at around after_turn recent world around_by may_go solo_turn solo_at setting_of view found_from wide_view around_wide data_wide issue_wide wide_turn wide_at
+unfolding random_1331 ins rows lui_rows auipc_rows jal_rows jalr_rows branch_rows load_rows store_rows imm_rows op_rows fence_rows system_rows time_rows bitwise computed computed_with shifted multiplied is_taken loaded lanes_at merged result_of nibbles region_kind region_of index_of may_fetch may_load may_store frame turn is_table is_regions is_awake after_last donated pick load store branch delay wait changed may_hold csr_access execute_untrapped run_at execute_in execute_word effect_of issue code_at data_at around after_turn recent world around_by may_go solo_turn solo_at setting_of view found_from wide_view around_wide data_wide issue_wide wide_turn wide_at
 random_1331-0 = refl

@@ -1,9 +1,9 @@
 use Rattle.std.proofs.Common.{◌≡◌, ℕ, List, [], ◌∷◌, length, get_or, map, refl, arith, rules}
-use Rattle.solo_run.specs.Kinds.{kinds_by, standing_by}
+use Rattle.solo_run.specs.RegionKinds.{kinds_of_numbers, kind_of_number}
 use Rattle.solo_run.proofs.solo.kinds.Goals as goal
 
 eight : (numbers : List ℕ) → length numbers ≡ 8 →
-    kinds_by numbers ≡ map (λ k. standing_by (get_or numbers k 0)) (0 ∷ 1 ∷ 2 ∷ 3 ∷ 4 ∷ 5 ∷ 6 ∷ 7 ∷ [])
+    kinds_of_numbers numbers ≡ map (λ k. kind_of_number (get_or numbers k 0)) (0 ∷ 1 ∷ 2 ∷ 3 ∷ 4 ∷ 5 ∷ 6 ∷ 7 ∷ [])
 eight (a ∷ b ∷ c ∷ d ∷ e ∷ f ∷ g ∷ h ∷ []) long = refl
 eight _ long = absurd (omega (arith, long))
 

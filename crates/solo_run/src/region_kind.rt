@@ -1,8 +1,8 @@
 //! What a region of a scratchpad is to the thread.
 
-/// What a region of a scratchpad is to the thread.
+/// What a region of a scratchpad is to the thread, with the cases of the definition of that name.
 #[derive(Clone, Copy, Debug, PartialEq, Eq)]
-pub enum Kind {
+pub enum RegionKind {
     /// The thread owns it: it may fetch, load and store there.
     Mine,
     /// Every thread may fetch and load there.
@@ -13,54 +13,54 @@ pub enum Kind {
     Foreign,
 }
 
-impl Kind {
+impl RegionKind {
     ghost use Rattle.std.specs.Prelude.{◌≡◌, ◌≤◌};
     ghost use Rattle.region_guard.specs.Regions.{is_readable, is_writable, is_mine};
-    ghost use Rattle.solo_run.specs.Kinds.{standing_of, standing_by};
+    ghost use Rattle.solo_run.specs.RegionKinds.{kind_as_defined, kind_of_number};
 
     /// The kind that a number of a view means; above 3 there is none.
-    pub fn from_number(number: u8) -> Kind
-        ensures { standing_of result ≡ standing_by number }
+    pub fn from_number(number: u8) -> RegionKind
+        ensures { kind_as_defined result ≡ kind_of_number number }
     {
         match number {
-            0 => Kind::Mine,
-            1 => Kind::ReadOnly,
-            2 => Kind::Shared,
-            _ => Kind::Foreign,
+            0 => RegionKind::Mine,
+            1 => RegionKind::ReadOnly,
+            2 => RegionKind::Shared,
+            _ => RegionKind::Foreign,
         }
     }
 
     /// Its number in a view, 0 to 3.
     pub fn number(self) -> u8
-        ensures number { standing_by result ≡ standing_of self }
+        ensures number { kind_of_number result ≡ kind_as_defined self }
         ensures small { result ≤ 3 }
     {
         match self {
-            Kind::Mine => 0,
-            Kind::ReadOnly => 1,
-            Kind::Shared => 2,
-            Kind::Foreign => 3,
+            RegionKind::Mine => 0,
+            RegionKind::ReadOnly => 1,
+            RegionKind::Shared => 2,
+            RegionKind::Foreign => 3,
         }
     }
 
     /// Whether the thread may fetch and load there.
     pub fn is_readable(self) -> bool
-        ensures { result ≡ is_readable (standing_of self) }
+        ensures { result ≡ is_readable (kind_as_defined self) }
     {
-        matches!(self, Kind::Mine | Kind::ReadOnly)
+        matches!(self, RegionKind::Mine | RegionKind::ReadOnly)
     }
 
     /// Whether the thread may store there.
     pub fn is_writable(self) -> bool
-        ensures { result ≡ is_writable (standing_of self) }
+        ensures { result ≡ is_writable (kind_as_defined self) }
     {
-        matches!(self, Kind::Mine | Kind::Shared)
+        matches!(self, RegionKind::Mine | RegionKind::Shared)
     }
 
     /// Whether a store there changes what the thread reads.
     pub fn is_mine(self) -> bool
-        ensures { result ≡ is_mine (standing_of self) }
+        ensures { result ≡ is_mine (kind_as_defined self) }
     {
-        self == Kind::Mine
+        self == RegionKind::Mine
     }
 }

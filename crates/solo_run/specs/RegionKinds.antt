@@ -1,0 +1,26 @@
+-- What the regions of a scratchpad are to the thread: the code's values as those of the definitions.
+use Rattle.std.specs.Prelude.{ℕ, ◌==◌, if◌then◌else◌, List, map}
+use Rattle.region_guard.specs.Regions.{RegionKind}
+use Rattle.region_guard.specs.Regions.RegionKind.{Mine as mine, ReadOnly as read_only, Shared as shared, Foreign as foreign}
+use Rattle.solo_run.specs.declared.region_kind.RegionKind.{RegionKind as Given}
+use Rattle.solo_run.specs.declared.region_kind.RegionKind.TheVariants.{Mine, ReadOnly, Shared, Foreign}
+
+abbrev pub kind_as_defined : Given → RegionKind
+kind_as_defined Mine = mine
+kind_as_defined ReadOnly = read_only
+kind_as_defined Shared = shared
+kind_as_defined Foreign = foreign
+
+abbrev pub kinds_as_defined : List Given → List RegionKind
+kinds_as_defined kinds = map kind_as_defined kinds
+
+-- by the number that stands for it in a view
+abbrev pub kind_of_number : ℕ → RegionKind
+kind_of_number number =
+    if number == 0 then mine
+    else if number == 1 then read_only
+    else if number == 2 then shared
+    else foreign
+
+abbrev pub kinds_of_numbers : List ℕ → List RegionKind
+kinds_of_numbers numbers = map kind_of_number numbers
