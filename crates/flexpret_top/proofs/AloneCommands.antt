@@ -15,7 +15,7 @@ use Rattle.std.proofs.lemmas.Option.{get_or_from_slice_get}
 use Rattle.fp_ports.specs.ShownWords.{shown}
 use Rattle.fp_setup.specs.declared.thread_list.ThreadSetup.{ThreadSetup}
 use Rattle.setup_model.specs.Start.{inputs_of, shown_to, thread_of}
-use Rattle.solo_run.specs.View.{view_with}
+use Rattle.solo_run.specs.View.{view_as_defined}
 use Rattle.trace_print.specs.Text.{text}
 use Rattle.world_model.specs.Viewed.{view}
 use Rattle.file_answers.specs.declared.program.Program.{Program}
@@ -55,13 +55,13 @@ stop-later told P b b' a Read earlier (inr missing) = inr missing
 stop-later told P b b' a NoMemory earlier is = tt
 
 -- the run's text is told by its parts
-told-by : (a : Alone) (rows : List (Option Row)) (row : Option Row) (t : ThreadSetup) (base : View) → base ≡ view_with a.view [] → row ≡ row_at rows a.view.thread → t ≡ thread_of a.setup a.view.thread →
+told-by : (a : Alone) (rows : List (Option Row)) (row : Option Row) (t : ThreadSetup) (base : View) → base ≡ view_as_defined a.view [] → row ≡ row_at rows a.view.thread → t ≡ thread_of a.setup a.view.thread →
     text (solo (record base { shown = shown row (inputs_of t) t.unplug a.cycles }) a.cycles) ≡ told_alone a rows
 told-by a rows row t base is_base is_row is_thread =
-    let with_words : (words : List ℕ) → record base { shown = words } ≡ view_with a.view words = λ words. ap (λ (v : View). record v { shown = words }) is_base in
+    let with_words : (words : List ℕ) → record base { shown = words } ≡ view_as_defined a.view words = λ words. ap (λ (v : View). record v { shown = words }) is_base in
     let words : shown row (inputs_of t) t.unplug a.cycles ≡ shown_to a.setup rows a.cycles a.view.thread =
     ap (λ (r : Option Row). shown r (inputs_of t) t.unplug a.cycles) is_row ∙ ap (λ (t : ThreadSetup). shown (row_at rows a.view.thread) (inputs_of t) t.unplug a.cycles) is_thread in
-    ap (λ (v : View). text (solo v a.cycles)) (with_words (shown row (inputs_of t) t.unplug a.cycles) ∙ ap (view_with a.view) words)
+    ap (λ (v : View). text (solo v a.cycles)) (with_words (shown row (inputs_of t) t.unplug a.cycles) ∙ ap (view_as_defined a.view) words)
 
 -- what a thread's setup says, as it is read
 pub thread-is : (threads : List ThreadSetup) (s : Settings) (i : ℕ) (t : ThreadSetup) → slice_get threads i ≡ Some t → threads ≡ s.threads → t ≡ thread_of s i
@@ -69,7 +69,7 @@ thread-is threads s i t is same = sym (get_or_from_slice_get threads i t unnamed
 
 -- the same with the port taken out of the ports
 pub beside-told : {B : Type 0} → (latched : B → ℕ) (word_at : B → ℕ → ℕ) (a : Alone) (ports : List (Option B)) (x taken : Option B) (t : ThreadSetup) (base : View) →
-    x ≡ get_or ports a.view.thread x → a.view.thread < length ports → taken ≡ x → t ≡ thread_of a.setup a.view.thread → base ≡ view_with a.view [] →
+    x ≡ get_or ports a.view.thread x → a.view.thread < length ports → taken ≡ x → t ≡ thread_of a.setup a.view.thread → base ≡ view_as_defined a.view [] →
     text (solo (record base { shown = shown (row_of latched word_at taken) (inputs_of t) t.unplug a.cycles }) a.cycles) ≡ told_alone a (rows_of latched word_at ports)
 beside-told latched word_at a ports x taken t base read inside is is_thread is_base =
     told-by a (rows_of latched word_at ports) (row_of latched word_at taken) t base is_base
@@ -80,7 +80,7 @@ told-text : (p : Program) (i n : ℕ) (a : Alone) (rows : List (Option Row)) →
 told-text p i n a rows small of =
     let words : shown_to a.setup rows a.cycles a.view.thread ≡ shown_to p.setup rows n i =
     ap (λ s. shown_to s rows a.cycles a.view.thread) of.setup ∙ ap (λ k. shown_to p.setup rows k a.view.thread) of.cycles ∙ ap (λ k. shown_to p.setup rows n k) of.thread in
-    ap (λ (ws : List ℕ). text (solo (view_with a.view ws) a.cycles)) words
+    ap (λ (ws : List ℕ). text (solo (view_as_defined a.view ws) a.cycles)) words
     ∙ ap (λ (v : View). text (solo v a.cycles)) (of.views (shown_to p.setup rows n i) ∙ view-beside p.setup p.image rows i n small)
     ∙ ap (λ k. text (solo (view (start_of p rows n) i) k)) of.cycles
 

@@ -30,7 +30,7 @@ use Rattle.solo_run.specs.declared.checked.Checked.TheVariants.{Same, Differs}
 use Rattle.solo_run.specs.Setup.{setup_view}
 use Rattle.solo_run.proofs.Compare.{front}
 use Rattle.world_model.specs.Viewed.{view, setting_of}
-use Rattle.solo_run.specs.View.{view_with}
+use Rattle.solo_run.specs.View.{view_as_defined}
 use Rattle.solo_run.specs.declared.view.SoloView.{SoloView}
 use Rattle.file_answers.specs.Answer.{Answer, differs_text, over_file}
 use Rattle.flexpret_top.specs.Alone.{compared, same_text}
@@ -49,7 +49,7 @@ view-beside s image ports i n small =
     ap (λ shown. record (view (start s image ports n) i) { shown = shown }) (sym shown)
 
 -- a view of a setup's thread is that thread's
-pub view-thread : (v : SoloView) (s : Settings) (image : List Segment) (i : ℕ) → ((shown : List ℕ) → view_with v shown ≡ setup_view s image i shown) → v.thread ≡ i
+pub view-thread : (v : SoloView) (s : Settings) (image : List Segment) (i : ℕ) → ((shown : List ℕ) → view_as_defined v shown ≡ setup_view s image i shown) → v.thread ≡ i
 unfolding setup_view view setting_of
 view-thread v s image i views = ap (λ (v : View). v.setting.thread) (views [])
 

@@ -9,7 +9,7 @@ use Rattle.setup_model.specs.Start.{shown_to, thread_of}
 use Rattle.slot_scheduler.specs.ModeWord.{mode_of}
 use Rattle.solo_run.specs.Checked.{first_differing_line}
 use Rattle.solo_run.specs.Setup.{setup_view}
-use Rattle.solo_run.specs.View.{view_with}
+use Rattle.solo_run.specs.View.{view_as_defined}
 use Rattle.trace_print.specs.Text.{text}
 use Rattle.trace_print.specs.declared.refusals.Refusal.TheVariants.{Section}
 use Rattle.world_model.specs.Viewed.{view}
@@ -67,7 +67,7 @@ pub record IsAloneOf (p : Program) (i n : ℕ) (a : Alone) : Type 0 where
   pub setup : a.setup ≡ p.setup
   pub thread : a.view.thread ≡ i
   pub cycles : a.cycles ≡ n
-  pub views : (shown : List ℕ) → view_with a.view shown ≡ setup_view p.setup p.image i shown
+  pub views : (shown : List ℕ) → view_as_defined a.view shown ≡ setup_view p.setup p.image i shown
 
 pub record IsAlone (files : FileMap) (name : List ℕ) (i n : ℕ) (a : Alone) : Type 0 where
   pub made : Program
@@ -76,4 +76,4 @@ pub record IsAlone (files : FileMap) (name : List ℕ) (i n : ℕ) (a : Alone) :
 
 -- the text of its run beside the ports
 abbrev pub told_alone : Alone → List (Option Row) → List ℕ
-told_alone a ports = text (solo (view_with a.view (shown_to a.setup ports a.cycles a.view.thread)) a.cycles)
+told_alone a ports = text (solo (view_as_defined a.view (shown_to a.setup ports a.cycles a.view.thread)) a.cycles)

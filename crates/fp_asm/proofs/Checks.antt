@@ -1,7 +1,7 @@
 -- What a statement that passed its checks is.
 use Rattle.std.proofs.Common.{◌≡◌, ℕ, ◌<◌, ◌≤◌, ◌+◌, ◌-◌, ◌*◌, ◌%◌, ◌^◌, ◌==◌, Bool, true, false, Result, Ok, refl, arith, pos, negsuc, ℤ, nat_abs, List, map, length}
 use Rattle.std.proofs.lemmas.List.{length-map}
-use Rattle.fp_asm.specs.OperandsAsDefined.{target_seen}
+use Rattle.fp_asm.specs.OperandsAsDefined.{target_as_defined}
 use Rattle.fp_asm.specs.declared.operands.Target.TheVariants as target
 use Rattle.std.proofs.lemmas.Bool.Decides.{nat_tests}
 use Rattle.std.proofs.lemmas.Int.{ints}
@@ -64,5 +64,5 @@ after_aligned location s h k = go s.makes h
     go Space h = stays location (size_of s) k
 
 -- the values of a statement are as many as the code's
-pub values_count : (xs : List target.the_data) → length (map target_seen xs) ≡ length xs
-values_count xs = length-map xs target_seen
+pub values_count : (xs : List target.the_data) → length (map target_as_defined xs) ≡ length xs
+values_count xs = length-map xs target_as_defined

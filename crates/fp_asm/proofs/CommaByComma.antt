@@ -3,7 +3,7 @@ use Rattle.std.proofs.Common.{◌≡◌, ℕ, ◌<◌, ◌≤◌, ◌+◌, ◌-�
 use Rattle.std.proofs.lemmas.List.{map-append, take_all}
 use Rattle.fp_asm.specs.Between.{between_from}
 use Rattle.fp_asm.specs.Pieces.{Piece, is_comma, commas}
-use Rattle.fp_asm.specs.Views.{piece_seen, operand_seen}
+use Rattle.fp_asm.specs.PiecesAsDefined.{piece_as_defined, operand_as_defined}
 use Rattle.fp_asm.specs.declared.pieces.Piece.TheVariants as piece
 use Rattle.fp_asm.proofs.Between.{cut, cut_start, cut_ends, cut_on, cut_last}
 
@@ -27,21 +27,21 @@ Pieces = List piece.the_data
 
 -- the operands from piece i on, where the first begins at `start`
 pub operands_from : Pieces → ℕ → ℕ → List (List Piece)
-operands_from ps start i = cut (λ p. is_comma (piece_seen p)) (λ l. map piece_seen l) (λ l. map piece_seen l) ps start i
+operands_from ps start i = cut (λ p. is_comma (piece_as_defined p)) (λ l. map piece_as_defined l) (λ l. map piece_as_defined l) ps start i
 
-pub commas_start : (ps : Pieces) → commas (map piece_seen ps) ≡ operands_from ps 0 0
+pub commas_start : (ps : Pieces) → commas (map piece_as_defined ps) ≡ operands_from ps 0 0
 unfolding commas operands_from
-commas_start ps = between_seen piece_seen is_comma (λ l. l) (λ l. l) [] ps ∙ cut_start (λ p. is_comma (piece_seen p)) (λ l. map piece_seen l) (λ l. map piece_seen l) ps
+commas_start ps = between_seen piece_as_defined is_comma (λ l. l) (λ l. l) [] ps ∙ cut_start (λ p. is_comma (piece_as_defined p)) (λ l. map piece_as_defined l) (λ l. map piece_as_defined l) ps
 
 module _ (ps : Pieces) (start i : ℕ) (d : piece.the_data) where
-  pub commas_on : i < length ps → start ≤ i → is_comma (piece_seen (get_or ps i d)) ≡ false → operands_from ps start i ≡ operands_from ps start (i + 1)
+  pub commas_on : i < length ps → start ≤ i → is_comma (piece_as_defined (get_or ps i d)) ≡ false → operands_from ps start i ≡ operands_from ps start (i + 1)
   unfolding operands_from
-  commas_on h k e = cut_on (λ p. is_comma (piece_seen p)) (λ l. map piece_seen l) (λ l. map piece_seen l) ps start i d h k e
+  commas_on h k e = cut_on (λ p. is_comma (piece_as_defined p)) (λ l. map piece_as_defined l) (λ l. map piece_as_defined l) ps start i d h k e
 
-  pub commas_push : (xs : List (Bor Pieces)) (x : Bor Pieces) → commas (map piece_seen ps) ≡ map operand_seen xs ++ operands_from ps start i → i < length ps → is_comma (piece_seen (get_or ps i d)) ≡ true → x.now ≡ take (i - start) (drop start ps) → commas (map piece_seen ps) ≡ map operand_seen (xs ++ x ∷ []) ++ operands_from ps (i + 1) (i + 1)
+  pub commas_push : (xs : List (Bor Pieces)) (x : Bor Pieces) → commas (map piece_as_defined ps) ≡ map operand_as_defined xs ++ operands_from ps start i → i < length ps → is_comma (piece_as_defined (get_or ps i d)) ≡ true → x.now ≡ take (i - start) (drop start ps) → commas (map piece_as_defined ps) ≡ map operand_as_defined (xs ++ x ∷ []) ++ operands_from ps (i + 1) (i + 1)
   unfolding operands_from
-  commas_push xs x so h e same = so ∙ rw (cut_ends (λ p. is_comma (piece_seen p)) (λ l. map piece_seen l) (λ l. map piece_seen l) ps start i d h e, map-append, same) (sym (append_assoc (map operand_seen xs) (map piece_seen (take (i - start) (drop start ps)) ∷ []) (operands_from ps (i + 1) (i + 1))))
+  commas_push xs x so h e same = so ∙ rw (cut_ends (λ p. is_comma (piece_as_defined p)) (λ l. map piece_as_defined l) (λ l. map piece_as_defined l) ps start i d h e, map-append, same) (sym (append_assoc (map operand_as_defined xs) (map piece_as_defined (take (i - start) (drop start ps)) ∷ []) (operands_from ps (i + 1) (i + 1))))
 
-pub commas_last : (ps : Pieces) (start i : ℕ) (xs : List (Bor Pieces)) (x : Bor Pieces) → commas (map piece_seen ps) ≡ map operand_seen xs ++ operands_from ps start i → length ps ≤ i → start ≤ i → x.now ≡ take (length ps - start) (drop start ps) → map operand_seen (xs ++ x ∷ []) ≡ commas (map piece_seen ps)
+pub commas_last : (ps : Pieces) (start i : ℕ) (xs : List (Bor Pieces)) (x : Bor Pieces) → commas (map piece_as_defined ps) ≡ map operand_as_defined xs ++ operands_from ps start i → length ps ≤ i → start ≤ i → x.now ≡ take (length ps - start) (drop start ps) → map operand_as_defined (xs ++ x ∷ []) ≡ commas (map piece_as_defined ps)
 unfolding operands_from
-commas_last ps start i xs x so h k same = sym (so ∙ rw (cut_last (λ p. is_comma (piece_seen p)) (λ l. map piece_seen l) (λ l. map piece_seen l) ps start i h k, map-append, same, take_all (length ps - start) (drop start ps) (rw length-drop (omega arith))) refl)
+commas_last ps start i xs x so h k same = sym (so ∙ rw (cut_last (λ p. is_comma (piece_as_defined p)) (λ l. map piece_as_defined l) (λ l. map piece_as_defined l) ps start i h k, map-append, same, take_all (length ps - start) (drop start ps) (rw length-drop (omega arith))) refl)

@@ -7,25 +7,25 @@ use Rattle.std.proofs.lemmas.List.Folds.{find-append}
 use Rattle.std.proofs.lemmas.Bool.Decides.{nat_tests}
 use Rattle.fp_asm.specs.Mnemonics.{Mnemonic, mnemonics, mnemonic, row_named}
 use Rattle.fp_asm.specs.Names.{named, registers, register}
-use Rattle.fp_asm.specs.Views.{mnemonic_seen, name_seen}
+use Rattle.fp_asm.specs.PiecesAsDefined.{mnemonic_as_defined, name_as_defined}
 use Rattle.fp_asm.specs.declared.table.Row.{Row}
 
-found_row : (rows : List Row) (text : List ℕ) → row_named (map mnemonic_seen rows) text ≡ option_map mnemonic_seen (find (λ row. bytes_eq row.name.now text) rows)
+found_row : (rows : List Row) (text : List ℕ) → row_named (map mnemonic_as_defined rows) text ≡ option_map mnemonic_as_defined (find (λ row. bytes_eq row.name.now text) rows)
 found_row [] text = refl
 found_row (r ∷ rs) text = go (bytes_eq r.name.now text) (found_row rs text)
   where
-    go : (b : Bool) → row_named (map mnemonic_seen rs) text ≡ option_map mnemonic_seen (find (λ row. bytes_eq row.name.now text) rs) → cond b (Some (mnemonic_seen r)) (row_named (map mnemonic_seen rs) text) ≡ option_map mnemonic_seen (cond b (Some r) (find (λ row. bytes_eq row.name.now text) rs))
+    go : (b : Bool) → row_named (map mnemonic_as_defined rs) text ≡ option_map mnemonic_as_defined (find (λ row. bytes_eq row.name.now text) rs) → cond b (Some (mnemonic_as_defined r)) (row_named (map mnemonic_as_defined rs) text) ≡ option_map mnemonic_as_defined (cond b (Some r) (find (λ row. bytes_eq row.name.now text) rs))
     go true h = refl
     go false h = h
 
-pub table_row : (rows : List Row) (table : List Mnemonic) (text : List ℕ) (found : Option Row) → map mnemonic_seen rows ≡ table → found ≡ find (λ row. bytes_eq row.name.now text) rows → option_map mnemonic_seen found ≡ row_named table text
-table_row rows table text found same e = ap (option_map mnemonic_seen) e ∙ sym (found_row rows text) ∙ ap (λ rows. row_named rows text) same
+pub table_row : (rows : List Row) (table : List Mnemonic) (text : List ℕ) (found : Option Row) → map mnemonic_as_defined rows ≡ table → found ≡ find (λ row. bytes_eq row.name.now text) rows → option_map mnemonic_as_defined found ≡ row_named table text
+table_row rows table text found same e = ap (option_map mnemonic_as_defined) e ∙ sym (found_row rows text) ∙ ap (λ rows. row_named rows text) same
 
-pub found_number : (rows : List (Bor (List ℕ) × ℕ)) (text : List ℕ) → named (map name_seen rows) text ≡ option_map (λ row. row.1) (find (λ row. bytes_eq row.0.now text) rows)
+pub found_number : (rows : List (Bor (List ℕ) × ℕ)) (text : List ℕ) → named (map name_as_defined rows) text ≡ option_map (λ row. row.1) (find (λ row. bytes_eq row.0.now text) rows)
 found_number [] text = refl
 found_number (r ∷ rs) text = go (bytes_eq r.0.now text) (found_number rs text)
   where
-    go : (b : Bool) → named (map name_seen rs) text ≡ option_map (λ row. row.1) (find (λ row. bytes_eq row.0.now text) rs) → option_map (λ row. row.1) (cond b (Some (name_seen r)) (find (λ row. bytes_eq row.0 text) (map name_seen rs))) ≡ option_map (λ row. row.1) (cond b (Some r) (find (λ row. bytes_eq row.0.now text) rs))
+    go : (b : Bool) → named (map name_as_defined rs) text ≡ option_map (λ row. row.1) (find (λ row. bytes_eq row.0.now text) rs) → option_map (λ row. row.1) (cond b (Some (name_as_defined r)) (find (λ row. bytes_eq row.0 text) (map name_as_defined rs))) ≡ option_map (λ row. row.1) (cond b (Some r) (find (λ row. bytes_eq row.0.now text) rs))
     go true h = refl
     go false h = h
 

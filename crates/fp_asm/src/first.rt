@@ -3,7 +3,7 @@
 ghost use Rattle.std.specs.Prelude.{◌≡◌, ◌≤◌, ◌<◌, ◌^◌, IfOk, IfErr, OnOk, Ok, option_map, map, length, All};
 ghost use Rattle.fp_asm.specs.First.{sized as sized_of, first_line, first_pass as first_pass_of};
 ghost use Rattle.fp_asm.specs.Faults.{IsStopOf, IsFaultOf};
-ghost use Rattle.fp_asm.specs.Views.{piece_seen};
+ghost use Rattle.fp_asm.specs.PiecesAsDefined.{piece_as_defined};
 
 use super::addresses::take_addresses;
 use super::labels::{Labels, add_labels};
@@ -29,8 +29,9 @@ pub(crate) struct First<'a> {
 #[tactic(auto, unfolding(crate::specs::First::sized))]
 fn sized(alloc: Global, location: u32, pieces: &[Piece]) -> Result<Option<(u32, u32)>, Stop>
     requires { length pieces.now ≤ 64 }
-    ensures ok { IfOk result (λ s. sized_of location (map piece_seen pieces.now) ≡ Ok s) }
-    ensures refused { IfErr result (IsStopOf (sized_of location (map piece_seen pieces.now))) }
+    ensures ok { IfOk result (λ s. sized_of location (map piece_as_defined pieces.now) ≡ Ok s) }
+    ensures refused { IfErr result
+        (IsStopOf (sized_of location (map piece_as_defined pieces.now))) }
 {
     match statement_after(alloc, pieces)? {
         Some(statement) => Ok(Some((size(&statement), location_after(location, &statement)))),
@@ -40,11 +41,11 @@ fn sized(alloc: Global, location: u32, pieces: &[Piece]) -> Result<Option<(u32, 
 
 impl<'a> First<'a> {
     ghost use Rattle.fp_asm.specs.First.{start};
-    ghost use Rattle.fp_asm.specs.PassesAsDefined.{placed_seen};
+    ghost use Rattle.fp_asm.specs.PassesAsDefined.{placed_as_defined};
 
     /// Before the first line: the location is 0, and there is no label and no word.
     pub(crate) fn new(alloc: Global) -> First<'a>
-        ensures { placed_seen result ≡ start }
+        ensures { placed_as_defined result ≡ start }
     {
         First {
             location: 0,
@@ -56,9 +57,10 @@ impl<'a> First<'a> {
     #[tactic(auto, unfolding(crate::specs::First::first_line, crate::specs::First::placed_by))]
     fn line(&mut self, alloc: Global, line: &'a [u8]) -> Result<(), Stop>
         requires { length line.now < 2 ^ 32 }
-        ensures ok { OnOk result (first_line (placed_seen self.old) line.now
-            ≡ Ok (placed_seen self.new)) }
-        ensures refused { IfErr result (IsStopOf (first_line (placed_seen self.old) line.now)) }
+        ensures ok { OnOk result (first_line (placed_as_defined self.old) line.now
+            ≡ Ok (placed_as_defined self.new)) }
+        ensures refused { IfErr result
+            (IsStopOf (first_line (placed_as_defined self.old) line.now)) }
     {
         let pieces = pieces(alloc, line)?;
         let n = add_labels(&mut self.labels, self.location, &pieces)?;
@@ -79,10 +81,11 @@ impl<'a> First<'a> {
     pub(crate) fn pass(&mut self, alloc: Global, lines: &[&'a [u8]]) -> Result<(), AsmRefused>
         requires short { All (λ l. length l.now < 2 ^ 32) lines.now }
         requires few { length lines.now < 2 ^ 31 }
-        ensures ok { OnOk result (first_pass_of 1 (placed_seen self.old)
-            (map (λ l. l.now) lines.now) ≡ Ok (placed_seen self.new)) }
+        ensures ok { OnOk result (first_pass_of 1 (placed_as_defined self.old)
+            (map (λ l. l.now) lines.now) ≡ Ok (placed_as_defined self.new)) }
         ensures refused { IfErr result
-            (IsFaultOf (first_pass_of 1 (placed_seen self.old) (map (λ l. l.now) lines.now))) }
+            (IsFaultOf
+            (first_pass_of 1 (placed_as_defined self.old) (map (λ l. l.now) lines.now))) }
     {
         for (i, line) in lines.iter().enumerate() {
             match self.line(alloc, *line) {

@@ -2,8 +2,8 @@
 
 ghost use Rattle.std.specs.Prelude.{◌≡◌, ◌<◌, ◌^◌, IfOk, IfSome, Some, None, option_map, map, length};
 ghost use Rattle.fp_asm.specs.Operands.{register_in as register_in_of, number_in as number_in_of, target_in as target_in_of, csr_in as csr_in_of, memory_in as memory_in_of, plain, filled, all_filled, all_targets, nothing_given as nothing_given_of, HasRegisters};
-ghost use Rattle.fp_asm.specs.Views.{piece_seen, operand_seen};
-ghost use Rattle.fp_asm.specs.OperandsAsDefined.{target_seen, operands_seen};
+ghost use Rattle.fp_asm.specs.PiecesAsDefined.{piece_as_defined, operand_as_defined};
+ghost use Rattle.fp_asm.specs.OperandsAsDefined.{target_as_defined, operands_as_defined};
 
 use super::names::{csr, register};
 use super::operands::{Operands, Target};
@@ -13,7 +13,7 @@ use std::alloc::{AllocError, Global};
 
 /// The operands before any is read.
 pub(crate) fn nothing_given<'a>() -> Operands<'a>
-    ensures { operands_seen result ≡ nothing_given_of }
+    ensures { operands_as_defined result ≡ nothing_given_of }
 {
     Operands {
         rd: 0,
@@ -27,7 +27,7 @@ pub(crate) fn nothing_given<'a>() -> Operands<'a>
 
 #[tactic(auto, unfolding(crate::specs::Operands::register_in))]
 fn register_in(pieces: &[Piece]) -> Option<u8>
-    ensures number { result ≡ register_in_of (map piece_seen pieces.now) }
+    ensures number { result ≡ register_in_of (map piece_as_defined pieces.now) }
     ensures small { IfSome result (λ n. n < 32) }
 {
     match pieces {
@@ -38,7 +38,7 @@ fn register_in(pieces: &[Piece]) -> Option<u8>
 
 #[tactic(auto, unfolding(crate::specs::Operands::number_in))]
 fn number_in(pieces: &[Piece]) -> Option<i64>
-    ensures { result ≡ number_in_of (map piece_seen pieces.now) }
+    ensures { result ≡ number_in_of (map piece_as_defined pieces.now) }
 {
     match pieces {
         [Piece::Number { value }] => Some(i64::from(*value)),
@@ -49,8 +49,8 @@ fn number_in(pieces: &[Piece]) -> Option<i64>
 
 // A number as a target.
 fn plain_in<'a>(pieces: &[Piece<'a>]) -> Option<Target<'a>>
-    ensures { option_map target_seen result
-        ≡ option_map plain (number_in_of (map piece_seen pieces.now)) }
+    ensures { option_map target_as_defined result
+        ≡ option_map plain (number_in_of (map piece_as_defined pieces.now)) }
 {
     match number_in(pieces) {
         Some(number) => Some(Target::Plain { number }),
@@ -60,7 +60,8 @@ fn plain_in<'a>(pieces: &[Piece<'a>]) -> Option<Target<'a>>
 
 #[tactic(auto, unfolding(crate::specs::Operands::target_in))]
 fn target_in<'a>(pieces: &[Piece<'a>]) -> Option<Target<'a>>
-    ensures { option_map target_seen result ≡ target_in_of (map piece_seen pieces.now) }
+    ensures { option_map target_as_defined result
+        ≡ target_in_of (map piece_as_defined pieces.now) }
 {
     match pieces {
         [Piece::Name { text }] => Some(Target::Label {
@@ -81,7 +82,7 @@ fn target_in<'a>(pieces: &[Piece<'a>]) -> Option<Target<'a>>
 
 #[tactic(auto, unfolding(crate::specs::Operands::csr_in))]
 fn csr_in(pieces: &[Piece]) -> Option<u32>
-    ensures { result ≡ csr_in_of (map piece_seen pieces.now) }
+    ensures { result ≡ csr_in_of (map piece_as_defined pieces.now) }
 {
     match pieces {
         [Piece::Number { value }] => Some(*value),
@@ -92,7 +93,7 @@ fn csr_in(pieces: &[Piece]) -> Option<u32>
 
 #[tactic(auto, unfolding(crate::specs::Operands::memory_in))]
 fn memory_in(pieces: &[Piece]) -> Option<(i64, u8)>
-    ensures memory { result ≡ memory_in_of (map piece_seen pieces.now) }
+    ensures memory { result ≡ memory_in_of (map piece_as_defined pieces.now) }
     ensures small { IfSome result (λ m. m.1 < 32) }
 {
     match pieces {
@@ -122,10 +123,10 @@ fn memory_in(pieces: &[Piece]) -> Option<(i64, u8)>
 /// The operands with one more.
 #[tactic(auto, unfolding(crate::specs::Operands::filled))]
 fn fill<'a>(slot: Slot, pieces: &[Piece<'a>], operands: &Operands<'a>) -> Option<Operands<'a>>
-    requires { HasRegisters (operands_seen operands.now) }
-    ensures filled { option_map operands_seen result
-        ≡ filled slot (map piece_seen pieces.now) (operands_seen operands.now) }
-    ensures registers { IfSome result (λ o. HasRegisters (operands_seen o)) }
+    requires { HasRegisters (operands_as_defined operands.now) }
+    ensures filled { option_map operands_as_defined result
+        ≡ filled slot (map piece_as_defined pieces.now) (operands_as_defined operands.now) }
+    ensures registers { IfSome result (λ o. HasRegisters (operands_as_defined o)) }
 {
     match slot {
         Slot::Rd => match register_in(pieces) {
@@ -176,10 +177,11 @@ pub(crate) fn fill_all<'a>(
     operands: &[&[Piece<'a>]],
     given: &Operands<'a>,
 ) -> Option<Operands<'a>>
-    requires { HasRegisters (operands_seen given.now) }
-    ensures filled { option_map operands_seen result
-        ≡ all_filled form.now (map operand_seen operands.now) (operands_seen given.now) }
-    ensures registers { IfSome result (λ o. HasRegisters (operands_seen o)) }
+    requires { HasRegisters (operands_as_defined given.now) }
+    ensures filled { option_map operands_as_defined result
+        ≡ all_filled form.now (map operand_as_defined operands.now)
+        (operands_as_defined given.now) }
+    ensures registers { IfSome result (λ o. HasRegisters (operands_as_defined o)) }
 {
     match (form, operands) {
         ([], []) => Some(*given),
@@ -204,8 +206,8 @@ pub(crate) fn targets<'a>(
     operands: &[&[Piece<'a>]],
 ) -> Result<Option<Vec<Target<'a>>>, AllocError>
     ensures targets { IfOk result
-        (λ found. option_map (λ v. map target_seen v.items) found
-        ≡ all_targets (map operand_seen operands.now)) }
+        (λ found. option_map (λ v. map target_as_defined v.items) found
+        ≡ all_targets (map operand_as_defined operands.now)) }
     ensures few { IfOk result (λ found. IfSome found (λ v. length v.items ≡ length operands.now)) }
 {
     let mut list = Vec::with_capacity(alloc, operands.len())?;

@@ -5,7 +5,7 @@ ghost use Rattle.rv_decode.specs.Encoding.{low_bits, encoded};
 ghost use Rattle.rv_decode.specs.Range.{InRange, IsSigned};
 ghost use Rattle.fp_asm.specs.Operands.{HasRegisters};
 ghost use Rattle.fp_asm.specs.Words.{signed_12 as signed_12_of, up_to as up_to_of, instruction as instruction_of, upper as upper_of, rest as rest_of, halves as halves_of, load_instructions};
-ghost use Rattle.fp_asm.specs.OperandsAsDefined.{operands_seen};
+ghost use Rattle.fp_asm.specs.OperandsAsDefined.{operands_as_defined};
 
 use super::operands::Operands;
 use super::table::Plain;
@@ -40,8 +40,9 @@ fn up_to(most: u32, number: i64) -> Option<u32>
 
 #[tactic(auto, unfolding(crate::specs::Words::instruction))]
 fn op_imm(op: ImmOp, operands: &Operands) -> Option<Ins>
-    requires { HasRegisters (operands_seen operands.now) }
-    ensures instruction { result ≡ instruction_of (Plain.OpImm op) (operands_seen operands.now) }
+    requires { HasRegisters (operands_as_defined operands.now) }
+    ensures instruction { result ≡ instruction_of (Plain.OpImm op)
+        (operands_as_defined operands.now) }
     ensures in_range { IfSome result InRange }
 {
     let imm = signed_12(operands.given)?;
@@ -55,8 +56,9 @@ fn op_imm(op: ImmOp, operands: &Operands) -> Option<Ins>
 
 #[tactic(auto, unfolding(crate::specs::Words::instruction))]
 fn shift(op: ShiftOp, operands: &Operands) -> Option<Ins>
-    requires { HasRegisters (operands_seen operands.now) }
-    ensures instruction { result ≡ instruction_of (Plain.Shift op) (operands_seen operands.now) }
+    requires { HasRegisters (operands_as_defined operands.now) }
+    ensures instruction { result ≡ instruction_of (Plain.Shift op)
+        (operands_as_defined operands.now) }
     ensures in_range { IfSome result InRange }
 {
     let amount = up_to(31, operands.given)?;
@@ -70,8 +72,9 @@ fn shift(op: ShiftOp, operands: &Operands) -> Option<Ins>
 
 #[tactic(auto, unfolding(crate::specs::Words::instruction))]
 fn load(op: LoadOp, operands: &Operands) -> Option<Ins>
-    requires { HasRegisters (operands_seen operands.now) }
-    ensures instruction { result ≡ instruction_of (Plain.Load op) (operands_seen operands.now) }
+    requires { HasRegisters (operands_as_defined operands.now) }
+    ensures instruction { result ≡ instruction_of (Plain.Load op)
+        (operands_as_defined operands.now) }
     ensures in_range { IfSome result InRange }
 {
     let imm = signed_12(operands.given)?;
@@ -85,8 +88,9 @@ fn load(op: LoadOp, operands: &Operands) -> Option<Ins>
 
 #[tactic(auto, unfolding(crate::specs::Words::instruction))]
 fn store(op: StoreOp, operands: &Operands) -> Option<Ins>
-    requires { HasRegisters (operands_seen operands.now) }
-    ensures instruction { result ≡ instruction_of (Plain.Store op) (operands_seen operands.now) }
+    requires { HasRegisters (operands_as_defined operands.now) }
+    ensures instruction { result ≡ instruction_of (Plain.Store op)
+        (operands_as_defined operands.now) }
     ensures in_range { IfSome result InRange }
 {
     let imm = signed_12(operands.given)?;
@@ -100,8 +104,8 @@ fn store(op: StoreOp, operands: &Operands) -> Option<Ins>
 
 #[tactic(auto, unfolding(crate::specs::Words::instruction))]
 fn jalr(operands: &Operands) -> Option<Ins>
-    requires { HasRegisters (operands_seen operands.now) }
-    ensures instruction { result ≡ instruction_of Plain.Jalr (operands_seen operands.now) }
+    requires { HasRegisters (operands_as_defined operands.now) }
+    ensures instruction { result ≡ instruction_of Plain.Jalr (operands_as_defined operands.now) }
     ensures in_range { IfSome result InRange }
 {
     let imm = signed_12(operands.given)?;
@@ -114,8 +118,8 @@ fn jalr(operands: &Operands) -> Option<Ins>
 
 #[tactic(auto, unfolding(crate::specs::Words::instruction))]
 fn lui(operands: &Operands) -> Option<Ins>
-    requires { HasRegisters (operands_seen operands.now) }
-    ensures instruction { result ≡ instruction_of Plain.Lui (operands_seen operands.now) }
+    requires { HasRegisters (operands_as_defined operands.now) }
+    ensures instruction { result ≡ instruction_of Plain.Lui (operands_as_defined operands.now) }
     ensures in_range { IfSome result InRange }
 {
     let imm = up_to(1_048_575, operands.given)?;
@@ -127,8 +131,8 @@ fn lui(operands: &Operands) -> Option<Ins>
 
 #[tactic(auto, unfolding(crate::specs::Words::instruction))]
 fn auipc(operands: &Operands) -> Option<Ins>
-    requires { HasRegisters (operands_seen operands.now) }
-    ensures instruction { result ≡ instruction_of Plain.Auipc (operands_seen operands.now) }
+    requires { HasRegisters (operands_as_defined operands.now) }
+    ensures instruction { result ≡ instruction_of Plain.Auipc (operands_as_defined operands.now) }
     ensures in_range { IfSome result InRange }
 {
     let imm = up_to(1_048_575, operands.given)?;
@@ -140,8 +144,9 @@ fn auipc(operands: &Operands) -> Option<Ins>
 
 #[tactic(auto, unfolding(crate::specs::Words::instruction))]
 fn csr(op: CsrKind, operands: &Operands) -> Option<Ins>
-    requires { HasRegisters (operands_seen operands.now) }
-    ensures instruction { result ≡ instruction_of (Plain.Csr op) (operands_seen operands.now) }
+    requires { HasRegisters (operands_as_defined operands.now) }
+    ensures instruction { result ≡ instruction_of (Plain.Csr op)
+        (operands_as_defined operands.now) }
     ensures in_range { IfSome result InRange }
 {
     let csr = up_to(4095, i64::from(operands.csr_number))?;
@@ -155,8 +160,9 @@ fn csr(op: CsrKind, operands: &Operands) -> Option<Ins>
 
 #[tactic(auto, unfolding(crate::specs::Words::instruction))]
 fn csr_imm(op: CsrKind, operands: &Operands) -> Option<Ins>
-    requires { HasRegisters (operands_seen operands.now) }
-    ensures instruction { result ≡ instruction_of (Plain.CsrImm op) (operands_seen operands.now) }
+    requires { HasRegisters (operands_as_defined operands.now) }
+    ensures instruction { result ≡ instruction_of (Plain.CsrImm op)
+        (operands_as_defined operands.now) }
     ensures in_range { IfSome result InRange }
 {
     let csr = up_to(4095, i64::from(operands.csr_number))?;
@@ -172,8 +178,8 @@ fn csr_imm(op: CsrKind, operands: &Operands) -> Option<Ins>
 /// The instruction of a row that names no address, where each number is in its range.
 #[tactic(auto, unfolding(crate::specs::Words::instruction))]
 pub(crate) fn instruction(plain: Plain, operands: &Operands) -> Option<Ins>
-    requires { HasRegisters (operands_seen operands.now) }
-    ensures instruction { result ≡ instruction_of plain (operands_seen operands.now) }
+    requires { HasRegisters (operands_as_defined operands.now) }
+    ensures instruction { result ≡ instruction_of plain (operands_as_defined operands.now) }
     ensures in_range { IfSome result InRange }
 {
     let rd = operands.rd;

@@ -4,7 +4,7 @@ ghost use Rattle.std.specs.Prelude.{◌≡◌, ◌<◌, ◌^◌, IfSome, map, op
 ghost use Rattle.std.specs.Option.{option_copied};
 ghost use Rattle.std.specs.Str.{bytes_eq};
 ghost use Rattle.fp_asm.specs.Names.{registers, register as register_of, csrs, csr as csr_of, named};
-ghost use Rattle.fp_asm.specs.Views.{name_seen};
+ghost use Rattle.fp_asm.specs.PiecesAsDefined.{name_as_defined};
 
 /// A name and its number.
 type Name = (&'static [u8], u32);
@@ -91,14 +91,14 @@ static CSRS: [Name; 9] = [
 
 #[tactic(auto, unfolding(crate::specs::Names::registers))]
 fn register_names() -> &'static [Name]
-    ensures { map name_seen result.now ≡ registers }
+    ensures { map name_as_defined result.now ≡ registers }
 {
     &REGISTERS
 }
 
 #[tactic(auto, unfolding(crate::specs::Names::csrs))]
 fn csr_names() -> &'static [Name]
-    ensures { map name_seen result.now ≡ csrs }
+    ensures { map name_as_defined result.now ≡ csrs }
 {
     &CSRS
 }
@@ -111,7 +111,7 @@ fn row_of(names: &'static [Name], text: &[u8]) -> Option<&'static Name>
 
 #[tactic(auto, using(crate::proofs::Rows::found_number))]
 fn number_of(names: &'static [Name], text: &[u8]) -> Option<u32>
-    ensures { result ≡ named (map name_seen names.now) text.now }
+    ensures { result ≡ named (map name_as_defined names.now) text.now }
 {
     let row = row_of(names, text)?;
     Some(row.1)

@@ -5,8 +5,8 @@ ghost use Rattle.fp_asm.specs.Second.{second_line, second_pass as second_pass_of
 ghost use Rattle.fp_asm.specs.Statements.{statement_of, checked};
 ghost use Rattle.fp_asm.specs.Operands.{HasRegisters};
 ghost use Rattle.fp_asm.specs.Faults.{IsStopOf, IsFaultOf};
-ghost use Rattle.fp_asm.specs.Views.{piece_seen, labels_seen};
-ghost use Rattle.fp_asm.specs.OperandsAsDefined.{statement_seen, operands_seen};
+ghost use Rattle.fp_asm.specs.PiecesAsDefined.{piece_as_defined, labels_as_defined};
+ghost use Rattle.fp_asm.specs.OperandsAsDefined.{statement_as_defined, operands_as_defined};
 
 use super::labels::{Labels, skip_labels};
 use super::memory::write_words;
@@ -29,11 +29,11 @@ pub(crate) struct Second {
 
 impl Second {
     ghost use Rattle.fp_asm.specs.Second.{nothing_written};
-    ghost use Rattle.fp_asm.specs.PassesAsDefined.{written_seen};
+    ghost use Rattle.fp_asm.specs.PassesAsDefined.{written_as_defined};
 
     /// Before the first line: the location is 0, and there is no word.
     pub(crate) fn new(alloc: Global) -> Second
-        ensures { written_seen result ≡ nothing_written }
+        ensures { written_as_defined result ≡ nothing_written }
     {
         Second {
             location: 0,
@@ -49,16 +49,18 @@ impl Second {
         labels: &Labels,
         statement: &Option<Statement>,
     ) -> Result<(), Stop>
-        requires registers { IfSome statement.now (λ s. HasRegisters (operands_seen s.operands)) }
-        requires checked { IfSome statement.now (λ s. checked (statement_seen s) ≡ Ok tt) }
+        requires registers { IfSome statement.now
+            (λ s. HasRegisters (operands_as_defined s.operands)) }
+        requires checked { IfSome statement.now (λ s. checked (statement_as_defined s) ≡ Ok tt) }
         requires few { IfSome statement.now (λ s. length s.values.items ≤ 64) }
         requires aligned { self.old.location % 4 ≡ 0 }
-        ensures ok { OnOk result (written_by (labels_seen labels.now) (written_seen self.old)
-            (option_map statement_seen statement.now) ≡ Ok (written_seen self.new)) }
+        ensures ok { OnOk result
+            (written_by (labels_as_defined labels.now) (written_as_defined self.old)
+            (option_map statement_as_defined statement.now) ≡ Ok (written_as_defined self.new)) }
         ensures aligned { OnOk result (self.new.location % 4 ≡ 0) }
         ensures refused { IfErr result
-            (IsStopOf (written_by (labels_seen labels.now) (written_seen self.old)
-            (option_map statement_seen statement.now))) }
+            (IsStopOf (written_by (labels_as_defined labels.now) (written_as_defined self.old)
+            (option_map statement_as_defined statement.now))) }
     {
         if let Some(statement) = statement {
             let words = words_of(alloc, labels, self.location, statement)?;
@@ -72,11 +74,13 @@ impl Second {
     fn line(&mut self, alloc: Global, labels: &Labels, line: &[u8]) -> Result<(), Stop>
         requires short { length line.now < 2 ^ 32 }
         requires aligned { self.old.location % 4 ≡ 0 }
-        ensures ok { OnOk result (second_line (labels_seen labels.now) (written_seen self.old)
-            line.now ≡ Ok (written_seen self.new)) }
+        ensures ok { OnOk result
+            (second_line (labels_as_defined labels.now) (written_as_defined self.old)
+            line.now ≡ Ok (written_as_defined self.new)) }
         ensures aligned { OnOk result (self.new.location % 4 ≡ 0) }
         ensures refused { IfErr result
-            (IsStopOf (second_line (labels_seen labels.now) (written_seen self.old) line.now)) }
+            (IsStopOf
+            (second_line (labels_as_defined labels.now) (written_as_defined self.old) line.now)) }
     {
         let pieces = pieces(alloc, line)?;
         let n = skip_labels(&pieces);
@@ -100,10 +104,12 @@ impl Second {
         requires short { All (λ l. length l.now < 2 ^ 32) lines.now }
         requires few { length lines.now < 2 ^ 31 }
         requires aligned { self.old.location % 4 ≡ 0 }
-        ensures ok { OnOk result (second_pass_of 1 (labels_seen labels.now) (written_seen self.old)
-            (map (λ l. l.now) lines.now) ≡ Ok (written_seen self.new)) }
+        ensures ok { OnOk result
+            (second_pass_of 1 (labels_as_defined labels.now) (written_as_defined self.old)
+            (map (λ l. l.now) lines.now) ≡ Ok (written_as_defined self.new)) }
         ensures refused { IfErr result
-            (IsFaultOf (second_pass_of 1 (labels_seen labels.now) (written_seen self.old)
+            (IsFaultOf
+            (second_pass_of 1 (labels_as_defined labels.now) (written_as_defined self.old)
             (map (λ l. l.now) lines.now))) }
     {
         for (i, line) in lines.iter().enumerate() {

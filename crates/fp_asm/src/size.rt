@@ -2,7 +2,7 @@
 
 ghost use Rattle.std.specs.Prelude.{◌≡◌, ◌≤◌, ◌<◌, ◌%◌, ◌^◌, Ok, length, nat_abs};
 ghost use Rattle.fp_asm.specs.Statements.{checked, size_of, location_after as location_after_of};
-ghost use Rattle.fp_asm.specs.OperandsAsDefined.{statement_seen};
+ghost use Rattle.fp_asm.specs.OperandsAsDefined.{statement_as_defined};
 
 use super::instruction::{load_size, low_word};
 use super::operands::Operands;
@@ -18,9 +18,9 @@ fn magnitude(operands: &Operands) -> u64
 /// How many words the statement places.
 #[tactic(auto, using(crate::proofs::Checks::values_count), unfolding(crate::specs::Statements::size_of))]
 pub(crate) fn size(statement: &Statement) -> u32
-    requires checked { checked (statement_seen statement.now) ≡ Ok tt }
+    requires checked { checked (statement_as_defined statement.now) ≡ Ok tt }
     requires few { length statement.now.values.items ≤ 64 }
-    ensures size { result ≡ size_of (statement_seen statement.now) }
+    ensures size { result ≡ size_of (statement_as_defined statement.now) }
     ensures small { result ≤ 4096 }
 {
     match statement.makes {
@@ -36,9 +36,9 @@ pub(crate) fn size(statement: &Statement) -> u32
 /// The location after the statement.
 #[tactic(auto, unfolding(crate::specs::Statements::location_after))]
 pub(crate) fn location_after(location: u32, statement: &Statement) -> u32
-    requires checked { checked (statement_seen statement.now) ≡ Ok tt }
+    requires checked { checked (statement_as_defined statement.now) ≡ Ok tt }
     requires few { length statement.now.values.items ≤ 64 }
-    ensures location { result ≡ location_after_of location (statement_seen statement.now) }
+    ensures location { result ≡ location_after_of location (statement_as_defined statement.now) }
 {
     match statement.makes {
         Makes::Org => magnitude(&statement.operands) as u32,

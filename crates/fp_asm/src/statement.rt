@@ -4,8 +4,8 @@ ghost use Rattle.std.specs.Prelude.{◌≡◌, ◌+◌, ◌≤◌, IfOk, IfErr, 
 ghost use Rattle.fp_asm.specs.Operands.{HasRegisters};
 ghost use Rattle.fp_asm.specs.Statements.{is_words as is_words_of, some_targets as some_targets_of, statement_in as statement_in_of, aligned_to as aligned_to_of, checked, statement_named, statement_of};
 ghost use Rattle.fp_asm.specs.Faults.{IsStopOf};
-ghost use Rattle.fp_asm.specs.Views.{piece_seen, operand_seen, mnemonic_seen};
-ghost use Rattle.fp_asm.specs.OperandsAsDefined.{target_seen, operands_seen, statement_seen};
+ghost use Rattle.fp_asm.specs.PiecesAsDefined.{piece_as_defined, operand_as_defined, mnemonic_as_defined};
+ghost use Rattle.fp_asm.specs.OperandsAsDefined.{target_as_defined, operands_as_defined, statement_as_defined};
 
 use super::forms::{fill_all, nothing_given, targets};
 use super::operands::{Operands, Target};
@@ -38,8 +38,8 @@ fn some_targets<'a>(
     operands: &[&[Piece<'a>]],
 ) -> Result<Option<Vec<Target<'a>>>, AllocError>
     ensures targets { IfOk result
-        (λ found. option_map (λ v. map target_seen v.items) found
-        ≡ some_targets_of (map operand_seen operands.now)) }
+        (λ found. option_map (λ v. map target_as_defined v.items) found
+        ≡ some_targets_of (map operand_as_defined operands.now)) }
     ensures few { IfOk result (λ found. IfSome found (λ v. length v.items ≡ length operands.now)) }
 {
     match operands {
@@ -56,9 +56,10 @@ fn statement_in<'a>(
     operands: &[&[Piece<'a>]],
 ) -> Result<Option<Statement<'a>>, AllocError>
     ensures statement { IfOk result
-        (λ s. option_map statement_seen s
-        ≡ statement_in_of (mnemonic_seen row.now) (map operand_seen operands.now)) }
-    ensures registers { IfOk result (λ s. IfSome s (λ s. HasRegisters (operands_seen s.operands))) }
+        (λ s. option_map statement_as_defined s
+        ≡ statement_in_of (mnemonic_as_defined row.now) (map operand_as_defined operands.now)) }
+    ensures registers { IfOk result
+        (λ s. IfSome s (λ s. HasRegisters (operands_as_defined s.operands))) }
     ensures few { IfOk result (λ s. IfSome s (λ s. length s.values.items ≤ length operands.now)) }
 {
     let makes = row.makes;
@@ -99,7 +100,7 @@ fn aligned_to(most: u32, number: i64) -> Result<(), AsmNo>
 // The checks of a number that come before any label is known.
 #[tactic(auto, unfolding(crate::specs::Statements::checked))]
 fn check(statement: &Statement) -> Result<(), AsmNo>
-    ensures { result ≡ checked (statement_seen statement.now) }
+    ensures { result ≡ checked (statement_as_defined statement.now) }
 {
     let number = statement.operands.given;
     match statement.makes {
@@ -120,12 +121,13 @@ fn check(statement: &Statement) -> Result<(), AsmNo>
 #[tactic(auto, unfolding(crate::specs::Statements::statement_named))]
 fn named<'a>(alloc: Global, text: &[u8], pieces: &[Piece<'a>]) -> Result<Statement<'a>, Stop>
     ensures statement { IfOk result
-        (λ s. statement_named text.now (map piece_seen pieces.now) ≡ Ok (statement_seen s)) }
-    ensures registers { IfOk result (λ s. HasRegisters (operands_seen s.operands)) }
-    ensures checked { IfOk result (λ s. checked (statement_seen s) ≡ Ok tt) }
+        (λ s. statement_named text.now (map piece_as_defined pieces.now)
+        ≡ Ok (statement_as_defined s)) }
+    ensures registers { IfOk result (λ s. HasRegisters (operands_as_defined s.operands)) }
+    ensures checked { IfOk result (λ s. checked (statement_as_defined s) ≡ Ok tt) }
     ensures few { IfOk result (λ s. length s.values.items ≤ length pieces.now + 1) }
     ensures refused { IfErr result
-        (IsStopOf (statement_named text.now (map piece_seen pieces.now))) }
+        (IsStopOf (statement_named text.now (map piece_as_defined pieces.now))) }
 {
     let Some(row) = mnemonic(text) else {
         return Err(Stop::Fault {
@@ -154,11 +156,14 @@ pub(crate) fn statement_after<'a>(
     pieces: &[Piece<'a>],
 ) -> Result<Option<Statement<'a>>, Stop>
     ensures statement { IfOk result
-        (λ s. statement_of (map piece_seen pieces.now) ≡ Ok (option_map statement_seen s)) }
-    ensures registers { IfOk result (λ s. IfSome s (λ s. HasRegisters (operands_seen s.operands))) }
-    ensures checked { IfOk result (λ s. IfSome s (λ s. checked (statement_seen s) ≡ Ok tt)) }
+        (λ s. statement_of (map piece_as_defined pieces.now)
+        ≡ Ok (option_map statement_as_defined s)) }
+    ensures registers { IfOk result
+        (λ s. IfSome s (λ s. HasRegisters (operands_as_defined s.operands))) }
+    ensures checked { IfOk result
+        (λ s. IfSome s (λ s. checked (statement_as_defined s) ≡ Ok tt)) }
     ensures few { IfOk result (λ s. IfSome s (λ s. length s.values.items ≤ length pieces.now)) }
-    ensures refused { IfErr result (IsStopOf (statement_of (map piece_seen pieces.now))) }
+    ensures refused { IfErr result (IsStopOf (statement_of (map piece_as_defined pieces.now))) }
 {
     match pieces {
         [] => Ok(None),

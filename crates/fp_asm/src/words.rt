@@ -8,8 +8,8 @@ ghost use Rattle.fp_asm.specs.Operands.{HasRegisters};
 ghost use Rattle.fp_asm.specs.Statements.{checked};
 ghost use Rattle.fp_asm.specs.Second.{way as way_of, jump as jump_of, words_of as words_of_statement, one_word as one_word_of, plain_word, branch_word, jal_word, address_words, value_words};
 ghost use Rattle.fp_asm.specs.Faults.{IsStopOf};
-ghost use Rattle.fp_asm.specs.Views.{labels_seen};
-ghost use Rattle.fp_asm.specs.OperandsAsDefined.{target_seen, operands_seen, statement_seen};
+ghost use Rattle.fp_asm.specs.PiecesAsDefined.{labels_as_defined};
+ghost use Rattle.fp_asm.specs.OperandsAsDefined.{target_as_defined, operands_as_defined, statement_as_defined};
 
 use super::instruction::{halves, instruction, load_words, low_word};
 use super::labels::Labels;
@@ -48,8 +48,8 @@ fn jump(low: i32, high: i32, location: u32, to: u32) -> Result<i32, AsmNo>
 
 #[tactic(auto, unfolding(crate::specs::Second::plain_word))]
 fn plain(plain: Plain, operands: &Operands) -> Result<u32, AsmNo>
-    requires { HasRegisters (operands_seen operands.now) }
-    ensures { result ≡ plain_word plain (operands_seen operands.now) }
+    requires { HasRegisters (operands_as_defined operands.now) }
+    ensures { result ≡ plain_word plain (operands_as_defined operands.now) }
 {
     match instruction(plain, operands) {
         Some(ins) => Ok(encode(&ins)),
@@ -59,9 +59,10 @@ fn plain(plain: Plain, operands: &Operands) -> Result<u32, AsmNo>
 
 #[tactic(auto, unfolding(crate::specs::Second::branch_word))]
 fn branch(op: BranchOp, labels: &Labels, location: u32, operands: &Operands) -> Result<u32, AsmNo>
-    requires registers { HasRegisters (operands_seen operands.now) }
+    requires registers { HasRegisters (operands_as_defined operands.now) }
     requires aligned { location % 4 ≡ 0 }
-    ensures { result ≡ branch_word op (labels_seen labels.now) location (operands_seen operands.now) }
+    ensures { result ≡ branch_word op (labels_as_defined labels.now) location
+        (operands_as_defined operands.now) }
 {
     let to = resolve(labels, &operands.target)?;
     let off = jump(-4096, 4094, location, to)?;
@@ -75,9 +76,10 @@ fn branch(op: BranchOp, labels: &Labels, location: u32, operands: &Operands) -> 
 
 #[tactic(auto, unfolding(crate::specs::Second::jal_word))]
 fn jal(labels: &Labels, location: u32, operands: &Operands) -> Result<u32, AsmNo>
-    requires registers { HasRegisters (operands_seen operands.now) }
+    requires registers { HasRegisters (operands_as_defined operands.now) }
     requires aligned { location % 4 ≡ 0 }
-    ensures { result ≡ jal_word (labels_seen labels.now) location (operands_seen operands.now) }
+    ensures { result ≡ jal_word (labels_as_defined labels.now) location
+        (operands_as_defined operands.now) }
 {
     let to = resolve(labels, &operands.target)?;
     let off = jump(-1_048_576, 1_048_574, location, to)?;
@@ -89,11 +91,12 @@ fn jal(labels: &Labels, location: u32, operands: &Operands) -> Result<u32, AsmNo
 
 #[tactic(auto, unfolding(crate::specs::Second::address_words))]
 fn address(alloc: Global, labels: &Labels, operands: &Operands) -> Result<Vec<u32>, Stop>
-    requires { HasRegisters (operands_seen operands.now) }
-    ensures words { IfOk result (λ words. address_words (labels_seen labels.now)
-        (operands_seen operands.now) ≡ Ok words.items) }
+    requires { HasRegisters (operands_as_defined operands.now) }
+    ensures words { IfOk result (λ words. address_words (labels_as_defined labels.now)
+        (operands_as_defined operands.now) ≡ Ok words.items) }
     ensures refused { IfErr result
-        (IsStopOf (address_words (labels_seen labels.now) (operands_seen operands.now))) }
+        (IsStopOf
+        (address_words (labels_as_defined labels.now) (operands_as_defined operands.now))) }
 {
     let v = resolve(labels, &operands.target)?;
     if !fits_word(&operands.target) {
@@ -106,10 +109,11 @@ fn address(alloc: Global, labels: &Labels, operands: &Operands) -> Result<Vec<u3
 
 #[tactic(auto, unfolding(crate::specs::Second::value_words))]
 fn values(alloc: Global, labels: &Labels, targets: &[Target]) -> Result<Vec<u32>, Stop>
-    ensures words { IfOk result (λ words. value_words (labels_seen labels.now)
-        (map target_seen targets.now) ≡ Ok words.items) }
+    ensures words { IfOk result (λ words. value_words (labels_as_defined labels.now)
+        (map target_as_defined targets.now) ≡ Ok words.items) }
     ensures refused { IfErr result
-        (IsStopOf (value_words (labels_seen labels.now) (map target_seen targets.now))) }
+        (IsStopOf
+        (value_words (labels_as_defined labels.now) (map target_as_defined targets.now))) }
 {
     let words = resolve_all(alloc, labels, targets)?;
     if !all_fit(targets) {
@@ -142,15 +146,16 @@ pub(crate) fn words_of(
     location: u32,
     statement: &Statement,
 ) -> Result<Vec<u32>, Stop>
-    requires registers { HasRegisters (operands_seen statement.now.operands) }
-    requires checked { checked (statement_seen statement.now) ≡ Ok tt }
+    requires registers { HasRegisters (operands_as_defined statement.now.operands) }
+    requires checked { checked (statement_as_defined statement.now) ≡ Ok tt }
     requires few { length statement.now.values.items ≤ 64 }
     requires aligned { location % 4 ≡ 0 }
-    ensures words { IfOk result (λ words. words_of_statement (labels_seen labels.now) location
-        (statement_seen statement.now) ≡ Ok words.items) }
+    ensures words { IfOk result
+        (λ words. words_of_statement (labels_as_defined labels.now) location
+        (statement_as_defined statement.now) ≡ Ok words.items) }
     ensures refused { IfErr result
-        (IsStopOf (words_of_statement (labels_seen labels.now) location
-        (statement_seen statement.now))) }
+        (IsStopOf (words_of_statement (labels_as_defined labels.now) location
+        (statement_as_defined statement.now))) }
 {
     let operands = &statement.operands;
     match statement.makes {

@@ -25,8 +25,8 @@ lag_of LateValue = 2
 lag_of Elsewhere = 3
 
 -- what is known once an instruction is executed, with the thread as it left it
-abbrev pub did : Own → Executed → Did
-did own x = record { pc = x.pc; own = own; lag = lag_of x.onward; word = x.word; address = x.address; effect = x.effect }
+abbrev pub executed_as_defined : Own → Executed → Did
+executed_as_defined own x = record { pc = x.pc; own = own; lag = lag_of x.onward; word = x.word; address = x.address; effect = x.effect }
 
 -- what a CSR instruction wants
 abbrev pub access_of : CsrKind → ℕ → ℕ → Access

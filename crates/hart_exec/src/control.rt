@@ -5,7 +5,7 @@
 ghost use Rattle.std.specs.Prelude.{◌≡◌, ◌<◌, Some, None};
 ghost use Rattle.core_model.specs.Control.{csr_value, changed, may_hold, kept, with_csr, csr_access};
 ghost use Rattle.core_model.specs.Issue.{csr_op, csr_operand, csr_writes};
-ghost use Rattle.hart_exec.specs.AsDefined.{did, IsShowable, IsAlignedStore};
+ghost use Rattle.hart_exec.specs.AsDefined.{executed_as_defined, IsShowable, IsAlignedStore};
 
 use crate::outcome::{Executed, Onward, PcWord};
 use crate::parts::{go_on, trap, write_to};
@@ -133,7 +133,8 @@ pub fn access_csr(
 ) -> Executed
     requires rd { rd < 32 }
     requires csr { csr < 4096 }
-    ensures did { did own.new result ≡ csr_access thread at.pc own.old at.word rd csr wanted.op
+    ensures did { executed_as_defined own.new result
+        ≡ csr_access thread at.pc own.old at.word rd csr wanted.op
         wanted.operand wanted.writes shared }
     ensures showable { IsShowable result.effect }
     ensures store { IsAlignedStore result.effect }

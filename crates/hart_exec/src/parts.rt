@@ -5,7 +5,7 @@ ghost use Rattle.core_model.specs.declared.own.Own.{Own};
 ghost use Rattle.core_model.specs.Thread.{reg_effect};
 ghost use Rattle.core_model.specs.Parts.{plus, trapped, load, store, branch, delay, wait};
 ghost use Rattle.rv_exec.specs.Line.{IsPrintable, IsWidth};
-ghost use Rattle.hart_exec.specs.AsDefined.{did, IsShowable, IsAlignedStore, IsPlain};
+ghost use Rattle.hart_exec.specs.AsDefined.{executed_as_defined, IsShowable, IsAlignedStore, IsPlain};
 ghost use Rattle.hart_exec.specs.declared.outcome.Onward.TheVariants.{Elsewhere};
 
 use crate::outcome::{Executed, Onward, PcWord};
@@ -27,7 +27,7 @@ pub fn write_to(rd: u8, value: u32) -> Effect
 
 /// A trap: it saves pc and cause, and goes to mtvec.
 pub fn trap(own: &mut Own, at: PcWord, cause: u8) -> Executed
-    ensures did { did own.new result ≡ trapped at.pc own.old at.word cause }
+    ensures did { executed_as_defined own.new result ≡ trapped at.pc own.old at.word cause }
     ensures showable { IsShowable result.effect }
     ensures store { IsAlignedStore result.effect }
     ensures word { result.word ≡ at.word }
@@ -86,7 +86,8 @@ pub fn go_to(at: PcWord, target: u32, effect: Effect) -> Executed
 /// A branch, taken or not.
 #[tactic(auto, unfolding(core_model::specs::Parts::branch))]
 pub fn branch_on(at: PcWord, taken: bool, target: u32) -> Executed
-    ensures did { (own : Own) → did own result ≡ branch at.pc own at.word taken target }
+    ensures did { (own : Own) → executed_as_defined own result
+        ≡ branch at.pc own at.word taken target }
     ensures showable { IsShowable result.effect }
     ensures store { IsAlignedStore result.effect }
     ensures plain { IsPlain result.effect }
@@ -103,7 +104,8 @@ pub fn branch_on(at: PcWord, taken: bool, target: u32) -> Executed
 /// A load that is allowed.
 #[tactic(auto, unfolding(core_model::specs::Parts::load))]
 pub fn load_at(at: PcWord, address: u32) -> Executed
-    ensures did { (own : Own) → did own result ≡ load at.pc own at.word address true }
+    ensures did { (own : Own) → executed_as_defined own result
+        ≡ load at.pc own at.word address true }
     ensures showable { IsShowable result.effect }
     ensures store { IsAlignedStore result.effect }
     ensures plain { IsPlain result.effect }
@@ -122,7 +124,8 @@ pub fn store_at(at: PcWord, address: u32, size: u8, value: u32) -> Executed
     requires width { IsWidth size }
     requires aligned { address % size ≡ 0 }
     requires cut { value < 256 ^ size }
-    ensures did { (own : Own) → did own result ≡ store at.pc own at.word address size value true }
+    ensures did { (own : Own) → executed_as_defined own result
+        ≡ store at.pc own at.word address size value true }
     ensures showable { IsShowable result.effect }
     ensures store { IsAlignedStore result.effect }
     ensures plain { IsPlain result.effect }
@@ -146,7 +149,8 @@ pub fn store_at(at: PcWord, address: u32, size: u8, value: u32) -> Executed
 /// DU: the thread stays at its word until the moment.
 #[tactic(auto, unfolding(core_model::specs::Parts::delay))]
 pub fn delay_until(at: PcWord, now: u64, until: u64) -> Executed
-    ensures did { (own : Own) → did own result ≡ delay now at.pc own at.word until }
+    ensures did { (own : Own) → executed_as_defined own result
+        ≡ delay now at.pc own at.word until }
     ensures showable { IsShowable result.effect }
     ensures store { IsAlignedStore result.effect }
     ensures plain { IsPlain result.effect }
@@ -168,7 +172,7 @@ pub fn delay_until(at: PcWord, now: u64, until: u64) -> Executed
 /// WU: the thread sleeps until the moment, or until its armed one where that is earlier.
 #[tactic(auto, unfolding(core_model::specs::Parts::wait))]
 pub fn wait_until(own: &mut Own, at: PcWord, now: u64, until: u64) -> Executed
-    ensures did { did own.new result ≡ wait now at.pc own.old at.word until }
+    ensures did { executed_as_defined own.new result ≡ wait now at.pc own.old at.word until }
     ensures showable { IsShowable result.effect }
     ensures store { IsAlignedStore result.effect }
     ensures word { result.word ≡ at.word }

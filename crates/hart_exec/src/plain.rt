@@ -7,7 +7,7 @@ ghost use Rattle.rv_exec.specs.Access.{IsAligned, store_size};
 ghost use Rattle.core_model.specs.declared.own.Own.{Own};
 ghost use Rattle.core_model.specs.Issue.{execute_untrapped, execute_in};
 ghost use Rattle.rv_decode.specs.Range.{InRange};
-ghost use Rattle.hart_exec.specs.AsDefined.{did, is_plain, leaves_own, IsShowable, IsAlignedStore, IsPlain};
+ghost use Rattle.hart_exec.specs.AsDefined.{executed_as_defined, is_plain, leaves_own, IsShowable, IsAlignedStore, IsPlain};
 
 use crate::outcome::{Executed, Onward, PcWord, Sources};
 use crate::parts::{branch_on, delay_until, go_on, go_to, load_at, store_at, write_to};
@@ -42,7 +42,7 @@ pub(crate) fn plain<S: Surroundings>(
     requires range { InRange i.now }
     requires aligned { IsAligned i.now o.now.address }
     ensures answers { is_some result ≡ is_plain (S.asks around.now) o.now i.now }
-    ensures did { IfSome result (λ done. (own : Own) → did own done ≡
+    ensures did { IfSome result (λ done. (own : Own) → executed_as_defined own done ≡
         execute_untrapped (S.asks around.now) at.pc own at.word s.a s.b o.now i.now) }
     ensures showable { IfSome result (λ done. IsShowable done.effect) }
     ensures store { IfSome result (λ done. IsAlignedStore done.effect) }
@@ -86,7 +86,7 @@ pub fn execute_plain<S: Surroundings>(
 ) -> Option<Executed>
     ensures answers { is_some result ≡ leaves_own (S.asks around.now) at.pc expired at.word s.a
         s.b }
-    ensures did { IfSome result (λ done. (own : Own) → did own done ≡
+    ensures did { IfSome result (λ done. (own : Own) → executed_as_defined own done ≡
         execute_in (S.asks around.now) at.pc own expired at.word s.a s.b) }
     ensures showable { IfSome result (λ done. IsShowable done.effect) }
     ensures store { IfSome result (λ done. IsAlignedStore done.effect) }

@@ -5,7 +5,7 @@ ghost use Rattle.rv_decode.specs.Table.{ins};
 ghost use Rattle.rv_exec.specs.Access.{IsAligned};
 ghost use Rattle.core_model.specs.Issue.{source_1, source_2, execute_untrapped, run_at, execute_in};
 ghost use Rattle.rv_decode.specs.Range.{InRange};
-ghost use Rattle.hart_exec.specs.AsDefined.{did, IsShowable, IsAlignedStore};
+ghost use Rattle.hart_exec.specs.AsDefined.{executed_as_defined, IsShowable, IsAlignedStore};
 
 use crate::control::{Access, access_csr};
 use crate::outcome::{Executed, Onward, PcWord, Sources};
@@ -56,8 +56,8 @@ fn execute_untrapped<S: Surroundings>(
 ) -> Executed
     requires range { InRange i.now }
     requires aligned { IsAligned i.now o.now.address }
-    ensures did { did own.new result ≡ execute_untrapped (S.asks around.now) at.pc own.old at.word s.a s.b o.now
-        i.now }
+    ensures did { executed_as_defined own.new result
+        ≡ execute_untrapped (S.asks around.now) at.pc own.old at.word s.a s.b o.now i.now }
     ensures showable { IsShowable result.effect }
     ensures store { IsAlignedStore result.effect }
     ensures word { result.word ≡ at.word }
@@ -105,7 +105,8 @@ fn execute_untrapped<S: Surroundings>(
 #[tactic(auto, unfolding(core_model::specs::Issue::run_at), using(crate::proofs::Zero::aligned_zero))]
 fn run_at<S: Surroundings>(own: &mut Own, around: &S, at: PcWord, s: Sources, i: &Ins) -> Executed
     requires range { InRange i.now }
-    ensures did { did own.new result ≡ run_at (S.asks around.now) at.pc own.old at.word s.a s.b i.now }
+    ensures did { executed_as_defined own.new result
+        ≡ run_at (S.asks around.now) at.pc own.old at.word s.a s.b i.now }
     ensures showable { IsShowable result.effect }
     ensures store { IsAlignedStore result.effect }
     ensures word { result.word ≡ at.word }
@@ -128,8 +129,8 @@ pub fn execute_in<S: Surroundings>(
     expired: bool,
     s: Sources,
 ) -> Executed
-    ensures did { did own.new result ≡ execute_in (S.asks around.now) at.pc own.old expired at.word s.a
-        s.b }
+    ensures did { executed_as_defined own.new result
+        ≡ execute_in (S.asks around.now) at.pc own.old expired at.word s.a s.b }
     ensures showable { IsShowable result.effect }
     ensures store { IsAlignedStore result.effect }
     ensures address { IsAligned (ins result.word) result.address }

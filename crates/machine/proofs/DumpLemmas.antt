@@ -9,22 +9,22 @@ use Rattle.world_model.specs.World.{Start}
 use Rattle.machine.specs.DumpedState.{seen}
 use Rattle.machine.specs.Fields.{dumped}
 use Rattle.machine.proofs.FieldLines.{dumps}
-use Rattle.pipeline_core.specs.AsDefined.{stage_registers_by, state_by}
+use Rattle.pipeline_core.specs.AsDefined.{stage_registers_as_defined, state_as_defined}
 use Rattle.machine.specs.declared.state.Machine.{Machine}
 use Rattle.machine.specs.WorldRelation.{StandsFor}
 
-pub dump_ok : (r : Result (Unit {0}) PutFailed) (before after : Option (List ℕ)) (m : Machine) (rows : List (Option Row)) → OnOk r (Appends before after (dumped (stage_registers_by m.pipe) (state_by m.units rows) m.at)) →
+pub dump_ok : (r : Result (Unit {0}) PutFailed) (before after : Option (List ℕ)) (m : Machine) (rows : List (Option Row)) → OnOk r (Appends before after (dumped (stage_registers_as_defined m.pipe) (state_as_defined m.units rows) m.at)) →
     OnOk r ((s : Start) (c n : ℕ) → StandsFor s c n m rows → Appends before after (seen s c))
 dump_ok (Ok x) before after m rows told =
     λ s c n stands.
     let Told : List ℕ → Type 0 = λ text. Appends before after text in
-    subst Told (dumps s c n (stage_registers_by m.pipe) (state_by m.units rows) m.at m.unplugs stands) told
+    subst Told (dumps s c n (stage_registers_as_defined m.pipe) (state_as_defined m.units rows) m.at m.unplugs stands) told
 dump_ok (Err e) before after m rows told = told
 
-pub dump_err : (r : Result (Unit {0}) PutFailed) (before after : Option (List ℕ)) (m : Machine) (rows : List (Option Row)) → OnErr r (AppendsFront before after (dumped (stage_registers_by m.pipe) (state_by m.units rows) m.at)) →
+pub dump_err : (r : Result (Unit {0}) PutFailed) (before after : Option (List ℕ)) (m : Machine) (rows : List (Option Row)) → OnErr r (AppendsFront before after (dumped (stage_registers_as_defined m.pipe) (state_as_defined m.units rows) m.at)) →
     OnErr r ((s : Start) (c n : ℕ) → StandsFor s c n m rows → AppendsFront before after (seen s c))
 dump_err (Ok x) before after m rows told = told
 dump_err (Err e) before after m rows told =
     λ s c n stands.
     let Told : List ℕ → Type 0 = λ text. AppendsFront before after text in
-    subst Told (dumps s c n (stage_registers_by m.pipe) (state_by m.units rows) m.at m.unplugs stands) told
+    subst Told (dumps s c n (stage_registers_as_defined m.pipe) (state_as_defined m.units rows) m.at m.unplugs stands) told

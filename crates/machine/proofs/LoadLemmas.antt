@@ -20,7 +20,7 @@ use Rattle.setup_model.specs.Start.{start, words_from, thread_of, is_handed, fir
 use Rattle.pipe_model.specs.Stages.{StageRegisters, State}
 use Rattle.pipe_model.specs.Relation.{Begins, Stands, HasLatches}
 use Rattle.pipe_model.specs.PipelineLaws.{Starts, empty, first_units}
-use Rattle.pipeline_core.specs.AsDefined.{stage_registers_by, state_by}
+use Rattle.pipeline_core.specs.AsDefined.{stage_registers_as_defined, state_as_defined}
 use Rattle.machine.specs.DumpedState.{is_kept}
 use Rattle.machine.specs.FieldRelation.{Plugged, found}
 use Rattle.machine.specs.declared.state.Machine.{Machine}
@@ -116,14 +116,14 @@ unfolding start
 pcs-are s image ports n = entries-are s.threads
 
 pub loaded : Starts → (s : Settings) (image : List Segment) (ports : List (Option Row)) (n : ℕ) (m : Machine) (entries : List ℕ) → length s.threads ≡ 8 → length ports ≡ 8 →
-    stage_registers_by m.pipe ≡ empty entries → entries ≡ map (λ (t : ThreadSetup). t.entry) s.threads → state_by m.units ports ≡ units_at_start s image ports → m.at ≡ 0 → m.unplugs ≡ map (λ (t : ThreadSetup). t.unplug) s.threads →
+    stage_registers_as_defined m.pipe ≡ empty entries → entries ≡ map (λ (t : ThreadSetup). t.entry) s.threads → state_as_defined m.units ports ≡ units_at_start s image ports → m.at ≡ 0 → m.unplugs ≡ map (λ (t : ThreadSetup). t.unplug) s.threads →
     StandsFor (start_beside s image ports n) 0 n m ports
 loaded starts s image ports n m entries eight eight_ports pipe of_entries units at plan =
     let w : Start = start_beside s image ports n in
     let b : Begins w = begins s image ports n eight eight_ports in
     let first : Stands w 0 (empty (map (λ (t : Thread). t.pc) w.threads)) (first_units w ports) = starts w ports b (latches s image ports n) in
     let P : StageRegisters → Type 0 = λ p. Stands w 0 p (first_units w ports) in
-    let U : State → Type 0 = λ u. Stands w 0 (stage_registers_by m.pipe) u in
+    let U : State → Type 0 = λ u. Stands w 0 (stage_registers_as_defined m.pipe) u in
     record {
       begins = b;
       stands = subst U (units-start s image ports n eight ∙ sym units) (subst P (ap empty (pcs-are s image ports n ∙ sym of_entries) ∙ sym pipe) first);

@@ -12,7 +12,7 @@ use Rattle.world_model.specs.World.{Start, recent, world, events}
 use Rattle.pipe_model.specs.Stages.{Ticked}
 use Rattle.pipe_model.specs.Relation.{Begins, Shows, Stands, Kept, event_in, turn_at, of_thread, words_of, stays_in}
 use Rattle.pipe_model.specs.PipelineLaws.{EventsGrow}
-use Rattle.pipeline_core.specs.AsDefined.{stage_registers_by, state_by, ticked_by}
+use Rattle.pipeline_core.specs.AsDefined.{stage_registers_as_defined, state_as_defined, ticked_as_defined}
 use Rattle.machine.specs.FieldRelation.{Standing, kept_in}
 use Rattle.machine.specs.FieldLaws.{Unplugged, with_kept}
 use Rattle.machine.proofs.PortLemmas.{unplugs, goes_on, kept-row}
@@ -43,18 +43,18 @@ left_all ports k below = go (row_at ports k)
 
 -- a cycle, by the ports that are left in it
 pub ticks : (s : Start) (n : ℕ) (m after : Machine) (rows between new : List (Option Row)) (event : Option Event) → length rows ≡ 8 → between ≡ kept_in m.unplugs m.at rows 8 → m.at < n + 3 → StandsFor s m.at n m rows →
-    (Begins s → Shows s m.at between → Stands s m.at (stage_registers_by m.pipe) (state_by m.units between) → Kept s m.at between (ticked_by after.pipe after.units new event)) →
+    (Begins s → Shows s m.at between → Stands s m.at (stage_registers_as_defined m.pipe) (state_as_defined m.units between) → Kept s m.at between (ticked_as_defined after.pipe after.units new event)) →
     after.at ≡ m.at + 1 → after.unplugs ≡ m.unplugs → Ticks s m.at n rows after new event
 ticks s n m after rows between new event eight is within st keeps at plan =
-    let t : Ticked = ticked_by after.pipe after.units new event in
-    let left : Unplugged s m.at (stage_registers_by m.pipe) (with_kept (state_by m.units rows) m.at m.unplugs) = unplugs s m.at n (stage_registers_by m.pipe) (state_by m.units rows) m.at m.unplugs st within eight in
+    let t : Ticked = ticked_as_defined after.pipe after.units new event in
+    let left : Unplugged s m.at (stage_registers_as_defined m.pipe) (with_kept (state_as_defined m.units rows) m.at m.unplugs) = unplugs s m.at n (stage_registers_as_defined m.pipe) (state_as_defined m.units rows) m.at m.unplugs st within eight in
     let P : List (Option Row) → Type 0 = λ x. Shows s m.at x in
-    let Q : List (Option Row) → Type 0 = λ x. Stands s m.at (stage_registers_by m.pipe) (state_by m.units x) in
+    let Q : List (Option Row) → Type 0 = λ x. Stands s m.at (stage_registers_as_defined m.pipe) (state_as_defined m.units x) in
     let R : List (Option Row) → Type 0 = λ x. Kept s m.at x t in
     let kept : Kept s m.at (kept_in m.unplugs m.at rows 8) t = subst R is (keeps st.begins (subst P (sym is) left.shows) (subst Q (sym is) left.stands)) in
-    let next : Standing s (suc m.at) n (stage_registers_by after.pipe) (state_by after.units new) (suc m.at) m.unplugs = goes_on s m.at n (stage_registers_by m.pipe) (state_by m.units rows) m.at m.unplugs t st eight kept in
-    let A : ℕ → Type 0 = λ k. Standing s (suc m.at) n (stage_registers_by after.pipe) (state_by after.units new) k m.unplugs in
-    let B : List (Option ℕ) → Type 0 = λ xs. Standing s (suc m.at) n (stage_registers_by after.pipe) (state_by after.units new) after.at xs in
+    let next : Standing s (suc m.at) n (stage_registers_as_defined after.pipe) (state_as_defined after.units new) (suc m.at) m.unplugs = goes_on s m.at n (stage_registers_as_defined m.pipe) (state_as_defined m.units rows) m.at m.unplugs t st eight kept in
+    let A : ℕ → Type 0 = λ k. Standing s (suc m.at) n (stage_registers_as_defined after.pipe) (state_as_defined after.units new) k m.unplugs in
+    let B : List (Option ℕ) → Type 0 = λ xs. Standing s (suc m.at) n (stage_registers_as_defined after.pipe) (state_as_defined after.units new) after.at xs in
     record { stands = subst B (sym plan) (subst A (sym (add-one m.at) ∙ sym at) next); event_is = kept.event; left = λ k below. left_is (row_at rows k) (row_at new k) (row_at (kept_in m.unplugs m.at rows 8) k) (get_or m.unplugs k None) m.at (kept.ports k) (kept-row m.unplugs m.at rows k eight below) }
 
 no_events : (s : Start) (i : ℕ) → events s i 0 ≡ []

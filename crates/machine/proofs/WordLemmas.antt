@@ -13,7 +13,7 @@ use Rattle.pipe_model.specs.declared.stage_registers.Held.TheVariants.{Bubble, F
 use Rattle.pipe_model.specs.declared.stage_registers.Stored.{Stored}
 use Rattle.pipe_model.specs.Stages.{StageRegisters, State, Ticked, ports_stored, put_at_port, step}
 use Rattle.pipe_model.specs.Relation.{words_of}
-use Rattle.pipeline_core.specs.AsDefined.{stage_registers_by, state_by}
+use Rattle.pipeline_core.specs.AsDefined.{stage_registers_as_defined, state_as_defined}
 use Rattle.machine.specs.FieldRelation.{kept_in}
 use Rattle.machine.specs.DumpedState.{is_kept}
 use Rattle.machine.proofs.PortLemmas.{kept-row}
@@ -56,9 +56,9 @@ row-words before after k same =
 
 -- the ports that a cycle leaves show the words from before
 pub cycle_words : (m : Machine) (rows between : List (Option Row)) (t : Ticked) → length rows ≡ 8 → between ≡ kept_in m.unplugs m.at rows 8 →
-    t ≡ step (stage_registers_by m.pipe) (state_by m.units between) m.at → AreLeft rows t.state.ports
+    t ≡ step (stage_registers_as_defined m.pipe) (state_as_defined m.units between) m.at → AreLeft rows t.state.ports
 cycle_words m rows between t eight is stepped k below =
-    let same : map words_of t.state.ports ≡ map words_of between = ap (λ (x : Ticked). map words_of x.state.ports) stepped ∙ step-words (stage_registers_by m.pipe) (state_by m.units between) m.at in
+    let same : map words_of t.state.ports ≡ map words_of between = ap (λ (x : Ticked). map words_of x.state.ports) stepped ∙ step-words (stage_registers_as_defined m.pipe) (state_as_defined m.units between) m.at in
     left_is (row_at rows k) (row_at t.state.ports k) (row_at between k) (get_or m.unplugs k None) m.at (row-words between t.state.ports k same) (ap (λ (xs : List (Option Row)). row_at xs k) is ∙ kept-row m.unplugs m.at rows k eight below)
 
 -- a port that is there is what was there with another latch

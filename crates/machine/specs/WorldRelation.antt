@@ -16,14 +16,14 @@ use Rattle.world_model.specs.World.{Start, world, events}
 use Rattle.setup_model.specs.Start.{start, thread_of, i_words_of, d_words_of}
 use Rattle.pipe_model.specs.Stages.{State}
 use Rattle.pipe_model.specs.Relation.{event_in, turn_at, words_of}
-use Rattle.pipeline_core.specs.AsDefined.{stage_registers_by, state_by}
+use Rattle.pipeline_core.specs.AsDefined.{stage_registers_as_defined, state_as_defined}
 use Rattle.machine.specs.FieldRelation.{Standing}
 use Rattle.machine.specs.DumpedState.{is_kept}
 use Rattle.machine.specs.declared.state.Machine.{Machine}
 
 -- the machine and the ports stand for cycle c of the world; its lists of shown words have n entries
 abbrev pub StandsFor : Start → ℕ → ℕ → Machine → List (Option Row) → Type 0
-StandsFor s c n m ports = Standing s c n (stage_registers_by m.pipe) (state_by m.units ports) m.at m.unplugs
+StandsFor s c n m ports = Standing s c n (stage_registers_as_defined m.pipe) (state_as_defined m.units ports) m.at m.unplugs
 
 -- the start of a run of n cycles beside ports that were fed already
 abbrev pub start_beside : Settings → List Segment → List (Option Row) → ℕ → Start

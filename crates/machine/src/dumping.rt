@@ -8,7 +8,7 @@ ghost use Rattle.fp_ports.specs.Rows.{rows_of};
 ghost use Rattle.world_model.specs.World.{Start};
 ghost use Rattle.machine.specs.DumpedState.{seen};
 ghost use Rattle.machine.specs.Fields.{dump_line, dumped};
-ghost use Rattle.pipeline_core.specs.AsDefined.{stage_registers_by, state_by};
+ghost use Rattle.pipeline_core.specs.AsDefined.{stage_registers_as_defined, state_as_defined};
 ghost use Rattle.machine.specs.WorldRelation.{StandsFor};
 
 use crate::lines::FIRST_OF_MEMORY;
@@ -42,11 +42,13 @@ impl Machine {
     fn put_lines<K: Sink>(&self, ports: &Ports, out: &mut K) -> Result<(), PutFailed>
         requires { vec_len ports.now ≡ 8 }
         ensures ok { OnOk result (Appends (K.taken out.old) (K.taken out.new)
-            (dumped (stage_registers_by self.now.pipe)
-            (state_by self.now.units (rows_of latched word_at ports.now.items)) self.now.at)) }
+            (dumped (stage_registers_as_defined self.now.pipe)
+            (state_as_defined self.now.units (rows_of latched word_at ports.now.items))
+            self.now.at)) }
         ensures err { OnErr result (AppendsFront (K.taken out.old) (K.taken out.new)
-            (dumped (stage_registers_by self.now.pipe)
-            (state_by self.now.units (rows_of latched word_at ports.now.items)) self.now.at)) }
+            (dumped (stage_registers_as_defined self.now.pipe)
+            (state_as_defined self.now.units (rows_of latched word_at ports.now.items))
+            self.now.at)) }
         ensures failed { OnErr result (Rose (K.faults out.old) (K.faults out.new)) }
         ensures counted { K.faults out.old ≤ K.faults out.new }
     {
@@ -61,12 +63,12 @@ impl Machine {
         requires eight { vec_len ports.now ≡ 8 }
         requires number { number < 66 + self.now.units.guard.size / 32 }
         ensures ok { OnOk result (Appends (K.taken out.old) (K.taken out.new)
-            (dump_line (stage_registers_by self.now.pipe)
-            (state_by self.now.units (rows_of latched word_at ports.now.items)) self.now.at
+            (dump_line (stage_registers_as_defined self.now.pipe)
+            (state_as_defined self.now.units (rows_of latched word_at ports.now.items)) self.now.at
             number)) }
         ensures err { OnErr result (AppendsFront (K.taken out.old) (K.taken out.new)
-            (dump_line (stage_registers_by self.now.pipe)
-            (state_by self.now.units (rows_of latched word_at ports.now.items)) self.now.at
+            (dump_line (stage_registers_as_defined self.now.pipe)
+            (state_as_defined self.now.units (rows_of latched word_at ports.now.items)) self.now.at
             number)) }
         ensures failed { OnErr result (Rose (K.faults out.old) (K.faults out.new)) }
         ensures counted { K.faults out.old ≤ K.faults out.new }

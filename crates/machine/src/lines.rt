@@ -9,7 +9,7 @@ ghost use Rattle.machine.specs.DumpedState.{eight_from, traps_seen, timer_seen, 
 ghost use Rattle.machine.specs.Fields.{fetched_held, decoded_held, shown_word, executed_held, stored_held, written_held, head_line, thread_line, dump_line};
 ghost use Rattle.timer_unit.specs.Time.{timer_of};
 ghost use Rattle.trap_unit.specs.Rows.{trap_of};
-ghost use Rattle.pipeline_core.specs.AsDefined.{stage_registers_by, registers_by, state_by};
+ghost use Rattle.pipeline_core.specs.AsDefined.{stage_registers_as_defined, registers_as_defined, state_as_defined};
 
 use crate::state::Machine;
 use arrayvec::ArrayString;
@@ -132,8 +132,9 @@ impl Machine {
     #[tactic(auto, unfolding(crate::specs::Fields::head_line))]
     fn head_line(&self, k: u32) -> ArrayString<96>
         requires { k < 10 }
-        ensures { result.bytes ≡ head_line (stage_registers_by self.now.pipe) self.now.units.guard.size
-            self.now.units.confined (registers_by self.now.units.sched self.now.units.guard)
+        ensures { result.bytes ≡ head_line (stage_registers_as_defined self.now.pipe)
+            self.now.units.guard.size
+            self.now.units.confined (registers_as_defined self.now.units.sched self.now.units.guard)
             self.now.at k }
     {
         match k {
@@ -199,7 +200,7 @@ impl Machine {
         requires eight { vec_len ports.now ≡ 8 }
         requires thread { thread < 8 }
         ensures { result.bytes ≡ thread_line
-            (state_by self.now.units (rows_of latched word_at ports.now.items)) thread k }
+            (state_as_defined self.now.units (rows_of latched word_at ports.now.items)) thread k }
     {
         match k {
             0 => self.registers_line(thread, "x00", 0),
@@ -251,8 +252,9 @@ impl Machine {
     pub(crate) fn line(&self, ports: &Ports, k: u32) -> ArrayString<96>
         requires eight { vec_len ports.now ≡ 8 }
         requires number { k < 66 + self.now.units.guard.size / 32 }
-        ensures { result.bytes ≡ dump_line (stage_registers_by self.now.pipe)
-            (state_by self.now.units (rows_of latched word_at ports.now.items)) self.now.at k }
+        ensures { result.bytes ≡ dump_line (stage_registers_as_defined self.now.pipe)
+            (state_as_defined self.now.units (rows_of latched word_at ports.now.items))
+            self.now.at k }
     {
         if k < 10 {
             self.head_line(k)

@@ -6,7 +6,7 @@ ghost use Rattle.fp_setup.specs.declared.thread_list.ThreadSetup.{ThreadSetup};
 ghost use Rattle.fp_setup.specs.Settings.{size_of};
 ghost use Rattle.setup_model.specs.Start.{words_from};
 ghost use Rattle.pipeline_core.specs.StageFacts.{IsPc};
-ghost use Rattle.pipeline_core.specs.AsDefined.{state_by};
+ghost use Rattle.pipeline_core.specs.AsDefined.{state_as_defined};
 ghost use Rattle.machine.specs.WorldRelation.{StandsFor, start_beside, units_at_start};
 
 use crate::state::Machine;
@@ -107,7 +107,7 @@ fn scratchpad(alloc: Global, setup: &Setup, image: &Image, base: u32) -> Result<
 
 /// The units at the start.
 fn units(alloc: Global, setup: &Setup, image: &Image) -> Result<Units, AllocError>
-    ensures { IfOk result (λ u. (ports : List (Option Row)) → state_by u ports
+    ensures { IfOk result (λ u. (ports : List (Option Row)) → state_as_defined u ports
         ≡ units_at_start setup.now image.now ports) }
 {
     Ok(Units {

@@ -17,7 +17,7 @@ use Rattle.core_model.specs.Parts.{load, store, branch, delay, wait, trapped, pl
 use Rattle.core_model.specs.Control.{csr_value, changed, may_hold, kept, with_csr, csr_put, csr_done, csr_access}
 use Rattle.core_model.specs.Issue.{csr_op, csr_operand, csr_writes, execute_untrapped, unless_trap, run_at, execute_in}
 use Rattle.hart_exec.specs.declared.outcome.Executed.{Executed}
-use Rattle.hart_exec.specs.AsDefined.{did}
+use Rattle.hart_exec.specs.AsDefined.{executed_as_defined}
 use Rattle.trap_unit.specs.Rows.{IsAlignedTrap}
 use Rattle.trap_unit.proofs.Aligned.{held_as_kept}
 use Rattle.pipeline_core.specs.StageFacts.{IsPc, IsAccepted}
@@ -186,11 +186,11 @@ act-keeps a pc t false w x y h k = go (a.fetch pc)
 
 -- the same of what the code knows
 pub done-keeps : (own : Own) (x : Executed) (a : Around) (pc : ℕ) (t : Own) (expired : Bool) (w p q : ℕ) →
-    did own x ≡ execute_in a pc t expired w p q → IsPc pc → IsAlignedTrap t.trap → Keeps (did own x)
+    executed_as_defined own x ≡ execute_in a pc t expired w p q → IsPc pc → IsAlignedTrap t.trap → Keeps (executed_as_defined own x)
 done-keeps own x a pc t expired w p q e h k = rw e (act-keeps a pc t expired w p q h k)
 
 -- an instruction that does the same whatever its thread owns goes on at a multiple of four
 pub plain_pc : (a : Around) (pc : ℕ) (expired : Bool) (w p q : ℕ) (r : Option Executed) →
-    IfSome r (λ x. (own : Own) → did own x ≡ execute_in a pc own expired w p q) → IsPc pc → IfSome r (λ x. IsPc x.pc)
+    IfSome r (λ x. (own : Own) → executed_as_defined own x ≡ execute_in a pc own expired w p q) → IsPc pc → IfSome r (λ x. IsPc x.pc)
 plain_pc a pc expired w p q None same h = tt
 plain_pc a pc expired w p q (Some x) same h = (done-keeps no_own x a pc no_own expired w p q (same no_own) h (refl, refl)).pc

@@ -10,7 +10,7 @@ use Rattle.core_model.specs.Thread.{Around, Did, no_own}
 use Rattle.core_model.specs.Issue.{execute_in}
 use Rattle.world_model.specs.World.{Registers, registers_after}
 use Rattle.hart_exec.specs.declared.outcome.Executed.{Executed}
-use Rattle.hart_exec.specs.AsDefined.{did, IsPlain}
+use Rattle.hart_exec.specs.AsDefined.{executed_as_defined, IsPlain}
 use Rattle.pipe_model.specs.declared.stage_registers.Held.TheVariants.{Issue}
 use Rattle.pipe_model.specs.declared.stage_registers.Decoded.{Decoded}
 use Rattle.pipe_model.specs.declared.stage_registers.Executed as stage
@@ -25,17 +25,17 @@ registers-left (Some (Csr csr value rd old)) r h = absurd h
 registers-left (Some (Trap cause target)) r h = refl
 registers-left (Some Wait) r h = refl
 
-control_left : (k : ℕ) (x : Executed) (u : Control) (d : Did) → did (own_in u k) x ≡ d → IsPlain x.effect → u ≡ controlled k d u
+control_left : (k : ℕ) (x : Executed) (u : Control) (d : Did) → executed_as_defined (own_in u k) x ≡ d → IsPlain x.effect → u ≡ controlled k d u
 control_left k x u d same h =
     rw (← same, registers-left x.effect u.registers h, set-get_or u.timers k _, set-get_or u.traps k _, set-get_or u.sleeps k _) refl
 
 -- what such an issue leaves in E
 pub plain_after : (a b : Around) (k : ℕ) (x : Decoded) (u : Control) (done : Executed) → a ≡ b →
-    ((own : Own) → did own done ≡ execute_in a x.pc own x.expired x.word x.a x.b) → IsPlain done.effect →
-    record { e = Issue k (executed x (did no_own done)); control = u; redirect = redirect_of k (did no_own done) }
+    ((own : Own) → executed_as_defined own done ≡ execute_in a x.pc own x.expired x.word x.a x.b) → IsPlain done.effect →
+    record { e = Issue k (executed x (executed_as_defined no_own done)); control = u; redirect = redirect_of k (executed_as_defined no_own done) }
     ≡ executes k x u (execute_in b x.pc (own_in u k) x.expired x.word x.a x.b)
 plain_after a b k x u done around same h =
-    rw (← around, ← same (own_in u k), ← control_left k done u (did (own_in u k) done) refl h) refl
+    rw (← around, ← same (own_in u k), ← control_left k done u (executed_as_defined (own_in u k) done) refl h) refl
 
 source : (w v : ℕ) → w ≢ 0 → v ≡ (if w == 0 then 0 else v)
 source w v h = grind (arith, nat_tests)
@@ -43,5 +43,5 @@ source w v h = grind (arith, nat_tests)
 -- a word that is shown keeps its sources
 pub shown_executed : (x : Decoded) (done : Executed) → done.word ≢ 0 →
     let l : stage.Executed = record { pc = x.pc; word = done.word; a = x.a; b = x.b; address = done.address; effect = done.effect } in
-    l ≡ executed x (did no_own done)
+    l ≡ executed x (executed_as_defined no_own done)
 shown_executed x done h = rw (← source done.word x.a h, ← source done.word x.b h) refl

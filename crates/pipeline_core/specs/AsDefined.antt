@@ -12,25 +12,25 @@ use Rattle.pipeline_core.specs.declared.pipe.Pipe.{Pipe}
 use Rattle.pipeline_core.specs.declared.units.Units.{Units}
 
 -- the stage registers, and the pc that each thread fetches next
-abbrev pub stage_registers_by : Pipe → StageRegisters
-stage_registers_by p = record { next = p.next; f = p.f; d = p.d; e = p.e; m = p.m; w = p.w }
+abbrev pub stage_registers_as_defined : Pipe → StageRegisters
+stage_registers_as_defined p = record { next = p.next; f = p.f; d = p.d; e = p.e; m = p.m; w = p.w }
 
 -- the machine's own registers
-abbrev pub registers_by : Sched → Guard → Registers
-registers_by s g = record { slots = s.slots; modes = s.modes; dregions = g.d; iregions = g.i }
+abbrev pub registers_as_defined : Sched → Guard → Registers
+registers_as_defined s g = record { slots = s.slots; modes = s.modes; dregions = g.d; iregions = g.i }
 
 -- what the execute stage reads and writes
-abbrev pub control_by : Sched → Guard → List Timer → List Trapping → Control
-control_by s g timers traps = record { registers = registers_by s g; timers = timers; traps = traps; sleeps = s.sleep }
+abbrev pub control_as_defined : Sched → Guard → List Timer → List Trapping → Control
+control_as_defined s g timers traps = record { registers = registers_as_defined s g; timers = timers; traps = traps; sleeps = s.sleep }
 
 -- what the units hold, beside the ports
-abbrev pub state_by : Units → List (Option Row) → State
-state_by u ports =
+abbrev pub state_as_defined : Units → List (Option Row) → State
+state_as_defined u ports =
     record {
       bank = u.bank;
       i_words = u.imem;
       d_words = u.dmem;
-      control = control_by u.sched u.guard u.timers u.traps;
+      control = control_as_defined u.sched u.guard u.timers u.traps;
       last = u.scheduler;
       period = u.clock;
       size = u.guard.size;
@@ -40,5 +40,5 @@ state_by u ports =
     }
 
 -- what a cycle left, and the event that it answered
-abbrev pub ticked_by : Pipe → Units → List (Option Row) → Option Event → Ticked
-ticked_by p u ports event = record { stage_registers = stage_registers_by p; state = state_by u ports; event = event }
+abbrev pub ticked_as_defined : Pipe → Units → List (Option Row) → Option Event → Ticked
+ticked_as_defined p u ports event = record { stage_registers = stage_registers_as_defined p; state = state_as_defined u ports; event = event }

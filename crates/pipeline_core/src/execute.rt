@@ -6,13 +6,13 @@ ghost use Rattle.rv_exec.specs.Access.{IsAligned};
 ghost use Rattle.core_model.specs.Issue.{execute_in};
 ghost use Rattle.core_model.specs.Thread.{no_own};
 ghost use Rattle.core_model.specs.declared.own.Own.{Own};
-ghost use Rattle.hart_exec.specs.AsDefined.{did, leaves_own, IsPlain};
+ghost use Rattle.hart_exec.specs.AsDefined.{executed_as_defined, leaves_own, IsPlain};
 ghost use Rattle.timer_unit.specs.Time.{time};
 ghost use Rattle.trap_unit.specs.Rows.{IsAlignedTrap};
 ghost use Rattle.pipe_model.specs.Stages.{own_in, executed, redirect_of, execute_stage};
 ghost use Rattle.pipe_model.specs.declared.stage_registers.Held.TheVariants.{Issue};
 ghost use Rattle.pipeline_core.specs.StageFacts.{IsPc, EffectFits, DecodedFits, ExecutedFits, RedirectFits, IsAccepted};
-ghost use Rattle.pipeline_core.specs.AsDefined.{registers_by, control_by};
+ghost use Rattle.pipeline_core.specs.AsDefined.{registers_as_defined, control_as_defined};
 ghost use Rattle.pipeline_core.specs.AccessRights.{asked};
 ghost use Rattle.world_model.specs.World.{registers_after};
 
@@ -36,7 +36,8 @@ struct Step {
 /// What a thread has, besides its pc and its registers.
 fn own_in(guard: &Guard, sched: &Sched, timers: &Timers, traps: &Traps, thread: u8) -> Own
     requires { thread < 8 }
-    ensures own { result ≡ own_in (control_by sched.now guard.now timers.now traps.now) thread }
+    ensures own { result
+        ≡ own_in (control_as_defined sched.now guard.now timers.now traps.now) thread }
     ensures trap { IsAlignedTrap result.trap }
 {
     Own {
@@ -50,7 +51,7 @@ fn own_in(guard: &Guard, sched: &Sched, timers: &Timers, traps: &Traps, thread: 
 fn execute_at(mut own: Own, rights: &Rights<'_>, x: &Decoded) -> Step
     requires pc { IsPc x.now.pc }
     requires trap { IsAlignedTrap own.trap }
-    ensures did { did result.own result.done ≡
+    ensures did { executed_as_defined result.own result.done ≡
         execute_in (asked rights.now) x.now.pc own x.now.expired x.now.word x.now.a x.now.b }
     ensures effect { EffectFits result.done.effect }
     ensures address { IsAligned (ins result.done.word) result.done.address }
@@ -73,7 +74,7 @@ fn execute_plainly(rights: &Rights<'_>, x: &Decoded) -> Option<Done>
     requires { IsPc x.now.pc }
     ensures answers { is_some result ≡ leaves_own (asked rights.now) x.now.pc x.now.expired
         x.now.word x.now.a x.now.b }
-    ensures did { IfSome result (λ done. (own : Own) → did own done ≡
+    ensures did { IfSome result (λ done. (own : Own) → executed_as_defined own done ≡
         execute_in (asked rights.now) x.now.pc own x.now.expired x.now.word x.now.a x.now.b) }
     ensures effect { IfSome result (λ done. EffectFits done.effect) }
     ensures plain { IfSome result (λ done. IsPlain done.effect) }
@@ -166,7 +167,7 @@ fn leave(thread: u8, x: &Decoded, done: &Done, e: &mut Held<Executed>) -> Option
       address = done.now.address;
       effect = done.now.effect;
     }) }
-    ensures redirect { result ≡ redirect_of thread (did no_own done.now) }
+    ensures redirect { result ≡ redirect_of thread (executed_as_defined no_own done.now) }
     ensures fits { RedirectFits result }
 {
     let way = match done.onward {
@@ -188,8 +189,8 @@ fn leave(thread: u8, x: &Decoded, done: &Done, e: &mut Held<Executed>) -> Option
 /// Does what an effect does to the machine's own registers.
 fn write_registers(guard: &mut Guard, sched: &mut Sched, effect: Option<Effect>)
     requires { IsAccepted effect }
-    ensures registers { registers_by sched.new guard.new ≡
-        registers_after effect (registers_by sched.old guard.old) }
+    ensures registers { registers_as_defined sched.new guard.new ≡
+        registers_after effect (registers_as_defined sched.old guard.old) }
     ensures sleep { sched.new.sleep ≡ sched.old.sleep }
     ensures size { guard.new.size ≡ guard.old.size }
 {
@@ -218,14 +219,15 @@ fn execute_fully(
     requires cycle { cycle < 4000000000 }
     requires pc { IsPc x.now.pc }
     ensures e { e.new ≡ (execute_stage guard.old.size confined.now permit.now
-        (time clock.now (cycle - 2)) (control_by sched.old guard.old timers.old traps.old)
+        (time clock.now (cycle - 2)) (control_as_defined sched.old guard.old timers.old traps.old)
         (Issue thread x.now)).e }
     ensures redirect { result ≡ (execute_stage guard.old.size confined.now permit.now
-        (time clock.now (cycle - 2)) (control_by sched.old guard.old timers.old traps.old)
+        (time clock.now (cycle - 2)) (control_as_defined sched.old guard.old timers.old traps.old)
         (Issue thread x.now)).redirect }
-    ensures control { control_by sched.new guard.new timers.new traps.new ≡
+    ensures control { control_as_defined sched.new guard.new timers.new traps.new ≡
         (execute_stage guard.old.size confined.now permit.now (time clock.now (cycle - 2))
-        (control_by sched.old guard.old timers.old traps.old) (Issue thread x.now)).control }
+        (control_as_defined sched.old guard.old timers.old traps.old)
+        (Issue thread x.now)).control }
     ensures size { guard.new.size ≡ guard.old.size }
     ensures fits { ExecutedFits e.new }
     ensures redirect_fits { RedirectFits result }
@@ -259,14 +261,15 @@ fn execute_issue(
     requires cycle { cycle < 4000000000 }
     requires pc { IsPc x.now.pc }
     ensures e { e.new ≡ (execute_stage guard.old.size confined.now permit.now
-        (time clock.now (cycle - 2)) (control_by sched.old guard.old timers.old traps.old)
+        (time clock.now (cycle - 2)) (control_as_defined sched.old guard.old timers.old traps.old)
         (Issue thread x.now)).e }
     ensures redirect { result ≡ (execute_stage guard.old.size confined.now permit.now
-        (time clock.now (cycle - 2)) (control_by sched.old guard.old timers.old traps.old)
+        (time clock.now (cycle - 2)) (control_as_defined sched.old guard.old timers.old traps.old)
         (Issue thread x.now)).redirect }
-    ensures control { control_by sched.new guard.new timers.new traps.new ≡
+    ensures control { control_as_defined sched.new guard.new timers.new traps.new ≡
         (execute_stage guard.old.size confined.now permit.now (time clock.now (cycle - 2))
-        (control_by sched.old guard.old timers.old traps.old) (Issue thread x.now)).control }
+        (control_as_defined sched.old guard.old timers.old traps.old)
+        (Issue thread x.now)).control }
     ensures size { guard.new.size ≡ guard.old.size }
     ensures fits { ExecutedFits e.new }
     ensures redirect_fits { RedirectFits result }
@@ -299,14 +302,14 @@ pub fn execute_stage(
     requires fits { DecodedFits held.now }
     requires cycle { cycle < 4000000000 }
     ensures e { e.new ≡ (execute_stage guard.old.size confined.now permit.now
-        (time clock.now (cycle - 2)) (control_by sched.old guard.old timers.old traps.old)
+        (time clock.now (cycle - 2)) (control_as_defined sched.old guard.old timers.old traps.old)
         held.now).e }
     ensures redirect { result ≡ (execute_stage guard.old.size confined.now permit.now
-        (time clock.now (cycle - 2)) (control_by sched.old guard.old timers.old traps.old)
+        (time clock.now (cycle - 2)) (control_as_defined sched.old guard.old timers.old traps.old)
         held.now).redirect }
-    ensures control { control_by sched.new guard.new timers.new traps.new ≡
+    ensures control { control_as_defined sched.new guard.new timers.new traps.new ≡
         (execute_stage guard.old.size confined.now permit.now (time clock.now (cycle - 2))
-        (control_by sched.old guard.old timers.old traps.old) held.now).control }
+        (control_as_defined sched.old guard.old timers.old traps.old) held.now).control }
     ensures size { guard.new.size ≡ guard.old.size }
     ensures fits { ExecutedFits e.new }
     ensures redirect_fits { RedirectFits result }

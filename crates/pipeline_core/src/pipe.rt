@@ -54,18 +54,18 @@ impl Pipe {
     ghost use Rattle.pipe_model.specs.Relation.{Begins, Shows, Stands, Kept, HasLatches};
     ghost use Rattle.pipe_model.specs.PipelineLaws.{empty, first_units};
     ghost use Rattle.pipeline_core.specs.StageFacts.{IsEventShowable};
-    ghost use Rattle.pipeline_core.specs.AsDefined.{stage_registers_by, state_by, ticked_by};
+    ghost use Rattle.pipeline_core.specs.AsDefined.{stage_registers_as_defined, state_as_defined, ticked_as_defined};
 
     /// A pipeline with nothing in it, whose threads start at these entries. It stands for cycle 0
     /// of each world whose threads start there, beside units and ports that hold that world's
     /// start.
     pub fn new(entries: [u32; 8]) -> Pipe
         requires { All IsPc entries }
-        ensures stage_registers { stage_registers_by result ≡ empty entries }
+        ensures stage_registers { stage_registers_as_defined result ≡ empty entries }
         ensures stands { (s : Start) (ports : List (Option Row)) → Begins s →
             HasLatches (start_world s) ports →
             map (λ t. t.pc) s.threads ≡ entries →
-            Stands s 0 (stage_registers_by result) (first_units s ports) }
+            Stands s 0 (stage_registers_as_defined result) (first_units s ports) }
     {
         starts_standing();
         Pipe {
@@ -88,11 +88,13 @@ impl Pipe {
         ensures relation { let before = rows_of latched word_at ports.old.items in let after =
             rows_of latched word_at ports.new.items in
             (s : Start) → Begins s → Shows s cycle before →
-            Stands s cycle (stage_registers_by self.old) (state_by units.old before) →
-            Kept s cycle before (ticked_by self.new units.new after result) }
-        ensures step { ticked_by self.new units.new (rows_of latched word_at ports.new.items)
-            result ≡ step (stage_registers_by self.old)
-            (state_by units.old (rows_of latched word_at ports.old.items)) cycle }
+            Stands s cycle (stage_registers_as_defined self.old)
+            (state_as_defined units.old before) →
+            Kept s cycle before (ticked_as_defined self.new units.new after result) }
+        ensures step { ticked_as_defined self.new units.new
+            (rows_of latched word_at ports.new.items)
+            result ≡ step (stage_registers_as_defined self.old)
+            (state_as_defined units.old (rows_of latched word_at ports.old.items)) cycle }
         ensures eight { vec_len ports.new ≡ 8 }
         ensures retires { result ≡ retired (cycle - 4) self.old.m }
         ensures showable { IsEventShowable result }
@@ -113,9 +115,9 @@ impl Pipe {
     fn step(&mut self, units: &mut Units, ports: &mut Ports, cycle: u64)
         requires cycle { cycle < 4000000000 }
         requires eight { vec_len ports.old ≡ 8 }
-        ensures step { ticked_by self.new units.new (rows_of latched word_at ports.new.items)
-            (retired (cycle - 4) self.old.m) ≡
-            step (stage_registers_by self.old) (state_by units.old
+        ensures step { ticked_as_defined self.new units.new
+            (rows_of latched word_at ports.new.items) (retired (cycle - 4) self.old.m) ≡
+            step (stage_registers_as_defined self.old) (state_as_defined units.old
             (rows_of latched word_at ports.old.items)) cycle }
         ensures eight { vec_len ports.new ≡ 8 }
     {

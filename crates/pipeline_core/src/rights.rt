@@ -3,7 +3,7 @@
 ghost use Rattle.std.specs.Prelude.{◌≡◌, ◌-◌, ◌<◌};
 ghost use Rattle.timer_unit.specs.Time.{time};
 ghost use Rattle.world_model.specs.World.{around};
-ghost use Rattle.pipeline_core.specs.AsDefined.{registers_by};
+ghost use Rattle.pipeline_core.specs.AsDefined.{registers_as_defined};
 
 use hart_exec::Surroundings;
 use region_guard::Guard;
@@ -50,7 +50,7 @@ impl<'a> Rights<'a> {
         requires thread { thread < 8 }
         requires cycle { cycle < 4000000000 }
         ensures { asked result ≡ around (time clock.now (cycle - 2)) guard.now.size confined.now
-            permit.now (registers_by sched.now guard.now) thread }
+            permit.now (registers_as_defined sched.now guard.now) thread }
     {
         Rights {
             thread,

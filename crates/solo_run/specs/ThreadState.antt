@@ -6,12 +6,12 @@ use Rattle.solo_run.specs.declared.thread_state.Issued.{Issued}
 use Rattle.solo_run.specs.declared.rights.Rights.{Rights}
 use Rattle.solo_run.specs.RegionKinds.{kinds_as_defined}
 
-abbrev pub thread_of : ThreadState → Thread
-thread_of h = record { pc = h.pc; ready = h.ready; own = h.own; regs = h.registers }
+abbrev pub thread_as_defined : ThreadState → Thread
+thread_as_defined h = record { pc = h.pc; ready = h.ready; own = h.own; regs = h.registers }
 
 -- what an issue left
-abbrev pub done_of : ThreadState → Issued → Done
-done_of h issued = record { thread = thread_of h; word = issued.word; effect = issued.effect }
+abbrev pub done_as_defined : ThreadState → Issued → Done
+done_as_defined h issued = record { thread = thread_as_defined h; word = issued.word; effect = issued.effect }
 
 -- what its instructions may do
 abbrev pub asked : Rights → Around

@@ -6,7 +6,7 @@ ghost use Rattle.core_model.specs.Issue.{issue, execute_word, effect_of};
 ghost use Rattle.core_model.specs.Memory.{code_at};
 ghost use Rattle.core_model.specs.Solo.{contents_by};
 ghost use Rattle.timer_unit.specs.Time.{is_due};
-ghost use Rattle.hart_exec.specs.AsDefined.{IsShowable, IsAlignedStore, did};
+ghost use Rattle.hart_exec.specs.AsDefined.{IsShowable, IsAlignedStore, executed_as_defined};
 ghost use Rattle.rv_decode.specs.Table.{ins};
 ghost use Rattle.rv_exec.specs.Access.{IsAligned};
 
@@ -53,11 +53,11 @@ fn is_due(armed: Option<u64>, now: u64) -> bool
 }
 
 impl ThreadState {
-    ghost use Rattle.solo_run.specs.ThreadState.{thread_of, done_of, asked};
+    ghost use Rattle.solo_run.specs.ThreadState.{thread_as_defined, done_as_defined, asked};
 
     /// A thread at its entry.
     pub fn new(entry: u32) -> ThreadState
-        ensures { thread_of result ≡ fresh entry }
+        ensures { thread_as_defined result ≡ fresh entry }
     {
         ThreadState {
             pc: entry,
@@ -71,9 +71,9 @@ impl ThreadState {
     #[tactic(auto, unfolding(core_model::specs::Issue::execute_word))]
     fn execute_word(&mut self, rights: &Rights, i: &Spm) -> Executed
         requires { length i.now ≡ rights.now.size / 4 }
-        ensures did { did self.new.own result ≡
+        ensures did { executed_as_defined self.new.own result ≡
             execute_word (asked rights.now) (code_at rights.now.size i.now self.old.pc)
-            (thread_of self.old) }
+            (thread_as_defined self.old) }
         ensures rest { self.new ≡ record self.old { own = self.new.own } }
         ensures address { IsAligned (ins result.word) result.address }
         ensures showable { IsShowable result.effect }
@@ -105,7 +105,8 @@ impl ThreadState {
         requires showable { IsShowable x.now.effect }
         requires store { IsAlignedStore x.now.effect }
         ensures effect { result ≡ effect_of (contents_by rights.now.size i.now d.now
-            (W.word_at shown.old cycle)) self.now.registers (did self.now.own x.now) }
+            (W.word_at shown.old cycle)) self.now.registers
+            (executed_as_defined self.now.own x.now) }
         ensures showable { IsShowable result }
         ensures store { IsAlignedStore result }
         ensures shown { W.word_at shown.new ≡ W.word_at shown.old }
@@ -138,9 +139,9 @@ impl ThreadState {
         requires cycle { cycle < 2 ^ 63 }
         requires i { length i.now ≡ rights.now.size / 4 }
         requires d { length d.now ≡ rights.now.size / 4 }
-        ensures done { done_of self.new result ≡
+        ensures done { done_as_defined self.new result ≡
             issue (asked rights.now) (contents_by rights.now.size i.now d.now
-            (W.word_at shown.old cycle)) cycle (thread_of self.old) }
+            (W.word_at shown.old cycle)) cycle (thread_as_defined self.old) }
         ensures showable { IsShowable result.effect }
         ensures store { IsAlignedStore result.effect }
         ensures shown { W.word_at shown.new ≡ W.word_at shown.old }

@@ -1,11 +1,11 @@
 use Rattle.std.proofs.Common.{map}
-use Rattle.fp_asm.specs.PassesAsDefined.{placed_seen}
+use Rattle.fp_asm.specs.PassesAsDefined.{placed_as_defined}
 use Rattle.fp_asm.proofs.Soundness.{first_placed}
 use Rattle.fp_asm.specs.Source.{assembled_lines}
 use Rattle.fp_asm.proofs.assembler.assemble_lines.Goals as goal
 
 pub image_at-requires : goal.image_at-requires
-image_at-requires c = first_placed (map (λ l. l.now) c.args.lines.now) (placed_seen c.pass.new.self) (rw c.new-first.ensures at c.in_ok-pass.ensures.ok)
+image_at-requires c = first_placed (map (λ l. l.now) c.args.lines.now) (placed_as_defined c.pass.new.self) (rw c.new-first.ensures at c.in_ok-pass.ensures.ok)
 
 pub returns-clause-image : goal.returns-clause-image
 unfolding assembled_lines
