@@ -11,8 +11,8 @@ use Rattle.rv_exec.specs.declared.outcome.Event.{Event}
 use Rattle.region_guard.specs.Regions.{region_of, index_of}
 use Rattle.region_guard.specs.Regions.RegionKind.{ReadOnly}
 use Rattle.core_model.specs.Thread.{fresh}
-use Rattle.core_model.specs.Parts.{load, store, branch, delay, wait}
-use Rattle.core_model.specs.Control.{changed, may_hold, csr_access}
+use Rattle.core_model.specs.Outcomes.{load, store, branch, delay, wait}
+use Rattle.core_model.specs.Csr.{changed, may_hold, csr_access}
 use Rattle.core_model.specs.Issue.{execute_untrapped, run_at, execute_in, execute_word, effect_of, issue}
 use Rattle.core_model.specs.Memory.{code_at, data_at}
 use Rattle.core_model.specs.View.{View, around_by}

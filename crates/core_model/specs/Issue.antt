@@ -16,8 +16,9 @@ use Rattle.core_model.specs.declared.own.Own.{Own}
 use Rattle.core_model.specs.declared.own.CsrOp.{CsrOp}
 use Rattle.core_model.specs.declared.own.CsrOp.TheVariants.{Swap, Set, Clear}
 use Rattle.core_model.specs.Thread.{Thread, Around, Contents, Did, Done, reg_in, reg_effect, regs_after, filled}
-use Rattle.core_model.specs.Parts.{trapped, plain, wrote, load, store, go_to, branch, delay, wait, with_armed, with_high}
-use Rattle.core_model.specs.Control.{csr_access}
+use Rattle.core_model.specs.Traps.{trapped, unless_trap}
+use Rattle.core_model.specs.Outcomes.{plain, wrote, load, store, go_to, branch, delay, wait, with_armed, with_high}
+use Rattle.core_model.specs.Csr.{csr_access}
 
 -- the register that a CSR instruction reads, x0 where it has an immediate
 abbrev pub csr_source : CsrKind → ℕ → ℕ
@@ -118,11 +119,6 @@ execute_untrapped a pc t word x y o (Wu rs1 rs2) = wait a.now pc t word (moment 
 execute_untrapped a pc t word x y o (Ee rs1 rs2) = plain pc (with_armed t (Some (moment x y))) word 3 Nothing
 execute_untrapped a pc t word x y o De = plain pc (with_armed t None) word 3 Nothing
 execute_untrapped a pc t word x y o _ = trapped pc t word 2
-
--- a result with a trap comes first
-abbrev pub unless_trap : ℕ → Own → ℕ → Option ℕ → Did → Did
-unless_trap pc t word (Some cause) d = trapped pc t word cause
-unless_trap pc t word None d = d
 
 -- what an instruction does, with the values of its sources
 unfoldable pub run_at : Around → ℕ → Own → ℕ → ℕ → ℕ → Ins → Did

@@ -1,6 +1,7 @@
 pub mod Thread
-pub mod Parts
-pub mod Control
+pub mod Traps
+pub mod Outcomes
+pub mod Csr
 pub mod Issue
 pub mod Memory
 pub mod View

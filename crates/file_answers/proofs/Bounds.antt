@@ -10,12 +10,12 @@ use Rattle.fp_setup.specs.Settings.{Settings, size_of}
 use Rattle.region_tree.specs.declared.section.Section.{Section}
 use Rattle.region_tree.specs.Tree.{IsSection}
 use Rattle.slot_scheduler.specs.ModeWord.{mode_of}
-use Rattle.file_answers.specs.Bound.{names, section_fault}
+use Rattle.file_answers.specs.BoundAnswer.{names, section_fault}
 use Rattle.region_tree.specs.declared.tree.TreeNo.{TreeNo}
 use Rattle.region_tree.specs.declared.tree.TreeNo.TheVariants as in_tree
 use Rattle.region_tree.specs.Refusals.{IsRefused}
 use Rattle.region_tree.specs.Tree.{Tree, graph}
-use Rattle.file_answers.specs.Bound.{IsTreeRefused}
+use Rattle.file_answers.specs.BoundAnswer.{IsTreeRefused}
 use Rattle.file_answers.specs.Stops.{IsAnswerStop, stop_of_tree}
 
 pub tree_stops : (t : Tree) (no : TreeNo) → IsRefused (graph t) no → IsAnswerStop (IsTreeRefused t) (stop_of_tree no)

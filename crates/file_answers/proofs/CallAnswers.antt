@@ -4,7 +4,7 @@ use Rattle.call_bounds.specs.CallRefused.{IsCallRefused}
 use Rattle.call_bounds.specs.Listing.{Listing, calls}
 use Rattle.call_bounds.specs.declared.tree.CallNo.{CallNo}
 use Rattle.call_bounds.specs.declared.tree.CallNo.TheVariants as in_calls
-use Rattle.file_answers.specs.Calls.{IsListingRefused}
+use Rattle.file_answers.specs.CallsAnswer.{IsListingRefused}
 use Rattle.file_answers.specs.Stops.{IsAnswerStop, stop_of_calls}
 
 pub call_stops : (l : Listing) (no : CallNo) → IsCallRefused (calls l) no → IsAnswerStop (IsListingRefused l) (stop_of_calls no)

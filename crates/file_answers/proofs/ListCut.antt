@@ -8,7 +8,7 @@ use Rattle.call_bounds.specs.declared.refusals.RoutinesRefused.{RoutinesRefused}
 use Rattle.call_bounds.specs.declared.refusals.RoutinesRefused.TheVariants.{Fault}
 use Rattle.call_bounds.specs.declared.routines.Routine.{Routine}
 use Rattle.call_bounds.proofs.FileLines.{line-next, line-stops}
-use Rattle.file_answers.specs.Calls.{of_routines, routines_in}
+use Rattle.file_answers.specs.CallsAnswer.{of_routines, routines_in}
 use Rattle.file_answers.proofs.Cuts.{IsCut}
 
 -- the routines of bytes by the next 18 of them

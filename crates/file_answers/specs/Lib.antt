@@ -3,8 +3,8 @@ pub mod Answer
 pub mod Program
 pub mod Assembled
 pub mod Elf
-pub mod Bound
-pub mod Calls
+pub mod BoundAnswer
+pub mod CallsAnswer
 pub mod Stops
 pub use Rattle.fp_io.specs.Content
 pub use Rattle.trace_print.specs.Bounds

@@ -4,7 +4,7 @@ ghost use Rattle.std.specs.Prelude.{◌≡◌, ◌<◌, ◌≤◌, ◌↔◌, Is
 ghost use Rattle.region_tree.specs.Tree.{IsSection, IsTree};
 ghost use Rattle.file_answers.specs.Answer.Answer.{Says};
 ghost use Rattle.trace_print.specs.Bounds.{bound_text};
-ghost use Rattle.file_answers.specs.Bound.{IsBoundAnswer, IsTreeRefused, IsTreeAnswer, names, section_fault, section_tree};
+ghost use Rattle.file_answers.specs.BoundAnswer.{IsBoundAnswer, IsTreeRefused, IsTreeAnswer, names, section_fault, section_tree};
 ghost use Rattle.file_answers.specs.Stops.{IsAnswerStop, stop_of_tree, stop_of_bound};
 
 use crate::program::Program;
@@ -26,7 +26,7 @@ fn names(slots: &SlotTable, thread: u8) -> bool
 }
 
 /// Why no bound is told of a section, by the code of its fault, if so.
-#[tactic(auto, unfolding(crate::specs::Bound::section_fault))]
+#[tactic(auto, unfolding(crate::specs::BoundAnswer::section_fault))]
 pub fn section_fault(setup: &Setup, thread: u8, section: Section) -> Option<u8>
     requires { thread < 8 }
     ensures { result ≡ section_fault setup.now thread section }

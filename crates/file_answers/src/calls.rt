@@ -8,8 +8,8 @@ ghost use Rattle.call_bounds.specs.Listing.{calls};
 ghost use Rattle.trace_print.specs.Bounds.{bound_text};
 ghost use Rattle.file_answers.specs.Answer.{on_file};
 ghost use Rattle.file_answers.specs.Answer.Answer.{Says};
-ghost use Rattle.file_answers.specs.Bound.{section_fault};
-ghost use Rattle.file_answers.specs.Calls.{IsCallsAnswer, IsListingAnswer, IsListingRefused, routines_in, section_listing};
+ghost use Rattle.file_answers.specs.BoundAnswer.{section_fault};
+ghost use Rattle.file_answers.specs.CallsAnswer.{IsCallsAnswer, IsListingAnswer, IsListingRefused, routines_in, section_listing};
 ghost use Rattle.file_answers.specs.Codes.{routines_code};
 ghost use Rattle.file_answers.specs.Stops.{IsAnswerStop, IsStop, IsStopIn, IsStopOf, Makes, stop_of_calls};
 
@@ -40,7 +40,7 @@ fn routines_refusal(line: u32, code: RoutinesNo) -> Refusal
 }
 
 /// The routines of a file's bytes, for scratchpads of a size.
-#[tactic(auto, unfolding(crate::specs::Calls::routines_in))]
+#[tactic(auto, unfolding(crate::specs::CallsAnswer::routines_in))]
 fn routines_in(alloc: Global, bytes: &[u8], size: u32) -> Result<Routines, Stop>
     requires { IsSize size }
     ensures ok { IfOk result (λ routines. routines_in size bytes.now ≡ Ok routines) }

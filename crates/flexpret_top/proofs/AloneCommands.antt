@@ -24,7 +24,7 @@ use Rattle.flexpret_top.specs.declared.ready.Prepared.{Prepared}
 use Rattle.flexpret_top.specs.declared.ready.Prepared.TheVariants as prepared
 use Rattle.file_answers.specs.declared.stop.Stop.{Stop}
 use Rattle.file_answers.specs.declared.stop.Stop.TheVariants.{Refused, Differs, Read, NoMemory}
-use Rattle.flexpret_top.specs.Alone.{IsAlone, IsAloneOf, alone_of, alone_text, check_answer, checked_of, compared, same_text, told_alone}
+use Rattle.flexpret_top.specs.SoloAndCheck.{IsAlone, IsAloneOf, alone_of, alone_text, check_answer, checked_of, compared, same_text, told_alone}
 use Rattle.file_answers.specs.Answer.{Answer, ends, over_file, then_by}
 use Rattle.file_answers.specs.Answer.Answer.{Says}
 use Rattle.flexpret_top.specs.Command.{IsAnswerIn}

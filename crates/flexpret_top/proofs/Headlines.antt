@@ -34,12 +34,12 @@ use Rattle.slot_scheduler.specs.ModeWord.{mode_of}
 use Rattle.section_visits.specs.SetupCallVisitBound.{CallVisitsStayBounded}
 use Rattle.section_visits.specs.SetupVisitBound.{VisitsStayBounded}
 use Rattle.trace_print.specs.declared.refusals.Refusal.TheVariants as refusal
-use Rattle.file_answers.specs.Bound.{IsBoundAnswer, IsSectionAnswer, section_fault, section_tree}
-use Rattle.file_answers.specs.Calls.{IsCallsAnswer, IsRoutinesAnswer, IsSectionCallsAnswer, of_routines, routines_in, section_listing}
+use Rattle.file_answers.specs.BoundAnswer.{IsBoundAnswer, IsSectionAnswer, section_fault, section_tree}
+use Rattle.file_answers.specs.CallsAnswer.{IsCallsAnswer, IsRoutinesAnswer, IsSectionCallsAnswer, of_routines, routines_in, section_listing}
 use Rattle.file_answers.specs.Codes.{call_refusal, tree_refusal}
 use Rattle.file_answers.specs.declared.program.Program.{Program}
 use Rattle.file_answers.specs.Answer.{Answer, IsSaid, refused, then_by, over_file, ends}
-use Rattle.flexpret_top.specs.Alone.{alone_fault, alone_in, alone_of, alone_text, unless_fault}
+use Rattle.flexpret_top.specs.SoloAndCheck.{alone_fault, alone_in, alone_of, alone_text, unless_fault}
 use Rattle.file_answers.specs.Elf.{elf_in, of_elf}
 use Rattle.ask_words.specs.Commands.{ask}
 use Rattle.flexpret_top.specs.declared.status.Status.{Status}

@@ -24,7 +24,7 @@ use Rattle.fp_ports.specs.Rows.{Row}
 use Rattle.fp_setup.specs.SetupOfTables.{the_threads}
 use Rattle.fp_setup.specs.Settings.{Settings}
 use Rattle.setup_model.specs.Start.{start, shown_to}
-use Rattle.solo_run.specs.Checked.{IsChecked, first_differing_line, line_feeds}
+use Rattle.solo_run.specs.FirstDifference.{IsChecked, first_differing_line, line_feeds}
 use Rattle.solo_run.specs.declared.checked.Checked.{Checked}
 use Rattle.solo_run.specs.declared.checked.Checked.TheVariants.{Same, Differs}
 use Rattle.solo_run.specs.Setup.{setup_view}
@@ -33,7 +33,7 @@ use Rattle.world_model.specs.Viewed.{view, setting_of}
 use Rattle.solo_run.specs.View.{view_as_defined}
 use Rattle.solo_run.specs.declared.view.SoloView.{SoloView}
 use Rattle.file_answers.specs.Answer.{Answer, differs_text, over_file}
-use Rattle.flexpret_top.specs.Alone.{compared, same_text}
+use Rattle.flexpret_top.specs.SoloAndCheck.{compared, same_text}
 use Rattle.file_answers.specs.Answer.Answer.{Says}
 
 -- one of the threads stands at its own index

@@ -10,10 +10,10 @@ use Rattle.ask_words.specs.declared.asked.Ask.TheVariants.{Run, Dump, Asm, Bound
 use Rattle.selfrun.specs.Text.{selfrun_text}
 use Rattle.file_answers.specs.Answer.{Answer, IsSaid, WritesFront, IsAnswered}
 use Rattle.file_answers.specs.Answer.Answer.{Says}
-use Rattle.flexpret_top.specs.Alone.{solo_answer, check_answer}
+use Rattle.flexpret_top.specs.SoloAndCheck.{solo_answer, check_answer}
 use Rattle.file_answers.specs.Assembled.{asm_answer}
-use Rattle.file_answers.specs.Bound.{IsBoundAnswer}
-use Rattle.file_answers.specs.Calls.{IsCallsAnswer}
+use Rattle.file_answers.specs.BoundAnswer.{IsBoundAnswer}
+use Rattle.file_answers.specs.CallsAnswer.{IsCallsAnswer}
 use Rattle.file_answers.specs.Elf.{elf_answer}
 use Rattle.file_answers.specs.Program.{program}
 use Rattle.flexpret_top.specs.Run.{start_of, run_answer, dump_answer, phases_answer}

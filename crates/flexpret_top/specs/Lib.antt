@@ -1,5 +1,5 @@
 pub mod Run
-pub mod Alone
+pub mod SoloAndCheck
 pub mod Command
 pub mod Endings
 pub mod Prepared
@@ -18,5 +18,5 @@ pub use Rattle.fp_ports.specs.Rows
 pub use Rattle.fp_ports.specs.ShownWords
 pub use Rattle.fp_setup.specs.declared.input_list.Input
 pub use Rattle.setup_model.specs.Start
-pub use Rattle.solo_run.specs.Checked
+pub use Rattle.solo_run.specs.FirstDifference
 pub use Rattle.solo_run.specs.View

@@ -19,7 +19,7 @@ use Rattle.flexpret_top.specs.declared.ready.Ready.{Ready}
 use Rattle.flexpret_top.specs.declared.ready.Prepared.{Prepared}
 use Rattle.flexpret_top.specs.declared.ready.Prepared.TheVariants.{Trace, Dump, Phases, Solo, Same, Image, Bound, Selfrun}
 use Rattle.selfrun.specs.Text.{tallies_text}
-use Rattle.flexpret_top.specs.Alone.{same_text, told_alone}
+use Rattle.flexpret_top.specs.SoloAndCheck.{same_text, told_alone}
 use Rattle.file_answers.specs.Answer.Answer.{Says}
 use Rattle.flexpret_top.specs.Command.{IsAnswerOf, Leaves}
 use Rattle.file_answers.specs.Program.{program}

@@ -6,8 +6,8 @@ ghost use Rattle.std.specs.List.{common_prefix_len};
 ghost use Rattle.fp_io.specs.Causes.{Rose};
 ghost use Rattle.fp_io.specs.Content.{AppendsFront};
 ghost use Rattle.fp_ports.specs.Rows.{rows_of};
-ghost use Rattle.solo_run.specs.Checked.{IsChecked};
-ghost use Rattle.flexpret_top.specs.Alone.{IsAlone, IsAloneOf, alone_fault, alone_in, alone_program, compared, same_text, told_alone};
+ghost use Rattle.solo_run.specs.FirstDifference.{IsChecked};
+ghost use Rattle.flexpret_top.specs.SoloAndCheck.{IsAlone, IsAloneOf, alone_fault, alone_in, alone_program, compared, same_text, told_alone};
 ghost use Rattle.file_answers.specs.Answer.{on_file};
 ghost use Rattle.file_answers.specs.Stops.{IsAnswerStop, IsStopIn, Makes, is_difference};
 
@@ -26,7 +26,7 @@ use trace_print::Refusal;
 const MOST_OF_A_LINE: usize = 60;
 
 /// Why a thread isn't run from its view alone, by the code of its fault, if so.
-#[tactic(auto, unfolding(crate::specs::Alone::alone_fault))]
+#[tactic(auto, unfolding(crate::specs::SoloAndCheck::alone_fault))]
 fn alone_fault(setup: &Setup, thread: u8) -> Option<u8>
     requires { thread < 8 }
     ensures { result ≡ alone_fault setup.now thread }

@@ -14,7 +14,7 @@ use Rattle.fp_setup.specs.Settings.{Settings, size_of}
 use Rattle.fp_setup.specs.Values.{elements, members, number, number_at, text, text_at}
 use Rattle.fp_setup.specs.Vocabulary.{is_word}
 use Rattle.fp_setup.specs.Checks.{is_in, integer_check, bytes_check, eight_check, list_check}
-use Rattle.fp_setup.specs.Tables.{Around, integers, key_fault, keys_fault, unknown_fault, threads_fault, loops_fault, top_check, top_fault}
+use Rattle.fp_setup.specs.FaultOrder.{Around, integers, key_fault, keys_fault, unknown_fault, threads_fault, loops_fault, top_check, top_fault}
 use Rattle.fp_setup.specs.SetupOfTables.{loop_of, nibble_word, rows_at, settings, version_at}
 use Rattle.fp_setup.specs.Setup.{document, setup, setup_in, setup_of, unless}
 use Rattle.fp_setup.proofs.RowsKept.{AreLoopsKept, AreRowsKept, loops-kept, threads-kept}

@@ -7,7 +7,7 @@ use Rattle.std.proofs.lemmas.Bool.Decides.{nat_tests}
 use Rattle.std.proofs.Math.Nat.{pow-zero, pow-le-pow_left, pow-succ', mul-le-mul_left, mul-le-mul_right}
 use Rattle.nibble_word.specs.Nibbles.{nibbles}
 use Rattle.slot_table.specs.Table.{is_table}
-use Rattle.region_guard.specs.Register.{is_regions}
+use Rattle.region_guard.specs.RegionsWord.{is_regions}
 use Rattle.fp_setup.specs.declared.vocabulary.Words.{Words}
 use Rattle.fp_setup.specs.declared.vocabulary.Words.TheVariants.{Slots, Owners, Modes}
 use Rattle.fp_setup.specs.Vocabulary.{is_value, is_word}

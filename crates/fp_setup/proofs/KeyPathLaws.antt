@@ -15,7 +15,7 @@ use Rattle.fp_setup.specs.Vocabulary.{Text, number_of, refusal}
 use Rattle.fp_setup.specs.Values.{number, as_list, pair, input_of}
 use Rattle.fp_setup.specs.Keys.{Kind, Integer, Fresh, Address, AddressFrom, Bytes, One, Eight, Truth, TruthWithout, Inputs, Threads, Loops, Key, names, top_keys, thread_keys, loop_keys}
 use Rattle.fp_setup.specs.Checks.{Check, typed, is_in, integer_fault, integer_check, taken_fault, fresh_check, bytes_fault, bytes_check, word_fault, word_check, truth_check, permit_check, each_fault, eight_fault, eight_check, is_input, input_check, inputs_from, inputs_fault, few_fault, list_check}
-use Rattle.fp_setup.specs.Tables.{Around, integers, addresses, value_check, key_fault, keys_fault, has_other_key, unknown_fault, table_fault, thread_table_fault, thread_fault, loop_table_fault, loop_fault, id_of, threads_from, loops_from, threads_fault, loops_fault, top_check, top_fault}
+use Rattle.fp_setup.specs.FaultOrder.{Around, integers, addresses, value_check, key_fault, keys_fault, has_other_key, unknown_fault, table_fault, thread_table_fault, thread_fault, loop_table_fault, loop_fault, id_of, threads_from, loops_from, threads_fault, loops_fault, top_check, top_fault}
 use Rattle.fp_setup.specs.SetupOfTables.{settings, version_at}
 use Rattle.fp_setup.specs.Setup.{unless, document, setup, setup_in, setup_of, IsFaultOf}
 use Rattle.fp_setup.specs.KeyPaths.{IsKeyPath, HasKeyPath, keys_in}

@@ -2,7 +2,7 @@
 use Rattle.std.proofs.Common.{◌≡◌, ℕ, ◌<◌, ◌≤◌, true, rules}
 use Rattle.fp_setup.specs.Checks.{is_in}
 use Rattle.fp_setup.specs.Loops.{IsLoop}
-use Rattle.fp_setup.specs.Tables.{integers, addresses}
+use Rattle.fp_setup.specs.FaultOrder.{integers, addresses}
 
 -- what the ranges of the keys tell
 pub is_loop : (size head last limit : ℕ) → is_in (addresses 0 size) head ≡ true → is_in (addresses head size) last ≡ true

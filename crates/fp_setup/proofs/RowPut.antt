@@ -12,7 +12,7 @@ use Rattle.toml.specs.Data.{Members, as_table}
 use Rattle.fp_setup.specs.declared.refusal.Fault.{Fault}
 use Rattle.fp_setup.specs.declared.thread_list.ThreadSetup.{ThreadSetup}
 use Rattle.fp_setup.specs.Faults.{thread_row}
-use Rattle.fp_setup.specs.Tables.{thread_fault, threads_from}
+use Rattle.fp_setup.specs.FaultOrder.{thread_fault, threads_from}
 use Rattle.toml.specs.declared.value.Value.{Value}
 use Rattle.toml.specs.View.{view}
 use Rattle.fp_setup.specs.Threads.{IsThread}

@@ -19,7 +19,7 @@ use Rattle.fp_setup.specs.Keys.{names, thread_keys, loop_keys}
 use Rattle.fp_setup.specs.Vocabulary.{Text, is_value}
 use Rattle.fp_setup.specs.Values.{elements, input_of, members, number, number_at, text, truth, truth_at}
 use Rattle.fp_setup.specs.Checks.{is_in, integer_check, word_check, permit_check, inputs_fault, list_check}
-use Rattle.fp_setup.specs.Tables.{Around, integers, addresses, value_check, keys_fault, unknown_fault, thread_table_fault, thread_fault, loop_table_fault, loop_fault, id_of, threads_from, loops_from}
+use Rattle.fp_setup.specs.FaultOrder.{Around, integers, addresses, value_check, keys_fault, unknown_fault, thread_table_fault, thread_fault, loop_table_fault, loop_fault, id_of, threads_from, loops_from}
 use Rattle.fp_setup.specs.SetupOfTables.{id_at, loop_of, mode_at, modes_of, named, said_of, table_of, the_threads, thread_of, threads_of, unnamed, unnamed_mode, word_of}
 use Rattle.fp_setup.proofs.Digits.{word_of-small}
 use Rattle.fp_setup.proofs.LoopTable.{is_loop, last_inside}

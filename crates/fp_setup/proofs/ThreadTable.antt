@@ -13,7 +13,7 @@ use Rattle.fp_setup.specs.Keys.{names, thread_keys}
 use Rattle.fp_setup.specs.Values.{number, number_at, truth_at, elements_at, input_of}
 use Rattle.fp_setup.specs.Vocabulary.{is_value}
 use Rattle.fp_setup.specs.Checks.{is_in}
-use Rattle.fp_setup.specs.Tables.{integers, addresses, value_check, keys_fault, unknown_fault, thread_table_fault}
+use Rattle.fp_setup.specs.FaultOrder.{integers, addresses, value_check, keys_fault, unknown_fault, thread_table_fault}
 use Rattle.fp_setup.specs.SetupOfTables.{id_at, mode_at, thread_of}
 use Rattle.fp_setup.specs.Rows.{row_of}
 use Rattle.fp_setup.specs.Inputs.{AreInputs}

@@ -10,7 +10,7 @@ use Rattle.fp_setup.specs.Faults.{first, top}
 use Rattle.fp_setup.specs.Keys.{names, top_keys}
 use Rattle.fp_setup.specs.Values.{number_at, text_at, elements_at}
 use Rattle.fp_setup.specs.Checks.{is_in}
-use Rattle.fp_setup.specs.Tables.{integers, keys_fault, top_check, unknown_fault, top_fault}
+use Rattle.fp_setup.specs.FaultOrder.{integers, keys_fault, top_check, unknown_fault, top_fault}
 use Rattle.fp_setup.specs.SetupOfTables.{settings, version_at, nibble_word, word_of, modes_of, threads_of, loop_of, rows_at}
 
 module _ (size : ℕ) (ms : Members) where

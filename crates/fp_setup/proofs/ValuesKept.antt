@@ -20,7 +20,7 @@ use Rattle.fp_setup.specs.Inputs.{AreInputs, last_cycle}
 use Rattle.fp_setup.specs.Vocabulary.{Text, entries, is_value, is_word, number_in, number_of, refusal}
 use Rattle.fp_setup.specs.Values.{as_list, elements, input_in, input_of, natural, number, pair, text, truth}
 use Rattle.fp_setup.specs.Checks.{Check, typed, is_in, integer_fault, integer_check, bytes_fault, bytes_check, word_fault, word_check, permit_check, each_fault, eight_fault, eight_check, is_after, is_input, input_check, inputs_from, inputs_fault, few_fault, list_check}
-use Rattle.fp_setup.specs.Tables.{key_fault}
+use Rattle.fp_setup.specs.FaultOrder.{key_fault}
 use Rattle.fp_setup.specs.SetupOfTables.{named, nibble_word, word_of}
 use Rattle.fp_setup.proofs.Digits.{accepted, nibbles-word_of, small_values}
 

@@ -8,7 +8,7 @@ pub mod Vocabulary
 pub mod Keys
 pub mod Values
 pub mod Checks
-pub mod Tables
+pub mod FaultOrder
 pub mod SetupOfTables
 pub mod Setup
 pub mod Reading
@@ -18,5 +18,5 @@ pub mod KeyPaths
 pub mod AcceptedSetups
 pub use Rattle.nibble_word.specs.Nibbles
 pub use Rattle.region_guard.specs.Regions
-pub use Rattle.region_guard.specs.Register
+pub use Rattle.region_guard.specs.RegionsWord
 pub use Rattle.slot_table.specs.Table

@@ -2,7 +2,7 @@
 use Rattle.std.specs.Prelude.{◌≡◌, ◌<◌, ◌≤◌, ◌⊎◌, IsTrue, length}
 use Rattle.std.specs.List.{All}
 use Rattle.slot_table.specs.Table.{is_table}
-use Rattle.region_guard.specs.Register.{is_regions}
+use Rattle.region_guard.specs.RegionsWord.{is_regions}
 use Rattle.fp_setup.specs.declared.thread_list.ThreadSetup.{ThreadSetup}
 use Rattle.fp_setup.specs.declared.loop_list.LoopSetup.{LoopSetup}
 use Rattle.fp_setup.specs.Threads.{AreThreads}

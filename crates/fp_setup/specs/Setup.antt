@@ -9,7 +9,7 @@ use Rattle.fp_setup.specs.declared.refusal.SetupRefused.{SetupRefused}
 use Rattle.fp_setup.specs.declared.refusal.SetupRefused.TheVariants as refused
 use Rattle.fp_setup.specs.Settings.{Settings, size_of}
 use Rattle.fp_setup.specs.Faults.{fault_at, no_path}
-use Rattle.fp_setup.specs.Tables.{top_fault}
+use Rattle.fp_setup.specs.FaultOrder.{top_fault}
 use Rattle.fp_setup.specs.SetupOfTables.{settings, version_at}
 
 -- the fault where there is one, else the value

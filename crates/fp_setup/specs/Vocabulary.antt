@@ -4,7 +4,7 @@ use Rattle.std.specs.Str.{bytes_eq}
 use Rattle.slot_table.specs.Frame.{is_slot}
 use Rattle.slot_table.specs.Table.{is_table}
 use Rattle.region_guard.specs.Regions.{is_owner}
-use Rattle.region_guard.specs.Register.{is_regions}
+use Rattle.region_guard.specs.RegionsWord.{is_regions}
 use Rattle.fp_setup.specs.declared.vocabulary.Words.{Words}
 use Rattle.fp_setup.specs.declared.vocabulary.Words.TheVariants.{Slots, Owners, Modes}
 use Rattle.fp_setup.specs.declared.refusal.SetupNo.{SetupNo}

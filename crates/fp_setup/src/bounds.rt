@@ -1,7 +1,7 @@
 //! What an integer of a setup may be.
 
 ghost use Rattle.std.specs.Prelude.{◌≡◌, ◌<◌, ◌≤◌};
-ghost use Rattle.fp_setup.specs.Tables.{addresses, integers};
+ghost use Rattle.fp_setup.specs.FaultOrder.{addresses, integers};
 ghost use Rattle.region_guard.specs.Regions.{IsSize};
 ghost use Rattle.fp_setup.specs.Settings.{size_of};
 ghost use Rattle.fp_setup.specs.Checks.{is_in};

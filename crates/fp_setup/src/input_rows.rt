@@ -6,7 +6,7 @@ ghost use Rattle.toml.specs.View.{table_view, view};
 ghost use Rattle.fp_setup.specs.Inputs.{AreInputs, last_cycle};
 ghost use Rattle.fp_setup.specs.Values.{elements, elements_at, input_of, pair};
 ghost use Rattle.fp_setup.specs.Checks.{input_check, inputs_fault, is_after, list_check};
-ghost use Rattle.fp_setup.specs.Tables.{key_fault};
+ghost use Rattle.fp_setup.specs.FaultOrder.{key_fault};
 ghost use Rattle.fp_setup.specs.Reading.{IsRead, IsReadInMemory};
 
 use crate::input_list::{Input, Inputs};
@@ -105,7 +105,7 @@ fn inputs(alloc: Global, value: &Value, path: KeyPath) -> Result<Inputs, SetupRe
 }
 
 /// The inputs under a key of a table, none where it is absent.
-#[tactic(auto, unfolding(crate::specs::Tables::key_fault))]
+#[tactic(auto, unfolding(crate::specs::FaultOrder::key_fault))]
 pub(crate) fn inputs_or_none(
     alloc: Global,
     table: &Table,

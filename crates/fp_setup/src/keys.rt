@@ -10,7 +10,7 @@ ghost use Rattle.std.specs.List.{list_all, list_any};
 ghost use Rattle.fp_setup.specs.Vocabulary.{is_value, is_word};
 ghost use Rattle.fp_setup.specs.Values.{elements_at, number, number_at, text_at, truth_at};
 ghost use Rattle.fp_setup.specs.Checks.{bytes_check, eight_check, fresh_check, integer_check, is_in, permit_check, truth_check, word_check};
-ghost use Rattle.fp_setup.specs.Tables.{has_other_key, key_fault, unknown_fault};
+ghost use Rattle.fp_setup.specs.FaultOrder.{has_other_key, key_fault, unknown_fault};
 ghost use Rattle.fp_setup.specs.SetupOfTables.{named, nibble_word};
 ghost use Rattle.fp_setup.specs.Reading.{IsRead, IsReadInMemory};
 
@@ -43,7 +43,7 @@ fn has_other(table: &Table, keys: &[&str]) -> bool
 }
 
 /// Refuses a table with a key outside a list.
-#[tactic(auto, unfolding(crate::specs::Tables::unknown_fault))]
+#[tactic(auto, unfolding(crate::specs::FaultOrder::unknown_fault))]
 pub(crate) fn no_other_key(table: &Table, keys: &[&str], path: KeyPath) -> Result<(), Fault>
     ensures { IsRead result
         (unknown_fault (map (λ k. k.now) keys.now) path (table_view table.now))
@@ -63,7 +63,7 @@ pub(crate) fn member<'a>(table: &'a Table, key: &str) -> Option<&'a Value>
 }
 
 /// An integer that is needed.
-#[tactic(auto, unfolding(crate::specs::Tables::key_fault))]
+#[tactic(auto, unfolding(crate::specs::FaultOrder::key_fault))]
 pub(crate) fn needed_integer(
     table: &Table,
     key: &str,
@@ -83,7 +83,7 @@ pub(crate) fn needed_integer(
 }
 
 /// An integer that may be absent.
-#[tactic(auto, unfolding(crate::specs::Tables::key_fault))]
+#[tactic(auto, unfolding(crate::specs::FaultOrder::key_fault))]
 pub(crate) fn optional_integer(
     table: &Table,
     key: &str,
@@ -103,7 +103,7 @@ pub(crate) fn optional_integer(
 }
 
 /// The word of eight texts of a list, which are needed.
-#[tactic(auto, unfolding(crate::specs::Tables::key_fault))]
+#[tactic(auto, unfolding(crate::specs::FaultOrder::key_fault))]
 pub(crate) fn needed_eight(
     table: &Table,
     key: &str,
@@ -122,7 +122,7 @@ pub(crate) fn needed_eight(
 }
 
 /// The number of a text of a list, which is needed.
-#[tactic(auto, unfolding(crate::specs::Tables::key_fault))]
+#[tactic(auto, unfolding(crate::specs::FaultOrder::key_fault))]
 pub(crate) fn needed_word(
     table: &Table,
     key: &str,
@@ -141,7 +141,7 @@ pub(crate) fn needed_word(
 }
 
 /// A truth value, false where it is absent.
-#[tactic(auto, unfolding(crate::specs::Tables::key_fault))]
+#[tactic(auto, unfolding(crate::specs::FaultOrder::key_fault))]
 pub(crate) fn truth_or_false(table: &Table, key: &str, path: KeyPath) -> Result<bool, Fault>
     ensures { IsRead result
         (key_fault truth_check false path (get_member key.now (table_view table.now)))
@@ -154,7 +154,7 @@ pub(crate) fn truth_or_false(table: &Table, key: &str, path: KeyPath) -> Result<
 }
 
 /// A truth value, false where it is absent, that isn't true beside another.
-#[tactic(auto, unfolding(crate::specs::Tables::key_fault))]
+#[tactic(auto, unfolding(crate::specs::FaultOrder::key_fault))]
 pub(crate) fn permit_or_false(
     table: &Table,
     key: &str,
@@ -173,7 +173,7 @@ pub(crate) fn permit_or_false(
 }
 
 /// A name of so many bytes, which is needed.
-#[tactic(auto, unfolding(crate::specs::Tables::key_fault))]
+#[tactic(auto, unfolding(crate::specs::FaultOrder::key_fault))]
 pub(crate) fn needed_name(
     alloc: Global,
     table: &Table,
@@ -197,7 +197,7 @@ pub(crate) fn needed_name(
 }
 
 /// An integer that is needed, and isn't among those that are taken.
-#[tactic(auto, unfolding(crate::specs::Tables::key_fault))]
+#[tactic(auto, unfolding(crate::specs::FaultOrder::key_fault))]
 pub(crate) fn needed_fresh(
     table: &Table,
     key: &str,

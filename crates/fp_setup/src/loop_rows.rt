@@ -9,7 +9,7 @@ ghost use Rattle.fp_setup.specs.Loops.{AreLoops, IsLoop};
 ghost use Rattle.fp_setup.specs.Faults.{loop_row};
 ghost use Rattle.fp_setup.specs.Values.{elements, elements_at, members};
 ghost use Rattle.fp_setup.specs.Checks.{list_check};
-ghost use Rattle.fp_setup.specs.Tables.{key_fault, loop_fault, loop_table_fault, loops_fault, loops_from};
+ghost use Rattle.fp_setup.specs.FaultOrder.{key_fault, loop_fault, loop_table_fault, loops_fault, loops_from};
 ghost use Rattle.fp_setup.specs.SetupOfTables.{loop_of};
 ghost use Rattle.fp_setup.specs.Reading.{IsRead, IsReadInMemory};
 
@@ -31,7 +31,7 @@ const MOST_TURNS: u32 = 1_048_576;
 const KEYS: [&str; 3] = ["head", "last", "bound"];
 
 /// The loop of a table, for scratchpads of a size in bytes.
-#[tactic(auto, unfolding(crate::specs::Tables::loop_table_fault, crate::specs::SetupOfTables::loop_of))]
+#[tactic(auto, unfolding(crate::specs::FaultOrder::loop_table_fault, crate::specs::SetupOfTables::loop_of))]
 fn loop_table(table: &Table, size: u32, row: KeyPath) -> Result<LoopSetup, Fault>
     requires low { 4 ≤ size }
     ensures read { IsRead result
@@ -80,7 +80,7 @@ fn loops_of(alloc: Global, items: &[Value], size: u32) -> Result<Loops, SetupRef
 }
 
 /// The loops that a value lists.
-#[tactic(auto, unfolding(crate::specs::Checks::list_check, crate::specs::Tables::loops_fault))]
+#[tactic(auto, unfolding(crate::specs::Checks::list_check, crate::specs::FaultOrder::loops_fault))]
 fn loops(alloc: Global, value: &Value, size: u32, path: KeyPath) -> Result<Loops, SetupRefused>
     requires low { 4 ≤ size }
     ensures read { IsReadInMemory result
@@ -105,7 +105,7 @@ fn loops(alloc: Global, value: &Value, size: u32, path: KeyPath) -> Result<Loops
 }
 
 /// The loops under a key of a table, none where it is absent.
-#[tactic(auto, unfolding(crate::specs::Tables::key_fault))]
+#[tactic(auto, unfolding(crate::specs::FaultOrder::key_fault))]
 pub(crate) fn loops_or_none(
     alloc: Global,
     table: &Table,

@@ -6,7 +6,7 @@ ghost use Rattle.toml.specs.View.{table_view};
 ghost use Rattle.fp_setup.specs.Settings.{size_of};
 ghost use Rattle.fp_setup.specs.Faults.{key_of, top};
 ghost use Rattle.fp_setup.specs.Checks.{integer_check};
-ghost use Rattle.fp_setup.specs.Tables.{integers, key_fault, top_fault};
+ghost use Rattle.fp_setup.specs.FaultOrder.{integers, key_fault, top_fault};
 ghost use Rattle.fp_setup.specs.AcceptedSetups.{AcceptedKeepRules};
 ghost use Rattle.fp_setup.specs.SetupOfTables.{settings, version_at};
 ghost use Rattle.fp_setup.specs.KeyPaths.{HasKeyPath};

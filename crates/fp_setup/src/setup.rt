@@ -66,7 +66,7 @@ impl Setup {
     ghost use Rattle.fp_setup.specs.Settings.{size_of};
     ghost use Rattle.std.specs.List.{list_all};
     ghost use Rattle.slot_table.specs.Table.{is_table};
-    ghost use Rattle.region_guard.specs.Register.{is_regions};
+    ghost use Rattle.region_guard.specs.RegionsWord.{is_regions};
     ghost use Rattle.fp_setup.specs.Plain.{is_entry, plain_setup};
 
     /// The size of each scratchpad in bytes, 16,384 or 65,536, by the version.

@@ -9,7 +9,7 @@ ghost use Rattle.fp_setup.specs.declared.thread_list.ThreadSetup.{ThreadSetup};
 ghost use Rattle.fp_setup.specs.Threads.{AreThreads, IsThread};
 ghost use Rattle.fp_setup.specs.Values.{as_list, elements, elements_at, members};
 ghost use Rattle.fp_setup.specs.Checks.{list_check};
-ghost use Rattle.fp_setup.specs.Tables.{key_fault, thread_fault, thread_table_fault, threads_fault, threads_from};
+ghost use Rattle.fp_setup.specs.FaultOrder.{key_fault, thread_fault, thread_table_fault, threads_fault, threads_from};
 ghost use Rattle.fp_setup.specs.SetupOfTables.{id_at, mode_at, modes_of, thread_of, threads_of, unnamed, unnamed_mode};
 ghost use Rattle.fp_setup.specs.Rows.{row_of, rows_of};
 ghost use Rattle.fp_setup.specs.Reading.{IsReadInMemory};
@@ -189,7 +189,7 @@ fn threads_in(alloc: Global, items: &[Value], size: u32) -> Result<ThreadRows, S
 }
 
 /// What the rows that a value lists say of the threads.
-#[tactic(auto, unfolding(crate::specs::Checks::list_check, crate::specs::Tables::threads_fault))]
+#[tactic(auto, unfolding(crate::specs::Checks::list_check, crate::specs::FaultOrder::threads_fault))]
 fn threads(
     alloc: Global,
     value: &Value,
@@ -232,7 +232,7 @@ fn no_threads(alloc: Global) -> ThreadRows
 }
 
 /// What the rows under a key of a table say of the threads.
-#[tactic(auto, unfolding(crate::specs::Tables::key_fault))]
+#[tactic(auto, unfolding(crate::specs::FaultOrder::key_fault))]
 pub(crate) fn threads_or_none(
     alloc: Global,
     table: &Table,

@@ -1,8 +1,9 @@
 pub mod AsDefined
-pub use Rattle.core_model.specs.Control
+pub use Rattle.core_model.specs.Csr
 pub use Rattle.core_model.specs.Issue
-pub use Rattle.core_model.specs.Parts
+pub use Rattle.core_model.specs.Outcomes
 pub use Rattle.core_model.specs.Thread
+pub use Rattle.core_model.specs.Traps
 pub use Rattle.core_model.specs.declared.own.Own
 pub use Rattle.rv_decode.specs.Range
 pub use Rattle.rv_decode.specs.Table

@@ -3,7 +3,7 @@
 //! are this project's.
 
 ghost use Rattle.std.specs.Prelude.{◌≡◌, ◌<◌, Some, None};
-ghost use Rattle.core_model.specs.Control.{csr_value, changed, may_hold, kept, with_csr, csr_access};
+ghost use Rattle.core_model.specs.Csr.{csr_value, changed, may_hold, kept, with_csr, csr_access};
 ghost use Rattle.core_model.specs.Issue.{csr_op, csr_operand, csr_writes};
 ghost use Rattle.hart_exec.specs.AsDefined.{executed_as_defined, IsShowable, IsAlignedStore};
 
@@ -70,7 +70,7 @@ pub fn value_of(own: &Own, thread: u8, csr: u16, shared: Option<u32>) -> Option<
 }
 
 /// The word that an access writes, from the old one and the operand.
-#[tactic(auto, unfolding(core_model::specs::Control::changed))]
+#[tactic(auto, unfolding(core_model::specs::Csr::changed))]
 pub fn change(op: CsrOp, old: u32, operand: u32) -> u32
     ensures { result ≡ changed op old operand }
 {
@@ -83,7 +83,7 @@ pub fn change(op: CsrOp, old: u32, operand: u32) -> u32
 
 /// Whether a register may hold a word. mhartid takes none; slots, modes and regions take those
 /// whose fields all have a meaning, the others every word.
-#[tactic(auto, unfolding(core_model::specs::Control::may_hold))]
+#[tactic(auto, unfolding(core_model::specs::Csr::may_hold))]
 pub fn may_hold(csr: u16, word: u32) -> bool
     ensures { result ≡ may_hold csr word }
 {
@@ -121,7 +121,7 @@ pub fn put(own: &mut Own, csr: u16, value: u32)
 }
 
 /// A CSR instruction. A refused access is an illegal instruction, cause 2, and changes nothing.
-#[tactic(auto, unfolding(core_model::specs::Control::csr_access))]
+#[tactic(auto, unfolding(core_model::specs::Csr::csr_access))]
 pub fn access_csr(
     own: &mut Own,
     at: PcWord,

@@ -3,7 +3,8 @@
 ghost use Rattle.std.specs.Prelude.{◌≡◌, ◌<◌, ◌%◌, ◌^◌, true, Some};
 ghost use Rattle.core_model.specs.declared.own.Own.{Own};
 ghost use Rattle.core_model.specs.Thread.{reg_effect};
-ghost use Rattle.core_model.specs.Parts.{plus, trapped, load, store, branch, delay, wait};
+ghost use Rattle.core_model.specs.Traps.{trapped};
+ghost use Rattle.core_model.specs.Outcomes.{plus, load, store, branch, delay, wait};
 ghost use Rattle.rv_exec.specs.Line.{IsPrintable, IsWidth};
 ghost use Rattle.hart_exec.specs.AsDefined.{executed_as_defined, IsShowable, IsAlignedStore, IsPlain};
 ghost use Rattle.hart_exec.specs.declared.outcome.Onward.TheVariants.{Elsewhere};
@@ -84,7 +85,7 @@ pub fn go_to(at: PcWord, target: u32, effect: Effect) -> Executed
 }
 
 /// A branch, taken or not.
-#[tactic(auto, unfolding(core_model::specs::Parts::branch))]
+#[tactic(auto, unfolding(core_model::specs::Outcomes::branch))]
 pub fn branch_on(at: PcWord, taken: bool, target: u32) -> Executed
     ensures did { (own : Own) → executed_as_defined own result
         ≡ branch at.pc own at.word taken target }
@@ -102,7 +103,7 @@ pub fn branch_on(at: PcWord, taken: bool, target: u32) -> Executed
 }
 
 /// A load that is allowed.
-#[tactic(auto, unfolding(core_model::specs::Parts::load))]
+#[tactic(auto, unfolding(core_model::specs::Outcomes::load))]
 pub fn load_at(at: PcWord, address: u32) -> Executed
     ensures did { (own : Own) → executed_as_defined own result
         ≡ load at.pc own at.word address true }
@@ -119,7 +120,7 @@ pub fn load_at(at: PcWord, address: u32) -> Executed
 }
 
 /// A store that is allowed.
-#[tactic(auto, unfolding(core_model::specs::Parts::store))]
+#[tactic(auto, unfolding(core_model::specs::Outcomes::store))]
 pub fn store_at(at: PcWord, address: u32, size: u8, value: u32) -> Executed
     requires width { IsWidth size }
     requires aligned { address % size ≡ 0 }
@@ -147,7 +148,7 @@ pub fn store_at(at: PcWord, address: u32, size: u8, value: u32) -> Executed
 }
 
 /// DU: the thread stays at its word until the moment.
-#[tactic(auto, unfolding(core_model::specs::Parts::delay))]
+#[tactic(auto, unfolding(core_model::specs::Outcomes::delay))]
 pub fn delay_until(at: PcWord, now: u64, until: u64) -> Executed
     ensures did { (own : Own) → executed_as_defined own result
         ≡ delay now at.pc own at.word until }
@@ -170,7 +171,7 @@ pub fn delay_until(at: PcWord, now: u64, until: u64) -> Executed
 }
 
 /// WU: the thread sleeps until the moment, or until its armed one where that is earlier.
-#[tactic(auto, unfolding(core_model::specs::Parts::wait))]
+#[tactic(auto, unfolding(core_model::specs::Outcomes::wait))]
 pub fn wait_until(own: &mut Own, at: PcWord, now: u64, until: u64) -> Executed
     ensures did { executed_as_defined own.new result ≡ wait now at.pc own.old at.word until }
     ensures showable { IsShowable result.effect }

@@ -7,7 +7,7 @@ use Rattle.rv_decode.specs.Table.{ins}
 use Rattle.rv_exec.specs.declared.outcome.Effect.{Effect}
 use Rattle.rv_exec.specs.declared.outcome.Effect.TheVariants.{Nothing, Reg, Store, Csr, Trap, Wait}
 use Rattle.core_model.specs.Thread.{Thread, Did, fresh, regs_after, filled}
-use Rattle.core_model.specs.Parts.{plus}
+use Rattle.core_model.specs.Outcomes.{plus}
 use Rattle.core_model.specs.Issue.{issue, effect_of, late_rd, value_in}
 use Rattle.world_model.specs.World.{Start, World, Took, thread_of, issue_of, contents}
 use Rattle.world_model.specs.World.Took.{Idle, Lost, Ran}

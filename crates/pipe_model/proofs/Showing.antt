@@ -6,7 +6,7 @@ use Rattle.slot_scheduler.specs.declared.picking.Pick.{Pick}
 use Rattle.slot_scheduler.specs.declared.picking.Pick.TheVariants as chosen
 use Rattle.core_model.specs.declared.own.Own.{Own}
 use Rattle.core_model.specs.Thread.{Around}
-use Rattle.core_model.specs.Parts.{trapped}
+use Rattle.core_model.specs.Traps.{trapped}
 use Rattle.core_model.specs.Issue.{execute_in, execute_word, run_at, issue}
 use Rattle.world_model.specs.World.{Start, World, Took, thread_of, world, around}
 use Rattle.world_model.specs.World.Took.{Idle, Lost, Ran}

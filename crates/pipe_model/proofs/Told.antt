@@ -11,9 +11,10 @@ use Rattle.rv_exec.specs.Access.{store_size}
 use Rattle.core_model.specs.declared.own.CsrOp.{CsrOp}
 use Rattle.core_model.specs.declared.own.Own.{Own}
 use Rattle.core_model.specs.Thread.{Around, Did, reg_in, reg_effect, filled}
-use Rattle.core_model.specs.Parts.{load, store, branch, go_to, delay, wait, or_armed, trapped, plain, wrote, held, with_high}
-use Rattle.core_model.specs.Control.{csr_access, csr_done, csr_put, csr_written, csr_value, changed, kept, may_hold}
-use Rattle.core_model.specs.Issue.{execute_untrapped, unless_trap, run_at, execute_in, late_rd, source_1, csr_op, csr_operand, csr_writes}
+use Rattle.core_model.specs.Traps.{trapped, unless_trap}
+use Rattle.core_model.specs.Outcomes.{load, store, branch, go_to, delay, wait, or_armed, plain, wrote, held, with_high}
+use Rattle.core_model.specs.Csr.{csr_access, csr_done, csr_put, csr_written, csr_value, changed, kept, may_hold}
+use Rattle.core_model.specs.Issue.{execute_untrapped, run_at, execute_in, late_rd, source_1, csr_op, csr_operand, csr_writes}
 use Rattle.world_model.proofs.Pace.{run-word}
 use Rattle.pipe_model.specs.Contents.{is_expiry, before_late, address_of, unless_trapped}
 

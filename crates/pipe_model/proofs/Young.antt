@@ -7,7 +7,7 @@ use Rattle.rv_decode.specs.Table.{ins}
 use Rattle.slot_scheduler.specs.declared.picking.Pick.{Pick}
 use Rattle.slot_scheduler.specs.declared.picking.Pick.TheVariants as chosen
 use Rattle.timer_unit.specs.Time.{time, is_due, no_timer}
-use Rattle.core_model.specs.Parts.{plus}
+use Rattle.core_model.specs.Outcomes.{plus}
 use Rattle.core_model.specs.Issue.{source_1, source_2}
 use Rattle.core_model.specs.Memory.{code_at}
 use Rattle.world_model.specs.World.{Start, World, Took, thread_of}

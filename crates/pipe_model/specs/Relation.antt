@@ -10,7 +10,7 @@ use Rattle.slot_scheduler.specs.declared.picking.Pick.TheVariants as chosen
 use Rattle.timer_unit.specs.Time.{time, is_due}
 use Rattle.fp_ports.specs.Rows.{Row, row_at, word_seen}
 use Rattle.core_model.specs.Thread.{Thread, Did, fresh, reg_in}
-use Rattle.core_model.specs.Parts.{plus}
+use Rattle.core_model.specs.Outcomes.{plus}
 use Rattle.core_model.specs.Issue.{execute_word, source_1, source_2}
 use Rattle.core_model.specs.Memory.{code_at}
 use Rattle.world_model.specs.World.{Start, World, Took, thread_of, world, surroundings, port_word}

@@ -14,7 +14,7 @@ use Rattle.fp_ports.specs.Rows.{Row, row_at, word_seen, written}
 use Rattle.core_model.specs.declared.own.Own.{Own}
 use Rattle.core_model.specs.declared.own.Trapping.{Trapping}
 use Rattle.core_model.specs.Thread.{Did, no_own, filled, regs_after, reg_in, reg_set}
-use Rattle.core_model.specs.Parts.{plus}
+use Rattle.core_model.specs.Outcomes.{plus}
 use Rattle.core_model.specs.Issue.{execute_in, late_rd, late_value, source_1, source_2}
 use Rattle.core_model.specs.Memory.{code_at, data_at}
 use Rattle.world_model.specs.World.{Registers, sched_by, around, words_after, registers_after}

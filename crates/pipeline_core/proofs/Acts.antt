@@ -13,9 +13,10 @@ use Rattle.rv_exec.specs.Result.{result_of, unless, is_taken}
 use Rattle.core_model.specs.declared.own.Own.{Own}
 use Rattle.core_model.specs.declared.own.CsrOp.{CsrOp}
 use Rattle.core_model.specs.Thread.{Around, Did, no_own, reg_effect}
-use Rattle.core_model.specs.Parts.{load, store, branch, delay, wait, trapped, plain, wrote, go_to}
-use Rattle.core_model.specs.Control.{csr_value, changed, may_hold, kept, with_csr, csr_put, csr_done, csr_access}
-use Rattle.core_model.specs.Issue.{csr_op, csr_operand, csr_writes, execute_untrapped, unless_trap, run_at, execute_in}
+use Rattle.core_model.specs.Traps.{trapped, unless_trap}
+use Rattle.core_model.specs.Outcomes.{load, store, branch, delay, wait, plain, wrote, go_to}
+use Rattle.core_model.specs.Csr.{csr_value, changed, may_hold, kept, with_csr, csr_put, csr_done, csr_access}
+use Rattle.core_model.specs.Issue.{csr_op, csr_operand, csr_writes, execute_untrapped, run_at, execute_in}
 use Rattle.hart_exec.specs.declared.outcome.Executed.{Executed}
 use Rattle.hart_exec.specs.AsDefined.{executed_as_defined}
 use Rattle.trap_unit.specs.Rows.{IsAlignedTrap}

@@ -2,7 +2,7 @@
 use Rattle.std.proofs.Common.{ℕ, ◌<◌, List, length, arith}
 use Rattle.std.specs.Prelude.{slice_index_or, slice_set, All}
 use Rattle.std.proofs.lemmas.List.Elements.{All-set, All-get_or}
-use Rattle.core_model.specs.Parts.{plus}
+use Rattle.core_model.specs.Outcomes.{plus}
 use Rattle.pipeline_core.specs.StageFacts.{IsPc}
 
 pub pcs_set : (next : List ℕ) (k pc : ℕ) → IsPc pc → All IsPc next → All IsPc (slice_set next k pc)

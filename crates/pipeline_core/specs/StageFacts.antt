@@ -11,7 +11,7 @@ use Rattle.rv_exec.specs.Line.{IsWidth, IsPrintable}
 use Rattle.rv_exec.specs.declared.outcome.Effect.{Effect}
 use Rattle.rv_exec.specs.declared.outcome.Event.{Event}
 use Rattle.rv_exec.specs.declared.outcome.Effect.TheVariants as effect
-use Rattle.core_model.specs.Control.{may_hold}
+use Rattle.core_model.specs.Csr.{may_hold}
 use Rattle.hart_exec.specs.AsDefined.{IsShowable, IsAlignedStore}
 use Rattle.pipe_model.specs.declared.stage_registers.Held.{Held}
 use Rattle.pipe_model.specs.declared.stage_registers.Held.TheVariants.{Bubble, Flushed, Issue}

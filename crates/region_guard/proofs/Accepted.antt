@@ -4,7 +4,7 @@ use Rattle.std.specs.Option.{is_none}
 use Rattle.nibble_word.specs.Nibbles.{nibbles}
 use Rattle.nibble_word.proofs.First.{is_none-position}
 use Rattle.region_guard.specs.Regions.{is_owner}
-use Rattle.region_guard.specs.Register.{is_regions, bad_region}
+use Rattle.region_guard.specs.RegionsWord.{is_regions, bad_region}
 
 pub accepted_at : (word : ℕ) (bad : Option ℕ) → bad ≡ bad_region word → is_none bad ≡ is_regions word
 unfolding is_regions

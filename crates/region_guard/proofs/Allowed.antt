@@ -7,7 +7,7 @@ use Rattle.nibble_word.specs.Masks.{mask_of}
 use Rattle.nibble_word.specs.Nibbles.{nibbles, nibble_at}
 use Rattle.nibble_word.proofs.Masks.{bit_told, mask_bit}
 use Rattle.region_guard.specs.Regions.{RegionKind, is_readable, is_writable, region_kind}
-use Rattle.region_guard.specs.Register.{by_thread, masks_by, regions_that}
+use Rattle.region_guard.specs.RegionsWord.{by_thread, masks_by, regions_that}
 
 readable_told : (thread nibble : ℕ) → (nibble == thread || nibble == 12) ≡ is_readable (region_kind thread nibble)
 unfolding region_kind

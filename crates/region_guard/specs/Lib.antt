@@ -1,2 +1,2 @@
 pub mod Regions
-pub mod Register
+pub mod RegionsWord

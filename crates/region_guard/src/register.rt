@@ -4,7 +4,7 @@ ghost use Rattle.std.specs.Prelude.{◌≡◌, ◌<◌, ◌==◌, ◌||◌, IfSo
 ghost use Rattle.nibble_word.specs.Masks.{bit_of, mask_of};
 ghost use Rattle.nibble_word.specs.Nibbles.{nibble_at};
 ghost use Rattle.region_guard.specs.Regions.{is_owner, is_readable, is_writable, region_kind};
-ghost use Rattle.region_guard.specs.Register.{is_regions, masks_by, regions_of};
+ghost use Rattle.region_guard.specs.RegionsWord.{is_regions, masks_by, regions_of};
 
 use nibble_word::{nibble, nibbles_of};
 use std::marker::Model;
@@ -34,7 +34,7 @@ pub struct BadRegion {
 impl Model for Regions {
     ghost use Rattle.std.specs.Prelude.{◌≡◌, ℕ, true};
     ghost use Rattle.region_guard.specs.Regions.{is_readable, is_writable};
-    ghost use Rattle.region_guard.specs.Register.{by_thread, is_regions};
+    ghost use Rattle.region_guard.specs.RegionsWord.{by_thread, is_regions};
 
     ghost Value = { ℕ };
 
@@ -131,7 +131,7 @@ impl Regions {
     /// # Errors
     ///
     /// [`BadRegion`] exactly where a nibble is none of 0 to 8 and 12.
-    #[tactic(auto, unfolding(crate::specs::Register::regions_of))]
+    #[tactic(auto, unfolding(crate::specs::RegionsWord::regions_of))]
     pub fn from_word(word: u32) -> Result<Regions, BadRegion>
         ensures regions { result ≡ regions_of word }
         ensures accepts { is_ok result ≡ is_regions word }

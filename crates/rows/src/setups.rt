@@ -158,7 +158,7 @@ fn push_loops(text: &mut String, loops: &[LoopSetup]) -> Result<(), AllocError> 
     Ok(())
 }
 
-#[tactic(auto, unfolding(slot_table::specs::Table::is_table, region_guard::specs::Register::is_regions, nibble_word::specs::Nibbles::nibbles))]
+#[tactic(auto, unfolding(slot_table::specs::Table::is_table, region_guard::specs::RegionsWord::is_regions, nibble_word::specs::Nibbles::nibbles))]
 fn push_words(text: &mut String, alloc: Global) -> Result<(), AllocError> {
     let setup = Setup::of_words(
         alloc,

@@ -13,9 +13,10 @@ use Rattle.rv_exec.specs.Result.{result_of}
 use Rattle.timer_unit.specs.Time.{is_due}
 use Rattle.core_model.specs.declared.own.Own.{Own}
 use Rattle.core_model.specs.Thread.{Thread, Around, Contents, Did, reg_in, reg_effect, filled}
-use Rattle.core_model.specs.Parts.{trapped, load, store, branch, delay, wait, with_armed}
-use Rattle.core_model.specs.Control.{csr_access}
-use Rattle.core_model.specs.Issue.{execute_untrapped, unless_trap, run_at, execute_in, execute_word, effect_of, value_in, issue, source_1, source_2, late_rd}
+use Rattle.core_model.specs.Traps.{trapped, unless_trap}
+use Rattle.core_model.specs.Outcomes.{load, store, branch, delay, wait, with_armed}
+use Rattle.core_model.specs.Csr.{csr_access}
+use Rattle.core_model.specs.Issue.{execute_untrapped, run_at, execute_in, execute_word, effect_of, value_in, issue, source_1, source_2, late_rd}
 use Rattle.run_laws.specs.LagLaw.{is_trap, HasLagOfTable}
 
 abbrev pub HasLag : Ins → Outcome → Did → Type 0

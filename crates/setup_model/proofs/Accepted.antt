@@ -3,7 +3,7 @@ use Rattle.std.proofs.Common.{◌≡◌, ℕ, Option, Some, None, Result, Ok}
 use Rattle.slot_table.specs.declared.frame.BadSlot.{BadSlot}
 use Rattle.slot_table.specs.Table as slots
 use Rattle.region_guard.specs.declared.register.BadRegion.{BadRegion}
-use Rattle.region_guard.specs.Register as regions
+use Rattle.region_guard.specs.RegionsWord as regions
 
 table_kept : (word : ℕ) (bad : Option ℕ) (kept : ℕ) → slots.unless_bad word bad ≡ Ok kept → kept ≡ word
 table_kept word None kept e = cc

@@ -2,7 +2,7 @@
 use Rattle.std.proofs.Common.{ℕ, arith}
 use Rattle.std.specs.Prelude.{IsTrue}
 use Rattle.std.proofs.lemmas.Bool.Decides.{nat_tests}
-use Rattle.core_model.specs.Control.{may_hold, kept}
+use Rattle.core_model.specs.Csr.{may_hold, kept}
 
 -- a register may hold what it keeps of a word that it may hold
 pub held_as_kept : (csr value : ℕ) → IsTrue (may_hold csr value) → IsTrue (may_hold csr (kept csr value))

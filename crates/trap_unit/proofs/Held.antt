@@ -3,7 +3,7 @@ use Rattle.std.proofs.Common.{◌≡◌, ℕ, Option, Some, None, sym}
 use Rattle.std.specs.Prelude.{Ok}
 use Rattle.region_guard.specs.declared.access.Guard.{Guard}
 use Rattle.region_guard.specs.Regions.{IsSize, IsSize-prop}
-use Rattle.region_guard.specs.Register.{regions_of, bad_region, unless_bad}
+use Rattle.region_guard.specs.RegionsWord.{regions_of, bad_region, unless_bad}
 use Rattle.slot_table.specs.Table.{table_of, bad_slot}
 use Rattle.slot_table.specs.Table as slots
 

@@ -4,7 +4,7 @@ use Rattle.region_guard.specs.declared.access.Guard.{Guard}
 use Rattle.slot_scheduler.specs.declared.picking.Sched.{Sched}
 use Rattle.core_model.specs.declared.own.Trapping.{Trapping}
 use Rattle.core_model.specs.declared.own.CsrOp.{CsrOp}
-use Rattle.core_model.specs.Control.{is_shared, csr_value, changed, may_hold, kept, with_csr}
+use Rattle.core_model.specs.Csr.{is_shared, csr_value, changed, may_hold, kept, with_csr}
 use Rattle.trap_unit.specs.declared.unit.CsrDone.{CsrDone}
 use Rattle.trap_unit.specs.declared.unit.CsrNo.{CsrNo}
 use Rattle.trap_unit.specs.declared.unit.CsrNo.TheVariants.{Unknown, NoPermit, ReadOnly, BadValue}

@@ -3,7 +3,7 @@ use Rattle.std.specs.Prelude.{◌≡◌, ℕ, ◌%◌, ◌==◌, Bool, ◌||◌,
 use Rattle.core_model.specs.declared.own.Trapping.{Trapping}
 use Rattle.core_model.specs.declared.own.Own.{Own}
 use Rattle.core_model.specs.Thread.{no_own}
-use Rattle.core_model.specs.Control.{kept}
+use Rattle.core_model.specs.Csr.{kept}
 
 -- a thread's trap registers at the start
 abbrev pub no_trap : Trapping

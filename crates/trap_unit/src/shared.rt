@@ -1,7 +1,7 @@
 //! The machine's registers 0x7C0 to 0x7C3: slots, modes, dregions and iregions.
 
 ghost use Rattle.std.specs.Prelude.{◌≡◌, Some, IsTrue};
-ghost use Rattle.core_model.specs.Control.{may_hold};
+ghost use Rattle.core_model.specs.Csr.{may_hold};
 ghost use Rattle.trap_unit.specs.Access.{shared_value, sched_after, guard_after};
 
 use region_guard::{Guard, Regions};
@@ -23,7 +23,7 @@ pub fn read_shared(sched: &Sched, guard: &Guard, csr: u16) -> u32
 
 /// Writes one of the machine's registers, 0x7C0 to 0x7C3, which may hold the word. Other numbers
 /// change nothing.
-#[tactic(auto, unfolding(core_model::specs::Control::may_hold), using(crate::proofs::Held::slots_kept))]
+#[tactic(auto, unfolding(core_model::specs::Csr::may_hold), using(crate::proofs::Held::slots_kept))]
 pub fn write_shared(sched: &mut Sched, guard: &mut Guard, csr: u16, word: u32)
     requires { IsTrue (may_hold csr word) }
     ensures sched { sched.new ≡ sched_after sched.old csr (Some word) }

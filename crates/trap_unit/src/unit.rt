@@ -1,7 +1,7 @@
 //! The trap registers of the eight threads.
 
 ghost use Rattle.std.specs.Prelude.{◌≡◌, ◌<◌, Some, IsTrue, length, replicate, slice_set};
-ghost use Rattle.core_model.specs.Control.{csr_value, may_hold, kept};
+ghost use Rattle.core_model.specs.Csr.{csr_value, may_hold, kept};
 ghost use Rattle.trap_unit.specs.Rows.{no_trap, trap_of, is_trap, with_trap, entered, IsAlignedTrap};
 ghost use Rattle.trap_unit.specs.Access.{value_by, answer_by, written_in, traps_after, sched_after, guard_after};
 

@@ -13,9 +13,10 @@ use Rattle.rv_exec.specs.Access.{store_size}
 use Rattle.core_model.specs.declared.own.CsrOp.{CsrOp}
 use Rattle.core_model.specs.declared.own.Own.{Own}
 use Rattle.core_model.specs.Thread.{Around, Did, reg_effect, filled}
-use Rattle.core_model.specs.Parts.{plus, load, store, branch, delay, wait, trapped, wrote, with_high}
-use Rattle.core_model.specs.Control.{csr_access}
-use Rattle.core_model.specs.Issue.{execute_untrapped, unless_trap, run_at, execute_in, late_rd, csr_op, csr_operand, csr_writes}
+use Rattle.core_model.specs.Traps.{trapped, unless_trap}
+use Rattle.core_model.specs.Outcomes.{plus, load, store, branch, delay, wait, wrote, with_high}
+use Rattle.core_model.specs.Csr.{csr_access}
+use Rattle.core_model.specs.Issue.{execute_untrapped, run_at, execute_in, late_rd, csr_op, csr_operand, csr_writes}
 use Rattle.world_model.specs.World.{Registers, registers_after}
 
 abbrev pub is_csr : Option Effect → Bool

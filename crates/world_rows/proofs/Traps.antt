@@ -11,11 +11,11 @@ use Rattle.rv_exec.specs.declared.outcome.Effect.TheVariants.{Nothing, Reg, Trap
 use Rattle.region_guard.specs.Regions.{region_kind, region_of, index_of, may_fetch, may_load, may_store}
 use Rattle.slot_table.specs.Frame.{frame, turn}
 use Rattle.slot_table.specs.Table.{is_table}
-use Rattle.region_guard.specs.Register.{is_regions}
+use Rattle.region_guard.specs.RegionsWord.{is_regions}
 use Rattle.slot_scheduler.specs.Picking.{is_awake, after_last, donated, pick}
 use Rattle.core_model.specs.Thread.{fresh}
-use Rattle.core_model.specs.Parts.{load, store, branch, delay, wait}
-use Rattle.core_model.specs.Control.{changed, may_hold, csr_access}
+use Rattle.core_model.specs.Outcomes.{load, store, branch, delay, wait}
+use Rattle.core_model.specs.Csr.{changed, may_hold, csr_access}
 use Rattle.core_model.specs.Issue.{execute_untrapped, run_at, execute_in, execute_word, effect_of, issue}
 use Rattle.core_model.specs.Memory.{code_at, data_at}
 use Rattle.core_model.specs.View.{around_by}

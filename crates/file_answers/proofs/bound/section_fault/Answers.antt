@@ -1,5 +1,5 @@
 use Rattle.std.proofs.Common.{rules}
-use Rattle.file_answers.specs.Bound.{section_fault}
+use Rattle.file_answers.specs.BoundAnswer.{section_fault}
 use Rattle.file_answers.proofs.bound.section_fault.Goals as goal
 
 pub returns-then-not-names : goal.returns-then-not-names

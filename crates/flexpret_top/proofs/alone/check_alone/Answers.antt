@@ -1,7 +1,7 @@
 use Rattle.std.proofs.Common.{◌<◌, ◌≤◌, ◌*◌, ℕ, nat_eq, List, [], length, ap, subst, arith}
 use Rattle.std.specs.List.{common_prefix_len}
 use Rattle.fp_setup.specs.Settings.{Settings}
-use Rattle.solo_run.specs.Checked.{IsChecked}
+use Rattle.solo_run.specs.FirstDifference.{IsChecked}
 use Rattle.solo_run.specs.Solo.{run_view_as_defined}
 use Rattle.flexpret_top.proofs.AloneCommands.{beside-told, thread-is}
 use Rattle.flexpret_top.proofs.OneThread.{rows-back}

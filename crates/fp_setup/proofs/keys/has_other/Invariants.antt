@@ -1,6 +1,6 @@
 use Rattle.std.proofs.Common.{◌≡◌, map}
 use Rattle.toml.specs.View.{table_view}
-use Rattle.fp_setup.specs.Tables.{has_other_key}
+use Rattle.fp_setup.specs.FaultOrder.{has_other_key}
 use Rattle.fp_setup.proofs.Lists.{any_other}
 use Rattle.fp_setup.proofs.keys.has_other.Given as goal
 

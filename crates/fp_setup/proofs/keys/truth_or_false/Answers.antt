@@ -1,5 +1,5 @@
 use Rattle.std.proofs.Common.{rules}
-use Rattle.fp_setup.specs.Tables.{key_fault}
+use Rattle.fp_setup.specs.FaultOrder.{key_fault}
 use Rattle.fp_setup.proofs.keys.truth_or_false.Goals as goal
 
 pub returns-in-None : goal.returns-in-None

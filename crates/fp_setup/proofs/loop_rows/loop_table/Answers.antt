@@ -1,5 +1,5 @@
 use Rattle.std.proofs.Common.{rules}
-use Rattle.fp_setup.specs.Tables.{loop_table_fault}
+use Rattle.fp_setup.specs.FaultOrder.{loop_table_fault}
 use Rattle.fp_setup.specs.SetupOfTables.{loop_of}
 use Rattle.fp_setup.proofs.LoopTable.{is_loop, last_inside}
 use Rattle.fp_setup.proofs.loop_rows.loop_table.Goals as goal

@@ -1,7 +1,7 @@
 use Rattle.std.proofs.lemmas.Grind.{common_steps}
 use Rattle.std.proofs.Common.{rules, arith}
 use Rattle.fp_setup.specs.Checks.{list_check}
-use Rattle.fp_setup.specs.Tables.{loops_fault}
+use Rattle.fp_setup.specs.FaultOrder.{loops_fault}
 use Rattle.fp_setup.proofs.loop_rows.loops.Goals as goal
 
 pub returns-clause-read : goal.returns-clause-read

@@ -4,7 +4,7 @@ use Rattle.toml.specs.View.{view}
 use Rattle.fp_setup.specs.declared.loop_list.LoopSetup.{LoopSetup}
 use Rattle.fp_setup.specs.Loops.{IsLoop}
 use Rattle.fp_setup.specs.Values.{members}
-use Rattle.fp_setup.specs.Tables.{loops_from}
+use Rattle.fp_setup.specs.FaultOrder.{loops_from}
 use Rattle.fp_setup.specs.SetupOfTables.{loop_of}
 use Rattle.fp_setup.proofs.loop_rows.loops_of.Given as goal
 

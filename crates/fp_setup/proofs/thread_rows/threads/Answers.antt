@@ -1,7 +1,7 @@
 use Rattle.std.proofs.lemmas.Grind.{common_steps}
 use Rattle.std.proofs.Common.{rules, arith}
 use Rattle.fp_setup.specs.Checks.{list_check}
-use Rattle.fp_setup.specs.Tables.{threads_fault}
+use Rattle.fp_setup.specs.FaultOrder.{threads_fault}
 use Rattle.fp_setup.proofs.thread_rows.threads.Goals as goal
 
 pub returns-clause-read : goal.returns-clause-read

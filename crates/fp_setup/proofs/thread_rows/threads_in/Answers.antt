@@ -10,7 +10,7 @@ use Rattle.fp_setup.specs.Threads.{IsThread}
 use Rattle.fp_setup.specs.Values.{members}
 use Rattle.fp_setup.specs.declared.refusal.KeyPath.{KeyPath}
 use Rattle.fp_setup.specs.Faults.{thread_row}
-use Rattle.fp_setup.specs.Tables.{thread_fault}
+use Rattle.fp_setup.specs.FaultOrder.{thread_fault}
 use Rattle.fp_setup.specs.Rows.{row_of}
 use Rattle.fp_setup.specs.SetupOfTables.{id_at, modes_of, threads_of, unnamed}
 use Rattle.fp_setup.proofs.RowPut.{tables, tables-more, unnamed-rules, ids-more, found-more, modes-more, threads-more, few-more}

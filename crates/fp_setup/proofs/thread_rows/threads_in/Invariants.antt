@@ -4,7 +4,7 @@ use Rattle.toml.specs.View.{view}
 use Rattle.fp_setup.specs.declared.thread_list.ThreadSetup.{ThreadSetup}
 use Rattle.fp_setup.specs.Threads.{IsThread}
 use Rattle.fp_setup.specs.Values.{members}
-use Rattle.fp_setup.specs.Tables.{threads_from}
+use Rattle.fp_setup.specs.FaultOrder.{threads_from}
 use Rattle.fp_setup.specs.SetupOfTables.{id_at, modes_of, threads_of}
 use Rattle.fp_setup.proofs.thread_rows.threads_in.Given as goal
 

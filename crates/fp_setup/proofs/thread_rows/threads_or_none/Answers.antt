@@ -1,5 +1,5 @@
 use Rattle.std.proofs.Common.{rules}
-use Rattle.fp_setup.specs.Tables.{key_fault}
+use Rattle.fp_setup.specs.FaultOrder.{key_fault}
 use Rattle.fp_setup.proofs.thread_rows.threads_or_none.Goals as goal
 
 pub returns-in-None-clause-read : goal.returns-in-None-clause-read

@@ -1,7 +1,7 @@
 -- The operand's bits are cleared.
 use Rattle.std.proofs.Common.{arith}
 use Rattle.std.proofs.lemmas.Grind.{common_steps}
-use Rattle.core_model.specs.Control.{changed}
+use Rattle.core_model.specs.Csr.{changed}
 use Rattle.hart_exec.proofs.control.change.Goals as goal
 
 pub returns-in-Clear : goal.returns-in-Clear

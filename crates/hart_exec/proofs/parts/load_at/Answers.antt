@@ -1,6 +1,6 @@
 -- A load.
 use Rattle.std.proofs.Common.{refl}
-use Rattle.core_model.specs.Parts.{load}
+use Rattle.core_model.specs.Outcomes.{load}
 use Rattle.hart_exec.proofs.parts.load_at.Goals as goal
 
 pub returns-clause-did : goal.returns-clause-did

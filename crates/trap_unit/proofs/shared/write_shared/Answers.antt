@@ -1,6 +1,6 @@
 -- A region register takes an accepted word as it is.
 use Rattle.std.proofs.Common.{refl, rules}
-use Rattle.core_model.specs.Control.{may_hold}
+use Rattle.core_model.specs.Csr.{may_hold}
 use Rattle.trap_unit.proofs.Held.{regions_kept, same_guard}
 use Rattle.trap_unit.proofs.shared.write_shared.Goals as goal
 

@@ -1,5 +1,5 @@
 use Rattle.std.proofs.Common.{Some, None, rules, sym, ◌∙◌}
-use Rattle.region_guard.specs.Register.{regions_of}
+use Rattle.region_guard.specs.RegionsWord.{regions_of}
 use Rattle.region_guard.proofs.Allowed.{readable_masks, writable_masks}
 use Rattle.region_guard.proofs.Accepted.{accepted_at}
 use Rattle.region_guard.proofs.register.Regions.from_word.Goals as goal

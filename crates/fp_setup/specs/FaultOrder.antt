@@ -1,4 +1,4 @@
--- The checks of whole tables: the keys in their order, and the rows of threads and loops.
+-- The order of faults, by the checks of whole tables: the keys in their order, and the rows of threads and loops.
 use Rattle.std.specs.Prelude.{ℕ, ◌+◌, ◌-◌, Bool, true, false, not, ◌||◌, List, [], ◌∷◌, ◌++◌, Option, Some, None, if◌then◌else◌, codes}
 use Rattle.std.specs.List.{list_any}
 use Rattle.std.specs.Str.{bytes_eq}

@@ -1,4 +1,4 @@
--- A region register as the type that holds it.
+-- The word of a region register: eight nibbles, one for each region.
 use Rattle.std.specs.Prelude.{ℕ, ◌==◌, Bool, ◌||◌, not, List, [], ◌∷◌, map, position, Option, Some, None, Result, Ok, Err}
 use Rattle.std.specs.List.{list_all}
 use Rattle.nibble_word.specs.Nibbles.{nibbles}

@@ -1,4 +1,4 @@
--- The bound of a section of a program.
+-- The answer to `bound`: why there is none, or the bound of a section of a program.
 use Rattle.std.specs.Prelude.{◌≡◌, ◌⊎◌, ◌<◌, ◌≤◌, ◌^◌, ℕ, ◌==◌, ◌%◌, nat_le, nat_lt, not, ◌&&◌, if◌then◌else◌, Bool, Option, Some, None, Result, Ok, Err, option_map}
 use Rattle.std.specs.List.{list_any}
 use Rattle.nibble_word.specs.Nibbles.{nibbles}

@@ -3,14 +3,15 @@ use Rattle.std.specs.Prelude.{ℕ, ◌-◌, ◌*◌, ◌/◌, ◌^◌, ◌==◌,
 use Rattle.rv_decode.specs.declared.instruction.AluOp.TheVariants.{Or, And}
 use Rattle.rv_exec.specs.Alu.{computed}
 use Rattle.rv_exec.specs.declared.outcome.Effect.TheVariants.{Csr}
-use Rattle.region_guard.specs.Register.{is_regions}
+use Rattle.region_guard.specs.RegionsWord.{is_regions}
 use Rattle.slot_table.specs.Table.{is_table}
 use Rattle.slot_scheduler.specs.ModeWord.{is_modes}
 use Rattle.core_model.specs.declared.own.Own.{Own}
 use Rattle.core_model.specs.declared.own.CsrOp.{CsrOp}
 use Rattle.core_model.specs.declared.own.CsrOp.TheVariants.{Swap, Set, Clear}
 use Rattle.core_model.specs.Thread.{Did}
-use Rattle.core_model.specs.Parts.{plain, wrote, trapped}
+use Rattle.core_model.specs.Traps.{trapped}
+use Rattle.core_model.specs.Outcomes.{plain, wrote}
 
 -- the number is one of the machine's registers: slots, modes, dregions, iregions
 abbrev pub is_shared : ℕ → Bool

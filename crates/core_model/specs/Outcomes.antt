@@ -2,25 +2,14 @@
 -- which the thread's next instruction may issue.
 use Rattle.std.specs.Prelude.{ℕ, ◌+◌, ◌%◌, ◌^◌, nat_le, min, Bool, if◌then◌else◌, Option, Some, None}
 use Rattle.rv_exec.specs.declared.outcome.Effect.{Effect}
-use Rattle.rv_exec.specs.declared.outcome.Effect.TheVariants.{Nothing, Store, Trap, Wait}
+use Rattle.rv_exec.specs.declared.outcome.Effect.TheVariants.{Nothing, Store, Wait}
 use Rattle.core_model.specs.declared.own.Own.{Own}
 use Rattle.core_model.specs.Thread.{Did, reg_effect}
+use Rattle.core_model.specs.Traps.{trapped}
 
 -- an address some bytes on; addresses wrap
 abbrev pub plus : ℕ → ℕ → ℕ
 plus a b = (a + b) % 2 ^ 32
-
--- a trap saves pc and cause, and goes to mtvec (RISC-V privileged manual, "Machine-Level CSRs")
-abbrev pub trapped : ℕ → Own → ℕ → ℕ → Did
-trapped pc t word cause =
-    record {
-      pc = t.trap.mtvec;
-      own = record t { trap = record t.trap { mepc = pc; mcause = cause } };
-      lag = 3;
-      word = word;
-      address = 0;
-      effect = Some (Trap cause t.trap.mtvec);
-    }
 
 -- the thread goes on to the next word after a lag
 abbrev pub plain : ℕ → Own → ℕ → ℕ → Effect → Did

@@ -1,4 +1,4 @@
--- The bound of a section of a program through the routines that a file lists.
+-- The answer to `calls`: why there is none, or the bound of a section of a program through the routines that a file lists.
 use Rattle.std.specs.Prelude.{◌≡◌, ◌⊎◌, ◌<◌, ◌≤◌, ◌^◌, ℕ, List, [], Option, Some, None, Result, Ok, Err, option_map}
 use Rattle.fp_setup.specs.Settings.{size_of}
 use Rattle.fp_image.specs.Rules.{word}
@@ -18,7 +18,7 @@ use Rattle.file_answers.specs.declared.program.Program.{Program}
 use Rattle.file_answers.specs.Codes.{call_refusal, routines_code}
 use Rattle.file_answers.specs.Answer.{Answer, over_file, refused}
 use Rattle.file_answers.specs.Answer.Answer.{Says}
-use Rattle.file_answers.specs.Bound.{section_fault}
+use Rattle.file_answers.specs.BoundAnswer.{section_fault}
 
 -- a list of routines is never refused for want of memory by its definition
 abbrev pub of_routines : Result (List Routine) RoutinesRefused → Result (List Routine) Answer

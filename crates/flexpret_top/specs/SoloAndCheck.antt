@@ -1,4 +1,4 @@
--- One thread of a program from its view alone, and a recorded trace beside the text of it.
+-- The answers to `solo` and `check`: one thread of a program from its view alone, and a recorded trace beside the text of it.
 use Rattle.std.specs.Prelude.{◌≡◌, ℕ, ◌==◌, not, if◌then◌else◌, List, Option, Some, None, Result, Ok, Err, codes}
 use Rattle.std.specs.Str.{bytes_eq}
 use Rattle.core_model.specs.Solo.{solo}
@@ -7,7 +7,7 @@ use Rattle.fp_ports.specs.Rows.{Row}
 use Rattle.fp_setup.specs.Settings.{Settings}
 use Rattle.setup_model.specs.Start.{shown_to, thread_of}
 use Rattle.slot_scheduler.specs.ModeWord.{mode_of}
-use Rattle.solo_run.specs.Checked.{first_differing_line}
+use Rattle.solo_run.specs.FirstDifference.{first_differing_line}
 use Rattle.solo_run.specs.Setup.{setup_view}
 use Rattle.solo_run.specs.View.{view_as_defined}
 use Rattle.trace_print.specs.Text.{text}
