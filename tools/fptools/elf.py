@@ -33,7 +33,7 @@ class Function:
 
 @dataclass(frozen=True)
 class Line:
-    """A place in a source."""
+    """A line of a source."""
 
     file: Path
     number: int

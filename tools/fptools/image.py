@@ -25,14 +25,14 @@ def read_image(path: Path) -> dict[int, int]:
     words: dict[int, int] = {}
     try:
         (segments,) = struct.unpack_from("<I", data, 4)
-        place = 8
+        offset = 8
         for _ in range(segments):
-            start, length = struct.unpack_from("<II", data, place)
-            place += 8
-            if place + length > len(data):
+            start, length = struct.unpack_from("<II", data, offset)
+            offset += 8
+            if offset + length > len(data):
                 raise ImageError(f"{path} is no image: it was cut")
-            words |= words_of(data[place : place + length], start)
-            place += length
+            words |= words_of(data[offset : offset + length], start)
+            offset += length
     except struct.error as fault:
         raise ImageError(f"{path} is no image: it was cut") from fault
     return words

@@ -12,7 +12,7 @@ import jsonschema
 
 from fptools.image import ImageError, read_image
 from fptools.rounds import counted_rounds, jumps_of
-from fptools.setup import DATA_START, LARGE, Place, Setup, spelled
+from fptools.setup import DATA_START, LARGE, KeyPath, Setup, spelled
 from fptools.words import Flow, Word
 
 SCHEMA = Path(__file__).resolve().parents[1] / "setup.schema.json"
@@ -41,20 +41,20 @@ class Finding:
         return f"{self.line or 1}: {self.level.value}: {self.key}: {self.text}"
 
 
-Said = tuple[Level, Place, str]
+Said = tuple[Level, KeyPath, str]
 Words = Mapping[int, int]
 
 
-def error(place: Place, text: str) -> Said:
-    return Level.ERROR, place, text
+def error(path: KeyPath, text: str) -> Said:
+    return Level.ERROR, path, text
 
 
-def warning(place: Place, text: str) -> Said:
-    return Level.WARNING, place, text
+def warning(path: KeyPath, text: str) -> Said:
+    return Level.WARNING, path, text
 
 
-def note(place: Place, text: str) -> Said:
-    return Level.NOTE, place, text
+def note(path: KeyPath, text: str) -> Said:
+    return Level.NOTE, path, text
 
 
 def lint(setup: Setup) -> list[Finding]:
@@ -65,7 +65,7 @@ def lint(setup: Setup) -> list[Finding]:
         said += [it for rule in RULES for it in rule(setup)]
         if words is not None:
             said += [it for code_rule in CODE_RULES for it in code_rule(setup, words)]
-    findings = [Finding(setup.line(place), level, spelled(place), text) for level, place, text in said]
+    findings = [Finding(setup.line(path), level, spelled(path), text) for level, path, text in said]
     return sorted(findings, key=lambda it: (it.line or 0, it.level.value, it.key))
 
 
@@ -85,12 +85,12 @@ def _schema(setup: Setup) -> Iterator[Said]:
         yield error((*fault.absolute_path, *(missing.groups() if missing else ())), fault.message)
 
 
-def _threads(setup: Setup) -> Iterator[tuple[Place, dict[str, Any]]]:
+def _threads(setup: Setup) -> Iterator[tuple[KeyPath, dict[str, Any]]]:
     for index, thread in enumerate(setup.values.get("thread", [])):
         yield ("thread", index), thread
 
 
-def _loops(setup: Setup) -> Iterator[tuple[Place, dict[str, int]]]:
+def _loops(setup: Setup) -> Iterator[tuple[KeyPath, dict[str, int]]]:
     for index, loop in enumerate(setup.values.get("loop", [])):
         yield ("loop", index), loop
 
@@ -105,27 +105,27 @@ def _refusals(setup: Setup) -> Iterator[Said]:
     if len(setup.values["image"].encode()) > MOST_NAME:
         yield error(("image",), f"has more than {MOST_NAME} bytes")
     named: set[int] = set()
-    for place, thread in _threads(setup):
+    for path, thread in _threads(setup):
         if thread["id"] in named:
-            yield error((*place, "id"), f"an earlier table is of thread {thread['id']} too")
+            yield error((*path, "id"), f"an earlier table is of thread {thread['id']} too")
         named.add(thread["id"])
         if thread.get("confined") and thread.get("permit"):
-            yield error((*place, "permit"), "not beside confined = true")
+            yield error((*path, "permit"), "not beside confined = true")
         if thread["entry"] >= setup.size:
-            yield error((*place, "entry"), past)
-        yield from _unsorted(place, thread)
-    for place, loop in _loops(setup):
-        yield from (error((*place, key), past) for key in ("head", "last") if loop[key] >= setup.size)
+            yield error((*path, "entry"), past)
+        yield from _unsorted(path, thread)
+    for path, loop in _loops(setup):
+        yield from (error((*path, key), past) for key in ("head", "last") if loop[key] >= setup.size)
         if loop["last"] < loop["head"]:
-            yield error((*place, "last"), "is below head")
+            yield error((*path, "last"), "is below head")
 
 
-def _unsorted(place: Place, thread: Mapping[str, Any]) -> Iterator[Said]:
+def _unsorted(path: KeyPath, thread: Mapping[str, Any]) -> Iterator[Said]:
     """Inputs whose cycle isn't above that of the one before."""
     cycles = [cycle for cycle, _ in thread.get("inputs", [])]
     for index, (before, cycle) in enumerate(zip(cycles, cycles[1:]), 1):
         if cycle <= before:
-            yield error((*place, "inputs", index), f"cycle {cycle} isn't above {before}")
+            yield error((*path, "inputs", index), f"cycle {cycle} isn't above {before}")
 
 
 def _image(setup: Setup) -> tuple[dict[int, int] | None, list[Said]]:
@@ -163,51 +163,51 @@ def _turns(setup: Setup) -> Iterator[Said]:
     slots = setup.values["slots"]
     may_change = any(thread.get("permit") for _, thread in _threads(setup))
     sleepers = any(f"T{it['id']}" in slots and not _is_awake(it) for _, it in _threads(setup))
-    for place, thread in _threads(setup):
+    for path, thread in _threads(setup):
         name = f"T{thread['id']}"
         if name in slots:
             continue
         if thread["mode"].startswith("hard"):
             say = note if may_change else warning
-            yield say((*place, "mode"), f"{name} is hard, and no slot is its own: it doesn't run")
+            yield say((*path, "mode"), f"{name} is hard, and no slot is its own: it doesn't run")
         if thread["mode"] == "soft" and "S" not in slots:
             say = note if sleepers else warning
             text = f"{name} is soft, and no slot is S or its own: it runs while a slot's thread sleeps"
-            yield say((*place, "mode"), text)
+            yield say((*path, "mode"), text)
 
 
 def _permits(setup: Setup) -> Iterator[Said]:
     """Who may change the machine, and who needs that."""
     has_permit = any(thread.get("permit") for _, thread in _threads(setup))
     has_confined = any(thread.get("confined") for _, thread in _threads(setup))
-    for place, thread in _threads(setup):
+    for path, thread in _threads(setup):
         if not _is_awake(thread) and not has_permit:
-            yield warning((*place, "mode"), "starts asleep, and no thread has a permit to wake it")
+            yield warning((*path, "mode"), "starts asleep, and no thread has a permit to wake it")
         if thread.get("permit") and has_confined:
             text = "once it writes slots, modes or regions, what is promised of quiet runs ends"
-            yield note((*place, "permit"), text)
+            yield note((*path, "permit"), text)
 
 
 def _regions(setup: Setup) -> Iterator[Said]:
-    """Threads that have no place for their code or data."""
-    for place, thread in _threads(setup):
+    """Threads that have no region for their code or data."""
+    for path, thread in _threads(setup):
         name, owner = f"T{thread['id']}", setup.region("i_regions", thread["entry"])
         if thread.get("confined") and owner not in (name, "readonly"):
             text = f"{name} is confined, and its entry is in a region of {owner}: each fetch traps"
-            yield warning((*place, "entry"), text)
+            yield warning((*path, "entry"), text)
         if not {name, "shared"} & set(setup.values["d_regions"]):
             yield note(("d_regions",), f"{name} may store nowhere")
 
 
 def _ports(setup: Setup) -> Iterator[Said]:
     """Inputs that a port doesn't show, or not from the start."""
-    for place, thread in _threads(setup):
+    for path, thread in _threads(setup):
         inputs = thread.get("inputs", [])
         if inputs and inputs[0][0] > 0:
-            yield note((*place, "inputs"), f"the port shows 0 before cycle {inputs[0][0]}")
+            yield note((*path, "inputs"), f"the port shows 0 before cycle {inputs[0][0]}")
         for index, (cycle, _) in enumerate(inputs):
             if cycle >= thread.get("unplug", cycle + 1):
-                yield warning((*place, "inputs", index), "the port is unplugged by then")
+                yield warning((*path, "inputs", index), "the port is unplugged by then")
 
 
 def _goes_on(word: Word) -> bool:
@@ -232,14 +232,14 @@ def _reachable(words: Words, entry: int) -> list[Word]:
 
 def _entries(setup: Setup, words: Words) -> Iterator[Said]:
     """Threads whose first word is no code, or which trap to address 0."""
-    for place, thread in _threads(setup):
+    for path, thread in _threads(setup):
         entry = thread["entry"]
         if not _is_awake(thread):
             continue
         if not Word(entry, words.get(entry, 0)).is_code:
             what = "a word that is no instruction" if words.get(entry) else "nothing of the image"
             yield warning(
-                (*place, "entry"), f"{what} is at {entry:#x}: the thread traps at once, to address 0"
+                (*path, "entry"), f"{what} is at {entry:#x}: the thread traps at once, to address 0"
             )
             continue
         code = _reachable(words, entry)
@@ -248,34 +248,34 @@ def _entries(setup: Setup, words: Words) -> Iterator[Said]:
         on_purpose = next((word for word in code if word.traps_by_intent), None)
         if on_purpose:
             yield warning(
-                (*place, "entry"), f"the word at {on_purpose.pc:#x} is there to trap, and {NO_MTVEC}"
+                (*path, "entry"), f"the word at {on_purpose.pc:#x} is there to trap, and {NO_MTVEC}"
             )
         else:
-            yield note((*place, "entry"), NO_MTVEC)
+            yield note((*path, "entry"), NO_MTVEC)
 
 
 def _loop_tables(setup: Setup, words: Words) -> Iterator[Said]:
     """Tables of loops that the code doesn't have, or whose bound it contradicts."""
     jumps = jumps_of(words)
-    for place, loop in _loops(setup):
+    for path, loop in _loops(setup):
         head, last, bound = loop["head"], loop["last"], loop["bound"]
         backs = [pc for pc in range(head, last + 4, 4) if pc in jumps.get(head, ())]
         if not backs:
             text = (
                 f"no branch or jump from {head:#x} to {last:#x} goes back to {head:#x}: has the code moved?"
             )
-            yield warning((*place, "head"), text)
+            yield warning((*path, "head"), text)
             continue
         if backs[-1] != last:
-            yield note((*place, "last"), f"the last way back to {head:#x} is at {backs[-1]:#x}")
+            yield note((*path, "last"), f"the last way back to {head:#x} is at {backs[-1]:#x}")
         rounds = counted_rounds(words, jumps, head, backs[-1])
         if rounds is not None and bound != rounds - 1:
             side = "too few" if bound < rounds - 1 else "more than that"
             text = f"the code counts {rounds} rounds, which is bound = {rounds - 1}; {bound} is {side}"
-            yield warning((*place, "bound"), text)
+            yield warning((*path, "bound"), text)
         elif rounds is None and bound == 0:
             text = "0 says that the loop never goes back: a bound is the rounds less one"
-            yield warning((*place, "bound"), text)
+            yield warning((*path, "bound"), text)
 
 
 RULES: tuple[Callable[[Setup], Iterator[Said]], ...] = (_slots, _turns, _permits, _regions, _ports)

@@ -14,13 +14,13 @@ REGIONS = 8
 COMMENT = re.compile(r"#.*")
 TABLE = re.compile(r"\s*\[\[\s*(\w+)\s*\]\]")
 
-Place = tuple[str | int, ...]
+KeyPath = tuple[str | int, ...]
 
 
-def spelled(place: Place) -> str:
-    """A place as the program's refusals spell it: `slots[3]`, `thread[2].entry`, `top`."""
+def spelled(path: KeyPath) -> str:
+    """A path as the program's refusals spell it: `slots[3]`, `thread[2].entry`, `top`."""
     text = ""
-    for part in place:
+    for part in path:
         text += f"[{part}]" if isinstance(part, int) else f".{part}" if text else part
     return text or "top"
 
@@ -31,13 +31,13 @@ class Setup:
 
     path: Path
     values: dict[str, Any]
-    lines: dict[Place, int]
+    lines: dict[KeyPath, int]
 
-    def line(self, place: Place) -> int | None:
+    def line(self, path: KeyPath) -> int | None:
         """The line of a key, or of the nearest that holds it."""
-        while place not in self.lines and place:
-            place = place[:-1]
-        return self.lines.get(place)
+        while path not in self.lines and path:
+            path = path[:-1]
+        return self.lines.get(path)
 
     @property
     def size(self) -> int:
@@ -60,10 +60,10 @@ def read_setup(path: Path) -> Setup:
     return Setup(path, tomllib.loads(text), dict(_lines_of(text)))
 
 
-def _lines_of(text: str) -> Iterator[tuple[Place, int]]:
-    """The places of a text's keys and of its tables, with their lines."""
+def _lines_of(text: str) -> Iterator[tuple[KeyPath, int]]:
+    """The paths of a text's keys and of its tables, with their lines."""
     counts: dict[str, int] = {}
-    table: Place = ()
+    table: KeyPath = ()
     for number, statement in _statements(text):
         header = TABLE.match(statement)
         if header:

@@ -33,15 +33,15 @@ def test_a_row_of_setups(name: str, tmp_path: Path) -> None:
     setup = tmp_path / "setup.toml"
     setup.write_text(text, encoding="utf-8")
     try:
-        places = [spelled(place) for _, place, _ in refusals(read_setup(setup))]
+        paths = [spelled(path) for _, path, _ in refusals(read_setup(setup))]
     except tomllib.TOMLDecodeError:
-        places = ["-"]
+        paths = ["-"]
     if not read.startswith("refused"):
-        assert places == []
+        assert paths == []
         return
-    _, _, fault, place = read.split()
-    is_named = any(it.startswith(place) for it in places)
-    assert is_named or places and (place == "-" or fault in BEYOND_SCHEMA)
+    _, _, fault, path = read.split()
+    is_named = any(it.startswith(path) for it in paths)
+    assert is_named or paths and (path == "-" or fault in BEYOND_SCHEMA)
 
 
 def test_there_are_rows_of_both_kinds() -> None:
