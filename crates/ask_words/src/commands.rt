@@ -261,7 +261,8 @@ fn calls(alloc: Global, texts: &[&str]) -> Result<Ask, WordsNo>
 
 /// What a command asks by its texts: the file name or number, and the options' values in order.
 fn ask_by(alloc: Global, command: Command, texts: &[&str]) -> Result<Ask, WordsNo>
-    ensures asked { IfOk result (λ a. (row_of command).asks (map (λ t. t.now) texts.now) ≡ Some a) }
+    ensures asked { IfOk result
+        (λ a. (row_of command).asks (map (λ t. t.now) texts.now) ≡ Some a) }
     ensures refused { IfErr result
         (IsCauseOf ((row_of command).asks (map (λ t. t.now) texts.now))) }
     ensures limits { IfOk result IsWithinLimits }

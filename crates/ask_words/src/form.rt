@@ -85,7 +85,8 @@ fn dashed_form_of<'a>(options: &[&str], word: &'a str) -> Form<'a>
 #[tactic(auto, unfolding(crate::specs::Forms::form))]
 pub fn form_of<'a>(options: &[&str], waiting: Option<&'a str>, word: &'a str) -> Form<'a>
     ensures { form_value result ≡
-        form (map (λ n. n.now) options.now) (option_map (λ n. n.now) waiting.entry) word.entry.now }
+        form (map (λ n. n.now) options.now) (option_map (λ n. n.now) waiting.entry)
+        word.entry.now }
 {
     match waiting {
         Some(name) if has_plain_form(word) => Form::Gives { name, value: word },

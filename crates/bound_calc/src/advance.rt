@@ -58,7 +58,8 @@ fn leave_one(sum: Option<u128>, hop: Option<Hop>, most: u128) -> u128
     ensures stays { most ≤ result }
     ensures upper { (x : ℕ) → (h : _) → sum ≡ Some x → hop ≡ Some h →
         min (x + h.cost) ceiling ≤ result }
-    ensures met { (result ≡ most) ⊎ ((x : ℕ) × (h : _) × (sum ≡ Some x) × (hop ≡ Some h) ×
+    ensures met { (result ≡ most)
+        ⊎ ((x : ℕ) × (h : _) × (sum ≡ Some x) × (hop ≡ Some h) ×
         (result ≡ min (x + h.cost) ceiling)) }
 {
     let Some(sum) = sum else {
@@ -94,7 +95,8 @@ pub fn leave(here: &Matrix, hops: &HopRow, most: u128) -> u128
 
 fn largest_row(row: &[Option<u128>; 8], most: u128) -> u128
     ensures stays { most ≤ result }
-    ensures upper { (q d : ℕ) → q < 8 → slice_index_or row.now q None ≡ Some d → d ≤ result }
+    ensures upper { (q d : ℕ) → q < 8 → slice_index_or row.now q None ≡ Some d
+        → d ≤ result }
     ensures met { (result ≡ most) ⊎
         ((q : ℕ) × (q < 8) × (slice_index_or row.now q None ≡ Some result)) }
 {

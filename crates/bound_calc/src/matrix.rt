@@ -93,7 +93,8 @@ impl Matrix {
     #[tactic(auto, unfolding(crate::specs::Matrices::over))]
     fn chain_entry(&self, row: &[Option<u128>; 8], q: usize) -> Option<u128>
         requires q { q < 8 }
-        ensures { result ≡ over 8 (λ r. slice_index_or row.now r None) (λ r. cell self.now r q) }
+        ensures { result ≡ over 8 (λ r. slice_index_or row.now r None)
+            (λ r. cell self.now r q) }
     {
         let mut best = None;
         for r in 0..8 {

@@ -50,7 +50,8 @@ fn recurs(
     requires table { length table.now ≡ count * count }
     requires reached { length reached.now ≡ count }
     ensures { IfOk result
-        (λ back. IsTrue back ↔ ((is_met reached.now part ≡ true) × Led count table.now part part)) }
+        (λ back. IsTrue back
+        ↔ ((is_met reached.now part ≡ true) × Led count table.now part part)) }
 {
     if !reached[part] {
         return Ok(false);

@@ -124,7 +124,8 @@ fn routine_at(
 /// first of its faults, in the order of their numbers. `NoMemory` where memory was refused.
 pub fn read_routines(alloc: Global, bytes: &[u8], size: u32) -> Result<Routines, RoutinesRefused>
     requires { IsSize size }
-    ensures { (result ≡ Err RoutinesRefused.NoMemory) ⊎ (result ≡ routines_of size bytes.now) }
+    ensures { (result ≡ Err RoutinesRefused.NoMemory)
+        ⊎ (result ≡ routines_of size bytes.now) }
 {
     let mut items = Vec::new(alloc);
     let mut before = None;

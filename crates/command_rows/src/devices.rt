@@ -32,7 +32,8 @@ impl StepPort {
 }
 
 impl Port for StepPort {
-    ghost word_at = { λ port c. option_map_or (λ fed. if nat_le fed.at c then fed.word else c % 2 ^ 32) port.fed (c % 2 ^ 32) };
+    ghost word_at = { λ port c. option_map_or
+        (λ fed. if nat_le fed.at c then fed.word else c % 2 ^ 32) port.fed (c % 2 ^ 32) };
 
     ghost latched = { λ port. port.latch };
 

@@ -102,7 +102,8 @@ fn call_tree(
     routines: &Routines,
 ) -> Result<CallTree, Stop>
     requires { IsSection section }
-    ensures tree { IfOk result (λ tree. tree ≡ section_listing program.now section routines.now) }
+    ensures tree { IfOk result
+        (λ tree. tree ≡ section_listing program.now section routines.now) }
     ensures allowed { OnOk result
         (IsCallable (calls (section_listing program.now section routines.now))) }
     ensures stop { IfErr result

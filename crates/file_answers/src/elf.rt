@@ -65,7 +65,8 @@ pub fn imported_bytes<F: Files>(alloc: Global, name: &Name, files: &mut F) -> Re
     ensures counted { F.faults files.old ≤ F.faults files.new }
     ensures ok { IfOk result (λ bytes. IfSome (F.told files.old) (λ told.
         Says 0 bytes.items ≡ elf_answer told name.now)) }
-    ensures stop { IfErr result (IsStop (F.told files.old) (λ told x. x ≡ elf_answer told name.now)
+    ensures stop { IfErr result
+        (IsStop (F.told files.old) (λ told x. x ≡ elf_answer told name.now)
         (F.faults files.old) (F.faults files.new)) }
 {
     let image = fetch_executable(alloc, name, files)?;

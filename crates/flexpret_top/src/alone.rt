@@ -159,7 +159,8 @@ pub fn compare_alone<F: Files>(
     ensures stop { IfErr result (IsStopIn (F.told files.old)
         (on_file (compared (told_alone alone (rows_of latched word_at ports.old.items))) trace.now)
         (F.faults files.old) (F.faults files.new)) }
-    ensures kept { IfErr result (λ stop. is_difference stop ≡ false → ports.new ≡ ports.old) }
+    ensures kept { IfErr result
+        (λ stop. is_difference stop ≡ false → ports.new ≡ ports.old) }
     ensures rows { rows_of latched word_at ports.new.items ≡
         rows_of latched word_at ports.old.items }
     ensures eight { vec_len ports.new ≡ 8 }

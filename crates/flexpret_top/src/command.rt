@@ -58,7 +58,8 @@ fn end<K: Sink>(stop: Stop, out: &mut K) -> Status
     ensures counted { K.faults out.old ≤ K.faults out.new }
     ensures ends { Ends stop (K.faults out.old) (K.faults out.new)
         (K.taken out.old) (K.taken out.new) result }
-    ensures nothing { (result ≡ Status.Read) ⊎ (result ≡ Status.NoMemory) → out.new ≡ out.old }
+    ensures nothing { (result ≡ Status.Read) ⊎ (result ≡ Status.NoMemory)
+        → out.new ≡ out.old }
 {
     match stop {
         Stop::Refused(refusal) => refuse(&refusal, out),
@@ -81,8 +82,8 @@ fn answer<F: Files, K: Sink>(
     ensures told { F.told files.new ≡ F.told files.old }
     ensures counted_files { F.faults files.old ≤ F.faults files.new }
     ensures counted_out { K.faults out.old ≤ K.faults out.new }
-    ensures said { result ≢ Status.Read → result ≢ Status.Write → result ≢ Status.NoMemory →
-        IfSome (F.told files.old) (λ told.
+    ensures said { result ≢ Status.Read → result ≢ Status.Write
+        → result ≢ Status.NoMemory → IfSome (F.told files.old) (λ told.
         Said (IsAnswerIn ask.now (rows_of latched word_at ports.old.items) told)
         (number_of result) (K.taken out.old) (K.taken out.new)) }
     ensures read { result ≡ Status.Read → Rose (F.faults files.old) (F.faults files.new) ⊎
@@ -98,11 +99,12 @@ fn answer<F: Files, K: Sink>(
         Answered (IsAnswerIn ask.now (rows_of latched word_at ports.old.items) told)
         (number_of result)) }
     ensures asked { result ≢ Status.Usage }
-    ensures nothing { (result ≡ Status.Read) ⊎ (result ≡ Status.NoMemory) → out.new ≡ out.old }
+    ensures nothing { (result ≡ Status.Read) ⊎ (result ≡ Status.NoMemory)
+        → out.new ≡ out.old }
     ensures ports { result ≡ Status.Ok → IfSome (F.told files.old) (λ told. Leaves ask.now told
         (rows_of latched word_at ports.old.items) (rows_of latched word_at ports.new.items)) }
-    ensures kept { result ≢ Status.Ok → result ≢ Status.Differs → result ≢ Status.Write →
-        result ≢ Status.NoMemory → ports.new ≡ ports.old }
+    ensures kept { result ≢ Status.Ok → result ≢ Status.Differs
+        → result ≢ Status.Write → result ≢ Status.NoMemory → ports.new ≡ ports.old }
     ensures reads { OnlyReads ask.now →
         rows_of latched word_at ports.new.items ≡ rows_of latched word_at ports.old.items }
     ensures differs { result ≡ Status.Differs →
@@ -165,7 +167,8 @@ pub fn flexpret<F: Files, K: Sink>(
     ensures usage { result ≡ 2 → ask (map string_bytes words.now) ≡ None }
     ensures asks { ask (map string_bytes words.now) ≡ None → (result ≡ 2) ⊎ (result ≡ 9) }
     ensures untouched { ask (map string_bytes words.now) ≡ None → files.new ≡ files.old }
-    ensures said { result ≢ 7 → result ≢ 8 → result ≢ 9 → IfSome (F.told files.old) (λ told.
+    ensures said { result ≢ 7 → result ≢ 8 → result ≢ 9
+        → IfSome (F.told files.old) (λ told.
         Said (IsAnswer (map string_bytes words.now) told (rows_of latched word_at ports.old.items))
         result (K.taken out.old) (K.taken out.new)) }
     ensures read { result ≡ 7 → Rose (F.faults files.old) (F.faults files.new) ⊎
@@ -182,7 +185,8 @@ pub fn flexpret<F: Files, K: Sink>(
         Answered (IsAnswer (map string_bytes words.now) told
         (rows_of latched word_at ports.old.items))
         result) }
-    ensures nothing { (result ≡ 2) ⊎ ((result ≡ 7) ⊎ (result ≡ 9)) → out.new ≡ out.old }
+    ensures nothing { (result ≡ 2) ⊎ ((result ≡ 7) ⊎ (result ≡ 9))
+        → out.new ≡ out.old }
     ensures counted_files { F.faults files.old ≤ F.faults files.new }
     ensures counted_out { K.faults out.old ≤ K.faults out.new }
     ensures told { F.told files.new ≡ F.told files.old }

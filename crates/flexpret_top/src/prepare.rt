@@ -46,7 +46,8 @@ fn machine_beside(
     ports: &mut Ports,
 ) -> Result<Machine, AllocError>
     requires eight { vec_len ports.old ≡ 8 }
-    ensures stands { IfOk result (λ m. (ports : List (Option Row)) (n : ℕ) → length ports ≡ 8 →
+    ensures stands { IfOk result
+        (λ m. (ports : List (Option Row)) (n : ℕ) → length ports ≡ 8 →
         StandsFor (start_beside program.now.setup program.now.image ports n) 0 n m ports) }
     ensures start { IfOk result (λ m. m.at ≡ 0) }
     ensures fed { OnOk result (rows_of latched word_at ports.new.items ≡
@@ -247,7 +248,8 @@ fn check<F: Files>(
         (IsAnswerIn (Ask.Check setup.now thread cycles trace.now)
         (rows_of latched word_at ports.old.items))
         (F.faults files.old) (F.faults files.new)) }
-    ensures kept { IfErr result (λ stop. is_difference stop ≡ false → ports.new ≡ ports.old) }
+    ensures kept { IfErr result
+        (λ stop. is_difference stop ≡ false → ports.new ≡ ports.old) }
     ensures rows { rows_of latched word_at ports.new.items ≡
         rows_of latched word_at ports.old.items }
     ensures eight { vec_len ports.new ≡ 8 }

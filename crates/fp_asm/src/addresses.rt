@@ -79,7 +79,8 @@ fn take(taken: &mut BTreeSet<u32>, location: u32, n: u32) -> Result<(), AllocErr
 pub(crate) fn take_addresses(taken: &mut BTreeSet<u32>, location: u32, n: u32) -> Result<(), Stop>
     ensures ok { OnOk result (take_addresses_of taken.old.keys (addresses location n)
         ≡ Ok taken.new.keys) }
-    ensures refused { IfErr result (IsStopOf (take_addresses_of taken.old.keys (addresses location n))) }
+    ensures refused { IfErr result
+        (IsStopOf (take_addresses_of taken.old.keys (addresses location n))) }
 {
     if !are_inside(location, n) {
         return Err(Stop::Fault {

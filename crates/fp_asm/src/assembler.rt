@@ -46,7 +46,8 @@ fn image_at(
 fn assemble_lines(alloc: Global, lines: &[&[u8]]) -> Result<Image, AsmRefused>
     requires short { All (λ l. length l.now < 2 ^ 32) lines.now }
     requires few { length lines.now < 2 ^ 31 }
-    ensures image { IfOk result (λ image. assembled_lines (map (λ l. l.now) lines.now) ≡ Ok image) }
+    ensures image { IfOk result
+        (λ image. assembled_lines (map (λ l. l.now) lines.now) ≡ Ok image) }
     ensures refused { IfErr result (IsFaultOf (assembled_lines (map (λ l. l.now) lines.now))) }
 {
     let mut first = First::new(alloc);

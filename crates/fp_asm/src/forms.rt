@@ -208,7 +208,8 @@ pub(crate) fn targets<'a>(
     ensures targets { IfOk result
         (λ found. option_map (λ v. map target_as_defined v.items) found
         ≡ all_targets (map operand_as_defined operands.now)) }
-    ensures few { IfOk result (λ found. IfSome found (λ v. length v.items ≡ length operands.now)) }
+    ensures few { IfOk result
+        (λ found. IfSome found (λ v. length v.items ≡ length operands.now)) }
 {
     let mut list = Vec::with_capacity(alloc, operands.len())?;
     for operand in operands {

@@ -16,7 +16,8 @@ pub(crate) fn write_words(
     location: u32,
     words: &[u32],
 ) -> Result<(), AllocError>
-    ensures { OnOk result (memory.new.entries ≡ with_words memory.old.entries location words.now) }
+    ensures { OnOk result
+        (memory.new.entries ≡ with_words memory.old.entries location words.now) }
 {
     let mut a = location;
     for word in words {

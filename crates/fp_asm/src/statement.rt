@@ -40,7 +40,8 @@ fn some_targets<'a>(
     ensures targets { IfOk result
         (λ found. option_map (λ v. map target_as_defined v.items) found
         ≡ some_targets_of (map operand_as_defined operands.now)) }
-    ensures few { IfOk result (λ found. IfSome found (λ v. length v.items ≡ length operands.now)) }
+    ensures few { IfOk result
+        (λ found. IfSome found (λ v. length v.items ≡ length operands.now)) }
 {
     match operands {
         [] => Ok(None),
@@ -60,7 +61,8 @@ fn statement_in<'a>(
         ≡ statement_in_of (mnemonic_as_defined row.now) (map operand_as_defined operands.now)) }
     ensures registers { IfOk result
         (λ s. IfSome s (λ s. HasRegisters (operands_as_defined s.operands))) }
-    ensures few { IfOk result (λ s. IfSome s (λ s. length s.values.items ≤ length operands.now)) }
+    ensures few { IfOk result
+        (λ s. IfSome s (λ s. length s.values.items ≤ length operands.now)) }
 {
     let makes = row.makes;
     if is_words(makes) {

@@ -99,7 +99,8 @@ fn unplugs(setup: &Setup) -> [Option<u64>; 8]
 /// The words of a scratchpad that begins at an address.
 fn scratchpad(alloc: Global, setup: &Setup, image: &Image, base: u32) -> Result<Spm, AllocError>
     requires { base ≤ 0x20000000 }
-    ensures words { IfOk result (λ s. s ≡ words_from image.now base (size_of setup.now.version)) }
+    ensures words { IfOk result
+        (λ s. s ≡ words_from image.now base (size_of setup.now.version)) }
     ensures len { IfOk result (λ s. length s ≡ size_of setup.now.version / 4) }
 {
     Ok(Spm::from_words(word_list(alloc, image, base, setup.size())?))
@@ -141,7 +142,8 @@ impl Machine {
     ///
     /// Memory was refused.
     pub fn load(alloc: Global, setup: &Setup, image: &Image) -> Result<Machine, AllocError>
-        ensures stands { IfOk result (λ m. (ports : List (Option Row)) (n : ℕ) → length ports ≡ 8
+        ensures stands { IfOk result
+            (λ m. (ports : List (Option Row)) (n : ℕ) → length ports ≡ 8
             → StandsFor (start_beside setup.now image.now ports n) 0 n m ports) }
         ensures start { IfOk result (λ m. m.at ≡ 0) }
     {

@@ -160,8 +160,8 @@ impl Pipe {
     fn follow(&mut self, units: &Units, redirect: Option<Redirect>, pick: Pick, cycle: u64)
         requires cycle { cycle < 4000000000 }
         requires pick { IsPick pick }
-        ensures d { self.new.d ≡ decode_stage units.now.bank self.old.m self.old.e units.now.timers
-            redirect (time units.now.clock (cycle - 1)) self.old.f }
+        ensures d { self.new.d ≡ decode_stage units.now.bank self.old.m self.old.e
+            units.now.timers redirect (time units.now.clock (cycle - 1)) self.old.f }
         ensures f { self.new.f ≡
             fetch_stage units.now.guard.size units.now.imem redirect self.old.next pick }
         ensures next { self.new.next ≡ advanced redirect pick self.old.next }

@@ -97,7 +97,8 @@ fn bit(nibble: u8, thread: u8, other: u8) -> u8
 
 /// The regions that are a thread's or have the other nibble, of which region i is bit i.
 fn mask_for(nibbles: &[u8; 8], thread: u8, other: u8) -> u8
-    ensures { result ≡ mask_of (map (λ nibble. nibble == thread || nibble == other) nibbles.now) }
+    ensures { result
+        ≡ mask_of (map (λ nibble. nibble == thread || nibble == other) nibbles.now) }
 {
     bit(nibbles[0], thread, other)
         + bit(nibbles[1], thread, other) * 0x2

@@ -25,9 +25,11 @@ impl Model for Draft {
 
     ghost Value = { Tree };
 
-    ghost view = { λ t. record { section = t.section; words = t.words.items; loops = t.loops.items } };
+    ghost view = { λ t. record
+        { section = t.section; words = t.words.items; loops = t.loops.items } };
 
-    ghost invariant = { λ t. IsDraft (record { section = t.section; words = t.words.items; loops = t.loops.items }) };
+    ghost invariant = { λ t. IsDraft
+        (record { section = t.section; words = t.words.items; loops = t.loops.items }) };
 }
 
 /// The words of an image in a section, by rising addresses; 0 where no segment has one.

@@ -65,7 +65,8 @@ impl Frontier {
     /// Follows edges until no word is left to do.
     fn search(&mut self, draft: &Draft) -> Result<(), AllocError>
         requires rules { IsDraft draft.now }
-        requires gathered { IsGathered draft.now (λ _. ⊥) self.old.met.items self.old.todo.items }
+        requires gathered { IsGathered draft.now (λ _. ⊥) self.old.met.items
+            self.old.todo.items }
         ensures { OnOk result (IsMet draft.now self.new.met.items) }
     {
         while let Some(index) = self.todo.pop() {

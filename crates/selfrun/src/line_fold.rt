@@ -50,7 +50,8 @@ impl Piece {
 
     /// The text with one more byte.
     fn then(self, byte: u8) -> Piece
-        ensures { (bytes : List ℕ) → IsPiece self bytes → IsPiece result (bytes ++ byte ∷ []) }
+        ensures { (bytes : List ℕ) → IsPiece self bytes
+            → IsPiece result (bytes ++ byte ∷ []) }
     {
         Piece {
             weight: longer(self.weight, 31, 0),

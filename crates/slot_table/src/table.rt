@@ -25,7 +25,8 @@ impl Model for SlotTable {
 
     ghost view = { λ t. t.word };
 
-    ghost invariant = { λ t. (is_table t.word ≡ true) × (t.layout ≡ laid_out (frame t.word)) };
+    ghost invariant = { λ t. (is_table t.word ≡ true)
+        × (t.layout ≡ laid_out (frame t.word)) };
 
     ghost inverse = { λ w. record { word = w; layout = laid_out (frame w) } };
 }
