@@ -1,6 +1,7 @@
 -- The commands, and what words ask.
 use Rattle.std.specs.Prelude.{ℕ, List, [], ◌∷◌, Option, Some, None, option_map, option_and_then, codes, find}
 use Rattle.std.specs.Str.{bytes_eq}
+use Rattle.timer_unit.specs.Time.{most_cycles}
 use Rattle.ask_words.specs.Forms.{Text, texts_in}
 use Rattle.ask_words.specs.Numbers.{thread_in, number_in, address_in}
 use Rattle.ask_words.specs.declared.asked.Ask.{Ask}
@@ -24,7 +25,7 @@ of_three make _ _ _ = None
 
 -- a number of cycles, at most 4,000,000,000
 abbrev pub cycles_in : Text → Option ℕ
-cycles_in = number_in 4000000000
+cycles_in = number_in most_cycles
 
 abbrev pub run_asks : List Text → Option Ask
 run_asks (setup ∷ thread ∷ cycles ∷ []) = of_two (Run setup) (thread_in thread) (cycles_in cycles)

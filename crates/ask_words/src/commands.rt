@@ -15,9 +15,7 @@ use crate::parse::texts_of;
 use fp_setup::Name;
 use region_tree::Section;
 use std::alloc::Global;
-
-/// The most cycles of a run.
-const MOST_CYCLES: u64 = 4_000_000_000;
+use timer_unit::MOST_CYCLES;
 
 /// The most cycles of a run that a trace is compared with.
 const MOST_CHECKED_CYCLES: u64 = 1_000_000;

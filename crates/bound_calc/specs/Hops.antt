@@ -1,5 +1,6 @@
 -- The steps from one turn of a thread to another, as a table.
 use Rattle.std.specs.Prelude.{◌≡◌, ℕ, ◌+◌, ◌<◌, ◌≤◌, ◌⊎◌, min, List, [], length, Option, Some, None, slice_index_or, slice_set}
+use Rattle.rv_decode.specs.Lag.{redirect_lag}
 use Rattle.region_tree.specs.Walk.{Positions, IsOwn, IsNextTurn}
 use Rattle.bound_calc.specs.Best.{Costs, Stays, Then, In, IsBest, ceiling}
 use Rattle.bound_calc.specs.Matrices.{entry, larger_of}
@@ -54,5 +55,5 @@ no_hops = record { hops = [] }
 -- The matrix of standing still at the thread's own positions, and the steps by lag.
 pub record IsTable (s : Positions) (still : Matrix) (rows : List HopRow) : Type 0 where
   pub one : IsBest (entry still) (Stays (IsOwn s))
-  pub hops : (lag : ℕ) → lag ≤ 3 → IsHops s lag (slice_index_or rows lag no_hops).hops
+  pub hops : (lag : ℕ) → lag ≤ redirect_lag → IsHops s lag (slice_index_or rows lag no_hops).hops
   pub frame : length s.frame ≤ 8

@@ -1,5 +1,8 @@
 -- A course as a net, and what is known of one whose tree was accepted.
 use Rattle.std.specs.Prelude.{◌≡◌, ℕ, ◌-◌, ◌<◌, ◌≤◌, ◌⊎◌, length, Contains}
+use Rattle.rv_decode.specs.Lag.{redirect_lag}
+use Rattle.region_guard.specs.MemoryMap.{large_size}
+use Rattle.fp_setup.specs.Loops.{most_turns}
 use Rattle.bound_calc.specs.Best.{Costs}
 use Rattle.bound_calc.specs.Context.{Net, Part}
 use Rattle.fp_setup.specs.declared.loop_list.LoopSetup.{LoopSetup}
@@ -15,14 +18,14 @@ pub record IsAccepted (g : Graph) : Type 0 where
   pub entered : (u : ℕ) (e : Edge) (j : LoopSetup) → Reachable g u → Contains (g.edges u) e → Contains g.loops j → Holds j e.to → (Holds j u) ⊎ (e.to ≡ j.head)
   pub back : (u : ℕ) (e : Edge) → Reachable g u → Contains (g.edges u) e → Lies g e.to → e.to ≤ u → (j : LoopSetup) × Contains g.loops j × (e.to ≡ j.head) × Holds j u
 
--- The frame has at most eight slots, lags are at most 3, bounds at most 2 ^ 20, and no loop lies in
+-- The frame has at most eight slots, lags are those of the table, bounds at most 2 ^ 20, and no loop lies in
 -- more than three others.
 pub record IsModest (x : Course) : Type 0 where
   pub frame : length x.positions.frame ≤ 8
-  pub lags : (u : ℕ) (e : Edge) → Contains (x.graph.edges u) e → e.lag ≤ 3
-  pub bounds : (j : LoopSetup) → Contains x.graph.loops j → j.limit ≤ 1048576
+  pub lags : (u : ℕ) (e : Edge) → Contains (x.graph.edges u) e → e.lag ≤ redirect_lag
+  pub bounds : (j : LoopSetup) → Contains x.graph.loops j → j.limit ≤ most_turns
   pub depths : (j : LoopSetup) → Contains x.graph.loops j → depth x.graph.loops j ≤ 4
-  pub end : x.graph.to ≤ 65536
+  pub end : x.graph.to ≤ large_size
   pub order : x.graph.from < x.graph.to
 
 -- the steps to the next turn after a lag

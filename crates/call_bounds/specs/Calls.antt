@@ -1,5 +1,6 @@
 -- A section of code with the routines that it may call: its parts, and which of them are reached.
 use Rattle.std.specs.Prelude.{◌≡◌, ℕ, ◌+◌, ◌==◌, if◌then◌else◌, Bool, true, false, Option, Some, None, List, [], ◌∷◌, filter, Contains}
+use Rattle.rv_decode.specs.Lag.{redirect_lag}
 use Rattle.fp_setup.specs.declared.loop_list.LoopSetup.{LoopSetup}
 use Rattle.rv_decode.specs.Table.{ins}
 use Rattle.rv_decode.specs.declared.instruction.Ins.{Ins}
@@ -69,7 +70,7 @@ plain x u = plain_unless (callee x u) (edge_list (edges_of (x.word u) u))
 -- says the jump alone.
 abbrev pub onward : Option Routine → ℕ → List Edge → List Edge
 onward None u edges = edges
-onward (Some r) u edges = record { to = u + 4; lag = 3 } ∷ []
+onward (Some r) u edges = record { to = u + 4; lag = redirect_lag } ∷ []
 
 -- a return stops nothing
 abbrev pub stop_unless : Bool → Stop → Stop

@@ -1,5 +1,6 @@
 -- A section with its routines, words and loops, as plain data, and its parts by number.
 use Rattle.std.specs.Prelude.{◌≡◌, ℕ, ◌+◌, ◌/◌, ◌<◌, ◌≤◌, Option, Some, None, List, ◌∷◌, length, map, slice_index, slice_index_or}
+use Rattle.region_guard.specs.MemoryMap.{large_size}
 use Rattle.fp_setup.specs.declared.loop_list.LoopSetup.{LoopSetup}
 use Rattle.region_tree.specs.Graph.{Reachable}
 use Rattle.region_tree.specs.Tree.{Tree, words_of}
@@ -18,7 +19,7 @@ pub record Listing : Type 0 where
 
 -- the largest scratchpad, as a section
 abbrev pub scratchpad : Section
-scratchpad = record { from = 0; to = 65536 }
+scratchpad = record { from = 0; to = large_size }
 
 -- of a memory that is told by its words
 abbrev pub listing_of : (ℕ → ℕ) → Section → List Routine → List LoopSetup → Listing
@@ -79,7 +80,7 @@ pub record ArePartTrees (l : Listing) (trees : List (Option Tree)) : Type 0 wher
 -- a listing that keeps the rules, with as many words as the largest scratchpad has
 pub record IsCode (l : Listing) : Type 0 where
   pub listing : IsListing (calls l)
-  pub words : length l.words ≡ 16384
+  pub words : length l.words ≡ large_size / 4
 
 -- What holds of every tree of calls that was built.
 pub record IsCallTree (l : Listing) (trees : List (Option Tree)) (ranks : List ℕ) : Type 0 where

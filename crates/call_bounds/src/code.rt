@@ -2,18 +2,23 @@
 
 ghost use Rattle.std.specs.Prelude.{◌≡◌, ◌==◌, position};
 ghost use Rattle.rv_decode.specs.Table.{ins};
+ghost use Rattle.region_guard.specs.MemoryMap.{large_size};
 ghost use Rattle.call_bounds.specs.Calls.{linked};
 
 use crate::routines::{Routine, Routines};
 use fp_image::Image;
 use fp_setup::{LoopSetup, Loops};
+use region_guard::LARGE_SIZE;
 use region_tree::{Draft, LoopTree, Section, TreeNo, edges_of, words};
 use rv_decode::{Ins, decode};
 use std::alloc::{AllocError, Global};
 use std::marker::Model;
 
 /// The largest scratchpad, as a section.
-const SCRATCHPAD: Section = Section { from: 0, to: 65536 };
+const SCRATCHPAD: Section = Section {
+    from: 0,
+    to: LARGE_SIZE,
+};
 
 /// The word that goes back to where its routine was called from: a jump to the address in x1.
 const RETURN: u32 = 0x0000_8067;
@@ -168,7 +173,7 @@ impl Code {
 
     /// The word at an address, a multiple of four below 65,536.
     pub fn word(&self, address: u32) -> u32
-        requires { address < 65536 }
+        requires { address < large_size }
         ensures { result ≡ (calls self.now).word address }
     {
         self.words[(address / 4) as usize]
@@ -176,7 +181,7 @@ impl Code {
 
     /// The number of the part that the word at an address calls, if it is a call.
     pub fn called(&self, address: u32) -> Option<usize>
-        requires { address < 65536 }
+        requires { address < large_size }
         ensures { IsCallee self.now address result }
     {
         let head = linked(address, self.word(address))?;
@@ -187,7 +192,7 @@ impl Code {
     /// Whether the word at an address of a part is a return.
     pub fn is_return(&self, part: usize, address: u32) -> bool
         requires part { part < part_count self.now }
-        requires address { address < 65536 }
+        requires address { address < large_size }
         ensures { result ≡ returns (calls self.now) (part_at self.now part) address }
     {
         part != 0 && self.word(address) == RETURN
@@ -197,7 +202,7 @@ impl Code {
     /// leads nowhere in the place of a return.
     fn patched(&self, part: usize, address: u32) -> u32
         requires part { part < part_count self.now }
-        requires address { address < 65536 }
+        requires address { address < large_size }
         ensures { result ≡ patched (calls self.now) (part_at self.now part) address }
     {
         if self.called(address).is_some() {

@@ -15,6 +15,9 @@ const MOST_ROUTINES: usize = 64;
 /// How many bytes a routine's line has, with its line feed.
 const LINE_LEN: usize = 18;
 
+/// The most bytes that a list of routines may have.
+pub const MOST_LIST_BYTES: usize = MOST_ROUTINES * LINE_LEN;
+
 /// Whether a byte is a hexadecimal digit of lower case.
 fn is_digit(byte: u8) -> bool
     ensures { result ≡ is_digit byte }

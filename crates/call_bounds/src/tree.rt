@@ -1,6 +1,7 @@
 //! A section with its routines, of which a bound through calls is told.
 
 ghost use Rattle.std.specs.Prelude.{◌≡◌};
+ghost use Rattle.region_guard.specs.MemoryMap.{large_size};
 ghost use Rattle.region_tree.specs.Search.{LowestOf};
 ghost use Rattle.call_bounds.specs.CallRefusals.{OverlapAt};
 ghost use Rattle.call_bounds.specs.Listing.{calls};
@@ -195,7 +196,7 @@ impl CallTree {
 
     /// The number of the part that the word at an address calls, if it is a call.
     pub fn called(&self, address: u32) -> Option<usize>
-        requires { address < 65536 }
+        requires { address < large_size }
         ensures { IsCallee self.now address result }
     {
         self.code.called(address)
@@ -204,7 +205,7 @@ impl CallTree {
     /// Whether the word at an address of a part is a return.
     pub fn is_return(&self, part: usize, address: u32) -> bool
         requires part { part < part_count self.now }
-        requires address { address < 65536 }
+        requires address { address < large_size }
         ensures { result ≡ returns (calls self.now) (part_at self.now part) address }
     {
         self.code.is_return(part, address)

@@ -1,6 +1,7 @@
 //! The machine with a plant beside it.
 
 ghost use Rattle.std.specs.Prelude.{◌≡◌, ◌+◌, ◌≤◌, IfOk, OnOk, vec_len};
+ghost use Rattle.timer_unit.specs.Time.{most_cycles};
 
 use crate::plant::Plant;
 use file_answers::Program;
@@ -77,7 +78,7 @@ impl ControlLoop {
     /// Memory was refused.
     pub fn period(&mut self) -> Result<(), AllocError>
         requires eight { vec_len self.old.ports ≡ 8 }
-        requires cycles { self.old.machine.at + 800 ≤ 4000000000 }
+        requires cycles { self.old.machine.at + 800 ≤ most_cycles }
         ensures eight { vec_len self.new.ports ≡ 8 }
         ensures cycles { OnOk result (self.new.machine.at ≡ self.old.machine.at + 800) }
     {
@@ -91,7 +92,7 @@ impl ControlLoop {
     /// word that then stands in the latch, from the next cycle on.
     fn plant_step(&mut self) -> Result<(), AllocError>
         requires eight { vec_len self.old.ports ≡ 8 }
-        requires cycles { self.old.machine.at + 100 ≤ 4000000000 }
+        requires cycles { self.old.machine.at + 100 ≤ most_cycles }
         ensures eight { vec_len self.new.ports ≡ 8 }
         ensures cycles { self.new.machine.at ≡ self.old.machine.at + 100 }
     {

@@ -1,8 +1,11 @@
 -- Control and status registers: a thread's own, and those of the machine.
 use Rattle.std.specs.Prelude.{ℕ, ◌-◌, ◌*◌, ◌/◌, ◌^◌, ◌==◌, nat_le, Bool, true, false, ◌&&◌, ◌||◌, if◌then◌else◌, Option, Some, None}
 use Rattle.rv_decode.specs.declared.instruction.AluOp.TheVariants.{Or, And}
+use Rattle.rv_decode.specs.Lag.{redirect_lag}
+use Rattle.rv_decode.specs.CsrNumbers.{csr_mtvec, csr_mscratch, csr_mepc, csr_mcause, csr_mhartid, csr_slots, csr_modes, csr_dregions, csr_iregions}
 use Rattle.rv_exec.specs.Alu.{computed}
 use Rattle.rv_exec.specs.declared.outcome.Effect.TheVariants.{Csr}
+use Rattle.rv_exec.specs.TrapCauses.{cause_illegal}
 use Rattle.region_guard.specs.RegionsWord.{is_regions}
 use Rattle.slot_table.specs.Table.{is_table}
 use Rattle.slot_scheduler.specs.ModeWord.{is_modes}
@@ -15,17 +18,17 @@ use Rattle.core_model.specs.Outcomes.{plain, wrote}
 
 -- the number is one of the machine's registers: slots, modes, dregions, iregions
 abbrev pub is_shared : ℕ → Bool
-is_shared csr = nat_le 0x7C0 csr && nat_le csr 0x7C3
+is_shared csr = nat_le csr_slots csr && nat_le csr csr_iregions
 
 -- a register by its number (RISC-V privileged manual, "CSR Listing"): mtvec, mscratch, mepc, mcause
 -- and mhartid, or one of the machine's; none where the number is none, or the access is refused
 abbrev pub csr_value : ℕ → Own → ℕ → Option ℕ → Option ℕ
 csr_value thread t csr shared =
-    if csr == 0x305 then Some t.trap.mtvec
-    else if csr == 0x340 then Some t.trap.mscratch
-    else if csr == 0x341 then Some t.trap.mepc
-    else if csr == 0x342 then Some t.trap.mcause
-    else if csr == 0xF14 then Some thread
+    if csr == csr_mtvec then Some t.trap.mtvec
+    else if csr == csr_mscratch then Some t.trap.mscratch
+    else if csr == csr_mepc then Some t.trap.mepc
+    else if csr == csr_mcause then Some t.trap.mcause
+    else if csr == csr_mhartid then Some thread
     else if is_shared csr then shared
     else None
 
@@ -38,38 +41,38 @@ changed Clear old operand = computed And old (2 ^ 32 - 1 - operand)
 -- the words that may be written to a register; mhartid takes none
 unfoldable pub may_hold : ℕ → ℕ → Bool
 may_hold csr value =
-    if csr == 0xF14 then false
-    else if csr == 0x7C0 then is_table value
-    else if csr == 0x7C1 then is_modes value
-    else if csr == 0x7C2 || csr == 0x7C3 then is_regions value
+    if csr == csr_mhartid then false
+    else if csr == csr_slots then is_table value
+    else if csr == csr_modes then is_modes value
+    else if csr == csr_dregions || csr == csr_iregions then is_regions value
     else true
 
 -- the value as kept: mtvec and mepc keep their two low bits 0
 abbrev pub kept : ℕ → ℕ → ℕ
-kept csr value = if csr == 0x305 || csr == 0x341 then value / 4 * 4 else value
+kept csr value = if csr == csr_mtvec || csr == csr_mepc then value / 4 * 4 else value
 
 -- a thread with another value in one of its own registers
 abbrev pub with_csr : Own → ℕ → ℕ → Own
 with_csr t csr value =
-    if csr == 0x305 then record t { trap = record t.trap { mtvec = value } }
-    else if csr == 0x340 then record t { trap = record t.trap { mscratch = value } }
-    else if csr == 0x341 then record t { trap = record t.trap { mepc = value } }
-    else if csr == 0x342 then record t { trap = record t.trap { mcause = value } }
+    if csr == csr_mtvec then record t { trap = record t.trap { mtvec = value } }
+    else if csr == csr_mscratch then record t { trap = record t.trap { mscratch = value } }
+    else if csr == csr_mepc then record t { trap = record t.trap { mepc = value } }
+    else if csr == csr_mcause then record t { trap = record t.trap { mcause = value } }
     else t
 
 -- a write that is done: the old value goes to `rd`
 abbrev pub csr_written : ℕ → Own → ℕ → ℕ → ℕ → ℕ → ℕ → Did
-csr_written pc t word rd csr value old = plain pc (with_csr t csr value) word 3 (Csr csr value rd old)
+csr_written pc t word rd csr value old = plain pc (with_csr t csr value) word redirect_lag (Csr csr value rd old)
 
 -- a write, refused where the register may not hold the word
 abbrev pub csr_put : ℕ → Own → ℕ → ℕ → ℕ → ℕ → ℕ → Did
-csr_put pc t word rd csr new old = if may_hold csr new then csr_written pc t word rd csr (kept csr new) old else trapped pc t word 2
+csr_put pc t word rd csr new old = if may_hold csr new then csr_written pc t word rd csr (kept csr new) old else trapped pc t word cause_illegal
 
 -- an access to a register whose value is known, refused where there is none
 abbrev pub csr_done : ℕ → Own → ℕ → ℕ → ℕ → CsrOp → ℕ → Bool → Option ℕ → Did
-csr_done pc t word rd csr op operand writes None = trapped pc t word 2
+csr_done pc t word rd csr op operand writes None = trapped pc t word cause_illegal
 csr_done pc t word rd csr op operand writes (Some old) =
-    if writes then csr_put pc t word rd csr (changed op old operand) old else wrote pc t word 3 rd old
+    if writes then csr_put pc t word rd csr (changed op old operand) old else wrote pc t word redirect_lag rd old
 
 -- an access to a register, refused as an illegal instruction
 unfoldable pub csr_access : ℕ → ℕ → Own → ℕ → ℕ → ℕ → CsrOp → ℕ → Bool → Option ℕ → Did

@@ -5,12 +5,14 @@ use Rattle.rv_decode.specs.declared.instruction.Ins.{Ins}
 use Rattle.rv_decode.specs.declared.instruction.Ins.TheVariants.{Lui, Auipc, Jal, Jalr, Branch, Load, Store, OpImm, Shift, Op, Muldiv, Fence, Mret, Csr, Gt, Gth, Du, Wu, Ee, De}
 use Rattle.rv_decode.specs.declared.instruction.CsrKind.{CsrKind}
 use Rattle.rv_decode.specs.declared.instruction.CsrKind.TheVariants.{Rw, Rs, Rc, Rwi, Rsi, Rci}
+use Rattle.rv_decode.specs.Lag.{plain_lag, late_lag, redirect_lag}
 use Rattle.rv_exec.specs.declared.outcome.Effect.{Effect}
 use Rattle.rv_exec.specs.declared.outcome.Effect.TheVariants.{Nothing}
 use Rattle.rv_exec.specs.declared.outcome.Outcome.{Outcome}
 use Rattle.rv_exec.specs.Result.{result_of}
 use Rattle.rv_exec.specs.Alu.{multiplied}
 use Rattle.rv_exec.specs.Access.{load_size, store_size, loaded}
+use Rattle.rv_exec.specs.TrapCauses.{cause_illegal, cause_expiry, cause_fetch_fault}
 use Rattle.timer_unit.specs.Time.{moment, is_due}
 use Rattle.core_model.specs.declared.own.Own.{Own}
 use Rattle.core_model.specs.declared.own.CsrOp.{CsrOp}
@@ -98,39 +100,39 @@ csr_writes Rci src = not (src == 0)
 -- an instruction whose result has no trap, by that result and the values of its sources. The last
 -- line stands for ECALL, EBREAK and an illegal word, whose result always has one
 unfoldable pub execute_untrapped : Around → ℕ → Own → ℕ → ℕ → ℕ → Outcome → Ins → Did
-execute_untrapped a pc t word x y o (Lui rd imm) = wrote pc t word 1 rd o.value
-execute_untrapped a pc t word x y o (Auipc rd imm) = wrote pc t word 1 rd o.value
+execute_untrapped a pc t word x y o (Lui rd imm) = wrote pc t word plain_lag rd o.value
+execute_untrapped a pc t word x y o (Auipc rd imm) = wrote pc t word plain_lag rd o.value
 execute_untrapped a pc t word x y o (Jal rd off) = go_to t word o.target (reg_effect rd o.value)
 execute_untrapped a pc t word x y o (Jalr rd rs1 imm) = go_to t word o.target (reg_effect rd o.value)
 execute_untrapped a pc t word x y o (Branch op rs1 rs2 off) = branch pc t word o.taken o.target
 execute_untrapped a pc t word x y o (Load op rd rs1 imm) = load pc t word o.address (a.load o.address (load_size op))
 execute_untrapped a pc t word x y o (Store op rs1 rs2 imm) = store pc t word o.address (store_size op) (y % 256 ^ store_size op) (a.store o.address (store_size op))
-execute_untrapped a pc t word x y o (OpImm op rd rs1 imm) = wrote pc t word 1 rd o.value
-execute_untrapped a pc t word x y o (Shift op rd rs1 amount) = wrote pc t word 1 rd o.value
-execute_untrapped a pc t word x y o (Op op rd rs1 rs2) = wrote pc t word 1 rd o.value
-execute_untrapped a pc t word x y o (Muldiv op rd rs1 rs2) = plain pc t word 2 Nothing
-execute_untrapped a pc t word x y o (Fence w) = plain pc t word 1 Nothing
+execute_untrapped a pc t word x y o (OpImm op rd rs1 imm) = wrote pc t word plain_lag rd o.value
+execute_untrapped a pc t word x y o (Shift op rd rs1 amount) = wrote pc t word plain_lag rd o.value
+execute_untrapped a pc t word x y o (Op op rd rs1 rs2) = wrote pc t word plain_lag rd o.value
+execute_untrapped a pc t word x y o (Muldiv op rd rs1 rs2) = plain pc t word late_lag Nothing
+execute_untrapped a pc t word x y o (Fence w) = plain pc t word plain_lag Nothing
 execute_untrapped a pc t word x y o Mret = go_to t word t.trap.mepc Nothing
 execute_untrapped a pc t word x y o (Csr op rd csr src) = csr_access a.thread pc t word rd csr (csr_op op) (csr_operand op src x) (csr_writes op src) (a.shared csr)
-execute_untrapped a pc t word x y o (Gt rd) = wrote pc (with_high t (a.now / 2 ^ 32)) word 1 rd (a.now % 2 ^ 32)
-execute_untrapped a pc t word x y o (Gth rd) = wrote pc t word 1 rd t.timer.high
+execute_untrapped a pc t word x y o (Gt rd) = wrote pc (with_high t (a.now / 2 ^ 32)) word plain_lag rd (a.now % 2 ^ 32)
+execute_untrapped a pc t word x y o (Gth rd) = wrote pc t word plain_lag rd t.timer.high
 execute_untrapped a pc t word x y o (Du rs1 rs2) = delay a.now pc t word (moment x y)
 execute_untrapped a pc t word x y o (Wu rs1 rs2) = wait a.now pc t word (moment x y)
-execute_untrapped a pc t word x y o (Ee rs1 rs2) = plain pc (with_armed t (Some (moment x y))) word 3 Nothing
-execute_untrapped a pc t word x y o De = plain pc (with_armed t None) word 3 Nothing
-execute_untrapped a pc t word x y o _ = trapped pc t word 2
+execute_untrapped a pc t word x y o (Ee rs1 rs2) = plain pc (with_armed t (Some (moment x y))) word redirect_lag Nothing
+execute_untrapped a pc t word x y o De = plain pc (with_armed t None) word redirect_lag Nothing
+execute_untrapped a pc t word x y o _ = trapped pc t word cause_illegal
 
 -- what an instruction does, with the values of its sources
 unfoldable pub run_at : Around → ℕ → Own → ℕ → ℕ → ℕ → Ins → Did
 run_at a pc t word x y i = let o = result_of i pc x y in unless_trap pc t word o.trap (execute_untrapped a pc t word x y o i)
 
--- the instruction executed, but for a late value. An expiry, cause 24, comes before all else and
--- disarms; then a fetch that is refused, cause 1. Neither shows a word
+-- the instruction executed, but for a late value. An expiry comes before all else and disarms; then
+-- a fetch that is refused. Neither shows a word
 unfoldable pub execute_in : Around → ℕ → Own → Bool → ℕ → ℕ → ℕ → Did
 execute_in a pc t expired word x y =
-    if expired then trapped pc (with_armed t None) 0 24
+    if expired then trapped pc (with_armed t None) 0 cause_expiry
     else if a.fetch pc then run_at a pc t word x y (ins word)
-    else trapped pc t 0 1
+    else trapped pc t 0 cause_fetch_fault
 
 -- a word executed at the thread's pc, with the thread's own sources
 unfoldable pub execute_word : Around → ℕ → Thread → Did

@@ -1,6 +1,7 @@
 -- Traps: what one saves, and that one of an instruction's result comes before all else that the
 -- instruction does.
 use Rattle.std.specs.Prelude.{ℕ, Option, Some, None}
+use Rattle.rv_decode.specs.Lag.{redirect_lag}
 use Rattle.rv_exec.specs.declared.outcome.Effect.TheVariants.{Trap}
 use Rattle.core_model.specs.declared.own.Own.{Own}
 use Rattle.core_model.specs.Thread.{Did}
@@ -11,7 +12,7 @@ trapped pc t word cause =
     record {
       pc = t.trap.mtvec;
       own = record t { trap = record t.trap { mepc = pc; mcause = cause } };
-      lag = 3;
+      lag = redirect_lag;
       word = word;
       address = 0;
       effect = Some (Trap cause t.trap.mtvec);

@@ -10,15 +10,12 @@ ghost use Rattle.file_answers.specs.Stops.{IsStop, IsStopIn, IsStopOf, Makes};
 
 use crate::program::fetch;
 use crate::stop::Stop;
-use fp_asm::{AsmNo, AsmRefused, assemble};
+use fp_asm::{AsmNo, AsmRefused, MOST_SOURCE_BYTES, assemble};
 use fp_image::{Image, write_image};
 use fp_io::Files;
 use fp_setup::Name;
 use std::alloc::Global;
 use trace_print::Refusal;
-
-/// The most bytes that a source may have.
-const MOST_OF_A_SOURCE: usize = 1_048_576;
 
 /// The refusal of a source.
 fn source_refusal(line: u32, code: AsmNo) -> Refusal
@@ -51,7 +48,7 @@ fn fetch_source<F: Files>(alloc: Global, name: &Name, files: &mut F) -> Result<I
     ensures stop { IfErr result (IsStopIn (F.told files.old) (on_file source_in name.now)
         (F.faults files.old) (F.faults files.new)) }
 {
-    let bytes = fetch(alloc, name, MOST_OF_A_SOURCE, files)?;
+    let bytes = fetch(alloc, name, MOST_SOURCE_BYTES, files)?;
     source_in(alloc, &bytes)
 }
 

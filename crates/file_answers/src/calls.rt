@@ -17,7 +17,8 @@ use crate::bound::{bound_stop, section_fault};
 use crate::program::{Program, fetch};
 use crate::stop::Stop;
 use call_bounds::{
-    CallNo, CallTree, Routines, RoutinesNo, RoutinesRefused, call_bound, read_routines,
+    CallNo, CallTree, MOST_LIST_BYTES, Routines, RoutinesNo, RoutinesRefused, call_bound,
+    read_routines,
 };
 use fp_io::Files;
 use fp_setup::Name;
@@ -25,9 +26,6 @@ use region_tree::Section;
 use setup_model::slot_table;
 use std::alloc::Global;
 use trace_print::Refusal;
-
-/// The most bytes that a list of routines may have.
-const MOST_OF_A_LIST: usize = 1_152;
 
 /// The refusal of a list of routines.
 fn routines_refusal(line: u32, code: RoutinesNo) -> Refusal
@@ -69,7 +67,7 @@ fn fetch_routines<F: Files>(
     ensures stop { IfErr result (IsStopIn (F.told files.old) (on_file (routines_in size) name.now)
         (F.faults files.old) (F.faults files.new)) }
 {
-    let bytes = fetch(alloc, name, MOST_OF_A_LIST, files)?;
+    let bytes = fetch(alloc, name, MOST_LIST_BYTES, files)?;
     routines_in(alloc, &bytes, size)
 }
 

@@ -9,15 +9,12 @@ ghost use Rattle.file_answers.specs.Stops.{IsStop, IsStopIn, IsStopOf, Makes};
 
 use crate::program::fetch;
 use crate::stop::Stop;
-use fp_elf::{ElfNo, ElfRefused, read_elf};
+use fp_elf::{ElfNo, ElfRefused, MOST_ELF_BYTES, read_elf};
 use fp_image::{Image, write_image};
 use fp_io::Files;
 use fp_setup::Name;
 use std::alloc::Global;
 use trace_print::Refusal;
-
-/// The most bytes that an executable may have.
-const MOST_OF_AN_EXECUTABLE: usize = 4_194_304;
 
 /// The refusal of an executable.
 fn elf_refusal(code: ElfNo, offset: u32) -> Refusal
@@ -50,7 +47,7 @@ fn fetch_executable<F: Files>(alloc: Global, name: &Name, files: &mut F) -> Resu
     ensures stop { IfErr result (IsStopIn (F.told files.old) (on_file elf_in name.now)
         (F.faults files.old) (F.faults files.new)) }
 {
-    let bytes = fetch(alloc, name, MOST_OF_AN_EXECUTABLE, files)?;
+    let bytes = fetch(alloc, name, MOST_ELF_BYTES, files)?;
     elf_in(alloc, &bytes)
 }
 

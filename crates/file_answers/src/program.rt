@@ -11,14 +11,11 @@ ghost use Rattle.file_answers.specs.Program.{setup_in, image_in, program};
 ghost use Rattle.file_answers.specs.Stops.{IsFetchStop, IsStopIn, IsStopOf, Makes};
 
 use crate::stop::Stop;
-use fp_image::{Image, ImageNo, ImageRefused, read_image};
+use fp_image::{Image, ImageNo, ImageRefused, longest, read_image};
 use fp_io::{FetchFault, Files};
-use fp_setup::{KeyPath, Name, Setup, SetupNo, SetupRefused, read_setup};
+use fp_setup::{KeyPath, MOST_SETUP_BYTES, Name, Setup, SetupNo, SetupRefused, read_setup};
 use std::alloc::Global;
 use trace_print::Refusal;
-
-/// The most bytes that a setup may have.
-const MOST_OF_A_SETUP: usize = 262_144;
 
 /// A setup, and the image that it names, which was read for the setup's size.
 #[derive(Drop)]
@@ -112,16 +109,8 @@ fn fetch_setup<F: Files>(alloc: Global, name: &Name, files: &mut F) -> Result<Se
     ensures stop { IfErr result (IsStopIn (F.told files.old) (on_file setup_in name.now)
         (F.faults files.old) (F.faults files.new)) }
 {
-    let bytes = fetch(alloc, name, MOST_OF_A_SETUP, files)?;
+    let bytes = fetch(alloc, name, MOST_SETUP_BYTES, files)?;
     setup_in(alloc, &bytes)
-}
-
-/// The most bytes that an image for scratchpads of a size may have.
-fn most_of_an_image(size: u32) -> usize
-    requires { IsSize size }
-    ensures { result ≡ longest size }
-{
-    if size == 16_384 { 34_816 } else { 139_264 }
 }
 
 /// Fetches and reads an image, for scratchpads of a size.
@@ -138,7 +127,7 @@ fn fetch_image<F: Files>(
     ensures stop { IfErr result (IsStopIn (F.told files.old) (on_file (image_in size) name.now)
         (F.faults files.old) (F.faults files.new)) }
 {
-    let bytes = fetch(alloc, name, most_of_an_image(size), files)?;
+    let bytes = fetch(alloc, name, longest(size), files)?;
     image_in(alloc, &bytes, size)
 }
 

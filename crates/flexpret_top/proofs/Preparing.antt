@@ -1,6 +1,7 @@
 -- What was prepared answers the command.
 use Rattle.std.proofs.Common.{refl, ◌≡◌, ℕ, ◌≤◌, List, length, Option, Some, None, Result, Ok, arith, ap, sym, subst, ◌∙◌}
 use Rattle.std.specs.Prelude.{IfSome}
+use Rattle.timer_unit.specs.Time.{most_cycles}
 use Rattle.flexpret_top.specs.Command.{LeavesMachine}
 use Rattle.fp_io.specs.Content.{FileMap}
 use Rattle.fp_ports.specs.Rows.{Row, row_of, rows_of}
@@ -31,7 +32,7 @@ unfolding start
 starts-as p ports n s is = record { slots = ap (λ (s : Settings). s.slots) is; modes = ap (λ (s : Settings). s.modes) is }
 
 pub ready-is : (told : Option FileMap) (name : List ℕ) (before after : List (Option Row)) (p : Program) (r : Ready) →
-    IfSome told (λ files. program files name ≡ Ok p) → after ≡ fed_all p.setup before → p.setup ≡ r.setup → length before ≡ 8 → length after ≡ 8 → r.cycles ≤ 4000000000 →
+    IfSome told (λ files. program files name ≡ Ok p) → after ≡ fed_all p.setup before → p.setup ≡ r.setup → length before ≡ 8 → length after ≡ 8 → r.cycles ≤ most_cycles →
     ((ports : List (Option Row)) (n : ℕ) → length ports ≡ 8 → StandsFor (start_beside p.setup p.image ports n) 0 n r.machine ports) →
     IfSome told (λ files. IsReady files name before after r)
 ready-is None name before after p r is fed same eight eight' few stands = tt
@@ -89,7 +90,7 @@ phases-prepares (Some files) name n before after r same ready =
     })
 
 pub ready-beside : {B : Type 0} → (latched : B → ℕ) (word_at : B → ℕ → ℕ) (told : Option FileMap) (name : List ℕ) (before after : List (Option B)) (p : Program) (r : Ready) →
-    IfSome told (λ files. program files name ≡ Ok p) → rows_of latched word_at after ≡ fed_all p.setup (rows_of latched word_at before) → p.setup ≡ r.setup → length before ≡ 8 → length after ≡ 8 → r.cycles ≤ 4000000000 →
+    IfSome told (λ files. program files name ≡ Ok p) → rows_of latched word_at after ≡ fed_all p.setup (rows_of latched word_at before) → p.setup ≡ r.setup → length before ≡ 8 → length after ≡ 8 → r.cycles ≤ most_cycles →
     ((ports : List (Option Row)) (n : ℕ) → length ports ≡ 8 → StandsFor (start_beside p.setup p.image ports n) 0 n r.machine ports) →
     IfSome told (λ files. IsReady files name (rows_of latched word_at before) (rows_of latched word_at after) r)
 ready-beside latched word_at told name before after p r is fed same eight eight' few stands =

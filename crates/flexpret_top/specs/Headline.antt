@@ -2,6 +2,7 @@
 use Rattle.std.specs.Prelude.{◌≡◌, ℕ, ◌-◌, ◌≤◌, List, Option, Some, Ok}
 use Rattle.std.specs.Io.KnownBytes.{Appends}
 use Rattle.fp_io.specs.Content.{FileMap}
+use Rattle.region_guard.specs.MemoryMap.{large_size}
 use Rattle.fp_ports.specs.Rows.{Row}
 use Rattle.ask_words.specs.declared.asked.Ask.{Ask}
 use Rattle.ask_words.specs.declared.asked.Ask.TheVariants.{Run, Bound, Solo, Elf, Calls}
@@ -102,7 +103,7 @@ pub record IsImported (file : List ℕ) (before after : Option (List ℕ)) : Typ
   pub defined : elf_of file ≡ Ok image
   pub bytes : List ℕ
   pub wrote : Appends before after bytes
-  pub read_back : image_of 65536 bytes ≡ Ok image
+  pub read_back : image_of large_size bytes ≡ Ok image
 
 abbrev pub WritesImage : Option Ask → FileMap → Option (List ℕ) → Option (List ℕ) → Type 0
 WritesImage (Some (Elf name)) files before after = (file : List ℕ) → files name ≡ Some file → IsImported file before after

@@ -5,6 +5,7 @@ ghost use Rattle.std.specs.Io.KnownBytes.{Appends};
 ghost use Rattle.std.specs.List.{common_prefix_len};
 ghost use Rattle.fp_io.specs.Causes.{Rose};
 ghost use Rattle.fp_io.specs.Content.{AppendsFront};
+ghost use Rattle.timer_unit.specs.Time.{most_cycles};
 ghost use Rattle.fp_ports.specs.Rows.{rows_of};
 ghost use Rattle.solo_run.specs.FirstDifference.{IsChecked};
 ghost use Rattle.flexpret_top.specs.SoloAndCheck.{IsAlone, IsAloneOf, alone_fault, alone_in, alone_program, compared, same_text, told_alone};
@@ -43,7 +44,7 @@ fn alone_fault(setup: &Setup, thread: u8) -> Option<u8>
 /// A thread of a program, from its view alone.
 fn alone_in(alloc: Global, program: Program, thread: u8, cycles: u64) -> Result<Alone, Stop>
     requires thread { thread < 8 }
-    requires limit { cycles ≤ 4000000000 }
+    requires limit { cycles ≤ most_cycles }
     ensures ok { IfOk result (IsAloneOf program thread cycles) }
     ensures accepted { IfOk result (λ a. alone_in thread program ≡ Ok program) }
     ensures stop { IfErr result (IsAnswerStop (λ x. alone_in thread program ≡ Err x)) }
@@ -69,7 +70,7 @@ pub fn load_alone<F: Files>(
     files: &mut F,
 ) -> Result<Alone, Stop>
     requires thread { thread < 8 }
-    requires limit { cycles ≤ 4000000000 }
+    requires limit { cycles ≤ most_cycles }
     ensures told { F.told files.new ≡ F.told files.old }
     ensures counted { F.faults files.old ≤ F.faults files.new }
     ensures ok { IfOk result (λ a. IfSome (F.told files.old) (λ told.

@@ -2,6 +2,7 @@
 
 ghost use Rattle.std.specs.Prelude.{◌≡◌, ◌⊎◌, ◌≤◌, ◌<◌, OnOk, OnErr, vec_len};
 ghost use Rattle.fp_io.specs.Causes.{Rose};
+ghost use Rattle.timer_unit.specs.Time.{most_cycles};
 ghost use Rattle.fp_ports.specs.Rows.{rows_of};
 ghost use Rattle.world_model.specs.World.{Start};
 ghost use Rattle.machine.specs.WorldRelation.{StandsFor};
@@ -27,7 +28,7 @@ use trace_print::bound_line;
 /// Does so many cycles, and puts nothing.
 fn go(machine: &mut Machine, cycles: u64, ports: &mut Ports)
     requires start { machine.old.at ≡ 0 }
-    requires limit { cycles ≤ 4000000000 }
+    requires limit { cycles ≤ most_cycles }
     requires eight { vec_len ports.old ≡ 8 }
     ensures gone { (s : Start) →
         StandsFor s 0 cycles machine.old (rows_of latched word_at ports.old.items) →

@@ -2,6 +2,7 @@
 
 ghost use Rattle.std.specs.Prelude.{◌≡◌, ◌≢◌, ◌⊎◌, ◌≤◌, ◌<◌, ℕ, false, IfOk, IfErr, OnOk, IfSome, List, Option, length, vec_len};
 ghost use Rattle.fp_io.specs.Content.{FileMap};
+ghost use Rattle.timer_unit.specs.Time.{most_cycles};
 ghost use Rattle.fp_ports.specs.Rows.{Row, rows_of};
 ghost use Rattle.ask_words.specs.Limits.{IsWithinLimits};
 ghost use Rattle.ask_words.specs.declared.asked.Ask.{Ask};
@@ -71,7 +72,7 @@ fn ready<F: Files>(
     files: &mut F,
     ports: &mut Ports,
 ) -> Result<Ready, Stop>
-    requires limit { cycles ≤ 4000000000 }
+    requires limit { cycles ≤ most_cycles }
     requires eight { vec_len ports.old ≡ 8 }
     ensures told { F.told files.new ≡ F.told files.old }
     ensures counted { F.faults files.old ≤ F.faults files.new }
@@ -105,7 +106,7 @@ fn trace<F: Files>(
     files: &mut F,
     ports: &mut Ports,
 ) -> Result<Prepared, Stop>
-    requires limit { cycles ≤ 4000000000 }
+    requires limit { cycles ≤ most_cycles }
     requires thread { thread < 8 }
     requires eight { vec_len ports.old ≡ 8 }
     ensures told { F.told files.new ≡ F.told files.old }
@@ -131,7 +132,7 @@ fn dump<F: Files>(
     files: &mut F,
     ports: &mut Ports,
 ) -> Result<Prepared, Stop>
-    requires limit { cycles ≤ 4000000000 }
+    requires limit { cycles ≤ most_cycles }
     requires eight { vec_len ports.old ≡ 8 }
     ensures told { F.told files.new ≡ F.told files.old }
     ensures counted { F.faults files.old ≤ F.faults files.new }
@@ -155,7 +156,7 @@ fn phases<F: Files>(
     files: &mut F,
     ports: &mut Ports,
 ) -> Result<Prepared, Stop>
-    requires limit { cycles ≤ 4000000000 }
+    requires limit { cycles ≤ most_cycles }
     requires eight { vec_len ports.old ≡ 8 }
     ensures told { F.told files.new ≡ F.told files.old }
     ensures counted { F.faults files.old ≤ F.faults files.new }
@@ -207,7 +208,7 @@ fn solo<F: Files>(
     cycles: u64,
     files: &mut F,
 ) -> Result<Prepared, Stop>
-    requires limit { cycles ≤ 4000000000 }
+    requires limit { cycles ≤ most_cycles }
     requires thread { thread < 8 }
     ensures told { F.told files.new ≡ F.told files.old }
     ensures counted { F.faults files.old ≤ F.faults files.new }
@@ -234,7 +235,7 @@ fn check<F: Files>(
     files: &mut F,
     ports: &mut Ports,
 ) -> Result<Prepared, Stop>
-    requires limit { cycles ≤ 4000000000 }
+    requires limit { cycles ≤ most_cycles }
     requires thread { thread < 8 }
     requires eight { vec_len ports.old ≡ 8 }
     ensures told { F.told files.new ≡ F.told files.old }

@@ -1,6 +1,7 @@
 //! A machine that is ready to run.
 
 ghost use Rattle.std.specs.Prelude.{◌≡◌, ◌≤◌};
+ghost use Rattle.timer_unit.specs.Time.{most_cycles};
 ghost use Rattle.solo_run.specs.View.{IsView};
 
 use fp_setup::Setup;
@@ -15,7 +16,7 @@ pub struct Ready {
     pub machine: Machine,
     pub cycles: u64,
     ghost start: { machine.at ≡ 0 },
-    ghost limit: { cycles ≤ 4000000000 },
+    ghost limit: { cycles ≤ most_cycles },
 }
 
 /// A thread's view, the setup that it is of, and the number of cycles that are asked for.
@@ -25,7 +26,7 @@ pub struct Alone {
     pub view: SoloView,
     pub cycles: u64,
     ghost rules: { IsView view },
-    ghost limit: { cycles ≤ 4000000000 },
+    ghost limit: { cycles ≤ most_cycles },
 }
 
 /// What a command will write.

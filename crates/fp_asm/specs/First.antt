@@ -6,6 +6,7 @@ use Rattle.std.specs.Cmp.Lexicographic.{slice_cmp}
 use Rattle.std.specs.BTreeMap.{insert_entry, is_at}
 use Rattle.std.specs.BTreeSet.{insert_key}
 use Rattle.std.specs.Map.{lookup}
+use Rattle.region_guard.specs.MemoryMap.{small_size, data_start}
 use Rattle.fp_asm.specs.Pieces.{Text, Piece, name, colon, pieces_of}
 use Rattle.fp_asm.specs.Statements.{statement_of, size_of, location_after}
 use Rattle.fp_asm.specs.Faults.{next, holds, in_line}
@@ -35,9 +36,9 @@ unfoldable pub labelled : ℕ → Labels → List Piece → Result (Labels × Li
 labelled location labels (name x ∷ colon ∷ ps) = next (with_label location labels x) (λ more. labelled location more ps)
 labelled location labels ps = Ok (labels, ps)
 
--- a scratchpad has the address: 16,384 bytes from 0 and from 0x20000000 on
+-- a scratchpad of the small size has the address
 abbrev pub is_inside : ℕ → Bool
-is_inside a = nat_lt a 16384 || (nat_le 0x20000000 a && nat_lt a 0x20004000)
+is_inside a = nat_lt a small_size || (nat_le data_start a && nat_lt a (data_start + small_size))
 
 -- the addresses of n words from a location on
 unfoldable pub addresses : ℕ → ℕ → List ℕ

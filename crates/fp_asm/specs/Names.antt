@@ -1,6 +1,7 @@
 -- The names of registers and of control and status registers.
 use Rattle.std.specs.Prelude.{ℕ, List, [], ◌∷◌, Option, codes, find, option_map}
 use Rattle.std.specs.Str.{bytes_eq}
+use Rattle.rv_decode.specs.CsrNumbers.{csr_mtvec, csr_mscratch, csr_mepc, csr_mcause, csr_mhartid, csr_slots, csr_modes, csr_dregions, csr_iregions}
 use Rattle.fp_asm.specs.Pieces.{Text}
 
 -- what stands beside a name in a table
@@ -29,8 +30,8 @@ register text = named registers text
 -- the others are this project's own.
 unfoldable pub csrs : List (Text × ℕ)
 csrs =
-    (codes "mtvec", 0x305) ∷ (codes "mscratch", 0x340) ∷ (codes "mepc", 0x341) ∷ (codes "mcause", 0x342) ∷ (codes "mhartid", 0xf14)
-    ∷ (codes "slots", 0x7c0) ∷ (codes "modes", 0x7c1) ∷ (codes "dregions", 0x7c2) ∷ (codes "iregions", 0x7c3)
+    (codes "mtvec", csr_mtvec) ∷ (codes "mscratch", csr_mscratch) ∷ (codes "mepc", csr_mepc) ∷ (codes "mcause", csr_mcause) ∷ (codes "mhartid", csr_mhartid)
+    ∷ (codes "slots", csr_slots) ∷ (codes "modes", csr_modes) ∷ (codes "dregions", csr_dregions) ∷ (codes "iregions", csr_iregions)
     ∷ []
 
 -- the number of a control and status register by its name

@@ -21,6 +21,10 @@ assembled_lines lines =
     next (first_pass 1 start lines) (λ p.
     next (second_pass 1 p.labels nothing_written lines) (λ w. segments_at w.memory p.taken))
 
--- A source of 1,048,576 bytes at most.
+-- the most bytes of a source
+abbrev pub most_source_bytes : ℕ
+most_source_bytes = 1048576
+
+-- The segments of a source, or its first fault.
 unfoldable pub assembled : Text → Result (List Segment) AsmRefused
-assembled source = if nat_lt 1048576 (length source) then Err (refused.Fault 0 no.TooLong) else assembled_lines (lines_of source)
+assembled source = if nat_lt most_source_bytes (length source) then Err (refused.Fault 0 no.TooLong) else assembled_lines (lines_of source)

@@ -1,6 +1,7 @@
 -- The statement of a line, and what it places.
 use Rattle.std.specs.Prelude.{ℕ, ◌==◌, ◌+◌, ◌*◌, ◌^◌, ◌/◌, ◌%◌, ◌-◌, ℤ, pos, neg_ℤ, nat_abs, Bool, true, false, List, [], ◌∷◌, Option, Some, None, Result, Ok, Err, if◌then◌else◌, option_map, length}
 use Rattle.rv_decode.specs.Encoding.{low_bits}
+use Rattle.region_guard.specs.MemoryMap.{small_size}
 use Rattle.fp_asm.specs.Pieces.{Text, Piece, name, operands_of}
 use Rattle.fp_asm.specs.Mnemonics.{Mnemonic, mnemonic}
 use Rattle.fp_asm.specs.Operands.{Target, Operands, nothing_given, all_filled, all_targets}
@@ -40,7 +41,7 @@ aligned_to most n = holds (is_within (pos 0) (pos most) n) no.OutOfRange (holds 
 -- the check by what is made: `.org`, `.space` and LI have one
 abbrev pub checked_as : Makes → ℤ → Result (Unit {0}) AsmNo
 checked_as Org n = aligned_to (2 ^ 32 - 4) n
-checked_as Space n = aligned_to 16384 n
+checked_as Space n = aligned_to small_size n
 checked_as Li n = holds (is_within (neg_ℤ (pos (2 ^ 31))) (pos (2 ^ 32 - 1)) n) no.OutOfRange (Ok tt)
 checked_as _ n = Ok tt
 

@@ -6,19 +6,14 @@ ghost use Rattle.fp_asm.specs.First.{is_inside as is_inside_of, addresses, is_ta
 ghost use Rattle.fp_asm.specs.Faults.{IsStopOf};
 
 use super::refusal::{AsmNo, Stop};
+use region_guard::{DATA_START, SMALL_SIZE};
 use std::alloc::AllocError;
 use std::collections::BTreeSet;
-
-/// The bytes of each scratchpad.
-const SPM_BYTES: u32 = 16_384;
-
-/// The address of the first byte of the data scratchpad.
-const DATA: u32 = 0x2000_0000;
 
 fn is_inside(a: u32) -> bool
     ensures { result ≡ is_inside_of a }
 {
-    a < SPM_BYTES || (DATA <= a && a < DATA + SPM_BYTES)
+    a < SMALL_SIZE || (DATA_START <= a && a < DATA_START + SMALL_SIZE)
 }
 
 // Whether the scratchpads have n words from a location on.

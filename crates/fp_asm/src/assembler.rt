@@ -16,7 +16,7 @@ use std::alloc::Global;
 use std::collections::{BTreeMap, BTreeSet};
 
 /// How many bytes a source may have.
-const MOST_BYTES: usize = 1_048_576;
+pub const MOST_SOURCE_BYTES: usize = 1_048_576;
 
 // The image of the words at the addresses that were taken, of 16 runs at most.
 #[tactic(auto, unfolding(crate::specs::Source::segments_at))]
@@ -69,7 +69,7 @@ pub fn assemble(alloc: Global, source: &[u8]) -> Result<Image, AsmRefused>
     ensures image { IfOk result (λ image. assembled source.now ≡ Ok image) }
     ensures refused { IfErr result (IsFaultOf (assembled source.now)) }
 {
-    if source.len() > MOST_BYTES {
+    if source.len() > MOST_SOURCE_BYTES {
         return Err(AsmRefused::Fault {
             line: 0,
             code: AsmNo::TooLong,

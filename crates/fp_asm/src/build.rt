@@ -1,6 +1,7 @@
 //! The image of what was placed and written.
 
 ghost use Rattle.std.specs.Prelude.{◌≡◌, ◌<◌, ◌+◌, ◌*◌, ◌^◌, IfOk, map, length};
+ghost use Rattle.region_guard.specs.MemoryMap.{large_size};
 ghost use Rattle.fp_image.specs.Rules.{IsImage};
 ghost use Rattle.fp_asm.specs.Runs.{word_at as word_at_of, bytes_from, segment_of};
 
@@ -55,7 +56,7 @@ pub(crate) fn image_of(
     memory: &BTreeMap<u32, u32>,
     runs: &[Run],
 ) -> Result<Image, AllocError>
-    requires { IsImage 65536 (map (segment_of memory.now.entries) runs.now) }
+    requires { IsImage large_size (map (segment_of memory.now.entries) runs.now) }
     ensures { IfOk result (λ image. image ≡ map (segment_of memory.now.entries) runs.now) }
 {
     let mut image = Image::new(alloc);

@@ -27,5 +27,5 @@ mod table;
 mod targets;
 mod words;
 
-pub use assembler::assemble;
+pub use assembler::{MOST_SOURCE_BYTES, assemble};
 pub use refusal::{AsmNo, AsmRefused};

@@ -6,6 +6,8 @@ ghost use Rattle.std.specs.Str.{bytes_eq};
 ghost use Rattle.fp_asm.specs.Names.{registers, register as register_of, csrs, csr as csr_of, named};
 ghost use Rattle.fp_asm.specs.PiecesAsDefined.{name_as_defined};
 
+use rv_decode::csr;
+
 /// A name and its number.
 type Name = (&'static [u8], u32);
 
@@ -78,15 +80,15 @@ static REGISTERS: [Name; 65] = [
 ];
 
 static CSRS: [Name; 9] = [
-    (b"mtvec", 0x305),
-    (b"mscratch", 0x340),
-    (b"mepc", 0x341),
-    (b"mcause", 0x342),
-    (b"mhartid", 0xf14),
-    (b"slots", 0x7c0),
-    (b"modes", 0x7c1),
-    (b"dregions", 0x7c2),
-    (b"iregions", 0x7c3),
+    (b"mtvec", csr::MTVEC as u32),
+    (b"mscratch", csr::MSCRATCH as u32),
+    (b"mepc", csr::MEPC as u32),
+    (b"mcause", csr::MCAUSE as u32),
+    (b"mhartid", csr::MHARTID as u32),
+    (b"slots", csr::SLOTS as u32),
+    (b"modes", csr::MODES as u32),
+    (b"dregions", csr::DREGIONS as u32),
+    (b"iregions", csr::IREGIONS as u32),
 ];
 
 #[tactic(auto, unfolding(crate::specs::Names::registers))]

@@ -12,6 +12,7 @@ use super::operands::{Operands, Target};
 use super::pieces::{Piece, operands};
 use super::refusal::{AsmNo, Stop};
 use super::table::{Makes, Row, mnemonic};
+use region_guard::SMALL_SIZE;
 use std::alloc::{AllocError, Global};
 
 /// What a mnemonic makes, with its operands. The values are those of `.word`.
@@ -107,7 +108,7 @@ fn check(statement: &Statement) -> Result<(), AsmNo>
     let number = statement.operands.given;
     match statement.makes {
         Makes::Org => aligned_to(4_294_967_292, number),
-        Makes::Space => aligned_to(16_384, number),
+        Makes::Space => aligned_to(SMALL_SIZE, number),
         Makes::Li => {
             if number < -2_147_483_648 || number > 4_294_967_295 {
                 Err(AsmNo::OutOfRange)

@@ -5,6 +5,7 @@ use Rattle.std.specs.Prelude.{◌≡◌, ◌⊎◌, ℕ, zero, suc, ◌+◌, ◌
 use Rattle.std.specs.List.{starts_with, flat_map}
 use Rattle.byteorder.specs.Endian.{little_number, little_bytes}
 use Rattle.region_guard.specs.Regions.{IsSize}
+use Rattle.region_guard.specs.MemoryMap.{small_size}
 use Rattle.fp_image.specs.Rules.{IsImage, is_placed}
 use Rattle.fp_image.specs.declared.parts.Segment.{Segment}
 use Rattle.fp_image.specs.declared.refusals.ImageNo.{ImageNo}
@@ -14,7 +15,7 @@ use Rattle.fp_image.specs.declared.refusals.ImageRefused.TheVariants.{Fault, NoM
 
 -- the longest file, by the size of a scratchpad
 abbrev pub longest : ℕ → ℕ
-longest size = if size == 16384 then 34816 else 139264
+longest size = if size == small_size then 34816 else 139264
 
 -- a number of the file
 abbrev pub number_at : ℕ → List ℕ → ℕ

@@ -2,13 +2,14 @@
 -- project's profile (the memory map and the image format).
 use Rattle.std.specs.Prelude.{◌≤◌, ℕ, ◌+◌, ◌-◌, ◌%◌, ◌==◌, nat_lt, nat_le, Bool, ◌&&◌, ◌||◌, if◌then◌else◌, IsTrue, List, [], ◌∷◌, length, drop, Option, Some, None, unwrap_or}
 use Rattle.byteorder.specs.Endian.{little_number}
+use Rattle.region_guard.specs.MemoryMap.{data_start}
 use Rattle.fp_image.specs.declared.parts.Segment.{Segment}
 
 -- Whether so many bytes from the address on may be a segment: whole words, at least one, inside the
--- instruction scratchpad, which starts at 0, or the data scratchpad, which starts at 0x20000000.
+-- instruction scratchpad or the data scratchpad.
 abbrev pub is_placed : ℕ → ℕ → ℕ → Bool
 is_placed size address len = (address % 4 == 0) && (len % 4 == 0) && nat_lt 0 len
-    && (nat_le (address + len) size || (nat_le 0x20000000 address && nat_le (address + len) (0x20000000 + size)))
+    && (nat_le (address + len) size || (nat_le data_start address && nat_le (address + len) (data_start + size)))
 
 -- the first address after a segment
 abbrev pub end_of : Segment → ℕ

@@ -1,6 +1,7 @@
 //! Images.
 
 ghost use Rattle.std.specs.Prelude.{◌≡◌, ◌<◌, ◌%◌, List, [], ◌∷◌, ◌++◌, is_ok, if◌then◌else◌};
+ghost use Rattle.region_guard.specs.MemoryMap.{large_size};
 ghost use Rattle.fp_image.specs.Rules.{IsImage, word, word_in};
 
 use crate::parts::{Bytes, Segment};
@@ -17,6 +18,7 @@ pub struct Image {
 
 impl Model for Image {
     ghost use Rattle.std.specs.Prelude.{List};
+    ghost use Rattle.region_guard.specs.MemoryMap.{large_size};
     ghost use Rattle.fp_image.specs.declared.parts.Segment.{Segment};
     ghost use Rattle.fp_image.specs.Rules.{IsImage};
 
@@ -24,7 +26,7 @@ impl Model for Image {
 
     ghost view = { λ i. i.segments.items };
 
-    ghost invariant = { λ i. IsImage 65536 i.segments.items };
+    ghost invariant = { λ i. IsImage large_size i.segments.items };
 }
 
 impl Image {
@@ -43,7 +45,8 @@ impl Image {
     ///
     /// `AllocError` where memory was refused; the image is then as it was.
     pub fn add(&mut self, address: u32, bytes: Bytes) -> Result<(), AllocError>
-        requires { IsImage 65536 (self.old ++ record { address = address; bytes = bytes } ∷ []) }
+        requires { IsImage large_size
+            (self.old ++ record { address = address; bytes = bytes } ∷ []) }
         ensures { self.new ≡ (if is_ok result then self.old
             ++ record { address = address; bytes = bytes } ∷ [] else self.old) }
     {
@@ -54,7 +57,7 @@ impl Image {
     /// The segments, by rising addresses.
     pub fn segments(&self) -> &[Segment]
         ensures segments { result.now ≡ self.now }
-        ensures rules { IsImage 65536 self.now }
+        ensures rules { IsImage large_size self.now }
     {
         self.segments.as_slice()
     }
@@ -75,7 +78,7 @@ impl Image {
     /// where no segment has it.
     pub fn code_word(&self, address: u32) -> u32
         requires aligned { address % 4 ≡ 0 }
-        requires inside { address < 65536 }
+        requires inside { address < large_size }
         ensures { result ≡ word self.now address }
     {
         self.word(address)

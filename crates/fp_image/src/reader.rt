@@ -9,6 +9,7 @@ use crate::images::Image;
 use crate::parts::{Bytes, Segment};
 use crate::refusals::{ImageNo, ImageRefused, fault};
 use byteorder::{ByteOrder, LittleEndian};
+use region_guard::{DATA_START, SMALL_SIZE};
 use std::alloc::Global;
 
 /// The image in a file, for scratchpads of `size` bytes, 16,384 or 65,536.
@@ -55,12 +56,12 @@ fn count_of(bytes: &[u8], size: u32) -> Result<u32, ImageRefused>
     Ok(count)
 }
 
-/// The longest file, in bytes.
-fn longest(size: u32) -> usize
+/// The most bytes of an image's file, for scratchpads of a size in bytes.
+pub fn longest(size: u32) -> usize
     requires { IsSize size }
     ensures { result ≡ longest size }
 {
-    if size == 16_384 { 34_816 } else { 139_264 }
+    if size == SMALL_SIZE { 34_816 } else { 139_264 }
 }
 
 /// The image of `count` segments that `bytes`, the end of a file of `total` bytes, holds.
@@ -145,6 +146,6 @@ fn is_placed(address: u32, len: u32, size: u32) -> bool
     let start = u64::from(address);
     let end = start + u64::from(len);
     let in_code = end <= u64::from(size);
-    let in_data = 0x2000_0000 <= start && end <= 0x2000_0000 + u64::from(size);
+    let in_data = u64::from(DATA_START) <= start && end <= u64::from(DATA_START + size);
     address % 4 == 0 && len % 4 == 0 && 0 < len && (in_code || in_data)
 }

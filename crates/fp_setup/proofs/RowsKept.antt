@@ -6,6 +6,7 @@ use Rattle.std.proofs.lemmas.List.{length-map}
 use Rattle.std.proofs.lemmas.List.Elements.{All-nil, All-cons, All-head, All-tail, All-weaker, All-map}
 use Rattle.std.proofs.lemmas.List.Sums.{list_all-from_AllPass}
 use Rattle.toml.specs.Data.{Data, Members, no_members, as_table, get_member}
+use Rattle.timer_unit.specs.Time.{most_cycles}
 use Rattle.fp_setup.specs.declared.refusal.KeyPath.{KeyPath}
 use Rattle.fp_setup.specs.declared.refusal.SetupNo.TheVariants as no
 use Rattle.fp_setup.specs.declared.loop_list.LoopSetup.{LoopSetup}
@@ -57,8 +58,8 @@ thread-table size ids row ms low high h =
     record {
       mode = needed-kept (λ (t : Text). is_value Modes (named Modes t) ≡ true) text [] (word_check Modes) (key_of row 2) (get_member (codes "mode") ms) mode
           (λ d good. word-kept Modes (key_of row 2) d good);
-      thread = is_thread size (thread_of ms) (integers 0 4000000000) _ low high starts both refl refl
-          (moment-kept (integers 0 4000000000) (key_of row 6) (get_member (codes "unplug") ms) unplug) fed;
+      thread = is_thread size (thread_of ms) (integers 0 most_cycles) _ low high starts both refl refl
+          (moment-kept (integers 0 most_cycles) (key_of row 6) (get_member (codes "unplug") ms) unplug) fed;
       inside = entry_inside size (number_at (codes "entry") ms) low starts;
     }
 

@@ -1,6 +1,7 @@
 -- The table of a thread, once each of its keys is read.
 use Rattle.std.proofs.Common.{◌≡◌, ℕ, ◌+◌, ◌<◌, ◌≤◌, ◌&&◌, Bool, true, false, List, map, drop, Option, IfSome, option_map, codes, refl, rules}
 use Rattle.toml.specs.Data.{Members, get_member}
+use Rattle.timer_unit.specs.Time.{most_cycles}
 use Rattle.fp_setup.specs.declared.refusal.KeyPath.{KeyPath}
 use Rattle.fp_setup.specs.declared.refusal.Fault.{Fault}
 use Rattle.fp_setup.specs.declared.bounds.Range.{Range}
@@ -45,7 +46,7 @@ entry_inside size n low h = search rules
 
 pub is_thread : (size : ℕ) (t : ThreadSetup) (range : Range) (moment : Option ℕ) → 4 ≤ size → size ≤ 65536
     → is_in (addresses 0 size) t.entry ≡ true → (t.confined && t.permit) ≡ false
-    → range ≡ integers 0 4000000000 → t.unplug ≡ moment → IfSome moment (λ at. is_in range at ≡ true) → AreInputs t.inputs → IsThread t
+    → range ≡ integers 0 most_cycles → t.unplug ≡ moment → IfSome moment (λ at. is_in range at ≡ true) → AreInputs t.inputs → IsThread t
 is_thread size t range moment low high entry both is_range is_moment unplug inputs = search rules
 
 -- the values of the keys make the row

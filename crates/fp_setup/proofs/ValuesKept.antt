@@ -8,6 +8,7 @@ use Rattle.std.proofs.lemmas.List.{length-map}
 use Rattle.std.proofs.lemmas.List.Elements.{All-nil, All-cons, All-weaker}
 use Rattle.std.proofs.lemmas.List.Kept.{AllPairs-cons}
 use Rattle.toml.specs.Data.{Data, as_integer, as_str, as_bool}
+use Rattle.timer_unit.specs.Time.{most_cycles}
 use Rattle.fp_setup.specs.declared.refusal.KeyPath.{KeyPath}
 use Rattle.fp_setup.specs.declared.refusal.Fault.{Fault}
 use Rattle.fp_setup.specs.declared.refusal.SetupNo.TheVariants as no
@@ -16,7 +17,7 @@ use Rattle.fp_setup.specs.declared.input_list.Input.{Input}
 use Rattle.fp_setup.specs.declared.vocabulary.Words.{Words}
 use Rattle.fp_setup.specs.declared.vocabulary.Words.TheVariants.{Slots, Owners, Modes}
 use Rattle.fp_setup.specs.Faults.{fault, first, fault_at, element_of}
-use Rattle.fp_setup.specs.Inputs.{AreInputs, last_cycle}
+use Rattle.fp_setup.specs.Inputs.{AreInputs}
 use Rattle.fp_setup.specs.Vocabulary.{Text, entries, is_value, is_word, number_in, number_of, refusal}
 use Rattle.fp_setup.specs.Values.{as_list, elements, input_in, input_of, natural, number, pair, text, truth}
 use Rattle.fp_setup.specs.Checks.{Check, typed, is_in, integer_fault, integer_check, bytes_fault, bytes_check, word_fault, word_check, permit_check, each_fault, eight_fault, eight_check, is_after, is_input, input_check, inputs_from, inputs_fault, few_fault, list_check}
@@ -127,13 +128,13 @@ eight-kept words path d h = eight-in words path (as_list d) h
 
 -- an input is not too late, and comes after the one before
 abbrev IsNext : Option ℕ → Input → Type 0
-IsNext before i = (i.at ≤ last_cycle) × (is_after before i.at ≡ true)
+IsNext before i = (i.at ≤ most_cycles) × (is_after before i.at ≡ true)
 
-next-in : (before : Option ℕ) (at word : ℤ) → is_input before at word ≡ true → (natural at ≤ last_cycle) × (is_after before (natural at) ≡ true)
+next-in : (before : Option ℕ) (at word : ℤ) → is_input before at word ≡ true → (natural at ≤ most_cycles) × (is_after before (natural at) ≡ true)
 next-in before (pos at) (pos word) h =
-    let (both, small) = and_parts (nat_le at 4000000000 && is_after before at) (nat_le word 4294967295) h in
-    let (early, late) = and_parts (nat_le at 4000000000) (is_after before at) both in
-    (leb-true at 4000000000 early, late)
+    let (both, small) = and_parts (nat_le at most_cycles && is_after before at) (nat_le word 4294967295) h in
+    let (early, late) = and_parts (nat_le at most_cycles) (is_after before at) both in
+    (leb-true at most_cycles early, late)
 next-in before (pos at) (negsuc word) h = cc
 next-in before (negsuc at) word h = cc
 
@@ -148,7 +149,7 @@ input-kept before path d h = input-in before path (pair d) h
 
 -- inputs that come after one with that cycle
 record Follow (before : Option ℕ) (inputs : List Input) : Type 0 where
-  within : All (λ (i : Input). i.at ≤ last_cycle) inputs
+  within : All (λ (i : Input). i.at ≤ most_cycles) inputs
   after : All (λ (i : Input). is_after before i.at ≡ true) inputs
   rising : AllPairs (λ (i j : Input). i.at < j.at) inputs
 
@@ -167,7 +168,7 @@ inputs-follow path index before (d ∷ ds) h =
     let Later : Input → Type 0 = λ j. nat_lt i.at j.at ≡ true in
     let Rises : Input → Input → Type 0 = λ k j. k.at < j.at in
     record {
-      within = All-cons (λ (j : Input). j.at ≤ last_cycle) i (map input_of ds) next.0 rest.within;
+      within = All-cons (λ (j : Input). j.at ≤ most_cycles) i (map input_of ds) next.0 rest.within;
       after = All-cons After i (map input_of ds) next.1 (All-weaker Later After (λ j later. still-after before i.at j.at next.1 later) (map input_of ds) rest.after);
       rising = AllPairs-cons Rises i (map input_of ds) (All-weaker Later (Rises i) (λ j later. ltb-true i.at j.at later) (map input_of ds) rest.after) rest.rising;
     }

@@ -2,6 +2,7 @@
 use Rattle.std.specs.Prelude.{ℕ, ℤ, pos, negsuc, ◌+◌, ◌%◌, ◌==◌, ◌&&◌, Bool, true, false, nat_le, nat_lt, List, [], ◌∷◌, length, Option, Some, None, is_some, if◌then◌else◌}
 use Rattle.std.specs.List.{list_any}
 use Rattle.toml.specs.Data.{Data, as_integer, as_str, as_bool}
+use Rattle.timer_unit.specs.Time.{most_cycles}
 use Rattle.fp_setup.specs.declared.refusal.KeyPath.{KeyPath}
 use Rattle.fp_setup.specs.declared.refusal.Fault.{Fault}
 use Rattle.fp_setup.specs.declared.refusal.SetupNo.TheVariants as no
@@ -80,7 +81,7 @@ is_after None at = true
 is_after (Some before) at = nat_lt before at
 
 abbrev pub is_input : Option ℕ → ℤ → ℤ → Bool
-is_input before (pos at) (pos word) = (nat_le at 4000000000 && is_after before at) && nat_le word 4294967295
+is_input before (pos at) (pos word) = (nat_le at most_cycles && is_after before at) && nat_le word 4294967295
 is_input before _ _ = false
 
 unfoldable pub input_check : Option ℕ → Check

@@ -1,8 +1,11 @@
 -- The keys of a setup file: for each table the rows of the published table, in their order.
 use Rattle.std.specs.Prelude.{ℕ, Bool, true, false, List, [], ◌∷◌, map, codes}
+use Rattle.timer_unit.specs.Time.{most_cycles}
 use Rattle.fp_setup.specs.declared.vocabulary.Words.{Words}
 use Rattle.fp_setup.specs.declared.vocabulary.Words.TheVariants.{Slots, Owners, Modes}
 use Rattle.fp_setup.specs.Vocabulary.{Text}
+use Rattle.fp_setup.specs.Inputs.{most_inputs}
+use Rattle.fp_setup.specs.Loops.{most_turns}
 
 -- what a key's value is
 pub data Kind : Type 0 where
@@ -60,15 +63,15 @@ thread_keys =
     ∷ needed (codes "entry") Address
     ∷ optional (codes "confined") Truth
     ∷ optional (codes "permit") (TruthWithout (codes "confined"))
-    ∷ optional (codes "unplug") (Integer 0 4000000000)
-    ∷ optional (codes "inputs") (Inputs 4096)
+    ∷ optional (codes "unplug") (Integer 0 most_cycles)
+    ∷ optional (codes "inputs") (Inputs most_inputs)
     ∷ []
 
 abbrev pub loop_keys : List Key
 loop_keys =
     needed (codes "head") Address
     ∷ needed (codes "last") (AddressFrom (codes "head"))
-    ∷ needed (codes "bound") (Integer 0 1048576)
+    ∷ needed (codes "bound") (Integer 0 most_turns)
     ∷ []
 
 abbrev pub names : List Key → List Text

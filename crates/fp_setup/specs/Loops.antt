@@ -1,13 +1,17 @@
 -- The rules of loops, for scratchpads of any size.
-use Rattle.std.specs.Prelude.{◌≡◌, ◌%◌, ◌≤◌, List, length}
+use Rattle.std.specs.Prelude.{ℕ, ◌≡◌, ◌%◌, ◌≤◌, List, length}
 use Rattle.std.specs.List.{All}
 use Rattle.fp_setup.specs.declared.loop_list.LoopSetup.{LoopSetup}
+
+-- the most times that a setup lets a loop go back in a visit
+abbrev pub most_turns : ℕ
+most_turns = 1048576
 
 pub record IsLoop (l : LoopSetup) : Type 0 where
   pub head_aligned : l.head % 4 ≡ 0
   pub last_aligned : l.last % 4 ≡ 0
   pub ordered : l.head ≤ l.last
-  pub limited : l.limit ≤ 1048576
+  pub limited : l.limit ≤ most_turns
 
 pub record AreLoops (loops : List LoopSetup) : Type 0 where
   pub few : length loops ≤ 256

@@ -1,12 +1,13 @@
 -- The setup of given words, with nothing else in it.
 use Rattle.std.specs.Prelude.{ℕ, ◌%◌, ◌==◌, ◌&&◌, nat_lt, Bool, false, List, [], None, map, slice_index, slice_index_or, codes}
+use Rattle.region_guard.specs.MemoryMap.{small_size}
 use Rattle.fp_setup.specs.declared.thread_list.ThreadSetup.{ThreadSetup}
 use Rattle.fp_setup.specs.Settings.{Settings}
 use Rattle.fp_setup.specs.SetupOfTables.{the_threads}
 
 -- where a thread of version 1 may start
 abbrev pub is_entry : ℕ → Bool
-is_entry entry = nat_lt entry 16384 && entry % 4 == 0
+is_entry entry = nat_lt entry small_size && entry % 4 == 0
 
 -- a thread with no permit, no unplug and no inputs
 abbrev pub plain_thread : ℕ → Bool → ThreadSetup

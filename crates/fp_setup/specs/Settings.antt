@@ -1,5 +1,6 @@
 -- A setup as plain values.
 use Rattle.std.specs.Prelude.{ℕ, List, if◌then◌else◌, ◌==◌}
+use Rattle.region_guard.specs.MemoryMap.{small_size, large_size}
 use Rattle.fp_setup.specs.declared.thread_list.ThreadSetup.{ThreadSetup}
 use Rattle.fp_setup.specs.declared.loop_list.LoopSetup.{LoopSetup}
 
@@ -21,4 +22,4 @@ pub record Settings : Type 0 where
 
 -- the bytes of each scratchpad, by the version
 abbrev pub size_of : ℕ → ℕ
-size_of version = if version == 2 then 65536 else 16384
+size_of version = if version == 2 then large_size else small_size

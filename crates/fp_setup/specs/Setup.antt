@@ -29,9 +29,13 @@ abbrev pub setup_in : Option Members → Result Settings Fault
 setup_in None = Err (fault_at no.Toml no_path)
 setup_in (Some ms) = setup_of ms
 
+-- the most bytes of a setup
+abbrev pub most_setup_bytes : ℕ
+most_setup_bytes = 262144
+
 -- the setup that the bytes mean, or its first fault
 unfoldable pub setup : List ℕ → Result Settings Fault
-setup bytes = if nat_lt 262144 (length bytes) then Err (fault_at no.TooLong no_path) else setup_in (document bytes)
+setup bytes = if nat_lt most_setup_bytes (length bytes) then Err (fault_at no.TooLong no_path) else setup_in (document bytes)
 
 -- a refusal for another cause than memory is that fault
 abbrev pub IsFaultOf : {A : Type 0} → Result A Fault → SetupRefused → Type 0

@@ -6,6 +6,8 @@ ghost use Rattle.region_guard.specs.Regions.{IsSize};
 ghost use Rattle.fp_setup.specs.Settings.{size_of};
 ghost use Rattle.fp_setup.specs.Checks.{is_in};
 
+use region_guard::{LARGE_SIZE, SMALL_SIZE};
+
 /// The multiples of `step` from `low` to `high`. The step isn't 0.
 #[derive(Clone, Copy)]
 pub(crate) struct Range {
@@ -48,5 +50,5 @@ pub(crate) fn size_of_version(version: u32) -> u32
     ensures size { result ≡ size_of version }
     ensures one_of { IsSize result }
 {
-    if version == 2 { 65_536 } else { 16_384 }
+    if version == 2 { LARGE_SIZE } else { SMALL_SIZE }
 }

@@ -3,7 +3,8 @@
 ghost use Rattle.std.specs.Prelude.{◌≡◌, ◌≤◌, length, map, IfOk, true, false};
 ghost use Rattle.toml.specs.Data.{get_member};
 ghost use Rattle.toml.specs.View.{table_view, view};
-ghost use Rattle.fp_setup.specs.Inputs.{AreInputs, last_cycle};
+ghost use Rattle.timer_unit.specs.Time.{most_cycles};
+ghost use Rattle.fp_setup.specs.Inputs.{AreInputs, most_inputs};
 ghost use Rattle.fp_setup.specs.Values.{elements, elements_at, input_of, pair};
 ghost use Rattle.fp_setup.specs.Checks.{input_check, inputs_fault, is_after, list_check};
 ghost use Rattle.fp_setup.specs.FaultOrder.{key_fault};
@@ -14,10 +15,8 @@ use crate::keys::member;
 use crate::refusal::{Fault, KeyPath, SetupNo, SetupRefused};
 use crate::values::list;
 use std::alloc::Global;
+use timer_unit::MOST_CYCLES;
 use toml::{Table, Value};
-
-/// The last cycle that an input may have.
-const LAST_CYCLE: u64 = 4_000_000_000;
 
 /// The most inputs that a thread may have.
 const MOST_INPUTS: usize = 4096;
@@ -49,14 +48,14 @@ fn input(value: &Value, before: Option<u64>, path: KeyPath) -> Result<Input, Fau
     ensures read { IsRead result
         (input_check before path (view value.now))
         (input_of (view value.now)) }
-    ensures within { IfOk result (λ i. i.at ≤ last_cycle) }
+    ensures within { IfOk result (λ i. i.at ≤ most_cycles) }
     ensures after { IfOk result (λ i. is_after before i.at ≡ true) }
 {
     let Some((at, word)) = two_integers(value) else {
         return Err(Fault::new(SetupNo::WrongType, path));
     };
     match (u64::try_from(at), u32::try_from(word)) {
-        (Ok(at), Ok(word)) if at <= LAST_CYCLE && comes_after(before, at) => {
+        (Ok(at), Ok(word)) if at <= MOST_CYCLES && comes_after(before, at) => {
             Ok(Input { at, word })
         }
         _ => Err(Fault::new(SetupNo::OutOfRange, path)),
@@ -65,7 +64,7 @@ fn input(value: &Value, before: Option<u64>, path: KeyPath) -> Result<Input, Fau
 
 /// The inputs of a list.
 fn inputs_of(alloc: Global, items: &[Value], path: KeyPath) -> Result<Inputs, SetupRefused>
-    requires { length items.now ≤ 4096 }
+    requires { length items.now ≤ most_inputs }
     ensures read { IsReadInMemory result
         (inputs_fault path (map view items.now))
         (map input_of (map view items.now)) }
@@ -85,7 +84,7 @@ fn inputs_of(alloc: Global, items: &[Value], path: KeyPath) -> Result<Inputs, Se
 #[tactic(auto, unfolding(crate::specs::Checks::list_check))]
 fn inputs(alloc: Global, value: &Value, path: KeyPath) -> Result<Inputs, SetupRefused>
     ensures read { IsReadInMemory result
-        (list_check 4096 inputs_fault path (view value.now))
+        (list_check most_inputs inputs_fault path (view value.now))
         (map input_of (elements (view value.now))) }
     ensures rules { IfOk result AreInputs }
 {
@@ -113,7 +112,7 @@ pub(crate) fn inputs_or_none(
     path: KeyPath,
 ) -> Result<Inputs, SetupRefused>
     ensures read { IsReadInMemory result
-        (key_fault (list_check 4096 inputs_fault) false path
+        (key_fault (list_check most_inputs inputs_fault) false path
         (get_member key.now (table_view table.now)))
         (map input_of (elements_at key.now (table_view table.now))) }
     ensures rules { IfOk result AreInputs }

@@ -24,7 +24,7 @@ mod vocabulary;
 pub use file_name::Name;
 pub use input_list::{Input, Inputs};
 pub use loop_list::{LoopSetup, Loops};
-pub use reader::{accepted_keep_rules, read_setup};
+pub use reader::{MOST_SETUP_BYTES, accepted_keep_rules, read_setup};
 pub use refusal::{Fault, KeyPath, SetupNo, SetupRefused};
 pub use setup::Setup;
 pub use thread_list::{ThreadSetup, Threads};

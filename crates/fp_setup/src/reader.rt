@@ -25,7 +25,7 @@ use std::alloc::Global;
 use toml::Table;
 
 /// The most bytes that a setup may have.
-const MOST_BYTES: usize = 262_144;
+pub const MOST_SETUP_BYTES: usize = 262_144;
 
 /// The keys of the top table, in the order of their numbers.
 const KEYS: [&str; 8] = [
@@ -147,7 +147,7 @@ fn setup_in_bytes(alloc: Global, bytes: &[u8]) -> Result<Setup, SetupRefused>
     ensures ok { IfOk result (λ s. setup bytes.now ≡ Ok s) }
     ensures refused { IfErr result (IsFaultOf (setup bytes.now)) }
 {
-    if bytes.len() > MOST_BYTES {
+    if bytes.len() > MOST_SETUP_BYTES {
         return Err(SetupRefused::Fault {
             code: SetupNo::TooLong,
             path: KeyPath::none(),

@@ -1,6 +1,7 @@
 //! The eight threads of a setup.
 
 ghost use Rattle.std.specs.Prelude.{◌≡◌, ◌<◌, Some, slice_get, length};
+ghost use Rattle.region_guard.specs.MemoryMap.{small_size};
 
 use crate::input_list::Inputs;
 use std::alloc::Global;
@@ -97,7 +98,7 @@ impl Threads {
         requires { IsTrue (list_all is_entry entries) }
         ensures threads { result ≡ plain_threads entries confined }
         ensures rules { AreThreads result }
-        ensures inside { All (λ (t : ThreadSetup). t.entry < 16384) result }
+        ensures inside { All (λ (t : ThreadSetup). t.entry < small_size) result }
     {
         let mut threads = Threads::unnamed(alloc);
         for thread in 0..8 {

@@ -4,6 +4,7 @@ ghost use Rattle.std.specs.Prelude.{◌≡◌, ◌<◌, ◌≤◌, ◌==◌, len
 ghost use Rattle.std.specs.List.{All, list_all, list_any};
 ghost use Rattle.toml.specs.Data.{Data, as_table, get_member};
 ghost use Rattle.toml.specs.View.{table_view, view};
+ghost use Rattle.region_guard.specs.MemoryMap.{large_size};
 ghost use Rattle.fp_setup.specs.declared.refusal.KeyPath.{KeyPath};
 ghost use Rattle.fp_setup.specs.declared.thread_list.ThreadSetup.{ThreadSetup};
 ghost use Rattle.fp_setup.specs.Threads.{AreThreads, IsThread};
@@ -25,13 +26,11 @@ use crate::thread_list::{ThreadSetup, Threads};
 use crate::values::list;
 use crate::vocabulary::Words;
 use std::alloc::Global;
+use timer_unit::MOST_CYCLES;
 use toml::{Table, Value};
 
 /// The most tables of threads that a setup may have.
 const MOST_ROWS: usize = 8;
-
-/// The last cycle at which a port may be taken away.
-const LAST_CYCLE: u32 = 4_000_000_000;
 
 /// The mode of a thread that no table names.
 const UNNAMED_MODE: u8 = 3;
@@ -101,7 +100,7 @@ fn thread_table(
     row: KeyPath,
 ) -> Result<ThreadRow, SetupRefused>
     requires low { 4 ≤ size }
-    requires high { size ≤ 65536 }
+    requires high { size ≤ large_size }
     ensures read { IsReadInMemory result
         (thread_table_fault size ids.now row (table_view table.now))
         (row_of (table_view table.now)) }
@@ -117,7 +116,12 @@ fn thread_table(
     let entry = needed_integer(table, "entry", Range::addresses(0, size), row.key(3))?;
     let confined = truth_or_false(table, "confined", row.key(4))?;
     let permit = permit_or_false(table, "permit", confined, row.key(5))?;
-    let unplug = optional_integer(table, "unplug", Range::integers(0, LAST_CYCLE), row.key(6))?;
+    let unplug = optional_integer(
+        table,
+        "unplug",
+        Range::integers(0, MOST_CYCLES as u32),
+        row.key(6),
+    )?;
     let inputs = inputs_or_none(alloc, table, "inputs", row.key(7))?;
     Ok(ThreadRow {
         id,
@@ -141,7 +145,7 @@ fn thread_in(
     row: KeyPath,
 ) -> Result<ThreadRow, SetupRefused>
     requires low { 4 ≤ size }
-    requires high { size ≤ 65536 }
+    requires high { size ≤ large_size }
     ensures read { IsReadInMemory result
         (thread_fault size ids.now row (as_table (view value.now)))
         (row_of (members (view value.now))) }
@@ -164,7 +168,7 @@ fn thread_in(
 fn threads_in(alloc: Global, items: &[Value], size: u32) -> Result<ThreadRows, SetupRefused>
     requires few { length items.now ≤ 8 }
     requires low { 4 ≤ size }
-    requires high { size ≤ 65536 }
+    requires high { size ≤ large_size }
     ensures read { IsReadInMemory result
         (threads_from size 0 [] (map view items.now))
         (rows_of (map members (map view items.now))) }
@@ -197,7 +201,7 @@ fn threads(
     path: KeyPath,
 ) -> Result<ThreadRows, SetupRefused>
     requires low { 4 ≤ size }
-    requires high { size ≤ 65536 }
+    requires high { size ≤ large_size }
     ensures read { IsReadInMemory result
         (list_check 8 (threads_fault size) path (view value.now))
         (rows_of (map members (elements (view value.now)))) }
@@ -241,7 +245,7 @@ pub(crate) fn threads_or_none(
     path: KeyPath,
 ) -> Result<ThreadRows, SetupRefused>
     requires low { 4 ≤ size }
-    requires high { size ≤ 65536 }
+    requires high { size ≤ large_size }
     ensures read { IsReadInMemory result
         (key_fault (list_check 8 (threads_fault size)) false path
         (get_member key.now (table_view table.now)))

@@ -4,6 +4,7 @@ use Rattle.rv_decode.specs.Table.{ins}
 use Rattle.rv_decode.specs.declared.instruction.Ins.{Ins}
 use Rattle.rv_decode.specs.declared.instruction.Ins.TheVariants as row
 use Rattle.rv_decode.specs.declared.instruction.CsrKind.{CsrKind}
+use Rattle.rv_decode.specs.Lag.{plain_lag, late_lag, redirect_lag}
 use Rattle.rv_exec.specs.Access.{load_size, store_size}
 use Rattle.rv_exec.specs.Result.{result_of}
 use Rattle.rv_exec.specs.declared.outcome.Outcome.{Outcome}
@@ -20,9 +21,9 @@ use Rattle.hart_exec.specs.declared.control.Access.{Access}
 
 -- after how many cycles the thread's next instruction may issue
 abbrev pub lag_of : Onward → ℕ
-lag_of NextWord = 1
-lag_of LateValue = 2
-lag_of Elsewhere = 3
+lag_of NextWord = plain_lag
+lag_of LateValue = late_lag
+lag_of Elsewhere = redirect_lag
 
 -- what is known once an instruction is executed, with the thread as it left it
 abbrev pub executed_as_defined : Own → Executed → Did

@@ -11,8 +11,8 @@ use crate::outcome::{Executed, Onward, PcWord};
 use crate::parts::{go_on, trap, write_to};
 use core_model::{CsrOp, Own};
 use region_guard::Regions;
-use rv_decode::{AluOp, CsrKind};
-use rv_exec::{Effect, compute};
+use rv_decode::{AluOp, CsrKind, csr};
+use rv_exec::{Effect, cause, compute};
 use slot_scheduler::Modes;
 use slot_table::SlotTable;
 
@@ -59,12 +59,12 @@ pub fn value_of(own: &Own, thread: u8, csr: u16, shared: Option<u32>) -> Option<
     ensures { result ≡ csr_value thread own.now csr shared }
 {
     match csr {
-        0x305 => Some(own.trap.mtvec),
-        0x340 => Some(own.trap.mscratch),
-        0x341 => Some(own.trap.mepc),
-        0x342 => Some(own.trap.mcause),
-        0xF14 => Some(u32::from(thread)),
-        0x7C0..=0x7C3 => shared,
+        csr::MTVEC => Some(own.trap.mtvec),
+        csr::MSCRATCH => Some(own.trap.mscratch),
+        csr::MEPC => Some(own.trap.mepc),
+        csr::MCAUSE => Some(own.trap.mcause),
+        csr::MHARTID => Some(u32::from(thread)),
+        csr::SLOTS | csr::MODES | csr::DREGIONS | csr::IREGIONS => shared,
         _ => None,
     }
 }
@@ -88,10 +88,10 @@ pub fn may_hold(csr: u16, word: u32) -> bool
     ensures { result ≡ may_hold csr word }
 {
     match csr {
-        0xF14 => false,
-        0x7C0 => SlotTable::from_word(word).is_ok(),
-        0x7C1 => Modes::from_word(word).is_ok(),
-        0x7C2 | 0x7C3 => Regions::from_word(word).is_ok(),
+        csr::MHARTID => false,
+        csr::SLOTS => SlotTable::from_word(word).is_ok(),
+        csr::MODES => Modes::from_word(word).is_ok(),
+        csr::DREGIONS | csr::IREGIONS => Regions::from_word(word).is_ok(),
         _ => true,
     }
 }
@@ -100,7 +100,7 @@ pub fn may_hold(csr: u16, word: u32) -> bool
 pub fn keep(csr: u16, word: u32) -> u32
     ensures { result ≡ kept csr word }
 {
-    if csr == 0x305 || csr == 0x341 {
+    if csr == csr::MTVEC || csr == csr::MEPC {
         word / 4 * 4
     } else {
         word
@@ -112,10 +112,10 @@ pub fn put(own: &mut Own, csr: u16, value: u32)
     ensures { own.new ≡ with_csr own.old csr value }
 {
     match csr {
-        0x305 => own.trap.mtvec = value,
-        0x340 => own.trap.mscratch = value,
-        0x341 => own.trap.mepc = value,
-        0x342 => own.trap.mcause = value,
+        csr::MTVEC => own.trap.mtvec = value,
+        csr::MSCRATCH => own.trap.mscratch = value,
+        csr::MEPC => own.trap.mepc = value,
+        csr::MCAUSE => own.trap.mcause = value,
         _ => {}
     }
 }
@@ -142,14 +142,14 @@ pub fn access_csr(
     ensures address { result.address ≡ 0 }
 {
     let Some(old) = value_of(own, thread, csr, shared) else {
-        return trap(own, at, 2);
+        return trap(own, at, cause::ILLEGAL);
     };
     if !wanted.writes {
         return go_on(at, Onward::Elsewhere, write_to(rd, old));
     }
     let word = change(wanted.op, old, wanted.operand);
     if !may_hold(csr, word) {
-        return trap(own, at, 2);
+        return trap(own, at, cause::ILLEGAL);
     }
     let value = keep(csr, word);
     put(own, csr, value);

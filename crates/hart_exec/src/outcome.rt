@@ -2,6 +2,7 @@
 
 ghost use Rattle.std.specs.Prelude.{◌≡◌, ◌≤◌};
 
+use rv_decode::{LATE_LAG, PLAIN_LAG, REDIRECT_LAG};
 use rv_exec::Effect;
 
 /// Where an instruction stands, and its word.
@@ -47,9 +48,9 @@ impl Onward {
         ensures short { result ≤ 3 }
     {
         match self {
-            Onward::NextWord => 1,
-            Onward::LateValue => 2,
-            Onward::Elsewhere => 3,
+            Onward::NextWord => PLAIN_LAG,
+            Onward::LateValue => LATE_LAG,
+            Onward::Elsewhere => REDIRECT_LAG,
         }
     }
 }

@@ -14,7 +14,7 @@ use crate::plain::plain;
 use crate::surroundings::Surroundings;
 use core_model::Own;
 use rv_decode::{CsrKind, Ins, decode};
-use rv_exec::{Effect, Outcome, execute};
+use rv_exec::{Effect, Outcome, cause, execute};
 use timer_unit::moment;
 
 /// The numbers of the registers that an instruction reads, x0 where it reads none.
@@ -67,8 +67,8 @@ fn execute_untrapped<S: Surroundings>(
         return done;
     }
     match *i {
-        Ins::Load { .. } => trap(own, at, 5),
-        Ins::Store { .. } => trap(own, at, 7),
+        Ins::Load { .. } => trap(own, at, cause::LOAD_FAULT),
+        Ins::Store { .. } => trap(own, at, cause::STORE_FAULT),
         Ins::Mret => go_to(at, own.trap.mepc, Effect::Nothing),
         Ins::Csr { op, rd, csr, src } => access_csr(
             own,
@@ -97,7 +97,7 @@ fn execute_untrapped<S: Surroundings>(
             own.timer.armed = None;
             go_on(at, Onward::Elsewhere, Effect::Nothing)
         }
-        _ => trap(own, at, 2),
+        _ => trap(own, at, cause::ILLEGAL),
     }
 }
 
@@ -137,10 +137,10 @@ pub fn execute_in<S: Surroundings>(
 {
     if expired {
         own.timer.armed = None;
-        return trap(own, PcWord { word: 0, ..at }, 24);
+        return trap(own, PcWord { word: 0, ..at }, cause::EXPIRY);
     }
     if !around.may_fetch(at.pc) {
-        return trap(own, PcWord { word: 0, ..at }, 1);
+        return trap(own, PcWord { word: 0, ..at }, cause::FETCH_FAULT);
     }
     run_at(own, around, at, s, &decode(at.word))
 }

@@ -5,6 +5,7 @@
 -- Source: this project's format of dumps.
 use Rattle.std.specs.Prelude.{ℕ, ◌+◌, ◌-◌, ◌*◌, ◌/◌, ◌==◌, nat_lt, Bool, true, false, ◌&&◌, if◌then◌else◌, List, [], ◌∷◌, ◌++◌, flat_map, slice_index_or, Option, Some, None, codes}
 use Rattle.std.specs.List.{list_all, range_with_len}
+use Rattle.region_guard.specs.MemoryMap.{data_start}
 use Rattle.core_model.specs.declared.own.Trapping.{Trapping}
 use Rattle.core_model.specs.Thread.{reg_in}
 use Rattle.trace_print.specs.declared.dump_lines.Held.{Held}
@@ -91,7 +92,7 @@ thread_seen s n i =
 unfoldable pub words_seen : List ℕ → ℕ → List ℕ
 words_seen words k =
     let row = eight_from (λ j. slice_index_or words j 0) (8 * k) in
-    if list_all (λ word. word == 0) row then [] else memory_text (0x20000000 + 32 * k) row
+    if list_all (λ word. word == 0) row then [] else memory_text (data_start + 32 * k) row
 
 -- the whole dump
 unfoldable pub seen : Start → ℕ → List ℕ

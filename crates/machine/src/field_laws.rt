@@ -1,5 +1,5 @@
-//! The laws of a machine, by its fields, and of ports that stand for a cycle of a world. Each is the
-//! contract of a call that does nothing; its statement stands in specs/FieldLaws.antt.
+//! The laws of a machine, by its fields, and of ports that stand for a cycle of a world. Each is
+//! the contract of a call that does nothing; its statement stands in specs/FieldLaws.antt.
 
 ghost use Rattle.machine.specs.FieldLaws.{Dumps, GoesOn, Unplugs};
 

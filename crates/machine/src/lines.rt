@@ -15,6 +15,7 @@ use crate::state::Machine;
 use arrayvec::ArrayString;
 use fp_ports::{Ports, latch_of};
 use pipeline_core::{Decoded, Executed, Fetched, Held, Stored, Written};
+use region_guard::DATA_START;
 use trace_print::{
     Held as Shown, cycles_line, latch_line, memory_line, stage_line, thread_words_line, timer_line,
     word_line,
@@ -243,7 +244,7 @@ impl Machine {
         if is_zero(&row) {
             ArrayString::new()
         } else {
-            memory_line(0x2000_0000 + 32 * k, &row)
+            memory_line(DATA_START + 32 * k, &row)
         }
     }
 

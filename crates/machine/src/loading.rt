@@ -1,6 +1,7 @@
 //! The machine at its start.
 
 ghost use Rattle.std.specs.Prelude.{◌≡◌, ℕ, ◌/◌, ◌≤◌, List, All, Option, IfOk, length, map};
+ghost use Rattle.region_guard.specs.MemoryMap.{data_start};
 ghost use Rattle.fp_ports.specs.Rows.{Row};
 ghost use Rattle.fp_setup.specs.declared.thread_list.ThreadSetup.{ThreadSetup};
 ghost use Rattle.fp_setup.specs.Settings.{size_of};
@@ -15,16 +16,13 @@ use fp_setup::Setup;
 use pipe_model::starts_standing;
 use pipeline_core::{Pipe, Units};
 use regfile_bank::Bank;
-use region_guard::Guard;
+use region_guard::{DATA_START, Guard};
 use scratchpad::Spm;
 use setup_model::{d_regions, i_regions, modes, slot_table, word_list};
 use slot_scheduler::{Sched, Scheduler};
 use std::alloc::{AllocError, Global};
 use timer_unit::{Clock, Timers};
 use trap_unit::Traps;
-
-/// The address of the data scratchpad.
-const DATA: u32 = 0x2000_0000;
 
 /// The address of each thread's first instruction.
 fn entries(setup: &Setup) -> [u32; 8]
@@ -98,7 +96,7 @@ fn unplugs(setup: &Setup) -> [Option<u64>; 8]
 
 /// The words of a scratchpad that begins at an address.
 fn scratchpad(alloc: Global, setup: &Setup, image: &Image, base: u32) -> Result<Spm, AllocError>
-    requires { base ≤ 0x20000000 }
+    requires { base ≤ data_start }
     ensures words { IfOk result
         (λ s. s ≡ words_from image.now base (size_of setup.now.version)) }
     ensures len { IfOk result (λ s. length s ≡ size_of setup.now.version / 4) }
@@ -113,7 +111,7 @@ fn units(alloc: Global, setup: &Setup, image: &Image) -> Result<Units, AllocErro
 {
     Ok(Units {
         imem: scratchpad(alloc, setup, image, 0)?,
-        dmem: scratchpad(alloc, setup, image, DATA)?,
+        dmem: scratchpad(alloc, setup, image, DATA_START)?,
         bank: Bank::new(),
         guard: Guard {
             i: i_regions(setup),

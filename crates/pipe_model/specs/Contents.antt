@@ -7,6 +7,7 @@ use Rattle.rv_decode.specs.declared.instruction.Ins.TheVariants as instruction
 use Rattle.rv_exec.specs.declared.outcome.Effect.{Effect}
 use Rattle.rv_exec.specs.declared.outcome.Effect.TheVariants.{Nothing, Reg, Trap}
 use Rattle.rv_exec.specs.Result.{offset}
+use Rattle.rv_exec.specs.TrapCauses.{cause_expiry}
 use Rattle.core_model.specs.Thread.{reg_in}
 use Rattle.core_model.specs.Issue.{late_rd, source_1, source_2}
 use Rattle.core_model.specs.Memory.{code_at}
@@ -20,9 +21,9 @@ use Rattle.pipe_model.specs.Stages.{StageRegisters}
 use Rattle.pipe_model.specs.Relation.{turn_at, in_memory, in_write}
 use Rattle.pipe_model.specs.StageView.{FetchHolds}
 
--- the turn was taken by an expiry, cause 24
+-- the turn was taken by an expiry
 abbrev pub is_expiry : Option Effect → Bool
-is_expiry (Some (Trap cause target)) = cause == 24
+is_expiry (Some (Trap cause target)) = cause == cause_expiry
 is_expiry _ = false
 
 -- d: the word at the turn's pc and the values of its sources, and whether it expired

@@ -2,9 +2,11 @@
 -- it does to the units. Threads, stages and registers are this project's profile of the core.
 use Rattle.std.specs.Prelude.{ℕ, ◌-◌, ◌==◌, Bool, true, false, ◌&&◌, if◌then◌else◌, List, [], slice_index_or, slice_set, Option, Some, None}
 use Rattle.rv_decode.specs.Table.{ins}
+use Rattle.rv_decode.specs.Lag.{plain_lag, late_lag}
 use Rattle.rv_exec.specs.declared.outcome.Effect.{Effect}
 use Rattle.rv_exec.specs.declared.outcome.Effect.TheVariants.{Reg, Store}
 use Rattle.rv_exec.specs.declared.outcome.Event.{Event}
+use Rattle.region_guard.specs.MemoryMap.{port_address}
 use Rattle.slot_scheduler.specs.declared.picking.Pick.{Pick}
 use Rattle.slot_scheduler.specs.declared.picking.Pick.TheVariants as chosen
 use Rattle.slot_scheduler.specs.Picking.{Picked, pick}
@@ -97,7 +99,7 @@ words_stored size (Flushed k) words = words
 words_stored size (Issue k x) words = words_after size x.effect words
 
 abbrev pub put_at_port : ℕ → Option Effect → List (Option Row) → List (Option Row)
-put_at_port k (Some (Store address width value)) ports = if address == 0x40000000 then slice_set ports k (written (row_at ports k) value) else ports
+put_at_port k (Some (Store address width value)) ports = if address == port_address then slice_set ports k (written (row_at ports k) value) else ports
 put_at_port k _ ports = ports
 
 unfoldable pub ports_stored : Held Stored → List (Option Row) → List (Option Row)
@@ -134,10 +136,10 @@ controlled k d u =
 
 -- a thread whose next instruction may not issue in the next cycle goes on at the pc that follows, in a way
 abbrev pub way_of : Did → Way
-way_of d = if d.lag == 2 then LateValue else Elsewhere
+way_of d = if d.lag == late_lag then LateValue else Elsewhere
 
 abbrev pub redirect_of : ℕ → Did → Option Redirect
-redirect_of k d = if d.lag == 1 then None else Some (record { thread = k; pc = d.pc; way = way_of d })
+redirect_of k d = if d.lag == plain_lag then None else Some (record { thread = k; pc = d.pc; way = way_of d })
 
 -- what E leaves
 pub record After : Type 0 where

@@ -1,6 +1,7 @@
 //! A run of which a window of cycles is shown.
 
 ghost use Rattle.std.specs.Prelude.{◌≡◌, ◌+◌, ◌<◌, ◌≤◌, vec_len, OnOk};
+ghost use Rattle.timer_unit.specs.Time.{most_cycles};
 
 use crate::cycle::Cycle;
 use crate::konata::Konata;
@@ -12,6 +13,7 @@ use fp_ports::Ports;
 use machine::Machine;
 use std::io;
 use std::io::Write;
+use timer_unit::MOST_CYCLES;
 
 /// How many cycles before the first one that is shown are watched: as many as there are turns
 /// behind the one in F.
@@ -26,12 +28,12 @@ pub struct Window {
     from: u64,
     to: u64,
     ghost order: { from ≤ to },
-    ghost limit: { to ≤ 3999999997 },
+    ghost limit: { to + 3 ≤ most_cycles },
 }
 
 impl Window {
     /// The last cycle before which a window may end: the machine does three more.
-    pub const MOST: u64 = 3_999_999_997;
+    pub const MOST: u64 = MOST_CYCLES - UNTIL_WHOLE;
 
     /// The window of these cycles, if it is one: not empty, and before the last cycle.
     pub fn new(from: u64, to: u64) -> Option<Window> {
@@ -107,7 +109,7 @@ impl Writing {
 /// Does so many cycles from cycle 0 on.
 fn go(machine: &mut Machine, ports: &mut Ports, cycles: u64)
     requires start { machine.old.at ≡ 0 }
-    requires limit { cycles ≤ 4000000000 }
+    requires limit { cycles ≤ most_cycles }
     requires eight { vec_len ports.old ≡ 8 }
     ensures at { machine.new.at ≡ cycles }
     ensures eight { vec_len ports.new ≡ 8 }
@@ -126,7 +128,7 @@ fn put_cycle<W: Write>(
     machine: &mut Machine,
     ports: &mut Ports,
 ) -> io::Result<()>
-    requires cycle { machine.old.at < 4000000000 }
+    requires cycle { machine.old.at < most_cycles }
     requires eight { vec_len ports.old ≡ 8 }
     ensures at { machine.new.at ≡ machine.old.at + 1 }
     ensures eight { vec_len ports.new ≡ 8 }

@@ -1,6 +1,7 @@
 //! A machine that is watched cycle by cycle.
 
 ghost use Rattle.std.specs.Prelude.{◌≡◌, ◌+◌, ◌<◌, vec_len};
+ghost use Rattle.timer_unit.specs.Time.{most_cycles};
 
 use crate::cycle::{Cycle, CycleStart, ThreadState};
 use arrayvec::ArrayString;
@@ -32,7 +33,7 @@ impl Watch {
     /// M now, or None where that wasn't seen. Its turns are whole once seven cycles were seen, or
     /// all since cycle 0.
     pub fn tick(&mut self, machine: &mut Machine, ports: &mut Ports) -> Option<Cycle>
-        requires cycle { machine.old.at < 4000000000 }
+        requires cycle { machine.old.at < most_cycles }
         requires eight { vec_len ports.old ≡ 8 }
         ensures at { machine.new.at ≡ machine.old.at + 1 }
         ensures eight { vec_len ports.new ≡ 8 }
@@ -71,7 +72,7 @@ fn line_in_m(machine: &Machine, cycle: u64) -> Option<ArrayString<96>> {
 
 /// What a thread's mode, timer and port are at the start of the next cycle.
 fn thread_state(machine: &Machine, ports: &mut Ports, thread: u8) -> ThreadState
-    requires cycle { machine.now.at < 4000000000 }
+    requires cycle { machine.now.at < most_cycles }
     requires eight { vec_len ports.old ≡ 8 }
     requires thread { thread < 8 }
     ensures eight { vec_len ports.new ≡ 8 }
@@ -89,7 +90,7 @@ fn thread_state(machine: &Machine, ports: &mut Ports, thread: u8) -> ThreadState
 
 /// What a machine holds at the start of its next cycle.
 fn start_of(machine: &Machine, ports: &mut Ports) -> CycleStart
-    requires cycle { machine.now.at < 4000000000 }
+    requires cycle { machine.now.at < most_cycles }
     requires eight { vec_len ports.old ≡ 8 }
     ensures eight { vec_len ports.new ≡ 8 }
 {

@@ -1,7 +1,7 @@
 //! D: registers are read, with what is on its way to them.
 
 ghost use Rattle.std.specs.Prelude.{◌≡◌, ◌-◌, ◌<◌, ℕ, List, length};
-ghost use Rattle.timer_unit.specs.Time.{is_due, time, timer_of};
+ghost use Rattle.timer_unit.specs.Time.{is_due, time, timer_of, most_cycles};
 ghost use Rattle.core_model.specs.Thread.{reg_in};
 ghost use Rattle.regfile_bank.specs.Registers.{registers_of};
 ghost use Rattle.pipe_model.specs.Stages.{forward, from_m, from_e, operand, flushes_d, decode_stage};
@@ -88,7 +88,7 @@ fn sources(
 /// Whether a thread's armed moment was reached in the cycle before this one.
 fn is_due(timers: &Timers, clock: &Clock, cycle: u64, thread: u8) -> bool
     requires thread { thread < 8 }
-    requires cycle { cycle < 4000000000 }
+    requires cycle { cycle < most_cycles }
     ensures { result ≡ is_due (timer_of timers.now thread).armed (time clock.now (cycle - 1)) }
 {
     match timers.armed(thread) {
@@ -115,7 +115,7 @@ pub fn decode_stage(
     requires m { StoredFits m.now }
     requires e { ExecutedFits e.now }
     requires f { FetchedFits held.now }
-    requires cycle { cycle < 4000000000 }
+    requires cycle { cycle < most_cycles }
     ensures stage { d.new ≡ decode_stage bank.now m.now e.now timers.now redirect
         (time clock.now (cycle - 1)) held.now }
     ensures fits { DecodedFits d.new }

@@ -7,7 +7,7 @@ ghost use Rattle.core_model.specs.Issue.{execute_in};
 ghost use Rattle.core_model.specs.Thread.{no_own};
 ghost use Rattle.core_model.specs.declared.own.Own.{Own};
 ghost use Rattle.hart_exec.specs.AsDefined.{executed_as_defined, leaves_own, IsPlain};
-ghost use Rattle.timer_unit.specs.Time.{time};
+ghost use Rattle.timer_unit.specs.Time.{time, most_cycles};
 ghost use Rattle.trap_unit.specs.Rows.{IsAlignedTrap};
 ghost use Rattle.pipe_model.specs.Stages.{own_in, executed, redirect_of, execute_stage};
 ghost use Rattle.pipe_model.specs.declared.stage_registers.Held.TheVariants.{Issue};
@@ -216,7 +216,7 @@ fn execute_fully(
     e: &mut Held<Executed>,
 ) -> Option<Redirect>
     requires thread { thread < 8 }
-    requires cycle { cycle < 4000000000 }
+    requires cycle { cycle < most_cycles }
     requires pc { IsPc x.now.pc }
     ensures e { e.new ≡ (execute_stage guard.old.size confined.now permit.now
         (time clock.now (cycle - 2)) (control_as_defined sched.old guard.old timers.old traps.old)
@@ -258,7 +258,7 @@ fn execute_issue(
     e: &mut Held<Executed>,
 ) -> Option<Redirect>
     requires thread { thread < 8 }
-    requires cycle { cycle < 4000000000 }
+    requires cycle { cycle < most_cycles }
     requires pc { IsPc x.now.pc }
     ensures e { e.new ≡ (execute_stage guard.old.size confined.now permit.now
         (time clock.now (cycle - 2)) (control_as_defined sched.old guard.old timers.old traps.old)
@@ -300,7 +300,7 @@ pub fn execute_stage(
     e: &mut Held<Executed>,
 ) -> Option<Redirect>
     requires fits { DecodedFits held.now }
-    requires cycle { cycle < 4000000000 }
+    requires cycle { cycle < most_cycles }
     ensures e { e.new ≡ (execute_stage guard.old.size confined.now permit.now
         (time clock.now (cycle - 2)) (control_as_defined sched.old guard.old timers.old traps.old)
         held.now).e }

@@ -10,12 +10,10 @@ ghost use Rattle.fp_ports.specs.Rows.{rows_of, row_at, word_seen};
 ghost use Rattle.pipeline_core.specs.StageFacts.{EffectFits};
 
 use fp_ports::{Port, Ports, read_port};
-use region_guard::Guard;
+use region_guard::{DATA_START, Guard};
 use rv_decode::StoreOp;
 use rv_exec::{Effect, Lanes, store_lanes};
 use scratchpad::Spm;
-
-const DATA: u32 = 0x2000_0000;
 
 /// The index of an address's word in the instruction scratchpad.
 #[tactic(auto, unfolding(region_guard::specs::Regions::index_of))]
@@ -34,7 +32,7 @@ fn data_index(guard: &Guard, address: u32) -> u32
     ensures index { result ≡ index_of guard.now.size address }
     ensures small { result < guard.now.size / 4 }
 {
-    (address - DATA) / 4
+    (address - DATA_START) / 4
 }
 
 /// Whether an address lies in the instruction scratchpad.
@@ -48,7 +46,7 @@ fn is_code(guard: &Guard, address: u32) -> bool
 fn is_data(guard: &Guard, address: u32) -> bool
     ensures { result ≡ is_data guard.now.size address }
 {
-    address >= DATA && address < DATA + guard.size
+    address >= DATA_START && address < DATA_START + guard.size
 }
 
 /// The word of the instruction scratchpad at a pc, 0 outside.

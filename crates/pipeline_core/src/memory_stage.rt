@@ -16,12 +16,10 @@ use crate::memory::{data_word, store_word};
 use fp_ports::{Port, Ports, write_port};
 use hart_exec::{Sources, finish};
 use pipe_model::{Executed, Held, Stored};
-use region_guard::Guard;
+use region_guard::{Guard, PORT_ADDRESS};
 use rv_decode::{Ins, decode};
 use rv_exec::Effect;
 use scratchpad::Spm;
-
-const PORT: u32 = 0x4000_0000;
 
 /// The effect of an instruction whose value may come late, with that value. A load at the port
 /// finds the word of three cycles ago, when it was issued.
@@ -93,7 +91,7 @@ fn put_word(ports: &mut Ports, thread: u8, effect: &Option<Effect>)
     ensures eight { vec_len ports.new ≡ 8 }
 {
     if let Some(Effect::Store { address, value, .. }) = effect
-        && *address == PORT
+        && *address == PORT_ADDRESS
     {
         write_port(ports, thread, *value);
     }

@@ -2,6 +2,7 @@
 
 ghost use Rattle.std.specs.Prelude.{◌≡◌, All};
 ghost use Rattle.std.proofs.Props.{props};
+ghost use Rattle.timer_unit.specs.Time.{most_cycles};
 ghost use Rattle.pipeline_core.specs.StageFacts.{IsPc, FetchedFits, DecodedFits, ExecutedFits, StoredFits, WrittenFits, FetchedFits-prop, DecodedFits-prop, ExecutedFits-prop, StoredFits-prop, WrittenFits-prop};
 
 use crate::decode::decode_stage;
@@ -83,7 +84,7 @@ impl Pipe {
     /// ago, or None where that has none or there is no issue.
     #[inline(always)]
     pub fn tick(&mut self, units: &mut Units, ports: &mut Ports, cycle: u64) -> Option<Event>
-        requires cycle { cycle < 4000000000 }
+        requires cycle { cycle < most_cycles }
         requires eight { vec_len ports.old ≡ 8 }
         ensures relation { let before = rows_of latched word_at ports.old.items in let after =
             rows_of latched word_at ports.new.items in
@@ -113,7 +114,7 @@ impl Pipe {
     #[inline(never)]
     #[tactic(auto, unfolding(pipe_model::specs::Stages::step))]
     fn step(&mut self, units: &mut Units, ports: &mut Ports, cycle: u64)
-        requires cycle { cycle < 4000000000 }
+        requires cycle { cycle < most_cycles }
         requires eight { vec_len ports.old ≡ 8 }
         ensures step { ticked_as_defined self.new units.new
             (rows_of latched word_at ports.new.items) (retired (cycle - 4) self.old.m) ≡
@@ -158,7 +159,7 @@ impl Pipe {
     /// there is no redirect, and then nothing asks for one.
     #[inline(always)]
     fn follow(&mut self, units: &Units, redirect: Option<Redirect>, pick: Pick, cycle: u64)
-        requires cycle { cycle < 4000000000 }
+        requires cycle { cycle < most_cycles }
         requires pick { IsPick pick }
         ensures d { self.new.d ≡ decode_stage units.now.bank self.old.m self.old.e
             units.now.timers redirect (time units.now.clock (cycle - 1)) self.old.f }

@@ -1,12 +1,13 @@
 //! What a thread's instruction may do.
 
 ghost use Rattle.std.specs.Prelude.{◌≡◌, ◌-◌, ◌<◌};
-ghost use Rattle.timer_unit.specs.Time.{time};
+ghost use Rattle.timer_unit.specs.Time.{time, most_cycles};
 ghost use Rattle.world_model.specs.World.{around};
 ghost use Rattle.pipeline_core.specs.AsDefined.{registers_as_defined};
 
 use hart_exec::Surroundings;
 use region_guard::Guard;
+use rv_decode::csr;
 use slot_scheduler::Sched;
 use timer_unit::Clock;
 
@@ -30,7 +31,7 @@ pub struct Rights<'a> {
     pub slots: u32,
     /// The word of the modes register.
     pub modes: u32,
-    ghost early: { cycle < 4000000000 },
+    ghost early: { cycle < most_cycles },
 }
 
 impl<'a> Rights<'a> {
@@ -48,7 +49,7 @@ impl<'a> Rights<'a> {
         permit: &[bool; 8],
     ) -> Rights<'a>
         requires thread { thread < 8 }
-        requires cycle { cycle < 4000000000 }
+        requires cycle { cycle < most_cycles }
         ensures { asked result ≡ around (time clock.now (cycle - 2)) guard.now.size confined.now
             permit.now (registers_as_defined sched.now guard.now) thread }
     {
@@ -102,9 +103,9 @@ impl Surroundings for Rights<'_> {
             return None;
         }
         Some(match csr {
-            0x7C0 => self.slots,
-            0x7C1 => self.modes,
-            0x7C2 => self.guard.d.word(),
+            csr::SLOTS => self.slots,
+            csr::MODES => self.modes,
+            csr::DREGIONS => self.guard.d.word(),
             _ => self.guard.i.word(),
         })
     }

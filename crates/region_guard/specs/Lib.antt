@@ -1,2 +1,3 @@
+pub mod MemoryMap
 pub mod Regions
 pub mod RegionsWord

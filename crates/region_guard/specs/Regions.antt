@@ -4,17 +4,18 @@ use Rattle.std.specs.Prelude.{◌≡◌, ◌⊎◌, ℕ, ◌+◌, ◌/◌, ◌%�
 use Rattle.std.proofs.Common.{inl, inr, ap, arith}
 use Rattle.std.proofs.Math.Nat.{ℕ_set}
 use Rattle.nibble_word.specs.Nibbles.{nibble_at}
+use Rattle.region_guard.specs.MemoryMap.{small_size, large_size, data_start, port_address}
 
 -- the sizes that there are
 abbrev pub IsSize : ℕ → Type 0
-IsSize size = (size ≡ 16384) ⊎ (size ≡ 65536)
+IsSize size = (size ≡ small_size) ⊎ (size ≡ large_size)
 
 -- a size is one of them in one way
 pub IsSize-prop : (size : ℕ) → IsProp (IsSize size)
-IsSize-prop size (inl a) (inl b) = ap inl (ℕ_set size 16384 a b)
+IsSize-prop size (inl a) (inl b) = ap inl (ℕ_set size small_size a b)
 IsSize-prop size (inl a) (inr b) = absurd (omega arith)
 IsSize-prop size (inr a) (inl b) = absurd (omega arith)
-IsSize-prop size (inr a) (inr b) = ap inr (ℕ_set size 65536 a b)
+IsSize-prop size (inr a) (inr b) = ap inr (ℕ_set size large_size a b)
 
 -- what may stand in a region register for a region: a thread, shared (8) or read only (12)
 abbrev pub is_owner : ℕ → Bool
@@ -60,10 +61,10 @@ abbrev pub is_code : ℕ → ℕ → Bool
 is_code size address = nat_lt address size
 
 abbrev pub is_data : ℕ → ℕ → Bool
-is_data size address = nat_le 0x20000000 address && nat_lt address (0x20000000 + size)
+is_data size address = nat_le data_start address && nat_lt address (data_start + size)
 
 abbrev pub is_port : ℕ → ℕ → Bool
-is_port address width = address == 0x40000000 && width == 4
+is_port address width = address == port_address && width == 4
 
 -- the region of an address in its scratchpad, and the index of its word there
 unfoldable pub region_of : ℕ → ℕ → ℕ

@@ -3,12 +3,14 @@
 ghost use Rattle.std.specs.Prelude.{◌≡◌, ◌<◌, not, ◌||◌};
 ghost use Rattle.region_guard.specs.Regions.{IsSize, IsSize-prop, is_port, is_data, may_fetch, may_load, may_read, may_store, region_of};
 
+use crate::memory_map::{DATA_START, LARGE_SIZE, PORT_ADDRESS, SMALL_SIZE};
 use crate::register::Regions;
 
 /// The owners of the regions of both scratchpads.
 ///
-/// The instruction scratchpad begins at address 0, the data scratchpad at 0x2000_0000, and the word
-/// of a thread's port stands at 0x4000_0000. Each scratchpad has eight regions of `size / 8` bytes.
+/// The instruction scratchpad begins at address 0, the data scratchpad at [`DATA_START`], and the
+/// word of a thread's port stands at [`PORT_ADDRESS`]. Each scratchpad has eight regions of
+/// `size / 8` bytes.
 #[derive(Clone, Copy, Debug)]
 pub struct Guard {
     /// The regions of the instruction scratchpad: the register iregions (0x7C3).
@@ -20,10 +22,6 @@ pub struct Guard {
     ghost sized: { IsSize size } by { IsSize-prop size },
 }
 
-const DATA: u32 = 0x2000_0000;
-
-const PORT: u32 = 0x4000_0000;
-
 // The region of an address in its scratchpad.
 #[tactic(auto, unfolding(crate::specs::Regions::region_of))]
 fn region_of(size: u32, address: u32) -> u8
@@ -31,10 +29,10 @@ fn region_of(size: u32, address: u32) -> u8
     ensures region { result ≡ region_of size address }
     ensures small { result < 8 }
 {
-    let region = if size == 0x4000 {
-        address % 0x4000 / 0x800
+    let region = if size == SMALL_SIZE {
+        address % SMALL_SIZE / (SMALL_SIZE / 8)
     } else {
-        address % 0x1_0000 / 0x2000
+        address % LARGE_SIZE / (LARGE_SIZE / 8)
     };
     region as u8
 }
@@ -44,14 +42,14 @@ fn is_data(size: u32, address: u32) -> bool
     requires { IsSize size }
     ensures { result ≡ is_data size address }
 {
-    address.wrapping_sub(DATA) < size
+    address.wrapping_sub(DATA_START) < size
 }
 
 // Whether an access is one of the whole word of the port.
 fn is_port(address: u32, size: u8) -> bool
     ensures { result ≡ is_port address size }
 {
-    address == PORT && size == 4
+    address == PORT_ADDRESS && size == 4
 }
 
 impl Guard {

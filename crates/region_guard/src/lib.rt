@@ -3,7 +3,9 @@
 #![tactic(auto)]
 
 mod access;
+mod memory_map;
 mod register;
 
 pub use access::Guard;
+pub use memory_map::{DATA_START, LARGE_SIZE, PORT_ADDRESS, SMALL_SIZE};
 pub use register::{BadRegion, Regions};

@@ -5,6 +5,7 @@ use Rattle.rv_decode.specs.Encoding.{low_bits}
 use Rattle.rv_decode.specs.Table.{ins}
 use Rattle.rv_decode.specs.declared.instruction.Ins.{Ins}
 use Rattle.rv_decode.specs.declared.instruction.Ins.TheVariants.{Jal, Jalr, Branch, Load, Muldiv, Ecall, Ebreak, Mret, Csr, Du, Wu, Ee, De, Illegal}
+use Rattle.rv_decode.specs.Lag.{plain_lag, late_lag, redirect_lag}
 use Rattle.region_tree.specs.declared.edges.Stop.{Stop}
 use Rattle.region_tree.specs.declared.edges.Stop.TheVariants.{No, Indirect, Timed}
 use Rattle.region_tree.specs.declared.edges.Edges.{Edges}
@@ -27,12 +28,12 @@ ended stop = record { next = None; next_lag = 0; jump = None; stop = stop }
 
 -- the edges of an instruction at an address
 unfoldable pub edges_from : ℕ → Ins → Edges
-edges_from address (Load op rd rs1 imm) = onward address 2
-edges_from address (Muldiv op rd rs1 rs2) = onward address 2
-edges_from address (Csr op rd csr src) = onward address 3
-edges_from address (Ee rs1 rs2) = onward address 3
-edges_from address De = onward address 3
-edges_from address (Branch op rs1 rs2 off) = record (onward address 1) { jump = aligned (offset address off) }
+edges_from address (Load op rd rs1 imm) = onward address late_lag
+edges_from address (Muldiv op rd rs1 rs2) = onward address late_lag
+edges_from address (Csr op rd csr src) = onward address redirect_lag
+edges_from address (Ee rs1 rs2) = onward address redirect_lag
+edges_from address De = onward address redirect_lag
+edges_from address (Branch op rs1 rs2 off) = record (onward address plain_lag) { jump = aligned (offset address off) }
 edges_from address (Jal rd off) = record (ended No) { jump = aligned (offset address off) }
 edges_from address Ecall = ended No
 edges_from address Ebreak = ended No
@@ -41,7 +42,7 @@ edges_from address (Jalr rd rs1 imm) = ended Indirect
 edges_from address Mret = ended Indirect
 edges_from address (Du rs1 rs2) = ended Timed
 edges_from address (Wu rs1 rs2) = ended Timed
-edges_from address i = onward address 1
+edges_from address i = onward address plain_lag
 
 -- the edges of a word at an address
 unfoldable pub edges_of : ℕ → ℕ → Edges

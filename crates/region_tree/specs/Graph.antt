@@ -1,5 +1,6 @@
 -- The control graph of a section of code, with the loops that count in it.
 use Rattle.std.specs.Prelude.{ℕ, ◌<◌, ◌≤◌, Option, Some, None, List, [], ◌∷◌, ◌++◌, Contains}
+use Rattle.rv_decode.specs.Lag.{redirect_lag}
 use Rattle.fp_setup.specs.declared.loop_list.LoopSetup.{LoopSetup}
 use Rattle.region_tree.specs.declared.edges.Edges.{Edges}
 use Rattle.region_tree.specs.declared.edges.Stop.{Stop}
@@ -15,9 +16,9 @@ abbrev pub edge_to : Option ℕ → ℕ → List Edge
 edge_to None lag = []
 edge_to (Some v) lag = record { to = v; lag = lag } ∷ []
 
--- the edges of a word: to the next one, and by a jump, whose lag is 3
+-- the edges of a word: to the next one, and by a jump
 abbrev pub edge_list : Edges → List Edge
-edge_list e = edge_to e.next e.next_lag ++ edge_to e.jump 3
+edge_list e = edge_to e.next e.next_lag ++ edge_to e.jump redirect_lag
 
 -- The words of a section are those from `from` to below `to`. Edges are told by the address that
 -- they leave.

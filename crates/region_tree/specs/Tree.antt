@@ -1,6 +1,7 @@
 -- What a tree of loops holds: a section, its words, and the loops that count in it.
 use Rattle.std.specs.Prelude.{◌≡◌, ℕ, ◌+◌, ◌-◌, ◌*◌, ◌/◌, ◌%◌, ◌<◌, ◌≤◌, ◌&&◌, nat_le, nat_lt, Bool, List, length, map, filter, slice_index, Contains}
 use Rattle.std.specs.List.{range_with_len}
+use Rattle.region_guard.specs.MemoryMap.{large_size}
 use Rattle.fp_setup.specs.declared.loop_list.LoopSetup.{LoopSetup}
 use Rattle.fp_setup.specs.Loops.{IsLoop}
 use Rattle.region_tree.specs.Edges.{edges_of}
@@ -14,7 +15,7 @@ pub record IsSection (s : Section) : Type 0 where
   pub order : s.from < s.to
   pub from_aligned : s.from % 4 ≡ 0
   pub to_aligned : s.to % 4 ≡ 0
-  pub end : s.to ≤ 65536
+  pub end : s.to ≤ large_size
 
 -- a section, its words in order, and its loops
 pub record Tree : Type 0 where

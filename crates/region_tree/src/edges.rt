@@ -3,7 +3,7 @@
 ghost use Rattle.std.specs.Prelude.{◌≡◌, ℤ};
 ghost use Rattle.region_tree.specs.Edges.{aligned, edges_from, edges_of, offset, onward, ended};
 
-use rv_decode::{Ins, decode};
+use rv_decode::{Ins, LATE_LAG, PLAIN_LAG, REDIRECT_LAG, decode};
 
 /// Why the way on from a word isn't known.
 #[derive(Clone, Copy, Debug, PartialEq, Eq)]
@@ -30,7 +30,7 @@ pub struct Edges {
 }
 
 /// The least number of cycles from the issue of a jump to that of its target.
-pub const JUMP_LAG: u64 = 3;
+pub const JUMP_LAG: u64 = REDIRECT_LAG;
 
 impl Edges {
     ghost use Rattle.region_tree.specs.Edges.{onward, ended};
@@ -71,10 +71,10 @@ fn edges_from(address: u32, instruction: Ins) -> Edges
     ensures { result ≡ edges_from address instruction }
 {
     match instruction {
-        Ins::Load { .. } | Ins::Muldiv { .. } => Edges::onward(address, 2),
-        Ins::Csr { .. } | Ins::Ee { .. } | Ins::De => Edges::onward(address, 3),
+        Ins::Load { .. } | Ins::Muldiv { .. } => Edges::onward(address, LATE_LAG),
+        Ins::Csr { .. } | Ins::Ee { .. } | Ins::De => Edges::onward(address, REDIRECT_LAG),
         Ins::Branch { off, .. } => {
-            let mut edges = Edges::onward(address, 1);
+            let mut edges = Edges::onward(address, PLAIN_LAG);
             edges.jump = target(address, off);
             edges
         }
@@ -86,7 +86,7 @@ fn edges_from(address: u32, instruction: Ins) -> Edges
         Ins::Ecall | Ins::Ebreak | Ins::Illegal { .. } => Edges::ended(Stop::No),
         Ins::Jalr { .. } | Ins::Mret => Edges::ended(Stop::Indirect),
         Ins::Du { .. } | Ins::Wu { .. } => Edges::ended(Stop::Timed),
-        _ => Edges::onward(address, 1),
+        _ => Edges::onward(address, PLAIN_LAG),
     }
 }
 

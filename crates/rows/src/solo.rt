@@ -4,18 +4,17 @@
 //! takes time is the engine.
 
 ghost use Rattle.std.specs.Prelude.{◌≤◌};
+ghost use Rattle.timer_unit.specs.Time.{most_cycles};
 ghost use Rattle.solo_run.specs.View.{IsView};
 
 use crate::numbers::{head, number, thread_of};
 use fp_image::read_image;
 use fp_io::{Files, PutFailed, RealFiles, Sink};
-use fp_setup::read_setup;
+use fp_setup::{MOST_SETUP_BYTES, read_setup};
 use solo_run::{NoPort, SoloRun, SoloView};
 use std::alloc::{AllocError, Global};
 use std::fmt::Write;
-
-/// The most bytes that are read of a file.
-const MOST_BYTES: usize = 262_144;
+use timer_unit::MOST_CYCLES;
 
 /// A sink that counts the bytes that it takes, and keeps none. It never fails.
 #[derive(Clone, Copy)]
@@ -39,7 +38,7 @@ impl Sink for Tally {
 /// How many bytes a thread's trace has; None where memory was refused.
 fn bytes_of(view: SoloView, cycles: u64) -> Option<u64>
     requires view { IsView view }
-    requires limit { cycles ≤ 4000000000 }
+    requires limit { cycles ≤ most_cycles }
 {
     let mut tally = Tally { bytes: 0 };
     match SoloRun::new(view).run(cycles, &mut NoPort, &mut tally) {
@@ -57,7 +56,7 @@ fn trace_length(
     thread: u8,
     cycles: u64,
 ) -> Result<Option<u64>, AllocError> {
-    if thread > 7 || cycles > 4_000_000_000 {
+    if thread > 7 || cycles > MOST_CYCLES {
         return Ok(None);
     }
     let Ok(setup) = read_setup(alloc, setup) else {
@@ -72,7 +71,7 @@ fn trace_length(
 
 /// The bytes of a file; none where it can't be read.
 fn bytes_in(rt: HostRuntime, name: &str) -> Vec<u8> {
-    match RealFiles::new(rt).fetch(rt.alloc(), name, MOST_BYTES) {
+    match RealFiles::new(rt).fetch(rt.alloc(), name, MOST_SETUP_BYTES) {
         Ok(bytes) => bytes,
         Err(_) => Vec::new(rt.alloc()),
     }

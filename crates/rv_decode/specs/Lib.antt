@@ -1,5 +1,6 @@
 pub mod Fields
 pub mod Table
 pub mod Range
+pub mod CsrNumbers
 pub mod Lag
 pub mod Encoding

@@ -5,6 +5,16 @@ ghost use Rattle.rv_decode.specs.Lag.{lag};
 
 use crate::instruction::Ins;
 
+/// The lag of an instruction that the next word follows at once, in cycles.
+pub const PLAIN_LAG: u64 = 1;
+
+/// The lag of an instruction whose value comes late, in cycles: a load, a multiplication or a
+/// division.
+pub const LATE_LAG: u64 = 2;
+
+/// The lag of an instruction behind which the thread is redirected, in cycles.
+pub const REDIRECT_LAG: u64 = 3;
+
 /// The lag of `i`, 1 to 3 cycles: an issue of it in cycle c lets the thread's next instruction
 /// issue from cycle c plus the lag on. `taken` says whether `i` is a branch that is taken, and
 /// `trapped` whether it traps. The table is this project's profile.
@@ -14,11 +24,11 @@ pub fn lag_of(i: &Ins, taken: bool, trapped: bool) -> u64
     ensures short { result ≤ 3 }
 {
     if trapped {
-        return 3;
+        return REDIRECT_LAG;
     }
     match *i {
-        Ins::Load { .. } | Ins::Muldiv { .. } => 2,
-        Ins::Branch { .. } if !taken => 1,
+        Ins::Load { .. } | Ins::Muldiv { .. } => LATE_LAG,
+        Ins::Branch { .. } if !taken => PLAIN_LAG,
         Ins::Branch { .. }
         | Ins::Jal { .. }
         | Ins::Jalr { .. }
@@ -30,7 +40,7 @@ pub fn lag_of(i: &Ins, taken: bool, trapped: bool) -> u64
         | Ins::De
         | Ins::Ecall
         | Ins::Ebreak
-        | Ins::Illegal { .. } => 3,
+        | Ins::Illegal { .. } => REDIRECT_LAG,
         Ins::Lui { .. }
         | Ins::Auipc { .. }
         | Ins::Store { .. }
@@ -39,6 +49,6 @@ pub fn lag_of(i: &Ins, taken: bool, trapped: bool) -> u64
         | Ins::Op { .. }
         | Ins::Fence { .. }
         | Ins::Gt { .. }
-        | Ins::Gth { .. } => 1,
+        | Ins::Gth { .. } => PLAIN_LAG,
     }
 }

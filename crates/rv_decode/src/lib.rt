@@ -3,6 +3,7 @@
 
 #![tactic(auto)]
 
+pub mod csr;
 mod decoder;
 mod encoder;
 mod fields;
@@ -12,4 +13,4 @@ mod lags;
 pub use decoder::decode;
 pub use encoder::encode;
 pub use instruction::{AluOp, BranchOp, CsrKind, ImmOp, Ins, LoadOp, MulOp, ShiftOp, StoreOp};
-pub use lags::lag_of;
+pub use lags::{LATE_LAG, PLAIN_LAG, REDIRECT_LAG, lag_of};

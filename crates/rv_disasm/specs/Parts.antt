@@ -1,5 +1,6 @@
 -- What stands in the line of an instruction.
 use Rattle.std.specs.Prelude.{ℕ, suc, ◌==◌, ℤ, pos, negsuc, List, [], ◌∷◌, ◌++◌, codes, decimal, flat_map, if◌then◌else◌}
+use Rattle.rv_decode.specs.CsrNumbers.{csr_mtvec, csr_mscratch, csr_mepc, csr_mcause, csr_mhartid, csr_slots, csr_modes, csr_dregions, csr_iregions}
 use Rattle.trace_print.specs.Digits.{hex}
 use Rattle.fp_asm.specs.Pieces.{Text}
 
@@ -50,15 +51,15 @@ signed (negsuc n) = minus ∷ counted (suc n) ∷ []
 -- a control and status register: by its name where it has one, else by its number
 abbrev pub csr_part : ℕ → Part
 csr_part n =
-    if n == 0x305 then named (codes "mtvec")
-    else if n == 0x340 then named (codes "mscratch")
-    else if n == 0x341 then named (codes "mepc")
-    else if n == 0x342 then named (codes "mcause")
-    else if n == 0xf14 then named (codes "mhartid")
-    else if n == 0x7c0 then named (codes "slots")
-    else if n == 0x7c1 then named (codes "modes")
-    else if n == 0x7c2 then named (codes "dregions")
-    else if n == 0x7c3 then named (codes "iregions")
+    if n == csr_mtvec then named (codes "mtvec")
+    else if n == csr_mscratch then named (codes "mscratch")
+    else if n == csr_mepc then named (codes "mepc")
+    else if n == csr_mcause then named (codes "mcause")
+    else if n == csr_mhartid then named (codes "mhartid")
+    else if n == csr_slots then named (codes "slots")
+    else if n == csr_modes then named (codes "modes")
+    else if n == csr_dregions then named (codes "dregions")
+    else if n == csr_iregions then named (codes "iregions")
     else digits 3 n
 
 -- The forms of operands.

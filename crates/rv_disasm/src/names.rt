@@ -5,7 +5,7 @@ ghost use Rattle.rv_disasm.specs.Names.{branch_name, load_name, store_name, imm_
 ghost use Rattle.rv_disasm.specs.Names.{shift_name, alu_name, mul_name, csr_name};
 ghost use Rattle.rv_disasm.specs.Parts.{csr_part, digits, named};
 
-use rv_decode::{AluOp, BranchOp, CsrKind, ImmOp, LoadOp, MulOp, ShiftOp, StoreOp};
+use rv_decode::{AluOp, BranchOp, CsrKind, ImmOp, LoadOp, MulOp, ShiftOp, StoreOp, csr};
 
 pub fn branch_name(op: BranchOp) -> &'static str
     ensures name { result.now ≡ branch_name op }
@@ -125,15 +125,15 @@ pub fn csr_name(csr: u16) -> Option<&'static str>
     ensures short { IfSome result (λ name. length name.now ≤ 8) }
 {
     Some(match csr {
-        0x305 => "mtvec",
-        0x340 => "mscratch",
-        0x341 => "mepc",
-        0x342 => "mcause",
-        0xf14 => "mhartid",
-        0x7c0 => "slots",
-        0x7c1 => "modes",
-        0x7c2 => "dregions",
-        0x7c3 => "iregions",
+        csr::MTVEC => "mtvec",
+        csr::MSCRATCH => "mscratch",
+        csr::MEPC => "mepc",
+        csr::MCAUSE => "mcause",
+        csr::MHARTID => "mhartid",
+        csr::SLOTS => "slots",
+        csr::MODES => "modes",
+        csr::DREGIONS => "dregions",
+        csr::IREGIONS => "iregions",
         _ => return None,
     })
 }

@@ -1,5 +1,6 @@
 pub mod Words
 pub mod Alu
 pub mod Access
+pub mod TrapCauses
 pub mod Result
 pub mod Line

@@ -8,6 +8,7 @@ use Rattle.rv_decode.specs.declared.instruction.Ins.{Ins}
 use Rattle.rv_decode.specs.declared.instruction.Ins.TheVariants.{Lui, Auipc, Jal, Jalr, Branch, Load, Store, OpImm, Shift, Op, Muldiv, Fence, Ecall, Ebreak, Mret, Csr, Gt, Gth, Du, Wu, Ee, De, Illegal}
 use Rattle.rv_decode.specs.declared.instruction.BranchOp.{BranchOp}
 use Rattle.rv_decode.specs.declared.instruction.BranchOp.TheVariants.{Beq, Bne, Blt, Bge, Bltu, Bgeu}
+use Rattle.rv_exec.specs.TrapCauses.{cause_misaligned_target, cause_illegal, cause_breakpoint, cause_misaligned_load, cause_misaligned_store, cause_environment_call}
 
 -- "Conditional Branches"
 unfoldable pub is_taken : BranchOp → ℕ → ℕ → Bool
@@ -48,30 +49,28 @@ of_access address size cause = record nothing { address = address; trap = unless
 
 -- a jump with the word for rd, which traps where its target is no multiple of 4
 abbrev pub of_jump : ℕ → ℕ → Outcome
-of_jump link target = record nothing { value = link; target = target; trap = unless (is_aligned target 4) 0 }
+of_jump link target = record nothing { value = link; target = target; trap = unless (is_aligned target 4) cause_misaligned_target }
 
 -- a branch, which traps where it is taken to a target that is no multiple of 4
 abbrev pub of_branch : Bool → ℕ → Outcome
-of_branch taken target = record nothing { target = target; taken = taken; trap = if taken then unless (is_aligned target 4) 0 else None }
+of_branch taken target = record nothing { target = target; taken = taken; trap = if taken then unless (is_aligned target 4) cause_misaligned_target else None }
 
--- the outcome of each instruction. Causes (RISC-V privileged manual, "Machine Cause Register"): 0
--- misaligned target, 2 illegal instruction, 3 breakpoint, 4 misaligned load, 6 misaligned store, 11
--- environment call
+-- the outcome of each instruction
 unfoldable pub result_of : Ins → ℕ → ℕ → ℕ → Outcome
 result_of (Lui rd imm) pc a b = of_value (imm * 2 ^ 12 % 2 ^ 32)
 result_of (Auipc rd imm) pc a b = of_value ((pc + imm * 2 ^ 12) % 2 ^ 32)
 result_of (Jal rd off) pc a b = of_jump ((pc + 4) % 2 ^ 32) (offset pc off)
 result_of (Jalr rd rs1 imm) pc a b = of_jump ((pc + 4) % 2 ^ 32) (even_below (offset a imm))
 result_of (Branch op rs1 rs2 off) pc a b = of_branch (is_taken op a b) (offset pc off)
-result_of (Load op rd rs1 imm) pc a b = of_access (offset a imm) (load_size op) 4
-result_of (Store op rs1 rs2 imm) pc a b = of_access (offset a imm) (store_size op) 6
+result_of (Load op rd rs1 imm) pc a b = of_access (offset a imm) (load_size op) cause_misaligned_load
+result_of (Store op rs1 rs2 imm) pc a b = of_access (offset a imm) (store_size op) cause_misaligned_store
 result_of (OpImm op rd rs1 imm) pc a b = of_value (computed_with op a imm)
 result_of (Shift op rd rs1 amount) pc a b = of_value (shifted op a amount)
 result_of (Op op rd rs1 rs2) pc a b = of_value (computed op a b)
 result_of (Muldiv op rd rs1 rs2) pc a b = of_value (multiplied op a b)
 result_of (Fence w) pc a b = nothing
-result_of Ecall pc a b = of_trap 11
-result_of Ebreak pc a b = of_trap 3
+result_of Ecall pc a b = of_trap cause_environment_call
+result_of Ebreak pc a b = of_trap cause_breakpoint
 result_of Mret pc a b = nothing
 result_of (Csr op rd csr src) pc a b = nothing
 result_of (Gt rd) pc a b = nothing
@@ -80,4 +79,4 @@ result_of (Du rs1 rs2) pc a b = nothing
 result_of (Wu rs1 rs2) pc a b = nothing
 result_of (Ee rs1 rs2) pc a b = nothing
 result_of De pc a b = nothing
-result_of (Illegal w) pc a b = of_trap 2
+result_of (Illegal w) pc a b = of_trap cause_illegal

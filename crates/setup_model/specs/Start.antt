@@ -2,6 +2,7 @@
 -- in.
 use Rattle.std.specs.Prelude.{ℕ, ◌+◌, ◌*◌, ◌/◌, Bool, true, false, List, slice_index_or, map, replicate, Option, Some, None}
 use Rattle.std.specs.List.{range_with_len}
+use Rattle.region_guard.specs.MemoryMap.{data_start}
 use Rattle.fp_image.specs.Rules.{word}
 use Rattle.fp_image.specs.declared.parts.Segment.{Segment}
 use Rattle.fp_ports.specs.Rows.{Row, row_at}
@@ -23,7 +24,7 @@ i_words_of s image = words_from image 0 (size_of s.version)
 
 -- the words of the data scratchpad
 abbrev pub d_words_of : Settings → List Segment → List ℕ
-d_words_of s image = words_from image 0x20000000 (size_of s.version)
+d_words_of s image = words_from image data_start (size_of s.version)
 
 -- what a setup says of one of the threads
 abbrev pub thread_of : Settings → ℕ → ThreadSetup

@@ -2,6 +2,11 @@
 use Rattle.std.specs.Prelude.{ℕ, ◌+◌, ◌*◌, ◌/◌, ◌%◌, nat_le, Bool, false, List, slice_index_or, Option, Some, None}
 use Rattle.timer_unit.specs.declared.row.Timer.{Timer}
 
+-- the most cycles that a run may have, and the last cycle that an input may name: their times fit
+-- in 64 bits with every period
+abbrev pub most_cycles : ℕ
+most_cycles = 4000000000
+
 -- the time of a cycle, by the period of the cycles
 abbrev pub time : ℕ → ℕ → ℕ
 time period cycle = period * cycle

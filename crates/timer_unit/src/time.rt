@@ -5,6 +5,10 @@ ghost use Rattle.timer_unit.specs.Time.{moment, time};
 
 use std::marker::Model;
 
+/// The most cycles that a run may have, and the last cycle that an input may name: their times fit
+/// in 64 bits with every period.
+pub const MOST_CYCLES: u64 = 4_000_000_000;
+
 /// The clock of the core, whose cycles have a period of 1 to 1,000 nanoseconds.
 #[derive(Clone, Copy, Debug)]
 pub struct Clock {

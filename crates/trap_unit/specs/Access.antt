@@ -1,5 +1,6 @@
 -- An access to a register by its number: when it is refused, what it answers and what it writes.
 use Rattle.std.specs.Prelude.{ℕ, ◌==◌, Bool, not, ◌&&◌, if◌then◌else◌, List, slice_set, Option, Some, None, Result, Ok, Err}
+use Rattle.rv_decode.specs.CsrNumbers.{csr_mhartid, csr_slots, csr_modes, csr_dregions, csr_iregions}
 use Rattle.region_guard.specs.declared.access.Guard.{Guard}
 use Rattle.slot_scheduler.specs.declared.picking.Sched.{Sched}
 use Rattle.core_model.specs.declared.own.Trapping.{Trapping}
@@ -13,9 +14,9 @@ use Rattle.trap_unit.specs.Rows.{trap_of, with_trap}
 -- one of the machine's registers 0x7C0 to 0x7C3
 abbrev pub shared_value : Sched → Guard → ℕ → ℕ
 shared_value s g csr =
-    if csr == 0x7C0 then s.slots
-    else if csr == 0x7C1 then s.modes
-    else if csr == 0x7C2 then g.d
+    if csr == csr_slots then s.slots
+    else if csr == csr_modes then s.modes
+    else if csr == csr_dregions then g.d
     else g.i
 
 -- a register by its number, none where the number is none
@@ -33,7 +34,7 @@ abbrev pub answer_by : Bool → CsrOp → ℕ → ℕ → Bool → Option ℕ �
 answer_by permit op csr operand writes None = Err Unknown
 answer_by permit op csr operand writes (Some old) =
     if is_shared csr && not permit then Err NoPermit
-    else if csr == 0xF14 && writes then Err ReadOnly
+    else if csr == csr_mhartid && writes then Err ReadOnly
     else if writes && not (may_hold csr (changed op old operand)) then Err BadValue
     else Ok (done_with op csr operand writes old)
 
@@ -51,14 +52,14 @@ traps_after traps thread csr (Some value) = slice_set traps thread (with_csr (wi
 abbrev pub sched_after : Sched → ℕ → Option ℕ → Sched
 sched_after s csr None = s
 sched_after s csr (Some value) =
-    if csr == 0x7C0 then record s { slots = value }
-    else if csr == 0x7C1 then record s { modes = value }
+    if csr == csr_slots then record s { slots = value }
+    else if csr == csr_modes then record s { modes = value }
     else s
 
 -- the region registers after a write to one of them; other numbers change nothing of them
 abbrev pub guard_after : Guard → ℕ → Option ℕ → Guard
 guard_after g csr None = g
 guard_after g csr (Some value) =
-    if csr == 0x7C2 then record g { d = value }
-    else if csr == 0x7C3 then record g { i = value }
+    if csr == csr_dregions then record g { d = value }
+    else if csr == csr_iregions then record g { i = value }
     else g

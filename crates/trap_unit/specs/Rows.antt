@@ -1,5 +1,6 @@
 -- The trap registers of the threads: for each thread a row.
 use Rattle.std.specs.Prelude.{◌≡◌, ℕ, ◌%◌, ◌==◌, Bool, ◌||◌, List, slice_index_or}
+use Rattle.rv_decode.specs.CsrNumbers.{csr_mtvec, csr_mscratch, csr_mepc, csr_mcause}
 use Rattle.core_model.specs.declared.own.Trapping.{Trapping}
 use Rattle.core_model.specs.declared.own.Own.{Own}
 use Rattle.core_model.specs.Thread.{no_own}
@@ -19,7 +20,7 @@ IsAlignedTrap trap = (trap.mtvec % 4 ≡ 0) × (trap.mepc % 4 ≡ 0)
 
 -- the numbers of these registers: mtvec, mscratch, mepc and mcause
 abbrev pub is_trap : ℕ → Bool
-is_trap csr = csr == 0x305 || csr == 0x340 || csr == 0x341 || csr == 0x342
+is_trap csr = csr == csr_mtvec || csr == csr_mscratch || csr == csr_mepc || csr == csr_mcause
 
 -- a thread with these trap registers, as the definitions of one thread take it
 abbrev pub with_trap : Trapping → Own
@@ -27,4 +28,4 @@ with_trap trap = record no_own { trap = trap }
 
 -- a thread's trap registers once a trap has saved the pc and the cause
 abbrev pub entered : Trapping → ℕ → ℕ → Trapping
-entered trap cause epc = record trap { mepc = kept 0x341 epc; mcause = cause }
+entered trap cause epc = record trap { mepc = kept csr_mepc epc; mcause = cause }

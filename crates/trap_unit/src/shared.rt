@@ -5,6 +5,7 @@ ghost use Rattle.core_model.specs.Csr.{may_hold};
 ghost use Rattle.trap_unit.specs.Access.{shared_value, sched_after, guard_after};
 
 use region_guard::{Guard, Regions};
+use rv_decode::csr;
 use slot_scheduler::{Modes, Sched};
 use slot_table::SlotTable;
 
@@ -14,9 +15,9 @@ pub fn read_shared(sched: &Sched, guard: &Guard, csr: u16) -> u32
     ensures { result ≡ shared_value sched.now guard.now csr }
 {
     match csr {
-        0x7C0 => sched.slots.word(),
-        0x7C1 => sched.modes.word(),
-        0x7C2 => guard.d.word(),
+        csr::SLOTS => sched.slots.word(),
+        csr::MODES => sched.modes.word(),
+        csr::DREGIONS => guard.d.word(),
         _ => guard.i.word(),
     }
 }
@@ -30,22 +31,22 @@ pub fn write_shared(sched: &mut Sched, guard: &mut Guard, csr: u16, word: u32)
     ensures guard { guard.new ≡ guard_after guard.old csr (Some word) }
 {
     match csr {
-        0x7C0 => {
+        csr::SLOTS => {
             if let Ok(slots) = SlotTable::from_word(word) {
                 sched.slots = slots;
             }
         }
-        0x7C1 => {
+        csr::MODES => {
             if let Ok(modes) = Modes::from_word(word) {
                 sched.modes = modes;
             }
         }
-        0x7C2 => {
+        csr::DREGIONS => {
             if let Ok(regions) = Regions::from_word(word) {
                 guard.d = regions;
             }
         }
-        0x7C3 => {
+        csr::IREGIONS => {
             if let Ok(regions) = Regions::from_word(word) {
                 guard.i = regions;
             }

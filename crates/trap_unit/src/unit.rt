@@ -9,6 +9,7 @@ use crate::shared::{read_shared, write_shared};
 use core_model::{CsrOp, Own, Trapping};
 use hart_exec::{change, keep, may_hold, put, value_of};
 use region_guard::Guard;
+use rv_decode::csr;
 use slot_scheduler::Sched;
 use std::marker::Model;
 use thiserror::Error;
@@ -100,9 +101,9 @@ impl Traps {
     {
         let row = self.row(thread);
         match csr {
-            0x305 => row.mtvec,
-            0x340 => row.mscratch,
-            0x341 => row.mepc,
+            csr::MTVEC => row.mtvec,
+            csr::MSCRATCH => row.mscratch,
+            csr::MEPC => row.mepc,
             _ => row.mcause,
         }
     }
@@ -117,7 +118,7 @@ impl Traps {
         ensures eight { length self.new ≡ 8 }
     {
         let row = self.row(thread);
-        let mepc = keep(0x341, epc);
+        let mepc = keep(csr::MEPC, epc);
         self.set_row(
             thread,
             Trapping {
@@ -196,10 +197,10 @@ impl Traps {
         let Some(old) = self.value_of(sched, guard, thread, csr) else {
             return Err(CsrNo::Unknown);
         };
-        if (0x7C0..=0x7C3).contains(&csr) && !permit {
+        if (csr::SLOTS..=csr::IREGIONS).contains(&csr) && !permit {
             return Err(CsrNo::NoPermit);
         }
-        if csr == 0xF14 && writes {
+        if csr == csr::MHARTID && writes {
             return Err(CsrNo::ReadOnly);
         }
         if !writes {

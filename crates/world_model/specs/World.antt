@@ -2,10 +2,12 @@
 -- one whole instruction.
 use Rattle.std.specs.Prelude.{ℕ, zero, suc, ◌-◌, ◌==◌, nat_lt, Bool, true, false, not, ◌&&◌, if◌then◌else◌, List, [], ◌∷◌, ◌++◌, slice_index_or, slice_set, map, length, Option, Some, None}
 use Rattle.std.specs.List.{list_all}
+use Rattle.rv_decode.specs.CsrNumbers.{csr_slots, csr_modes, csr_dregions, csr_iregions}
 use Rattle.rv_exec.specs.declared.outcome.Effect.{Effect}
 use Rattle.rv_exec.specs.declared.outcome.Effect.TheVariants.{Store, Csr}
 use Rattle.rv_exec.specs.declared.outcome.Event.{Event}
 use Rattle.region_guard.specs.Regions.{may_fetch, may_load, may_store, is_data}
+use Rattle.region_guard.specs.MemoryMap.{port_address}
 use Rattle.slot_scheduler.specs.declared.picking.Pick.{Pick}
 use Rattle.slot_scheduler.specs.declared.picking.Pick.TheVariants.{Issue, Bubble}
 use Rattle.slot_scheduler.specs.declared.picking.Sched.{Sched}
@@ -70,9 +72,9 @@ sched_of w = sched_by w.registers (map (λ t. t.own.sleep) w.threads)
 -- one of the machine's own registers, by its number
 abbrev pub register : Registers → ℕ → ℕ
 register r csr =
-    if csr == 0x7C0 then r.slots
-    else if csr == 0x7C1 then r.modes
-    else if csr == 0x7C2 then r.dregions
+    if csr == csr_slots then r.slots
+    else if csr == csr_modes then r.modes
+    else if csr == csr_dregions then r.dregions
     else r.iregions
 
 -- a value, where there is a permit
@@ -111,16 +113,16 @@ words_after size _ words = words
 -- to the machine's own registers,
 abbrev pub registers_after : Option Effect → Registers → Registers
 registers_after (Some (Csr csr value rd old)) r =
-    if csr == 0x7C0 then record r { slots = value }
-    else if csr == 0x7C1 then record r { modes = value }
-    else if csr == 0x7C2 then record r { dregions = value }
-    else if csr == 0x7C3 then record r { iregions = value }
+    if csr == csr_slots then record r { slots = value }
+    else if csr == csr_modes then record r { modes = value }
+    else if csr == csr_dregions then record r { dregions = value }
+    else if csr == csr_iregions then record r { iregions = value }
     else r
 registers_after _ r = r
 
 -- and to the latch of the thread's port, if that is there
 abbrev pub latched : Bool → ℕ → Option Effect → List ℕ → List ℕ
-latched there k (Some (Store address width value)) latches = if address == 0x40000000 && there then slice_set latches k value else latches
+latched there k (Some (Store address width value)) latches = if address == port_address && there then slice_set latches k value else latches
 latched there k _ latches = latches
 
 -- whether a port that was handed in is still there in a cycle

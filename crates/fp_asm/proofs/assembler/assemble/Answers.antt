@@ -2,12 +2,12 @@ use Rattle.std.proofs.Common.{rules}
 use Rattle.fp_asm.specs.Source.{assembled}
 use Rattle.fp_asm.proofs.assembler.assemble.Goals as goal
 
-pub returns-then-source-gt-MOST_BYTES-clause-image : goal.returns-then-source-gt-MOST_BYTES-clause-image
-returns-then-source-gt-MOST_BYTES-clause-image c = tt
+pub returns-then-source-gt-MOST_SOURCE_BYTES-clause-image : goal.returns-then-source-gt-MOST_SOURCE_BYTES-clause-image
+returns-then-source-gt-MOST_SOURCE_BYTES-clause-image c = tt
 
-pub returns-then-source-gt-MOST_BYTES-clause-refused : goal.returns-then-source-gt-MOST_BYTES-clause-refused
+pub returns-then-source-gt-MOST_SOURCE_BYTES-clause-refused : goal.returns-then-source-gt-MOST_SOURCE_BYTES-clause-refused
 unfolding assembled
-returns-then-source-gt-MOST_BYTES-clause-refused c = search rules
+returns-then-source-gt-MOST_SOURCE_BYTES-clause-refused c = search rules
 
 pub assemble_lines-requires-clause-few : goal.assemble_lines-requires-clause-few
 assemble_lines-requires-clause-few c = search rules

@@ -1,8 +1,8 @@
 use Rattle.std.proofs.Common.{rules, ◌∙◌, ◌≤◌}
 use Rattle.std.proofs.lemmas.Result.{err_from_is_err_and}
 use Rattle.std.proofs.lemmas.List.Elements.{All-push, All-same}
+use Rattle.timer_unit.specs.Time.{most_cycles}
 use Rattle.fp_setup.specs.declared.input_list.Input.{Input}
-use Rattle.fp_setup.specs.Inputs.{last_cycle}
 use Rattle.fp_setup.proofs.InputByInput.{found-more, found-here, found-none, read-more, read-all, read-few, rising-more, reached-more}
 use Rattle.fp_setup.proofs.input_rows.inputs_of.Goals as goal
 
@@ -17,7 +17,7 @@ loop-index-preserved c =
     record {
       found = before.found ∙ found-more items i x c.in_ok-input.input c.loop-index-test.true c.index-items-index.is same c.args.path c.loop-index.before good;
       read = read-more items i x c.in_ok-input.input c.loop-index-test.true c.index-items-index.is same c.loop-index.read.items _ c.in_ok-push.ensures.items before.read;
-      within = All-same (λ (i : Input). i.at ≤ last_cycle) _ _ c.in_ok-push.ensures.items (All-push (λ (i : Input). i.at ≤ last_cycle) c.loop-index.read.items c.in_ok-input.input before.within c.in_ok-input.ensures.within);
+      within = All-same (λ (i : Input). i.at ≤ most_cycles) _ _ c.in_ok-push.ensures.items (All-push (λ (i : Input). i.at ≤ most_cycles) c.loop-index.read.items c.in_ok-input.input before.within c.in_ok-input.ensures.within);
       rising = rising-more c.loop-index.read.items _ c.in_ok-input.input c.loop-index.before c.in_ok-push.ensures.items before.reached c.in_ok-input.ensures.after before.rising;
       reached = reached-more c.loop-index.read.items _ c.in_ok-input.input c.loop-index.before c.in_ok-push.ensures.items before.reached c.in_ok-input.ensures.after;
     }

@@ -3,5 +3,5 @@ use Rattle.std.proofs.Common.{arith}
 use Rattle.std.proofs.lemmas.Grind.{common_steps}
 use Rattle.hart_exec.proofs.control.keep.Goals as goal
 
-pub returns-then-csr-eq833 : goal.returns-then-csr-eq833
-returns-then-csr-eq833 c = grind (arith, common_steps)
+pub returns-then-csr-eq-MEPC : goal.returns-then-csr-eq-MEPC
+returns-then-csr-eq-MEPC c = grind (arith, common_steps)

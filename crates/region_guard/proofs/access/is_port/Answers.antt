@@ -1,5 +1,5 @@
 use Rattle.std.proofs.Common.{rules}
 use Rattle.region_guard.proofs.access.is_port.Goals as goal
 
-pub returns-then-address-eq-PORT : goal.returns-then-address-eq-PORT
-returns-then-address-eq-PORT c = search rules
+pub returns-then-address-eq-PORT_ADDRESS : goal.returns-then-address-eq-PORT_ADDRESS
+returns-then-address-eq-PORT_ADDRESS c = search rules

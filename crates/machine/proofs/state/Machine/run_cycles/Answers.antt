@@ -4,6 +4,7 @@ use Rattle.std.proofs.lemmas.Result.{err_from_is_err_and}
 use Rattle.std.specs.Prelude.{is_some}
 use Rattle.std.specs.List.{list_any}
 use Rattle.fp_io.specs.Causes.{Rose}
+use Rattle.timer_unit.specs.Time.{most_cycles}
 use Rattle.pipe_model.specs.Stages.{retired}
 use Rattle.machine.proofs.RunLemmas.{left_all, run_begins, run_ends, run_on, run_stops}
 use Rattle.machine.proofs.WordLemmas.{words_on}
@@ -13,7 +14,7 @@ use Rattle.machine.proofs.state.Machine.run_cycles.Goals as goal
 before_end : (at k n : ℕ) → at ≡ k → k < n → at < n + 3
 before_end at k n is inside = omega arith
 
-before_limit : (at k n : ℕ) → at ≡ k → k < n → n ≤ 4000000000 → at < 4000000000
+before_limit : (at k n : ℕ) → at ≡ k → k < n → n ≤ most_cycles → at < most_cycles
 before_limit at k n is inside limit = omega arith
 
 -- and no cycle is left
