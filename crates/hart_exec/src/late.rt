@@ -13,6 +13,7 @@ use rv_decode::Ins;
 use rv_exec::{Effect, load_value, multiply};
 
 /// The register's write takes the place of `Nothing`.
+#[inline(always)]
 fn fill(effect: Option<Effect>, rd: u8, value: u32) -> Option<Effect>
     requires rd { rd < 32 }
     requires showable { IsShowable effect }
@@ -28,7 +29,9 @@ fn fill(effect: Option<Effect>, rd: u8, value: u32) -> Option<Effect>
 }
 
 /// The effect with its late value, if it has one: that of a load by the aligned word at its
-/// address, that of a multiplication or division by its sources.
+/// address, that of a multiplication or division by its sources. Inlined, since the caller decodes:
+/// then only the fields of these three are worked out, and no instruction is put into memory.
+#[inline(always)]
 pub fn finish(
     effect: Option<Effect>,
     i: &Ins,
