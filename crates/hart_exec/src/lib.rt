@@ -10,6 +10,7 @@ mod parts;
 mod plain;
 mod step;
 mod surroundings;
+mod word_sources;
 
 pub use control::{change, keep, may_hold, put, value_of};
 pub use late::finish;
@@ -17,3 +18,4 @@ pub use outcome::{Executed, Onward, PcWord, Sources};
 pub use plain::execute_plain;
 pub use step::{execute_in, sources_of};
 pub use surroundings::Surroundings;
+pub use word_sources::sources_in;

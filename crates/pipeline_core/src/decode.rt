@@ -7,10 +7,9 @@ ghost use Rattle.regfile_bank.specs.Registers.{registers_of};
 ghost use Rattle.pipe_model.specs.Stages.{forward, from_m, from_e, operand, flushes_d, decode_stage};
 ghost use Rattle.pipeline_core.specs.StageFacts.{EffectFits, FetchedFits, DecodedFits, ExecutedFits, StoredFits};
 
-use hart_exec::sources_of;
+use hart_exec::sources_in;
 use pipe_model::{Decoded, Executed, Fetched, Held, Redirect, Stored};
 use regfile_bank::Bank;
-use rv_decode::decode;
 use rv_exec::Effect;
 use timer_unit::{Clock, Timers};
 
@@ -135,7 +134,7 @@ pub fn decode_stage(
         *d = Held::Flushed { thread };
         return;
     }
-    let (rs1, rs2) = sources_of(&decode(x.word));
+    let (rs1, rs2) = sources_in(x.word);
     let (a, b) = sources(bank, m, e, thread, rs1, rs2);
     *d = Held::Issue {
         thread,
