@@ -43,6 +43,29 @@ pub next-short : (w a : ℕ) → (edges_of w a).next_lag ≤ 3
 unfolding edges_of
 next-short w a = short-from a (ins w)
 
+next-from : (a v : ℕ) (i : Ins) → (edges_from a i).next ≡ Some v → v ≡ (a + 4) % 2 ^ 32
+unfolding edges_from
+next-from a v (Load op rd rs1 imm) e = cc
+next-from a v (Muldiv op rd rs1 rs2) e = cc
+next-from a v (Csr op rd csr src) e = cc
+next-from a v (Ee rs1 rs2) e = cc
+next-from a v De e = cc
+next-from a v (Branch op rs1 rs2 off) e = cc
+next-from a v (Jal rd off) e = cc
+next-from a v Ecall e = cc
+next-from a v Ebreak e = cc
+next-from a v (Illegal w) e = cc
+next-from a v (Jalr rd rs1 imm) e = cc
+next-from a v Mret e = cc
+next-from a v (Du rs1 rs2) e = cc
+next-from a v (Wu rs1 rs2) e = cc
+next-from a v i e = cc
+
+-- the edge to the next word leads four bytes on
+pub next-word : (w a v : ℕ) → (edges_of w a).next ≡ Some v → v ≡ (a + 4) % 2 ^ 32
+unfolding edges_of
+next-word w a v e = next-from a v (ins w) e
+
 pub lag-short : (w a : ℕ) (e : Edge) → Contains (edge_list (edges_of w a)) e → e.lag ≤ 3
 lag-short w a e h = go (Contains-append_cases (edge_to (edges_of w a).next (edges_of w a).next_lag) (edge_to (edges_of w a).jump 3) e h)
   where

@@ -1,5 +1,5 @@
 -- The lowest address of which a fact holds, found bit by bit.
-use Rattle.std.proofs.Common.{◌≡◌, ℕ, ◌+◌, ◌-◌, ◌/◌, ◌≤◌, ◌<◌, ◌⊎◌, ◌↔◌, min, refl, arith, inl, inr, sym, subst, ◌∙◌, Option, Some, None, Bool, true, false, List, length, Contains}
+use Rattle.std.proofs.Common.{◌≡◌, ℕ, ◌+◌, ◌-◌, ◌/◌, ◌%◌, ◌^◌, ◌≤◌, ◌<◌, ◌⊎◌, ◌↔◌, min, refl, arith, inl, inr, sym, subst, ◌∙◌, Option, Some, None, Bool, true, false, List, length, Contains}
 use Rattle.std.proofs.lemmas.List.{get_or_default}
 use Rattle.std.proofs.lemmas.List.Elements.{Contains-get_or, Contains-append_cases, Contains-append_left, Contains-append_right}
 use Rattle.fp_setup.specs.declared.loop_list.LoopSetup.{LoopSetup}
@@ -9,7 +9,7 @@ use Rattle.region_tree.specs.Graph.{Edge, Lies, Holds, Reachable, edge_to}
 use Rattle.region_tree.specs.Refusals.{CrossedAt, DeepAt, EnteredAt, UnboundedAt, depth, loop_at, Nowhere, IsLowest}
 use Rattle.region_tree.specs.Search.{Before, CrossedHere, DeepHere, EntersOff, EnteredHere, EnteredBy, EnteredFrom, GoesBack, ReturnsBadly, LowestOf, address, lower_of}
 use Rattle.region_tree.specs.Tree.{Tree, IsDraft, graph, word_at}
-use Rattle.region_tree.proofs.EdgeLaws.{edge-is, is-edge}
+use Rattle.region_tree.proofs.EdgeLaws.{edge-is, is-edge, next-word}
 use Rattle.region_tree.proofs.GraphLaws.{reachable-aligned, reachable-lies, index-address, index-within}
 
 pub lowest-same : (P Q : ℕ → Type 0) (r : Option ℕ) → ((a : ℕ) → P a → Q a) → ((a : ℕ) → Q a → P a) → LowestOf P r → LowestOf Q r
@@ -79,11 +79,21 @@ by-edge t k b h = elim (Contains-append_cases (edge_to e.next e.next_lag) (edge_
     e : Edges
     e = edges_of (word_at t (address t k)) (address t k)
 
-pub entered-from : (t : Tree) (k : ℕ) (n j : Option ℕ) → Reachable (graph t) (address t k) → let e = edges_of (word_at t (address t k)) (address t k) in LowestOf (EnteredBy t.loops (address t k) e.next) n → LowestOf (EnteredBy t.loops (address t k) e.jump) j → LowestOf (EnteredFrom t k) (lower_of n j)
-entered-from t k n j r x y = lowest-same (λ a. EnteredBy t.loops (address t k) e.next a ⊎ EnteredBy t.loops (address t k) e.jump a) (EnteredFrom t k) (lower_of n j) (λ a h. record { reached = r; by = h }) (λ a h. h.by) (lowest-either (EnteredBy t.loops (address t k) e.next) (EnteredBy t.loops (address t k) e.jump) n j x y)
-  where
-    e : Edges
-    e = edges_of (word_at t (address t k)) (address t k)
+-- the edge to the next word enters a loop at its head alone
+entered-next : (t : Tree) (k a : ℕ) → IsDraft t → k < length t.words → EnteredBy t.loops (address t k) (edges_of (word_at t (address t k)) (address t k)).next a → ⊥
+entered-next t k a d within h =
+    let l = d.loops (loop_at t.loops h.2.0) (known-index t.loops h.2.0 h.2.1) in
+    let e = h.2.2.enters in
+    let next : h.0 ≡ (address t k + 4) % 2 ^ 32 = next-word (word_at t (address t k)) (address t k) h.0 h.1 in
+    let from = d.section.from_aligned in
+    let end = d.section.end in
+    let words = d.words in
+    e.outer (omega (arith, e.inner.0, e.other, l.head_aligned), omega (arith, e.inner.1))
+
+pub entered-from : (t : Tree) (k : ℕ) (j : Option ℕ) → IsDraft t → k < length t.words → Reachable (graph t) (address t k) → LowestOf (EnteredBy t.loops (address t k) (edges_of (word_at t (address t k)) (address t k)).jump) j → LowestOf (EnteredFrom t k) j
+entered-from t k j d within r y = lowest-same (EnteredBy t.loops (address t k) (edges_of (word_at t (address t k)) (address t k)).jump) (EnteredFrom t k) j
+    (λ a h. record { reached = r; by = inr h })
+    (λ a h. elim h.by [ inl next ↦ absurd (entered-next t k a d within next) | inr jump ↦ jump ]) y
 
 pub entered-all : (t : Tree) (n : ℕ) (r : Option ℕ) → IsDraft t → n ≡ length t.words → LowestOf (Before (EnteredFrom t) n) r → LowestOf (EnteredAt (graph t)) r
 entered-all t n r d all l = lowest-same (Before (EnteredFrom t) n) (EnteredAt (graph t)) r (λ a h. there a h.0 h.2 h.2.by) back l
