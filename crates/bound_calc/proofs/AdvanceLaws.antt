@@ -74,13 +74,13 @@ advance-one row hops n x h old mid is hop position a = record {
         came (inr s) = inr (n, x, h.cost, omega arith, is, hop ∙ (λ i. Some (record { cost = h.cost; position = sym same i })), (let k : min (x + h.cost) ceiling ≡ e = cc in sym k))
     from q e z (inr other) = elim (a.from q e (sym (get_or-set_other mid h.position q (larger_of (slice_index_or mid h.position None) (Some (min (x + h.cost) ceiling))) None other) ∙ z)) [ inl o ↦ inl o | inr y ↦ inr (y.0, y.1, y.2, omega (arith, y.3), y.4, y.5, y.6) ]
 
-pub advance-more : (row : List (Option ℕ)) (hops : List (Option Hop)) (n : ℕ) (old mid : List (Option ℕ)) → ((p d q : ℕ) → Hops hops p d q → q < 8) → length mid ≡ 8 → IsAdvanced row hops n old mid → IsAdvanced row hops (n + 1) old (raised (slice_index_or row n None) (slice_index_or hops n None) mid)
-advance-more row hops n old mid positions count a = go (slice_index_or row n None) (slice_index_or hops n None) refl refl
+pub advance-more : (row : List (Option ℕ)) (hops : List (Option Hop)) (n : ℕ) (old mid : List (Option ℕ)) → ((p d q : ℕ) → Hops hops p d q → q < 8) → ((h : Hop) → slice_index_or hops n None ≡ Some h → length mid ≡ 8) → IsAdvanced row hops n old mid → IsAdvanced row hops (n + 1) old (raised (slice_index_or row n None) (slice_index_or hops n None) mid)
+advance-more row hops n old mid positions long a = go (slice_index_or row n None) (slice_index_or hops n None) refl refl
   where
     go : (sum : Option ℕ) (hop : Option Hop) → slice_index_or row n None ≡ sum → slice_index_or hops n None ≡ hop → IsAdvanced row hops (n + 1) old (raised sum hop mid)
     go None hop is at = advance-same row hops n old mid (λ x d q z h. let k : None ≡ Some x = sym is ∙ z in cc) a
     go (Some x) None is at = advance-same row hops n old mid (λ y d q z h. let k : None ≡ Some (record { cost = d; position = q }) = sym at ∙ h in cc) a
-    go (Some x) (Some h) is at = advance-one row hops n x h old mid is at (let p = positions n h.cost h.position at in omega arith) a
+    go (Some x) (Some h) is at = advance-one row hops n x h old mid is at (let p = positions n h.cost h.position at in let count = long h at in omega arith) a
 
 -- the row of a matrix
 abbrev pub row_of : Matrix → ℕ → List (Option ℕ)

@@ -2,7 +2,7 @@
 use Rattle.std.proofs.Common.{◌≡◌, ◌≢◌, ℕ, zero, suc, ◌+◌, ◌-◌, ◌/◌, ◌%◌, ◌<◌, ◌≤◌, ◌⊎◌, ◌&&◌, nat_lt, nat_le, refl, arith, subst, sym, ap, ◌∙◌, inl, inr, List, [], ◌++◌, length, Option, Some, None, slice_index_or, slice_set, MatchOption, replicate, get_or-set_other, get_or-set_same, length-set, Contains, Bool, true, false, if◌then◌else◌, Box, Global, IfSome}
 use Rattle.std.proofs.lemmas.List.Elements.{Contains-append_left, Contains-append_right, Contains-append_cases}
 use Rattle.std.proofs.lemmas.Bool.Decides.{nat_tests}
-use Rattle.std.proofs.lemmas.List.{get_or_default}
+use Rattle.std.proofs.lemmas.List.{get_or_append_left, get_or-append_right, get_or_default, set-append_right}
 use Rattle.std.specs.Option.{option_map}
 use Rattle.fp_setup.specs.declared.loop_list.LoopSetup.{LoopSetup}
 use Rattle.region_tree.specs.declared.edges.Edges.{Edges as EdgesOf}
@@ -14,7 +14,7 @@ use Rattle.region_tree.proofs.EdgeLaws.{edge-aligned, edge-is, is-edge, next-sho
 use Rattle.region_tree.proofs.GraphLaws.{reachable-aligned, index-address, address-lies, address-index}
 use Rattle.bound_calc.specs.declared.matrix.Matrix.{Matrix}
 use Rattle.bound_calc.specs.declared.hop.Hop.{Hop}
-use Rattle.bound_calc.specs.Best.{Costs, Stays, Either, Then, Entries, In, IsBest, ceiling}
+use Rattle.bound_calc.specs.Best.{Costs, Stays, Either, Then, Entries, In, IsBest}
 use Rattle.bound_calc.specs.Context.{IsNested, Part, IsPart, body}
 use Rattle.bound_calc.specs.Hops.{Hops, IsHops}
 use Rattle.bound_calc.specs.Matrices.{entry}
@@ -24,10 +24,10 @@ use Rattle.bound_calc.specs.Section.{Field, Steps, net, whole}
 use Rattle.bound_calc.specs.Ways.{Reaches, Enters, Rounds}
 use Rattle.bound_calc.proofs.Accepted.{accepted}
 use Rattle.bound_calc.proofs.Sections.{field-nested}
-use Rattle.bound_calc.proofs.BestLaws.{best-either, best-same, best-either-then}
+use Rattle.bound_calc.proofs.BestLaws.{best-same, best-either-then}
 use Rattle.bound_calc.proofs.Counters.{above}
 use Rattle.bound_calc.proofs.Embed.{is_or_not}
-use Rattle.bound_calc.proofs.Entries.{entry-in, entry-range, min-under}
+use Rattle.bound_calc.proofs.Entries.{entry-in, entry-range}
 use Rattle.bound_calc.proofs.Heads.{Fresh, enter, from_below}
 use Rattle.bound_calc.proofs.Passes.{walk-reachable, comes-enters, enters-comes, reach-head, comes-more, comes-same}
 use Rattle.bound_calc.proofs.StepLaws.{nothing, get-none}
@@ -56,6 +56,18 @@ is-brought to k here joined f old is lt best = record {
       (subst (λ m. IsBest (entry m) (Either (In (matrix_at old k)) (Then (In (entry here)) f))) (sym (get_or-set_same old k joined no_matrix lt)) best);
 }
 
+-- a matrix put behind the front in which the edge starts
+pub brought-behind : (to : Option ℕ) (i k : ℕ) (joined : Matrix) (f : Costs) (old low high : List Matrix) → to ≡ Some k → i < k → k < length old → old ≡ low ++ high → length low ≡ k → IsBest (entry joined) (Either (In (matrix_at high 0)) (Then (In (matrix_at low i)) f)) → IsBrought f to (slice_index_or old i no_matrix) old (low ++ slice_set high 0 joined)
+brought-behind to i k joined f old low high is lt within parts len best =
+    let none : k - k ≡ 0 = omega arith in
+    let at : slice_index_or old k no_matrix ≡ slice_index_or high 0 no_matrix = ap (λ l. slice_index_or l k no_matrix) parts ∙ (get_or-append_right low high k k no_matrix len (omega arith) ∙ ap (λ n. slice_index_or high n no_matrix) none) in
+    let from : slice_index_or old i no_matrix ≡ slice_index_or low i no_matrix = ap (λ l. slice_index_or l i no_matrix) parts ∙ get_or_append_left low high no_matrix i (omega arith) in
+    let put : slice_set old k joined ≡ low ++ slice_set high 0 joined = ap (λ l. slice_set l k joined) parts ∙ (set-append_right low high k k joined len (omega arith) ∙ ap (λ n. low ++ slice_set high n joined) none) in
+    subst (λ new. IsBrought f to (slice_index_or old i no_matrix) old new) put
+    (is-brought to k (slice_index_or old i no_matrix) joined f old is within
+    (subst (λ m. IsBest (entry joined) (Either (In (entry m)) (Then (In (entry (slice_index_or old i no_matrix))) f))) (sym at)
+    (subst (λ m. IsBest (entry joined) (Either (In (matrix_at high 0)) (Then (In (entry m)) f))) (sym from) best)))
+
 -- what a way costs leads to own positions
 pub moved-own : (o : Positions) (ways : WaysOn) → AreWays o ways → (k lag p d q : ℕ) (w : Option Matrix) → ways k ≡ w → moved o w lag p d q → IsOwn o q
 moved-own o ways are k lag p d q None e m = m.own
@@ -63,12 +75,6 @@ moved-own o ways are k lag p d q (Some w) e m = are k w e p d q m
 
 pub over-nested : (t : Tree) (o : Positions) (ways : WaysOn) → IsTree t → AreWays o ways → IsNested (net (over t o ways))
 over-nested t o ways is are = field-nested (over t o ways) (accepted t is) (λ u lag p d q m. moved-own o ways are (index t u) lag p d q (ways (index t u)) refl m)
-
-pub along-matrix : (o : Positions) (w here back chained joined : Matrix) (lag : ℕ) → IsBest (entry chained) (Then (In (entry here)) (In (entry w))) → IsBest (entry joined) (Either (In (entry back)) (In (entry chained))) → IsBest (entry joined) (Either (In (entry back)) (Then (In (entry here)) (moved o (Some w) lag)))
-along-matrix o w here back chained joined lag a b = best-either (itself back) a b
-  where
-    itself : (m : Matrix) → IsBest (entry m) (In (entry m))
-    itself m = ((λ p c q z. (c, z, min-under c c ceiling (omega arith))), (λ p e q z. (e, z, refl)))
 
 -- the index of a target above
 up-some : (t : Tree) (k last v : ℕ) → address t k < v → v ≤ address t last → up_of t k last (Some v) ≡ Some (index t v)
@@ -219,11 +225,26 @@ reached t o ways s k at powers here is y p low high within = go (power_at powers
             let entered_j : IsBest (matrix_at at k) (Enters (net x) s j.head) = subst (λ u. IsBest (matrix_at at k) (Enters (net x) s u)) head entered in
             subst (λ u. IsBest (entry here) (Reaches (net x) s u)) (sym head) (reach-head j y.nested y.part y.reached known entered_j (λ _. rounds) best)
 
+-- an edge up leads to a later index of the part
+pub up-within : (t : Tree) → IsTree t → (k last : ℕ) (target : Option ℕ) → ((v : ℕ) → target ≡ Some v → v % 4 ≡ 0) → last < length t.words → IfSome (up_of t k last target) (λ w. (k < w) × (w < length t.words))
+up-within t is k last target aligned inside = go (up_of t k last target) refl
+  where
+    go : (o : Option ℕ) → up_of t k last target ≡ o → IfSome o (λ w. (k < w) × (w < length t.words))
+    go None e = tt
+    go (Some w) e =
+        let z = up-is t k last target w e in
+        let lt : address t k < z.0 = z.2 in
+        let le : z.0 ≤ address t last = z.3 in
+        let same : w ≡ index t z.0 = z.4 in
+        let a : z.0 % 4 ≡ 0 = aligned z.0 z.1 in
+        let b = index-aligned t is k in
+        (omega arith, omega arith)
+
 -- the next word
-pub pass-step : (t : Tree) (o : Positions) (ways : WaysOn) (s : Part) (first last k : ℕ) (a0 a1 a2 a3 : List Matrix) (here : Matrix) → IsTree t → Reachable (graph t) s.low → IsSpan t s first last →
-    IsPassed (over t o ways) t s k a0 → first ≤ k → k ≤ last → IsBest (entry here) (Reaches (net (over t o ways)) s (address t k)) → length a3 ≡ length t.words →
-    a1 ≡ slice_set a0 k here → IsBrought (moved o (ways k) (edges_at t k).next_lag) (up_of t k last (edges_at t k).next) here a1 a2 → IsBrought (moved o (ways k) 3) (up_of t k last (edges_at t k).jump) here a2 a3 → IsPassed (over t o ways) t s (k + 1) a3
-pass-step t o ways s first last k a0 a1 a2 a3 here is r sp p from le best count put n j = record {
+pub pass-step : (t : Tree) (o : Positions) (ways : WaysOn) (s : Part) (first last k : ℕ) (a0 a1 a2 a3 : List Matrix) → IsTree t → Reachable (graph t) s.low → IsSpan t s first last →
+    IsPassed (over t o ways) t s k a0 → first ≤ k → k ≤ last → IsBest (matrix_at a1 k) (Reaches (net (over t o ways)) s (address t k)) → length a3 ≡ length t.words →
+    ((w : ℕ) → w ≢ k → slice_index_or a1 w no_matrix ≡ slice_index_or a0 w no_matrix) → IsBrought (moved o (ways k) (edges_at t k).next_lag) (up_of t k last (edges_at t k).next) (slice_index_or a1 k no_matrix) a1 a2 → IsBrought (moved o (ways k) 3) (up_of t k last (edges_at t k).jump) (slice_index_or a2 k no_matrix) a2 a3 → IsPassed (over t o ways) t s (k + 1) a3
+pass-step t o ways s first last k a0 a1 a2 a3 is r sp p from le best count keeps n jump = record {
   count = count;
   done = λ w low lt. finished w low (let z : (w < k) ⊎ (w ≡ k) = grind arith in z);
   ahead = λ w up high. both_edges t k w is refl r
@@ -237,14 +258,14 @@ pass-step t o ways s first last k a0 a1 a2 a3 here is r sp p from le best count 
     e : EdgesOf
     e = edges_at t k
 
+    here : Matrix
+    here = slice_index_or a1 k no_matrix
+
     there : (lag : ℕ) (target : Option ℕ) (a b : List Matrix) → IsBrought (moved o (ways k) lag) (up_of t k last target) here a b → IsBrought (x.move (address t k) lag) (up_of t k last target) here a b
     there lag target a b y = subst (λ n. IsBrought (moved o (ways n) lag) (up_of t k last target) here a b) (sym (address-index t k)) y
 
     within : (w : ℕ) → address t w ≤ s.high → w ≤ last
     within w high = let z : address t w ≤ address t last = sp.top (address t w) (index-aligned t is w) high in omega arith
-
-    keeps : (w : ℕ) → w ≢ k → slice_index_or a1 w no_matrix ≡ slice_index_or a0 w no_matrix
-    keeps w ne = ap (λ l. slice_index_or l w no_matrix) put ∙ get_or-set_other a0 k w here no_matrix ne
 
     old : (w : ℕ) → k + 1 ≤ w → address t w ≤ s.high → IsBest (matrix_at a1 w) (Comes x s (Below x (address t k)) (address t w))
     old w up high = subst (λ m. IsBest (entry m) (Comes x s (Below x (address t k)) (address t w))) (sym (keeps w (omega arith))) (p.ahead w (omega arith) high)
@@ -258,13 +279,16 @@ pass-step t o ways s first last k a0 a1 a2 a3 here is r sp p from le best count 
         let same : w ≡ index t z.0 = z.4 in
         omega arith
 
+    j : IsBrought (moved o (ways k) 3) (up_of t k last e.jump) here a2 a3
+    j = subst (λ m. IsBrought (moved o (ways k) 3) (up_of t k last e.jump) m a2 a3) (n.others k (above_k e.next k (next-aligned t is k) (omega arith))) jump
+
     later : (w : ℕ) → w ≤ k → slice_index_or a3 w no_matrix ≡ slice_index_or a1 w no_matrix
     later w down = j.others w (above_k e.jump w (jump-aligned t is k) down) ∙ n.others w (above_k e.next w (next-aligned t is k) down)
 
     finished : (w : ℕ) → s.low ≤ address t w → (w < k) ⊎ (w ≡ k) → IsBest (matrix_at a3 w) (Reaches (net x) s (address t w))
     finished w low (inl below) = subst (λ m. IsBest (entry m) (Reaches (net x) s (address t w))) (sym (later w (omega arith) ∙ keeps w (omega arith))) (p.done w low below)
     finished w low (inr same) =
-        let at : slice_index_or a3 k no_matrix ≡ here = (later k (omega arith) ∙ ap (λ l. slice_index_or l k no_matrix) put) ∙ get_or-set_same a0 k here no_matrix (let i = sp.inside in omega (arith, p.count)) in
+        let at : slice_index_or a3 k no_matrix ≡ here = later k (omega arith) in
         subst (λ w. IsBest (matrix_at a3 w) (Reaches (net x) s (address t w))) (sym same) (subst (λ m. IsBest (entry m) (Reaches (net x) s (address t k))) (sym at) best)
 
 -- the pass begins

@@ -1,12 +1,12 @@
 //! Matrices a step further.
 
-ghost use Rattle.std.specs.Prelude.{◌≡◌, ℕ, ◌+◌, ◌<◌, ◌≤◌, min, ◌⊎◌, max, length, Option, Some, None, slice_index_or};
+ghost use Rattle.std.specs.Prelude.{◌≡◌, ℕ, ◌+◌, ◌<◌, ◌≤◌, min, ◌⊎◌, max, List, [], length, Option, Some, None, slice_index_or};
 ghost use Rattle.bound_calc.specs.Best.{Either, In, IsBest, Then, ceiling};
-ghost use Rattle.bound_calc.specs.Hops.{Hops, IsAdvanced, IsFarthest, IsLargest, IsLeft, raised};
+ghost use Rattle.bound_calc.specs.Hops.{Hops, IsFarthest, IsLargest, IsLeft, raised};
 ghost use Rattle.bound_calc.specs.Matrices.{cell, entry};
 
 use crate::hop::{Hop, HopRow};
-use crate::matrix::{Matrix, larger};
+use crate::matrix::{Matrix, take_in};
 
 fn greater(a: u128, b: u128) -> u128
     ensures { result ≡ max a b }
@@ -15,41 +15,46 @@ fn greater(a: u128, b: u128) -> u128
 }
 
 /// Takes a sum into a row, a step longer.
-fn raise(row: &mut [Option<u128>; 8], sum: Option<u128>, hop: Option<Hop>)
-    requires position { (h : _) → hop ≡ Some h → h.position < 8 }
-    ensures { row.new ≡ raised sum hop row.old }
+fn raise(row: &mut [Option<u128>; 8], sum: Option<u128>, hop: Hop)
+    requires { hop.position < 8 }
+    ensures raised { row.new ≡ raised sum (Some hop) row.old }
+    ensures long { length row.old ≡ 8 }
 {
     let Some(sum) = sum else {
         return;
     };
-    let Some(hop) = hop else {
-        return;
-    };
-    row[hop.position] = larger(
-        row[hop.position],
+    take_in(
+        &mut row[hop.position],
         Some(sum.saturating_add(u128::from(hop.cost))),
     );
 }
 
-/// Takes the sums of a row into another, each a step longer.
-fn advance_row(row: &[Option<u128>; 8], hops: &HopRow, onto: &mut [Option<u128>; 8])
-    requires positions { (p d q : ℕ) → Hops hops.now.hops p d q → q < 8 }
-    ensures { IsAdvanced row.now hops.now.hops 8 onto.old onto.new }
+/// Takes the sums of a column into a matrix, each by the step that leads on from there.
+fn advance_column(here: &Matrix, column: usize, hop: Option<Hop>, onto: &mut Matrix)
+    requires column { column < 8 }
+    requires position { (h : _) → hop ≡ Some h → h.position < 8 }
+    ensures raised { (p : ℕ) → p < 8 → slice_index_or onto.new.best p [] ≡
+        raised (cell here.now p column) hop (slice_index_or onto.old.best p []) }
+    ensures long { (h : _) → hop ≡ Some h → (p : ℕ) → p < 8 →
+        length (slice_index_or onto.old.best p []) ≡ 8 }
 {
-    for r in 0..8 {
-        raise(onto, row[r], hops.hops[r]);
+    let Some(hop) = hop else {
+        return;
+    };
+    for p in 0..8 {
+        raise(&mut onto.best[p], here.best[p][column], hop);
     }
 }
 
 /// Joins with a matrix another that is taken a step further. It is done in place, since a copy of a
-/// matrix costs as much as the step.
+/// matrix costs as much as the step, and by columns, each of which has the same step.
 pub fn advance(here: &Matrix, hops: &HopRow, onto: &mut Matrix)
     requires positions { (p d q : ℕ) → Hops hops.now.hops p d q → (p < 8) × (q < 8) }
     ensures { IsBest (entry onto.new)
         (Either (In (entry onto.old)) (Then (In (entry here.now)) (Hops hops.now.hops))) }
 {
-    for p in 0..8 {
-        advance_row(&here.best[p], hops, &mut onto.best[p]);
+    for r in 0..8 {
+        advance_column(here, r, hops.hops[r], onto);
     }
 }
 

@@ -70,7 +70,25 @@ fn fill_word(
     Ok(())
 }
 
-/// The powers of all loops whose heads are reachable, inner loops first.
+/// The highest head of a loop below an address, or the first word where there is none.
+fn head_below(loops: &[LoopSetup], first: u32, address: u32) -> u32
+    requires { first < address }
+    ensures low { first ≤ result }
+    ensures below { result < address }
+    ensures next { (j : _) → Contains loops.now j → j.head < address → j.head ≤ result }
+{
+    let mut head = first;
+    for j in loops {
+        if head < j.head && j.head < address {
+            head = j.head;
+        }
+    }
+    head
+}
+
+/// The powers of all loops whose heads are reachable, inner loops first. From each head it goes on
+/// to the next one below: to look for a loop at every word of a large section would be a tenth of
+/// all steps of its bound.
 ///
 /// # Errors
 ///
@@ -90,9 +108,11 @@ pub fn fill(
     ensures { OnOk result (IsFilled (over tree.now steps.now (ways_on ways.now))
         tree.now 0 powers.new) }
 {
+    let from = tree.section().from;
     let mut index = at.len();
     while index > 0 {
-        index -= 1;
+        let head = head_below(tree.loops(), from, from + 4 * index as u32);
+        index = ((head - from) / 4) as usize;
         fill_word(alloc, tree, steps, ways, index, powers, at)?;
     }
     Ok(())

@@ -1,6 +1,6 @@
 //! What reaches each word of a loop, or of a whole section.
 
-ghost use Rattle.std.specs.Prelude.{◌≡◌, ℕ, ◌+◌, ◌*◌, ◌<◌, ◌≤◌, ◌^◌, length, Option, Some, None, slice_index_or, MatchOption, Contains, IfSome};
+ghost use Rattle.std.specs.Prelude.{◌≡◌, ◌≢◌, ℕ, ◌+◌, ◌*◌, ◌<◌, ◌≤◌, ◌^◌, length, Option, Some, None, slice_index_or, MatchOption, Contains, IfSome};
 ghost use Rattle.std.specs.Option.{option_map};
 ghost use Rattle.region_tree.specs.Search.{address};
 ghost use Rattle.region_tree.specs.Tree.{IsTree};
@@ -8,7 +8,7 @@ ghost use Rattle.bound_calc.specs.Best.{Either, In, IsBest, Then};
 ghost use Rattle.bound_calc.specs.Section.{net};
 ghost use Rattle.bound_calc.specs.Ways.{Reaches};
 ghost use Rattle.bound_calc.specs.Matrices.{entry};
-ghost use Rattle.bound_calc.specs.Passing.{IsBrought, IsReady, IsSpan, edges_at, matrix_at, moved, over, part_of, up_of, ways_on};
+ghost use Rattle.bound_calc.specs.Passing.{IsBrought, IsReady, IsSpan, edges_at, matrix_at, moved, no_matrix, over, part_of, up_of, ways_on};
 
 use crate::advance::advance;
 use crate::matrix::Matrix;
@@ -72,15 +72,20 @@ fn up_to(tree: &LoopTree, index: usize, last: usize, target: Option<u32>) -> Opt
     }
 }
 
-/// What holds at a word, from what comes to it and the power of the loop whose head it is.
-fn with_rounds(here: &mut Matrix, power: &Option<Box<Matrix>>)
-    ensures { MatchOption (option_map (λ b. b.value) power.now) (here.new ≡ here.old)
-        (λ m. IsBest (entry here.new) (Then (In (entry here.old)) (In (entry m)))) }
+/// Takes what reaches the word at an index through the rounds of the loop whose head it is, if it
+/// is one.
+fn with_rounds(power: &Option<Box<Matrix>>, index: usize, at: &mut [Matrix])
+    requires { index < length at.old }
+    ensures others { (w : ℕ) → w ≢ index →
+        slice_index_or at.new w no_matrix ≡ slice_index_or at.old w no_matrix }
+    ensures here { MatchOption (option_map (λ b. b.value) power.now)
+        (slice_index_or at.new index no_matrix ≡ slice_index_or at.old index no_matrix)
+        (λ m. IsBest (matrix_at at.new index) (Then (In (matrix_at at.old index)) (In (entry m)))) }
 {
-    let Some(power) = power else {
-        return;
-    };
-    *here = here.chain(power);
+    if let Some(power) = power {
+        let here = at[index].chain(power);
+        at[index] = here;
+    }
 }
 
 /// Joins with a matrix another that goes on from a word: by the turns after a lag, or by the way
@@ -98,10 +103,7 @@ pub(crate) fn join_along(
 {
     match way {
         None => advance(here, steps.hops(lag), onto),
-        Some(way) => {
-            let chained = here.chain(way);
-            *onto = onto.join(&chained);
-        }
+        Some(way) => onto.join_chain(here, way),
     }
 }
 
@@ -117,24 +119,26 @@ pub fn along(steps: &Steps, way: Option<&Matrix>, here: &Matrix, lag: u64, onto:
     joined
 }
 
-/// Takes a matrix along an edge to an index.
+/// Takes the matrix at an index along an edge to a later one. The slice is parted between the two,
+/// since a copy of the matrix costs a fifth of what the step does.
 fn bring(
     steps: &Steps,
     way: Option<&Matrix>,
+    index: usize,
     to: Option<usize>,
-    here: &Matrix,
     lag: u64,
     at: &mut [Matrix],
 )
     requires lag { lag ≤ 3 }
-    requires within { IfSome to (λ k. k < length at.old) }
+    requires within { IfSome to (λ k. (index < k) × (k < length at.old)) }
     ensures { IsBrought (moved steps.now (option_map (λ m. m.now) way.entry) lag)
-        to here.now at.old at.new }
+        to (slice_index_or at.old index no_matrix) at.old at.new }
 {
     let Some(to) = to else {
         return;
     };
-    join_along(steps, way, here, lag, &mut at[to]);
+    let (low, high) = at.split_at_mut(to);
+    join_along(steps, way, &low[index], lag, &mut high[0]);
 }
 
 /// Takes every sum out of the matrices of a span.
@@ -170,13 +174,11 @@ pub fn pass(
     clear(at, span);
     at[span.first] = *steps.one();
     for index in span.first..span.last + 1 {
-        let mut here = at[index];
-        with_rounds(&mut here, &powers[index]);
-        at[index] = here;
+        with_rounds(&powers[index], index, at);
         let edges = edges_at(tree, index);
         let next = up_to(tree, index, span.last, edges.next);
-        bring(steps, ways.at(index), next, &here, edges.next_lag, at);
+        bring(steps, ways.at(index), index, next, edges.next_lag, at);
         let jump = up_to(tree, index, span.last, edges.jump);
-        bring(steps, ways.at(index), jump, &here, JUMP_LAG, at);
+        bring(steps, ways.at(index), index, jump, JUMP_LAG, at);
     }
 }

@@ -139,8 +139,8 @@ fn entered_by(loops: &[LoopSetup], from: u32, target: Option<u32>) -> Option<u32
 /// The lowest head of a loop that an edge of the word at an index enters, but not there.
 ///
 /// Only its jump is looked at: a loop that holds the next word and not this one has its head there,
-/// since words are four bytes apart. Few words jump, and the others needn't be held against every
-/// loop, which took a sixth of all steps of a large bound.
+/// since words are four bytes apart. Few words jump; to hold the others against every loop would be
+/// a fifth of all steps of a large bound.
 fn entered_from(draft: &Draft, met: &[bool], index: usize) -> Option<u32>
     requires rules { IsDraft draft.now }
     requires met { IsMet draft.now met.now }

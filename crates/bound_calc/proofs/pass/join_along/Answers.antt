@@ -3,7 +3,7 @@ use Rattle.std.specs.Option.{option_map}
 use Rattle.bound_calc.specs.Best.{Either, In, IsBest, Then}
 use Rattle.bound_calc.specs.Matrices.{entry}
 use Rattle.bound_calc.specs.Passing.{moved}
-use Rattle.bound_calc.proofs.PassLaws.{along-matrix, hops-positions, with-steps}
+use Rattle.bound_calc.proofs.PassLaws.{hops-positions, with-steps}
 use Rattle.bound_calc.proofs.pass.join_along.Goals as goal
 
 pub advance-requires : goal.advance-requires
@@ -16,6 +16,4 @@ returns-in-None c =
 
 pub returns-in-Some : goal.returns-in-Some
 returns-in-Some c =
-    subst (λ w. IsBest (entry c.join.result) (Either (In (entry c.args.onto.now)) (Then (In (entry c.args.here.now)) (moved c.args.steps.now (option_map (λ m. m.now) w) c.args.lag)))) (sym c.in-Some.is)
-    (along-matrix c.args.steps.now c.in-Some.way.now c.args.here.now c.args.onto.now c.chain-chained.result c.join.result c.args.lag
-    c.chain-chained.ensures.best c.join.ensures.best)
+    subst (λ w. IsBest (entry c.join_chain.new.self) (Either (In (entry c.args.onto.now)) (Then (In (entry c.args.here.now)) (moved c.args.steps.now (option_map (λ m. m.now) w) c.args.lag)))) (sym c.in-Some.is) c.join_chain.ensures

@@ -1,12 +1,8 @@
-use Rattle.std.proofs.Common.{◌<◌, ◌≢◌, length, arith, get_or-set_other, get_or-set_same, below_more, length-set}
+use Rattle.std.proofs.Common.{None, replicate, slice_index_or}
+use Rattle.bound_calc.specs.Matrices.{cell, over}
+use Rattle.bound_calc.proofs.Entries.{none-larger}
+use Rattle.bound_calc.proofs.StepLaws.{get-none}
 use Rattle.bound_calc.proofs.matrix.Matrix.chain_row.Goals as goal
 
-pub loop-q-preserved : goal.loop-q-preserved
-loop-q-preserved c =
-    let lt : c.loop-q.q < length c.loop-q.out = omega (arith, c.loop-q.invariant.count) in
-    record {
-      count = simp length-set c.loop-q.invariant.count;
-      rows = below_more _ _
-          (λ k h. let ne : k ≢ c.loop-q.q = omega arith in rw get_or-set_other (c.loop-q.invariant.rows k h))
-          (rw get_or-set_same (c.chain_entry.ensures));
-    }
+pub returns : goal.returns
+returns c = λ q h. none-larger (slice_index_or (replicate 8 None) q None) (over 8 (λ r. slice_index_or c.args.row.now r None) (λ r. cell c.args.self.now r q)) (slice_index_or c.take_row.new.onto q None) (get-none 8 q) (c.take_row.ensures q h)
