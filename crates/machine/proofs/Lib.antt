@@ -8,4 +8,5 @@ pub mod LoadLemmas
 pub mod FedLemmas
 pub mod WordLemmas
 pub mod Retiring
+pub mod SleepLemmas
 mod LineLemmas

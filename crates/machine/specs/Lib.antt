@@ -3,6 +3,7 @@ pub mod Fields
 pub mod FieldRelation
 pub mod FieldLaws
 pub mod WorldRelation
+pub mod Sleeping
 pub mod Feeding
 pub mod PortLaws
 pub use Rattle.fp_io.specs.Causes

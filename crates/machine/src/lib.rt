@@ -8,6 +8,7 @@ mod field_laws;
 mod lines;
 mod loading;
 mod running;
+mod sleeping;
 mod state;
 
 pub use feeding::{feed_inputs, feeds_the_start};
@@ -16,4 +17,5 @@ pub use run_laws::setup_traces::{
     stays_quiet, traces_alone, traces_by_phases, traces_by_wide_view, writes_equal_traces,
 };
 pub use running::leaves_ports;
+pub use sleeping::sleeps_on;
 pub use state::Machine;

@@ -1,0 +1,122 @@
+//! The cycles in which every thread sleeps.
+
+ghost use Rattle.std.specs.Prelude.{◌≡◌, ℕ, ◌+◌, ◌<◌, ◌≤◌, true, List, Option, length, slice_index_or};
+ghost use Rattle.fp_ports.specs.Rows.{Row};
+ghost use Rattle.slot_scheduler.specs.ModeWord.{is_active, mode_of};
+ghost use Rattle.timer_unit.specs.Time.{time};
+ghost use Rattle.world_model.specs.World.{Start};
+ghost use Rattle.pipe_model.specs.PipelineLaws.{empty};
+ghost use Rattle.pipeline_core.specs.AsDefined.{stage_registers_as_defined};
+ghost use Rattle.machine.specs.Sleeping.{NobodyAwake, PassedOver, SleepsOn};
+ghost use Rattle.machine.specs.WorldRelation.{StandsFor};
+
+use crate::state::Machine;
+use pipe_model::Held;
+use pipeline_core::Pipe;
+
+/// A cycle of an empty pipeline in which no thread is awake leaves all as it was, and no event
+/// retires in it. The contract is the law; the call does nothing.
+pub fn sleeps_on()
+    ensures { SleepsOn }
+{}
+
+/// What stands for the sleep moment of a thread that isn't active: the last moment there is.
+const NEVER: u64 = u64::MAX;
+
+impl Machine {
+    /// Passes over the cycles before `end` in which every thread sleeps and the pipeline is empty,
+    /// as one step: the machine then stands as after as many ticks, which change no field but `at`,
+    /// no port, and of which no event comes. It may pass over fewer cycles than there are, or none:
+    /// it does so where any port is ever taken away, since that would have to be done in its cycle.
+    ///
+    /// This is a special case of [`tick`](Machine::tick), for setups whose threads sleep through
+    /// most cycles. With six threads that wake each 2,000 nanoseconds it took more than half of the
+    /// instructions from a cycle of `run`; a cycle in which somebody has a turn it costs two or
+    /// three.
+    #[inline(always)]
+    pub fn skip_sleep(&mut self, end: u64)
+        requires { self.old.at ≤ end }
+        ensures on { self.old.at ≤ self.new.at }
+        ensures end { self.new.at ≤ end }
+        ensures same { self.new ≡ record self.old { at = self.new.at } }
+        ensures passed { (s : Start) (n : ℕ) (ports : List (Option Row)) → end ≤ n + 3
+            → length ports ≡ 8 → StandsFor s self.old.at n self.old ports
+            → PassedOver s self.old.at n self.new ports }
+    {
+        if matches!(self.pipe.f, Held::Bubble) {
+            self.skip_empty(end);
+        }
+    }
+
+    /// The same, where the cycle before picked nobody. It isn't inlined, so that the cycles of a
+    /// run in which somebody is picked don't pay for it.
+    #[cold]
+    #[inline(never)]
+    fn skip_empty(&mut self, end: u64)
+        requires { self.old.at ≤ end }
+        ensures on { self.old.at ≤ self.new.at }
+        ensures end { self.new.at ≤ end }
+        ensures same { self.new ≡ record self.old { at = self.new.at } }
+        ensures passed { (s : Start) (n : ℕ) (ports : List (Option Row)) → end ≤ n + 3
+            → length ports ≡ 8 → StandsFor s self.old.at n self.old ports
+            → PassedOver s self.old.at n self.new ports }
+    {
+        if self.is_empty() && !self.loses_ports() {
+            self.at = self.at.max(self.first_awake_cycle().min(end));
+        }
+    }
+
+    /// Whether nothing is in the pipeline.
+    fn is_empty(&self) -> bool
+        ensures { result ≡ true
+            → stage_registers_as_defined self.now.pipe ≡ empty self.now.pipe.next }
+    {
+        matches!(
+            &self.pipe,
+            Pipe {
+                f: Held::Bubble,
+                d: Held::Bubble,
+                e: Held::Bubble,
+                m: Held::Bubble,
+                w: Held::Bubble,
+                ..
+            }
+        )
+    }
+
+    /// The first cycle in which a thread is awake, as modes and sleep moments stand.
+    fn first_awake_cycle(&self) -> u64
+        ensures { (c : ℕ) → c < result
+            → NobodyAwake self.now.units.sched (time self.now.units.clock c) }
+    {
+        // The time of cycle 1 is the period, which is at least 1.
+        let period = self.units.clock.now(1).max(1);
+        self.least_sleep_moment().div_ceil(period)
+    }
+
+    /// The least sleep moment of the active threads, in nanoseconds.
+    fn least_sleep_moment(&self) -> u64
+        ensures { (thread : ℕ) → thread < 8
+            → is_active (mode_of self.now.units.sched.modes thread) ≡ true
+            → result ≤ slice_index_or self.now.units.sched.sleep thread 0 }
+    {
+        let mut first = NEVER;
+        for thread in 0..8 {
+            first = first.min(self.sleep_moment(thread));
+        }
+        first
+    }
+
+    /// The sleep moment of a thread that is active, and [`NEVER`] for another.
+    fn sleep_moment(&self, thread: u8) -> u64
+        requires { thread < 8 }
+        ensures { is_active (mode_of self.now.units.sched.modes thread) ≡ true
+            → result ≤ slice_index_or self.now.units.sched.sleep thread 0 }
+    {
+        if self.units.sched.modes.mode(thread) % 2 == 0 {
+            self.units.sched.sleep[usize::from(thread)]
+        } else {
+            NEVER
+        }
+    }
+}
