@@ -36,8 +36,9 @@ fn go(machine: &mut Machine, cycles: u64, ports: &mut Ports)
         (rows_of latched word_at ports.new.items) }
     ensures eight { vec_len ports.new ≡ 8 }
 {
-    for _cycle in 0..cycles {
+    while machine.at < cycles {
         let _event = machine.tick(ports);
+        machine.skip_sleep(cycles);
     }
 }
 
