@@ -1,4 +1,4 @@
-"""The script ./flexpret, over a program and an `rt` of the test's own."""
+"""The scripts ./flexpret and ./flexpret-view, over a program and an `rt` of the test's own."""
 from __future__ import annotations
 
 import os
@@ -22,23 +22,25 @@ esac
 RT = """#!/bin/sh
 echo 'statements core: modules loaded=1 checked=0'
 for crate in 1 2 3; do echo 'logic=proved functions=2'; done
-[ "$RT_STATUS" = 0 ] && printf '%s' "$RT_PROGRAM" >out/flexpret_cli && chmod +x out/flexpret_cli
+program=out/${PWD##*/}
+[ "$RT_STATUS" = 0 ] && printf '%s' "$RT_PROGRAM" >"$program" && chmod +x "$program"
 exit "$RT_STATUS"
 """
-CRATES = "low:\nbeside: low\nmiddle: low arrayvec\nflexpret_cli: middle\n"
+CRATES = "low:\nbeside: low\nmiddle: low arrayvec\nflexpret_cli: middle\nflexpret_view: middle\n"
 
 
 class Checkout:
-    """A repository of the script alone, with a crate and a kit that do as they are told."""
+    """A repository of one script alone, with a crate and a kit that do as they are told."""
 
-    def __init__(self, folder: Path) -> None:
+    def __init__(self, folder: Path, script: str = "flexpret", crate: str = "flexpret_cli") -> None:
         self.folder = folder
-        self.out = folder / "crates/flexpret_cli/out"
+        self.script = script
+        self.out = folder / "crates" / crate / "out"
         (folder / "crates/low/src").mkdir(parents=True)
-        (folder / "crates/flexpret_cli").mkdir()
+        (folder / "crates" / crate).mkdir()
         (folder / "crates/low/src/lib.rt").write_text("")
         (folder / "crates.txt").write_text(CRATES)
-        shutil.copy(TOP / "flexpret", folder / "flexpret")
+        shutil.copy(TOP / script, folder / script)
         (folder / "bin").mkdir()
         (folder / "bin/rt").write_text(RT)
         (folder / "bin/rt").chmod(0o755)
@@ -49,11 +51,9 @@ class Checkout:
     def build(self) -> None:
         assert self.run("x").returncode == 0
 
-    def run(
-        self, *words: str, cwd: Path | None = None, script: str = "flexpret", given: str = ""
-    ) -> subprocess.CompletedProcess[str]:
+    def run(self, *words: str, cwd: Path | None = None, given: str = "") -> subprocess.CompletedProcess[str]:
         return subprocess.run(
-            [str(self.folder / script), *words], cwd=cwd or self.folder, env=self.environment, input=given,
+            [str(self.folder / self.script), *words], cwd=cwd or self.folder, env=self.environment, input=given,
             capture_output=True, text=True, check=False, timeout=30,
         )  # fmt: skip
 
@@ -63,46 +63,52 @@ def checkout(tmp_path: Path) -> Checkout:
     return Checkout(tmp_path)
 
 
-def test_a_first_build_says_how_long_it_takes_and_counts_crates(checkout: Checkout) -> None:
-    ran = checkout.run("run", "a b", given="in\n")
+@pytest.fixture(params=[("flexpret", "flexpret_cli"), ("flexpret-view", "flexpret_view")])
+def either(tmp_path: Path, request: pytest.FixtureRequest) -> Checkout:
+    return Checkout(tmp_path, *request.param)
+
+
+def test_a_first_build_says_how_long_it_takes_and_counts_crates(either: Checkout) -> None:
+    ran = either.run("run", "a b", given="in\n")
     assert ran.stderr.splitlines() == [
-        "flexpret: building, which proves 3 crates first: up to an hour on four processors",
-        "flexpret: 1 of 3 crates",
-        "flexpret: 2 of 3 crates",
-        "flexpret: 3 of 3 crates",
+        f"{either.script}: building, which proves 3 crates first: up to an hour on four processors",
+        f"{either.script}: 1 of 3 crates",
+        f"{either.script}: 2 of 3 crates",
+        f"{either.script}: 3 of 3 crates",
     ]
     assert (ran.returncode, ran.stdout) == (0, "in\n2:run a b\n")
 
 
-def test_nothing_is_built_twice_until_a_source_changes(checkout: Checkout) -> None:
-    checkout.build()
-    assert checkout.run("x").stderr == ""
+def test_nothing_is_built_twice_until_a_source_changes(either: Checkout) -> None:
+    either.build()
+    assert either.run("x").stderr == ""
     later = time.time() + 5
-    source = checkout.folder / "crates/low/src/lib.rt"
+    source = either.folder / "crates/low/src/lib.rt"
     os.utime(source, (later, later))
-    assert "building" in checkout.run("x").stderr
-    os.utime(checkout.folder / "crates.txt", (later + 5, later + 5))
+    assert "building" in either.run("x").stderr
+    os.utime(either.folder / "crates.txt", (later + 5, later + 5))
     os.utime(source, (1, 1))
-    assert "building" in checkout.run("x").stderr
+    assert "building" in either.run("x").stderr
 
 
-def test_a_build_that_fails(checkout: Checkout) -> None:
-    checkout.environment["RT_STATUS"] = "1"
-    ran = checkout.run("x")
+def test_a_build_that_fails(either: Checkout) -> None:
+    either.environment["RT_STATUS"] = "1"
+    ran = either.run("x")
     assert ran.returncode == 1
+    (log,) = either.out.glob("*.log")
     assert ran.stderr.endswith(
-        "flexpret: the program can't be built; see crates/flexpret_cli/out/flexpret.log\n"
+        f"{either.script}: the program can't be built; see {log.relative_to(either.folder)}\n"
     )
-    assert (checkout.out / "flexpret.log").read_text().count("logic=proved") == 3
+    assert log.read_text().count("logic=proved") == 3
 
 
 def test_a_link_to_the_script_from_elsewhere(
-    checkout: Checkout, tmp_path_factory: pytest.TempPathFactory
+    either: Checkout, tmp_path_factory: pytest.TempPathFactory
 ) -> None:
-    checkout.build()
+    either.build()
     link = tmp_path_factory.mktemp("elsewhere") / "fp"
-    link.symlink_to(checkout.folder / "flexpret")
-    ran = subprocess.run([link, "x"], env=checkout.environment, capture_output=True, text=True, check=False)
+    link.symlink_to(either.folder / either.script)
+    ran = subprocess.run([link, "x"], env=either.environment, capture_output=True, text=True, check=False)
     assert (ran.returncode, ran.stdout, ran.stderr) == (0, "1:x\n", "")
 
 
