@@ -1,10 +1,19 @@
 #!/usr/bin/env bash
 # Whether the view writes what is stored of the examples: the lines and the picture of docs/VIEW.md, a value change dump and
-# a log for Konata. FLEXPRET_VIEW names the program, if it isn't the one that ./flexpret-view builds.
+# a log for Konata; whether the logs of all examples keep the format's rules, and their pictures those of XML; and what the
+# script ./flexpret-view adds. FLEXPRET_VIEW names the program, if it isn't the one that ./flexpret-view builds.
 set -u
 cd "$(dirname "${BASH_SOURCE[0]}")/.." || exit 1
-view=${FLEXPRET_VIEW:-crates/flexpret_view/out/flexpret_view}
+view=$(readlink -f "${FLEXPRET_VIEW:-crates/flexpret_view/out/flexpret_view}")
+work=$(mktemp -d)
+trap 'rm -rf "$work"' EXIT
 failed=0
+
+# Says what isn't as it should be.
+wrong() {
+    echo "bench/views.sh: $*" >&2
+    failed=1
+}
 
 # Compares a view with a file, after the words that ask for it.
 shows() {
@@ -17,4 +26,36 @@ shows examples/drive.vcd examples/drive.toml --from 0 --to 57 --vcd -
 shows examples/slots.konata examples/slots.toml --from 3 --to 20 --konata -
 shows docs/drive.svg examples/drive.toml --from 0 --to 60 --svg -
 shows <(sed -n '/^    \$ .*sleep.toml/,/^$/{/^    \$/d; /^$/d; s/^    //p}' docs/VIEW.md) examples/sleep.toml --from 4 --to 13
+
+for setup in examples/*.toml examples/c/pid.toml examples/device/*.toml; do
+    name=$work/$(basename "$setup" .toml)
+    "$view" turns "$setup" --from 1 --to 500 --konata "$name.konata" || wrong "no log of $setup"
+    "$view" turns "$setup" --from 1 --to 500 --svg "$name.svg" || wrong "no picture of $setup"
+done
+bench/kanata.py "$work"/*.konata || failed=1
+python3 - "$work"/*.svg <<'END' || failed=1
+import sys
+from xml.etree import ElementTree
+
+for name in sys.argv[1:]:
+    cells = [cell for cell in ElementTree.parse(name).iter() if cell.find("./{*}title") is not None]
+    if not cells or any(not cell[0].text.startswith("cycle ") for cell in cells):
+        sys.exit(f"{name}: no cell has a title that tells its cycle")
+END
+
+# The script, by a link, beside a program that is as new as the sources: it builds nothing.
+mkdir -p "$work/top/crates/flexpret_view/out" "$work/bin"
+cp flexpret-view crates.txt "$work/top"
+cp -R crates/flexpret_view/src "$work/top/crates/flexpret_view"
+ln -s "$view" "$work/top/crates/flexpret_view/out/flexpret_view"
+touch "$work/top/crates/flexpret_view/out/flexpret_view.built"
+printf '#!/bin/sh\necho "$0 is called"\nexit 1\n' >"$work/bin/rt"
+chmod +x "$work/bin/rt"
+ln -s "$work/top/flexpret-view" "$work/view"
+export PATH=$work/bin:$PATH
+
+"$view" turns examples/drive.toml --from 0 --to 60 >"$work/lines"
+"$work/view" turns examples/drive.toml --from 0 --to 60 >"$work/out" 2>"$work/err" || wrong "the script fails"
+cmp "$work/lines" "$work/out" || failed=1
+[ ! -s "$work/err" ] || wrong "standard error gets $(cat "$work/err")"
 exit $failed
