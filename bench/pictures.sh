@@ -61,5 +61,5 @@ for setup in examples/*.toml examples/c/pid.toml examples/device/*.toml; do
     draws "$(basename "$setup" .toml)" "$setup" 0 120
 done
 draws late examples/drive.toml 3999999 4000009
-draws widest examples/sleep.toml 7 2007
+draws widest examples/sleep.toml 11 2011
 exit $failed

@@ -13,6 +13,9 @@ const LEFT: u64 = 44;
 /// The width of a column.
 const COLUMN: u64 = 12;
 
+/// The room that a cycle and its time take above their column, with up to 13 digits.
+const TIME_WIDTH: u64 = 84;
+
 /// The least width, which the legend needs.
 const LEAST_WIDTH: u64 = 560;
 
@@ -54,8 +57,8 @@ impl Svg {
     ///
     /// The writer's.
     pub fn begin<W: Write>(out: &mut W, cycles: u64) -> io::Result<Svg> {
-        let columns = COLUMN.saturating_mul(cycles.saturating_add(1));
-        let width = LEAST_WIDTH.max(columns.saturating_add(LEFT));
+        let columns = COLUMN.saturating_mul(cycles);
+        let width = LEAST_WIDTH.max(columns.saturating_add(LEFT + TIME_WIDTH));
         write!(
             out,
             "<svg xmlns=\"http://www.w3.org/2000/svg\" width=\"{width}\" height=\"240\">\n"
@@ -99,10 +102,12 @@ fn row_of(thread: u8) -> u64
     52 + 18 * u64::from(thread)
 }
 
-/// Puts the number and the time of each tenth cycle above its column, and a line down from there.
+/// Puts the number and the time of the first cycle, and of each tenth one that they leave room
+/// for, above its column, and a line down from there.
 fn put_time<W: Write>(out: &mut W, x: u64, cycle: &Cycle) -> io::Result<()> {
     let number = cycle.start.cycle;
-    if number % 10 != 0 {
+    let is_tenth = number % 10 == 0 && x >= LEFT + TIME_WIDTH;
+    if x != LEFT && !is_tenth {
         return Ok(());
     }
     let time = cycle.start.time;
