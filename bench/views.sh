@@ -54,8 +54,31 @@ chmod +x "$work/bin/rt"
 ln -s "$work/top/flexpret-view" "$work/view"
 export PATH=$work/bin:$PATH
 
-"$view" turns examples/drive.toml --from 0 --to 60 >"$work/lines"
-"$work/view" turns examples/drive.toml --from 0 --to 60 >"$work/out" 2>"$work/err" || wrong "the script fails"
+# Two windows, of which the first has the cycle after which a line tells how far the run is; and that line, until it is gone.
+here=(turns examples/drive.toml --from 1048570 --to 1048580)
+behind=(turns examples/drive.toml --from 1048580 --to 1048590)
+told() { printf '\rflexpret_view: 99 %%, cycle 1048576 of %s\r%60s\r' "$1" ''; }
+
+# What a terminal gets where the script is called there, with words of the shell; an end of a line as \r.
+gets() {
+    local wanted=$1 shown
+    shift
+    shown=$(script -qec "$work/view $*" /dev/null </dev/null | tr -d '\n')
+    [ "$shown" = "$wanted" ] || wrong "$*: a terminal gets ${shown@Q}"
+}
+
+"$view" "${here[@]}" >"$work/lines"
+"$work/view" "${here[@]}" >"$work/out" 2>"$work/err" || wrong "the script fails"
 cmp "$work/lines" "$work/out" || failed=1
-[ ! -s "$work/err" ] || wrong "standard error gets $(cat "$work/err")"
+[ ! -s "$work/err" ] || wrong "standard error is no terminal, and gets $(cat "$work/err")"
+if ! script -qec true /dev/null </dev/null >/dev/null 2>&1; then
+    echo "views.sh: no terminal can be had here; what one gets isn't tried"
+    exit $failed
+fi
+gets "$(tr '\n' '\r' <"$work/lines")" "${here[@]}"
+gets "" "${here[@]} --progress before >$work/out"
+gets "$(told 1048583)" "${here[@]} >$work/out"
+cmp "$work/lines" "$work/out" || failed=1
+gets "$(told 1048583)" "${here[@]} --vcd $work/out"
+gets "$(told 1048593)$("$view" "${behind[@]}" | tr '\n' '\r')" "${behind[@]}"
 exit $failed

@@ -5,24 +5,22 @@
 ghost use Rattle.std.specs.Prelude.{◌≡◌, vec_len};
 
 mod fault;
+mod progress;
 mod words;
 
 use crate::fault::Fault;
-use crate::words::{Ask, WordsNo, read_words};
+use crate::progress::ProgressLine;
+use crate::words::{Ask, STANDARD_OUTPUT, WordsNo, read_words};
 use file_answers::load;
 use fp_io::RealFiles;
 use fp_ports::{HeldPort, Ports};
 use fp_setup::Name;
 use machine::{Machine, feed_inputs};
 use pipe_view::put_view;
-use std::alloc::Global;
 use std::io::{BufWriter, Write};
 use std::process::ExitCode;
 use std::{env, fs, io};
 use trace_print::refusal_line;
-
-/// The file name that stands for standard output.
-const STANDARD_OUTPUT: &str = "-";
 
 /// The words of the command line, the program's name among them. A word that isn't UTF-8 is no word
 /// of a command.
@@ -36,7 +34,7 @@ fn read_args(rt: HostRuntime) -> Result<Vec<String>, Fault> {
 
 /// Runs the machine of a setup, and writes what is asked for to a writer.
 fn write_view<W: Write + Drop>(
-    alloc: Global,
+    rt: HostRuntime,
     ask: &Ask<'_>,
     mut machine: Machine,
     ports: &mut Ports,
@@ -45,8 +43,18 @@ fn write_view<W: Write + Drop>(
     requires start { machine.at ≡ 0 }
     requires eight { vec_len ports.old ≡ 8 }
 {
-    let mut out = BufWriter::new(alloc, to)?;
-    put_view(&mut out, ask.form, &ask.window, &mut machine, ports)?;
+    let mut out = BufWriter::new(rt.alloc(), to)?;
+    let mut progress = ProgressLine::new(rt, ask.telling, &ask.window);
+    let put = put_view(
+        &mut out,
+        ask.form,
+        &ask.window,
+        &mut machine,
+        ports,
+        &mut progress,
+    );
+    progress.clear();
+    put?;
     out.flush()?;
     Ok(())
 }
@@ -63,9 +71,9 @@ fn answer(rt: HostRuntime, ask: &Ask<'_>) -> Result<(), Fault> {
     let machine = Machine::load(alloc, &program.setup, &program.image)?;
     feed_inputs(&program.setup, &mut ports)?;
     if ask.file == STANDARD_OUTPUT {
-        write_view(alloc, ask, machine, &mut ports, io::writer(&rt))
+        write_view(rt, ask, machine, &mut ports, io::writer(&rt))
     } else {
-        write_view(alloc, ask, machine, &mut ports, fs::create(&rt, ask.file)?)
+        write_view(rt, ask, machine, &mut ports, fs::create(&rt, ask.file)?)
     }
 }
 

@@ -1,5 +1,6 @@
 //! What the words of the command line ask.
 
+use crate::progress::Telling;
 use clap::builder::ValueParser;
 use clap::error::ErrorKind;
 use clap::{Arg, ArgAction, ArgMatches, Command, Error};
@@ -9,10 +10,21 @@ use std::alloc::{AllocError, Global};
 /// The most columns of a picture.
 const MOST_COLUMNS: u64 = 2000;
 
+/// The file name that stands for standard output.
+pub const STANDARD_OUTPUT: &str = "-";
+
+/// The value of `--progress` until the window begins.
+const BEFORE: &str = "before";
+
+/// The value of `--progress` to the end of the run.
+const ALL: &str = "all";
+
 /// What `--help` says behind the options.
 const AFTER: &str = "The cycles from `from` on are shown, up to the one before `to`. \
 Without --konata, --vcd and --svg they are shown as text; FILE is `-` for standard output. \
-A picture has at most 2000 cycles.\n\n\
+A picture has at most 2000 cycles. \
+With `--progress before` it is told how far the run is while standard output gets nothing, with \
+`--progress all` to the end of the run.\n\n\
 The program is proved to be safe and to end. Nothing is proved of what it shows; it reads the \
 machine that `flexpret` runs.";
 
@@ -27,6 +39,8 @@ pub struct Ask<'a> {
     pub form: Form,
     /// The file that gets it; `-` for standard output.
     pub file: &'a str,
+    /// Until when it is told how far the run is.
+    pub telling: Telling,
 }
 
 /// Why the words ask nothing.
@@ -82,6 +96,17 @@ fn form_option<'a>(
         .conflicts_with(others.1)
 }
 
+/// The option that says until when it is told how far the run is.
+fn progress_option<'a>(alloc: Global) -> Arg<'a> {
+    let values: &'a [&'a str] = &[BEFORE, ALL];
+    Arg::new(alloc, "progress")
+        .long("progress")
+        .action(ArgAction::Set)
+        .value_name("UNTIL")
+        .value_parser(ValueParser::Names(values))
+        .help("tells on standard error how far a long run is")
+}
+
 /// The command `turns`.
 fn turns_command<'a>(alloc: Global) -> Result<Command<'a>, AllocError> {
     let setup = Arg::new(alloc, "setup")
@@ -100,7 +125,8 @@ fn turns_command<'a>(alloc: Global) -> Result<Command<'a>, AllocError> {
         .arg(cycle_option(alloc, "to", "the cycle behind the last one"))?
         .arg(form_option(alloc, "konata", ("vcd", "svg"), konata)?)?
         .arg(form_option(alloc, "vcd", ("konata", "svg"), vcd)?)?
-        .arg(form_option(alloc, "svg", ("konata", "vcd"), svg)?)
+        .arg(form_option(alloc, "svg", ("konata", "vcd"), svg)?)?
+        .arg(progress_option(alloc))
 }
 
 /// The program's commands.
@@ -121,7 +147,16 @@ fn form_of<'a>(matches: &ArgMatches<'a>) -> (Form, &'a str) {
     } else if let Some(file) = matches.get_str("svg") {
         (Form::Svg, file)
     } else {
-        (Form::Text, "-")
+        (Form::Text, STANDARD_OUTPUT)
+    }
+}
+
+/// Until when it is told how far the run is, whose view goes to a file.
+fn telling_of(matches: &ArgMatches<'_>, file: &str) -> Telling {
+    match matches.get_str("progress") {
+        None => Telling::Never,
+        Some(until) if until == BEFORE && file == STANDARD_OUTPUT => Telling::Before,
+        Some(_) => Telling::All,
     }
 }
 
@@ -140,6 +175,7 @@ fn asked<'a>(matches: &ArgMatches<'a>) -> Option<Ask<'a>> {
         window,
         form,
         file,
+        telling: telling_of(matches, file),
     })
 }
 

@@ -6,6 +6,7 @@
 
 mod cycle;
 mod konata;
+mod progress;
 mod svg;
 mod text;
 mod vcd;
@@ -13,5 +14,6 @@ mod view;
 mod watch;
 
 pub use cycle::{Cycle, CycleStart, ThreadState};
+pub use progress::Progress;
 pub use view::{Form, Window, put_view};
 pub use watch::Watch;

@@ -5,6 +5,7 @@ ghost use Rattle.timer_unit.specs.Time.{most_cycles};
 
 use crate::cycle::Cycle;
 use crate::konata::Konata;
+use crate::progress::{Progress, tell_at};
 use crate::svg::{Svg, end_svg};
 use crate::text::{put_heading, put_row};
 use crate::vcd::{Vcd, end_vcd};
@@ -47,6 +48,13 @@ impl Window {
     /// How many cycles it has.
     pub fn len(&self) -> u64 {
         self.to - self.from
+    }
+
+    /// How many cycles a machine does, from cycle 0 on, until all is known of the window's.
+    pub fn run_len(&self) -> u64
+        ensures { result ≡ self.now.to + 3 }
+    {
+        self.to + UNTIL_WHOLE
     }
 }
 
@@ -107,7 +115,7 @@ impl Writing {
 }
 
 /// Does so many cycles from cycle 0 on.
-fn go(machine: &mut Machine, ports: &mut Ports, cycles: u64)
+fn go<P: Progress>(machine: &mut Machine, ports: &mut Ports, cycles: u64, progress: &mut P)
     requires start { machine.old.at ≡ 0 }
     requires limit { cycles ≤ most_cycles }
     requires eight { vec_len ports.old ≡ 8 }
@@ -116,6 +124,7 @@ fn go(machine: &mut Machine, ports: &mut Ports, cycles: u64)
 {
     for _cycle in 0..cycles {
         let _event = machine.tick(ports);
+        tell_at(progress, machine.at);
     }
 }
 
@@ -140,27 +149,30 @@ fn put_cycle<W: Write>(
 }
 
 /// Runs a machine from cycle 0 on until all is known of a window's cycles, and puts them as they
-/// come. It takes no memory.
+/// come. It is told now and then how far the run is. It takes no memory.
 ///
 /// # Errors
 ///
 /// The writer's.
-pub fn put_view<W: Write>(
+pub fn put_view<W: Write, P: Progress>(
     out: &mut W,
     form: Form,
     window: &Window,
     machine: &mut Machine,
     ports: &mut Ports,
+    progress: &mut P,
 ) -> io::Result<()>
     requires start { machine.old.at ≡ 0 }
     requires eight { vec_len ports.old ≡ 8 }
 {
     let first = window.from.saturating_sub(BEFORE);
-    go(machine, ports, first);
+    go(machine, ports, first, progress);
+    progress.begin_window();
     let mut writing = Writing::begin(out, form, window)?;
     let mut watch = Watch::new();
-    for _cycle in first..window.to + UNTIL_WHOLE {
+    for _cycle in first..window.run_len() {
         put_cycle(out, &mut writing, &mut watch, window, machine, ports)?;
+        tell_at(progress, machine.at);
     }
     writing.end(out, machine.units.clock.now(window.to))
 }
