@@ -1,11 +1,12 @@
 #!/usr/bin/env python3
 """Throws hostile command lines, with the files that they read, at the built program, each in a process of its own
 with little memory and time. A crash, a status that isn't listed, another text than the status has, or another line of
-standard error is a finding, and with --model so is one line in twenty whose status or bytes aren't those of the executable
-model. Line N of a seed is always the same, so --first goes on where a call ended, and --only N shows one line again.
+standard error is a finding, and so is one line in twenty whose status or bytes aren't those of the executable model.
+Line N of a seed is always the same, so --first goes on where a call ended, and --only N shows one line again.
 It is no part of the gate. The status is 1 where something was found."""
 import argparse
 import contextlib
+import importlib
 import os
 import random
 import re
@@ -23,7 +24,10 @@ from types import FrameType
 from typing import Any
 
 from hostile import COMMANDS, Corpus, Hostile, Line, corpus
-from program import Status, built_program, complaint
+from program import TOP, Status, built_program, complaint
+
+MODEL = TOP / 'model'
+"""The repository's executable model."""
 
 SAMPLE = 20
 """One line in so many is compared with the model."""
@@ -100,13 +104,20 @@ class Caller:
             return None
 
 
+def model_of(folder: str) -> Any:
+    """The commands of the repository's model, or of another whose folder has `top.py`."""
+    if Path(folder) == MODEL:
+        sys.path.append(str(MODEL.parent))
+        return importlib.import_module('model.commands')
+    sys.path.insert(0, folder)
+    return importlib.import_module('top')
+
+
 class Model:
-    """The executable model: a folder with `top.py`, which answers words over real files."""
+    """An executable model, which answers words over real files."""
 
     def __init__(self, folder: str, seconds: float) -> None:
-        sys.path.insert(0, folder)
-        import top
-        self.top: Any = top
+        self.top = model_of(folder)
         self.seconds = seconds
 
     def answer(self, words: list[bytes]) -> tuple[int, bytes] | None:
@@ -295,7 +306,9 @@ def fuzz(options: argparse.Namespace, given: tuple[Any, ...]) -> Tally:
 def parsed() -> argparse.Namespace:
     parser = argparse.ArgumentParser(description=__doc__)
     parser.add_argument('--program', help='the built program (left out: the one that ./flexpret and rt ci leave)')
-    parser.add_argument('--model', metavar='DIR', help='the folder of an executable model, whose top.py has flexpret()')
+    parser.add_argument('--model', metavar='DIR', default=MODEL,
+                        help="another executable model than the repository's: a folder whose top.py has flexpret()")
+    parser.add_argument('--no-model', dest='model', action='store_const', const=None, help='compare with no model')
     parser.add_argument('--seed', type=int, default=1)
     parser.add_argument('--first', type=int, default=0, metavar='N', help='the number of the first line')
     parser.add_argument('--count', type=int, default=10_000, metavar='N', help='how many lines')

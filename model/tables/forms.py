@@ -1,0 +1,75 @@
+"""How the tables write bytes and numbers."""
+from __future__ import annotations
+
+import re
+from itertools import groupby
+from pathlib import Path
+
+TOP = Path(__file__).resolve().parents[2]
+ROWS, COMMAND_ROWS = TOP / "crates/rows/data", TOP / "crates/command_rows/data"
+
+Row = tuple[str, "str | None"]
+"""What a row is called, and what is wrong with it: nothing where that is empty, and None where it couldn't be
+compared."""
+
+ZERO_WORD = "00000000"
+ESCAPED = re.compile(rb"\\(x[0-9a-f]{2}|.)", re.DOTALL)
+LETTERS = {b"n": b"\n", b"r": b"\r", b"t": b"\t"}
+
+
+def table(name: str) -> Path:
+    """The path of a table by its name."""
+    return next(path for folder in (ROWS, COMMAND_ROWS) if (path := folder / name).exists())
+
+
+def rows(name: str) -> list[tuple[str, str]]:
+    """The answers of a table of lines, each with its call."""
+    parts = (line.partition("\t") for line in table(name).read_text().split("\n") if line)
+    return [(answer, call) for answer, _, call in parts]
+
+
+def unescaped(text: str) -> bytes:
+    """The bytes of a text in which `\\n`, `\\r`, `\\t`, `\\\\` and `\\x` with two digits stand for one byte each."""
+
+    def one(found: re.Match[bytes]) -> bytes:
+        said = found[1]
+        return bytes([int(said[1:], 16)]) if len(said) == 3 else LETTERS.get(said, said)
+
+    return ESCAPED.sub(one, text.encode())
+
+
+def escaped(data: bytes) -> str:
+    """The text that `unescaped` reads as some bytes."""
+    named = {letter[0]: f"\\{key.decode()}" for key, letter in LETTERS.items()} | {ord("\\"): "\\\\"}
+    return "".join(named.get(b) or (chr(b) if 32 <= b < 127 else f"\\x{b:02x}") for b in data)
+
+
+def expanded(digits: str) -> bytes:
+    """The bytes of hexadecimal digits, of which a full stop stands for four bytes of 0."""
+    return bytes.fromhex(digits.replace(".", ZERO_WORD))
+
+
+def repeated(text: str) -> bytes:
+    """The bytes of pieces of such digits with spaces between them, of which `DIGITS*N` stands N times."""
+    pieces = (piece.partition("*") for piece in text.split(" "))
+    return b"".join(expanded(digits) * int(times or 1) for digits, _, times in pieces)
+
+
+def words_in_runs(data: bytes) -> str:
+    """The words of bytes, each after a space; those that are the same and follow one another as one with its count."""
+    words = [data[k : k + 4].hex() for k in range(0, len(data), 4)]
+    runs = ((word, len(list(same))) for word, same in groupby(words))
+    return "".join(f" {word}" if count == 1 else f" {word}*{count}" for word, count in runs)
+
+
+def number(text: str) -> int:
+    """The number of a word, hexadecimal after `0x`."""
+    return int(text, 16) if text.startswith("0x") else int(text)
+
+
+def numbers(text: str) -> list[int]:
+    return [number(word) for word in text.split()]
+
+
+def truth(value: bool) -> str:
+    return "true" if value else "false"
