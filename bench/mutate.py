@@ -66,6 +66,10 @@ class Log:
         elif path:
             path.write_text(json.dumps(self.front) + '\n')
 
+    def has(self, number: int) -> bool:
+        """Whether it is known what a change comes to."""
+        return number in self.tried and self.tried[number].verdict != Verdict.UNKNOWN
+
     def add(self, tried: Tried) -> None:
         """Keeps and prints what was tried."""
         with self.lock:
@@ -80,10 +84,10 @@ class Log:
 
 # ---------------------------------------------------------------- the whole
 
-def outcomes(crate: str, todo: list[Drawn], bench: Bench, alone: bool, stop: Event) -> Iterator[Outcome]:
+def outcomes(crate: str, todo: list[Drawn], bench: Bench, options: argparse.Namespace, stop: Event) -> Iterator[Outcome]:
     """What changes of a crate come to, in rounds or each alone."""
-    rounds = Rounds(bench, crate, bench.prove_unchanged(crate), stop)
-    if not alone:
+    rounds = Rounds(bench, crate, bench.prove_unchanged(crate), stop, options.rounds)
+    if not options.alone:
         yield from rounds.outcomes(todo)
         return
     for drawn in todo:
@@ -115,7 +119,7 @@ def try_all(todo: dict[str, list[Drawn]], log: Log, options: argparse.Namespace)
                 return
             bench = benches.get()
             try:
-                for outcome in outcomes(crate, todo[crate], bench, options.alone, stop):
+                for outcome in outcomes(crate, todo[crate], bench, options, stop):
                     log.add(tried_of(outcome))
             finally:
                 benches.put(bench)
@@ -145,11 +149,14 @@ def parsed() -> argparse.Namespace:
     parser = argparse.ArgumentParser(description=__doc__)
     parser.add_argument('--seed', type=int, default=1)
     parser.add_argument('--count', type=int, default=20, metavar='N', help='how many changes of the seed')
-    parser.add_argument('--crate', action='append', metavar='NAME', help='a crate to draw from, may be repeated, in the order in which they are tried (left out: all libraries)')
+    parser.add_argument('--crate', action='append', metavar='NAME', help='a crate to draw from, may be repeated (left out: all libraries)')
+    parser.add_argument('--only', action='append', metavar='NAME',
+                        help='a crate whose changes are tried, may be repeated, in this order (left out: all that are drawn from)')
     parser.add_argument('--resume', type=Path, metavar='FILE', help='the log: what it has is not tried again, and it gets the rest')
     parser.add_argument('--jobs', type=int, default=1, metavar='N', help='how many crates at a time')
     parser.add_argument('--seconds', type=float, default=SECONDS, metavar='S', help='the time of a check')
     parser.add_argument('--alone', action='store_true', help='tries each change in a check of its own')
+    parser.add_argument('--rounds', type=int, metavar='N', help='how many rounds of a crate at most; a later call tries the rest')
     parser.add_argument('--scratch', type=Path, metavar='DIR',
                         help='where the copies are made, some 2 GB each, and stay for the next call (left out: a folder that goes again)')
     parser.add_argument('--list', action='store_true', help='shows the changes as diffs, and tries none')
@@ -159,7 +166,8 @@ def parsed() -> argparse.Namespace:
 def main() -> int:
     options = parsed()
     crates = options.crate or library_crates()
-    if unknown := sorted(set(crates) - set(library_crates())):
+    tried_crates = options.only or crates
+    if unknown := sorted({*crates, *tried_crates} - set(library_crates())):
         sys.exit(f'no library crate: {", ".join(unknown)}')
     urn = urn_of(sorted(set(crates)))
     drawn = list(urn.all_drawn(options.seed, options.count))
@@ -170,10 +178,7 @@ def main() -> int:
     log = Log(options.resume, urn, options.seed)
     for number in (signal.SIGINT, signal.SIGTERM):
         signal.signal(number, signal.default_int_handler)
-    todo: dict[str, list[Drawn]] = {crate: [] for crate in crates}
-    for one in drawn:
-        if one.number not in log.tried or log.tried[one.number].verdict == Verdict.UNKNOWN:
-            todo[one.crate].append(one)
+    todo = {crate: [one for one in drawn if one.crate == crate and not log.has(one.number)] for crate in tried_crates}
     try_all({crate: some for crate, some in todo.items() if some}, log, options)
     print_table([log.tried[one.number] for one in drawn if one.number in log.tried])
     return 0

@@ -104,36 +104,48 @@ class Judged:
 class Rounds:
     """The rounds over the changes of a crate."""
 
-    def __init__(self, bench: Bench, crate: str, symbols: list[str], stop: threading.Event) -> None:
-        self.bench, self.crate, self.stop = bench, crate, stop
+    def __init__(self, bench: Bench, crate: str, symbols: list[str], stop: threading.Event, most: int | None = None) -> None:
+        """`most` is how many rounds there are at most: what then still waits isn't tried, nor is what is in no function."""
+        self.bench, self.crate, self.stop, self.left = bench, crate, stop, most
         self.places = Places(crate, symbols)
         self.waiting: dict[tuple[str, ...], deque[Trial]] = {}
         self.alone: list[Drawn] = []
 
     def outcomes(self, todo: list[Drawn]) -> Iterator[Outcome]:
         """Tries changes: first those of functions, together, then each that is left alone."""
+        others: list[Drawn] = []
         for drawn in todo:
             place = self.places.place_of(drawn)
             if place is None:
-                self.alone.append(drawn)
+                others.append(drawn)
             else:
                 self.waiting.setdefault(place.symbols, deque()).append(Trial(drawn, place))
-        while any(self.waiting.values()) and not self.stop.is_set():
-            yield from self.round()
+        while (queues := self.queues()) and not self.stop.is_set():
+            yield from self.round(queues)
         for queue in self.waiting.values():
             for trial in queue:
                 self.put_back(trial)
+        if not any(self.waiting.values()):
+            self.alone += others
         while self.alone and not self.stop.is_set():
             yield self.tried_alone(self.alone.pop(0))
+
+    def queues(self) -> list[deque[Trial]]:
+        """The functions of the next round, by what waits of each: most wait longest come first. Past the last round come those
+        of which answers were removed."""
+        queues = sorted(filter(None, self.waiting.values()), key=len, reverse=True)
+        if self.left is not None and self.left <= 0:
+            queues = [queue for queue in queues if queue[0].tries]
+        return queues[:MOST]
 
     def tried_alone(self, drawn: Drawn) -> Outcome:
         began = time.monotonic()
         verdict, said, removed = self.bench.try_change(self.crate, drawn.file, drawn.change.applied(drawn.text))
         return Outcome(drawn, verdict, said, removed, round(time.monotonic() - began, 1), 0)
 
-    def round(self) -> Iterator[Outcome]:
-        """Judges the first change that waits of each function; most wait longest come first."""
-        queues = sorted(filter(None, self.waiting.values()), key=len, reverse=True)[:MOST]
+    def round(self, queues: list[deque[Trial]]) -> Iterator[Outcome]:
+        """Judges the first change that waits of each of these functions."""
+        self.left = None if self.left is None else self.left - 1
         for outcome in self.judged([queue[0] for queue in queues]):
             trial = self.waiting[self.symbols_of(outcome.drawn)].popleft()
             self.put_back(trial)
@@ -149,7 +161,8 @@ class Rounds:
 
     def judged(self, trials: list[Trial]) -> Iterator[Outcome]:
         """What one check of these changes tells, and more checks where it tells nothing; UNKNOWN is to be tried alone.
-        A trial whose answers were removed has no outcome yet."""
+        In place of those that don't compile come the next that wait of their functions. A trial whose answers were removed has
+        no outcome yet."""
         if not trials:
             return
         check, texts = self.checked(trials)
@@ -163,7 +176,8 @@ class Rounds:
             yield trial.ended(Verdict.NO_SOURCE, said, len(trials) - 1)
         rest = [trial for trial in trials if trial not in wrong]
         if wrong:
-            yield from self.judged(rest)
+            queues = [self.waiting[trial.place.symbols] for trial in wrong]
+            yield from self.judged(rest + [queue[0] for queue in queues if queue])
         elif len(rest) == 1:
             yield rest[0].ended(Verdict.UNKNOWN, '', 0)
         else:
