@@ -1,21 +1,29 @@
 -- Folds by the parts of a text.
-use Rattle.std.proofs.Common.{◌≡◌, ℕ, zero, suc, ◌+◌, ◌-◌, ◌*◌, ◌/◌, ◌%◌, ◌^◌, ◌<◌, ◌≤◌, List, [], ◌∷◌, ◌++◌, length, Bool, inl, inr, arith, refl, ap, sym, ◌∙◌, append_assoc}
-use Rattle.std.specs.Prelude.{◌==◌, if◌then◌else◌, codes, decimal, fold, replicate}
-use Rattle.std.proofs.Math.Nat.{add-mod-mod, mod-add-mod, mul_assoc}
+use Rattle.std.proofs.Common.{◌≡◌, ℕ, ◌+◌, ◌-◌, ◌*◌, ◌/◌, ◌%◌, ◌^◌, ◌<◌, ◌≤◌, List, [], ◌∷◌, ◌++◌, length, Bool, inl, inr, arith, refl, ap, sym, subst, ◌∙◌, append_assoc}
+use Rattle.std.specs.Prelude.{if◌then◌else◌, codes, decimal, replicate, slice_index_or, slice_set}
+use Rattle.std.proofs.Math.Nat.{add-mod-mod, add-mul, mod-add-mod, mul_assoc}
 use Rattle.std.proofs.lemmas.Nat.{mul-mod_first, mul-mod_second, mul-le}
 use Rattle.std.proofs.lemmas.Bool.{cases_lt}
 use Rattle.std.proofs.lemmas.Bool.Decides.{eqb_tells}
 use Rattle.std.proofs.lemmas.Fmt.{decimal_digit, decimal_step}
-use Rattle.std.proofs.lemmas.List.{length-append, replicate_more}
+use Rattle.std.proofs.lemmas.List.{get_or-set_other, get_or-set_same, length-append, replicate_more}
 use Rattle.std.proofs.lemmas.Grind.{fold-append}
-use Rattle.rv_exec.specs.declared.outcome.Effect.{Effect}
-use Rattle.rv_exec.specs.declared.outcome.Effect.TheVariants.{Nothing, Reg, Store}
+use Rattle.rv_exec.specs.declared.outcome.Effect.TheVariants.{Nothing}
 use Rattle.rv_exec.specs.declared.outcome.Event.{Event}
-use Rattle.trace_print.specs.Digits.{hex_digit, hex, right}
-use Rattle.trace_print.specs.Text.{register_text, store_text, effect_text, line_text}
-use Rattle.selfrun.specs.declared.line_fold.Piece.{Piece}
-use Rattle.selfrun.specs.Folds.{IsPiece, line_with, upper_text, with_pair}
+use Rattle.trace_print.specs.Digits.{hex_digit, hex, right, two_digits}
+use Rattle.trace_print.specs.Text.{register_text, store_text, trap_text, effect_text, line_text}
+use Rattle.selfrun.specs.declared.piece.Piece.{Piece}
+use Rattle.selfrun.specs.Folds.{IsFirst, IsPiece, cycle_text, lower_text, name_text, pair_sum, pair_text, site_text, upper_text}
 use Rattle.selfrun.specs.Text.{folded, with_byte}
+
+-- a table with one more entry that is right
+pub one_more : {X : Type 0} (Right : ℕ → X → Type 0) (xs : List X) (n : ℕ) (x d : X) → n < length xs → ((k : ℕ) → k < n → Right k (slice_index_or xs k d)) → Right n x →
+    (k : ℕ) → k < n + 1 → Right k (slice_index_or (slice_set xs n x) k d)
+one_more Right xs n x d within before here k below =
+    elim (eqb_tells k n) [
+      | inl is ↦ subst (λ j. Right j (slice_index_or (slice_set xs n x) j d)) (sym is.1) (subst (Right n) (sym (get_or-set_same xs n x d within)) here)
+      | inr not_is ↦ subst (Right k) (sym (get_or-set_other xs n k x d not_is.1)) (before k (omega (arith, below, not_is.1)))
+    ]
 
 -- what is multiplied fits in 64 bits
 pub product_fits : (h w : ℕ) → h < 2 ^ 32 → w < 2 ^ 32 → h * w ≤ (2 ^ 32 - 1) * (2 ^ 32 - 1)
@@ -29,36 +37,49 @@ pub folded-one : (h byte : ℕ) → folded h (byte ∷ []) ≡ with_byte h byte
 unfolding folded
 folded-one h byte = refl
 
--- a number that was cut is multiplied by 31
-cut : (x b : ℕ) → (x % 2 ^ 32 * 31 + b) % 2 ^ 32 ≡ (x * 31 + b) % 2 ^ 32
-cut x b = sym (mod-add-mod (x % 2 ^ 32 * 31) (2 ^ 32) b) ∙ ap (λ y. (y + b) % 2 ^ 32) (mul-mod_first x 31 (2 ^ 32)) ∙ mod-add-mod (x * 31) (2 ^ 32) b
+-- a number that was cut is multiplied
+cut : (x w b : ℕ) → (x % 2 ^ 32 * w + b) % 2 ^ 32 ≡ (x * w + b) % 2 ^ 32
+cut x w b = sym (mod-add-mod (x % 2 ^ 32 * w) (2 ^ 32) b) ∙ ap (λ y. (y + b) % 2 ^ 32) (mul-mod_first x w (2 ^ 32)) ∙ mod-add-mod (x * w) (2 ^ 32) b
 
 -- two bytes at once
-pub two_bytes : (h a b : ℕ) → (h * 961 + (a * 31 + b)) % 2 ^ 32 ≡ with_byte (with_byte h a) b
+two_bytes : (h a b : ℕ) → (h * 961 + (a * 31 + b)) % 2 ^ 32 ≡ with_byte (with_byte h a) b
 two_bytes h a b =
     let sum : (h * 31 + a) * 31 + b ≡ h * 961 + (a * 31 + b) = omega arith in
-    ap (λ x. x % 2 ^ 32) (sym sum) ∙ sym (cut (h * 31 + a) b)
+    ap (λ x. x % 2 ^ 32) (sym sum) ∙ sym (cut (h * 31 + a) 31 b)
 
 pub piece_empty : IsPiece (record { weight = 1; sum = 0 }) []
 unfolding folded
 piece_empty h small = omega (arith, small)
 
--- one more byte
-pub piece_more : (w s b : ℕ) (bytes : List ℕ) → IsPiece (record { weight = w; sum = s }) bytes →
-    IsPiece (record { weight = (w * 31 + 0) % 2 ^ 32; sum = (s * 31 + b) % 2 ^ 32 }) (bytes ++ b ∷ [])
-piece_more w s b bytes is h small =
-    let first : folded h (bytes ++ b ∷ []) ≡ with_byte (folded h bytes) b = folded-append h bytes (b ∷ []) ∙ folded-one (folded h bytes) b in
-    let left : with_byte (folded h bytes) b ≡ ((h * w + s) * 31 + b) % 2 ^ 32 = ap (λ x. with_byte x b) (is h small) ∙ cut (h * w + s) b in
-    let sum : (h * w + s) * 31 + b ≡ h * (w * 31 + 0) + (s * 31 + b) =
-    let inner : h * (w * 31) ≡ h * w * 31 = sym (mul_assoc h w 31) in
-    let flat : w * 31 + 0 ≡ w * 31 = omega arith in
-    rw flat (omega (arith, inner)) in
-    let right_side : (h * ((w * 31 + 0) % 2 ^ 32) + (s * 31 + b) % 2 ^ 32) % 2 ^ 32 ≡ (h * (w * 31 + 0) + (s * 31 + b)) % 2 ^ 32 =
-    add-mod-mod (h * ((w * 31 + 0) % 2 ^ 32)) (s * 31 + b) (2 ^ 32)
-    ∙ sym (mod-add-mod (h * ((w * 31 + 0) % 2 ^ 32)) (2 ^ 32) (s * 31 + b))
-    ∙ ap (λ y. (y + (s * 31 + b)) % 2 ^ 32) (mul-mod_second h (w * 31 + 0) (2 ^ 32))
-    ∙ mod-add-mod (h * (w * 31 + 0)) (2 ^ 32) (s * 31 + b) in
-    first ∙ left ∙ ap (λ x. x % 2 ^ 32) sum ∙ sym right_side
+-- a text of one byte, and the two digits of a byte
+pub piece_byte : (b sum : ℕ) → sum ≡ b → IsPiece (record { weight = 31; sum = sum }) (b ∷ [])
+unfolding folded
+piece_byte b sum is h small = ap (λ s. (h * 31 + s) % 2 ^ 32) (sym is)
+
+pub piece_pair : (byte sum : ℕ) → sum ≡ pair_sum byte → IsPiece (record { weight = 961; sum = sum }) (pair_text byte)
+unfolding folded
+piece_pair byte sum is h small = sym (two_bytes h (hex_digit (byte / 16)) (hex_digit (byte % 16))) ∙ ap (λ s. (h * 961 + s) % 2 ^ 32) (sym is)
+
+-- one text and another one behind it
+pub piece_and : (p q : Piece) (xs ys : List ℕ) → IsPiece p xs → IsPiece q ys →
+    IsPiece (record { weight = (p.weight * q.weight + 0) % 2 ^ 32; sum = (p.sum * q.weight + q.sum) % 2 ^ 32 }) (xs ++ ys)
+piece_and p q xs ys first second h small =
+    let w : ℕ = p.weight * q.weight + 0 in
+    let s : ℕ = p.sum * q.weight + q.sum in
+    let front : ℕ = h * p.weight + p.sum in
+    let begun : folded h (xs ++ ys) ≡ folded (front % 2 ^ 32) ys = folded-append h xs ys ∙ ap (λ x. folded x ys) (first h small) in
+    let ended : folded (front % 2 ^ 32) ys ≡ (front * q.weight + q.sum) % 2 ^ 32 = second (front % 2 ^ 32) (omega arith) ∙ cut front q.weight q.sum in
+    let sum : front * q.weight + q.sum ≡ h * w + s =
+    let left : front * q.weight ≡ h * p.weight * q.weight + p.sum * q.weight = add-mul (h * p.weight) p.sum q.weight in
+    let inner : h * (p.weight * q.weight) ≡ h * p.weight * q.weight = sym (mul_assoc h p.weight q.weight) in
+    let flat : p.weight * q.weight + 0 ≡ p.weight * q.weight = omega arith in
+    rw flat (omega (arith, left, inner)) in
+    let right_side : (h * (w % 2 ^ 32) + s % 2 ^ 32) % 2 ^ 32 ≡ (h * w + s) % 2 ^ 32 =
+    add-mod-mod (h * (w % 2 ^ 32)) s (2 ^ 32)
+    ∙ sym (mod-add-mod (h * (w % 2 ^ 32)) (2 ^ 32) s)
+    ∙ ap (λ y. (y + s) % 2 ^ 32) (mul-mod_second h w (2 ^ 32))
+    ∙ mod-add-mod (h * w) (2 ^ 32) s in
+    begun ∙ ended ∙ ap (λ x. x % 2 ^ 32) sum ∙ sym right_side
 
 -- one more space
 pub blank_more : (p : Piece) (n : ℕ) → IsPiece p (replicate n 32 ++ 32 ∷ []) → IsPiece p (replicate (n + 1) 32)
@@ -108,15 +129,46 @@ upper_more p width less tens fits some one_less is h small =
     ∙ is h small
 
 -- a cycle by its last digit and what stands before it
-pub cycle_parts : (h upper cycle : ℕ) → cycle < 2 ^ 64 → upper ≡ folded h (upper_text 9 (cycle / 10)) → with_byte upper (48 + cycle % 10) ≡ folded h (right 10 cycle)
-cycle_parts h upper cycle fits is =
-    ap (λ x. with_byte x (48 + cycle % 10)) is ∙ sym (folded-one (folded h (upper_text 9 (cycle / 10))) (48 + cycle % 10))
-    ∙ sym (folded-append h (upper_text 9 (cycle / 10)) ((48 + cycle % 10) ∷ [])) ∙ ap (folded h) (sym (right_last 10 cycle fits))
+pub by_last : (cycle : ℕ) → cycle < 2 ^ 64 → (upper_text 9 (cycle / 10) ++ (48 + cycle % 10) ∷ []) ++ 32 ∷ [] ≡ cycle_text cycle
+by_last cycle fits = ap (λ xs. xs ++ 32 ∷ []) (sym (right_last 10 cycle fits))
+
+-- a cycle by its last two digits and what stands before them
+pub by_last_two : (cycle : ℕ) → 100 ≤ cycle → cycle < 2 ^ 64 → upper_text 8 (cycle / 100) ++ lower_text (cycle % 100) ≡ cycle_text cycle
+unfolding two_digits
+by_last_two cycle many fits =
+    let tens : ℕ = cycle / 10 in
+    let front : List ℕ = upper_text 8 (cycle / 100) in
+    let ten : cycle / 10 / 10 ≡ cycle / 100 = omega arith in
+    let first : cycle / 10 % 10 ≡ cycle % 100 / 10 = omega arith in
+    let last : cycle % 10 ≡ cycle % 100 % 10 = omega arith in
+    let upper : upper_text 9 tens ≡ front ++ (48 + cycle % 100 / 10) ∷ [] =
+    upper_some 9 tens (omega (arith, many)) ∙ right_last 9 tens (omega (arith, fits))
+    ∙ ap (λ n. upper_text 8 n ++ (48 + cycle / 10 % 10) ∷ []) ten ∙ ap (λ n. front ++ (48 + n) ∷ []) first in
+    let whole : right 10 cycle ≡ (front ++ (48 + cycle % 100 / 10) ∷ []) ++ (48 + cycle % 100 % 10) ∷ [] =
+    right_last 10 cycle fits ∙ ap (λ xs. xs ++ (48 + cycle % 10) ∷ []) upper ∙ ap (λ n. (front ++ (48 + cycle % 100 / 10) ∷ []) ++ (48 + n) ∷ []) last in
+    sym (ap (λ xs. xs ++ 32 ∷ []) whole ∙ simp append_assoc)
+
+-- what was kept for a hundred cycles goes for a cycle that is one of them
+pub is_kept : (cycle first : ℕ) → IsFirst first → cycle < 10 ^ 10 → (cycle + (2 ^ 64 - first)) % 2 ^ 64 < 100 →
+    (100 ≤ cycle) × (first / 100 ≡ cycle / 100) × ((cycle + (2 ^ 64 - first)) % 2 ^ 64 ≡ cycle % 100)
+is_kept cycle first (many, whole, few) fits within =
+    let behind : first ≤ cycle = omega (arith, few, fits, within) in
+    let lower : (cycle + (2 ^ 64 - first)) % 2 ^ 64 ≡ cycle - first = omega (arith, behind, few, fits, within) in
+    let near : cycle - first < 100 = omega (arith, lower, within) in
+    (omega (arith, many, behind), omega (arith, whole, behind, near), omega (arith, lower, whole, behind, near))
+
+-- a fold with a cycle, by its two parts
+pub cycle_parts : (h begun ended cycle : ℕ) → 100 ≤ cycle → cycle < 10 ^ 10 → begun ≡ folded h (upper_text 8 (cycle / 100)) → ended ≡ folded begun (lower_text (cycle % 100)) →
+    ended ≡ folded h (cycle_text cycle)
+cycle_parts h begun ended cycle many fits begins ends =
+    ends ∙ ap (λ x. folded x (lower_text (cycle % 100))) begins ∙ sym (folded-append h (upper_text 8 (cycle / 100)) (lower_text (cycle % 100)))
+    ∙ ap (folded h) (by_last_two cycle many (omega (arith, fits)))
 
 -- a word's digits by its bytes
-pub by_bytes : (h w : ℕ) → w < 2 ^ 32 → with_pair (with_pair (with_pair (with_pair h (w / 0x1000000)) (w / 0x10000 % 0x100)) (w / 0x100 % 0x100)) (w % 0x100) ≡ folded h (hex 8 w)
-unfolding hex folded
-by_bytes h w small =
+pub by_bytes : (w : ℕ) → w < 2 ^ 32 →
+    (pair_text (w / 0x1000000) ++ pair_text (w / 0x10000 % 0x100)) ++ (pair_text (w / 0x100 % 0x100) ++ pair_text (w % 0x100)) ≡ hex 8 w
+unfolding hex
+by_bytes w small =
     let two : w / 16 / 16 ≡ w / 0x100 = omega arith in
     let three : w / 0x100 / 16 ≡ w / 0x1000 = omega arith in
     let four : w / 0x1000 / 16 ≡ w / 0x10000 = omega arith in
@@ -132,6 +184,15 @@ by_bytes h w small =
     let d0 : w % 0x100 % 16 ≡ w % 16 = omega arith in
     rw (d5, d4, d3, d2, d1, d0, two, three, four, five, six, seven, d7) refl
 
+-- nothing, and a register and its value, by their parts
+pub of_nothing : (h : ℕ) → with_byte h 45 ≡ folded h (effect_text Nothing)
+unfolding folded effect_text
+of_nothing h = refl
+
+pub register_parts : (h rd value : ℕ) → folded (folded h (name_text rd)) (hex 8 value) ≡ folded h (register_text rd value)
+unfolding folded register_text two_digits
+register_parts h rd value = refl
+
 -- what is stored where, by its parts
 pub store_parts : (h a s v : ℕ) → s < 10 →
     folded (with_byte (with_byte (with_byte (with_byte (folded (with_byte h 91) (hex 8 a)) 93) 47) (48 + s)) 61) (hex 8 v) ≡ folded h (store_text a s v)
@@ -139,33 +200,22 @@ unfolding folded store_text
 store_parts h a s v small =
     rw (decimal_digit s small) (sym (folded-append (with_byte h 91) (hex 8 a) (codes "]/" ++ ((48 + s) ∷ (codes "=" ++ hex 8 v)))))
 
--- what stands before an effect, by its parts
-pub front_parts : (h : ℕ) (e : Event) (rest : List ℕ) →
-    folded (with_byte (folded (with_byte (folded (with_byte (folded h (right 10 e.cycle)) 32) (hex 8 e.pc)) 32) (hex 8 e.word)) 32) rest ≡ folded h (line_with e rest)
-unfolding folded
-front_parts h e rest =
-    let after_cycle : ℕ = with_byte (folded h (right 10 e.cycle)) 32 in
-    let after_pc : ℕ = with_byte (folded after_cycle (hex 8 e.pc)) 32 in
-    sym (folded-append h (right 10 e.cycle) (codes " " ++ (hex 8 e.pc ++ (codes " " ++ (hex 8 e.word ++ (codes " " ++ rest)))))
-    ∙ folded-append after_cycle (hex 8 e.pc) (codes " " ++ (hex 8 e.word ++ (codes " " ++ rest)))
-    ∙ folded-append after_pc (hex 8 e.word) (codes " " ++ rest))
+-- a trap's cause and where the thread goes on, by their parts
+pub trap_parts : (h cause target : ℕ) → cause < 10 →
+    folded (folded (with_byte (folded h (codes "trap ")) (48 + cause)) (codes " -> ")) (hex 8 target) ≡ folded h (trap_text cause target)
+unfolding folded trap_text
+trap_parts h cause target small = rw (decimal_digit cause small) refl
 
--- the effect and the line feed behind the front
-pub whole_line : (h front last new : ℕ) (e : Event) (x : Effect) → e.effect ≡ x → ((rest : List ℕ) → folded front rest ≡ folded h (line_with e rest)) →
-    last ≡ folded front (effect_text x) → new ≡ with_byte last 10 → new ≡ folded h (line_text e)
+-- a line, by its parts
+pub line_parts : (h : ℕ) (e : Event) →
+    with_byte (folded (folded (folded h (cycle_text e.cycle)) (site_text e.pc e.word)) (effect_text e.effect)) 10 ≡ folded h (line_text e)
 unfolding line_text
-whole_line h front last new e x is begun shown ended =
-    ended ∙ ap (λ y. with_byte y 10) shown ∙ sym (folded-one (folded front (effect_text x)) 10) ∙ sym (folded-append front (effect_text x) (10 ∷ []))
-    ∙ begun (effect_text x ++ 10 ∷ []) ∙ ap (λ y. folded h (line_with e (effect_text y ++ 10 ∷ []))) (sym is)
-
-pub of_nothing : (front : ℕ) → with_byte front 45 ≡ folded front (effect_text Nothing)
-unfolding folded effect_text
-of_nothing front = refl
-
-pub of_register : (front rd value : ℕ) → folded front (register_text rd value) ≡ folded front (effect_text (Reg rd value))
-unfolding effect_text
-of_register front rd value = refl
-
-pub of_store : (front address size value : ℕ) → folded front (store_text address size value) ≡ folded front (effect_text (Store address size value))
-unfolding effect_text
-of_store front address size value = refl
+line_parts h e =
+    let cycle : List ℕ = cycle_text e.cycle in
+    let site : List ℕ = site_text e.pc e.word in
+    let effect : List ℕ = effect_text e.effect in
+    sym (folded-one (folded (folded (folded h cycle) site) effect) 10)
+    ∙ sym (folded-append (folded (folded h cycle) site) effect (10 ∷ []))
+    ∙ sym (folded-append (folded h cycle) site (effect ++ 10 ∷ []))
+    ∙ sym (folded-append h cycle (site ++ (effect ++ 10 ∷ [])))
+    ∙ ap (folded h) (simp append_assoc)

@@ -1,15 +1,22 @@
 -- The fold of a text, worked out from the text's parts.
-use Rattle.std.specs.Prelude.{◌≡◌, ℕ, ◌+◌, ◌*◌, ◌/◌, ◌%◌, ◌^◌, ◌<◌, ◌==◌, List, ◌++◌, codes, replicate, slice_index_or, if◌then◌else◌}
-use Rattle.rv_exec.specs.declared.outcome.Event.{Event}
-use Rattle.trace_print.specs.Digits.{hex, hex_digit, right}
-use Rattle.selfrun.specs.Text.{folded, with_byte}
-use Rattle.selfrun.specs.declared.line_fold.Piece.{Piece}
+use Rattle.std.specs.Prelude.{◌≡◌, ℕ, ◌+◌, ◌*◌, ◌/◌, ◌%◌, ◌^◌, ◌<◌, ◌≤◌, ◌==◌, List, [], ◌∷◌, ◌++◌, codes, replicate, slice_index_or, if◌then◌else◌}
+use Rattle.trace_print.specs.Digits.{hex, hex_digit, right, two_digits}
+use Rattle.selfrun.specs.Text.{folded}
+use Rattle.selfrun.specs.declared.piece.Piece.{Piece}
+use Rattle.selfrun.specs.declared.sites.Site.{Site}
 
 -- what a text does to the fold before it
 abbrev pub IsPiece : Piece → List ℕ → Type 0
 IsPiece p bytes = (h : ℕ) → h < 2 ^ 32 → folded h bytes ≡ (h * p.weight + p.sum) % 2 ^ 32
 
--- what the two hexadecimal digits of a byte add to a fold
+-- the n-th entry of a table is the piece of a text
+abbrev pub IsPieceAt : List Piece → ℕ → List ℕ → Type 0
+IsPieceAt pieces n bytes = IsPiece (slice_index_or pieces n (record { weight = 0; sum = 0 })) bytes
+
+-- the two hexadecimal digits of a byte, and their fold
+abbrev pub pair_text : ℕ → List ℕ
+pair_text byte = hex_digit (byte / 16) ∷ hex_digit (byte % 16) ∷ []
+
 abbrev pub pair_sum : ℕ → ℕ
 pair_sum byte = hex_digit (byte / 16) * 31 + hex_digit (byte % 16)
 
@@ -17,14 +24,39 @@ pair_sum byte = hex_digit (byte / 16) * 31 + hex_digit (byte % 16)
 abbrev pub ArePairs : List ℕ → Type 0
 ArePairs pairs = (byte : ℕ) → byte < 256 → slice_index_or pairs byte 0 ≡ pair_sum byte
 
--- a fold with the two hexadecimal digits of a byte
-abbrev pub with_pair : ℕ → ℕ → ℕ
-with_pair h byte = with_byte (with_byte h (hex_digit (byte / 16))) (hex_digit (byte % 16))
+-- a register's name and the sign behind it, by register
+abbrev pub name_text : ℕ → List ℕ
+name_text rd = codes "x" ++ (two_digits rd ++ codes "=")
+
+abbrev pub AreNames : List Piece → Type 0
+AreNames names = (rd : ℕ) → rd < 32 → IsPieceAt names rd (name_text rd)
+
+-- a cycle right in ten columns, and a space
+abbrev pub cycle_text : ℕ → List ℕ
+cycle_text cycle = right 10 cycle ++ codes " "
 
 -- what stands in some columns before the last digit of a number, by the tenth of the number
 unfoldable pub upper_text : ℕ → ℕ → List ℕ
 upper_text width tens = if tens == 0 then replicate width 32 else right width tens
 
--- the line of an event with something else in the place of the effect and the line feed
-abbrev pub line_with : Event → List ℕ → List ℕ
-line_with e rest = right 10 e.cycle ++ (codes " " ++ (hex 8 e.pc ++ (codes " " ++ (hex 8 e.word ++ (codes " " ++ rest)))))
+-- the last two digits of a cycle, and a space, by these digits
+abbrev pub lower_text : ℕ → List ℕ
+lower_text n = two_digits n ++ codes " "
+
+abbrev pub AreLower : List Piece → Type 0
+AreLower lower = (n : ℕ) → n < 100 → IsPieceAt lower n (lower_text n)
+
+-- the first of a hundred cycles that have the same text before their last two digits
+abbrev pub IsFirst : ℕ → Type 0
+IsFirst first = (100 ≤ first) × (first % 100 ≡ 0) × (first < 10 ^ 10)
+
+-- a pc and a word, each with a space behind it
+abbrev pub site_text : ℕ → ℕ → List ℕ
+site_text pc word = (hex 8 pc ++ codes " ") ++ (hex 8 word ++ codes " ")
+
+abbrev pub IsSite : Site → Type 0
+IsSite s = IsPiece s.piece (site_text s.pc s.word)
+
+-- by place in the table
+abbrev pub AreSites : List Site → Type 0
+AreSites sites = (n : ℕ) → n < 1024 → IsSite (slice_index_or sites n (record { pc = 0; word = 0; piece = record { weight = 0; sum = 0 } }))

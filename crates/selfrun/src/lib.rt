@@ -3,10 +3,14 @@
 
 #![tactic(auto)]
 
+mod cycles;
 mod drawing;
+mod hex_pairs;
 mod instructions;
 mod line_fold;
+mod piece;
 mod running;
+mod sites;
 mod tally;
 
 pub use running::Selfrun;

@@ -1,12 +1,13 @@
 //! The run.
 
-ghost use Rattle.std.specs.Prelude.{◌≡◌, ℕ, ◌<◌, ◌≤◌, List, Option, length, vec_len, OnOk, OnErr, IfOk};
+ghost use Rattle.std.specs.Prelude.{◌≡◌, ℕ, ◌<◌, ◌≤◌, ◌^◌, List, Option, length, vec_len, OnOk, OnErr, IfOk};
 ghost use Rattle.std.specs.Io.KnownBytes.{Appends};
 ghost use Rattle.fp_io.specs.Causes.{Rose};
 ghost use Rattle.fp_io.specs.Content.{AppendsFront};
 ghost use Rattle.fp_ports.specs.Rows.{Row, rows_of};
 ghost use Rattle.setup_model.specs.Start.{no_ports};
-ghost use Rattle.pipeline_core.specs.StageFacts.{IsEventShowable};
+ghost use Rattle.pipe_model.specs.Stages.{retired};
+ghost use Rattle.pipeline_core.specs.StageFacts.{StoredFits};
 ghost use Rattle.world_model.specs.World.{Start};
 ghost use Rattle.machine.specs.WorldRelation.{StandsFor, start_beside};
 ghost use Rattle.selfrun.specs.Drawn.{own_setup, programs};
@@ -19,8 +20,7 @@ use crate::tally::Tally;
 use fp_io::{PutFailed, Sink};
 use fp_ports::Ports;
 use machine::Machine;
-use pipe_model::events_grow;
-use rv_exec::Event;
+use pipe_model::{Held, Stored, events_grow};
 use std::alloc::{AllocError, Global};
 
 /// How many cycles the machine runs.
@@ -38,18 +38,24 @@ fn no_ports(alloc: Global) -> Result<Ports, AllocError>
     Ok(ports)
 }
 
-/// Counts the event of a cycle, if there is one.
-fn count(tallies: &mut [Tally; 8], folder: &mut LineFolder, event: &Option<Event>)
+/// Counts the event of a turn that retires and was issued in a cycle, if it has one. The turn is
+/// looked at where it stands, so that no event is made.
+#[inline(always)]
+#[tactic(auto, unfolding(pipe_model::specs::Stages::retired))]
+fn count(tallies: &mut [Tally; 8], folder: &mut LineFolder, turn: &Held<Stored>, cycle: u64)
     requires few { AreFew tallies.old 99999 }
-    requires showable { IsEventShowable event.now }
-    ensures { tallies.new ≡ counted tallies.old event.now }
+    requires fits { StoredFits turn.now }
+    requires cycle { cycle < 10 ^ 10 }
+    ensures { tallies.new ≡ counted tallies.old (retired cycle turn.now) }
 {
-    if let Some(event) = event {
-        let k = usize::from(event.thread);
-        if k < tallies.len() {
-            tallies[k] = tallies[k].with(event, folder);
-        }
-    }
+    let Held::Issue { thread, what } = turn else {
+        return;
+    };
+    let Some(effect) = &what.effect else {
+        return;
+    };
+    let tally = &mut tallies[usize::from(*thread)];
+    tally.add(folder, cycle, *thread, what.pc, what.word, effect);
 }
 
 /// The machine with the drawn programs, at its start.
@@ -76,8 +82,9 @@ fn tallies(machine: &mut Machine, cycles: u64, ports: &mut Ports) -> [Tally; 8]
     let mut tallies = [Tally { events: 0, fold: 0 }; 8];
     let mut folder = LineFolder::new();
     for _cycle in 0..cycles {
-        let event = machine.tick(ports);
-        count(&mut tallies, &mut folder, &event);
+        let cycle = machine.at.saturating_sub(4);
+        count(&mut tallies, &mut folder, &machine.pipe.m, cycle);
+        let _event = machine.tick(ports);
     }
     tallies
 }

@@ -1,13 +1,13 @@
 //! What is kept of a thread's events, and its line.
 
-ghost use Rattle.std.specs.Prelude.{◌≡◌, ◌<◌};
+ghost use Rattle.std.specs.Prelude.{◌≡◌, ◌<◌, ◌^◌};
 ghost use Rattle.rv_exec.specs.Line.{IsPrintable};
 ghost use Rattle.selfrun.specs.Counting.{with_event};
 ghost use Rattle.selfrun.specs.Text.{tally_line};
 
 use crate::line_fold::LineFolder;
 use arrayvec::ArrayString;
-use rv_exec::Event;
+use rv_exec::Effect;
 use trace_print::{push_decimal, push_hex};
 
 /// What is kept of a thread's events.
@@ -20,16 +20,31 @@ pub struct Tally {
 }
 
 impl Tally {
-    /// With one more event.
-    pub(crate) fn with(self, event: &Event, folder: &mut LineFolder) -> Tally
-        requires few { self.events < 100000 }
-        requires printable { IsPrintable event.now.effect }
-        ensures { result ≡ with_event self event.now }
+    /// Counts one more event.
+    #[inline(always)]
+    pub(crate) fn add(
+        &mut self,
+        folder: &mut LineFolder,
+        cycle: u64,
+        thread: u8,
+        pc: u32,
+        word: u32,
+        effect: &Effect,
+    )
+        requires few { self.old.events < 100000 }
+        requires cycle { cycle < 10 ^ 10 }
+        requires thread { thread < 8 }
+        requires printable { IsPrintable effect.now }
+        ensures { self.new ≡ with_event self.old (record {
+          cycle = cycle;
+          thread = thread;
+          pc = pc;
+          word = word;
+          effect = effect.now;
+        }) }
     {
-        Tally {
-            events: self.events + 1,
-            fold: folder.line(self.fold, event),
-        }
+        self.events += 1;
+        self.fold = folder.line(self.fold, cycle, thread, pc, word, effect);
     }
 
     /// The line of thread k.

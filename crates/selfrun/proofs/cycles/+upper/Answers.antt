@@ -1,6 +1,6 @@
 use Rattle.std.proofs.Common.{◌≡◌, ◌-◌, ◌<◌, ◌^◌, arith}
 use Rattle.selfrun.proofs.FoldLemmas.{upper_none, upper_more}
-use Rattle.selfrun.proofs.line_fold.+upper.Goals as goal
+use Rattle.selfrun.proofs.cycles.+upper.Goals as goal
 
 pub returns-then-tens-eq0 : goal.returns-then-tens-eq0
 returns-then-tens-eq0 n c =

@@ -1,5 +1,6 @@
-use Rattle.selfrun.proofs.FoldLemmas.{piece_more}
-use Rattle.selfrun.proofs.line_fold.Piece.then.Goals as goal
+use Rattle.std.proofs.Common.{[], ◌∷◌}
+use Rattle.selfrun.proofs.FoldLemmas.{piece_byte}
+use Rattle.selfrun.proofs.piece.Piece.then.Goals as goal
 
 pub returns : goal.returns
-returns c = λ bytes is. rw (c.longer.ensures, c.with_byte.ensures) (piece_more c.args.self.weight c.args.self.sum c.args.byte bytes is)
+returns c = λ bytes is. c.and.ensures bytes (c.args.byte ∷ []) is (piece_byte c.args.byte c.from.result c.from.ensures)

@@ -1,0 +1,77 @@
+//! What the bytes of a text do to a fold.
+
+ghost use Rattle.std.specs.Prelude.{◌≡◌, ◌+◌, ◌*◌, ◌%◌, ◌^◌};
+ghost use Rattle.selfrun.specs.Text.{folded, with_byte};
+
+/// What each byte multiplies a fold by.
+pub const BASE: u32 = 31;
+
+/// A fold that is taken further: times a power of 31, and with what the bytes add.
+fn longer(h: u32, weight: u32, sum: u32) -> u32
+    ensures { result ≡ (h * weight + sum) % 2 ^ 32 }
+{
+    ((u64::from(h) * u64::from(weight) + u64::from(sum)) % 0x1_0000_0000) as u32
+}
+
+/// A fold with one more byte.
+pub fn with_byte(h: u32, byte: u8) -> u32
+    ensures { result ≡ with_byte h byte }
+{
+    longer(h, BASE, u32::from(byte))
+}
+
+/// A fold with more bytes.
+#[tactic(auto, unfolding(crate::specs::Text::folded))]
+pub fn folded(h: u32, bytes: &[u8]) -> u32
+    ensures { result ≡ folded h bytes.now }
+{
+    bytes.iter().fold(h, |h, byte| with_byte(h, *byte))
+}
+
+/// What a text does to the fold before it: it multiplies it, and adds to it, modulo 2^32. That is
+/// known of a text alone, whatever stands before it, and so can be kept.
+#[derive(Clone, Copy, Debug)]
+pub struct Piece {
+    /// 31 to the power of the text's length.
+    pub weight: u32,
+    /// The fold of the text alone.
+    pub sum: u32,
+}
+
+impl Piece {
+    ghost use Rattle.std.specs.Prelude.{◌≡◌, ℕ, List, [], ◌∷◌, ◌++◌};
+    ghost use Rattle.selfrun.specs.Folds.{IsPiece};
+    ghost use Rattle.selfrun.specs.Text.{folded};
+
+    /// No text.
+    pub const EMPTY: Piece = Piece { weight: 1, sum: 0 };
+
+    /// One text and another one behind it.
+    pub fn and(self, more: Piece) -> Piece
+        ensures { (first second : List ℕ) → IsPiece self first → IsPiece more second
+            → IsPiece result (first ++ second) }
+    {
+        Piece {
+            weight: longer(self.weight, more.weight, 0),
+            sum: longer(self.sum, more.weight, more.sum),
+        }
+    }
+
+    /// The text with one more byte.
+    pub fn then(self, byte: u8) -> Piece
+        ensures { (bytes : List ℕ) → IsPiece self bytes
+            → IsPiece result (bytes ++ byte ∷ []) }
+    {
+        self.and(Piece {
+            weight: BASE,
+            sum: u32::from(byte),
+        })
+    }
+
+    /// A fold with the text.
+    pub fn after(&self, h: u32) -> u32
+        ensures { (bytes : List ℕ) → IsPiece self.now bytes → result ≡ folded h bytes }
+    {
+        longer(h, self.weight, self.sum)
+    }
+}

@@ -1,0 +1,98 @@
+//! What a line shows of an instruction: its pc and its word.
+
+ghost use Rattle.std.specs.Prelude.{◌≡◌};
+ghost use Rattle.selfrun.specs.Folds.{IsSite};
+
+use crate::hex_pairs::HexPairs;
+use crate::piece::Piece;
+use std::marker::Model;
+
+/// How many words a thread's own program has.
+const WORDS: usize = 128;
+
+/// How many places there are for eight threads.
+const PLACES: usize = 8 * WORDS;
+
+/// A pc and the word that an event showed there.
+#[derive(Clone, Copy, Debug)]
+struct Site {
+    pc: u32,
+    word: u32,
+    /// Both in hexadecimal digits, each with a space behind it.
+    piece: Piece,
+}
+
+/// The site of a pc and a word.
+fn site_of(pairs: &HexPairs, pc: u32, word: u32) -> Site
+    ensures is { IsSite result }
+    ensures pc { result.pc ≡ pc }
+    ensures word { result.word ≡ word }
+{
+    let front = pairs.word(pc).then(b' ');
+    let back = pairs.word(word).then(b' ');
+    Site {
+        pc,
+        word,
+        piece: front.and(back),
+    }
+}
+
+/// The sites of the last events. A thread has as many places as its own program has words, so that
+/// nearly each event finds its site. Contracts see nothing of them.
+///
+/// Of a line's 42 bytes 18 are its pc and its word, which a loop shows again and again: to keep
+/// them saves about 50 instructions of an event.
+#[derive(Drop)]
+pub struct Sites {
+    kept: [Site; PLACES],
+}
+
+impl Model for Sites {
+    ghost use Rattle.selfrun.specs.Folds.{AreSites};
+
+    ghost Value = { Unit {0} };
+
+    ghost view = { λ s. tt };
+
+    ghost invariant = { λ s. AreSites s.kept };
+}
+
+impl Sites {
+    ghost use Rattle.std.specs.Prelude.{◌≡◌, ◌<◌};
+    ghost use Rattle.selfrun.specs.Folds.{site_text};
+    ghost use Rattle.selfrun.specs.Text.{folded};
+
+    /// In each place that of the word 0 at the pc 0.
+    pub fn new(pairs: &HexPairs) -> Sites {
+        Sites {
+            kept: [site_of(pairs, 0, 0); PLACES],
+        }
+    }
+
+    /// A fold with a pc and a word of a thread, each with a space behind it.
+    #[inline(always)]
+    pub fn fold(&mut self, h: u32, pairs: &HexPairs, thread: u8, pc: u32, word: u32) -> u32
+        requires { thread < 8 }
+        ensures { result ≡ folded h (site_text pc word) }
+    {
+        let place = usize::from(thread) * WORDS + (pc / 4) as usize % WORDS;
+        let site = &self.kept[place];
+        if site.pc != pc || site.word != word {
+            return self.fold_other(h, pairs, place, pc, word);
+        }
+        site.piece.after(h)
+    }
+
+    /// A fold with a pc and a word, each with a space behind it, which are kept in a place from
+    /// then on.
+    #[cold]
+    #[inline(never)]
+    fn fold_other(&mut self, h: u32, pairs: &HexPairs, place: usize, pc: u32, word: u32) -> u32
+        requires { place < 1024 }
+        ensures { result ≡ folded h (site_text pc word) }
+    {
+        let site = site_of(pairs, pc, word);
+        self.kept[place] = site;
+        site.piece.after(h)
+    }
+}
