@@ -124,12 +124,6 @@ few_set (t ∷ ts) (suc i) v most few small = tail (few_set ts i v most (λ j. f
     tail rest zero = few 0
     tail rest (suc k) = rest k
 
--- past the end nothing is set
-pub set_past : (ts : List Tally) (i : ℕ) (v : Tally) → length ts ≤ i → slice_set ts i v ≡ ts
-set_past [] i v past = refl
-set_past (t ∷ ts) zero v past = absurd (omega arith)
-set_past (t ∷ ts) (suc i) v past = ap (λ xs. t ∷ xs) (set_past ts i v (omega arith))
-
 -- in a cycle at most one event is counted
 pub few_more : (ts : List Tally) (event : Option Event) (most : ℕ) → AreFew ts most → AreFew (counted ts event) (most + 1)
 few_more ts None most few = λ k. let small : (tally_at ts k).events ≤ most = few k in omega arith

@@ -44,9 +44,9 @@ fn lower_pieces() -> [Piece; 100]
 /// digits: that of the last such hundred is kept. Contracts see nothing of it.
 #[derive(Drop)]
 pub struct Cycles {
-    /// The last two digits and the space behind a cycle, by these digits.
+    /// The last two digits of a cycle and the space behind it, by these digits.
     lower: [Piece; 100],
-    /// The first one of the hundred cycles, 100 or more: before that, spaces stand for digits.
+    /// The first one of the hundred cycles, 100 or more: below that, spaces stand for digits.
     first: u64,
     /// What stands before their last two digits.
     upper: Piece,

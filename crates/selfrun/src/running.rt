@@ -1,6 +1,6 @@
 //! The run.
 
-ghost use Rattle.std.specs.Prelude.{◌≡◌, ℕ, ◌<◌, ◌≤◌, ◌^◌, List, Option, length, vec_len, OnOk, OnErr, IfOk};
+ghost use Rattle.std.specs.Prelude.{◌≡◌, ℕ, ◌-◌, ◌<◌, ◌≤◌, ◌^◌, List, Option, length, vec_len, OnOk, OnErr, IfOk};
 ghost use Rattle.std.specs.Io.KnownBytes.{Appends};
 ghost use Rattle.fp_io.specs.Causes.{Rose};
 ghost use Rattle.fp_io.specs.Content.{AppendsFront};
@@ -38,15 +38,15 @@ fn no_ports(alloc: Global) -> Result<Ports, AllocError>
     Ok(ports)
 }
 
-/// Counts the event of a turn that retires and was issued in a cycle, if it has one. The turn is
-/// looked at where it stands, so that no event is made.
+/// Counts the event of the turn that retires in a cycle, if it has one: it was issued four cycles
+/// ago. The turn is looked at where it stands, so that no event is made.
 #[inline(always)]
 #[tactic(auto, unfolding(pipe_model::specs::Stages::retired))]
 fn count(tallies: &mut [Tally; 8], folder: &mut LineFolder, turn: &Held<Stored>, cycle: u64)
     requires few { AreFew tallies.old 99999 }
     requires fits { StoredFits turn.now }
     requires cycle { cycle < 10 ^ 10 }
-    ensures { tallies.new ≡ counted tallies.old (retired cycle turn.now) }
+    ensures { tallies.new ≡ counted tallies.old (retired (cycle - 4) turn.now) }
 {
     let Held::Issue { thread, what } = turn else {
         return;
@@ -55,7 +55,8 @@ fn count(tallies: &mut [Tally; 8], folder: &mut LineFolder, turn: &Held<Stored>,
         return;
     };
     let tally = &mut tallies[usize::from(*thread)];
-    tally.add(folder, cycle, *thread, what.pc, what.word, effect);
+    let issued = cycle.saturating_sub(4);
+    tally.add(folder, issued, *thread, what.pc, what.word, effect);
 }
 
 /// The machine with the drawn programs, at its start.
@@ -82,8 +83,7 @@ fn tallies(machine: &mut Machine, cycles: u64, ports: &mut Ports) -> [Tally; 8]
     let mut tallies = [Tally { events: 0, fold: 0 }; 8];
     let mut folder = LineFolder::new();
     for _cycle in 0..cycles {
-        let cycle = machine.at.saturating_sub(4);
-        count(&mut tallies, &mut folder, &machine.pipe.m, cycle);
+        count(&mut tallies, &mut folder, &machine.pipe.m, machine.at);
         let _event = machine.tick(ports);
     }
     tallies

@@ -40,8 +40,8 @@ fn site_of(pairs: &HexPairs, pc: u32, word: u32) -> Site
 /// The sites of the last events. A thread has as many places as its own program has words, so that
 /// nearly each event finds its site. Contracts see nothing of them.
 ///
-/// Of a line's 42 bytes 18 are its pc and its word, which a loop shows again and again: to keep
-/// them saves about 50 instructions of an event.
+/// Of the 42 bytes of most lines 18 are the pc and the word, which a loop shows again and again.
+/// That they are kept saves 21 instructions of an event.
 #[derive(Drop)]
 pub struct Sites {
     kept: [Site; PLACES],

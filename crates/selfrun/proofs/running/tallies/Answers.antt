@@ -1,5 +1,4 @@
 use Rattle.std.proofs.Common.{◌≡◌, ◌+◌, ◌<◌, arith, refl, ap, sym, ◌∙◌}
-use Rattle.pipe_model.specs.Stages.{retired}
 use Rattle.selfrun.specs.Counting.{counted}
 use Rattle.selfrun.proofs.TallyLemmas.{tallies_begin, tallies_on, tallies_end, few_none, few_more}
 use Rattle.selfrun.proofs.running.tallies.Goals as goal
@@ -17,9 +16,7 @@ loop-cycle-preserved g c =
     let inv = c.loop-cycle.invariant in
     let k = c.loop-cycle._cycle in
     let within : c.loop-cycle.machine.at < c.args.cycles + 3 = omega (arith, inv.at, c.loop-cycle-test.true) in
-    let machine = c.loop-cycle.machine in
-    let event : retired c.saturating_sub-cycle.result machine.pipe.m ≡ c.tick-event.result = ap (λ n. retired n machine.pipe.m) c.saturating_sub-cycle.ensures ∙ sym c.tick-event.ensures.retires in
-    let told = c.count.ensures ∙ ap (λ e. counted c.loop-cycle.tallies e) event in
+    let told = c.count.ensures ∙ ap (λ e. counted c.loop-cycle.tallies e) (sym c.tick-event.ensures.retires) in
     record {
       at = c.tick-event.ensures.at ∙ ap (λ n. n + 1) inv.at;
       eight = c.tick-event.ensures.eight;
