@@ -8,7 +8,7 @@ use Rattle.std.proofs.lemmas.Bool.Decides.{eqb_tells}
 use Rattle.std.proofs.lemmas.Fmt.{decimal_digit, decimal_step}
 use Rattle.std.proofs.lemmas.List.{get_or-set_other, get_or-set_same, length-append, replicate_more}
 use Rattle.std.proofs.lemmas.Grind.{fold-append}
-use Rattle.rv_exec.specs.declared.outcome.Effect.TheVariants.{Nothing}
+use Rattle.rv_exec.specs.declared.outcome.Effect.TheVariants.{Nothing, Reg, Store, Trap}
 use Rattle.rv_exec.specs.declared.outcome.Event.{Event}
 use Rattle.trace_print.specs.Digits.{hex_digit, hex, right, two_digits}
 use Rattle.trace_print.specs.Text.{register_text, store_text, trap_text, effect_text, line_text}
@@ -184,11 +184,24 @@ by_bytes w small =
     let d0 : w % 0x100 % 16 ≡ w % 16 = omega arith in
     rw (d5, d4, d3, d2, d1, d0, two, three, four, five, six, seven, d7) refl
 
--- nothing, and a register and its value, by their parts
+-- each of these effects is shown by its own text
 pub of_nothing : (h : ℕ) → with_byte h 45 ≡ folded h (effect_text Nothing)
 unfolding folded effect_text
 of_nothing h = refl
 
+pub of_register : (h rd value : ℕ) → folded h (register_text rd value) ≡ folded h (effect_text (Reg rd value))
+unfolding effect_text
+of_register h rd value = refl
+
+pub of_store : (h address size value : ℕ) → folded h (store_text address size value) ≡ folded h (effect_text (Store address size value))
+unfolding effect_text
+of_store h address size value = refl
+
+pub of_trap : (h cause target : ℕ) → folded h (trap_text cause target) ≡ folded h (effect_text (Trap cause target))
+unfolding effect_text
+of_trap h cause target = refl
+
+-- a register and its value, by their parts
 pub register_parts : (h rd value : ℕ) → folded (folded h (name_text rd)) (hex 8 value) ≡ folded h (register_text rd value)
 unfolding folded register_text two_digits
 register_parts h rd value = refl

@@ -70,9 +70,9 @@ impl Model for LineFolder {
 }
 
 impl LineFolder {
-    ghost use Rattle.std.specs.Prelude.{◌≡◌, ◌<◌, ◌^◌, IfSome};
+    ghost use Rattle.std.specs.Prelude.{◌≡◌, ◌<◌, ◌^◌};
     ghost use Rattle.rv_exec.specs.Line.{IsPrintable};
-    ghost use Rattle.trace_print.specs.Text.{effect_text, line_text, register_text, store_text, trap_text};
+    ghost use Rattle.trace_print.specs.Text.{line_text, register_text, store_text, trap_text};
     ghost use Rattle.selfrun.specs.Text.{folded};
 
     /// One that was asked nothing yet.
@@ -112,30 +112,18 @@ impl LineFolder {
     {
         let begun = self.cycles.fold(h, cycle);
         let front = self.sites.fold(begun, &self.pairs, thread, pc, word);
-        match self.effect(front, effect) {
-            Some(shown) => with_byte(shown, b'\n'),
-            None => rare_line(h, cycle, thread, pc, word, effect),
-        }
-    }
-
-    /// A fold with an effect, unless it is one that few lines show.
-    #[inline(always)]
-    #[tactic(auto, unfolding(trace_print::specs::Text::effect_text))]
-    fn effect(&self, h: u32, effect: &Effect) -> Option<u32>
-        requires { IsPrintable effect.now }
-        ensures { IfSome result (λ r. r ≡ folded h (effect_text effect.now)) }
-    {
-        match *effect {
-            Effect::Nothing => Some(with_byte(h, b'-')),
-            Effect::Reg { rd, value } => Some(self.register(h, rd, value)),
+        let shown = match *effect {
+            Effect::Nothing => with_byte(front, b'-'),
+            Effect::Reg { rd, value } => self.register(front, rd, value),
             Effect::Store {
                 address,
                 size,
                 value,
-            } => Some(self.store(h, address, size, value)),
-            Effect::Trap { cause, target } if cause < 10 => Some(self.trap(h, cause, target)),
-            _ => None,
-        }
+            } => self.store(front, address, size, value),
+            Effect::Trap { cause, target } if cause < 10 => self.trap(front, cause, target),
+            _ => return rare_line(h, cycle, thread, pc, word, effect),
+        };
+        with_byte(shown, b'\n')
     }
 
     /// A fold with a register and its value.

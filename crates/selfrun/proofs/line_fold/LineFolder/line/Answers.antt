@@ -1,14 +1,25 @@
-use Rattle.std.proofs.Common.{◌∙◌, ap}
+use Rattle.std.proofs.Common.{◌≡◌, ℕ, ◌∙◌, ap, sym}
+use Rattle.rv_exec.specs.declared.outcome.Effect.{Effect}
 use Rattle.rv_exec.specs.declared.outcome.Event.{Event}
 use Rattle.trace_print.specs.Text.{effect_text}
 use Rattle.selfrun.specs.Folds.{site_text}
 use Rattle.selfrun.specs.Text.{folded, with_byte}
-use Rattle.selfrun.proofs.FoldLemmas.{line_parts}
+use Rattle.selfrun.proofs.FoldLemmas.{line_parts, of_nothing, of_register, of_store, of_trap}
 use Rattle.selfrun.proofs.line_fold.LineFolder.line.Goals as goal
+use Rattle.selfrun.proofs.line_fold.LineFolder.line.Goals.{in-Nothing, in-Reg, in-Store, in-Trap}
 
-pub returns-in-Some : goal.returns-in-Some
-returns-in-Some c =
+pub returns : goal.returns
+returns c =
+    let front : ℕ = c.fold-front.result in
+    let with_effect : Effect → ℕ = λ x. folded front (effect_text x) in
+    let shown : c.match-effect.shown ≡ with_effect c.args.effect.now =
+    elim c.match-effect.branch [
+      | in-Nothing w ↦ w.shown-is ∙ w.with_byte-shown.ensures ∙ of_nothing front ∙ ap with_effect (sym w.in-Nothing.is)
+      | in-Reg w ↦ w.shown-is ∙ w.register-shown.ensures ∙ of_register front w.in-Reg.rd w.in-Reg.value ∙ ap with_effect (sym w.in-Reg.is)
+      | in-Store w ↦ w.shown-is ∙ w.store-shown.ensures ∙ of_store front w.in-Store.address w.in-Store.size w.in-Store.value ∙ ap with_effect (sym w.in-Store.is)
+      | in-Trap w ↦ w.shown-is ∙ w.trap-shown.ensures ∙ of_trap front w.in-Trap.cause w.in-Trap.target ∙ ap with_effect (sym w.in-Trap.is)
+    ] in
     let event : Event = record { cycle = c.args.cycle; thread = c.args.thread; pc = c.args.pc; word = c.args.word; effect = c.args.effect.now } in
-    let front = c.fold-front.ensures ∙ ap (λ x. folded x (site_text c.args.pc c.args.word)) c.fold-begun.ensures in
-    let shown = c.in-Some.ensures ∙ ap (λ x. folded x (effect_text c.args.effect.now)) front in
-    c.with_byte.ensures ∙ ap (λ x. with_byte x 10) shown ∙ line_parts c.args.h event
+    let begun = c.fold-front.ensures ∙ ap (λ x. folded x (site_text c.args.pc c.args.word)) c.fold-begun.ensures in
+    let whole = shown ∙ ap (λ x. folded x (effect_text c.args.effect.now)) begun in
+    c.with_byte.ensures ∙ ap (λ x. with_byte x 10) whole ∙ line_parts c.args.h event
