@@ -1,6 +1,6 @@
 -- Matrices of largest costs: one after the other, either, and powers.
 use Rattle.std.proofs.Common.{◌≡◌, ℕ, zero, suc, ◌+◌, ◌≤◌, ◌∙◌, min, refl, arith, inl, inr, subst, Some}
-use Rattle.bound_calc.specs.Best.{Costs, Covers, Either, Entries, In, IsBest, Power, Stays, Then, ceiling}
+use Rattle.bound_calc.specs.Best.{AreBest, Costs, Covers, Either, Entries, In, IsBest, Power, Stays, Then, ceiling}
 
 -- sets that have the same elements
 abbrev pub Within : Costs → Costs → Type 0
@@ -65,6 +65,57 @@ best-either-then {a} {h} {c} {f} {g} {k} x y z = (covers, λ p e q is. let t = z
     among p e q d (inr t) is =
         let one = y.1 p t.one t.at t.first in
         (one.0 + t.two, inr (record { at = t.at; one = one.0; two = t.two; first = one.1; second = t.second; cost = refl }), sum-among one.0 t.two d t.one t.two e ceiling one.2 refl t.cost is)
+
+-- costs that have the largest of a set
+least : (c e n : ℕ) → min c n ≤ e → min c n ≤ min e n
+least c e n h = omega arith
+
+least-two : (c e s n : ℕ) → min c n ≤ min e n → min e n ≤ s → min c n ≤ s
+least-two c e s n h h' = omega arith
+
+least-three : (c e s n : ℕ) → min c n ≤ min e n → min e n ≤ min s n → min c n ≤ min s n
+least-three c e s n h h' = omega arith
+
+least-sum : (c d one two e n : ℕ) → min one n ≤ min e n → c ≡ one + two → min c n ≤ min (e + two) n
+least-sum c d one two e n h is = omega arith
+
+pub are-in : {m : Entries} {f : Costs} → IsBest m f → AreBest (In m) f
+are-in b = record { covers = λ p c q x. let z = b.0 p c q x in (z.0, z.1, least c z.0 ceiling z.2); among = b.1 }
+
+pub best-through : {m : Entries} {g f : Costs} → IsBest m g → AreBest g f → IsBest m f
+best-through b a = (
+  (λ p c q x. let z = a.covers p c q x in let y = b.0 p z.0 q z.1 in (y.0, y.1, least-two c z.0 y.0 ceiling z.2 y.2)),
+  (λ p e q is. let z = b.1 p e q is in let y = a.among p z.0 q z.1 in (y.0, y.1, z.2 ∙ y.2)),
+)
+
+pub are-through : {h g f : Costs} → AreBest h g → AreBest g f → AreBest h f
+are-through b a = record {
+  covers = λ p c q x. let z = a.covers p c q x in let y = b.covers p z.0 q z.1 in (y.0, y.1, least-three c z.0 y.0 ceiling z.2 y.2);
+  among = λ p e q x. let z = b.among p e q x in let y = a.among p z.0 q z.1 in (y.0, y.1, z.2 ∙ y.2);
+}
+
+pub are-within : {g f : Costs} → Within g f → Within f g → AreBest g f
+are-within gf fg = record { covers = λ p c q x. (c, fg p c q x, (let le : min c ceiling ≤ min c ceiling = omega arith in le)); among = λ p e q x. (e, gf p e q x, refl) }
+
+pub are-same : {g f f' : Costs} → Within f f' → Within f' f → AreBest g f → AreBest g f'
+are-same ff' f'f a = are-through a (are-within ff' f'f)
+
+pub are-either : {a b f g : Costs} → AreBest a f → AreBest b g → AreBest (Either a b) (Either f g)
+are-either {a} {b} {f} {g} x y = record { covers = covers; among = among }
+  where
+    covers : (p c q : ℕ) → Either f g p c q → (e : ℕ) × Either a b p e q × (min c ceiling ≤ min e ceiling)
+    covers p c q (inl t) = let z = x.covers p c q t in (z.0, inl z.1, z.2)
+    covers p c q (inr t) = let z = y.covers p c q t in (z.0, inr z.1, z.2)
+
+    among : (p e q : ℕ) → Either a b p e q → (c : ℕ) × Either f g p c q × (min e ceiling ≡ min c ceiling)
+    among p e q (inl t) = let z = x.among p e q t in (z.0, inl z.1, z.2)
+    among p e q (inr t) = let z = y.among p e q t in (z.0, inr z.1, z.2)
+
+pub are-then : {h g k : Costs} → AreBest h g → AreBest (Then h k) (Then g k)
+are-then {h} {g} {k} x = record {
+  covers = λ p c q t. let z = x.covers p t.one t.at t.first in (z.0 + t.two, record { at = t.at; one = z.0; two = t.two; first = z.1; second = t.second; cost = refl }, least-sum c c t.one t.two z.0 ceiling z.2 t.cost);
+  among = λ p e q t. let z = x.among p t.one t.at t.first in (z.0 + t.two, record { at = t.at; one = z.0; two = t.two; first = z.1; second = t.second; cost = refl }, sum-among z.0 t.two e t.one t.two e ceiling z.2 refl t.cost refl);
+}
 
 -- a set that ends at own positions
 abbrev pub Lands : (ℕ → Type 0) → Costs → Type 0

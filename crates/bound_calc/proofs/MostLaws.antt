@@ -1,5 +1,5 @@
 -- The most of all entries is the bound.
-use Rattle.std.proofs.Common.{◌≡◌, ℕ, ◌+◌, ◌<◌, ◌≤◌, ◌⊎◌, ◌^◌, ◌-◌, min, nat_le, nat_lt, refl, arith, subst, sym, ap, ◌∙◌, inl, inr, List, [], length, Option, Some, None, slice_index_or, Contains, Bool, true, false}
+use Rattle.std.proofs.Common.{◌≡◌, ℕ, ◌+◌, ◌<◌, ◌≤◌, ◌⊎◌, ◌^◌, ◌-◌, min, nat_le, nat_lt, refl, arith, subst, sym, ap, ◌∙◌, inl, inr, List, [], length, Option, Some, None, Contains, Bool, true, false}
 use Rattle.std.proofs.lemmas.Bool.Decides.{nat_tests}
 use Rattle.std.proofs.lemmas.List.Elements.{Contains-append_left, Contains-append_right, Contains-append_cases}
 use Rattle.region_tree.specs.declared.edges.Edges.{Edges as EdgesOf}
@@ -10,18 +10,20 @@ use Rattle.region_tree.specs.Tree.{IsTree, Tree, graph}
 use Rattle.region_tree.specs.Walk.{CostsOf, Course, IsOwn, Positions}
 use Rattle.region_tree.specs.Walk.CostsOf.{ends}
 use Rattle.region_tree.proofs.EdgeLaws.{edge-is, is-edge}
-use Rattle.region_tree.proofs.GraphLaws.{index-address, index-within, reachable-aligned, reachable-lies}
+use Rattle.region_tree.proofs.GraphLaws.{address-lies, index-address, index-within, reachable-aligned, reachable-lies}
 use Rattle.bound_calc.specs.declared.hop.Hop.{Hop}
 use Rattle.bound_calc.specs.declared.matrix.Matrix.{Matrix}
-use Rattle.bound_calc.specs.Best.{Entries, In, IsBest, Then, ceiling}
+use Rattle.bound_calc.specs.Best.{AreBest, Costs, Entries, In, IsBest, Then, ceiling}
 use Rattle.bound_calc.specs.Bound.{IsBound}
-use Rattle.bound_calc.specs.Hops.{IsHops, IsLargest, IsLeft}
-use Rattle.bound_calc.specs.Passing.{IsMost, IsOut, edges_at, leaves, matrix_at, no_matrix, index, walks, over, moved, AreWays, WaysOn}
+use Rattle.bound_calc.specs.Hops.{IsHops, IsLeft}
+use Rattle.bound_calc.specs.Matrices.{entry}
+use Rattle.bound_calc.specs.Passing.{Held, IsMost, IsMostFrom, IsOut, IsStraight, Led, edges_at, leaves, index, walks, over, AreWays, WaysOn}
 use Rattle.bound_calc.specs.Section.{Steps, field, net, whole}
 use Rattle.bound_calc.specs.Ways.{Reaches}
 use Rattle.bound_calc.proofs.Accepted.{accepted}
 use Rattle.bound_calc.proofs.Depth.{limit-whole, step-short}
 use Rattle.bound_calc.proofs.FillLaws.{below, modest-over}
+use Rattle.bound_calc.proofs.PassLaws.{up-is}
 use Rattle.bound_calc.proofs.Passes.{walk-reachable}
 use Rattle.bound_calc.proofs.Sections.{costs-within, is_bound, met-inside, met-out}
 
@@ -77,15 +79,24 @@ exact-≤ c b small e = omega arith
 out-same : (a one two d c n : ℕ) → min one n ≡ min a n → d ≡ one + two → c ≡ min d n → min c n ≡ min (a + two) n
 out-same a one two d c n h h' h'' = omega arith
 
-pub most-first : (x : Course) (t : Tree) (at : List Matrix) → (p : ℕ) × IsOwn x.positions p → IsMost x t 0 at 0
-most-first x t at o = record { met = (0, ends [] (record { own = o.1; leads = (refl, refl); keeps = tt }), refl); inside = λ k p c q lt e. absurd (omega arith); out = λ k p c q e lt known far z. absurd (omega arith) }
+pub most-first : (x : Course) (t : Tree) → (p : ℕ) × IsOwn x.positions p → IsMost x t 0 0
+most-first x t o = record { met = (0, ends [] (record { own = o.1; leads = (refl, refl); keeps = tt }), refl); inside = λ k p c q lt e. absurd (omega arith); out = λ k p c q e lt known far z. absurd (omega arith) }
+
+sum-≤ : (c one two a e n m : ℕ) → c ≡ one + two → min one n ≤ a → min (a + two) n ≤ m → min c n ≤ m
+sum-≤ c one two a e n m is h h' = omega arith
+
+least-≤ : (c e n m : ℕ) → min c n ≤ min e n → min e n ≤ m → min c n ≤ m
+least-≤ c e n m h h' = omega arith
+
+-- an edge of the word at an index is one of the two
+either-edge : (t : Tree) (k : ℕ) (b : Edge) → Contains ((graph t).edges (address t k)) b → let e = edges_at t k in Contains (edge_to e.next e.next_lag) b ⊎ Contains (edge_to e.jump 3) b
+either-edge t k b known = Contains-append_cases (edge_to (edges_at t k).next (edges_at t k).next_lag) (edge_to (edges_at t k).jump 3) b known
 
 -- one word more
-pub most-more : (t : Tree) (o : Positions) (k : ℕ) (at : List Matrix) (most inner next jump : ℕ) → IsBest (matrix_at at k) (Reaches (net (field (walks t o))) (whole (field (walks t o))) (address t k)) → IsMost (walks t o) t k at most → IsLargest (slice_index_or at k no_matrix) most inner →
-    let e = edges_at t k in IsOut o (slice_index_or at k no_matrix) (leaves t e.next) e.next_lag inner next → IsOut o (slice_index_or at k no_matrix) (leaves t e.jump) 3 next jump → IsMost (walks t o) t (k + 1) at jump
-most-more t o k at most inner next jump best m l n j = record {
+pub most-more : (t : Tree) (o : Positions) (k : ℕ) (here : Matrix) (most new : ℕ) → IsBest (entry here) (Reaches (net (field (walks t o))) (whole (field (walks t o))) (address t k)) → IsMost (walks t o) t k most → IsMostFrom t o here (edges_at t k) most new → IsMost (walks t o) t (k + 1) new
+most-more t o k here most new best m f = record {
   met = jump_met j.met;
-  inside = λ w p c q lt e. within w p c q e (let z : (w < k) ⊎ (w ≡ k) = grind arith in z);
+  inside = λ w p c q lt r. within w p c q r (let z : (w < k) ⊎ (w ≡ k) = grind arith in z);
   out = λ w p c q b lt known far z. outside w p c q b known far z (let z : (w < k) ⊎ (w ≡ k) = grind arith in z);
 }
   where
@@ -95,10 +106,19 @@ most-more t o k at most inner next jump best m l n j = record {
     e : EdgesOf
     e = edges_at t k
 
+    n : IsOut o here (leaves t e.next) e.next_lag f.inner f.next
+    n = f.by_next
+
+    j : IsOut o here (leaves t e.jump) 3 f.next new
+    j = f.by_jump
+
+    Reached : ℕ → Costs
+    Reached w = Reaches (net (field x)) (whole (field x)) (address t w)
+
     Met : ℕ → Type 0
     Met c = (n : ℕ) × CostsOf x n × (min c ceiling ≡ min n ceiling)
 
-    leaving : (target : Option ℕ) (lag c : ℕ) → ((b : Edge) → Contains (edge_to target lag) b → Contains (x.graph.edges (address t k)) b) → leaves t target ≡ true → ((p : ℕ) × (d : ℕ) × (q : ℕ) × Then (In (matrix_at at k)) (Steps o lag) p d q × (c ≡ min d ceiling)) → Met c
+    leaving : (target : Option ℕ) (lag c : ℕ) → ((b : Edge) → Contains (edge_to target lag) b → Contains (x.graph.edges (address t k)) b) → leaves t target ≡ true → ((p : ℕ) × (d : ℕ) × (q : ℕ) × Then (In (entry here)) (Steps o lag) p d q × (c ≡ min d ceiling)) → Met c
     leaving None lag c known out y = absurd (let z : false ≡ true = out in let none : ⊥ = cc in none)
     leaving (Some v) lag c known out (p, d, q, z, is) =
         let b : Edge = record { to = v; lag = lag } in
@@ -111,41 +131,96 @@ most-more t o k at most inner next jump best m l n j = record {
     known_jump : (b : Edge) → Contains (edge_to e.jump 3) b → Contains (x.graph.edges (address t k)) b
     known_jump b h = Contains-append_right (edge_to e.next e.next_lag) (edge_to e.jump 3) b h
 
-    inner_met : Met inner
-    inner_met = elim l.met [ inl same ↦ subst Met (sym same) m.met | inr y ↦ (let a = best.1 y.0 inner y.1 y.2 in (a.0, met-inside x (address t k) y.0 a.0 y.1 a.1, a.2)) ]
+    inner_met : Met f.inner
+    inner_met = elim f.largest.met [ inl same ↦ subst Met (sym same) m.met | inr y ↦ (let a = best.1 y.0 f.inner y.1 y.2 in (a.0, met-inside x (address t k) y.0 a.0 y.1 a.1, a.2)) ]
 
-    next_met : Met next
-    next_met = elim n.met [ inl same ↦ subst Met (sym same) inner_met | inr y ↦ leaving e.next e.next_lag next known_next y.0 y.1 ]
+    next_met : Met f.next
+    next_met = elim n.met [ inl same ↦ subst Met (sym same) inner_met | inr y ↦ leaving e.next e.next_lag f.next known_next y.0 y.1 ]
 
-    jump_met : (jump ≡ next) ⊎ ((leaves t e.jump ≡ true) × ((p : ℕ) × (c : ℕ) × (q : ℕ) × Then (In (matrix_at at k)) (Steps o 3) p c q × (jump ≡ min c ceiling))) → Met jump
+    jump_met : (new ≡ f.next) ⊎ ((leaves t e.jump ≡ true) × ((p : ℕ) × (c : ℕ) × (q : ℕ) × Then (In (entry here)) (Steps o 3) p c q × (new ≡ min c ceiling))) → Met new
     jump_met (inl same) = subst Met (sym same) next_met
-    jump_met (inr y) = leaving e.jump 3 jump known_jump y.0 y.1
+    jump_met (inr y) = leaving e.jump 3 new known_jump y.0 y.1
 
-    within : (w p c q : ℕ) → In (matrix_at at w) p c q → (w < k) ⊎ (w ≡ k) → c ≤ jump
-    within w p c q y (inl below) = let z = m.inside w p c q below y in omega (arith, l.stays, n.stays, j.stays)
-    within w p c q y (inr same) = let z = l.upper p c q (subst (λ w. matrix_at at w p q ≡ Some c) same y) in omega (arith, n.stays, j.stays)
+    grows : most ≤ new
+    grows = omega (arith, f.largest.stays, n.stays, j.stays)
+
+    within : (w p c q : ℕ) → Reached w p c q → (w < k) ⊎ (w ≡ k) → min c ceiling ≤ new
+    within w p c q r (inl below) = ≤-two (min c ceiling) most new (m.inside w p c q below r) grows
+    within w p c q r (inr same) =
+        let y = best.0 p c q (subst (λ w. Reached w p c q) same r) in
+        let z : y.0 ≤ f.inner = f.largest.upper p y.0 q y.1 in
+        ≤-two (min c ceiling) y.0 new y.2 (omega (arith, n.stays, j.stays))
 
     -- an edge out is one of the two
     goes : (target : Option ℕ) (lag : ℕ) (b : Edge) → Contains (edge_to target lag) b → (Lies (graph t) b.to → ⊥) → (leaves t target ≡ true) × (b.lag ≡ lag)
     goes target lag b h far = let i = edge-is target lag b h in (ap (leaves t) i.0 ∙ not-leaves t b.to far, i.1)
 
-    outside : (w p c q : ℕ) (b : Edge) → Contains (x.graph.edges (address t w)) b → (Lies (graph t) b.to → ⊥) → Then (In (matrix_at at w)) (Steps o b.lag) p c q → (w < k) ⊎ (w ≡ k) → min c ceiling ≤ jump
-    outside w p c q b known far z (inl below) = ≤-two (min c ceiling) most jump (m.out w p c q b below known far z) (omega (arith, l.stays, n.stays, j.stays))
-    outside w p c q b known far z (inr same) = go (Contains-append_cases (edge_to e.next e.next_lag) (edge_to e.jump 3) b (subst (λ w. Contains (x.graph.edges (address t w)) b) same known))
+    outside : (w p c q : ℕ) (b : Edge) → Contains (x.graph.edges (address t w)) b → (Lies (graph t) b.to → ⊥) → Then (Reached w) (Steps o b.lag) p c q → (w < k) ⊎ (w ≡ k) → min c ceiling ≤ new
+    outside w p c q b known far z (inl below) = ≤-two (min c ceiling) most new (m.out w p c q b below known far z) grows
+    outside w p c q b known far z (inr same) = go (either-edge t k b (subst (λ w. Contains (x.graph.edges (address t w)) b) same known))
       where
-        here : (lag : ℕ) → b.lag ≡ lag → Then (In (matrix_at at k)) (Steps o lag) p c q
-        here lag is = subst (λ lag. Then (In (matrix_at at k)) (Steps o lag) p c q) is (subst (λ w. Then (In (matrix_at at w)) (Steps o b.lag) p c q) same z)
+        here_k : Then (Reached k) (Steps o b.lag) p c q
+        here_k = subst (λ w. Then (Reached w) (Steps o b.lag) p c q) same z
 
-        go : Contains (edge_to e.next e.next_lag) b ⊎ Contains (edge_to e.jump 3) b → min c ceiling ≤ jump
-        go (inl h) = let g = goes e.next e.next_lag b h far in ≤-two (min c ceiling) next jump (n.upper g.0 p c q (here e.next_lag g.1)) j.stays
-        go (inr h) = let g = goes e.jump 3 b h far in j.upper g.0 p c q (here 3 g.1)
+        go : Contains (edge_to e.next e.next_lag) b ⊎ Contains (edge_to e.jump 3) b → min c ceiling ≤ new
+        go (inl h) =
+            let g = goes e.next e.next_lag b h far in
+            let y = best.0 p here_k.one here_k.at here_k.first in
+            let up : min (y.0 + here_k.two) ceiling ≤ f.next = n.upper g.0 p (y.0 + here_k.two) q (record { at = here_k.at; one = y.0; two = here_k.two; first = y.1; second = subst (λ lag. Steps o lag here_k.at here_k.two q) g.1 here_k.second; cost = refl }) in
+            ≤-two (min c ceiling) f.next new (sum-≤ c here_k.one here_k.two y.0 0 ceiling f.next here_k.cost y.2 up) j.stays
+        go (inr h) =
+            let g = goes e.jump 3 b h far in
+            let y = best.0 p here_k.one here_k.at here_k.first in
+            let up : min (y.0 + here_k.two) ceiling ≤ new = j.upper g.0 p (y.0 + here_k.two) q (record { at = here_k.at; one = y.0; two = here_k.two; first = y.1; second = subst (λ lag. Steps o lag here_k.at here_k.two q) g.1 here_k.second; cost = refl }) in
+            sum-≤ c here_k.one here_k.two y.0 0 ceiling new here_k.cost y.2 up
 
-out-≤ : (a one two c b n : ℕ) → min a n ≤ one → c ≡ a + two → min (one + two) n ≤ b → min c n ≤ b
-out-≤ a one two c b n h h' h'' = omega arith
+-- one word of straight code more
+pub most-straight : (t : Tree) (o : Positions) (k last : ℕ) (way power : Option Matrix) (f : Held) (most new : ℕ) → IsTree t → last < length t.words → AreBest (Led f) (Reaches (net (field (walks t o))) (whole (field (walks t o))) (address t k)) → IsStraight t (edges_at t k) k last way power f → IsMost (walks t o) t k most → IsLeft f.base f.hops most new → IsMost (walks t o) t (k + 1) new
+most-straight t o k last way power f most new is inner best s m l = record {
+  met = elim l.met [ inl same ↦ subst Met (sym same) m.met | inr y ↦ (let a = best.among y.0 y.1 y.2 y.3 in (a.0, met-inside x (address t k) y.0 a.0 y.2 a.1, capped-same new y.1 a.0 ceiling y.4 a.2)) ];
+  inside = λ w p c q lt r. within w p c q r (let z : (w < k) ⊎ (w ≡ k) = grind arith in z);
+  out = λ w p c q b lt known far z. outside w p c q b known far z (let z : (w < k) ⊎ (w ≡ k) = grind arith in z);
+}
+  where
+    x : Course
+    x = walks t o
+
+    e : EdgesOf
+    e = edges_at t k
+
+    Reached : ℕ → Costs
+    Reached w = Reaches (net (field x)) (whole (field x)) (address t w)
+
+    Met : ℕ → Type 0
+    Met c = (n : ℕ) × CostsOf x n × (min c ceiling ≡ min n ceiling)
+
+    capped-same : (new d a n : ℕ) → new ≡ min d n → min d n ≡ min a n → min new n ≡ min a n
+    capped-same new d a n h h' = omega arith
+
+    within : (w p c q : ℕ) → Reached w p c q → (w < k) ⊎ (w ≡ k) → min c ceiling ≤ new
+    within w p c q r (inl below) = ≤-two (min c ceiling) most new (m.inside w p c q below r) l.stays
+    within w p c q r (inr same) =
+        let y = best.covers p c q (subst (λ w. Reached w p c q) same r) in
+        least-≤ c y.0 ceiling new y.2 (l.upper p y.0 q y.1)
+
+    -- the one edge stays inside
+    stays : (b : Edge) → Contains (edge_to e.next e.next_lag) b ⊎ Contains (edge_to e.jump 3) b → Lies (graph t) b.to
+    stays b (inl h) =
+        let i : e.next ≡ Some b.to = (edge-is e.next e.next_lag b h).0 in
+        let u = up-is t k last e.next (k + 1) s.next in
+        let both : Some b.to ≡ Some u.0 = sym i ∙ u.1 in
+        let same : b.to ≡ u.0 = cc in
+        let a = (address-lies t is.draft last inner).high in
+        record { low = omega (arith, u.2); high = omega (arith, u.3) }
+    stays b (inr h) = absurd (let i : e.jump ≡ Some b.to = (edge-is e.jump 3 b h).0 in let none : None ≡ Some b.to = sym s.jump ∙ i in let n : ⊥ = cc in n)
+
+    outside : (w p c q : ℕ) (b : Edge) → Contains (x.graph.edges (address t w)) b → (Lies (graph t) b.to → ⊥) → Then (Reached w) (Steps o b.lag) p c q → (w < k) ⊎ (w ≡ k) → min c ceiling ≤ new
+    outside w p c q b known far z (inl below) = ≤-two (min c ceiling) most new (m.out w p c q b below known far z) l.stays
+    outside w p c q b known far z (inr same) = absurd (far (stays b (either-edge t k b (subst (λ w. Contains (x.graph.edges (address t w)) b) same known))))
 
 -- all words
-pub most-all : (t : Tree) (o : Positions) (n : ℕ) (at : List Matrix) (most : ℕ) → IsTree t → length o.frame ≤ 8 → length t.words ≤ n → ((k : ℕ) → k < length t.words → IsBest (matrix_at at k) (Reaches (net (field (walks t o))) (whole (field (walks t o))) (address t k))) → IsMost (walks t o) t n at most → IsBound (walks t o) most
-most-all t o n at most is frame top best m = is_bound x most (accepted t is) (let a = m.met in subst (λ c. CostsOf x c) (exact most a.0 (costs-small t o is frame a.0 a.1) a.2) a.1) inside out
+pub most-all : (t : Tree) (o : Positions) (n most : ℕ) → IsTree t → length o.frame ≤ 8 → length t.words ≤ n → IsMost (walks t o) t n most → IsBound (walks t o) most
+most-all t o n most is frame top m = is_bound x most (accepted t is) (let a = m.met in subst (λ c. CostsOf x c) (exact most a.0 (costs-small t o is frame a.0 a.1) a.2) a.1) inside out
   where
     x : Course
     x = walks t o
@@ -160,23 +235,27 @@ most-all t o n at most is frame top best m = is_bound x most (accepted t is) (le
     inside : (p c q v : ℕ) → Reaches (net (field x)) (whole (field x)) v p c q → c ≤ most
     inside p c q v r =
         let w = placed r in
-        let y = (best (index t v) w.0).0 p c q (subst (λ v. Reaches (net (field x)) (whole (field x)) v p c q) (sym w.1) r) in
-        let z = m.inside (index t v) p y.0 q (omega (arith, w.0)) y.1 in
-        exact-≤ c most (let s = reach-small t o is frame v p c q r in omega arith) (≤-two (min c ceiling) y.0 most y.2 z)
+        exact-≤ c most (let s = reach-small t o is frame v p c q r in omega arith)
+        (m.inside (index t v) p c q (omega (arith, w.0)) (subst (λ v. Reaches (net (field x)) (whole (field x)) v p c q) (sym w.1) r))
 
     out : (v p c q : ℕ) (e : Edge) → Contains (x.graph.edges v) e → (Lies x.graph e.to → ⊥) → Then (Reaches (net (field x)) (whole (field x)) v) (Steps x.positions e.lag) p c q → c ≤ most
     out v p c q e known far r =
         let w = placed r.first in
-        let y = (best (index t v) w.0).0 p r.one r.at (subst (λ v. Reaches (net (field x)) (whole (field x)) v p r.one r.at) (sym w.1) r.first) in
-        let z = m.out (index t v) p (y.0 + r.two) q e (omega (arith, w.0)) (subst (λ v. Contains (x.graph.edges v) e) (sym w.1) known) far (record { at = r.at; one = y.0; two = r.two; first = y.1; second = r.second; cost = refl }) in
-        exact-≤ c most (let s = step-small t o is frame v p c q e known r in omega arith) (out-≤ r.one y.0 r.two c most ceiling y.2 r.cost z)
+        exact-≤ c most (let s = step-small t o is frame v p c q e known r in omega arith)
+        (m.out (index t v) p c q e (omega (arith, w.0)) (subst (λ v. Contains (x.graph.edges v) e) (sym w.1) known) far (subst (λ v. Then (Reaches (net (field x)) (whole (field x)) v) (Steps x.positions e.lag) p c q) (sym w.1) r))
 
 -- where no word has a way of its own, all is by the turns
-pub ways-none : (t : Tree) (o : Positions) (ways : WaysOn) (m : Entries) (v : ℕ) → ((k : ℕ) → ways k ≡ None) → IsBest m (Reaches (net (over t o ways)) (whole (over t o ways)) v) → IsBest m (Reaches (net (field (walks t o))) (whole (field (walks t o))) v)
-ways-none t o ways m v none best = subst (λ f. IsBest m (Reaches (net f) (whole f) v)) same best
-  where
-    same : over t o ways ≡ field (walks t o)
-    same = λ i. record { graph = graph t; own = IsOwn o; move = λ u lag. moved o (none (index t u) i) lag }
+abbrev pub no-ways : WaysOn
+no-ways k = None
 
-pub no-ways : (o : Positions) (ways : WaysOn) → ((k : ℕ) → ways k ≡ None) → AreWays o ways
-no-ways o ways none k m e p c q i = let z : None ≡ Some m = sym (none k) ∙ e in cc
+same-field : (t : Tree) (o : Positions) → over t o no-ways ≡ field (walks t o)
+same-field t o = refl
+
+pub turns-best : (t : Tree) (o : Positions) (m : Entries) (v : ℕ) → IsBest m (Reaches (net (over t o no-ways)) (whole (over t o no-ways)) v) → IsBest m (Reaches (net (field (walks t o))) (whole (field (walks t o))) v)
+turns-best t o m v best = subst (λ f. IsBest m (Reaches (net f) (whole f) v)) (same-field t o) best
+
+pub turns-are : (t : Tree) (o : Positions) (a : Costs) (v : ℕ) → AreBest a (Reaches (net (over t o no-ways)) (whole (over t o no-ways)) v) → AreBest a (Reaches (net (field (walks t o))) (whole (field (walks t o))) v)
+turns-are t o a v best = subst (λ f. AreBest a (Reaches (net f) (whole f) v)) (same-field t o) best
+
+pub none-lead : (o : Positions) → AreWays o no-ways
+none-lead o k m e p c q i = let z : None ≡ Some m = e in cc

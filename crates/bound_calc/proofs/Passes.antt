@@ -1,9 +1,9 @@
 -- A forward pass holds the best of what reaches each word.
 use Rattle.std.proofs.Common.{◌≡◌, ℕ, ◌+◌, ◌-◌, ◌<◌, ◌≤◌, ◌⊎◌, ◌≢◌, refl, arith, inl, inr, ap, subst, Contains}
-use Rattle.bound_calc.proofs.BestLaws.{Lands, Within, best-same, best-then, power-cut, power-join, power-up, same}
+use Rattle.bound_calc.proofs.BestLaws.{Lands, Within, are-same, best-same, best-then, power-cut, power-join, power-up, same}
 use Rattle.bound_calc.proofs.Counters.{kept}
 use Rattle.bound_calc.proofs.Heads.{Fresh, Rounded, at_head, enter, from_below, go_round}
-use Rattle.bound_calc.specs.Best.{Costs, Either, Entries, In, IsBest, Power, Then}
+use Rattle.bound_calc.specs.Best.{AreBest, Costs, Either, Entries, In, IsBest, Power, Then}
 use Rattle.bound_calc.specs.Context.{IsNested, IsPart, Net, Part, Walk}
 use Rattle.bound_calc.specs.Pass.{And, Below, Brings, Comes, Edges, Turns}
 use Rattle.bound_calc.specs.Section.{Field, net}
@@ -28,10 +28,10 @@ enters-comes p c q (inl stays) = inl stays
 enters-comes p c q (inr b) = inr (record { from = b.from; at = b.at; one = b.one; two = b.two; lag = b.arc.lag; walk = b.walk; edge = (b.up, b.arc.edge); move = b.arc.move; up = b.up; high = b.high; cost = b.cost })
 
 -- a word that is no head
-pub reach-plain : {x : Field} {s : Part} {w : ℕ} {m : Entries} → IsPart (net x) s → ((j : LoopSetup) → s.loops j → w ≢ j.head) → IsBest m (Enters (net x) s w) → IsBest m (Reaches (net x) s w)
-reach-plain {x} {s} {w} part no_head b = best-same
+pub reach-plain : {x : Field} {s : Part} {w : ℕ} {a : Costs} → IsPart (net x) s → ((j : LoopSetup) → s.loops j → Reachable x.graph w → w ≢ j.head) → Reachable x.graph s.low → AreBest a (Enters (net x) s w) → AreBest a (Reaches (net x) s w)
+reach-plain {x} {s} {w} part no_head r b = are-same
     (λ p c q e. let f : Fresh (net x) s w p c q = enter part e in record { steps = f.steps; counters = f.counters; walk = f.walk })
-    (λ p c q r. from_below r.walk no_head) b
+    (λ p c q z. from_below z.walk (λ j known. no_head j known (walk-reachable r z.walk))) b
 
 -- the second matrix is looked at only where the first set has an element
 pub best-then-if : {a b c : Entries} {f g : Costs} → IsBest a f → ((p n q : ℕ) → f p n q → IsBest b g) → IsBest c (Then (In a) (In b)) → IsBest c (Then f g)
@@ -56,9 +56,9 @@ reach-head {x} {s} {a} {b} {m} j t part r h best rounds both = best-same there b
         record { at = z.at; one = z.one; two = z.two; first = z.first; second = subst (λ n. Rounds (net x) j n z.at z.two q) sums up; cost = z.cost }
 
 -- one edge more
-pub comes-more : {x : Field} {s : Part} {f : Edges} {c : Entries} (v : ℕ) (e : Edge) → v < e.to → e.to ≤ s.high →
-    IsBest c (Either (Comes x s f e.to) (Then (Reaches (net x) s v) (x.move v e.lag))) → IsBest c (Comes x s (And f v e) e.to)
-comes-more {x} {s} {f} v e up high both = best-same there back both
+pub comes-more : {x : Field} {s : Part} {f : Edges} {g : Costs} (v : ℕ) (e : Edge) → v < e.to → e.to ≤ s.high →
+    AreBest g (Either (Comes x s f e.to) (Then (Reaches (net x) s v) (x.move v e.lag))) → AreBest g (Comes x s (And f v e) e.to)
+comes-more {x} {s} {f} v e up high both = are-same there back both
   where
     there : Within (Either (Comes x s f e.to) (Then (Reaches (net x) s v) (x.move v e.lag))) (Comes x s (And f v e) e.to)
     there p c q (inl (inl stays)) = inl stays
@@ -74,9 +74,9 @@ comes-more {x} {s} {f} v e up high both = best-same there back both
     back p c q (inr b) = last b b.edge
 
 -- two sets that have the same edges from reachable words up to w
-pub comes-same : {x : Field} {s : Part} {f g : Edges} {m : Entries} {w : ℕ} → Reachable x.graph s.low → ((u : ℕ) (e : Edge) → e.to ≡ w → Reachable x.graph u → f u e → g u e) → ((u : ℕ) (e : Edge) → e.to ≡ w → Reachable x.graph u → g u e → f u e) →
-    IsBest m (Comes x s f w) → IsBest m (Comes x s g w)
-comes-same {x} {s} {f} {g} {m} {w} r there back = best-same (along f g there) (along g f back)
+pub comes-same : {x : Field} {s : Part} {f g : Edges} {a : Costs} {w : ℕ} → Reachable x.graph s.low → ((u : ℕ) (e : Edge) → e.to ≡ w → Reachable x.graph u → f u e → g u e) → ((u : ℕ) (e : Edge) → e.to ≡ w → Reachable x.graph u → g u e → f u e) →
+    AreBest a (Comes x s f w) → AreBest a (Comes x s g w)
+comes-same {x} {s} {f} {g} {a} {w} r there back = are-same (along f g there) (along g f back)
   where
     along : (f g : Edges) → ((u : ℕ) (e : Edge) → e.to ≡ w → Reachable x.graph u → f u e → g u e) → Within (Comes x s f w) (Comes x s g w)
     along f g h p c q (inl stays) = inl stays

@@ -14,14 +14,14 @@ use Rattle.bound_calc.specs.Best.{Costs, Either, Entries, In, IsBest, Stays, The
 use Rattle.bound_calc.specs.Context.{IsPart, body}
 use Rattle.bound_calc.specs.Matrices.{entry}
 use Rattle.bound_calc.specs.Pass.{AndTo, Below, Edges, Turns}
-use Rattle.bound_calc.specs.Passing.{AreWays, IsSpan, IsTurned, edges_at, over, WaysOn}
+use Rattle.bound_calc.specs.Passing.{Held, AreWays, IsSpan, IsStraight, IsTurned, edges_at, over, WaysOn}
 use Rattle.bound_calc.specs.Section.{Field, net}
 use Rattle.bound_calc.specs.Ways.{Reaches, Round}
 use Rattle.bound_calc.proofs.Accepted.{accepted}
-use Rattle.bound_calc.proofs.BestLaws.{Within, best-either, best-either-then, best-same, either-lands}
+use Rattle.bound_calc.proofs.BestLaws.{Within, best-either-then, best-same, either-lands}
 use Rattle.bound_calc.proofs.Counters.{above}
 use Rattle.bound_calc.proofs.Embed.{is_or_not}
-use Rattle.bound_calc.proofs.PassLaws.{over-nested, index-aligned}
+use Rattle.bound_calc.proofs.PassLaws.{over-nested, index-aligned, up-is}
 use Rattle.bound_calc.proofs.Passes.{round-lands, rounds-turns, walk-reachable}
 
 option-is : (target : Option ℕ) (v : ℕ) → (target ≡ Some v) ⊎ (target ≡ Some v → ⊥)
@@ -53,6 +53,10 @@ turns-more {x} {f} j v target lag is both = best-same there back both
     back : Within (Turns x j (AndTo f v target lag)) (Either (Turns x j f) (Then (Reaches (net x) (body (net x) j) v) (x.move v lag)))
     back p c q t = last t t.edge
 
+-- an edge elsewhere
+not-turned : {x : Field} {f : Edges} {m : Entries} (j : LoopSetup) (v : ℕ) (target : Option ℕ) (lag : ℕ) → Reachable x.graph j.head → IsPart (net x) (body (net x) j) → (target ≡ Some j.head → ⊥) → IsBest m (Turns x j f) → IsBest m (Turns x j (AndTo f v target lag))
+not-turned j v target lag r part other before = turns-same j r part (λ u e a low ru y. inl y) (λ u e a low ru y. elim y [ inl z ↦ z | inr z ↦ absurd (other ((edge-is target lag e z.1).0 ∙ ap Some a)) ]) before
+
 -- one edge of a word, whatever it is
 pub turned : {x : Field} {f : Edges} {back here new : Matrix} (j : LoopSetup) (v : ℕ) (target : Option ℕ) (lag : ℕ) → Reachable x.graph j.head → IsPart (net x) (body (net x) j) → IsBest (entry here) (Reaches (net x) (body (net x) j) v) → IsTurned (x.move v lag) back here target j.head new →
     IsBest (entry back) (Turns x j f) → IsBest (entry new) (Turns x j (AndTo f v target lag))
@@ -62,7 +66,7 @@ turned {x} {f} {back} {here} {new} j v target lag r part best t before = go (opt
     go (inl is) = turns-more j v target lag is (best-either-then before best (t.there is))
     go (inr other) =
         subst (λ m. IsBest (entry m) (Turns x j (AndTo f v target lag))) (sym (t.other other))
-        (turns-same j r part (λ u e a low ru y. inl y) (λ u e a low ru y. elim y [ inl z ↦ z | inr z ↦ absurd (other ((edge-is target lag e z.1).0 ∙ ap Some a)) ]) before)
+        (not-turned j v target lag r part other before)
 
 -- both edges of the word at an index
 pub turns-word : {m : Entries} (t : Tree) (o : Positions) (ways : WaysOn) (j : LoopSetup) (k : ℕ) → IsTree t → Reachable (graph t) j.head → IsPart (net (over t o ways)) (body (net (over t o ways)) j) → let e = edges_at t k in
@@ -90,6 +94,16 @@ turns-word {m} t o ways j k is r part best = turns-same j r part there back best
         go : (u < address t k) ⊎ (u ≡ address t k) → AndTo (AndTo (Below x (address t k)) (address t k) e.next e.next_lag) (address t k) e.jump 3 u b
         go (inl below) = inl (inl (below, z.1))
         go (inr here) = at here (Contains-append_cases (edge_to e.next e.next_lag) (edge_to e.jump 3) b (subst (λ u. Contains (x.graph.edges u) b) here z.1))
+
+-- a word of straight code, at or above the head
+pub turns-straight : {m : Entries} (t : Tree) (o : Positions) (ways : WaysOn) (j : LoopSetup) (k last : ℕ) (way power : Option Matrix) (f : Held) → IsTree t → Reachable (graph t) j.head → IsPart (net (over t o ways)) (body (net (over t o ways)) j) → j.head ≤ address t k → IsStraight t (edges_at t k) k last way power f →
+    IsBest m (Turns (over t o ways) j (Below (over t o ways) (address t k))) → IsBest m (Turns (over t o ways) j (Below (over t o ways) (address t (k + 1))))
+turns-straight {m} t o ways j k last way power f is r part low s before = turns-word t o ways j k is r part
+    (not-turned j (address t k) e.jump 3 r part (λ h. let none : None ≡ Some j.head = sym s.jump ∙ h in cc)
+    (not-turned j (address t k) e.next e.next_lag r part (λ h. let u = up-is t k last e.next (k + 1) s.next in let both : Some j.head ≡ Some u.0 = sym h ∙ u.1 in let same : j.head ≡ u.0 = cc in omega (arith, u.2)) before))
+  where
+    e : EdgesOf
+    e = edges_at t k
 
 -- no word yet
 pub turns-none : {x : Field} {m : Entries} (j : LoopSetup) (v : ℕ) → j.head ≡ v → IsPart (net x) (body (net x) j) → ((p q c : ℕ) → m p q ≡ Some c → ⊥) → IsBest m (Turns x j (Below x v))
@@ -120,10 +134,10 @@ turns-all {m} t o ways j first last is r h part sp best = best-same turning (rou
 pub is-turned : (f : Costs) (back here joined : Matrix) (target : Option ℕ) (head : ℕ) → target ≡ Some head → IsBest (entry joined) (Either (In (entry back)) (Then (In (entry here)) f)) → IsTurned f back here target head joined
 is-turned f back here joined target head is best = record { other = λ never. absurd (never is); there = λ z. best }
 
--- one more round at most
-pub base-best : (t : Tree) (o : Positions) (ways : WaysOn) (j : LoopSetup) (first last k : ℕ) (one back base : Matrix) → IsTree t → Reachable (graph t) j.head → Contains t.loops j → IsPart (net (over t o ways)) (body (net (over t o ways)) j) → IsSpan t (body (net (over t o ways)) j) first last → k ≡ last + 1 →
-    IsBest (entry one) (Stays (IsOwn o)) → IsBest (entry back) (Turns (over t o ways) j (Below (over t o ways) (address t k))) → IsBest (entry base) (Either (In (entry one)) (In (entry back))) → IsBest (entry base) (Either (Stays (IsOwn o)) (Round (net (over t o ways)) j))
-base-best t o ways j first last k one back base is r h part sp e b1 b2 b3 = best-either b1 (turns-all t o ways j first last is r h part sp (subst (λ k. IsBest (entry back) (Turns (over t o ways) j (Below (over t o ways) (address t k)))) e b2)) b3
+-- all words, whose number is told otherwise
+pub turns-done : {m : Entries} (t : Tree) (o : Positions) (ways : WaysOn) (j : LoopSetup) (first last k : ℕ) → IsTree t → Reachable (graph t) j.head → Contains t.loops j → IsPart (net (over t o ways)) (body (net (over t o ways)) j) → IsSpan t (body (net (over t o ways)) j) first last → k ≡ last + 1 →
+    IsBest m (Turns (over t o ways) j (Below (over t o ways) (address t k))) → IsBest m (Round (net (over t o ways)) j)
+turns-done {m} t o ways j first last k is r h part sp e best = turns-all t o ways j first last is r h part sp (subst (λ k. IsBest m (Turns (over t o ways) j (Below (over t o ways) (address t k)))) e best)
 
 pub base-lands : (t : Tree) (o : Positions) (ways : WaysOn) (j : LoopSetup) (base : Matrix) → IsTree t → AreWays o ways → IsBest (entry base) (Either (Stays (IsOwn o)) (Round (net (over t o ways)) j)) → (p c q : ℕ) → In (entry base) p c q → IsOwn o q
 base-lands t o ways j base is are best p c q e = let z = best.1 p c q e in either-lands (round-lands (over-nested t o ways is are) j) p z.0 q z.1

@@ -51,3 +51,8 @@ Among m f = (p e q : ℕ) → m p q ≡ Some e → (c : ℕ) × f p c q × (min 
 -- each entry is the largest cost, and none where there is no cost
 abbrev pub IsBest : Entries → Costs → Type 0
 IsBest m f = Covers m f × Among m f
+
+-- some costs have the largest of a set, and nothing that isn't as large as one of it
+pub record AreBest (g f : Costs) : Type 0 where
+  pub covers : (p c q : ℕ) → f p c q → (e : ℕ) × g p e q × (min c ceiling ≤ min e ceiling)
+  pub among : (p e q : ℕ) → g p e q → (c : ℕ) × f p c q × (min e ceiling ≡ min c ceiling)

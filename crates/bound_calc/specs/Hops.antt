@@ -1,5 +1,6 @@
 -- The steps from one turn of a thread to another, as a table.
 use Rattle.std.specs.Prelude.{◌≡◌, ℕ, ◌+◌, ◌<◌, ◌≤◌, ◌⊎◌, min, List, [], length, Option, Some, None, slice_index_or, slice_set}
+use Rattle.std.specs.Option.{option_map}
 use Rattle.rv_decode.specs.Lag.{redirect_lag}
 use Rattle.region_tree.specs.Walk.{Positions, IsOwn, IsNextTurn}
 use Rattle.bound_calc.specs.Best.{Costs, Stays, Then, In, IsBest, ceiling}
@@ -11,6 +12,11 @@ use Rattle.bound_calc.specs.declared.hop.HopRow.{HopRow}
 -- the steps of a table, by the position at the start
 abbrev pub Hops : List (Option Hop) → Costs
 Hops hops p d q = slice_index_or hops p None ≡ Some (record { cost = d; position = q })
+
+-- a step, and then that of a table from where it leads
+abbrev pub followed : Option Hop → List (Option Hop) → Option Hop
+followed None row = None
+followed (Some h) row = option_map (λ k. record { cost = h.cost + k.cost; position = k.position }) (slice_index_or row h.position None)
 
 -- they are those to the next turn after a lag
 pub record IsHops (s : Positions) (lag : ℕ) (hops : List (Option Hop)) : Type 0 where

@@ -1,5 +1,5 @@
 -- What the matrices of a section's words hold while they are worked out.
-use Rattle.std.specs.Prelude.{◌≡◌, ℕ, ◌-◌, ◌/◌, ◌<◌, ◌≤◌, ◌⊎◌, min, ◌%◌, ◌&&◌, nat_lt, nat_le, not, if◌then◌else◌, Bool, true, false, List, [], length, Option, Some, None, slice_index_or, Contains, Box}
+use Rattle.std.specs.Prelude.{◌≡◌, ◌≢◌, ℕ, ◌+◌, ◌-◌, ◌*◌, ◌/◌, ◌<◌, ◌≤◌, ◌⊎◌, ◌↔◌, MatchOption, min, ◌%◌, ◌&&◌, nat_lt, nat_le, not, if◌then◌else◌, Bool, true, false, List, [], length, Option, Some, None, slice_index_or, Contains, Box}
 use Rattle.std.specs.Global.{Global}
 use Rattle.std.specs.Option.{option_map}
 use Rattle.fp_setup.specs.declared.loop_list.LoopSetup.{LoopSetup}
@@ -9,12 +9,15 @@ use Rattle.region_tree.specs.Search.{address}
 use Rattle.region_tree.specs.Tree.{Tree, graph, word_at}
 use Rattle.region_tree.specs.Walk.{Course, CostsOf, IsOwn, Positions}
 use Rattle.region_tree.specs.declared.edges.Edges.{Edges}
-use Rattle.bound_calc.specs.Best.{Costs, Either, Then, Entries, In, IsBest, ceiling}
+use Rattle.bound_calc.specs.Best.{AreBest, Costs, Either, Then, Entries, In, IsBest, ceiling}
 use Rattle.bound_calc.specs.Context.{Part, body, IsPart, IsNested}
-use Rattle.bound_calc.specs.Section.{Field, Steps, net, whole}
+use Rattle.bound_calc.specs.Section.{Field, Steps, field, net, whole}
 use Rattle.bound_calc.specs.Ways.{Reaches, Rounds}
 use Rattle.bound_calc.specs.Pass.{Below, Comes}
 use Rattle.bound_calc.specs.Matrices.{entry}
+use Rattle.bound_calc.specs.Hops.{Hops, IsLargest}
+use Rattle.bound_calc.specs.declared.front.Front.{Front}
+use Rattle.bound_calc.specs.declared.hop.Hop.{Hop}
 use Rattle.bound_calc.specs.declared.matrix.Matrix.{Matrix}
 
 -- what walks through a tree's section go over
@@ -94,10 +97,38 @@ abbrev pub up_of : Tree → ℕ → ℕ → Option ℕ → Option ℕ
 up_of t k high None = None
 up_of t k high (Some v) = if nat_lt (address t k) v && nat_le v (address t high) then Some (index t v) else None
 
--- a matrix was taken along an edge, at these costs
-pub record IsBrought (f : Costs) (to : Option ℕ) (here : Matrix) (old new : List Matrix) : Type 0 where
-  pub others : (w : ℕ) → (to ≡ Some w → ⊥) → slice_index_or new w no_matrix ≡ slice_index_or old w no_matrix
-  pub there : (w : ℕ) → to ≡ Some w → IsBest (matrix_at new w) (Either (In (matrix_at old w)) (Then (In (entry here)) f))
+-- what a pass holds between two words
+pub record Held : Type 0 where
+  pub waiting : Powers
+  pub base : Matrix
+  pub hops : List (Option Hop)
+
+abbrev pub held : Front → Held
+held f = record { waiting = f.waiting.items; base = f.base.value; hops = f.hops.hops }
+
+-- what was waiting at an index, or a matrix without sums
+abbrev pub IsTaken : Option Matrix → Matrix → Type 0
+IsTaken waiting m = MatchOption waiting ((p q c : ℕ) → entry m p q ≡ Some c → ⊥) (λ n. m ≡ n)
+
+-- a matrix was chained with a power, if there is one
+abbrev pub IsThrough : Option Matrix → Matrix → Matrix → Type 0
+IsThrough power old new = MatchOption power (new ≡ old) (λ m. IsBest (entry new) (Then (In (entry old)) (In (entry m))))
+
+-- what waits at the word with an index
+abbrev pub Waits : Powers → ℕ → Costs
+Waits waiting k p c q = (m : Matrix) × (power_at waiting k ≡ Some m) × In (entry m) p c q
+
+-- what an edge to an index brings to another one
+abbrev pub Via : Option ℕ → ℕ → Costs → Costs
+Via to w f p c q = (to ≡ Some w) × f p c q
+
+-- what a front leads on with to the next word
+abbrev pub Led : Held → Costs
+Led f = Then (In (entry f.base)) (Hops f.hops)
+
+-- what a front before the word at index n has for the word at index w
+abbrev pub Ahead : Held → ℕ → ℕ → Costs
+Ahead f n w = Either (Waits f.waiting w) (λ p c q. (w ≡ n) × Led f p c q)
 
 -- the powers of the loops of a part whose heads are reachable
 pub record IsPowers (x : Field) (t : Tree) (s : Part) (powers : Powers) : Type 0 where
@@ -109,12 +140,61 @@ pub record AreReached (t : Tree) (s : Positions) (ways : WaysOn) (at : List Matr
   pub count : length at ≡ length t.words
   pub best : (k : ℕ) → k < length t.words → IsBest (matrix_at at k) (Reaches (net (over t s ways)) (whole (over t s ways)) (address t k))
 
--- Before the word at index n: what reaches each word below it, and what comes from below it to the
--- others.
-pub record IsPassed (x : Field) (t : Tree) (s : Part) (n : ℕ) (at : List Matrix) : Type 0 where
-  pub count : length at ≡ length t.words
-  pub done : (k : ℕ) → s.low ≤ address t k → k < n → IsBest (matrix_at at k) (Reaches (net x) s (address t k))
-  pub ahead : (k : ℕ) → n ≤ k → address t k ≤ s.high → IsBest (matrix_at at k) (Comes x s (Below x (address t n)) (address t k))
+-- these costs were joined with what waits at an edge's target
+pub record IsBrought (to : Option ℕ) (f : Costs) (old new : Held) : Type 0 where
+  pub count : length new.waiting ≡ length old.waiting
+  pub base : new.base ≡ old.base
+  pub hops : new.hops ≡ old.hops
+  pub waits : (w : ℕ) → AreBest (Waits new.waiting w) (Either (Waits old.waiting w) (Via to w f))
+
+-- Before the word at index n of a part a front has what comes from below it to each word ahead. Its
+-- steps are those of at most n words.
+pub record IsFront (x : Field) (t : Tree) (s : Part) (n : ℕ) (f : Held) : Type 0 where
+  pub count : length f.waiting ≡ length t.words
+  pub positions : (p d q : ℕ) → Hops f.hops p d q → (p < 8) × (q < 8)
+  pub short : (p d q : ℕ) → Hops f.hops p d q → d ≤ 10 * n
+  pub ahead : (k : ℕ) → n ≤ k → address t k ≤ s.high → AreBest (Ahead f n k) (Comes x s (Below x (address t n)) (address t k))
+
+-- a word of straight code: nothing waits there, and its one edge is to the next word, by the turns
+pub record IsStraight (t : Tree) (e : Edges) (k last : ℕ) (way power : Option Matrix) (f : Held) : Type 0 where
+  pub jump : e.jump ≡ None
+  pub next : up_of t k last e.next ≡ Some (k + 1)
+  pub no_way : way ≡ None
+  pub no_power : power ≡ None
+  pub waits : power_at f.waiting k ≡ None
+
+-- a step was put behind those that lead on
+pub record IsSkipped (s : Positions) (lag : ℕ) (old new : Held) : Type 0 where
+  pub frame : length s.frame ≤ 8
+  pub waiting : new.waiting ≡ old.waiting
+  pub base : new.base ≡ old.base
+  pub hops : (p d q : ℕ) → Hops new.hops p d q ↔ Then (Hops old.hops) (Steps s lag) p d q
+
+-- what the front has for a word was taken up, and through the power of the loop whose head it is
+pub record IsArrived (power : Option Matrix) (k : ℕ) (old new : Held) : Type 0 where
+  pub count : length new.waiting ≡ length old.waiting
+  pub others : (w : ℕ) → w ≢ k → power_at new.waiting w ≡ power_at old.waiting w
+  pub joined : Matrix
+  pub best : IsBest (entry joined) (Ahead old k k)
+  pub here : IsThrough power joined new.base
+
+-- a front went on to the next word, at these costs
+pub record IsLed (s : Positions) (way : Option Matrix) (next : Option ℕ) (lag k : ℕ) (old new : Held) : Type 0 where
+  pub count : length new.waiting ≡ length old.waiting
+  pub base : new.base ≡ old.base
+  pub positions : (p d q : ℕ) → Hops new.hops p d q → (p < 8) × (q < 8)
+  pub short : (p d q : ℕ) → Hops new.hops p d q → d ≤ 10
+  pub ahead : (w : ℕ) → k < w → AreBest (Ahead new (k + 1) w) (Either (Waits old.waiting w) (Via next w (Then (In (entry old.base)) (moved s way lag))))
+
+-- a front went on from a word along its edges
+pub record IsGone (t : Tree) (s : Positions) (way : Option Matrix) (e : Edges) (k last : ℕ) (old new : Held) : Type 0 where
+  pub count : length new.waiting ≡ length old.waiting
+  pub base : new.base ≡ old.base
+  pub positions : (p d q : ℕ) → Hops new.hops p d q → (p < 8) × (q < 8)
+  pub short : (p d q : ℕ) → Hops new.hops p d q → d ≤ 10
+  pub ahead : (w : ℕ) → k < w → AreBest (Ahead new (k + 1) w) (Either (Either (Waits old.waiting w)
+      (Via (up_of t k last e.next) w (Then (In (entry old.base)) (moved s way e.next_lag))))
+      (Via (up_of t k last e.jump) w (Then (In (entry old.base)) (moved s way 3))))
 
 -- what a pass over a part needs
 pub record IsReady (x : Field) (t : Tree) (s : Part) (powers : Powers) : Type 0 where
@@ -146,11 +226,19 @@ abbrev pub leaves : Tree → Option ℕ → Bool
 leaves t None = false
 leaves t (Some v) = not (nat_le t.section.from v && nat_lt v t.section.to)
 
+-- the most so far, with what reaches a word and the steps on from there that leave the section
+pub record IsMostFrom (t : Tree) (s : Positions) (here : Matrix) (e : Edges) (old new : ℕ) : Type 0 where
+  pub inner : ℕ
+  pub next : ℕ
+  pub largest : IsLargest here old inner
+  pub by_next : IsOut s here (leaves t e.next) e.next_lag inner next
+  pub by_jump : IsOut s here (leaves t e.jump) 3 next new
+
 -- the most of the words at the indices below n
-pub record IsMost (x : Course) (t : Tree) (n : ℕ) (at : List Matrix) (most : ℕ) : Type 0 where
+pub record IsMost (x : Course) (t : Tree) (n most : ℕ) : Type 0 where
   pub met : (c : ℕ) × CostsOf x c × (min most ceiling ≡ min c ceiling)
-  pub inside : (k p c q : ℕ) → k < n → matrix_at at k p q ≡ Some c → c ≤ most
-  pub out : (k p c q : ℕ) (e : Edge) → k < n → Contains (x.graph.edges (address t k)) e → (Lies x.graph e.to → ⊥) → Then (In (matrix_at at k)) (Steps x.positions e.lag) p c q → min c ceiling ≤ most
+  pub inside : (k p c q : ℕ) → k < n → Reaches (net (field x)) (whole (field x)) (address t k) p c q → min c ceiling ≤ most
+  pub out : (k p c q : ℕ) (e : Edge) → k < n → Contains (x.graph.edges (address t k)) e → (Lies x.graph e.to → ⊥) → Then (Reaches (net (field x)) (whole (field x)) (address t k)) (Steps x.positions e.lag) p c q → min c ceiling ≤ most
 
 -- what leads to the words below index n that are ends, and then a jump further
 pub record Ended (s : Positions) (ends : List Bool) (at : List Matrix) (n p c q : ℕ) : Type 0 where

@@ -1,25 +1,22 @@
 //! The bound of a section.
 
-ghost use Rattle.std.specs.Prelude.{◌≡◌, ◌≢◌, ℕ, ◌+◌, ◌-◌, ◌/◌, ◌<◌, ◌≤◌, ◌^◌, length, Contains, IfOk, IfErr, MatchResult, List};
+ghost use Rattle.std.specs.Prelude.{◌≡◌, ℕ, ◌<◌, ◌≤◌, ◌^◌, None, length, Contains, IfOk, IfErr, MatchResult};
 ghost use Rattle.slot_table.specs.Frame.{frame};
-ghost use Rattle.region_tree.specs.Search.{address};
 ghost use Rattle.region_tree.specs.Tree.{IsTree};
 ghost use Rattle.region_tree.specs.Walk.{IsOwn};
-ghost use Rattle.bound_calc.specs.Best.{In, IsBest, Then};
 ghost use Rattle.bound_calc.specs.Bound.{IsBound, IsTooLarge, course};
 ghost use Rattle.bound_calc.specs.declared.cycle_bound.BoundNo.TheVariants.{Overflow};
-ghost use Rattle.bound_calc.specs.Section.{Steps as StepsAfter, field, net, whole};
-ghost use Rattle.bound_calc.specs.Ways.{Reaches};
-ghost use Rattle.bound_calc.specs.Matrices.{entry};
-ghost use Rattle.bound_calc.specs.Passing.{IsOut, leaves, matrix_at, walks};
+ghost use Rattle.bound_calc.specs.Section.{whole};
+ghost use Rattle.bound_calc.specs.Passing.{IsMostFrom, IsOut, IsReady, leaves, over, walks};
 
 use crate::advance::{largest, leave};
+use crate::fill::fill;
+use crate::front::Front;
 use crate::matrix::Matrix;
-use crate::pass::edges_at;
-use crate::reached::reach;
+use crate::pass::{arrive, begin, edges_at, go_on, is_straight, skip, span_of};
 use crate::steps::Steps;
 use crate::ways::Ways;
-use region_tree::{JUMP_LAG, LoopTree};
+use region_tree::{Edges, JUMP_LAG, LoopTree};
 use slot_table::SlotTable;
 use std::alloc::{AllocError, Global};
 use thiserror::Error;
@@ -69,31 +66,49 @@ fn most_out(steps: &Steps, here: &Matrix, out: bool, lag: u64, most: u128) -> u1
     }
 }
 
-/// The largest cost of a walk, from what reaches each word of the section.
-fn most(tree: &LoopTree, steps: &Steps, at: &[Matrix]) -> u128
+/// The largest of a number, of what reaches a word, and of the steps on from there that leave the
+/// section.
+fn most_from(tree: &LoopTree, steps: &Steps, here: &Matrix, edges: &Edges, most: u128) -> u128
+    requires lag { edges.now.next_lag ≤ 3 }
+    ensures { IsMostFrom tree.now steps.now here.now edges.now most result }
+{
+    let inside = largest(here, most);
+    let out = is_out(tree, edges.next);
+    let next = most_out(steps, here, out, edges.next_lag, inside);
+    most_out(steps, here, is_out(tree, edges.jump), JUMP_LAG, next)
+}
+
+/// The largest cost of a walk, by the powers of the section's loops.
+fn most(
+    alloc: Global,
+    tree: &LoopTree,
+    steps: &Steps,
+    powers: &[Option<Box<Matrix>>],
+    front: &mut Front,
+) -> Result<u128, AllocError>
     requires tree { IsTree tree.now }
     requires frame { length steps.now.frame ≤ 8 }
     requires slot { (p : ℕ) × IsOwn steps.now p }
-    requires room { length at.now ≡ length tree.now.words }
-    requires best { let f = field (walks tree.now steps.now) in (k : ℕ) →
-        k < length tree.now.words →
-        IsBest (matrix_at at.now k) (Reaches (net f) (whole f) (address tree.now k)) }
-    ensures { IsBound (walks tree.now steps.now) result }
+    requires ready { let f = over tree.now steps.now (λ k. None) in
+        IsReady f tree.now (whole f) powers.now }
+    requires room { length front.old.waiting.items ≡ length tree.now.words }
+    ensures { IfOk result (IsBound (walks tree.now steps.now)) }
 {
+    let last = span_of(tree, None).last;
+    begin(alloc, tree, steps, None, front)?;
     let mut most = 0;
-    for index in 0..at.len() {
+    for index in 0..last + 1 {
         let edges = edges_at(tree, index);
-        let inside = largest(&at[index], most);
-        let next = most_out(
-            steps,
-            &at[index],
-            is_out(tree, edges.next),
-            edges.next_lag,
-            inside,
-        );
-        most = most_out(steps, &at[index], is_out(tree, edges.jump), JUMP_LAG, next);
+        if is_straight(tree, &edges, index, last, None, &powers[index], front) {
+            most = leave(&front.base, &front.hops, most);
+            skip(steps, edges.next_lag, front);
+        } else {
+            arrive(alloc, &powers[index], index, front)?;
+            most = most_from(tree, steps, &front.base, &edges, most);
+            go_on(alloc, tree, steps, None, &edges, index, last, front)?;
+        }
     }
-    most
+    Ok(most)
 }
 
 /// The largest cost of a walk.
@@ -102,8 +117,9 @@ fn largest_cost(alloc: Global, tree: &LoopTree, steps: &Steps) -> Result<u128, A
     requires slot { (p : ℕ) × IsOwn steps.now p }
     ensures { IfOk result (IsBound (walks tree.now steps.now)) }
 {
-    let at = reach(alloc, tree, steps, &Ways::new(&[], &[]))?;
-    Ok(most(tree, steps, &at))
+    let mut front = Front::new(alloc, span_of(tree, None).last + 1)?;
+    let powers = fill(alloc, tree, steps, &Ways::new(&[], &[]), &mut front)?;
+    most(alloc, tree, steps, &powers, &mut front)
 }
 
 /// A bound in 64 bits, if it has no more.

@@ -1,8 +1,10 @@
 //! The powers of all loops, from the last head to the first.
 
 ghost use Rattle.std.specs.Prelude.{◌≡◌, ◌≢◌, ℕ, ◌+◌, ◌<◌, ◌≤◌, length, MatchOption, Contains, OnOk, IfOk};
-ghost use Rattle.bound_calc.specs.Passing.{AreWays, IsFilled, Powers, over, power_at, ways_on};
+ghost use Rattle.region_tree.specs.Tree.{IsTree};
+ghost use Rattle.bound_calc.specs.Passing.{AreWays, IsFilled, over, power_at, ways_on};
 
+use crate::front::Front;
 use crate::matrix::Matrix;
 use crate::rounds::rounds;
 use crate::steps::Steps;
@@ -48,15 +50,16 @@ fn fill_word(
     ways: &Ways,
     index: usize,
     powers: &mut [Option<Box<Matrix>>],
-    at: &mut [Matrix],
+    front: &mut Front,
 ) -> Result<(), AllocError>
     requires own { AreWays steps.now (ways_on ways.now) }
     requires index { index < length tree.now.words }
     requires filled { IsFilled (over tree.now steps.now (ways_on ways.now)) tree.now
         (index + 1) powers.old }
-    requires room { length at.old ≡ length tree.now.words }
-    ensures { OnOk result (IsFilled (over tree.now steps.now (ways_on ways.now))
+    requires room { length front.old.waiting.items ≡ length tree.now.words }
+    ensures filled { OnOk result (IsFilled (over tree.now steps.now (ways_on ways.now))
         tree.now index powers.new) }
+    ensures room { OnOk result (length front.new.waiting.items ≡ length tree.now.words) }
 {
     let address = tree.section().from + 4 * index as u32;
     if !tree.is_reachable(address) {
@@ -65,7 +68,7 @@ fn fill_word(
     let Some(j) = loop_at(tree.loops(), address) else {
         return Ok(());
     };
-    let power = rounds(tree, steps, ways, powers, j, at);
+    let power = rounds(alloc, tree, steps, ways, powers, j, front)?;
     powers[index] = Some(Box::new(alloc, power)?);
     Ok(())
 }
@@ -98,22 +101,22 @@ pub fn fill(
     tree: &LoopTree,
     steps: &Steps,
     ways: &Ways,
-    powers: &mut [Option<Box<Matrix>>],
-    at: &mut [Matrix],
-) -> Result<(), AllocError>
+    front: &mut Front,
+) -> Result<Vec<Option<Box<Matrix>>>, AllocError>
     requires own { AreWays steps.now (ways_on ways.now) }
-    requires filled { IsFilled (over tree.now steps.now (ways_on ways.now)) tree.now
-        (length tree.now.words) powers.old }
-    requires room { length at.old ≡ length tree.now.words }
-    ensures { OnOk result (IsFilled (over tree.now steps.now (ways_on ways.now))
-        tree.now 0 powers.new) }
+    requires room { length front.old.waiting.items ≡ length tree.now.words }
+    ensures filled { IfOk result (λ powers.
+        IsFilled (over tree.now steps.now (ways_on ways.now)) tree.now 0 powers.items) }
+    ensures room { OnOk result (length front.new.waiting.items ≡ length tree.now.words) }
+    ensures rules { IsTree tree.now }
 {
     let from = tree.section().from;
-    let mut index = at.len();
+    let mut index = front.waiting.len();
+    let mut powers = empty(alloc, index)?;
     while index > 0 {
         let head = head_below(tree.loops(), from, from + 4 * index as u32);
         index = ((head - from) / 4) as usize;
-        fill_word(alloc, tree, steps, ways, index, powers, at)?;
+        fill_word(alloc, tree, steps, ways, index, &mut powers, front)?;
     }
-    Ok(())
+    Ok(powers)
 }

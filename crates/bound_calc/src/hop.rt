@@ -1,5 +1,10 @@
 //! Steps from one turn of a thread to another.
 
+ghost use Rattle.std.specs.Prelude.{◌≡◌, ℕ, ◌<◌, ◌≤◌, ◌^◌, Some};
+ghost use Rattle.bound_calc.specs.Hops.{Hops, followed};
+
+use std::array;
+
 /// A step to a later turn of the thread: the cycles until then, and the turn's frame position.
 #[derive(Clone, Copy)]
 pub struct Hop {
@@ -9,9 +14,46 @@ pub struct Hop {
     pub position: usize,
 }
 
-/// For each frame position that is the thread's the step from there, after one lag.
+/// A step, and then that of a row from where it leads.
+fn follow(first: Option<Hop>, row: &HopRow) -> Option<Hop>
+    requires position { (h : _) → first ≡ Some h → h.position < 8 }
+    requires short { (h : _) → first ≡ Some h → h.cost ≤ 2 ^ 32 }
+    requires short_row { (p d q : ℕ) → Hops row.now.hops p d q → d ≤ 2 ^ 32 }
+    ensures { result ≡ followed first row.now.hops }
+{
+    let first = first?;
+    let second = row.hops[first.position]?;
+    Some(Hop {
+        cost: first.cost + second.cost,
+        position: second.position,
+    })
+}
+
+/// For each frame position that is the thread's the step from there.
 #[derive(Clone, Copy)]
 pub struct HopRow {
     /// By the position; `None` where the position isn't the thread's or doesn't come up.
     pub hops: [Option<Hop>; 8],
+}
+
+impl HopRow {
+    ghost use Rattle.std.specs.Prelude.{◌≡◌, ℕ, ◌<◌, ◌≤◌, ◌^◌, None, length, slice_index_or};
+    ghost use Rattle.bound_calc.specs.Hops.{Hops, followed};
+
+    /// No steps.
+    pub const NONE: HopRow = HopRow { hops: [None; 8] };
+
+    /// From each position a step, and then that of another row from where it leads.
+    pub fn then(&self, row: &HopRow) -> HopRow
+        requires positions { (p d q : ℕ) → Hops self.now.hops p d q → q < 8 }
+        requires short { (p d q : ℕ) → Hops self.now.hops p d q → d ≤ 2 ^ 32 }
+        requires short_row { (p d q : ℕ) → Hops row.now.hops p d q → d ≤ 2 ^ 32 }
+        ensures each { (p : ℕ) → p < 8 → slice_index_or result.hops p None ≡
+            followed (slice_index_or self.now.hops p None) row.now.hops }
+        ensures long { (length self.now.hops ≡ 8) × (length result.hops ≡ 8) }
+    {
+        HopRow {
+            hops: array::from_fn(|p| follow(self.hops[p], row)),
+        }
+    }
 }

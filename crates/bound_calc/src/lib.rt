@@ -5,6 +5,7 @@
 mod advance;
 mod cycle_bound;
 mod fill;
+mod front;
 mod hop;
 mod laws;
 mod matrix;

@@ -1,21 +1,25 @@
 //! What reaches each word of a loop, or of a whole section.
 
-ghost use Rattle.std.specs.Prelude.{◌≡◌, ◌≢◌, ℕ, ◌+◌, ◌*◌, ◌<◌, ◌≤◌, ◌^◌, length, Option, Some, None, slice_index_or, MatchOption, Contains, IfSome};
+ghost use Rattle.std.specs.Prelude.{◌≡◌, ℕ, ◌+◌, ◌<◌, ◌≤◌, ◌^◌, ◌↔◌, length, Option, Some, None, Contains, IfOk, IfSome, IsTrue, OnOk};
 ghost use Rattle.std.specs.Option.{option_map};
 ghost use Rattle.region_tree.specs.Search.{address};
 ghost use Rattle.region_tree.specs.Tree.{IsTree};
 ghost use Rattle.bound_calc.specs.Best.{Either, In, IsBest, Then};
+ghost use Rattle.bound_calc.specs.Context.{IsPart};
+ghost use Rattle.bound_calc.specs.Hops.{Hops};
 ghost use Rattle.bound_calc.specs.Section.{net};
-ghost use Rattle.bound_calc.specs.Ways.{Reaches};
 ghost use Rattle.bound_calc.specs.Matrices.{entry};
-ghost use Rattle.bound_calc.specs.Passing.{IsBrought, IsReady, IsSpan, edges_at, matrix_at, moved, no_matrix, over, part_of, up_of, ways_on};
+ghost use Rattle.bound_calc.specs.Passing.{IsArrived, IsBrought, IsFront, IsGone, IsLed, IsSkipped, IsSpan, IsStraight, IsTaken, IsThrough, edges_at, held, moved, over, part_of, power_at, up_of};
 
 use crate::advance::advance;
+use crate::front::Front;
+use crate::hop::HopRow;
 use crate::matrix::Matrix;
 use crate::steps::Steps;
 use crate::ways::Ways;
 use fp_setup::LoopSetup;
 use region_tree::{Edges, JUMP_LAG, LoopTree, edges_of};
+use std::alloc::{AllocError, Global};
 
 /// The indices of a part's first and last word.
 #[derive(Clone, Copy)]
@@ -72,22 +76,6 @@ fn up_to(tree: &LoopTree, index: usize, last: usize, target: Option<u32>) -> Opt
     }
 }
 
-/// Takes what reaches the word at an index through the rounds of the loop whose head it is, if it
-/// is one.
-fn with_rounds(power: &Option<Box<Matrix>>, index: usize, at: &mut [Matrix])
-    requires { index < length at.old }
-    ensures others { (w : ℕ) → w ≢ index →
-        slice_index_or at.new w no_matrix ≡ slice_index_or at.old w no_matrix }
-    ensures here { MatchOption (option_map (λ b. b.value) power.now)
-        (slice_index_or at.new index no_matrix ≡ slice_index_or at.old index no_matrix)
-        (λ m. IsBest (matrix_at at.new index) (Then (In (matrix_at at.old index)) (In (entry m)))) }
-{
-    if let Some(power) = power {
-        let here = at[index].chain(power);
-        at[index] = here;
-    }
-}
-
 /// Joins with a matrix another that goes on from a word: by the turns after a lag, or by the way
 /// of the word, if it has one.
 pub(crate) fn join_along(
@@ -119,66 +107,207 @@ pub fn along(steps: &Steps, way: Option<&Matrix>, here: &Matrix, lag: u64, onto:
     joined
 }
 
-/// Takes the matrix at an index along an edge to a later one. The slice is parted between the two,
-/// since a copy of the matrix costs a fifth of what the step does.
+/// Whether there is a target, and it is this index.
+fn is_index(target: Option<usize>, index: usize) -> bool
+    ensures { IsTrue result ↔ (target ≡ Some index) }
+{
+    match target {
+        Some(to) => to == index,
+        None => false,
+    }
+}
+
+/// Takes what waits, or a matrix without sums where nothing does.
+fn take(alloc: Global, waiting: &mut Option<Box<Matrix>>) -> Result<Box<Matrix>, AllocError>
+    ensures taken { IfOk result (λ m. IsTaken (option_map (λ b. b.value) waiting.old) m.value) }
+    ensures empty { waiting.new ≡ None }
+{
+    match waiting.take() {
+        Some(there) => Ok(there),
+        None => Ok(Box::new(alloc, Matrix::NONE)?),
+    }
+}
+
+/// Takes what reaches a word through the rounds of the loop whose head it is, if it is one.
+fn go_round(power: &Option<Box<Matrix>>, here: &mut Matrix)
+    ensures { IsThrough (option_map (λ b. b.value) power.now) here.old here.new }
+{
+    if let Some(power) = power {
+        *here = here.chain(power);
+    }
+}
+
+/// Joins what waits at an edge's target with what the edge brings there.
 fn bring(
+    alloc: Global,
     steps: &Steps,
     way: Option<&Matrix>,
-    index: usize,
     to: Option<usize>,
     lag: u64,
-    at: &mut [Matrix],
-)
+    front: &mut Front,
+) -> Result<(), AllocError>
     requires lag { lag ≤ 3 }
-    requires within { IfSome to (λ k. (index < k) × (k < length at.old)) }
-    ensures { IsBrought (moved steps.now (option_map (λ m. m.now) way.entry) lag)
-        to (slice_index_or at.old index no_matrix) at.old at.new }
+    requires within { IfSome to (λ k. k < length front.old.waiting.items) }
+    ensures { OnOk result (IsBrought to
+        (Then (In (entry (held front.old).base))
+        (moved steps.now (option_map (λ m. m.now) way.entry) lag))
+        (held front.old) (held front.new)) }
 {
     let Some(to) = to else {
-        return;
+        return Ok(());
     };
-    let (low, high) = at.split_at_mut(to);
-    join_along(steps, way, &low[index], lag, &mut high[0]);
+    let mut there = take(alloc, &mut front.waiting[to])?;
+    join_along(steps, way, &front.base, lag, &mut there);
+    front.waiting[to] = Some(there);
+    Ok(())
 }
 
-/// Takes every sum out of the matrices of a span.
-fn clear(at: &mut [Matrix], span: Span)
-    requires { span.last < length at.old }
-    ensures { (k : ℕ) → span.first ≤ k → k ≤ span.last →
-        (p q c : ℕ) → matrix_at at.new k p q ≡ Some c → ⊥ }
+/// Lets go of what waits at the words of a span.
+fn clear(span: Span, front: &mut Front)
+    requires { span.last < length front.old.waiting.items }
+    ensures none { (k : ℕ) → span.first ≤ k → k ≤ span.last →
+        power_at front.new.waiting.items k ≡ None }
+    ensures count { length front.new.waiting.items ≡ length front.old.waiting.items }
 {
     for index in span.first..span.last + 1 {
-        at[index] = Matrix::NONE;
+        front.waiting[index] = None;
     }
 }
 
-/// Works out what reaches each word of a loop, or of the whole section, from its first word. The
-/// powers are those of the loops inside.
-pub fn pass(
+/// Begins a pass over a loop, or over the whole section, at its first word.
+///
+/// # Errors
+///
+/// Memory was refused.
+pub fn begin(
+    alloc: Global,
     tree: &LoopTree,
     steps: &Steps,
-    ways: &Ways,
-    powers: &[Option<Box<Matrix>>],
     around: Option<LoopSetup>,
-    at: &mut [Matrix],
-)
+    front: &mut Front,
+) -> Result<(), AllocError>
     requires known { IfSome around (λ j. Contains tree.now.loops j) }
-    requires ready { let f = over tree.now steps.now (ways_on ways.now) in
-        IsReady f tree.now (part_of f around) powers.now }
-    requires room { length at.old ≡ length tree.now.words }
-    ensures { let f = over tree.now steps.now (ways_on ways.now) in let s = part_of f around in
-        (k : ℕ) → s.low ≤ address tree.now k → address tree.now k ≤ s.high →
-        IsBest (matrix_at at.new k) (Reaches (net f) s (address tree.now k)) }
+    requires room { length front.old.waiting.items ≡ length tree.now.words }
+    ensures { OnOk result ((ways : _) → let f = over tree.now steps.now ways in
+        let s = part_of f around in IsPart (net f) s → (k : ℕ) → s.low ≡ address tree.now k →
+        IsFront f tree.now s k (held front.new)) }
 {
     let span = span_of(tree, around);
-    clear(at, span);
-    at[span.first] = *steps.one();
-    for index in span.first..span.last + 1 {
-        with_rounds(&powers[index], index, at);
-        let edges = edges_at(tree, index);
-        let next = up_to(tree, index, span.last, edges.next);
-        bring(steps, ways.at(index), index, next, edges.next_lag, at);
-        let jump = up_to(tree, index, span.last, edges.jump);
-        bring(steps, ways.at(index), index, jump, JUMP_LAG, at);
+    clear(span, front);
+    front.waiting[span.first] = Some(Box::new(alloc, *steps.one())?);
+    front.hops = HopRow::NONE;
+    Ok(())
+}
+
+/// Whether a word is one of straight code, where a pass need not stop: nothing waits there, and
+/// its one edge is to the next word, by the turns.
+pub fn is_straight(
+    tree: &LoopTree,
+    edges: &Edges,
+    index: usize,
+    last: usize,
+    way: Option<&Matrix>,
+    power: &Option<Box<Matrix>>,
+    front: &Front,
+) -> bool
+    requires order { index ≤ last }
+    requires within { last < length tree.now.words }
+    requires edges { edges.now ≡ edges_at tree.now index }
+    requires room { length front.now.waiting.items ≡ length tree.now.words }
+    ensures { IsTrue result ↔ IsStraight tree.now (edges_at tree.now index) index last
+        (option_map (λ m. m.now) way.entry) (option_map (λ b. b.value) power.now) (held front.now) }
+{
+    edges.jump.is_none()
+        && is_index(up_to(tree, index, last, edges.next), index + 1)
+        && way.is_none()
+        && power.is_none()
+        && front.waiting[index].is_none()
+}
+
+/// Goes past a word of straight code: its step is put behind those before it.
+pub fn skip(steps: &Steps, lag: u64, front: &mut Front)
+    requires lag { lag ≤ 3 }
+    requires positions { (p d q : ℕ) → Hops (held front.old).hops p d q → (p < 8) × (q < 8) }
+    requires short { (p d q : ℕ) → Hops (held front.old).hops p d q → d ≤ 2 ^ 31 }
+    ensures { IsSkipped steps.now lag (held front.old) (held front.new) }
+{
+    front.hops = front.hops.then(steps.hops(lag));
+}
+
+/// Takes up what reaches the word at an index: what waits there and what leads on to it, through
+/// the rounds of the loop whose head it is, if it is one.
+///
+/// # Errors
+///
+/// Memory was refused.
+pub fn arrive(
+    alloc: Global,
+    power: &Option<Box<Matrix>>,
+    index: usize,
+    front: &mut Front,
+) -> Result<(), AllocError>
+    requires index { index < length front.old.waiting.items }
+    requires positions { (p d q : ℕ) → Hops (held front.old).hops p d q → (p < 8) × (q < 8) }
+    ensures { OnOk result (IsArrived (option_map (λ b. b.value) power.now) index
+        (held front.old) (held front.new)) }
+{
+    let mut here = take(alloc, &mut front.waiting[index])?;
+    advance(&front.base, &front.hops, &mut here);
+    go_round(power, &mut here);
+    front.base = here;
+    Ok(())
+}
+
+/// Goes on to the next word. Where it is the index after this one, the steps there are left to be
+/// put together with those behind it.
+fn lead(
+    alloc: Global,
+    steps: &Steps,
+    way: Option<&Matrix>,
+    next: Option<usize>,
+    lag: u64,
+    index: usize,
+    front: &mut Front,
+) -> Result<(), AllocError>
+    requires lag { lag ≤ 3 }
+    requires index { index < length front.old.waiting.items }
+    requires within { IfSome next (λ k. k < length front.old.waiting.items) }
+    ensures { OnOk result (IsLed steps.now (option_map (λ m. m.now) way.entry) next lag index
+        (held front.old) (held front.new)) }
+{
+    if way.is_none() && is_index(next, index + 1) {
+        front.hops = *steps.hops(lag);
+        return Ok(());
     }
+    front.hops = HopRow::NONE;
+    bring(alloc, steps, way, next, lag, front)
+}
+
+/// Goes on from the word at an index, along its edges to later words.
+///
+/// # Errors
+///
+/// Memory was refused.
+pub fn go_on(
+    alloc: Global,
+    tree: &LoopTree,
+    steps: &Steps,
+    way: Option<&Matrix>,
+    edges: &Edges,
+    index: usize,
+    last: usize,
+    front: &mut Front,
+) -> Result<(), AllocError>
+    requires lag { edges.now.next_lag ≤ 3 }
+    requires order { index ≤ last }
+    requires within { last < length tree.now.words }
+    requires edges { edges.now ≡ edges_at tree.now index }
+    requires room { length front.old.waiting.items ≡ length tree.now.words }
+    ensures { OnOk result (IsGone tree.now steps.now (option_map (λ m. m.now) way.entry)
+        (edges_at tree.now index) index last (held front.old) (held front.new)) }
+{
+    let next = up_to(tree, index, last, edges.next);
+    lead(alloc, steps, way, next, edges.next_lag, index, front)?;
+    let jump = up_to(tree, index, last, edges.jump);
+    bring(alloc, steps, way, jump, JUMP_LAG, front)
 }

@@ -1,36 +1,53 @@
 //! What reaches the words of a section.
 
-ghost use Rattle.std.specs.Prelude.{◌≡◌, ℕ, length, OnOk, IfOk};
+ghost use Rattle.std.specs.Prelude.{◌≡◌, length, IfOk};
 ghost use Rattle.region_tree.specs.Tree.{IsTree};
-ghost use Rattle.bound_calc.specs.Passing.{AreReached, AreWays, power_at, ways_on};
+ghost use Rattle.bound_calc.specs.Passing.{AreReached, AreWays, IsReady, over, ways_on};
+ghost use Rattle.bound_calc.specs.Section.{whole};
 
-use crate::fill::{empty, fill};
+use crate::fill::fill;
+use crate::front::Front;
 use crate::matrix::Matrix;
-use crate::pass::pass;
+use crate::pass::{arrive, begin, edges_at, go_on, span_of};
 use crate::steps::Steps;
 use crate::ways::Ways;
 use region_tree::LoopTree;
 use std::alloc::{AllocError, Global};
 
-/// What reaches each word of the section, in the given room.
+/// By index what reaches each word of the section, by the powers of its loops.
 fn reach_in(
     alloc: Global,
     tree: &LoopTree,
     steps: &Steps,
     ways: &Ways,
-    powers: &mut [Option<Box<Matrix>>],
-    at: &mut [Matrix],
-) -> Result<(), AllocError>
+    powers: &[Option<Box<Matrix>>],
+    front: &mut Front,
+) -> Result<Vec<Matrix>, AllocError>
     requires tree { IsTree tree.now }
-    requires own { AreWays steps.now (ways_on ways.now) }
-    requires count { length powers.old ≡ length tree.now.words }
-    requires empty { (k : ℕ) → power_at powers.old k ≡ None }
-    requires room { length at.old ≡ length tree.now.words }
-    ensures { OnOk result (AreReached tree.now steps.now (ways_on ways.now) at.new) }
+    requires ready { let f = over tree.now steps.now (ways_on ways.now) in
+        IsReady f tree.now (whole f) powers.now }
+    requires room { length front.old.waiting.items ≡ length tree.now.words }
+    ensures { IfOk result (λ at. AreReached tree.now steps.now (ways_on ways.now) at.items) }
 {
-    fill(alloc, tree, steps, ways, powers, at)?;
-    pass(tree, steps, ways, powers, None, at);
-    Ok(())
+    let last = span_of(tree, None).last;
+    begin(alloc, tree, steps, None, front)?;
+    let mut at = Vec::with_capacity(alloc, last + 1)?;
+    for index in 0..last + 1 {
+        arrive(alloc, &powers[index], index, front)?;
+        at.push(*front.base)?;
+        let edges = edges_at(tree, index);
+        go_on(
+            alloc,
+            tree,
+            steps,
+            ways.at(index),
+            &edges,
+            index,
+            last,
+            front,
+        )?;
+    }
+    Ok(at)
 }
 
 /// By index the largest costs of what reaches each word of the section. The words that have ways of
@@ -50,10 +67,7 @@ pub fn reach(
         AreReached tree.now steps.now (ways_on ways.now) at.items) }
     ensures rules { IsTree tree.now }
 {
-    let section = tree.section();
-    let count = ((section.to - section.from) / 4) as usize;
-    let mut at = vec![in alloc; Matrix::NONE; count]?;
-    let mut powers = empty(alloc, count)?;
-    reach_in(alloc, tree, steps, ways, &mut powers, &mut at)?;
-    Ok(at)
+    let mut front = Front::new(alloc, span_of(tree, None).last + 1)?;
+    let powers = fill(alloc, tree, steps, ways, &mut front)?;
+    reach_in(alloc, tree, steps, ways, &powers, &mut front)
 }

@@ -1,23 +1,25 @@
 //! The rounds of a loop.
 
-ghost use Rattle.std.specs.Prelude.{◌≡◌, ℕ, ◌+◌, ◌<◌, ◌≤◌, ◌^◌, length, Some, Contains};
+ghost use Rattle.std.specs.Prelude.{◌≡◌, ◌≤◌, length, Contains, IfOk, OnOk};
 ghost use Rattle.region_tree.specs.Graph.{Reachable};
-ghost use Rattle.region_tree.specs.Tree.{graph};
+ghost use Rattle.region_tree.specs.Tree.{IsTree, graph};
 ghost use Rattle.std.specs.Option.{option_map};
-ghost use Rattle.bound_calc.specs.Best.{In, IsBest, Then};
+ghost use Rattle.bound_calc.specs.Best.{IsBest};
 ghost use Rattle.bound_calc.specs.Context.{body};
 ghost use Rattle.bound_calc.specs.Section.{net};
-ghost use Rattle.bound_calc.specs.Ways.{Rounds};
+ghost use Rattle.bound_calc.specs.Ways.{Round, Rounds};
 ghost use Rattle.bound_calc.specs.Matrices.{entry};
 ghost use Rattle.bound_calc.specs.Passing.{AreWays, IsReady, IsTurned, moved, over, ways_on};
 
+use crate::front::Front;
 use crate::matrix::Matrix;
-use crate::pass::{edges_at, join_along, pass, span_of};
+use crate::pass::{arrive, begin, edges_at, go_on, is_straight, join_along, skip, span_of};
 use crate::powers::power;
 use crate::steps::Steps;
 use crate::ways::Ways;
 use fp_setup::LoopSetup;
 use region_tree::{JUMP_LAG, LoopTree};
+use std::alloc::{AllocError, Global};
 
 /// Joins with what is back at a head what an edge brings there.
 fn turn(
@@ -39,48 +41,78 @@ fn turn(
     }
 }
 
-/// The largest costs of at most as many rounds of a loop as its bound allows.
-pub fn rounds(
+/// What a round of a loop brings back to its head.
+fn back_at_head(
+    alloc: Global,
     tree: &LoopTree,
     steps: &Steps,
     ways: &Ways,
     powers: &[Option<Box<Matrix>>],
     j: LoopSetup,
-    at: &mut [Matrix],
-) -> Matrix
+    front: &mut Front,
+) -> Result<Matrix, AllocError>
+    requires known { Contains tree.now.loops j }
+    requires reached { Reachable (graph tree.now) j.head }
+    requires ready { let f = over tree.now steps.now (ways_on ways.now) in
+        IsReady f tree.now (body (net f) j) powers.now }
+    requires room { length front.old.waiting.items ≡ length tree.now.words }
+    ensures round { IfOk result (λ back. IsBest (entry back)
+        (Round (net (over tree.now steps.now (ways_on ways.now))) j)) }
+    ensures room { OnOk result (length front.new.waiting.items ≡ length tree.now.words) }
+    ensures rules { IsTree tree.now }
+{
+    let span = span_of(tree, Some(j));
+    begin(alloc, tree, steps, Some(j), front)?;
+    let mut back = Matrix::NONE;
+    for index in span.first..span.last + 1 {
+        let edges = edges_at(tree, index);
+        let way = ways.at(index);
+        if is_straight(tree, &edges, index, span.last, way, &powers[index], front) {
+            skip(steps, edges.next_lag, front);
+        } else {
+            arrive(alloc, &powers[index], index, front)?;
+            let here = &front.base;
+            turn(
+                steps,
+                way,
+                &mut back,
+                here,
+                edges.next,
+                edges.next_lag,
+                j.head,
+            );
+            turn(steps, way, &mut back, here, edges.jump, JUMP_LAG, j.head);
+            go_on(alloc, tree, steps, way, &edges, index, span.last, front)?;
+        }
+    }
+    Ok(back)
+}
+
+/// The largest costs of at most as many rounds of a loop as its bound allows.
+///
+/// # Errors
+///
+/// Memory was refused.
+pub fn rounds(
+    alloc: Global,
+    tree: &LoopTree,
+    steps: &Steps,
+    ways: &Ways,
+    powers: &[Option<Box<Matrix>>],
+    j: LoopSetup,
+    front: &mut Front,
+) -> Result<Matrix, AllocError>
     requires own { AreWays steps.now (ways_on ways.now) }
     requires known { Contains tree.now.loops j }
     requires reached { Reachable (graph tree.now) j.head }
     requires ready { let f = over tree.now steps.now (ways_on ways.now) in
         IsReady f tree.now (body (net f) j) powers.now }
-    requires room { length at.old ≡ length tree.now.words }
-    ensures { IsBest (entry result)
-        (Rounds (net (over tree.now steps.now (ways_on ways.now))) j j.limit) }
+    requires room { length front.old.waiting.items ≡ length tree.now.words }
+    ensures rounds { IfOk result (λ power. IsBest (entry power)
+        (Rounds (net (over tree.now steps.now (ways_on ways.now))) j j.limit)) }
+    ensures room { OnOk result (length front.new.waiting.items ≡ length tree.now.words) }
 {
-    pass(tree, steps, ways, powers, Some(j), at);
-    let span = span_of(tree, Some(j));
-    let mut back = Matrix::NONE;
-    for index in span.first..span.last + 1 {
-        let edges = edges_at(tree, index);
-        turn(
-            steps,
-            ways.at(index),
-            &mut back,
-            &at[index],
-            edges.next,
-            edges.next_lag,
-            j.head,
-        );
-        turn(
-            steps,
-            ways.at(index),
-            &mut back,
-            &at[index],
-            edges.jump,
-            JUMP_LAG,
-            j.head,
-        );
-    }
+    let back = back_at_head(alloc, tree, steps, ways, powers, j, front)?;
     let base = steps.one().join(&back);
-    power(steps, &base, j.limit)
+    Ok(power(steps, &base, j.limit))
 }

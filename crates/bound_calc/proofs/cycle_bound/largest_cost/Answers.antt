@@ -1,20 +1,21 @@
-use Rattle.std.proofs.Common.{◌≡◌, ℕ, List, [], None, refl, subst, sym}
-use Rattle.region_tree.specs.Search.{address}
-use Rattle.bound_calc.specs.declared.matrix.Matrix.{Matrix}
-use Rattle.bound_calc.specs.Passing.{AreReached, WayTable, matrix_at, ways_on}
-use Rattle.bound_calc.proofs.MostLaws.{no-ways, ways-none}
+use Rattle.std.proofs.Common.{arith, subst, sym}
+use Rattle.bound_calc.specs.Passing.{AreWays, IsFilled, IsReady, WayTable, over, ways_on}
+use Rattle.bound_calc.specs.Section.{whole}
+use Rattle.bound_calc.proofs.FillLaws.{ready-whole}
+use Rattle.bound_calc.proofs.MostLaws.{no-ways, none-lead}
+use Rattle.bound_calc.proofs.PassLaws.{span-count}
 use Rattle.bound_calc.proofs.cycle_bound.largest_cost.Goals as goal
 
--- a table without indices has no way
-none-in : (w : WayTable) → w ≡ record { indices = []; costs = [] } → (k : ℕ) → ways_on w k ≡ None
-none-in w e k = subst (λ (w : WayTable). ways_on w k ≡ None) (sym e) refl
+pub fill-requires-clause-room : goal.fill-requires-clause-room
+fill-requires-clause-room c = omega (arith, c.in_ok-front.ensures, span-count c.args.tree.now c.args.steps.now no-ways c.span_of.result.first c.span_of.result.last c.span_of.ensures.rules (c.span_of.ensures.span c.args.steps.now no-ways))
 
-pub reach-requires : goal.reach-requires
-reach-requires c = record { own = no-ways c.args.steps.now (ways_on c.new.result) (none-in c.new.result c.new.ensures) }
+pub fill-requires-clause-own : goal.fill-requires-clause-own
+fill-requires-clause-own c = subst (λ (w : WayTable). AreWays c.args.steps.now (ways_on w)) (sym c.new-2.ensures) (none-lead c.args.steps.now)
 
-pub most-requires-clause-best : goal.most-requires-clause-best
-most-requires-clause-best c = λ k lt.
+pub most-requires-clause-ready : goal.most-requires-clause-ready
+most-requires-clause-ready c =
+    let t = c.args.tree.now in
     let o = c.args.steps.now in
-    let ways = ways_on c.new.result in
-    let r = subst (λ (at : List Matrix). AreReached c.args.tree.now o ways at) (sym c.deref.ensures.value) c.in_ok-at.ensures.reached in
-    ways-none c.args.tree.now o ways (matrix_at c.deref.result.now k) (address c.args.tree.now k) (none-in c.new.result c.new.ensures) (r.best k lt)
+    let filled = subst (λ (w : WayTable). IsFilled (over t o (ways_on w)) t 0 c.in_ok-powers.powers.items) c.new-2.ensures c.in_ok-powers.ensures.filled in
+    subst (λ powers. IsReady (over t o no-ways) t (whole (over t o no-ways)) powers) (sym c.deref.ensures.value)
+    (ready-whole t o no-ways c.in_ok-powers.powers.items c.span_of.ensures.rules (none-lead o) filled)

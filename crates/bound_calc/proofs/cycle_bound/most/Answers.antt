@@ -1,24 +1,67 @@
-use Rattle.std.proofs.Common.{◌≤◌, arith, subst, sym, slice_index_or}
-use Rattle.bound_calc.specs.Passing.{IsOut, leaves, no_matrix, walks}
-use Rattle.bound_calc.proofs.MostLaws.{most-all, most-first, most-more}
-use Rattle.bound_calc.proofs.PassLaws.{lag-small}
+use Rattle.std.proofs.Common.{◌+◌, ◌≤◌, None, arith, refl, subst, sym}
+use Rattle.region_tree.specs.Search.{address}
+use Rattle.bound_calc.specs.Hops.{IsLeft}
+use Rattle.bound_calc.specs.Matrices.{entry}
+use Rattle.bound_calc.specs.Passing.{IsArrived, IsFront, IsMost, IsMostFrom, IsSkipped, IsStraight, Led, edges_at, held, over, power_at, walks}
+use Rattle.bound_calc.specs.Section.{whole}
+use Rattle.bound_calc.proofs.MostLaws.{most-all, most-first, most-more, most-straight, no-ways, turns-are, turns-best}
+use Rattle.bound_calc.proofs.PassLaws.{arrived, gone, lag-small, read-power, skipped, span-count, straight}
 use Rattle.bound_calc.proofs.cycle_bound.most.Goals as goal
+use Rattle.bound_calc.proofs.cycle_bound.most.Goals.{then-is_straight, else-is_straight+in_ok-arrive+in_ok-go_on}
 
 pub loop-index-init : goal.loop-index-init
-loop-index-init c = most-first (walks c.args.tree.now c.args.steps.now) c.args.tree.now c.args.at.now c.requires.slot
+loop-index-init c = record {
+  front = c.in_ok-begin.ensures no-ways c.requires.ready.part 0 (omega arith);
+  most = most-first (walks c.args.tree.now c.args.steps.now) c.args.tree.now c.requires.slot;
+}
 
-pub most_out-next-requires : goal.most_out-next-requires
-most_out-next-requires c = record { lag = subst (λ e. e.next_lag ≤ 3) (sym c.edges_at-edges.ensures) (lag-small c.args.tree.now c.loop-index.index) }
+pub skip-requires-clause-lag : goal.skip-requires-clause-lag
+skip-requires-clause-lag c = subst (λ e. e.next_lag ≤ 3) (sym c.edges_at-edges.ensures) (lag-small c.args.tree.now c.loop-index.index)
+
+pub most_from-most-requires : goal.most_from-most-requires
+most_from-most-requires c = record { lag = subst (λ e. e.next_lag ≤ 3) (sym c.edges_at-edges.ensures) (lag-small c.args.tree.now c.loop-index.index) }
+
+pub go_on-requires-clause-lag : goal.go_on-requires-clause-lag
+go_on-requires-clause-lag c = subst (λ e. e.next_lag ≤ 3) (sym c.edges_at-edges.ensures) (lag-small c.args.tree.now c.loop-index.index)
 
 pub loop-index-preserved : goal.loop-index-preserved
 loop-index-preserved c =
     let t = c.args.tree.now in
     let o = c.args.steps.now in
+    let x = over t o no-ways in
+    let s = whole x in
     let k = c.loop-index.index in
-    let now = slice_index_or c.args.at.now k no_matrix in
-    let next = subst (λ e. IsOut o now (leaves t e.next) e.next_lag c.largest-inside.result c.most_out-next.result) c.edges_at-edges.ensures (subst (λ out. IsOut o now out c.edges_at-edges.result.next_lag c.largest-inside.result c.most_out-next.result) c.is_out.ensures c.most_out-next.ensures) in
-    let jump = subst (λ e. IsOut o now (leaves t e.jump) 3 c.most_out-next.result c.most_out-most.result) c.edges_at-edges.ensures (subst (λ out. IsOut o now out 3 c.most_out-next.result c.most_out-most.result) c.is_out-in-loop-index.ensures c.most_out-most.ensures) in
-    most-more t o k c.args.at.now c.loop-index.most c.largest-inside.result c.most_out-next.result c.most_out-most.result (c.requires.best k (omega (arith, c.requires.room))) c.loop-index.invariant c.largest-inside.ensures next jump
+    let first = c.span_of-last.result.first in
+    let last = c.span_of-last.result.last in
+    let powers = c.args.powers.now in
+    let f = held c.loop-index.front in
+    let is = c.requires.tree in
+    let sp = c.span_of-last.ensures.span o no-ways in
+    elim c.if-is_straight.branch [
+      | then-is_straight w ↦
+          let z = subst (λ p. IsStraight t (edges_at t k) k last None p f) (sym (read-power powers k c.index-powers-index.result c.index-powers-index.is (omega (arith, c.requires.ready.count, sp.inside)))) (w.if-is_straight.ensures.0 refl) in
+          let g = subst (λ e. IsSkipped o e.next_lag f (held w.skip.new.front)) c.edges_at-edges.ensures w.skip.ensures in
+          let best = turns-are t o (Led f) (address t k) (straight t o no-ways s k f powers is c.requires.ready c.loop-index.invariant.front (omega (arith, sp.within)) (omega (arith, sp.inside)) z.no_power z.waits) in
+          let l = subst (λ m. IsLeft m f.hops c.loop-index.most w.leave-most.result) w.deref.ensures w.leave-most.ensures in
+          record {
+            front = subst (λ n. IsFront x t s (k + 1) (held n)) (sym w.front-is) (skipped t o no-ways s first last k f (held w.skip.new.front) powers is c.requires.ready sp (omega (arith, sp.low)) (omega arith) c.loop-index.invariant.front z g);
+            most = subst (λ n. IsMost (walks t o) t (k + 1) n) (sym w.most-is) (most-straight t o k last None (power_at powers k) f c.loop-index.most w.leave-most.result is sp.inside best z c.loop-index.invariant.most l);
+          }
+      | else-is_straight+in_ok-arrive+in_ok-go_on w ↦
+          let here = held w.arrive.new.front in
+          let new = held w.go_on.new.front in
+          let r = w.index-powers-index-else-is_straight in
+          let a = subst (λ p. IsArrived p k f here) (sym (read-power powers k r.result r.is (omega (arith, c.requires.ready.count, sp.inside)))) w.in_ok-arrive.ensures in
+          let best = turns-best t o (entry here.base) (address t k) (arrived t o no-ways s k f here powers is c.requires.ready c.loop-index.invariant.front (omega (arith, sp.low)) (omega (arith, sp.within)) (omega (arith, sp.inside)) a) in
+          let m = subst (λ e. IsMostFrom t o here.base e c.loop-index.most w.most_from-most.result) c.edges_at-edges.ensures
+          (subst (λ b. IsMostFrom t o b c.edges_at-edges.result c.loop-index.most w.most_from-most.result) w.deref-else-is_straight.ensures w.most_from-most.ensures) in
+          record {
+            front = subst (λ n. IsFront x t s (k + 1) (held n)) (sym w.front-is) (gone t o no-ways s first last k f here new powers is c.requires.ready sp (omega (arith, sp.low)) (omega arith) c.loop-index.invariant.front a w.in_ok-go_on.ensures);
+            most = subst (λ n. IsMost (walks t o) t (k + 1) n) (sym w.most-is) (most-more t o k here.base c.loop-index.most w.most_from-most.result best c.loop-index.invariant.most m);
+          }
+    ]
 
 pub returns : goal.returns
-returns c = most-all c.args.tree.now c.args.steps.now c.loop-index.index c.args.at.now c.loop-index.most c.requires.tree c.requires.frame (omega (arith, c.requires.room)) c.requires.best c.loop-index.invariant
+returns c =
+    let sp = c.span_of-last.ensures.span c.args.steps.now no-ways in
+    most-all c.args.tree.now c.args.steps.now c.loop-index.index c.loop-index.most c.requires.tree c.requires.frame (omega (arith, span-count c.args.tree.now c.args.steps.now no-ways c.span_of-last.result.first c.span_of-last.result.last c.requires.tree sp)) c.loop-index.invariant.most

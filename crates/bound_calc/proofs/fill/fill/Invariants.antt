@@ -1,9 +1,13 @@
-use Rattle.std.proofs.Common.{◌≤◌, length}
+use Rattle.std.proofs.Common.{◌≡◌, ◌≤◌, length}
 use Rattle.bound_calc.specs.Passing.{IsFilled, over, ways_on}
 use Rattle.bound_calc.proofs.fill.fill.Given as goal
 
 abbrev pub invariant-loop-index : goal.invariant-loop-index
-invariant-loop-index l = record { top : l.index ≤ length l.tree.words; filled : IsFilled (over l.tree l.steps (ways_on l.ways)) l.tree l.index l.powers }
+invariant-loop-index l = record {
+  top : l.index ≤ length l.tree.words;
+  filled : IsFilled (over l.tree l.steps (ways_on l.ways)) l.tree l.index l.powers.items;
+  room : length l.front.waiting.items ≡ length l.tree.words;
+}
 
 abbrev pub decreases-loop-index : goal.decreases-loop-index
 decreases-loop-index l = l.index

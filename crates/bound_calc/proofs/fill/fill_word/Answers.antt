@@ -11,11 +11,11 @@ use Rattle.bound_calc.proofs.fill.fill_word.Goals.{After-section, In-Some}
 here : (c : After-section) → c.section.result.from + 4 * c.args.index ≡ address c.args.tree.now c.args.index
 here c = ap (λ s. s.from + 4 * c.args.index) c.section.ensures.value
 
-pub returns-then-not-is_reachable : goal.returns-then-not-is_reachable
-returns-then-not-is_reachable c = filled-same c.args.tree.now c.args.steps.now (ways_on c.args.ways.now) c.args.index c.args.powers.now c.section.ensures.rules (λ j known head r. absurd (let z : false ≡ true = c.if-not-is_reachable.ensures.1 (subst (λ v. Reachable (graph c.args.tree.now) v) (sym (here (goal.at.returns-then-not-is_reachable c).After-section)) r) in let none : ⊥ = cc in none)) c.requires.filled
+pub returns-then-not-is_reachable-clause-filled : goal.returns-then-not-is_reachable-clause-filled
+returns-then-not-is_reachable-clause-filled c = filled-same c.args.tree.now c.args.steps.now (ways_on c.args.ways.now) c.args.index c.args.powers.now c.section.ensures.rules (λ j known head r. absurd (let z : false ≡ true = c.if-not-is_reachable.ensures.1 (subst (λ v. Reachable (graph c.args.tree.now) v) (sym (here (goal.at.returns-then-not-is_reachable-clause-filled c).After-section)) r) in let none : ⊥ = cc in none)) c.requires.filled
 
-pub returns-in_default : goal.returns-in_default
-returns-in_default c = filled-same c.args.tree.now c.args.steps.now (ways_on c.args.ways.now) c.args.index c.args.powers.now c.section.ensures.rules (λ j known head r. absurd (c.in_default.ensures j (subst (λ l. Contains l j) (sym c.loops.ensures) known) (here (goal.at.returns-in_default c).After-section ∙ head))) c.requires.filled
+pub returns-in_default-clause-filled : goal.returns-in_default-clause-filled
+returns-in_default-clause-filled c = filled-same c.args.tree.now c.args.steps.now (ways_on c.args.ways.now) c.args.index c.args.powers.now c.section.ensures.rules (λ j known head r. absurd (c.in_default.ensures j (subst (λ l. Contains l j) (sym c.loops.ensures) known) (here (goal.at.returns-in_default-clause-filled c).After-section ∙ head))) c.requires.filled
 
 -- the loop is one of the tree, with its head at this index
 known : (c : In-Some) → Contains c.args.tree.now.loops c.in-Some.j
@@ -27,12 +27,12 @@ head c = sym (here (goal.at.In-Some c).After-section) ∙ c.in-Some.ensures.1
 reached : (c : In-Some) → Reachable (graph c.args.tree.now) (address c.args.tree.now c.args.index)
 reached c = subst (λ v. Reachable (graph c.args.tree.now) v) (here (goal.at.In-Some c).After-section) (c.if-not-is_reachable.ensures.0 refl)
 
-pub rounds-power-requires-clause-ready : goal.rounds-power-requires-clause-ready
-rounds-power-requires-clause-ready c =
-    let s = (goal.at.rounds-power-requires-clause-ready c).In-Some in
+pub rounds-requires-clause-ready : goal.rounds-requires-clause-ready
+rounds-requires-clause-ready c =
+    let s = (goal.at.rounds-requires-clause-ready c).In-Some in
     ready-body c.args.tree.now c.args.steps.now (ways_on c.args.ways.now) c.in-Some.j c.args.index c.args.powers.now c.section.ensures.rules c.requires.own (known s) (head s) (reached s) c.requires.filled
 
-pub returns : goal.returns
-returns c =
-    let s = (goal.at.returns c).In-Some in
-    filled-more c.args.tree.now c.args.steps.now (ways_on c.args.ways.now) c.in-Some.j c.args.index c.args.powers.now c.in_ok-new.field-0 c.rounds-power.result c.section.ensures.rules c.requires.own (known s) (head s) (reached s) c.requires.index c.requires.filled c.in_ok-new.ensures.ok c.rounds-power.ensures
+pub returns-clause-filled : goal.returns-clause-filled
+returns-clause-filled c =
+    let s = (goal.at.returns-clause-filled c).In-Some in
+    filled-more c.args.tree.now c.args.steps.now (ways_on c.args.ways.now) c.in-Some.j c.args.index c.args.powers.now c.in_ok-new.field-0 c.in_ok-power.power c.section.ensures.rules c.requires.own (known s) (head s) (reached s) c.requires.index c.requires.filled c.in_ok-new.ensures.ok c.in_ok-power.ensures.rounds

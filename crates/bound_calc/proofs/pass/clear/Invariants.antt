@@ -1,6 +1,9 @@
-use Rattle.std.proofs.Common.{◌≡◌, ℕ, ◌<◌, ◌≤◌, Some}
-use Rattle.bound_calc.specs.Passing.{matrix_at}
+use Rattle.std.proofs.Common.{◌≡◌, ℕ, ◌<◌, ◌≤◌, None, length}
+use Rattle.bound_calc.specs.Passing.{power_at}
 use Rattle.bound_calc.proofs.pass.clear.Given as goal
 
 abbrev pub invariant-loop-index : goal.invariant-loop-index
-invariant-loop-index l = (k : ℕ) → l.fn.span.first ≤ k → k < l.index → (p q c : ℕ) → matrix_at l.at k p q ≡ Some c → ⊥
+invariant-loop-index l = record {
+  none : (k : ℕ) → l.fn.span.first ≤ k → k < l.index → power_at l.front.waiting.items k ≡ None;
+  count : length l.front.waiting.items ≡ length l.fn.front.waiting.items;
+}

@@ -1,10 +1,52 @@
-use Rattle.std.proofs.Common.{arith}
-use Rattle.bound_calc.specs.Passing.{ways_on}
-use Rattle.bound_calc.proofs.FillLaws.{ready-whole}
+use Rattle.std.proofs.Common.{◌+◌, ◌<◌, ◌≤◌, arith, ap, length, subst, sym, ◌∙◌}
+use Rattle.std.proofs.lemmas.List.{length_push}
+use Rattle.region_tree.specs.Search.{address}
+use Rattle.bound_calc.specs.Best.{IsBest}
+use Rattle.bound_calc.specs.Matrices.{entry}
+use Rattle.bound_calc.specs.Passing.{IsArrived, IsGone, edges_at, held, matrix_at, over, ways_on}
+use Rattle.bound_calc.specs.Section.{net, whole}
+use Rattle.bound_calc.specs.Ways.{Reaches}
+use Rattle.bound_calc.proofs.PassLaws.{arrived, gone, lag-small, reach-more, read-power, span-count}
 use Rattle.bound_calc.proofs.reached.reach_in.Goals as goal
 
-pub pass-requires-clause-ready : goal.pass-requires-clause-ready
-pass-requires-clause-ready c = ready-whole c.args.tree.now c.args.steps.now (ways_on c.args.ways.now) c.fill.new.powers c.requires.tree c.requires.own c.in_ok-fill.ensures
+pub loop-index-init : goal.loop-index-init
+loop-index-init c = record {
+  front = c.in_ok-begin.ensures (ways_on c.args.ways.now) c.requires.ready.part 0 (omega arith);
+  count = ap length c.in_ok-at.ensures.items;
+  best = λ k lt. absurd (omega arith);
+}
+
+pub go_on-requires-clause-lag : goal.go_on-requires-clause-lag
+go_on-requires-clause-lag c = subst (λ e. e.next_lag ≤ 3) (sym c.edges_at-edges.ensures) (lag-small c.args.tree.now c.loop-index.index)
+
+pub loop-index-preserved : goal.loop-index-preserved
+loop-index-preserved c =
+    let t = c.args.tree.now in
+    let o = c.args.steps.now in
+    let h = ways_on c.args.ways.now in
+    let x = over t o h in
+    let s = whole x in
+    let k = c.loop-index.index in
+    let first = c.span_of-last.result.first in
+    let last = c.span_of-last.result.last in
+    let powers = c.args.powers.now in
+    let f = held c.loop-index.front in
+    let here = held c.arrive.new.front in
+    let new = held c.go_on.new.front in
+    let sp = c.span_of-last.ensures.span o h in
+    let a = subst (λ p. IsArrived p k f here) (sym (read-power powers k c.index-powers-index.result c.index-powers-index.is (omega (arith, c.requires.ready.count, sp.inside)))) c.in_ok-arrive.ensures in
+    let g = subst (λ y. IsGone t o y (edges_at t k) k last here new) c.at.ensures c.in_ok-go_on.ensures in
+    let best = arrived t o h s k f here powers c.requires.tree c.requires.ready c.loop-index.invariant.front (omega (arith, sp.low)) (omega (arith, sp.within)) (omega (arith, sp.inside)) a in
+    let pushed = c.in_ok-push.ensures.items in
+    record {
+      front = gone t o h s first last k f here new powers c.requires.tree c.requires.ready sp (omega (arith, sp.low)) (omega arith) c.loop-index.invariant.front a g;
+      count = ap length pushed ∙ (length_push c.loop-index.at.items c.deref.result.now ∙ ap (λ n. n + 1) c.loop-index.invariant.count);
+      best = subst (λ l. (i : _) → i < k + 1 → IsBest (matrix_at l i) (Reaches (net x) s (address t i))) (sym pushed)
+          (reach-more c.loop-index.at.items k c.deref.result.now (λ i. Reaches (net x) s (address t i)) c.loop-index.invariant.count c.loop-index.invariant.best (subst (λ m. IsBest (entry m) (Reaches (net x) s (address t k))) (sym c.deref.ensures) best));
+    }
 
 pub returns : goal.returns
-returns c = record { count = omega (arith, c.requires.room, c.fill.auto.at, c.pass.auto.at); best = λ k lt. let w = c.requires.tree.draft.words in c.pass.ensures k (omega arith) (omega arith) }
+returns c =
+    let sp = c.span_of-last.ensures.span c.args.steps.now (ways_on c.args.ways.now) in
+    let count = span-count c.args.tree.now c.args.steps.now (ways_on c.args.ways.now) c.span_of-last.result.first c.span_of-last.result.last c.requires.tree sp in
+    record { count = omega (arith, c.loop-index.invariant.count); best = λ k lt. c.loop-index.invariant.best k (omega arith) }

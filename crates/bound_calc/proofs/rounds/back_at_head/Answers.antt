@@ -1,0 +1,82 @@
+use Rattle.std.proofs.Common.{◌+◌, ◌≤◌, arith, ap, ◌∙◌, refl, subst, sym}
+use Rattle.std.specs.Option.{option_map}
+use Rattle.region_tree.specs.Search.{address}
+use Rattle.region_tree.proofs.GraphLaws.{address-index}
+use Rattle.bound_calc.specs.Best.{IsBest}
+use Rattle.bound_calc.specs.Context.{body}
+use Rattle.bound_calc.specs.Matrices.{entry}
+use Rattle.bound_calc.specs.Pass.{Below, Turns}
+use Rattle.bound_calc.specs.Passing.{IsArrived, IsFront, IsGone, IsSkipped, IsStraight, IsTurned, edges_at, held, moved, over, power_at, ways_on}
+use Rattle.bound_calc.specs.Section.{net}
+use Rattle.bound_calc.proofs.PassLaws.{arrived, gone, lag-small, none-entry, read-power, skipped}
+use Rattle.bound_calc.proofs.TurnLaws.{turned, turns-done, turns-none, turns-straight, turns-word}
+use Rattle.bound_calc.proofs.rounds.back_at_head.Goals as goal
+use Rattle.bound_calc.proofs.rounds.back_at_head.Goals.{then-is_straight, else-is_straight+in_ok-arrive+in_ok-go_on}
+
+pub loop-index-init : goal.loop-index-init
+loop-index-init c =
+    let sp = c.span_of-span.ensures.span c.args.steps.now (ways_on c.args.ways.now) in
+    record {
+      front = c.in_ok-begin.ensures (ways_on c.args.ways.now) c.requires.ready.part c.span_of-span.result.first sp.low;
+      back = turns-none c.args.j (address c.args.tree.now c.span_of-span.result.first) sp.low c.requires.ready.part none-entry;
+    }
+
+pub skip-requires-clause-lag : goal.skip-requires-clause-lag
+skip-requires-clause-lag c = subst (λ e. e.next_lag ≤ 3) (sym c.edges_at-edges.ensures) (lag-small c.args.tree.now c.loop-index.index)
+
+pub turn-requires : goal.turn-requires
+turn-requires c = record { lag = subst (λ e. e.next_lag ≤ 3) (sym c.edges_at-edges.ensures) (lag-small c.args.tree.now c.loop-index.index) }
+
+pub go_on-requires-clause-lag : goal.go_on-requires-clause-lag
+go_on-requires-clause-lag c = subst (λ e. e.next_lag ≤ 3) (sym c.edges_at-edges.ensures) (lag-small c.args.tree.now c.loop-index.index)
+
+pub loop-index-preserved : goal.loop-index-preserved
+loop-index-preserved c =
+    let t = c.args.tree.now in
+    let o = c.args.steps.now in
+    let h = ways_on c.args.ways.now in
+    let x = over t o h in
+    let s = body (net x) c.args.j in
+    let k = c.loop-index.index in
+    let first = c.span_of-span.result.first in
+    let last = c.span_of-span.result.last in
+    let powers = c.args.powers.now in
+    let f = held c.loop-index.front in
+    let is = c.span_of-span.ensures.rules in
+    let sp = c.span_of-span.ensures.span o h in
+    let way = ap (λ n. h n) (address-index t k) ∙ sym c.at-way.ensures in
+    elim c.if-is_straight.branch [
+      | then-is_straight w ↦
+          let z = subst (λ p. IsStraight t (edges_at t k) k last (h k) p f) (sym (read-power powers k c.index-powers-index.result c.index-powers-index.is (omega (arith, c.requires.ready.count, sp.inside))))
+          (subst (λ y. IsStraight t (edges_at t k) k last y (option_map (λ b. b.value) c.index-powers-index.result) f) c.at-way.ensures (w.if-is_straight.ensures.0 refl)) in
+          let g = subst (λ e. IsSkipped o e.next_lag f (held w.skip.new.front)) c.edges_at-edges.ensures w.skip.ensures in
+          record {
+            front = subst (λ n. IsFront x t s (k + 1) (held n)) (sym w.front-is) (skipped t o h s first last k f (held w.skip.new.front) powers is c.requires.ready sp (omega arith) (omega arith) c.loop-index.invariant.front z g);
+            back = subst (λ b. IsBest (entry b) (Turns x c.args.j (Below x (address t (k + 1))))) (sym w.back-is) (turns-straight t o h c.args.j k last (h k) (power_at powers k) f is c.requires.reached c.requires.ready.part (omega (arith, sp.low)) z c.loop-index.invariant.back);
+          }
+      | else-is_straight+in_ok-arrive+in_ok-go_on w ↦
+          let here = held w.arrive.new.front in
+          let new = held w.go_on.new.front in
+          let r = w.index-powers-index-else-is_straight in
+          let a = subst (λ p. IsArrived p k f here) (sym (read-power powers k r.result r.is (omega (arith, c.requires.ready.count, sp.inside)))) w.in_ok-arrive.ensures in
+          let g = subst (λ y. IsGone t o y (edges_at t k) k last here new) c.at-way.ensures w.in_ok-go_on.ensures in
+          let best = arrived t o h s k f here powers is c.requires.ready c.loop-index.invariant.front (omega (arith, sp.low)) (omega (arith, sp.within)) (omega (arith, sp.inside)) a in
+          let next = subst (λ y. IsTurned (moved o y (edges_at t k).next_lag) c.loop-index.back here.base (edges_at t k).next c.args.j.head w.turn.new.back) (sym way)
+          (subst (λ e. IsTurned (moved o (option_map (λ m. m.now) c.at-way.result) e.next_lag) c.loop-index.back here.base e.next c.args.j.head w.turn.new.back) c.edges_at-edges.ensures
+          (subst (λ m. IsTurned (moved o (option_map (λ m. m.now) c.at-way.result) c.edges_at-edges.result.next_lag) c.loop-index.back m c.edges_at-edges.result.next c.args.j.head w.turn.new.back) w.deref.ensures w.turn.ensures)) in
+          let jump = subst (λ y. IsTurned (moved o y 3) w.turn.new.back here.base (edges_at t k).jump c.args.j.head w.turn-else-is_straight.new.back) (sym way)
+          (subst (λ e. IsTurned (moved o (option_map (λ m. m.now) c.at-way.result) 3) w.turn.new.back here.base e.jump c.args.j.head w.turn-else-is_straight.new.back) c.edges_at-edges.ensures
+          (subst (λ m. IsTurned (moved o (option_map (λ m. m.now) c.at-way.result) 3) w.turn.new.back m c.edges_at-edges.result.jump c.args.j.head w.turn-else-is_straight.new.back) w.deref-else-is_straight.ensures w.turn-else-is_straight.ensures)) in
+          record {
+            front = subst (λ n. IsFront x t s (k + 1) (held n)) (sym w.front-is) (gone t o h s first last k f here new powers is c.requires.ready sp (omega arith) (omega arith) c.loop-index.invariant.front a g);
+            back = subst (λ b. IsBest (entry b) (Turns x c.args.j (Below x (address t (k + 1))))) (sym w.back-is)
+                (turns-word t o h c.args.j k is c.requires.reached c.requires.ready.part
+                (turned c.args.j (address t k) (edges_at t k).jump 3 c.requires.reached c.requires.ready.part best jump
+                (turned c.args.j (address t k) (edges_at t k).next (edges_at t k).next_lag c.requires.reached c.requires.ready.part best next c.loop-index.invariant.back)));
+          }
+    ]
+
+pub returns-clause-round : goal.returns-clause-round
+returns-clause-round c =
+    let sp = c.span_of-span.ensures.span c.args.steps.now (ways_on c.args.ways.now) in
+    turns-done c.args.tree.now c.args.steps.now (ways_on c.args.ways.now) c.args.j c.span_of-span.result.first c.span_of-span.result.last c.loop-index.index c.span_of-span.ensures.rules c.requires.reached c.requires.known c.requires.ready.part sp (omega arith) c.loop-index.invariant.back

@@ -1,9 +1,0 @@
-use Rattle.bound_calc.specs.Best.{IsBest}
-use Rattle.bound_calc.specs.Matrices.{entry}
-use Rattle.bound_calc.specs.Pass.{Below, Turns}
-use Rattle.bound_calc.specs.Passing.{over, ways_on}
-use Rattle.region_tree.specs.Search.{address}
-use Rattle.bound_calc.proofs.rounds.rounds.Given as goal
-
-abbrev pub invariant-loop-index : goal.invariant-loop-index
-invariant-loop-index l = IsBest (entry l.back) (Turns (over l.tree l.steps (ways_on l.ways)) l.j (Below (over l.tree l.steps (ways_on l.ways)) (address l.tree l.index)))
