@@ -19,6 +19,8 @@ pub struct Front {
     /// The steps from there to the next word. Through straight code they are put together, eight
     /// steps a word in place of a matrix.
     pub hops: HopRow,
+    /// A box to be used again: to ask for one at each stop would be a tenth of all steps.
+    pub spare: Option<Box<Matrix>>,
 }
 
 impl Front {
@@ -36,6 +38,7 @@ impl Front {
             waiting: empty(alloc, count)?,
             base: Box::new(alloc, Matrix::NONE)?,
             hops: HopRow::NONE,
+            spare: None,
         })
     }
 }

@@ -20,6 +20,7 @@ use crate::ways::Ways;
 use fp_setup::LoopSetup;
 use region_tree::{Edges, JUMP_LAG, LoopTree, edges_of};
 use std::alloc::{AllocError, Global};
+use std::mem;
 
 /// The indices of a part's first and last word.
 #[derive(Clone, Copy)]
@@ -117,14 +118,29 @@ fn is_index(target: Option<usize>, index: usize) -> bool
     }
 }
 
+/// A matrix without sums, in the spare box if there is one.
+fn without_sums(alloc: Global, spare: &mut Option<Box<Matrix>>) -> Result<Box<Matrix>, AllocError>
+    ensures { IfOk result (λ m. IsTaken None m.value) }
+{
+    let Some(mut none) = spare.take() else {
+        return Ok(Box::new(alloc, Matrix::NONE)?);
+    };
+    *none = Matrix::NONE;
+    Ok(none)
+}
+
 /// Takes what waits, or a matrix without sums where nothing does.
-fn take(alloc: Global, waiting: &mut Option<Box<Matrix>>) -> Result<Box<Matrix>, AllocError>
+fn take(
+    alloc: Global,
+    waiting: &mut Option<Box<Matrix>>,
+    spare: &mut Option<Box<Matrix>>,
+) -> Result<Box<Matrix>, AllocError>
     ensures taken { IfOk result (λ m. IsTaken (option_map (λ b. b.value) waiting.old) m.value) }
     ensures empty { waiting.new ≡ None }
 {
     match waiting.take() {
         Some(there) => Ok(there),
-        None => Ok(Box::new(alloc, Matrix::NONE)?),
+        None => without_sums(alloc, spare),
     }
 }
 
@@ -156,7 +172,7 @@ fn bring(
     let Some(to) = to else {
         return Ok(());
     };
-    let mut there = take(alloc, &mut front.waiting[to])?;
+    let mut there = take(alloc, &mut front.waiting[to], &mut front.spare)?;
     join_along(steps, way, &front.base, lag, &mut there);
     front.waiting[to] = Some(there);
     Ok(())
@@ -251,10 +267,10 @@ pub fn arrive(
     ensures { OnOk result (IsArrived (option_map (λ b. b.value) power.now) index
         (held front.old) (held front.new)) }
 {
-    let mut here = take(alloc, &mut front.waiting[index])?;
+    let mut here = take(alloc, &mut front.waiting[index], &mut front.spare)?;
     advance(&front.base, &front.hops, &mut here);
     go_round(power, &mut here);
-    front.base = here;
+    front.spare = Some(mem::replace(&mut front.base, here));
     Ok(())
 }
 
