@@ -57,6 +57,6 @@ site_text pc word = (hex 8 pc ++ codes " ") ++ (hex 8 word ++ codes " ")
 abbrev pub IsSite : Site → Type 0
 IsSite s = IsPiece s.piece (site_text s.pc s.word)
 
--- by place in the table
+-- by index
 abbrev pub AreSites : List Site → Type 0
 AreSites sites = (n : ℕ) → n < 1024 → IsSite (slice_index_or sites n (record { pc = 0; word = 0; piece = record { weight = 0; sum = 0 } }))

@@ -10,8 +10,8 @@ use std::marker::Model;
 /// How many words a thread's own program has.
 const WORDS: usize = 128;
 
-/// How many places there are for eight threads.
-const PLACES: usize = 8 * WORDS;
+/// How many sites are kept for eight threads.
+const ENTRIES: usize = 8 * WORDS;
 
 /// A pc and the word that an event showed there.
 #[derive(Clone, Copy, Debug)]
@@ -37,14 +37,14 @@ fn site_of(pairs: &HexPairs, pc: u32, word: u32) -> Site
     }
 }
 
-/// The sites of the last events. A thread has as many places as its own program has words, so that
+/// The sites of the last events. A thread has as many entries as its own program has words, so that
 /// nearly each event finds its site. Contracts see nothing of them.
 ///
 /// Of the 42 bytes of most lines 18 are the pc and the word, which a loop shows again and again.
 /// That they are kept saves 21 instructions of an event.
 #[derive(Drop)]
 pub struct Sites {
-    kept: [Site; PLACES],
+    kept: [Site; ENTRIES],
 }
 
 impl Model for Sites {
@@ -62,10 +62,10 @@ impl Sites {
     ghost use Rattle.selfrun.specs.Folds.{site_text};
     ghost use Rattle.selfrun.specs.Text.{folded};
 
-    /// In each place that of the word 0 at the pc 0.
+    /// In each entry that of the word 0 at the pc 0.
     pub fn new(pairs: &HexPairs) -> Sites {
         Sites {
-            kept: [site_of(pairs, 0, 0); PLACES],
+            kept: [site_of(pairs, 0, 0); ENTRIES],
         }
     }
 
@@ -75,24 +75,24 @@ impl Sites {
         requires { thread < 8 }
         ensures { result ≡ folded h (site_text pc word) }
     {
-        let place = usize::from(thread) * WORDS + (pc / 4) as usize % WORDS;
-        let site = &self.kept[place];
+        let index = usize::from(thread) * WORDS + (pc / 4) as usize % WORDS;
+        let site = &self.kept[index];
         if site.pc != pc || site.word != word {
-            return self.fold_other(h, pairs, place, pc, word);
+            return self.fold_other(h, pairs, index, pc, word);
         }
         site.piece.after(h)
     }
 
-    /// A fold with a pc and a word, each with a space behind it, which are kept in a place from
+    /// A fold with a pc and a word, each with a space behind it, which are kept in an entry from
     /// then on.
     #[cold]
     #[inline(never)]
-    fn fold_other(&mut self, h: u32, pairs: &HexPairs, place: usize, pc: u32, word: u32) -> u32
-        requires { place < 1024 }
+    fn fold_other(&mut self, h: u32, pairs: &HexPairs, index: usize, pc: u32, word: u32) -> u32
+        requires { index < 1024 }
         ensures { result ≡ folded h (site_text pc word) }
     {
         let site = site_of(pairs, pc, word);
-        self.kept[place] = site;
+        self.kept[index] = site;
         site.piece.after(h)
     }
 }
