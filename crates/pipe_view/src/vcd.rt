@@ -6,6 +6,18 @@ use pipeline_core::{Held, Stored};
 use std::io;
 use std::io::Write;
 
+/// The signals of a thread: the letter, the type with its width in bits, and the name.
+const SIGNALS: [(&str, &str, &str); 8] = [
+    ("p", "wire 32", "pc"),
+    ("t", "string 1", "instruction"),
+    ("i", "wire 1", "issue"),
+    ("f", "wire 1", "flushed"),
+    ("s", "wire 1", "asleep"),
+    ("a", "wire 64", "armed"),
+    ("l", "wire 32", "latch"),
+    ("n", "wire 32", "input"),
+];
+
 /// A dump that is written cycle by cycle. A signal's name in it is a letter and its thread.
 #[derive(Drop)]
 pub struct Vcd {
@@ -67,14 +79,9 @@ pub fn end_vcd<W: Write>(out: &mut W, time: u64) -> io::Result<()> {
 /// Puts the declarations of a thread's signals.
 fn put_scope<W: Write>(out: &mut W, thread: u8) -> io::Result<()> {
     write!(out, "$scope module T{thread} $end\n")?;
-    write!(out, "$var wire 32 p{thread} pc $end\n")?;
-    write!(out, "$var string 1 t{thread} instruction $end\n")?;
-    write!(out, "$var wire 1 i{thread} issue $end\n")?;
-    write!(out, "$var wire 1 f{thread} flushed $end\n")?;
-    write!(out, "$var wire 1 s{thread} asleep $end\n")?;
-    write!(out, "$var wire 64 a{thread} armed $end\n")?;
-    write!(out, "$var wire 32 l{thread} latch $end\n")?;
-    write!(out, "$var wire 32 n{thread} input $end\n")?;
+    for (letter, kind, name) in SIGNALS {
+        write!(out, "$var {kind} {letter}{thread} {name} $end\n")?;
+    }
     out.write_all(b"$upscope $end\n")
 }
 
