@@ -91,10 +91,7 @@ impl LoopTree {
         ensures refused { IfErr result
             (IsRefused (graph (tree_of (word image.now) section loops.now))) }
     {
-        let draft = Draft::new(alloc, image, section, loops)?;
-        let met = reachable(alloc, &draft)?;
-        check(&draft, met.as_slice())?;
-        Ok(LoopTree { draft, met })
+        LoopTree::of_draft(alloc, Draft::new(alloc, image, section, loops)?)
     }
 
     /// The tree of a section with these words, as many as it holds, and of the loops that count in
@@ -118,7 +115,16 @@ impl LoopTree {
         ensures refused { IfErr result
             (IsRefused (graph (tree_with section words.items loops.now))) }
     {
-        let draft = Draft::from_words(alloc, section, words, loops)?;
+        LoopTree::of_draft(alloc, Draft::from_words(alloc, section, words, loops)?)
+    }
+
+    /// The tree of a draft that has a bound.
+    fn of_draft(alloc: Global, draft: Draft) -> Result<LoopTree, TreeNo>
+        ensures tree { IfOk result (λ tree. tree ≡ draft) }
+        ensures allowed { OnOk result (IsAllowed (graph draft)) }
+        ensures rules { IfOk result IsTree }
+        ensures refused { IfErr result (IsRefused (graph draft)) }
+    {
         let met = reachable(alloc, &draft)?;
         check(&draft, met.as_slice())?;
         Ok(LoopTree { draft, met })
