@@ -1,10 +1,10 @@
 -- Up to the first fault of a file each line is its next 18 bytes.
-use Rattle.std.proofs.Common.{◌≡◌, ◌⊎◌, inl, inr, ℕ, zero, suc, ◌+◌, ◌-◌, ◌<◌, ◌≤◌, ◌==◌, ◌&&◌, if◌then◌else◌, Bool, true, false, List, [], ◌∷◌, ◌++◌, length, take, drop, Option, Some, None, Result, Ok, Err, refl, sym, ap, subst, ◌∙◌, arith, append_assoc, append-nil, length-append, length-drop}
-use Rattle.std.specs.Prelude.{min, not, slice_index_or}
+use Rattle.std.proofs.Common.{◌≡◌, ℕ, zero, suc, ◌+◌, ◌<◌, ◌≤◌, ◌==◌, ◌&&◌, if◌then◌else◌, Bool, true, false, List, [], ◌∷◌, ◌++◌, length, take, drop, Option, Some, Result, Ok, Err, refl, sym, ap, ◌∙◌, arith, append_assoc, append-nil, length-append, length-drop}
+use Rattle.std.specs.Prelude.{min, slice_index_or}
 use Rattle.std.specs.List.{concat, list_all}
 use Rattle.std.proofs.Math.Seq.{drop-cons, drop-nil, take-append_seam}
 use Rattle.std.proofs.lemmas.Bool.Decides.{nat_tests}
-use Rattle.call_bounds.specs.RoutinesFile.{and_then, first_fault, has_form, head_digits, in_front, is_digit, last_digits, line_checks, lines_of, routine_at, routine_in, routines_from, unless}
+use Rattle.call_bounds.specs.RoutinesFile.{and_then, has_form, in_front, is_digit, lines_of, routine_at, routine_in, routines_from, unless}
 use Rattle.call_bounds.specs.declared.refusals.RoutinesNo.TheVariants.{TooMany, BadLine}
 use Rattle.call_bounds.specs.declared.refusals.RoutinesRefused.{RoutinesRefused}
 use Rattle.call_bounds.specs.declared.refusals.RoutinesRefused.TheVariants.{Fault}

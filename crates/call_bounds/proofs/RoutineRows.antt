@@ -1,5 +1,5 @@
 -- The definition of a file of routines, computed on some files.
-use Rattle.std.proofs.Common.{◌≡◌, ℕ, List, [], ◌∷◌, ◌++◌, None, Result, Ok, Err, refl}
+use Rattle.std.proofs.Common.{◌≡◌, ℕ, List, [], ◌∷◌, None, Result, Ok, Err, refl}
 use Rattle.std.specs.Prelude.{codes}
 use Rattle.call_bounds.specs.RoutinesFile.{lines_of, number_from, routine_at, routines_from, routines_of}
 use Rattle.call_bounds.specs.declared.refusals.RoutinesNo.TheVariants.{TooMany, BadLine, BadPlace, Order}

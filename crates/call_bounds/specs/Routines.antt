@@ -1,5 +1,5 @@
 -- The rules of routines, for scratchpads of any size.
-use Rattle.std.specs.Prelude.{◌≡◌, ℕ, ◌%◌, ◌<◌, ◌≤◌, List, [], ◌∷◌, length, Contains}
+use Rattle.std.specs.Prelude.{◌≡◌, ◌%◌, ◌<◌, ◌≤◌, List, [], ◌∷◌, length, Contains}
 use Rattle.call_bounds.specs.declared.routines.Routine.{Routine}
 
 -- each routine begins above the one before it

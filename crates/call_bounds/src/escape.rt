@@ -1,14 +1,18 @@
 //! Ways out of routines.
 
-ghost use Rattle.std.specs.Prelude.{◌<◌, ◌↔◌, length, IsTrue};
+ghost use Rattle.std.specs.Prelude.{◌<◌, ◌↔◌, length, IfOk, IfErr, IsTrue, OnOk};
 ghost use Rattle.region_tree.specs.Search.{LowestOf, address};
 ghost use Rattle.region_tree.specs.Tree.{graph};
-ghost use Rattle.call_bounds.specs.Build.{EscapeFrom, LeadsOut, LeavesAt};
-ghost use Rattle.call_bounds.specs.CallRefusals.{EscapeAt};
+ghost use Rattle.call_bounds.specs.Build.{AreReached, EscapeFrom, LeadsOut, LeavesAt};
+ghost use Rattle.call_bounds.specs.CallRefused.{AreCallsAllowed, IsCallRefused};
+ghost use Rattle.call_bounds.specs.CallRefusals.{EscapeAt, IsCallable};
 ghost use Rattle.call_bounds.specs.Listing.{ArePartTrees, calls};
 
+use crate::causes::part_trees;
 use crate::code::Code;
+use crate::tree::CallNo;
 use region_tree::{LoopTree, Section, edges_of, lower};
+use std::alloc::Global;
 
 /// Whether a target lies outside a section.
 fn leads_out(section: Section, target: Option<u32>) -> bool
@@ -62,7 +66,7 @@ fn escape_from(trees: &[Option<LoopTree>], part: usize) -> Option<u32>
 }
 
 /// The lowest address of a way out of a reached routine.
-pub fn escape(code: &Code, trees: &[Option<LoopTree>]) -> Option<u32>
+fn escape(code: &Code, trees: &[Option<LoopTree>]) -> Option<u32>
     requires { ArePartTrees code.now trees.now }
     ensures { LowestOf (EscapeAt (calls code.now)) result }
 {
@@ -71,4 +75,27 @@ pub fn escape(code: &Code, trees: &[Option<LoopTree>]) -> Option<u32>
         found = lower(found, escape_from(trees, part));
     }
     found
+}
+
+/// The trees of the reached parts, where no routine among them has a way out.
+///
+/// # Errors
+///
+/// As of [`part_trees`]; then `Escape` with the lowest address of a way out.
+pub fn closed_trees(
+    alloc: Global,
+    code: &Code,
+    reached: &[bool],
+) -> Result<Vec<Option<LoopTree>>, CallNo>
+    requires reached { AreReached code.now reached.now }
+    requires allowed { AreCallsAllowed (calls code.now) }
+    ensures trees { IfOk result (λ trees. ArePartTrees code.now trees.items) }
+    ensures allowed { OnOk result (IsCallable (calls code.now)) }
+    ensures refused { IfErr result (IsCallRefused (calls code.now)) }
+{
+    let trees = part_trees(alloc, code, reached)?;
+    match escape(code, trees.as_slice()) {
+        None => Ok(trees),
+        Some(address) => Err(CallNo::Escape { address }),
+    }
 }

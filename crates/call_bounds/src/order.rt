@@ -1,23 +1,21 @@
 //! In which order parts call each other.
 
-ghost use Rattle.std.specs.Prelude.{◌≡◌, ℕ, ◌<◌, ◌↔◌, ◌≤◌, ◌*◌, length, true, IfOk, IsTrue};
+ghost use Rattle.std.specs.Prelude.{◌≡◌, ℕ, ◌<◌, ◌↔◌, ◌≤◌, ◌*◌, length, true, IfOk, IfErr, IsTrue, OnOk};
 ghost use Rattle.led_parts.specs.Led.{Led, is_met};
 ghost use Rattle.region_tree.specs.Refusals.{Nowhere};
 ghost use Rattle.region_tree.specs.Search.{LowestOf};
 ghost use Rattle.call_bounds.specs.Build.{AreReached, IsRankOf, IsTable};
-ghost use Rattle.call_bounds.specs.CallRefusals.{RecursionAt};
+ghost use Rattle.call_bounds.specs.CallRefused.{IsCallRefused};
+ghost use Rattle.call_bounds.specs.CallRefusals.{OverlapAt, RecursionAt};
 ghost use Rattle.call_bounds.specs.Listing.{AreRanks, calls, part_count};
 
 use crate::code::Code;
+use crate::tree::CallNo;
 use led_parts::led_to;
 use std::alloc::{AllocError, Global};
 
 /// Which parts are reached.
-///
-/// # Errors
-///
-/// Memory was refused.
-pub fn reached_parts(alloc: Global, code: &Code, table: &[bool]) -> Result<Vec<bool>, AllocError>
+fn reached_parts(alloc: Global, code: &Code, table: &[bool]) -> Result<Vec<bool>, AllocError>
     requires { IsTable code.now table.now }
     ensures { IfOk result (λ reached. AreReached code.now reached.items) }
 {
@@ -60,11 +58,7 @@ fn recurs(
 }
 
 /// The lowest head of a reached routine from which calls lead back to it.
-///
-/// # Errors
-///
-/// Memory was refused.
-pub fn recursion(
+fn recursion(
     alloc: Global,
     code: &Code,
     table: &[bool],
@@ -82,6 +76,26 @@ pub fn recursion(
         }
     }
     Ok(None)
+}
+
+/// Which parts are reached, where calls lead from none of them back to it.
+///
+/// # Errors
+///
+/// `Recursion` with the lowest head of a reached routine from which calls lead back to it; or
+/// memory was refused.
+pub fn ordered_parts(alloc: Global, code: &Code, table: &[bool]) -> Result<Vec<bool>, CallNo>
+    requires table { IsTable code.now table.now }
+    requires overlap { Nowhere (OverlapAt (calls code.now)) }
+    ensures reached { IfOk result (λ reached. AreReached code.now reached.items) }
+    ensures allowed { OnOk result (Nowhere (RecursionAt (calls code.now))) }
+    ensures refused { IfErr result (IsCallRefused (calls code.now)) }
+{
+    let reached = reached_parts(alloc, code, table)?;
+    match recursion(alloc, code, table, reached.as_slice())? {
+        None => Ok(reached),
+        Some(address) => Err(CallNo::Recursion { address }),
+    }
 }
 
 /// How many parts calls lead to from one.

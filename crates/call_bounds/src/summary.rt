@@ -17,7 +17,7 @@ use region_tree::{LoopTree, Section};
 use std::alloc::{AllocError, Global};
 
 /// What calls of a part cost.
-#[derive(Clone, Copy, Debug)]
+#[derive(Clone, Copy)]
 pub struct Summary {
     /// From a call to the word after it: the jump, a walk of the routine to a return, the jump
     /// back.

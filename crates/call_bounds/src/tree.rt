@@ -1,16 +1,18 @@
 //! A section with its routines, of which a bound through calls is told.
 
-ghost use Rattle.std.specs.Prelude.{◌≡◌};
+ghost use Rattle.std.specs.Prelude.{◌≡◌, IfOk, IfErr, OnOk, MatchResult};
 ghost use Rattle.region_guard.specs.MemoryMap.{large_size};
+ghost use Rattle.region_tree.specs.Refusals.{Nowhere};
 ghost use Rattle.region_tree.specs.Search.{LowestOf};
-ghost use Rattle.call_bounds.specs.CallRefusals.{OverlapAt};
-ghost use Rattle.call_bounds.specs.Listing.{calls};
+ghost use Rattle.call_bounds.specs.Build.{IsTable};
+ghost use Rattle.call_bounds.specs.CallRefused.{IsCallRefused};
+ghost use Rattle.call_bounds.specs.CallRefusals.{IsCallable, OverlapAt};
+ghost use Rattle.call_bounds.specs.Listing.{ArePartTrees, calls};
 
 use crate::call_table::call_table;
-use crate::causes::part_trees;
 use crate::code::Code;
-use crate::escape::escape;
-use crate::order::{part_ranks, reached_parts, recursion};
+use crate::escape::closed_trees;
+use crate::order::{ordered_parts, part_ranks};
 use crate::routines::{Routine, Routines};
 use fp_image::Image;
 use fp_setup::{LoopSetup, Loops};
@@ -96,6 +98,30 @@ fn overlap(code: &Code) -> Option<u32>
     None
 }
 
+/// Refuses code where a routine has a word in common with the section.
+fn refuse_overlap(code: &Code) -> Result<(), CallNo>
+    ensures { MatchResult result (λ _. Nowhere (OverlapAt (calls code.now)))
+        (IsCallRefused (calls code.now)) }
+{
+    match overlap(code) {
+        None => Ok(()),
+        Some(address) => Err(CallNo::Overlap { address }),
+    }
+}
+
+/// The trees of the reached parts, where calls lead from none of them back to it and no routine
+/// has a way out.
+fn trees_of(alloc: Global, code: &Code, table: &[bool]) -> Result<Vec<Option<LoopTree>>, CallNo>
+    requires table { IsTable code.now table.now }
+    requires overlap { Nowhere (OverlapAt (calls code.now)) }
+    ensures trees { IfOk result (λ trees. ArePartTrees code.now trees.items) }
+    ensures allowed { OnOk result (IsCallable (calls code.now)) }
+    ensures refused { IfErr result (IsCallRefused (calls code.now)) }
+{
+    let reached = ordered_parts(alloc, code, table)?;
+    closed_trees(alloc, code, reached.as_slice())
+}
+
 impl CallTree {
     ghost use Rattle.std.specs.Prelude.{◌≡◌, ℕ, ◌<◌, ◌≤◌, MatchOption, None, IfOk, OnOk, IfErr};
     ghost use Rattle.fp_image.specs.Rules.{word};
@@ -136,18 +162,9 @@ impl CallTree {
             (IsCallRefused (calls_of (word image.now) section routines.now loops.now)) }
     {
         let code = Code::new(alloc, image, section, routines, loops)?;
-        if let Some(address) = overlap(&code) {
-            return Err(CallNo::Overlap { address });
-        }
+        refuse_overlap(&code)?;
         let table = call_table(alloc, &code)?;
-        let reached = reached_parts(alloc, &code, table.as_slice())?;
-        if let Some(address) = recursion(alloc, &code, table.as_slice(), reached.as_slice())? {
-            return Err(CallNo::Recursion { address });
-        }
-        let trees = part_trees(alloc, &code, reached.as_slice())?;
-        if let Some(address) = escape(&code, trees.as_slice()) {
-            return Err(CallNo::Escape { address });
-        }
+        let trees = trees_of(alloc, &code, table.as_slice())?;
         let ranks = part_ranks(alloc, &code, table.as_slice())?;
         Ok(CallTree { code, trees, ranks })
     }

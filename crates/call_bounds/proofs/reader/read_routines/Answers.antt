@@ -1,11 +1,11 @@
-use Rattle.std.proofs.Common.{◌≡◌, ◌⊎◌, inl, inr, ◌≤◌, ◌<◌, ℕ, suc, ◌+◌, ◌++◌, [], ◌∷◌, List, length, Option, Some, None, Result, Ok, Err, refl, sym, ap, ◌∙◌, subst, arith, length-append}
+use Rattle.std.proofs.Common.{◌≡◌, inr, ◌<◌, ℕ, suc, ◌+◌, ◌++◌, [], ◌∷◌, List, length, Option, Some, None, Result, Ok, Err, sym, ap, ◌∙◌, subst, arith, length-append}
 use Rattle.std.specs.Prelude.{min}
 use Rattle.call_bounds.specs.Routines.{AreRoutines}
 use Rattle.call_bounds.specs.RoutinesFile.{lines_of, routine_at, routines_from, routines_of}
 use Rattle.call_bounds.specs.declared.refusals.RoutinesRefused.{RoutinesRefused}
 use Rattle.call_bounds.specs.declared.routines.Routine.{Routine}
 use Rattle.call_bounds.proofs.FileLines.{all-joined, joined, joined-cons, joined-none, line-next, line-stops}
-use Rattle.call_bounds.proofs.Rising.{EndAt, ends-there, one-more}
+use Rattle.call_bounds.proofs.Rising.{ends-there, one-more}
 use Rattle.call_bounds.proofs.reader.read_routines.Goals as goal
 
 -- at first all is left
