@@ -7,7 +7,7 @@ ghost use Rattle.region_tree.specs.Search.{LowestOf};
 ghost use Rattle.call_bounds.specs.Build.{IsTable};
 ghost use Rattle.call_bounds.specs.CallRefused.{IsCallRefused};
 ghost use Rattle.call_bounds.specs.CallRefusals.{IsCallable, OverlapAt};
-ghost use Rattle.call_bounds.specs.Listing.{ArePartTrees, calls};
+ghost use Rattle.call_bounds.specs.Listing.{ArePartTrees, AreRanks, calls};
 
 use crate::call_table::call_table;
 use crate::code::Code;
@@ -122,6 +122,29 @@ fn trees_of(alloc: Global, code: &Code, table: &[bool]) -> Result<Vec<Option<Loo
     closed_trees(alloc, code, reached.as_slice())
 }
 
+/// What is built of the parts of code that nothing refuses.
+#[derive(Drop)]
+struct BuiltParts {
+    /// The trees of the reached parts.
+    trees: Vec<Option<LoopTree>>,
+    /// The ranks of all parts.
+    ranks: Vec<usize>,
+}
+
+/// Builds the parts of code, unless something refuses it.
+fn build_parts(alloc: Global, code: &Code) -> Result<BuiltParts, CallNo>
+    ensures trees { IfOk result (λ parts. ArePartTrees code.now parts.trees.items) }
+    ensures order { IfOk result (λ parts. AreRanks code.now parts.ranks.items) }
+    ensures allowed { OnOk result (IsCallable (calls code.now)) }
+    ensures refused { IfErr result (IsCallRefused (calls code.now)) }
+{
+    refuse_overlap(code)?;
+    let table = call_table(alloc, code)?;
+    let trees = trees_of(alloc, code, table.as_slice())?;
+    let ranks = part_ranks(alloc, code, table.as_slice())?;
+    Ok(BuiltParts { trees, ranks })
+}
+
 impl CallTree {
     ghost use Rattle.std.specs.Prelude.{◌≡◌, ℕ, ◌<◌, ◌≤◌, MatchOption, None, IfOk, OnOk, IfErr};
     ghost use Rattle.fp_image.specs.Rules.{word};
@@ -162,11 +185,12 @@ impl CallTree {
             (IsCallRefused (calls_of (word image.now) section routines.now loops.now)) }
     {
         let code = Code::new(alloc, image, section, routines, loops)?;
-        refuse_overlap(&code)?;
-        let table = call_table(alloc, &code)?;
-        let trees = trees_of(alloc, &code, table.as_slice())?;
-        let ranks = part_ranks(alloc, &code, table.as_slice())?;
-        Ok(CallTree { code, trees, ranks })
+        let parts = build_parts(alloc, &code)?;
+        Ok(CallTree {
+            code,
+            trees: parts.trees,
+            ranks: parts.ranks,
+        })
     }
 
     /// The section.
