@@ -1,10 +1,10 @@
 //! The commands.
 
-ghost use Rattle.std.specs.Prelude.{◌≡◌, map, string_bytes, IfOk, IfErr, Some, option_map, find};
+ghost use Rattle.std.specs.Prelude.{◌≡◌, map, string_bytes, IfOk, IfErr, Some, option_map, find, true};
 ghost use Rattle.std.specs.Str.{bytes_eq};
-ghost use Rattle.ask_words.specs.Forms.{texts_in};
 ghost use Rattle.ask_words.specs.Commands.{ask, asked, commands, run_asks, dump_asks, asm_asks, bound_asks, selfrun_asks, phases_asks, solo_asks, check_asks, elf_asks, calls_asks};
 ghost use Rattle.ask_words.specs.Code.{row_of};
+ghost use Rattle.ask_words.specs.Rules.{is_fit};
 ghost use Rattle.ask_words.specs.Causes.{IsCauseOf};
 ghost use Rattle.ask_words.specs.Limits.{IsWithinLimits};
 
@@ -14,7 +14,7 @@ use crate::numbers::{address_of, number_of, thread_of};
 use crate::parse::texts_of;
 use fp_setup::Name;
 use region_tree::Section;
-use std::alloc::Global;
+use std::alloc::{AllocError, Global};
 use timer_unit::MOST_CYCLES;
 
 /// The most cycles of a run that a trace is compared with.
@@ -42,30 +42,31 @@ fn command_named(name: &str) -> Option<Command>
     }
 }
 
-/// The texts that the words after a command's name give it.
-fn texts_for<'a>(
-    alloc: Global,
-    command: Command,
-    words: &'a [String],
-) -> Result<Vec<&'a str>, WordsNo>
-    ensures given { IfOk result (λ v.
-        texts_in (row_of command).options (map string_bytes words.entry.now) ≡
-        Some (map (λ t. t.now) v.items)) }
-    ensures refused { IfErr result (IsCauseOf
-        (texts_in (row_of command).options (map string_bytes words.entry.now))) }
+/// The options of a command, in order.
+fn options_of(command: Command) -> &'static [&'static str]
+    ensures options { map (λ n. n.now) result.now ≡ (row_of command).options }
+    ensures fit { is_fit (map (λ n. n.now) result.now) ≡ true }
 {
     match command {
-        Command::Run => texts_of(alloc, "run", &["thread", "cycles"], words),
-        Command::Dump => texts_of(alloc, "dump", &["cycles"], words),
-        Command::Asm => texts_of(alloc, "asm", &[], words),
-        Command::Bound => texts_of(alloc, "bound", &["thread", "from", "to"], words),
-        Command::Selfrun => texts_of(alloc, "selfrun", &[], words),
-        Command::Phases => texts_of(alloc, "phases", &["cycles"], words),
-        Command::Solo => texts_of(alloc, "solo", &["thread", "cycles"], words),
-        Command::Check => texts_of(alloc, "check", &["thread", "cycles", "trace"], words),
-        Command::Elf => texts_of(alloc, "elf", &[], words),
-        Command::Calls => { texts_of(alloc, "calls", &["thread", "from", "to", "routines"], words) }
+        Command::Run => &["thread", "cycles"],
+        Command::Dump => &["cycles"],
+        Command::Asm => &[],
+        Command::Bound => &["thread", "from", "to"],
+        Command::Selfrun => &[],
+        Command::Phases => &["cycles"],
+        Command::Solo => &["thread", "cycles"],
+        Command::Check => &["thread", "cycles", "trace"],
+        Command::Elf => &[],
+        Command::Calls => &["thread", "from", "to", "routines"],
     }
+}
+
+/// Two names with these texts.
+fn two_names(alloc: Global, first: &str, second: &str) -> Result<(Name, Name), AllocError>
+    ensures { IfOk result (λ names. (names.0 ≡ first.now) × (names.1 ≡ second.now)) }
+{
+    let first = Name::from_str(alloc, first)?;
+    Ok((first, Name::from_str(alloc, second)?))
 }
 
 /// `run SETUP --thread i --cycles n`
@@ -209,12 +210,15 @@ fn check(alloc: Global, texts: &[&str]) -> Result<Ask, WordsNo>
         thread_of(texts[1]),
         number_of(MOST_CHECKED_CYCLES, texts[2]),
     ) {
-        (Some(thread), Some(cycles)) => Ok(Ask::Check {
-            setup: Name::from_str(alloc, texts[0])?,
-            thread,
-            cycles,
-            trace: Name::from_str(alloc, texts[3])?,
-        }),
+        (Some(thread), Some(cycles)) => {
+            let (setup, trace) = two_names(alloc, texts[0], texts[3])?;
+            Ok(Ask::Check {
+                setup,
+                thread,
+                cycles,
+                trace,
+            })
+        }
         _ => Err(WordsNo::Usage),
     }
 }
@@ -247,12 +251,15 @@ fn calls(alloc: Global, texts: &[&str]) -> Result<Ask, WordsNo>
         address_of(texts[2]),
         address_of(texts[3]),
     ) {
-        (Some(thread), Some(from), Some(to)) => Ok(Ask::Calls {
-            setup: Name::from_str(alloc, texts[0])?,
-            thread,
-            section: Section { from, to },
-            routines: Name::from_str(alloc, texts[4])?,
-        }),
+        (Some(thread), Some(from), Some(to)) => {
+            let (setup, routines) = two_names(alloc, texts[0], texts[4])?;
+            Ok(Ask::Calls {
+                setup,
+                thread,
+                section: Section { from, to },
+                routines,
+            })
+        }
         _ => Err(WordsNo::Usage),
     }
 }
@@ -279,16 +286,16 @@ fn ask_by(alloc: Global, command: Command, texts: &[&str]) -> Result<Ask, WordsN
     }
 }
 
-/// What the words after a command's name ask.
+/// What the words after the name of a command ask.
 #[tactic(auto, unfolding(crate::specs::Commands::asked))]
-fn ask_of(alloc: Global, command: Command, words: &[String]) -> Result<Ask, WordsNo>
+fn ask_of(alloc: Global, name: &str, command: Command, words: &[String]) -> Result<Ask, WordsNo>
     ensures asked { IfOk result (λ a.
         asked (row_of command) (map string_bytes words.now) ≡ Some a) }
     ensures refused { IfErr result
         (IsCauseOf (asked (row_of command) (map string_bytes words.now))) }
     ensures limits { IfOk result IsWithinLimits }
 {
-    let texts = texts_for(alloc, command, words)?;
+    let texts = texts_of(alloc, name, options_of(command), words)?;
     ask_by(alloc, command, texts.as_slice())
 }
 
@@ -305,8 +312,9 @@ pub fn read_words(alloc: Global, words: &[String]) -> Result<Ask, WordsNo>
     let Some((name, words)) = words.split_first() else {
         return Err(WordsNo::Usage);
     };
-    match command_named(name.as_str()) {
-        Some(command) => ask_of(alloc, command, words),
+    let name = name.as_str();
+    match command_named(name) {
+        Some(command) => ask_of(alloc, name, command, words),
         None => Err(WordsNo::Usage),
     }
 }

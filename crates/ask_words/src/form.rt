@@ -1,7 +1,7 @@
 //! The forms of the words after a command's name.
 
 ghost use Rattle.std.specs.Prelude.{◌≡◌, map, option_map};
-ghost use Rattle.ask_words.specs.Forms.{is_plain, is_among, dashed_form, after_dashes, form};
+ghost use Rattle.ask_words.specs.Forms.{is_plain, is_among, option_form, dashed_form, after_dashes, form};
 ghost use Rattle.ask_words.specs.Code.{form_value, is_bad_form, gives_to, opened_by};
 
 /// Under which the file name stands beside the options.
@@ -64,20 +64,27 @@ fn has_name(options: &[&str], name: &str) -> bool
     options.contains(&name)
 }
 
-/// The form of a word that begins with `-`, as `--name` or `--name=value`.
-fn dashed_form_of<'a>(options: &[&str], word: &'a str) -> Form<'a>
-    ensures { form_value result ≡
-        dashed_form (map (λ n. n.now) options.now) (after_dashes word.entry.now) }
+/// The form of a word by what follows its dashes, `name` or `name=value`.
+fn option_form_of<'a>(options: &[&str], rest: &'a str) -> Form<'a>
+    ensures { form_value result ≡ option_form (map (λ n. n.now) options.now) rest.entry.now }
 {
-    let Some(rest) = word.strip_prefix("--") else {
-        return Form::Bad;
-    };
     match rest.split_once('=') {
         Some((name, value)) if has_name(options, name) && has_plain_form(value) => {
             Form::Gives { name, value }
         }
         None if has_name(options, rest) => Form::Opens(rest),
         _ => Form::Bad,
+    }
+}
+
+/// The form of a word that begins with `-`, as `--name` or `--name=value`.
+fn dashed_form_of<'a>(options: &[&str], word: &'a str) -> Form<'a>
+    ensures { form_value result ≡
+        dashed_form (map (λ n. n.now) options.now) (after_dashes word.entry.now) }
+{
+    match word.strip_prefix("--") {
+        Some(rest) => option_form_of(options, rest),
+        None => Form::Bad,
     }
 }
 

@@ -1,10 +1,14 @@
 //! The texts that words give, by the parser of command lines.
 
-ghost use Rattle.std.specs.Prelude.{◌≡◌, ◌∷◌, [], map, string_bytes, IfOk, IfErr, true, Some};
+ghost use Rattle.std.specs.Prelude.{◌≡◌, ◌∷◌, [], map, string_bytes, IfOk, IfErr, true, false, Some};
+ghost use Rattle.std.specs.List.{fold};
 ghost use Rattle.ask_words.specs.Forms.{texts_in, file_id};
 ghost use Rattle.ask_words.specs.Code.{has_forms};
 ghost use Rattle.ask_words.specs.Causes.{IsCauseOf};
 ghost use Rattle.ask_words.specs.Rules.{app, option_rule, is_fit, row_text};
+ghost use Rattle.clap.specs.Simple.{new_rule};
+ghost use Rattle.clap.specs.Walk.{rule_of};
+ghost use Rattle.clap.specs.declared.builder.action.ArgAction.TheVariants.{Set};
 ghost use Rattle.clap.specs.Words.{app_of, takes, matches_of, rows_of, found_of, is_simple, with_rule};
 
 use crate::asked::WordsNo;
@@ -14,11 +18,20 @@ use clap::error::ErrorKind;
 use clap::{Arg, ArgAction, ArgMatches, Command};
 use std::alloc::{AllocError, Global};
 
+/// An argument that has to be given, with one value.
+fn required_argument<'a>(alloc: Global, id: &'a str) -> Arg<'a>
+    ensures rule { rule_of result ≡
+        record (new_rule id.entry.now) { action = Some Set; required = true } }
+    ensures local { result.global ≡ false }
+{
+    Arg::new(alloc, id).required(true).action(ArgAction::Set)
+}
+
 /// A command that has a file name and no option yet.
 fn named_command<'a>(alloc: Global, name: &'a str) -> Result<Command<'a>, AllocError>
     ensures { IfOk result (λ c. app_of c ≡ app name.entry.now []) }
 {
-    let file = Arg::new(alloc, FILE).required(true).action(ArgAction::Set);
+    let file = required_argument(alloc, FILE);
     Command::new(alloc, name).no_binary_name(true).arg(file)
 }
 
@@ -31,11 +44,23 @@ fn with_option<'a>(
     ensures { IfOk result (λ c.
         app_of c ≡ with_rule (app_of command.entry) (option_rule name.entry.now)) }
 {
-    let option = Arg::new(alloc, name)
-        .long(name)
-        .required(true)
-        .action(ArgAction::Set);
-    command.arg(option)
+    command.arg(required_argument(alloc, name).long(name))
+}
+
+/// A command with these options more.
+fn with_options<'a>(
+    alloc: Global,
+    command: Command<'a>,
+    names: &[&'a str],
+) -> Result<Command<'a>, AllocError>
+    ensures { IfOk result (λ c.
+        app_of c ≡ fold (λ a n. with_rule a (option_rule n)) (app_of command.entry)
+        (map (λ n. n.now) names.now)) }
+{
+    match names {
+        [] => Ok(command),
+        [name, others @ ..] => with_options(alloc, with_option(alloc, command, name)?, others),
+    }
 }
 
 /// The command of this name with a file name and these options, all required.
@@ -46,11 +71,7 @@ fn command_of<'a>(
 ) -> Result<Command<'a>, AllocError>
     ensures { IfOk result (λ c. app_of c ≡ app name.entry.now (map (λ n. n.now) options.now)) }
 {
-    let mut command = named_command(alloc, name)?;
-    for option in options {
-        command = with_option(alloc, command, option)?;
-    }
-    Ok(command)
+    with_options(alloc, named_command(alloc, name)?, options)
 }
 
 /// The matches of words that the command takes: only memory can be wanting.
@@ -91,12 +112,46 @@ fn values_of<'a>(
         map (row_text (rows_of (found_of matches.now)))
         (file_id ∷ map (λ n. n.now) options.now)) }
 {
-    let mut values = Vec::new(alloc);
-    values.push(value_of(matches, FILE))?;
+    let mut values = vec![in alloc; value_of(matches, FILE)]?;
     for option in options {
         values.push(value_of(matches, option))?;
     }
     Ok(values)
+}
+
+/// The matches of words that give the file name and each option exactly once, and nothing else.
+fn matches_for<'a>(
+    alloc: Global,
+    name: &'a str,
+    options: &[&'a str],
+    words: &'a [String],
+) -> Result<ArgMatches<'a>, AllocError>
+    requires fit { is_fit (map (λ n. n.now) options.now) ≡ true }
+    requires given { has_forms (map (λ n. n.now) options.now) (map string_bytes words.now) ≡
+        true }
+    ensures { IfOk result (λ m.
+        rows_of (found_of m) ≡ matches_of (app name.entry.now (map (λ n. n.now) options.now))
+        (map string_bytes words.entry.now)) }
+{
+    matches_taken(command_of(alloc, name, options)?, words)
+}
+
+/// The values that words give, where they give each exactly once and nothing else.
+fn values_for<'a>(
+    alloc: Global,
+    name: &'a str,
+    options: &[&'a str],
+    words: &'a [String],
+) -> Result<Vec<&'a str>, AllocError>
+    requires fit { is_fit (map (λ n. n.now) options.now) ≡ true }
+    requires given { has_forms (map (λ n. n.now) options.now) (map string_bytes words.now) ≡
+        true }
+    ensures { IfOk result (λ v.
+        texts_in (map (λ n. n.now) options.now) (map string_bytes words.entry.now) ≡
+        Some (map (λ t. t.now) v.items)) }
+{
+    let matches = matches_for(alloc, name, options, words)?;
+    values_of(alloc, options, &matches)
 }
 
 /// The file name that the words after a command's name give, and the options' values in the order
@@ -122,8 +177,5 @@ pub fn texts_of<'a>(
     if !gives_each_once(options, words) {
         return Err(WordsNo::Usage);
     }
-    let command = command_of(alloc, name, options)?;
-    let matches = matches_taken(command, words)?;
-    let values = values_of(alloc, options, &matches)?;
-    Ok(values)
+    Ok(values_for(alloc, name, options, words)?)
 }
