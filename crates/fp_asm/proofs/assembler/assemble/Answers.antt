@@ -1,3 +1,5 @@
+use Rattle.std.proofs.Common.{arith}
+use Rattle.std.proofs.lemmas.Grind.{common_steps}
 use Rattle.std.proofs.Common.{rules}
 use Rattle.fp_asm.specs.Source.{assembled}
 use Rattle.fp_asm.proofs.assembler.assemble.Goals as goal
@@ -11,3 +13,11 @@ returns-then-source-gt-MOST_SOURCE_BYTES-clause-refused c = search rules
 
 pub assemble_lines-requires-clause-few : goal.assemble_lines-requires-clause-few
 assemble_lines-requires-clause-few c = search rules
+
+pub returns-clause-image : goal.returns-clause-image
+unfolding assembled
+returns-clause-image c = grind (arith, common_steps)
+
+pub returns-clause-refused : goal.returns-clause-refused
+unfolding assembled
+returns-clause-refused c = grind (arith, common_steps)

@@ -18,3 +18,12 @@ returns-in_default-2-clause-refused c = grind (arith, common_steps)
 pub returns-in_err-check-clause-refused : goal.returns-in_err-check-clause-refused
 unfolding statement_named
 returns-in_err-check-clause-refused c = grind (arith, common_steps)
+
+pub returns-clause-few : goal.returns-clause-few
+returns-clause-few c = grind (arith, common_steps)
+
+pub returns-clause-checked : goal.returns-clause-checked
+returns-clause-checked c = grind (arith, common_steps)
+
+pub returns-clause-registers : goal.returns-clause-registers
+returns-clause-registers c = grind (arith, common_steps)

@@ -14,3 +14,12 @@ returns-in_err-statement-in-Name-clause-refused c = grind (arith, common_steps)
 pub returns-in_ok-statement-in-Name-clause-statement : goal.returns-in_ok-statement-in-Name-clause-statement
 unfolding statement_of
 returns-in_ok-statement-in-Name-clause-statement c = grind (arith, common_steps)
+
+pub returns-in_ok-statement-in-Name-clause-registers : goal.returns-in_ok-statement-in-Name-clause-registers
+returns-in_ok-statement-in-Name-clause-registers c = grind (arith, common_steps)
+
+pub returns-in_ok-statement-in-Name-clause-checked : goal.returns-in_ok-statement-in-Name-clause-checked
+returns-in_ok-statement-in-Name-clause-checked c = grind (arith, common_steps)
+
+pub returns-in_ok-statement-in-Name-clause-few : goal.returns-in_ok-statement-in-Name-clause-few
+returns-in_ok-statement-in-Name-clause-few c = grind (arith, common_steps)
