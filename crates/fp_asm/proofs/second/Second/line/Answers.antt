@@ -14,3 +14,19 @@ returns-clause-refused c = grind (arith, common_steps)
 pub returns-in_err-statement-clause-refused : goal.returns-in_err-statement-clause-refused
 unfolding second_line
 returns-in_err-statement-clause-refused c = grind (arith, common_steps)
+
+pub returns-in_err-pieces-clause-refused : goal.returns-in_err-pieces-clause-refused
+unfolding second_line
+returns-in_err-pieces-clause-refused c = grind (arith, common_steps)
+
+pub returns-clause-aligned : goal.returns-clause-aligned
+returns-clause-aligned c = grind (arith, common_steps)
+
+pub write-requires-clause-registers : goal.write-requires-clause-registers
+write-requires-clause-registers c = grind (arith, common_steps)
+
+pub write-requires-clause-checked : goal.write-requires-clause-checked
+write-requires-clause-checked c = grind (arith, common_steps)
+
+pub write-requires-clause-few : goal.write-requires-clause-few
+write-requires-clause-few c = grind (arith, common_steps)
