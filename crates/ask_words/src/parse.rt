@@ -1,7 +1,6 @@
 //! The texts that words give, by the parser of command lines.
 
 ghost use Rattle.std.specs.Prelude.{◌≡◌, ◌∷◌, [], map, string_bytes, IfOk, IfErr, true, false, Some};
-ghost use Rattle.std.specs.List.{fold};
 ghost use Rattle.ask_words.specs.Forms.{texts_in, file_id};
 ghost use Rattle.ask_words.specs.Code.{has_forms};
 ghost use Rattle.ask_words.specs.Causes.{IsCauseOf};
@@ -47,22 +46,6 @@ fn with_option<'a>(
     command.arg(required_argument(alloc, name).long(name))
 }
 
-/// A command with these options more.
-fn with_options<'a>(
-    alloc: Global,
-    command: Command<'a>,
-    names: &[&'a str],
-) -> Result<Command<'a>, AllocError>
-    ensures { IfOk result (λ c.
-        app_of c ≡ fold (λ a n. with_rule a (option_rule n)) (app_of command.entry)
-        (map (λ n. n.now) names.now)) }
-{
-    match names {
-        [] => Ok(command),
-        [name, others @ ..] => with_options(alloc, with_option(alloc, command, name)?, others),
-    }
-}
-
 /// The command of this name with a file name and these options, all required.
 fn command_of<'a>(
     alloc: Global,
@@ -71,7 +54,11 @@ fn command_of<'a>(
 ) -> Result<Command<'a>, AllocError>
     ensures { IfOk result (λ c. app_of c ≡ app name.entry.now (map (λ n. n.now) options.now)) }
 {
-    with_options(alloc, named_command(alloc, name)?, options)
+    let mut command = named_command(alloc, name)?;
+    for option in options {
+        command = with_option(alloc, command, option)?;
+    }
+    Ok(command)
 }
 
 /// The matches of words that the command takes: only memory can be wanting.

@@ -1,13 +1,32 @@
-use Rattle.std.proofs.Common.{◌∙◌, ◌∷◌, [], ap, map}
-use Rattle.std.proofs.lemmas.Result.{IfOk-weaker}
+use Rattle.std.proofs.Common.{◌∙◌, ◌+◌, ◌<◌, ◌∷◌, [], ap, sym, map, drop, length, List, ℕ, Bor, arith}
 use Rattle.std.specs.List.{fold}
-use Rattle.clap.specs.Words.{App}
+use Rattle.clap.specs.Words.{App, app_of}
 use Rattle.ask_words.specs.Rules.{file_rule}
 use Rattle.ask_words.proofs.Built.{and_option, options_added}
+use Rattle.ask_words.proofs.Counts.{left_of}
+use Rattle.std.proofs.lemmas.Grind.{common_steps}
 use Rattle.ask_words.proofs.parse.command_of.Goals as goal
 
-pub returns : goal.returns
-returns c =
+pub loop-option-init : goal.loop-option-init
+loop-option-init c =
     let names = map (λ n. n.now) c.args.options.now in
-    let added = ap (λ (a : App). fold and_option a names) c.in_ok-named_command.ensures ∙ options_added c.args.name.now (file_rule ∷ []) names in
-    IfOk-weaker c.with_options.result _ _ (λ r e. e ∙ added) c.with_options.ensures
+    sym (options_added c.args.name.now (file_rule ∷ []) names) ∙ ap (λ (a : App). fold and_option a names) (sym c.in_ok-command.ensures)
+
+pub loop-option-preserved : goal.loop-option-preserved
+loop-option-preserved c =
+    let options = c.args.options.now in
+    let i = c.loop-option.option-index in
+    let inside : i < length options = omega arith in
+    let rest = map (λ n. n.now) (drop (i + 1) options) in
+    let split = left_of (λ (n : Bor (List ℕ)). n.now) options i (record { ref_ptr = (0, 0); now = [] }) inside in
+    c.loop-option.invariant
+    ∙ (ap (fold and_option (app_of c.loop-option.command)) split ∙ ap (λ (a : App). fold and_option a rest) (sym c.in_ok-command-2.ensures))
+
+pub returns : goal.returns
+returns c = grind (arith, common_steps)
+
+pub returns-in_err-command : goal.returns-in_err-command
+returns-in_err-command c = grind (arith, common_steps)
+
+pub returns-in_err-command-2 : goal.returns-in_err-command-2
+returns-in_err-command-2 c = grind (arith, common_steps)
