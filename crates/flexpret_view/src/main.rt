@@ -2,7 +2,7 @@
 //! cycle of a window, as text, for a viewer, or as a picture.
 #![tactic(auto)]
 
-ghost use Rattle.std.specs.Prelude.{◌≡◌, vec_len};
+ghost use Rattle.std.specs.Prelude.{◌≡◌, IfOk, vec_len};
 
 mod fault;
 mod progress;
@@ -11,12 +11,13 @@ mod words;
 use crate::fault::Fault;
 use crate::progress::ProgressLine;
 use crate::words::{Ask, STANDARD_OUTPUT, WordsNo, read_words};
-use file_answers::load;
+use file_answers::{Program, load};
 use fp_io::RealFiles;
 use fp_ports::{HeldPort, Ports};
 use fp_setup::Name;
 use machine::{Machine, feed_inputs};
 use pipe_view::put_view;
+use std::alloc::{AllocError, Global};
 use std::io::{BufWriter, Write};
 use std::process::ExitCode;
 use std::{env, fs, io};
@@ -32,15 +33,15 @@ fn read_args(rt: HostRuntime) -> Result<Vec<String>, Fault> {
     }
 }
 
-/// Runs the machine of a setup, and writes what is asked for to a writer.
+/// Runs a machine, and writes what is asked for to a writer.
 fn write_view<W: Write + Drop>(
     rt: HostRuntime,
     ask: &Ask<'_>,
-    mut machine: Machine,
+    machine: &mut Machine,
     ports: &mut Ports,
     to: W,
 ) -> Result<(), Fault>
-    requires start { machine.at ≡ 0 }
+    requires start { machine.old.at ≡ 0 }
     requires eight { vec_len ports.old ≡ 8 }
 {
     let mut out = BufWriter::new(rt.alloc(), to)?;
@@ -49,7 +50,7 @@ fn write_view<W: Write + Drop>(
         &mut out,
         ask.form,
         &ask.window,
-        &mut machine,
+        machine,
         ports,
         &mut progress,
     );
@@ -59,22 +60,69 @@ fn write_view<W: Write + Drop>(
     Ok(())
 }
 
-/// Answers what is asked, beside a device at each of the eight ports that shows 0 until it is fed.
-fn answer(rt: HostRuntime, ask: &Ask<'_>) -> Result<(), Fault> {
-    let alloc = rt.alloc();
+/// A device at each of the eight ports, which shows 0 until it is fed.
+fn held_ports(alloc: Global) -> Result<Ports, Fault>
+    ensures { IfOk result (λ ports. vec_len ports ≡ 8) }
+{
     let mut ports: Ports = Vec::new(alloc);
     for _thread in 0..8u8 {
         ports.push(Some(Box::new(alloc, HeldPort::new(alloc))?))?;
     }
-    let name = Name::from_str(alloc, ask.setup)?;
-    let program = load(alloc, &name, &mut RealFiles::new(rt))?;
-    let machine = Machine::load(alloc, &program.setup, &program.image)?;
-    feed_inputs(&program.setup, &mut ports)?;
+    Ok(ports)
+}
+
+/// The program of a setup's file.
+fn load_file(rt: HostRuntime, setup: &str) -> Result<Program, Fault> {
+    let name = Name::from_str(rt.alloc(), setup)?;
+    Ok(load(rt.alloc(), &name, &mut RealFiles::new(rt))?)
+}
+
+/// The machine of a program at its start, with the ports fed.
+fn machine_beside(
+    alloc: Global,
+    program: &Program,
+    ports: &mut Ports,
+) -> Result<Machine, AllocError>
+    requires eight { vec_len ports.old ≡ 8 }
+    ensures start { IfOk result (λ machine. machine.at ≡ 0) }
+    ensures eight { vec_len ports.new ≡ 8 }
+{
+    feed_inputs(&program.setup, ports)?;
+    Machine::load(alloc, &program.setup, &program.image)
+}
+
+/// The machine of a setup's file at its start, with the ports fed.
+fn load_machine(rt: HostRuntime, setup: &str, ports: &mut Ports) -> Result<Machine, Fault>
+    requires eight { vec_len ports.old ≡ 8 }
+    ensures start { IfOk result (λ machine. machine.at ≡ 0) }
+    ensures eight { vec_len ports.new ≡ 8 }
+{
+    let program = load_file(rt, setup)?;
+    Ok(machine_beside(rt.alloc(), &program, ports)?)
+}
+
+/// Runs a machine, and writes what is asked for to the file that is asked for.
+fn write_asked(
+    rt: HostRuntime,
+    ask: &Ask<'_>,
+    machine: &mut Machine,
+    ports: &mut Ports,
+) -> Result<(), Fault>
+    requires start { machine.old.at ≡ 0 }
+    requires eight { vec_len ports.old ≡ 8 }
+{
     if ask.file == STANDARD_OUTPUT {
-        write_view(rt, ask, machine, &mut ports, io::writer(&rt))
+        write_view(rt, ask, machine, ports, io::writer(&rt))
     } else {
-        write_view(rt, ask, machine, &mut ports, fs::create(&rt, ask.file)?)
+        write_view(rt, ask, machine, ports, fs::create(&rt, ask.file)?)
     }
+}
+
+/// Answers what is asked, beside a device at each of the eight ports.
+fn answer(rt: HostRuntime, ask: &Ask<'_>) -> Result<(), Fault> {
+    let mut ports = held_ports(rt.alloc())?;
+    let mut machine = load_machine(rt, ask.setup, &mut ports)?;
+    write_asked(rt, ask, &mut machine, &mut ports)
 }
 
 /// The status of what the words ask.

@@ -69,15 +69,20 @@ impl From<AllocError> for WordsNo {
     }
 }
 
-/// An option that is a cycle.
-fn cycle_option<'a>(alloc: Global, name: &'a str, help: &'a str) -> Arg<'a> {
+/// An option that takes a value.
+fn value_option<'a>(alloc: Global, name: &'a str, value_name: &'a str, help: &'a str) -> Arg<'a> {
     Arg::new(alloc, name)
         .long(name)
-        .required(true)
         .action(ArgAction::Set)
-        .value_name("CYCLE")
-        .value_parser(ValueParser::unsigned(0, Window::MOST))
+        .value_name(value_name)
         .help(help)
+}
+
+/// An option that is a cycle.
+fn cycle_option<'a>(alloc: Global, name: &'a str, help: &'a str) -> Arg<'a> {
+    value_option(alloc, name, "CYCLE", help)
+        .required(true)
+        .value_parser(ValueParser::unsigned(0, Window::MOST))
 }
 
 /// An option that names the file of a form. It is never given beside one of the two others.
@@ -87,11 +92,7 @@ fn form_option<'a>(
     others: (&'a str, &'a str),
     help: &'a str,
 ) -> Result<Arg<'a>, AllocError> {
-    Arg::new(alloc, name)
-        .long(name)
-        .action(ArgAction::Set)
-        .value_name("FILE")
-        .help(help)
+    value_option(alloc, name, "FILE", help)
         .conflicts_with(others.0)?
         .conflicts_with(others.1)
 }
@@ -99,34 +100,62 @@ fn form_option<'a>(
 /// The option that says until when it is told how far the run is.
 fn progress_option<'a>(alloc: Global) -> Arg<'a> {
     let values: &'a [&'a str] = &[BEFORE, ALL];
-    Arg::new(alloc, "progress")
-        .long("progress")
+    value_option(
+        alloc,
+        "progress",
+        "UNTIL",
+        "tells on standard error how far a long run is",
+    )
+    .value_parser(ValueParser::Names(values))
+}
+
+/// The argument that names the setup.
+fn setup_argument<'a>(alloc: Global) -> Arg<'a> {
+    Arg::new(alloc, "setup")
+        .required(true)
         .action(ArgAction::Set)
-        .value_name("UNTIL")
-        .value_parser(ValueParser::Names(values))
-        .help("tells on standard error how far a long run is")
+        .value_name("SETUP")
+        .help("the setup of the machine, a TOML file")
+}
+
+/// A command with the two cycles of a window as options.
+fn with_window<'a>(alloc: Global, command: Command<'a>) -> Result<Command<'a>, AllocError> {
+    command
+        .arg(cycle_option(alloc, "from", "the first cycle"))?
+        .arg(cycle_option(alloc, "to", "the cycle behind the last one"))
+}
+
+/// A command with the option of a form.
+fn with_form<'a>(
+    alloc: Global,
+    command: Command<'a>,
+    name: &'a str,
+    others: (&'a str, &'a str),
+    help: &'a str,
+) -> Result<Command<'a>, AllocError> {
+    let option = form_option(alloc, name, others, help)?;
+    command.arg(option)
+}
+
+/// A command with the options of the three forms that are written to a file.
+fn with_forms<'a>(alloc: Global, command: Command<'a>) -> Result<Command<'a>, AllocError> {
+    let konata = "writes the log of the Konata viewer";
+    let vcd = "writes a value change dump, for GTKWave";
+    let svg = "writes a picture, for a browser";
+    let command = with_form(alloc, command, "konata", ("vcd", "svg"), konata)?;
+    let command = with_form(alloc, command, "vcd", ("konata", "svg"), vcd)?;
+    with_form(alloc, command, "svg", ("konata", "vcd"), svg)
 }
 
 /// The command `turns`.
 fn turns_command<'a>(alloc: Global) -> Result<Command<'a>, AllocError> {
-    let setup = Arg::new(alloc, "setup")
-        .required(true)
-        .action(ArgAction::Set)
-        .value_name("SETUP")
-        .help("the setup of the machine, a TOML file");
-    let konata = "writes the log of the Konata viewer";
-    let vcd = "writes a value change dump, for GTKWave";
-    let svg = "writes a picture, for a browser";
-    Command::new(alloc, "turns")
+    let command = Command::new(alloc, "turns")
         .about("shows what the pipeline does in each cycle of a window")
         .after_help(AFTER)
-        .arg(setup)?
-        .arg(cycle_option(alloc, "from", "the first cycle"))?
-        .arg(cycle_option(alloc, "to", "the cycle behind the last one"))?
-        .arg(form_option(alloc, "konata", ("vcd", "svg"), konata)?)?
-        .arg(form_option(alloc, "vcd", ("konata", "svg"), vcd)?)?
-        .arg(form_option(alloc, "svg", ("konata", "vcd"), svg)?)?
-        .arg(progress_option(alloc))
+        .arg(setup_argument(alloc))?;
+    let command = with_window(alloc, command)?;
+    let command = with_forms(alloc, command)?;
+    command.arg(progress_option(alloc))
 }
 
 /// The program's commands.
