@@ -1,6 +1,6 @@
 //! The log of the Konata viewer, format `Kanata` 0004.
 
-use crate::cycle::{Cycle, is_flushed, thread_of};
+use crate::cycle::{Cycle, CycleStart, is_flushed, thread_of};
 use crate::text::put_turn;
 use pipeline_core::{Held, Stored};
 use std::io;
@@ -10,7 +10,7 @@ use std::io::Write;
 const STAGES: [&str; 5] = ["F", "D", "E", "M", "W"];
 
 /// A turn that is shown.
-#[derive(Clone, Copy, Debug)]
+#[derive(Clone, Copy)]
 struct Shown {
     /// Its number in the log.
     id: u64,
@@ -71,7 +71,7 @@ impl Konata {
 
     /// Puts in which stage each turn is.
     fn put_stages<W: Write>(&self, out: &mut W) -> io::Result<()> {
-        for (turn, stage) in self.stages.iter().zip(STAGES) {
+        for (turn, stage) in self.stages.iter().zip(&STAGES) {
             put_stage(out, turn, stage)?;
         }
         Ok(())
@@ -115,7 +115,12 @@ fn put_begin<W: Write>(out: &mut W, turn: Option<Shown>, cycle: &Cycle) -> io::R
     let id = turn.id;
     write!(out, "I\t{id}\t{id}\t{thread}\nL\t{id}\t0\t")?;
     put_turn(out, cycle)?;
-    let number = cycle.start.cycle;
-    let time = cycle.start.time;
+    put_when(out, id, &cycle.start)
+}
+
+/// Puts the second label of a turn: the cycle and time of its beginning.
+fn put_when<W: Write>(out: &mut W, id: u64, start: &CycleStart) -> io::Result<()> {
+    let number = start.cycle;
+    let time = start.time;
     write!(out, "\nL\t{id}\t1\tcycle {number}, {time} ns\n")
 }

@@ -2,6 +2,7 @@
 
 use crate::cycle::{Cycle, is_flushed, thread_of};
 use pipeline_core::{Held, Stored};
+use rv_disasm::text_at;
 use slot_table::Turn;
 use std::io;
 use std::io::Write;
@@ -43,18 +44,21 @@ fn put_stage<W: Write>(out: &mut W, turn: &Held<Stored>) -> io::Result<()> {
 /// Puts the picked turn: its thread, and its address, word, instruction and effect, or that it is
 /// flushed.
 pub(crate) fn put_turn<W: Write>(out: &mut W, cycle: &Cycle) -> io::Result<()> {
-    let outcome = cycle.outcome();
     match *cycle.turn() {
-        Held::Bubble => out.write_all(b"-"),
-        Held::Flushed { thread } => write!(out, "T{thread} {outcome}"),
-        Held::Issue { thread, what } => {
-            let instruction = cycle.instruction();
-            let text = instruction.as_str();
-            let pc = what.pc;
-            let word = what.word;
-            write!(out, "T{thread} {pc:08x} {word:08x} {text:<26} {outcome}")
-        }
+        Held::Bubble => return out.write_all(b"-"),
+        Held::Flushed { thread } => write!(out, "T{thread} ")?,
+        Held::Issue { thread, what } => put_issue(out, thread, &what)?,
     }
+    out.write_all(cycle.outcome().as_bytes())
+}
+
+/// Puts an issue: its thread, and its address, word and instruction.
+fn put_issue<W: Write>(out: &mut W, thread: u8, what: &Stored) -> io::Result<()> {
+    let pc = what.pc;
+    let word = what.word;
+    let instruction = text_at(pc, word);
+    let text = instruction.as_str();
+    write!(out, "T{thread} {pc:08x} {word:08x} {text:<26} ")
 }
 
 /// Puts the line of a cycle: its number, its time in nanoseconds, its slot, the thread in each of
@@ -68,10 +72,15 @@ pub fn put_row<W: Write>(out: &mut W, cycle: &Cycle) -> io::Result<()> {
     let time = cycle.start.time;
     let slot = slot_name(cycle.start.slot);
     write!(out, "{number:>10} {time:>13} {slot:<4} ")?;
-    for turn in &cycle.turns {
-        put_stage(out, turn)?;
-    }
-    out.write_all(b" ")?;
+    put_stages(out, &cycle.turns)?;
     put_turn(out, cycle)?;
     out.write_all(b"\n")
+}
+
+/// Puts what stands in the five stages, and a blank.
+fn put_stages<W: Write>(out: &mut W, turns: &[Held<Stored>; 5]) -> io::Result<()> {
+    for turn in turns {
+        put_stage(out, turn)?;
+    }
+    out.write_all(b" ")
 }

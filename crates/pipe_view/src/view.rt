@@ -148,6 +148,26 @@ fn put_cycle<W: Write>(
     }
 }
 
+/// Runs a machine from a cycle on until all is known of a window's cycles, and puts them as they
+/// come.
+fn put_window<W: Write, P: Progress>(
+    out: &mut W,
+    writing: &mut Writing,
+    window: &Window,
+    machine: &mut Machine,
+    ports: &mut Ports,
+    progress: &mut P,
+) -> io::Result<()>
+    requires eight { vec_len ports.old ≡ 8 }
+{
+    let mut watch = Watch::new();
+    for _cycle in machine.at..window.run_len() {
+        put_cycle(out, writing, &mut watch, window, machine, ports)?;
+        tell_at(progress, machine.at);
+    }
+    Ok(())
+}
+
 /// Runs a machine from cycle 0 on until all is known of a window's cycles, and puts them as they
 /// come. It is told now and then how far the run is. It takes no memory.
 ///
@@ -169,10 +189,6 @@ pub fn put_view<W: Write, P: Progress>(
     go(machine, ports, first, progress);
     progress.begin_window();
     let mut writing = Writing::begin(out, form, window)?;
-    let mut watch = Watch::new();
-    for _cycle in first..window.run_len() {
-        put_cycle(out, &mut writing, &mut watch, window, machine, ports)?;
-        tell_at(progress, machine.at);
-    }
+    put_window(out, &mut writing, window, machine, ports, progress)?;
     writing.end(out, machine.units.clock.now(window.to))
 }
