@@ -37,11 +37,11 @@ fn read_args(rt: HostRuntime) -> Result<Vec<String>, Fault> {
 fn write_view<W: Write + Drop>(
     rt: HostRuntime,
     ask: &Ask<'_>,
-    machine: &mut Machine,
+    mut machine: Machine,
     ports: &mut Ports,
     to: W,
 ) -> Result<(), Fault>
-    requires start { machine.old.at ≡ 0 }
+    requires start { machine.at ≡ 0 }
     requires eight { vec_len ports.old ≡ 8 }
 {
     let mut out = BufWriter::new(rt.alloc(), to)?;
@@ -50,7 +50,7 @@ fn write_view<W: Write + Drop>(
         &mut out,
         ask.form,
         &ask.window,
-        machine,
+        &mut machine,
         ports,
         &mut progress,
     );
@@ -105,24 +105,25 @@ fn load_machine(rt: HostRuntime, setup: &str, ports: &mut Ports) -> Result<Machi
 fn write_asked(
     rt: HostRuntime,
     ask: &Ask<'_>,
-    machine: &mut Machine,
+    machine: Machine,
     ports: &mut Ports,
 ) -> Result<(), Fault>
-    requires start { machine.old.at ≡ 0 }
+    requires start { machine.at ≡ 0 }
     requires eight { vec_len ports.old ≡ 8 }
 {
     if ask.file == STANDARD_OUTPUT {
         write_view(rt, ask, machine, ports, io::writer(&rt))
     } else {
-        write_view(rt, ask, machine, ports, fs::create(&rt, ask.file)?)
+        let file = fs::create(&rt, ask.file)?;
+        write_view(rt, ask, machine, ports, file)
     }
 }
 
 /// Answers what is asked, beside a device at each of the eight ports.
 fn answer(rt: HostRuntime, ask: &Ask<'_>) -> Result<(), Fault> {
     let mut ports = held_ports(rt.alloc())?;
-    let mut machine = load_machine(rt, ask.setup, &mut ports)?;
-    write_asked(rt, ask, &mut machine, &mut ports)
+    let machine = load_machine(rt, ask.setup, &mut ports)?;
+    write_asked(rt, ask, machine, &mut ports)
 }
 
 /// The status of what the words ask.

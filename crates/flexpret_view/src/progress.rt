@@ -6,7 +6,7 @@ use pipe_view::{Progress, Window};
 const BLANKS: &str = "                                                            ";
 
 /// Until when it is told how far a run is.
-#[derive(Clone, Copy, Debug, PartialEq, Eq)]
+#[derive(Clone, Copy, PartialEq, Eq)]
 pub enum Telling {
     /// Never.
     Never,

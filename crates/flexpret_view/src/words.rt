@@ -29,7 +29,7 @@ The program is proved to be safe and to end. Nothing is proved of what it shows;
 machine that `flexpret` runs.";
 
 /// What is asked.
-#[derive(Clone, Copy, Debug)]
+#[derive(Clone, Copy)]
 pub struct Ask<'a> {
     /// The file name of the setup.
     pub setup: &'a str,
