@@ -3,6 +3,11 @@
 ghost use Rattle.std.specs.Prelude.{◌≡◌, ◌≢◌, ◌⊎◌, ◌<◌, ◌≤◌, None, Some, IfSome, IsSomeAnd, map, string_bytes, vec_len};
 ghost use Rattle.fp_io.specs.Causes.{Rose};
 ghost use Rattle.fp_ports.specs.Rows.{rows_of};
+ghost use Rattle.fp_elf.specs.Law.{ReadsBack};
+ghost use Rattle.fp_setup.specs.AcceptedSetups.{AcceptedKeepRules};
+ghost use Rattle.run_laws.specs.TraceLaws.{TraceAlone, TraceByPhases};
+ghost use Rattle.section_visits.specs.SetupCallVisitBound.{CallVisitsStayBounded};
+ghost use Rattle.section_visits.specs.SetupVisitBound.{VisitsStayBounded};
 ghost use Rattle.ask_words.specs.Commands.{ask};
 ghost use Rattle.ask_words.specs.Limits.{IsWithinLimits};
 ghost use Rattle.file_answers.specs.Answer.Answer.{Missing};
@@ -121,6 +126,24 @@ fn answer<F: Files, K: Sink>(
     }
 }
 
+/// The laws by which one thread's trace and visits don't hang on what the others run, by which
+/// an accepted setup keeps the rules, and by which the image of an executable is read back.
+fn laws()
+    ensures rules { AcceptedKeepRules }
+    ensures alone { TraceAlone }
+    ensures phased { TraceByPhases }
+    ensures visits { VisitsStayBounded }
+    ensures call_visits { CallVisitsStayBounded }
+    ensures imported { ReadsBack }
+{
+    accepted_keep_rules();
+    traces_alone();
+    traces_by_phases();
+    stays_bounded();
+    calls_stay_bounded();
+    reads_back();
+}
+
 /// Answers the command that the words ask, with `words` as the words after the program's name, and
 /// `ports` as the eight devices, or none, at the ports of the threads:
 ///
@@ -217,14 +240,7 @@ pub fn flexpret<F: Files, K: Sink>(
     ensures apart { IsApartBy (ask (map string_bytes words.now)) → ports.new ≡ ports.old }
     ensures eight { vec_len ports.new ≡ 8 }
 {
-    // The laws by which one thread's trace and visits don't hang on what the others run, by which
-    // an accepted setup keeps the rules, and by which the image of an executable is read back.
-    accepted_keep_rules();
-    traces_alone();
-    traces_by_phases();
-    stays_bounded();
-    calls_stay_bounded();
-    reads_back();
+    laws();
     match read_words(alloc, words) {
         Ok(ask) => answer(alloc, &ask, files, out, ports).number(),
         Err(WordsNo::Usage) => Status::Usage.number(),

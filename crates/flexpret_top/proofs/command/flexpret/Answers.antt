@@ -91,7 +91,7 @@ returns-in-Ok-clause-alone g c zero =
     let before = g.K.Sink.taken c.args.out.now in
     let after = g.K.Sink.taken c.answer.new.out in
     let said = said-zero told words c.in-Ok.ask rows c.answer.result c.number.result before after c.in-Ok.ensures.asked c.number.ensures zero c.answer.ensures.said in
-    alone-of c.traces_alone.ensures c.accepted_keep_rules.ensures told (ask words) rows before after said
+    alone-of c.laws.ensures.alone c.laws.ensures.rules told (ask words) rows before after said
 
 pub returns-in-Ok-clause-as_run : goal.returns-in-Ok-clause-as_run
 returns-in-Ok-clause-as_run g c zero =
@@ -101,7 +101,7 @@ returns-in-Ok-clause-as_run g c zero =
     let before = g.K.Sink.taken c.args.out.now in
     let after = g.K.Sink.taken c.answer.new.out in
     let said = said-zero told words c.in-Ok.ask rows c.answer.result c.number.result before after c.in-Ok.ensures.asked c.number.ensures zero c.answer.ensures.said in
-    as-run-of c.traces_alone.ensures c.accepted_keep_rules.ensures told (ask words) rows before after said
+    as-run-of c.laws.ensures.alone c.laws.ensures.rules told (ask words) rows before after said
 
 pub returns-in-Ok-clause-reads : goal.returns-in-Ok-clause-reads
 returns-in-Ok-clause-reads g c reads = c.answer.ensures.reads (reads-by (map string_bytes c.args.words.now) c.in-Ok.ask c.in-Ok.ensures.asked reads)
@@ -117,7 +117,7 @@ returns-in-Ok-clause-visits g c zero =
     let before = g.K.Sink.taken c.args.out.now in
     let after = g.K.Sink.taken c.answer.new.out in
     let said = said-zero told words c.in-Ok.ask rows c.answer.result c.number.result before after c.in-Ok.ensures.asked c.number.ensures zero c.answer.ensures.said in
-    visits-of c.stays_bounded.ensures told (ask words) rows before after said
+    visits-of c.laws.ensures.visits told (ask words) rows before after said
 
 pub returns-in-Ok-clause-call_visits : goal.returns-in-Ok-clause-call_visits
 returns-in-Ok-clause-call_visits g c zero =
@@ -127,7 +127,7 @@ returns-in-Ok-clause-call_visits g c zero =
     let before = g.K.Sink.taken c.args.out.now in
     let after = g.K.Sink.taken c.answer.new.out in
     let said = said-zero told words c.in-Ok.ask rows c.answer.result c.number.result before after c.in-Ok.ensures.asked c.number.ensures zero c.answer.ensures.said in
-    call-visits-of c.calls_stay_bounded.ensures told (ask words) rows before after said
+    call-visits-of c.laws.ensures.call_visits told (ask words) rows before after said
 
 pub returns-in-Ok-clause-phased : goal.returns-in-Ok-clause-phased
 returns-in-Ok-clause-phased g c zero =
@@ -137,7 +137,7 @@ returns-in-Ok-clause-phased g c zero =
     let before = g.K.Sink.taken c.args.out.now in
     let after = g.K.Sink.taken c.answer.new.out in
     let said = said-zero told words c.in-Ok.ask rows c.answer.result c.number.result before after c.in-Ok.ensures.asked c.number.ensures zero c.answer.ensures.said in
-    phased-of c.traces_by_phases.ensures c.accepted_keep_rules.ensures told (ask words) rows before after said
+    phased-of c.laws.ensures.phased c.laws.ensures.rules told (ask words) rows before after said
 
 pub returns-in-Ok-clause-imported : goal.returns-in-Ok-clause-imported
 returns-in-Ok-clause-imported g c zero =
@@ -147,4 +147,4 @@ returns-in-Ok-clause-imported g c zero =
     let before = g.K.Sink.taken c.args.out.now in
     let after = g.K.Sink.taken c.answer.new.out in
     let said = said-zero told words c.in-Ok.ask rows c.answer.result c.number.result before after c.in-Ok.ensures.asked c.number.ensures zero c.answer.ensures.said in
-    imported-of c.reads_back.ensures told (ask words) rows before after said
+    imported-of c.laws.ensures.imported told (ask words) rows before after said
