@@ -2,7 +2,7 @@
 
 ghost use Rattle.std.specs.Prelude.{◌≡◌, ◌≤◌};
 
-use crate::cycle::{Cycle, ThreadState, is_flushed, thread_of};
+use crate::cycle::{Cycle, is_flushed, thread_of};
 use crate::text::{put_turn, slot_name};
 use std::io;
 use std::io::Write;
@@ -77,7 +77,11 @@ impl Svg {
         self.x = x.saturating_add(COLUMN);
         put_time(out, x, cycle)?;
         put_slot(out, x, cycle)?;
-        put_sleepers(out, x, &cycle.start.threads)?;
+        for (thread, state) in (0..8u8).zip(&cycle.start.threads) {
+            if state.asleep {
+                put_asleep(out, x, thread)?;
+            }
+        }
         put_cell(out, x, cycle)
     }
 }
@@ -122,16 +126,6 @@ fn put_slot<W: Write>(out: &mut W, x: u64, cycle: &Cycle) -> io::Result<()> {
     write!(out, "<text x=\"{text_x}\" y=\"47\">{name}</text>\n")
 }
 
-/// Puts which threads are asleep.
-fn put_sleepers<W: Write>(out: &mut W, x: u64, threads: &[ThreadState; 8]) -> io::Result<()> {
-    for (thread, state) in (0..8u8).zip(threads) {
-        if state.asleep {
-            put_asleep(out, x, thread)?;
-        }
-    }
-    Ok(())
-}
-
 /// Puts that a thread is asleep.
 fn put_asleep<W: Write>(out: &mut W, x: u64, thread: u8) -> io::Result<()> {
     let y = row_of(thread);
@@ -160,26 +154,16 @@ fn put_cell<W: Write>(out: &mut W, x: u64, cycle: &Cycle) -> io::Result<()> {
     let Some(thread) = thread_of(cycle.turn()) else {
         return Ok(());
     };
-    put_rectangle(out, x, row_of(thread) + 1, cycle)?;
-    put_title(out, cycle)?;
-    out.write_all(b"</rect>\n")
-}
-
-/// Puts the opening tag of the cell of the picked turn, at a place.
-fn put_rectangle<W: Write>(out: &mut W, x: u64, y: u64, cycle: &Cycle) -> io::Result<()> {
     let class = class_of(cycle);
     let donated = if cycle.is_donated() { " d" } else { "" };
-    write!(
-        out,
-        "<rect class=\"{class}{donated}\" x=\"{x}\" y=\"{y}\" width=\"12\" height=\"16\">"
-    )
-}
-
-/// Puts a cycle's number, its time and the text of its turn as a tooltip.
-fn put_title<W: Write>(out: &mut W, cycle: &Cycle) -> io::Result<()> {
+    let y = row_of(thread) + 1;
     let number = cycle.start.cycle;
     let time = cycle.start.time;
-    write!(out, "<title>cycle {number}, {time} ns: ")?;
+    write!(
+        out,
+        "<rect class=\"{class}{donated}\" x=\"{x}\" y=\"{y}\" width=\"12\" height=\"16\">\
+         <title>cycle {number}, {time} ns: "
+    )?;
     put_turn(out, cycle)?;
-    out.write_all(b"</title>")
+    out.write_all(b"</title></rect>\n")
 }

@@ -49,7 +49,19 @@ impl Vcd {
     pub fn put<W: Write>(&mut self, out: &mut W, cycle: &Cycle) -> io::Result<()> {
         let time = cycle.start.time;
         write!(out, "#{time}\n")?;
-        put_changes(out, &self.last, cycle)?;
+        let before = self.last.as_ref().map(|last| last.0);
+        let (issued, lost) = match &self.last {
+            Some((_, turn)) => (issue_of(turn), flush_of(turn)),
+            None => {
+                put_zeros(out)?;
+                (None, None)
+            }
+        };
+        put_registers(out, before.as_ref(), &cycle.start)?;
+        put_pulse(out, 'i', issued, issue_of(cycle.turn()))?;
+        put_pulse(out, 'f', lost, flush_of(cycle.turn()))?;
+        put_instruction(out, cycle)?;
+        put_threads(out, before.as_ref(), &cycle.start)?;
         self.last = Some((cycle.start, *cycle.turn()));
         Ok(())
     }
@@ -77,33 +89,6 @@ fn put_scope<W: Write>(out: &mut W, thread: u8) -> io::Result<()> {
 fn put_signal<W: Write>(out: &mut W, thread: u8, signal: &(&str, &str, &str)) -> io::Result<()> {
     let (letter, kind, name) = *signal;
     write!(out, "$var {kind} {letter}{thread} {name} $end\n")
-}
-
-/// Puts what changes with a cycle, behind the cycle before it; all, where there is none before.
-fn put_changes<W: Write>(
-    out: &mut W,
-    last: &Option<(CycleStart, Held<Stored>)>,
-    cycle: &Cycle,
-) -> io::Result<()> {
-    if last.is_none() {
-        put_zeros(out)?;
-    }
-    let before = last.as_ref().map(|last| last.0);
-    put_registers(out, before.as_ref(), &cycle.start)?;
-    put_picked(out, last.as_ref().map(|last| last.1), cycle)?;
-    put_threads(out, before.as_ref(), &cycle.start)
-}
-
-/// Puts who issues and who is flushed, where that changes, and what is issued.
-fn put_picked<W: Write>(
-    out: &mut W,
-    before: Option<Held<Stored>>,
-    cycle: &Cycle,
-) -> io::Result<()> {
-    let turn = cycle.turn();
-    put_pulse(out, 'i', before.as_ref().and_then(issue_of), issue_of(turn))?;
-    put_pulse(out, 'f', before.as_ref().and_then(flush_of), flush_of(turn))?;
-    put_instruction(out, cycle)
 }
 
 /// Puts that no thread issues and none is flushed.
@@ -207,48 +192,20 @@ fn put_thread<W: Write>(
     before: Option<&ThreadState>,
     now: &ThreadState,
 ) -> io::Result<()> {
-    put_asleep(out, thread, before.map(|state| state.asleep), now.asleep)?;
-    put_change(out, 'a', thread, before.map(|state| state.armed), now.armed)?;
-    put_change(out, 'l', thread, before.map(latch_of), latch_of(now))?;
-    put_change(out, 'n', thread, before.map(input_of), input_of(now))
-}
-
-/// What the latch of a thread's port holds, if it has a port.
-fn latch_of(state: &ThreadState) -> Option<u64> {
-    state.latch.map(u64::from)
-}
-
-/// The word that a thread's port shows.
-fn input_of(state: &ThreadState) -> Option<u64> {
-    Some(u64::from(state.input))
-}
-
-/// Puts whether a thread is asleep, where that changes.
-fn put_asleep<W: Write>(
-    out: &mut W,
-    thread: usize,
-    before: Option<bool>,
-    now: bool,
-) -> io::Result<()> {
-    if before == Some(now) {
-        return Ok(());
+    if before.map(|state| state.asleep) != Some(now.asleep) {
+        let bit = u8::from(now.asleep);
+        write!(out, "{bit}s{thread}\n")?;
     }
-    let bit = u8::from(now);
-    write!(out, "{bit}s{thread}\n")
-}
-
-/// Puts the value of a thread's signal of many bits, where it changes.
-fn put_change<W: Write>(
-    out: &mut W,
-    letter: char,
-    thread: usize,
-    before: Option<Option<u64>>,
-    now: Option<u64>,
-) -> io::Result<()> {
-    if before == Some(now) {
-        return Ok(());
+    if before.map(|state| state.armed) != Some(now.armed) {
+        put_vector(out, now.armed, 'a', thread)?;
     }
-    put_vector(out, now, letter, thread)
+    if before.map(|state| state.latch) != Some(now.latch) {
+        put_vector(out, now.latch.map(u64::from), 'l', thread)?;
+    }
+    if before.map(|state| state.input) != Some(now.input) {
+        put_vector(out, Some(u64::from(now.input)), 'n', thread)?;
+    }
+    Ok(())
 }
 
 /// Puts the value of a signal of many bits.
