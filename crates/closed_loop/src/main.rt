@@ -13,7 +13,7 @@ mod control_loop;
 mod fixed;
 mod plant;
 
-ghost use Rattle.std.specs.Prelude.{◌≡◌, IfOk, vec_len};
+ghost use Rattle.std.specs.Prelude.{◌≡◌, vec_len};
 
 use crate::control_loop::ControlLoop;
 use crate::fixed::Fixed;
@@ -22,7 +22,6 @@ use file_answers::{Program, Stop, load};
 use fp_io::RealFiles;
 use fp_ports::{HeldPort, Ports};
 use fp_setup::Name;
-use std::alloc::Global;
 
 /// The setup, whose thread 0 is the controller.
 const SETUP: &str = "examples/device/loop.toml";
@@ -68,22 +67,22 @@ fn print_periods(rt: HostRuntime, closed: &mut ControlLoop, ns: u64) -> Result<(
     Ok(())
 }
 
-/// A device at each of the eight ports, which shows 0 until it is fed.
-fn held_ports(alloc: Global) -> Result<Ports>
-    ensures { IfOk result (λ ports. vec_len ports ≡ 8) }
+/// Closes the loop over devices at the ports.
+fn close_over(rt: HostRuntime, program: &Program, ports: Ports) -> Result<()>
+    requires { vec_len ports ≡ 8 }
 {
+    let mut closed = ControlLoop::new(rt.alloc(), program, ports)?;
+    print_periods(rt, &mut closed, u64::from(program.setup.period))
+}
+
+/// Closes the loop over a device at each of the eight ports that shows 0 until it is fed.
+fn run(rt: HostRuntime, program: &Program) -> Result<()> {
+    let alloc = rt.alloc();
     let mut ports: Ports = Vec::new(alloc);
     for _thread in 0..8u8 {
         ports.push(Some(Box::new(alloc, HeldPort::new(alloc))?))?;
     }
-    Ok(ports)
-}
-
-/// Closes the loop over a device at each of the eight ports.
-fn run(rt: HostRuntime, program: &Program) -> Result<()> {
-    let ports = held_ports(rt.alloc())?;
-    let mut closed = ControlLoop::new(rt.alloc(), program, ports)?;
-    print_periods(rt, &mut closed, u64::from(program.setup.period))
+    close_over(rt, program, ports)
 }
 
 fn main(rt: HostRuntime) -> Result<()> {

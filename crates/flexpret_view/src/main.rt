@@ -60,17 +60,6 @@ fn write_view<W: Write + Drop>(
     Ok(())
 }
 
-/// A device at each of the eight ports, which shows 0 until it is fed.
-fn held_ports(alloc: Global) -> Result<Ports, Fault>
-    ensures { IfOk result (λ ports. vec_len ports ≡ 8) }
-{
-    let mut ports: Ports = Vec::new(alloc);
-    for _thread in 0..8u8 {
-        ports.push(Some(Box::new(alloc, HeldPort::new(alloc))?))?;
-    }
-    Ok(ports)
-}
-
 /// The program of a setup's file.
 fn load_file(rt: HostRuntime, setup: &str) -> Result<Program, Fault> {
     let name = Name::from_str(rt.alloc(), setup)?;
@@ -119,11 +108,22 @@ fn write_asked(
     }
 }
 
-/// Answers what is asked, beside a device at each of the eight ports.
+/// Answers what is asked, beside these devices.
+fn answer_beside(rt: HostRuntime, ask: &Ask<'_>, ports: &mut Ports) -> Result<(), Fault>
+    requires { vec_len ports.old ≡ 8 }
+{
+    let machine = load_machine(rt, ask.setup, ports)?;
+    write_asked(rt, ask, machine, ports)
+}
+
+/// Answers what is asked, beside a device at each of the eight ports that shows 0 until it is fed.
 fn answer(rt: HostRuntime, ask: &Ask<'_>) -> Result<(), Fault> {
-    let mut ports = held_ports(rt.alloc())?;
-    let machine = load_machine(rt, ask.setup, &mut ports)?;
-    write_asked(rt, ask, machine, &mut ports)
+    let alloc = rt.alloc();
+    let mut ports: Ports = Vec::new(alloc);
+    for _thread in 0..8u8 {
+        ports.push(Some(Box::new(alloc, HeldPort::new(alloc))?))?;
+    }
+    answer_beside(rt, ask, &mut ports)
 }
 
 /// The status of what the words ask.
