@@ -93,6 +93,13 @@ fn status_of(alloc: Global, bench: &mut Bench, ports: &mut Ports) -> u8 {
     flexpret(alloc, &bench.words, &mut bench.files, &mut bench.out, ports)
 }
 
+/// What devices count while a command runs.
+#[derive(Clone, Copy)]
+struct Counts<'a> {
+    drops: &'a Cell<u32>,
+    calls: &'a Cell<u32>,
+}
+
 /// What a command left beside what it wrote.
 #[derive(Drop)]
 struct Ended {
@@ -130,10 +137,26 @@ fn run_beside(
         };
         ports.push(port)?;
     }
+    let counts = Counts {
+        drops: &drops,
+        calls: &counted,
+    };
+    run_over(alloc, bench, ports, notes, counts, kinds)
+}
+
+/// Runs a command beside devices of some kinds, and lets go of these.
+fn run_over(
+    alloc: Global,
+    bench: &mut Bench,
+    mut ports: Ports,
+    notes: &Notes,
+    counts: Counts<'_>,
+    kinds: &str,
+) -> Result<Ended, AllocError> {
     let status = status_of(alloc, bench, &mut ports);
+    let called = counts.calls.get();
     let calls = notes.text(alloc)?;
-    let called = counted.get();
-    let mut left = left_at(alloc, ports, &drops)?;
+    let mut left = left_at(alloc, ports, counts.drops)?;
     if kinds.contains("count") {
         write!(left, " called {called}")?;
     }

@@ -104,6 +104,37 @@ impl Command {
         let line = self.line.as_str();
         line.starts_with("asm") || line.starts_with("elf")
     }
+
+    /// Begins a part of the answer beside its text.
+    fn begin(&mut self, alloc: Global, heading: &str) -> AnswerPart {
+        match heading {
+            "calls" => {
+                self.calls = Some(String::new(alloc));
+                AnswerPart::Calls
+            }
+            "dump" => {
+                self.dump = Some(Vec::new(alloc));
+                AnswerPart::Dump
+            }
+            _ => AnswerPart::Ports,
+        }
+    }
+
+    /// Takes a line of a part of the answer.
+    fn take(&mut self, alloc: Global, part: AnswerPart, line: &str) -> Result<(), AllocError> {
+        match part {
+            AnswerPart::Text(style) => push_line(&mut self.text, alloc, style, line),
+            AnswerPart::Ports => {
+                self.ports = Some(String::from_str(alloc, line)?);
+                Ok(())
+            }
+            AnswerPart::Calls => push_call(&mut self.calls, line),
+            AnswerPart::Dump => match &mut self.dump {
+                Some(dump) => push_line(dump, alloc, Style::Dump, line),
+                None => Ok(()),
+            },
+        }
+    }
 }
 
 /// Devices and files, and command lines over them.
@@ -120,6 +151,12 @@ pub struct Case {
 enum Part {
     Head,
     File(Style),
+    Answer(AnswerPart),
+}
+
+/// What of a command's answer the lines belong to that follow.
+#[derive(Clone, Copy)]
+enum AnswerPart {
     Text(Style),
     Ports,
     Calls,
@@ -218,41 +255,37 @@ impl Case {
     /// Begins a part.
     fn begin(&mut self, alloc: Global, heading: &str) -> Result<Part, AllocError> {
         if let Some((head, line)) = heading.split_once("$ ") {
-            return Ok(Part::Text(self.begin_command(alloc, head, line)?));
+            let style = self.begin_command(alloc, head, line)?;
+            return Ok(Part::Answer(AnswerPart::Text(style)));
         }
         match heading.split_once(' ') {
-            Some(("text", name)) => {
-                self.begin_file(alloc, name)?;
-                Ok(Part::File(Style::Plain))
-            }
-            Some(("bytes", name)) => {
-                self.begin_file(alloc, name)?;
-                Ok(Part::File(Style::Digits))
-            }
-            Some(("written", name)) => {
-                self.begin_file(alloc, name)?;
-                self.copy_written()?;
-                Ok(Part::File(Style::Plain))
-            }
-            _ => self.begin_rest(alloc, heading),
+            Some((kind, name)) => Ok(Part::File(self.begin_file_of(alloc, kind, name)?)),
+            None => Ok(self.begin_rest(alloc, heading)),
         }
     }
 
+    /// Begins a file of a kind: `text`, `bytes` in hexadecimal digits, or `written`, which begins
+    /// with what the last command writes. Says how its lines are written.
+    fn begin_file_of(
+        &mut self,
+        alloc: Global,
+        kind: &str,
+        name: &str,
+    ) -> Result<Style, AllocError> {
+        self.begin_file(alloc, name)?;
+        match kind {
+            "bytes" => return Ok(Style::Digits),
+            "written" => self.copy_written()?,
+            _ => {}
+        }
+        Ok(Style::Plain)
+    }
+
     /// Begins a part of the last command's answer beside its text.
-    fn begin_rest(&mut self, alloc: Global, heading: &str) -> Result<Part, AllocError> {
-        let Some(command) = self.commands.last_mut() else {
-            return Ok(Part::Head);
-        };
-        match heading {
-            "calls" => {
-                command.calls = Some(String::new(alloc));
-                Ok(Part::Calls)
-            }
-            "dump" => {
-                command.dump = Some(Vec::new(alloc));
-                Ok(Part::Dump)
-            }
-            _ => Ok(Part::Ports),
+    fn begin_rest(&mut self, alloc: Global, heading: &str) -> Part {
+        match self.commands.last_mut() {
+            Some(command) => Part::Answer(command.begin(alloc, heading)),
+            None => Part::Head,
         }
     }
 
@@ -264,24 +297,28 @@ impl Case {
         }
     }
 
+    /// Begins the part of a heading, or takes a line of the part that there is; says what the next
+    /// lines belong to.
+    fn go_on(&mut self, alloc: Global, part: Part, line: &str) -> Result<Part, AllocError> {
+        if let Some(heading) = line.strip_prefix("--- ") {
+            return self.begin(alloc, heading);
+        }
+        self.take(alloc, part, line)?;
+        Ok(part)
+    }
+
     /// Takes a line of a part.
     fn take(&mut self, alloc: Global, part: Part, line: &str) -> Result<(), AllocError> {
-        match (part, self.files.last_mut(), self.commands.last_mut()) {
-            (Part::Head, _, _) => self.ports.push_str(line),
-            (Part::File(style), Some(file), _) => push_line(&mut file.bytes, alloc, style, line),
-            (Part::Text(style), _, Some(command)) => {
-                push_line(&mut command.text, alloc, style, line)
-            }
-            (Part::Ports, _, Some(command)) => {
-                command.ports = Some(String::from_str(alloc, line)?);
-                Ok(())
-            }
-            (Part::Calls, _, Some(command)) => push_call(&mut command.calls, line),
-            (Part::Dump, _, Some(command)) => match &mut command.dump {
-                Some(dump) => push_line(dump, alloc, Style::Dump, line),
+        match part {
+            Part::Head => self.ports.push_str(line),
+            Part::File(style) => match self.files.last_mut() {
+                Some(file) => push_line(&mut file.bytes, alloc, style, line),
                 None => Ok(()),
             },
-            _ => Ok(()),
+            Part::Answer(answer) => match self.commands.last_mut() {
+                Some(command) => command.take(alloc, answer, line),
+                None => Ok(()),
+            },
         }
     }
 }
@@ -304,19 +341,19 @@ fn take_line(
     line: &str,
 ) -> Result<Part, AllocError> {
     if let Some(name) = line.strip_prefix("=== ") {
-        cases.push(Case::named(alloc, name)?)?;
+        begin_case(alloc, cases, name)?;
         return Ok(Part::Head);
     }
-    let Some(case) = cases.last_mut() else {
-        return Ok(part);
-    };
-    match line.strip_prefix("--- ") {
-        Some(heading) => case.begin(alloc, heading),
-        None => {
-            case.take(alloc, part, line)?;
-            Ok(part)
-        }
+    match cases.last_mut() {
+        Some(case) => case.go_on(alloc, part, line),
+        None => Ok(part),
     }
+}
+
+/// Begins the case of a name.
+fn begin_case(alloc: Global, cases: &mut Vec<Case>, name: &str) -> Result<(), AllocError> {
+    cases.push(Case::named(alloc, name)?)?;
+    Ok(())
 }
 
 /// The cases of a table.

@@ -2,7 +2,7 @@
 //! the devices at the ports, and the calls that it makes. `commands.txt` says at its head how its
 //! tables are written.
 
-use crate::answer::{answer_to, is_wanted, push_answer};
+use crate::answer::{Answer, answer_to, is_wanted, push_answer};
 use crate::cases::{Case, Command, cases};
 use crate::stopped::is_shown;
 use std::{fs, io};
@@ -45,10 +45,20 @@ pub fn agrees(rt: HostRuntime, case: &Case, command: &Command) -> io::Result<boo
     if is_wanted(&answer, command) && is_shown(rt.alloc(), case, command)? {
         return Ok(true);
     }
-    let mut text = String::new(rt.alloc());
-    push_answer(&mut text, &answer)?;
-    println!(rt; "{}, {}: {text}", case.name, command.line)?;
+    print_answer(rt, case, command, &answer)?;
     Ok(false)
+}
+
+/// Prints the answer to a command.
+fn print_answer(
+    rt: HostRuntime,
+    case: &Case,
+    command: &Command,
+    answer: &Answer,
+) -> io::Result<()> {
+    let mut text = String::new(rt.alloc());
+    push_answer(&mut text, answer)?;
+    println!(rt; "{}, {}: {text}", case.name, command.line)
 }
 
 /// The tally of cases.

@@ -8,11 +8,7 @@ pub fn push_expanded(to: &mut Vec<u8>, text: &str) -> Result<(), AllocError> {
     for byte in text.as_bytes() {
         match *byte {
             b'.' => to.extend_from_slice(b"00000000")?,
-            b'*' => {
-                for _word in 0..8u8 {
-                    to.extend_from_slice(b" 00000000")?;
-                }
-            }
+            b'*' => push_times(to, b" 00000000", 8)?,
             byte => to.push(byte)?,
         }
     }
@@ -32,11 +28,16 @@ pub fn push_event(to: &mut Vec<u8>, line: &str) -> Result<(), AllocError> {
 /// 0, and `*N` behind a word says that its bytes stand there N times.
 pub fn push_bytes(to: &mut Vec<u8>, alloc: Global, line: &str) -> Result<(), AllocError> {
     for word in line.split(' ') {
-        let (digits, count) = word.split_once('*').unwrap_or((word, "1"));
-        let bytes = bytes_of(alloc, digits)?;
-        push_times(to, &bytes, count.parse().unwrap_or(0))?;
+        push_word(to, alloc, word)?;
     }
     Ok(())
+}
+
+/// Appends the bytes of one such word.
+fn push_word(to: &mut Vec<u8>, alloc: Global, word: &str) -> Result<(), AllocError> {
+    let (digits, count) = word.split_once('*').unwrap_or((word, "1"));
+    let bytes = bytes_of(alloc, digits)?;
+    push_times(to, &bytes, count.parse().unwrap_or(0))
 }
 
 /// The bytes of digits. What are no digits has none.
