@@ -1,0 +1,107 @@
+#!/usr/bin/env python3
+"""Where the time of a crate's proof goes: seconds by function and by kind of module. It checks the crate from nothing in a copy,
+by one job, and reads the times at which the check kept each module. A function's table of steps (Lts) grows faster
+than its length, its locals and the values that it drops, so one long function can take more than all others of its crate; and
+the gate proves a crate with edits twice, and a changed function again for each of its edits. It is no part of the gate."""
+import argparse
+import re
+import subprocess
+import sys
+import tempfile
+from collections import Counter, defaultdict
+from collections.abc import Iterable, Sequence
+from dataclasses import dataclass, field
+from pathlib import Path
+
+from checking import Bench
+from drawing import library_crates
+
+SECONDS = 3600
+"""A check that takes longer is ended."""
+
+KIND = re.compile(r'\.(Lts|Tie|Proof|Answers|Invariants|Reads|Layout|Code|Kinds|Goals|Statement|Met|Named)(?=[.-]|$)')
+"""What a module holds of a function: its table of steps, how that is tied to the contract, the proof, written answers, and so on."""
+
+SHOWN = 4
+"""How many kinds are told of a function."""
+
+
+@dataclass
+class Spent:
+    """Seconds by kind of module, and the bytes of the function's table of steps as it is kept."""
+    kinds: Counter[str] = field(default_factory=Counter)
+    table: int = 0
+
+    @property
+    def seconds(self) -> float:
+        return sum(self.kinds.values())
+
+    def row(self, name: str) -> str:
+        kinds = ', '.join(f'{kind} {took:.1f}' for kind, took in self.kinds.most_common(SHOWN) if took >= 0.1)
+        return f'{self.seconds:8.1f}  {name}  ({kinds}; table {self.table // 1000} KB)'
+
+
+def kept_modules(folder: Path) -> list[tuple[float, str, int]]:
+    """The modules that a check kept: when, which, and how many bytes."""
+    files = [(file.stat(), file.name) for file in folder.rglob('*.oantt')]
+    return sorted((stat.st_mtime, name, stat.st_size) for stat, name in files)
+
+
+def owner_of(name: str) -> tuple[str, str]:
+    """The function of a kept module, and the module's kind; what belongs to none is a file of its own."""
+    path = name.removesuffix('.oantt').removesuffix('.decls')
+    path = re.sub(r'^Rattle-\w+?(-(proofs|specs))?\.', '', path)
+    kind = KIND.search(path)
+    return (path[:kind.start()], kind[1]) if kind else (path, 'file')
+
+
+def spent(modules: Sequence[tuple[float, str, int]]) -> dict[str, Spent]:
+    """What each function took: a module's time is that since the one before was kept."""
+    by_function: dict[str, Spent] = defaultdict(Spent)
+    for (before, *_), (at, name, size) in zip(modules, modules[1:]):
+        function, kind = owner_of(name)
+        by_function[function].kinds[kind] += at - before
+        if kind == 'Lts':
+            by_function[function].table = max(by_function[function].table, size)
+    return by_function
+
+
+def check_anew(bench: Bench, crate: str) -> None:
+    """Checks a crate from nothing. A folder with no work, and a text that no other copy has, keep `rt` from taking other work."""
+    folder = bench.folder / 'crates' / crate
+    subprocess.run(['rm', '-rf', folder / 'out'], check=True)
+    (folder / 'out/incremental').mkdir(parents=True)
+    root = next(file for file in (folder / 'src/lib.rt', folder / 'src/main.rt') if file.exists())
+    root.write_text(f'{root.read_text()}// checked anew\n')
+    check = bench.check(crate, '--jobs', '1')
+    if not check.is_proved():
+        sys.exit(f'{crate} is not proved:\n' + '\n'.join(check.said[-20:]))
+
+
+def tell(crate: str, by_function: dict[str, Spent], most: int) -> None:
+    kinds: Counter[str] = Counter()
+    for one in by_function.values():
+        kinds.update(one.kinds)
+    whole = ', '.join(f'{kind} {took:.0f}' for kind, took in kinds.most_common(SHOWN + 2))
+    print(f'{crate}: {sum(kinds.values()):.0f} seconds ({whole})')
+    rows: Iterable[tuple[str, Spent]] = sorted(by_function.items(), key=lambda one: -one[1].seconds)[:most]
+    for name, one in rows:
+        print(one.row(name), flush=True)
+
+
+def main() -> int:
+    parser = argparse.ArgumentParser(description=__doc__)
+    parser.add_argument('crates', nargs='*', help='the crates (left out: all libraries)')
+    parser.add_argument('--most', type=int, default=12, help='how many functions of a crate are told')
+    parser.add_argument('--scratch', help='where the copy is made, and stays for the next call')
+    given = parser.parse_args()
+    with tempfile.TemporaryDirectory() as folder:
+        bench = Bench(Path(given.scratch or folder), SECONDS)
+        for crate in given.crates or library_crates():
+            check_anew(bench, crate)
+            tell(crate, spent(kept_modules(bench.folder / 'crates' / crate / 'out/incremental')), given.most)
+    return 0
+
+
+if __name__ == '__main__':
+    sys.exit(main())
