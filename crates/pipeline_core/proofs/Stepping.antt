@@ -1,6 +1,6 @@
 -- The stages one by one are the step.
-use Rattle.std.proofs.Common.{◌≡◌, ℕ, ◌-◌, List, refl}
-use Rattle.std.specs.Prelude.{Option, None}
+use Rattle.std.proofs.Common.{◌≡◌, ℕ, ◌-◌, Bool, true, false, List, refl, sym}
+use Rattle.std.specs.Prelude.{if◌then◌else◌, Option, Some, None}
 use Rattle.fp_ports.specs.Rows.{Row}
 use Rattle.timer_unit.specs.Time.{time}
 use Rattle.slot_scheduler.specs.declared.picking.Pick.{Pick}
@@ -19,6 +19,15 @@ use Rattle.pipe_model.specs.Stages.{StageRegisters, State, Control, Ticked, bank
 pub straight : (next : List ℕ) → next ≡ redirected None next
 unfolding redirected
 straight next = refl
+
+-- a redirect is what E leaves where it answers so, and there is none where it doesn't
+pub turned : (b : Bool) (left : Option Redirect) (r : Redirect) → left ≡ (if b then Some r else None) → b ≡ true → Some r ≡ left
+turned true left r is h = sym is
+turned false left r is h = cc
+
+pub unturned : (b : Bool) (left : Option Redirect) (r : Redirect) → left ≡ (if b then Some r else None) → b ≡ false → None ≡ left
+unturned true left r is h = cc
+unturned false left r is h = sym is
 
 pub steps : (p : StageRegisters) (u : State) (c : ℕ) (w : Held Written) (m : Held Stored) (e : Held Executed) (d : Held Decoded) (f : Held Fetched) (next between : List ℕ)
     (bank : List (List ℕ)) (words : List ℕ) (ports : List (Option Row)) (control : Control) (size now last : ℕ) (chosen : Pick) (r : Option Redirect) →

@@ -4,6 +4,7 @@ ghost use Rattle.std.specs.Prelude.{◌≡◌, ◌-◌, ◌<◌, ℕ, List, leng
 ghost use Rattle.timer_unit.specs.Time.{is_due, time, timer_of, most_cycles};
 ghost use Rattle.core_model.specs.Thread.{reg_in};
 ghost use Rattle.regfile_bank.specs.Registers.{registers_of};
+ghost use Rattle.pipe_model.specs.declared.stage_registers.Held.TheVariants.{Issue};
 ghost use Rattle.pipe_model.specs.Stages.{forward, from_m, from_e, operand, flushes_d, decode_stage};
 ghost use Rattle.pipeline_core.specs.StageFacts.{EffectFits, FetchedFits, DecodedFits, ExecutedFits, StoredFits};
 
@@ -96,6 +97,28 @@ fn is_due(timers: &Timers, clock: &Clock, cycle: u64, thread: u8) -> bool
     }
 }
 
+/// Leaves an issue in `d`. Where an issue stands there, as in most cycles, its fields are written
+/// one by one, so that none is written that no field has: that takes two instructions from a cycle.
+#[inline(always)]
+fn put_decoded(thread: u8, what: Decoded, d: &mut Held<Decoded>)
+    ensures { d.new ≡ Issue thread what }
+{
+    if let Held::Issue {
+        thread: of,
+        what: old,
+    } = d
+    {
+        *of = thread;
+        old.pc = what.pc;
+        old.word = what.word;
+        old.expired = what.expired;
+        old.a = what.a;
+        old.b = what.b;
+    } else {
+        *d = Held::Issue { thread, what };
+    }
+}
+
 /// Leaves in `d` the turn with its sources, and whether its thread's armed moment was reached when
 /// it was issued, in the cycle before this one, if the turn isn't flushed. Inlined, as `fetch` is.
 #[tactic(auto, unfolding(pipe_model::specs::Stages::decode_stage))]
@@ -136,14 +159,12 @@ pub fn decode_stage(
     }
     let (rs1, rs2) = sources_in(x.word);
     let (a, b) = sources(bank, m, e, thread, rs1, rs2);
-    *d = Held::Issue {
-        thread,
-        what: Decoded {
-            pc: x.pc,
-            word: x.word,
-            expired: is_due(timers, clock, cycle, thread),
-            a,
-            b,
-        },
+    let what = Decoded {
+        pc: x.pc,
+        word: x.word,
+        expired: is_due(timers, clock, cycle, thread),
+        a,
+        b,
     };
+    put_decoded(thread, what, d);
 }

@@ -1,16 +1,18 @@
 //! E: instructions are executed, but for late values.
 
-ghost use Rattle.std.specs.Prelude.{◌≡◌, ◌≢◌, ◌-◌, ◌<◌, ◌==◌, if◌then◌else◌, IfSome, is_some, length};
+ghost use Rattle.std.specs.Prelude.{◌≡◌, ◌≢◌, ◌-◌, ◌<◌, ◌==◌, if◌then◌else◌, IfSome, Some, None, is_some, length};
 ghost use Rattle.rv_decode.specs.Table.{ins};
 ghost use Rattle.rv_exec.specs.Access.{IsAligned};
 ghost use Rattle.core_model.specs.Issue.{execute_in};
 ghost use Rattle.core_model.specs.Thread.{no_own};
 ghost use Rattle.core_model.specs.declared.own.Own.{Own};
-ghost use Rattle.hart_exec.specs.AsDefined.{executed_as_defined, leaves_own, IsPlain};
+ghost use Rattle.rv_decode.specs.Lag.{plain_lag, late_lag};
+ghost use Rattle.hart_exec.specs.AsDefined.{executed_as_defined, lag_of, leaves_own, IsPlain};
 ghost use Rattle.timer_unit.specs.Time.{time, most_cycles};
 ghost use Rattle.trap_unit.specs.Rows.{IsAlignedTrap};
 ghost use Rattle.pipe_model.specs.Stages.{own_in, executed, redirect_of, execute_stage};
 ghost use Rattle.pipe_model.specs.declared.stage_registers.Held.TheVariants.{Issue};
+ghost use Rattle.pipe_model.specs.declared.stage_registers.Way.TheVariants.{LateValue, Elsewhere};
 ghost use Rattle.pipeline_core.specs.StageFacts.{IsPc, EffectFits, DecodedFits, ExecutedFits, RedirectFits, IsAccepted};
 ghost use Rattle.pipeline_core.specs.AsDefined.{registers_as_defined, control_as_defined};
 ghost use Rattle.pipeline_core.specs.AccessRights.{asked};
@@ -31,6 +33,58 @@ use trap_unit::{Traps, write_shared};
 struct Step {
     own: Own,
     done: Done,
+}
+
+/// The way in which a thread goes on behind turns that are flushed; None where none are.
+#[inline(always)]
+fn way_of(onward: Onward) -> Option<Way>
+    ensures way { result ≡ (if lag_of onward == plain_lag then None
+        else Some (if lag_of onward == late_lag then LateValue else Elsewhere)) }
+{
+    match onward {
+        Onward::NextWord => None,
+        Onward::LateValue => Some(Way::LateValue),
+        Onward::Elsewhere => Some(Way::Elsewhere),
+    }
+}
+
+/// How a thread goes on, and at which pc. It stands for a redirect where a function isn't inlined: a
+/// pair of two plain values is answered in registers, and an `Option<Redirect>` in memory that the
+/// caller clears in each cycle.
+#[derive(Clone, Copy)]
+struct Going {
+    onward: Onward,
+    pc: u32,
+}
+
+impl Going {
+    ghost use Rattle.std.specs.Prelude.{if◌then◌else◌, Some, None};
+    ghost use Rattle.hart_exec.specs.AsDefined.{executed_as_defined};
+
+    /// Whether a thread's next turns are flushed. Where they are, `redirect` tells where it goes
+    /// on.
+    fn redirects(self, thread: u8, redirect: &mut Redirect) -> bool
+        requires thread { thread < 8 }
+        requires pc { IsPc self.pc }
+        ensures redirect { redirect_of thread (executed_as_defined no_own (record {
+          pc = self.pc;
+          onward = self.onward;
+          word = 0;
+          address = 0;
+          effect = None;
+        })) ≡ (if result then Some redirect.new else None) }
+        ensures fits { RedirectFits (if result then Some redirect.new else None) }
+    {
+        let Some(way) = way_of(self.onward) else {
+            return false;
+        };
+        *redirect = Redirect {
+            thread,
+            pc: self.pc,
+            way,
+        };
+        true
+    }
 }
 
 /// What a thread has, besides its pc and its registers.
@@ -153,10 +207,18 @@ fn put_executed(thread: u8, x: &Decoded, done: &Done, e: &mut Held<Executed>)
     }
 }
 
-/// Leaves an executed instruction in `e`, and tells where its thread goes on if its next turns are
-/// flushed.
+/// Leaves an executed instruction in `e`, and tells whether its thread's next turns are flushed.
+/// Where they are, `redirect` tells where it goes on; else it has no meaning. So the answer is one
+/// bit, which the step asks only in the ways that lead to it: an `Option<Redirect>` took ten
+/// instructions from each cycle that has none.
 #[inline(always)]
-fn leave(thread: u8, x: &Decoded, done: &Done, e: &mut Held<Executed>) -> Option<Redirect>
+fn leave(
+    thread: u8,
+    x: &Decoded,
+    done: &Done,
+    e: &mut Held<Executed>,
+    redirect: &mut Redirect,
+) -> bool
     requires thread { thread < 8 }
     requires pc { IsPc done.now.pc }
     ensures e { e.new ≡ Issue thread (record {
@@ -167,23 +229,21 @@ fn leave(thread: u8, x: &Decoded, done: &Done, e: &mut Held<Executed>) -> Option
       address = done.now.address;
       effect = done.now.effect;
     }) }
-    ensures redirect { result ≡ redirect_of thread (executed_as_defined no_own done.now) }
-    ensures fits { RedirectFits result }
+    ensures redirect { redirect_of thread (executed_as_defined no_own done.now)
+        ≡ (if result then Some redirect.new else None) }
+    ensures fits { RedirectFits (if result then Some redirect.new else None) }
 {
-    let way = match done.onward {
-        Onward::NextWord => {
-            put_executed(thread, x, done, e);
-            return None;
-        }
-        Onward::LateValue => Way::LateValue,
-        Onward::Elsewhere => Way::Elsewhere,
+    let Some(way) = way_of(done.onward) else {
+        put_executed(thread, x, done, e);
+        return false;
     };
     put_executed(thread, x, done, e);
-    Some(Redirect {
+    *redirect = Redirect {
         thread,
         pc: done.pc,
         way,
-    })
+    };
+    true
 }
 
 /// Does what an effect does to the machine's own registers.
@@ -214,15 +274,21 @@ fn execute_fully(
     thread: u8,
     x: &Decoded,
     e: &mut Held<Executed>,
-) -> Option<Redirect>
+) -> Going
     requires thread { thread < 8 }
     requires cycle { cycle < most_cycles }
     requires pc { IsPc x.now.pc }
     ensures e { e.new ≡ (execute_stage guard.old.size confined.now permit.now
         (time clock.now (cycle - 2)) (control_as_defined sched.old guard.old timers.old traps.old)
         (Issue thread x.now)).e }
-    ensures redirect { result ≡ (execute_stage guard.old.size confined.now permit.now
-        (time clock.now (cycle - 2)) (control_as_defined sched.old guard.old timers.old traps.old)
+    ensures going { redirect_of thread (executed_as_defined no_own (record {
+      pc = result.pc;
+      onward = result.onward;
+      word = 0;
+      address = 0;
+      effect = None;
+    })) ≡ (execute_stage guard.old.size confined.now permit.now (time clock.now (cycle - 2))
+        (control_as_defined sched.old guard.old timers.old traps.old)
         (Issue thread x.now)).redirect }
     ensures control { control_as_defined sched.new guard.new timers.new traps.new ≡
         (execute_stage guard.old.size confined.now permit.now (time clock.now (cycle - 2))
@@ -230,7 +296,7 @@ fn execute_fully(
         (Issue thread x.now)).control }
     ensures size { guard.new.size ≡ guard.old.size }
     ensures fits { ExecutedFits e.new }
-    ensures redirect_fits { RedirectFits result }
+    ensures going_fits { IsPc result.pc }
 {
     let rights = Rights::of(thread, clock, cycle, guard, sched, confined, permit);
     let own = own_in(guard, sched, timers, traps, thread);
@@ -239,7 +305,11 @@ fn execute_fully(
     traps.set_row(thread, step.own.trap);
     sched.sleep[thread as usize] = step.own.sleep;
     write_registers(guard, sched, step.done.effect);
-    leave(thread, &shown(x, &step.done), &step.done, e)
+    put_executed(thread, &shown(x, &step.done), &step.done, e);
+    Going {
+        onward: step.done.onward,
+        pc: step.done.pc,
+    }
 }
 
 /// Executes an issue. Most leave what their thread has, and are done without a look at it.
@@ -256,35 +326,37 @@ fn execute_issue(
     thread: u8,
     x: &Decoded,
     e: &mut Held<Executed>,
-) -> Option<Redirect>
+    redirect: &mut Redirect,
+) -> bool
     requires thread { thread < 8 }
     requires cycle { cycle < most_cycles }
     requires pc { IsPc x.now.pc }
     ensures e { e.new ≡ (execute_stage guard.old.size confined.now permit.now
         (time clock.now (cycle - 2)) (control_as_defined sched.old guard.old timers.old traps.old)
         (Issue thread x.now)).e }
-    ensures redirect { result ≡ (execute_stage guard.old.size confined.now permit.now
+    ensures redirect { (execute_stage guard.old.size confined.now permit.now
         (time clock.now (cycle - 2)) (control_as_defined sched.old guard.old timers.old traps.old)
-        (Issue thread x.now)).redirect }
+        (Issue thread x.now)).redirect ≡ (if result then Some redirect.new else None) }
     ensures control { control_as_defined sched.new guard.new timers.new traps.new ≡
         (execute_stage guard.old.size confined.now permit.now (time clock.now (cycle - 2))
         (control_as_defined sched.old guard.old timers.old traps.old)
         (Issue thread x.now)).control }
     ensures size { guard.new.size ≡ guard.old.size }
     ensures fits { ExecutedFits e.new }
-    ensures redirect_fits { RedirectFits result }
+    ensures redirect_fits { RedirectFits (if result then Some redirect.new else None) }
 {
     let rights = Rights::of(thread, clock, cycle, guard, sched, confined, permit);
     let Some(done) = execute_plainly(&rights, x) else {
-        return execute_fully(
+        let going = execute_fully(
             guard, sched, timers, traps, confined, permit, clock, cycle, thread, x, e,
         );
+        return going.redirects(thread, redirect);
     };
-    leave(thread, x, &done, e)
+    leave(thread, x, &done, e, redirect)
 }
 
-/// Executes the turn that was issued two cycles ago, and tells where its thread goes on if the next
-/// turns are flushed. What it changes of its thread and of the machine's own registers is changed
+/// Executes the turn that was issued two cycles ago, and tells whether its thread's next turns are
+/// flushed, and by `redirect` then where it goes on. What it changes of its thread and of the machine's own registers is changed
 /// here.
 #[tactic(auto, unfolding(pipe_model::specs::Stages::execute_stage))]
 pub fn execute_stage(
@@ -298,33 +370,34 @@ pub fn execute_stage(
     cycle: u64,
     held: &Held<Decoded>,
     e: &mut Held<Executed>,
-) -> Option<Redirect>
+    redirect: &mut Redirect,
+) -> bool
     requires fits { DecodedFits held.now }
     requires cycle { cycle < most_cycles }
     ensures e { e.new ≡ (execute_stage guard.old.size confined.now permit.now
         (time clock.now (cycle - 2)) (control_as_defined sched.old guard.old timers.old traps.old)
         held.now).e }
-    ensures redirect { result ≡ (execute_stage guard.old.size confined.now permit.now
+    ensures redirect { (execute_stage guard.old.size confined.now permit.now
         (time clock.now (cycle - 2)) (control_as_defined sched.old guard.old timers.old traps.old)
-        held.now).redirect }
+        held.now).redirect ≡ (if result then Some redirect.new else None) }
     ensures control { control_as_defined sched.new guard.new timers.new traps.new ≡
         (execute_stage guard.old.size confined.now permit.now (time clock.now (cycle - 2))
         (control_as_defined sched.old guard.old timers.old traps.old) held.now).control }
     ensures size { guard.new.size ≡ guard.old.size }
     ensures fits { ExecutedFits e.new }
-    ensures redirect_fits { RedirectFits result }
+    ensures redirect_fits { RedirectFits (if result then Some redirect.new else None) }
 {
     match held {
         Held::Bubble => {
             *e = Held::Bubble;
-            None
+            false
         }
         Held::Flushed { thread } => {
             *e = Held::Flushed { thread: *thread };
-            None
+            false
         }
         Held::Issue { thread, what } => execute_issue(
-            guard, sched, timers, traps, confined, permit, clock, cycle, *thread, what, e,
+            guard, sched, timers, traps, confined, permit, clock, cycle, *thread, what, e, redirect,
         ),
     }
 }

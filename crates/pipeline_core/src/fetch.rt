@@ -35,7 +35,7 @@ pub fn redirect_to(next: &mut [u32; 8], redirect: Redirect)
     next[redirect.thread as usize] = redirect.pc;
 }
 
-/// Fetches the next word of the picked thread, if its turn isn't flushed. Inlined, as `read` is:
+/// Leaves in `f` the next word of the picked thread, if its turn isn't flushed. Inlined, as D is:
 /// each stands twice in the step, of which the one without a redirect has no test of it.
 #[tactic(auto, unfolding(pipe_model::specs::Stages::fetch_stage, pipe_model::specs::Stages::advanced), using(crate::proofs::Pcs::pcs_set, crate::proofs::Pcs::pc_at, crate::proofs::Pcs::pc_after))]
 #[inline(always)]
@@ -45,28 +45,31 @@ pub fn fetch_stage(
     redirect: Option<Redirect>,
     next: &mut [u32; 8],
     pick: Pick,
-) -> Held<Fetched>
+    f: &mut Held<Fetched>,
+)
     requires imem { length imem.now ≡ guard.now.size / 4 }
     requires pcs { All IsPc next.old }
     requires pick { IsPick pick }
-    ensures stage { result ≡ fetch_stage guard.now.size imem.now redirect next.old pick }
+    ensures stage { f.new ≡ fetch_stage guard.now.size imem.now redirect next.old pick }
     ensures next { next.new ≡ advanced redirect pick next.old }
     ensures pcs { All IsPc next.new }
-    ensures fits { FetchedFits result }
+    ensures fits { FetchedFits f.new }
 {
     let Pick::Issue { thread } = pick else {
-        return Held::Bubble;
+        *f = Held::Bubble;
+        return;
     };
     if flushes_f(thread, redirect) {
-        return Held::Flushed { thread };
+        *f = Held::Flushed { thread };
+        return;
     }
     let pc = next[thread as usize];
     next[thread as usize] = pc.wrapping_add(4);
-    Held::Issue {
+    *f = Held::Issue {
         thread,
         what: Fetched {
             pc,
             word: code_word(guard, imem, pc),
         },
-    }
+    };
 }

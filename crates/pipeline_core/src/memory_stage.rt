@@ -8,7 +8,7 @@ ghost use Rattle.core_model.specs.Issue.{late_rd, late_value};
 ghost use Rattle.core_model.specs.Memory.{data_at};
 ghost use Rattle.fp_ports.specs.Rows.{rows_of, row_at, word_seen};
 ghost use Rattle.pipe_model.specs.declared.stage_registers.Held.TheVariants.{Issue};
-ghost use Rattle.rv_exec.specs.declared.outcome.Effect.TheVariants.{Reg};
+ghost use Rattle.rv_exec.specs.declared.outcome.Effect.TheVariants.{Nothing, Reg};
 ghost use Rattle.pipe_model.specs.Stages.{memory_stage, words_stored, ports_stored, put_at_port};
 ghost use Rattle.pipeline_core.specs.StageFacts.{EffectFits, ExecutedFits, StoredFits};
 
@@ -21,8 +21,8 @@ use rv_decode::{Ins, decode};
 use rv_exec::Effect;
 use scratchpad::Spm;
 
-/// The effect of an instruction whose value may come late, with that value. A load at the port
-/// finds the word of three cycles ago, when it was issued.
+/// The effect of an instruction whose value may come late, with that value: until then it does
+/// nothing. A load at the port finds the word of three cycles ago, when it was issued.
 fn late_effect(
     guard: &Guard,
     imem: &Spm,
@@ -36,7 +36,7 @@ fn late_effect(
     requires dmem { length dmem.now ≡ guard.now.size / 4 }
     requires eight { vec_len ports.old ≡ 8 }
     requires thread { thread < 8 }
-    requires fits { EffectFits x.now.effect }
+    requires nothing { x.now.effect ≡ Some Nothing }
     requires aligned { IsAligned (ins x.now.word) x.now.address }
     ensures effect { let found = data_at guard.now.size imem.now dmem.now
         (word_seen (row_at (rows_of latched word_at ports.old.items) thread) (cycle - 3))
@@ -54,7 +54,7 @@ fn late_effect(
         _ => 0,
     };
     let sources = Sources { a: x.a, b: x.b };
-    finish(x.effect, &i, found, x.address, sources)
+    finish(Some(Effect::Nothing), &i, found, x.address, sources)
 }
 
 /// What stands in the stage register of an instruction with its effect.
@@ -80,6 +80,29 @@ fn put_register(thread: u8, x: &Executed, rd: u8, value: u32, m: &mut Held<Store
 {
     let what = stored(x, Some(Effect::Reg { rd, value }));
     *m = Held::Issue { thread, what };
+}
+
+/// Leaves in `m` an instruction whose value may have come late. It has a register's value, or did
+/// nothing, and of these no more than their own fields is moved.
+#[inline(always)]
+fn put_late(thread: u8, x: &Executed, effect: Option<Effect>, m: &mut Held<Stored>)
+    ensures { m.new ≡ Issue thread (record {
+      pc = x.now.pc;
+      word = x.now.word;
+      effect = effect;
+    }) }
+{
+    match effect {
+        Some(Effect::Reg { rd, value }) => put_register(thread, x, rd, value, m),
+        Some(Effect::Nothing) => {
+            let what = stored(x, Some(Effect::Nothing));
+            *m = Held::Issue { thread, what };
+        }
+        effect => {
+            let what = stored(x, effect);
+            *m = Held::Issue { thread, what };
+        }
+    }
 }
 
 /// Does what a thread's effect does at its port.
@@ -128,18 +151,15 @@ fn access_issue(
         put_register(thread, x, rd, value, m);
         return;
     }
-    let effect = match x.effect {
-        Some(Effect::Nothing) => late_effect(guard, imem, dmem, ports, thread, cycle, x),
-        effect => effect,
-    };
-    // So it is where the value came late.
-    if let Some(Effect::Reg { rd, value }) = effect {
-        put_register(thread, x, rd, value, m);
+    // What comes late stores nothing either, so no test for a store is on its way.
+    if let Some(Effect::Nothing) = x.effect {
+        let effect = late_effect(guard, imem, dmem, ports, thread, cycle, x);
+        put_late(thread, x, effect, m);
         return;
     }
-    store_word(guard, dmem, &effect);
-    put_word(ports, thread, &effect);
-    let what = stored(x, effect);
+    store_word(guard, dmem, &x.effect);
+    put_word(ports, thread, &x.effect);
+    let what = stored(x, x.effect);
     *m = Held::Issue { thread, what };
 }
 

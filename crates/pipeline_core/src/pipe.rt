@@ -13,7 +13,8 @@ use crate::units::Units;
 use crate::writeback::{retire, writeback_stage};
 use fp_ports::{Port, Ports};
 use pipe_model::{
-    Decoded, Executed, Fetched, Held, Redirect, Stored, Written, keeps_standing, starts_standing,
+    Decoded, Executed, Fetched, Held, Redirect, Stored, Way, Written, keeps_standing,
+    starts_standing,
 };
 use rv_exec::Event;
 use slot_scheduler::Pick;
@@ -134,7 +135,12 @@ impl Pipe {
         );
         let now = units.clock.now(cycle);
         let pick = units.scheduler.pick(&units.sched, cycle, now);
-        let redirect = execute_stage(
+        let mut redirect = Redirect {
+            thread: 0,
+            pc: 0,
+            way: Way::LateValue,
+        };
+        let redirects = execute_stage(
             &mut units.guard,
             &mut units.sched,
             &mut units.timers,
@@ -145,13 +151,13 @@ impl Pipe {
             cycle,
             &self.d,
             &mut self.e,
+            &mut redirect,
         );
-        match redirect {
-            None => self.follow(units, None, pick, cycle),
-            Some(redirect) => {
-                redirect_to(&mut self.next, redirect);
-                self.follow(units, Some(redirect), pick, cycle);
-            }
+        if redirects {
+            redirect_to(&mut self.next, redirect);
+            self.follow(units, Some(redirect), pick, cycle);
+        } else {
+            self.follow(units, None, pick, cycle);
         }
     }
 
@@ -170,7 +176,6 @@ impl Pipe {
         ensures m { self.new.m ≡ self.old.m }
         ensures w { self.new.w ≡ self.old.w }
     {
-        let fetched = fetch_stage(&units.guard, &units.imem, redirect, &mut self.next, pick);
         decode_stage(
             &units.bank,
             &self.m,
@@ -182,6 +187,13 @@ impl Pipe {
             &self.f,
             &mut self.d,
         );
-        self.f = fetched;
+        fetch_stage(
+            &units.guard,
+            &units.imem,
+            redirect,
+            &mut self.next,
+            pick,
+            &mut self.f,
+        );
     }
 }

@@ -59,6 +59,28 @@ fn write_register(bank: &mut Bank, thread: u8, effect: &Option<Effect>)
     }
 }
 
+/// Leaves the turn in `w`. It isn't inlined, so that W tells an issue, which it leaves there
+/// itself, from all other turns by one test.
+#[inline(never)]
+#[tactic(auto, unfolding(pipe_model::specs::Stages::writeback_stage))]
+fn leave_written(held: &Held<Stored>, w: &mut Held<Written>)
+    requires { StoredFits held.now }
+    ensures stage { w.new ≡ writeback_stage held.now }
+    ensures fits { WrittenFits w.new }
+{
+    *w = match held {
+        Held::Bubble => Held::Bubble,
+        Held::Flushed { thread } => Held::Flushed { thread: *thread },
+        Held::Issue { thread, what } => Held::Issue {
+            thread: *thread,
+            what: Written {
+                pc: what.pc,
+                word: what.word,
+            },
+        },
+    };
+}
+
 /// Writes the register of the turn's effect, if it has one, and leaves the turn in `w`.
 #[tactic(auto, unfolding(pipe_model::specs::Stages::bank_after, pipe_model::specs::Stages::writeback_stage))]
 pub fn writeback_stage(bank: &mut Bank, held: &Held<Stored>, w: &mut Held<Written>)
@@ -67,18 +89,16 @@ pub fn writeback_stage(bank: &mut Bank, held: &Held<Stored>, w: &mut Held<Writte
     ensures stage { w.new ≡ writeback_stage held.now }
     ensures fits { WrittenFits w.new }
 {
-    match held {
-        Held::Bubble => *w = Held::Bubble,
-        Held::Flushed { thread } => *w = Held::Flushed { thread: *thread },
-        Held::Issue { thread, what } => {
-            write_register(bank, *thread, &what.effect);
-            *w = Held::Issue {
-                thread: *thread,
-                what: Written {
-                    pc: what.pc,
-                    word: what.word,
-                },
-            };
-        }
+    if let Held::Issue { thread, what } = held {
+        write_register(bank, *thread, &what.effect);
+        *w = Held::Issue {
+            thread: *thread,
+            what: Written {
+                pc: what.pc,
+                word: what.word,
+            },
+        };
+    } else {
+        leave_written(held, w);
     }
 }
