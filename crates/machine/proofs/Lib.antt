@@ -9,4 +9,5 @@ pub mod FedLemmas
 pub mod WordLemmas
 pub mod Retiring
 pub mod SleepLemmas
+pub mod AdvanceLemmas
 mod LineLemmas

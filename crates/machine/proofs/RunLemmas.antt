@@ -1,5 +1,5 @@
 -- A cycle of the machine, and the text of a run.
-use Rattle.std.proofs.Common.{◌≡◌, ℕ, zero, suc, ◌+◌, ◌-◌, ◌<◌, List, [], ◌++◌, get_or, take, length, Bool, true, false, Option, Some, None, arith, refl, ap, sym, subst, ◌∙◌, add-one, add-zero, append_assoc}
+use Rattle.std.proofs.Common.{◌≡◌, ℕ, zero, suc, ◌+◌, ◌-◌, ◌<◌, ◌≤◌, List, [], ◌++◌, get_or, take, length, Bool, true, false, Option, Some, None, arith, refl, ap, sym, subst, ◌∙◌, add-one, add-zero, append_assoc}
 use Rattle.std.specs.Prelude.{if◌then◌else◌}
 use Rattle.std.proofs.lemmas.List.{append-nil}
 use Rattle.std.proofs.lemmas.Grind.{flat_map-append}
@@ -13,6 +13,7 @@ use Rattle.pipe_model.specs.Stages.{Ticked}
 use Rattle.pipe_model.specs.Relation.{Begins, Shows, Stands, Kept, event_in, turn_at, of_thread, words_of, stays_in}
 use Rattle.pipe_model.specs.PipelineLaws.{EventsGrow}
 use Rattle.pipeline_core.specs.AsDefined.{stage_registers_as_defined, state_as_defined, ticked_as_defined}
+use Rattle.machine.specs.Advancing.{Advanced}
 use Rattle.machine.specs.FieldRelation.{Standing, kept_in}
 use Rattle.machine.specs.FieldLaws.{Unplugged, with_kept}
 use Rattle.machine.proofs.PortLemmas.{unplugs, goes_on, kept-row}
@@ -64,7 +65,7 @@ no_events s i = refl
 text-append : (xs ys : List Event) → text (xs ++ ys) ≡ text xs ++ text ys
 text-append xs ys = flat_map-append line_text xs ys
 
-text-next : EventsGrow → (s : Start) (i c : ℕ) (event : Option Event) → event ≡ event_in (c - 4) (turn_at s c 3) → text (events s i (suc c)) ≡ text (events s i c) ++ text (of_thread i event)
+pub text-next : EventsGrow → (s : Start) (i c : ℕ) (event : Option Event) → event ≡ event_in (c - 4) (turn_at s c 3) → text (events s i (suc c)) ≡ text (events s i c) ++ text (of_thread i event)
 text-next grows s i c event e =
     ap text (grows s i c) ∙ text-append (events s i c) (of_thread i (event_in (c - 4) (turn_at s c 3))) ∙ ap (λ x. text (events s i c) ++ text (of_thread i x)) (sym e)
 
@@ -98,6 +99,30 @@ run_on grows s k n thread first m after rows new before between now event run at
     let Run : ℕ → Type 0 = λ c. HasRun s c n thread first after new before now in
     subst Run (sym (add-one k)) done
 
+-- a run goes on over cycles that have no event of the thread's
+pub run_goes : (s : Start) (n thread : ℕ) (first : List (Option Row)) (m after : Machine) (rows new : List (Option Row)) (before now : Option (List ℕ)) (line : List ℕ) → HasRun s m.at n thread first m rows before now →
+    (StandsFor s m.at n m rows → Advanced s m.at n thread after new false line) → AreLeft rows new → HasRun s after.at n thread first after new before now
+run_goes s n thread first m after rows new before now line run ahead left =
+    let gone : Advanced s m.at n thread after new false line = ahead run.stands in
+    let Told : List ℕ → Type 0 = λ x. Appends before now x in
+    record {
+      put = subst Told (sym (gone.last ∙ append-nil (text (events s thread m.at)))) run.put;
+      stands = gone.stands;
+      left = λ i below. left_more (row_at first i) (row_at rows i) (row_at new i) (run.left i below) (left i below);
+    }
+
+-- and over those up to a line, which was put
+pub run_shows : (s : Start) (n thread : ℕ) (first : List (Option Row)) (m after : Machine) (rows new : List (Option Row)) (before between now : Option (List ℕ)) (line : List ℕ) → HasRun s m.at n thread first m rows before between →
+    (StandsFor s m.at n m rows → Advanced s m.at n thread after new true line) → AreLeft rows new → Appends between now line → HasRun s after.at n thread first after new before now
+run_shows s n thread first m after rows new before between now line run ahead left put =
+    let gone : Advanced s m.at n thread after new true line = ahead run.stands in
+    let Told : List ℕ → Type 0 = λ x. Appends before now x in
+    record {
+      put = subst Told (sym gone.last) (appends_more before between now (text (events s thread m.at)) line run.put put);
+      stands = gone.stands;
+      left = λ i below. left_more (row_at first i) (row_at rows i) (row_at new i) (run.left i below) (left i below);
+    }
+
 -- bytes, and then a front of others
 pub beyond : (before between now : Option (List ℕ)) (xs ys : List ℕ) → Appends before between xs → AppendsFront between now ys → AppendsBeyond before now xs
 beyond None between now xs ys first second = tt
@@ -105,31 +130,24 @@ beyond (Some told) None now xs ys first second = absurd first
 beyond (Some told) (Some more) None xs ys first second = absurd second
 beyond (Some told) (Some more) (Some most) xs ys first (n, within, taken) = (take n ys, taken ∙ ap (λ zs. zs ++ take n ys) first)
 
--- a run that stops in a cycle
-pub run_stops : EventsGrow → (s : Start) (k n thread : ℕ) (first : List (Option Row)) (m after : Machine) (rows new : List (Option Row)) (before between now : Option (List ℕ)) (event : Option Event) → k < n → HasRun s k n thread first m rows before between → m.at ≡ k →
-    (StandsFor s m.at n m rows → Ticks s m.at n rows after new event) → AppendsFront between now (text (of_thread thread event)) → Stopped s n thread first after new before now
-run_stops grows s k n thread first m after rows new before between now event within run at tick put =
-    let At : ℕ → Type 0 = λ c. StandsFor s c n m rows in
-    let After : ℕ → Type 0 = λ c. Ticks s c n rows after new event in
-    let ticked : Ticks s k n rows after new event = subst After at (tick (subst At (sym at) run.stands)) in
-    let here : after.at ≡ suc k = ticked.stands.cycle in
-    let (rest, goes) = text_goes_on grows s thread (suc k) (n - suc k) in
-    let end : n ≡ suc k + (n - suc k) = omega arith in
-    let whole : text (events s thread n) ≡ (text (events s thread k) ++ text (of_thread thread event)) ++ rest =
-    ap (λ c. text (events s thread c)) end ∙ goes ∙ ap (λ zs. zs ++ rest) (text-next grows s thread k event ticked.event_is) in
-    let Here : ℕ → Type 0 = λ c. StandsFor s c n after new in
-    let last : k ≡ after.at - 1 = omega (arith, here) in
-    let Beyond : ℕ → Type 0 = λ c. AppendsBeyond before now (text (events s thread c)) in
+-- a run that stops at a line, of which a front was put
+pub run_stops : EventsGrow → (s : Start) (n thread : ℕ) (first : List (Option Row)) (m after : Machine) (rows new : List (Option Row)) (before between now : Option (List ℕ)) (line : List ℕ) → after.at ≤ n →
+    HasRun s m.at n thread first m rows before between → (StandsFor s m.at n m rows → Advanced s m.at n thread after new true line) → AreLeft rows new → AppendsFront between now line → Stopped s n thread first after new before now
+run_stops grows s n thread first m after rows new before between now line within run ahead left put =
+    let gone : Advanced s m.at n thread after new true line = ahead run.stands in
+    let told : List ℕ = text (events s thread m.at) in
+    let (rest, goes) = text_goes_on grows s thread after.at (n - after.at) in
+    let end : n ≡ after.at + (n - after.at) = omega (arith, within) in
+    let whole : text (events s thread n) ≡ (told ++ line) ++ rest = ap (λ c. text (events s thread c)) end ∙ goes ∙ ap (λ zs. zs ++ rest) gone.last in
+    let Beyond : List ℕ → Type 0 = λ x. AppendsBeyond before now x in
     let Front : List ℕ → Type 0 = λ x. AppendsFront before now x in
-    let grown : text (events s thread k) ++ text (of_thread thread event) ≡ text (events s thread after.at) =
-    sym (ap (λ c. text (events s thread c)) here ∙ text-next grows s thread k event ticked.event_is) in
     record {
-      put = appends_front before between now (text (events s thread k)) (text (of_thread thread event)) rest (text (events s thread n)) whole run.put put;
-      before_last = subst Beyond last (beyond before between now (text (events s thread k)) (text (of_thread thread event)) run.put put);
-      with_last = subst Front grown (front_after before between now (text (events s thread k)) (text (of_thread thread event)) run.put put);
-      within = omega (arith, here);
-      stands = subst Here (sym here) ticked.stands;
-      left = λ i below. left_more (row_at first i) (row_at rows i) (row_at new i) (run.left i below) (ticked.left i below);
+      put = appends_front before between now told line rest (text (events s thread n)) whole run.put put;
+      before_last = subst Beyond (sym (gone.quiet refl)) (beyond before between now told line run.put put);
+      with_last = subst Front (sym gone.last) (front_after before between now told line run.put put);
+      within = within;
+      stands = gone.stands;
+      left = λ i below. left_more (row_at first i) (row_at rows i) (row_at new i) (run.left i below) (left i below);
     }
 
 -- a run that has done its last cycle

@@ -3,6 +3,7 @@ pub mod Fields
 pub mod FieldRelation
 pub mod FieldLaws
 pub mod WorldRelation
+pub mod Advancing
 pub mod Sleeping
 pub mod Feeding
 pub mod PortLaws

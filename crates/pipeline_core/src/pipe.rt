@@ -112,7 +112,11 @@ impl Pipe {
     /// in M was issued three cycles ago, and finds at its thread's port the word of that cycle; the
     /// turn in E was issued two cycles ago, that in D one cycle ago, and they go by the times of
     /// those cycles.
-    #[inline(never)]
+    ///
+    /// Inlined, and so is `tick`: a loop over cycles then has the stages as its own, which takes 15
+    /// instructions from each. A program should have one such loop: with a second copy the
+    /// compiler leaves calls in both.
+    #[inline(always)]
     #[tactic(auto, unfolding(pipe_model::specs::Stages::step))]
     fn step(&mut self, units: &mut Units, ports: &mut Ports, cycle: u64)
         requires cycle { cycle < most_cycles }

@@ -4,7 +4,7 @@ use Rattle.std.specs.List.{list_any}
 use Rattle.fp_ports.specs.Rows.{rows_of}
 use Rattle.world_model.specs.World.{Start}
 use Rattle.machine.specs.WorldRelation.{StandsFor, AreLeft, HasRun}
-use Rattle.machine.proofs.state.Machine.run_cycles.Given as goal
+use Rattle.machine.proofs.state.Machine.run.Given as goal
 
 abbrev pub invariant-loop-self : goal.invariant-loop-self
 invariant-loop-self g l =
