@@ -2,6 +2,7 @@
 use Rattle.std.specs.Prelude.{◌≡◌, ◌≢◌, ℕ, ◌+◌, ◌-◌, ◌*◌, ◌/◌, ◌<◌, ◌≤◌, ◌⊎◌, ◌↔◌, MatchOption, min, ◌%◌, ◌&&◌, nat_lt, nat_le, not, if◌then◌else◌, Bool, true, false, List, [], length, Option, Some, None, slice_index_or, Contains, Box}
 use Rattle.std.specs.Global.{Global}
 use Rattle.std.specs.Option.{option_map}
+use Rattle.rv_decode.specs.Lag.{redirect_lag}
 use Rattle.fp_setup.specs.declared.loop_list.LoopSetup.{LoopSetup}
 use Rattle.region_tree.specs.Edges.{edges_of}
 use Rattle.region_tree.specs.Graph.{Edge, Lies, Reachable}
@@ -232,7 +233,7 @@ pub record IsMostFrom (t : Tree) (s : Positions) (here : Matrix) (e : Edges) (ol
   pub next : ℕ
   pub largest : IsLargest here old inner
   pub by_next : IsOut s here (leaves t e.next) e.next_lag inner next
-  pub by_jump : IsOut s here (leaves t e.jump) 3 next new
+  pub by_jump : IsOut s here (leaves t e.jump) redirect_lag next new
 
 -- the most of the words at the indices below n
 pub record IsMost (x : Course) (t : Tree) (n most : ℕ) : Type 0 where

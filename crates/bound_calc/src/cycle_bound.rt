@@ -1,6 +1,7 @@
 //! The bound of a section.
 
 ghost use Rattle.std.specs.Prelude.{◌≡◌, ℕ, ◌<◌, ◌≤◌, ◌^◌, None, length, Contains, IfOk, IfErr, MatchResult};
+ghost use Rattle.rv_decode.specs.Lag.{redirect_lag};
 ghost use Rattle.slot_table.specs.Frame.{frame};
 ghost use Rattle.region_tree.specs.Tree.{IsTree};
 ghost use Rattle.region_tree.specs.Walk.{IsOwn};
@@ -56,7 +57,7 @@ pub fn is_out(tree: &LoopTree, target: Option<u32>) -> bool
 
 /// The largest of a number and the steps along an edge that leaves the section.
 fn most_out(steps: &Steps, here: &Matrix, out: bool, lag: u64, most: u128) -> u128
-    requires lag { lag ≤ 3 }
+    requires lag { lag ≤ redirect_lag }
     ensures { IsOut steps.now here.now out lag most result }
 {
     if out {
@@ -69,7 +70,7 @@ fn most_out(steps: &Steps, here: &Matrix, out: bool, lag: u64, most: u128) -> u1
 /// The largest of a number, of what reaches a word, and of the steps on from there that leave the
 /// section.
 fn most_from(tree: &LoopTree, steps: &Steps, here: &Matrix, edges: &Edges, most: u128) -> u128
-    requires lag { edges.now.next_lag ≤ 3 }
+    requires lag { edges.now.next_lag ≤ redirect_lag }
     ensures { IsMostFrom tree.now steps.now here.now edges.now most result }
 {
     let inside = largest(here, most);

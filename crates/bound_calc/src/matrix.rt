@@ -110,8 +110,8 @@ impl Matrix {
         Matrix { best }
     }
 
-    /// Joins with the matrix the largest sums of two others over the position between. It is done in
-    /// place, since a matrix made between chaining and joining is a third of the cost.
+    /// Joins with the matrix the largest sums of two others over the position between. It is done
+    /// in place, since a matrix made between chaining and joining is a third of the cost.
     pub fn join_chain(&mut self, first: &Matrix, second: &Matrix)
         ensures { IsBest (entry self.new) (Either (In (entry self.old))
             (Then (In (entry first.now)) (In (entry second.now)))) }

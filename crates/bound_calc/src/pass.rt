@@ -2,6 +2,7 @@
 
 ghost use Rattle.std.specs.Prelude.{◌≡◌, ℕ, ◌+◌, ◌<◌, ◌≤◌, ◌^◌, ◌↔◌, length, Option, Some, None, Contains, IfOk, IfSome, IsTrue, OnOk};
 ghost use Rattle.std.specs.Option.{option_map};
+ghost use Rattle.rv_decode.specs.Lag.{redirect_lag};
 ghost use Rattle.region_tree.specs.Search.{address};
 ghost use Rattle.region_tree.specs.Tree.{IsTree};
 ghost use Rattle.bound_calc.specs.Best.{Either, In, IsBest, Then};
@@ -86,7 +87,7 @@ pub(crate) fn join_along(
     lag: u64,
     onto: &mut Matrix,
 )
-    requires lag { lag ≤ 3 }
+    requires lag { lag ≤ redirect_lag }
     ensures { IsBest (entry onto.new) (Either (In (entry onto.old))
         (Then (In (entry here.now)) (moved steps.now (option_map (λ m. m.now) way.entry) lag))) }
 {
@@ -99,7 +100,7 @@ pub(crate) fn join_along(
 /// Joins a matrix with another that goes on from a word: by the turns after a lag, or by the way
 /// of the word, if it has one.
 pub fn along(steps: &Steps, way: Option<&Matrix>, here: &Matrix, lag: u64, onto: &Matrix) -> Matrix
-    requires lag { lag ≤ 3 }
+    requires lag { lag ≤ redirect_lag }
     ensures { IsBest (entry result) (Either (In (entry onto.now)) (Then (In (entry here.now))
         (moved steps.now (option_map (λ m. m.now) way.entry) lag))) }
 {
@@ -162,7 +163,7 @@ fn bring(
     lag: u64,
     front: &mut Front,
 ) -> Result<(), AllocError>
-    requires lag { lag ≤ 3 }
+    requires lag { lag ≤ redirect_lag }
     requires within { IfSome to (λ k. k < length front.old.waiting.items) }
     ensures { OnOk result (IsBrought to
         (Then (In (entry (held front.old).base))
@@ -242,7 +243,7 @@ pub fn is_straight(
 
 /// Goes past a word of straight code: its step is put behind those before it.
 pub fn skip(steps: &Steps, lag: u64, front: &mut Front)
-    requires lag { lag ≤ 3 }
+    requires lag { lag ≤ redirect_lag }
     requires positions { (p d q : ℕ) → Hops (held front.old).hops p d q → (p < 8) × (q < 8) }
     requires short { (p d q : ℕ) → Hops (held front.old).hops p d q → d ≤ 2 ^ 31 }
     ensures { IsSkipped steps.now lag (held front.old) (held front.new) }
@@ -285,7 +286,7 @@ fn lead(
     index: usize,
     front: &mut Front,
 ) -> Result<(), AllocError>
-    requires lag { lag ≤ 3 }
+    requires lag { lag ≤ redirect_lag }
     requires index { index < length front.old.waiting.items }
     requires within { IfSome next (λ k. k < length front.old.waiting.items) }
     ensures { OnOk result (IsLed steps.now (option_map (λ m. m.now) way.entry) next lag index
@@ -314,7 +315,7 @@ pub fn go_on(
     last: usize,
     front: &mut Front,
 ) -> Result<(), AllocError>
-    requires lag { edges.now.next_lag ≤ 3 }
+    requires lag { edges.now.next_lag ≤ redirect_lag }
     requires order { index ≤ last }
     requires within { last < length tree.now.words }
     requires edges { edges.now ≡ edges_at tree.now index }

@@ -1,6 +1,7 @@
 //! What leads through a routine.
 
 ghost use Rattle.std.specs.Prelude.{◌≡◌, ℕ, ◌≤◌, length};
+ghost use Rattle.rv_decode.specs.Lag.{redirect_lag};
 ghost use Rattle.bound_calc.specs.Best.{IsBest};
 ghost use Rattle.bound_calc.specs.Matrices.{entry};
 ghost use Rattle.bound_calc.specs.Passing.{Ended, EndedHere};
@@ -13,7 +14,7 @@ use region_tree::JUMP_LAG;
 
 /// A jump: the steps to the thread's first turns that are at least three cycles later.
 pub fn jump(steps: &Steps) -> Matrix
-    ensures { IsBest (entry result) (StepsAfter steps.now 3) }
+    ensures { IsBest (entry result) (StepsAfter steps.now redirect_lag) }
 {
     let mut jumped = Matrix::NONE;
     advance(steps.one(), steps.hops(JUMP_LAG), &mut jumped);

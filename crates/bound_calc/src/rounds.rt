@@ -4,6 +4,7 @@ ghost use Rattle.std.specs.Prelude.{◌≡◌, ◌≤◌, length, Contains, IfOk
 ghost use Rattle.region_tree.specs.Graph.{Reachable};
 ghost use Rattle.region_tree.specs.Tree.{IsTree, graph};
 ghost use Rattle.std.specs.Option.{option_map};
+ghost use Rattle.rv_decode.specs.Lag.{redirect_lag};
 ghost use Rattle.bound_calc.specs.Best.{IsBest};
 ghost use Rattle.bound_calc.specs.Context.{body};
 ghost use Rattle.bound_calc.specs.Section.{net};
@@ -31,7 +32,7 @@ fn turn(
     lag: u64,
     head: u32,
 )
-    requires lag { lag ≤ 3 }
+    requires lag { lag ≤ redirect_lag }
     ensures { IsTurned (moved steps.now (option_map (λ m. m.now) way.entry) lag)
         back.old here.now target head back.new }
 {

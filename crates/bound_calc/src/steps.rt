@@ -1,6 +1,7 @@
 //! The turns of a thread, and the steps between them.
 
 ghost use Rattle.std.specs.Prelude.{◌≡◌, ◌≢◌, ℕ, ◌+◌, ◌%◌, ◌<◌, ◌≤◌, ◌↔◌, length, IsTrue, Contains, Option, Some, None, slice_index_or};
+ghost use Rattle.rv_decode.specs.Lag.{redirect_lag};
 ghost use Rattle.slot_table.specs.Frame.{frame};
 ghost use Rattle.region_tree.specs.Walk.{IsOwn, IsNextTurn};
 ghost use Rattle.bound_calc.specs.Best.{IsBest, Stays};
@@ -42,7 +43,7 @@ pub fn has_slot(slots: &SlotTable, thread: u8) -> bool
 fn distance(slots: &SlotTable, thread: u8, position: u64, lag: u64) -> u64
     requires thread { thread < 8 }
     requires own { IsOwn (positions slots.now thread) position }
-    requires lag { lag ≤ 3 }
+    requires lag { lag ≤ redirect_lag }
     ensures far { result ≤ 24 }
     ensures next { IsNextTurn (positions slots.now thread) lag position result
         ((position + result) % length (frame slots.now)) }
@@ -57,7 +58,7 @@ fn distance(slots: &SlotTable, thread: u8, position: u64, lag: u64) -> u64
 /// The step from a position, where it is the thread's.
 fn hop(slots: &SlotTable, thread: u8, position: u64, lag: u64) -> Option<Hop>
     requires thread { thread < 8 }
-    requires lag { lag ≤ 3 }
+    requires lag { lag ≤ redirect_lag }
     requires position { position < 8 }
     ensures found { (d q : ℕ) → result ≡ Some (record { cost = d; position = q }) →
         IsNextTurn (positions slots.now thread) lag position d q }
@@ -78,7 +79,7 @@ fn hop(slots: &SlotTable, thread: u8, position: u64, lag: u64) -> Option<Hop>
 /// The steps from each position.
 fn hop_row(slots: &SlotTable, thread: u8, lag: u64) -> HopRow
     requires thread { thread < 8 }
-    requires lag { lag ≤ 3 }
+    requires lag { lag ≤ redirect_lag }
     ensures { IsHops (positions slots.now thread) lag result.hops }
 {
     let mut hops = [None; 8];
@@ -173,7 +174,7 @@ impl Steps {
 
     /// The steps after a lag of 0 to 3 cycles.
     pub fn hops(&self, lag: u64) -> &HopRow
-        requires { lag ≤ 3 }
+        requires { lag ≤ redirect_lag }
         ensures hops { IsHops self.now lag result.now.hops }
         ensures frame { length self.now.frame ≤ 8 }
     {

@@ -1,6 +1,7 @@
 -- Walks through a section and the routines that it calls, which come back to where they were called
 -- from.
 use Rattle.std.specs.Prelude.{◌≡◌, ℕ, ◌+◌, ◌≤◌, ◌^◌, ◌==◌, if◌then◌else◌, true, Some, None, List, [], ◌∷◌, Contains}
+use Rattle.rv_decode.specs.Lag.{redirect_lag}
 use Rattle.bound_calc.specs.Bound.{positions}
 use Rattle.bound_calc.specs.declared.cycle_bound.BoundNo.{BoundNo}
 use Rattle.bound_calc.specs.declared.cycle_bound.BoundNo.TheVariants.{NoMemory, Overflow}
@@ -43,11 +44,11 @@ pub data CallWalk (x : Route) (p : ℕ) : ℕ → ℕ → List ℕ → ℕ → (
       WithinBounds x.calls (λ j. counted u e.to j (k j)) →
       CallWalk x p e.to r s (c + d) (λ j. counted u e.to j (k j))
   enter : {u q c d r : ℕ} {s : List ℕ} {k : LoopSetup → ℕ} {t : Routine} → CallWalk x p u q s c k →
-      callee x.calls u ≡ Some t → IsNextTurn x.positions 3 q d r →
+      callee x.calls u ≡ Some t → IsNextTurn x.positions redirect_lag q d r →
       CallWalk x p t.head r (u ∷ s) (c + d) (λ j. called t j (k j))
   come_back : {u q w c d r : ℕ} {s : List ℕ} {k : LoopSetup → ℕ} → CallWalk x p u q (w ∷ s) c k →
       is_back (x.calls.word u) ≡ true → Lies (part x.calls (part_in x.calls s)) (w + 4) →
-      IsNextTurn x.positions 3 q d r →
+      IsNextTurn x.positions redirect_lag q d r →
       WithinBounds x.calls (λ j. counted w (w + 4) j (k j)) →
       CallWalk x p (w + 4) r s (c + d) (λ j. counted w (w + 4) j (k j))
 
@@ -60,7 +61,7 @@ pub data CostsOf (x : Route) : ℕ → Type 0 where
       (Lies (part x.calls None) e.to → ⊥) → IsNextTurn x.positions e.lag q d r → CostsOf x (c + d)
   goes_back : {p u q w c d r : ℕ} {k : LoopSetup → ℕ} → CallWalk x p u q (w ∷ []) c k →
       is_back (x.calls.word u) ≡ true →
-      (Lies (part x.calls None) (w + 4) → ⊥) → IsNextTurn x.positions 3 q d r → CostsOf x (c + d)
+      (Lies (part x.calls None) (w + 4) → ⊥) → IsNextTurn x.positions redirect_lag q d r → CostsOf x (c + d)
 
 -- The largest cost of a call walk that keeps the bounds: some walk costs it, and none costs more.
 pub record IsCallBound (x : Route) (b : ℕ) : Type 0 where

@@ -1,6 +1,7 @@
 -- Walks of one part alone, in which a call is a whole walk of the routine, from its head to a
 -- return.
 use Rattle.std.specs.Prelude.{◌≡◌, ℕ, ◌+◌, ◌≤◌, ◌⊎◌, true, Some, None, Contains}
+use Rattle.rv_decode.specs.Lag.{redirect_lag}
 use Rattle.fp_setup.specs.declared.loop_list.LoopSetup.{LoopSetup}
 use Rattle.region_tree.specs.Graph.{Edge, Lies}
 use Rattle.region_tree.specs.Walk.{IsNextTurn, IsOwn, counted}
@@ -19,8 +20,8 @@ pub data Run (x : Route) : Part → ℕ → ℕ → ℕ → ℕ → (LoopSetup �
       Run x a p e.to r (c + d) (λ j. counted u e.to j (k j))
   through : {a : Part} {p u q c d : ℕ} {k : LoopSetup → ℕ} {t : Routine} {m w n i f r : ℕ}
       {l : LoopSetup → ℕ} → Run x a p u q c k →
-      callee x.calls u ≡ Some t → Lies (part x.calls a) (u + 4) → IsNextTurn x.positions 3 q d m →
-      Run x (Some t) m w n i l → is_back (x.calls.word w) ≡ true → IsNextTurn x.positions 3 n f r →
+      callee x.calls u ≡ Some t → Lies (part x.calls a) (u + 4) → IsNextTurn x.positions redirect_lag q d m →
+      Run x (Some t) m w n i l → is_back (x.calls.word w) ≡ true → IsNextTurn x.positions redirect_lag n f r →
       Run x a p (u + 4) r (c + (d + (i + f))) (λ j. counted u (u + 4) j (k j))
 
 -- from a routine's head to the word after the call: the walk and the step back
@@ -32,7 +33,7 @@ pub record Through (x : Route) (t : Routine) (p c q : ℕ) : Type 0 where
   pub counters : LoopSetup → ℕ
   pub run : Run x (Some t) p word at one counters
   pub back : is_back (x.calls.word word) ≡ true
-  pub turn : IsNextTurn x.positions 3 at two q
+  pub turn : IsNextTurn x.positions redirect_lag at two q
   pub cost : c ≡ one + two
 
 -- what walks that begin a part at one position and end in it, or in a routine below it, at another
@@ -41,7 +42,7 @@ pub data Deep (x : Route) : Part → ℕ → ℕ → ℕ → Type 0 where
   ends : {a : Part} {p u q c : ℕ} {k : LoopSetup → ℕ} → Run x a p u q c k → Deep x a p c q
   enters : {a : Part} {p u q c d r i n : ℕ} {k : LoopSetup → ℕ} {t : Routine} → Run x a p u q c k →
       callee x.calls u ≡ Some t →
-      IsNextTurn x.positions 3 q d r → Deep x (Some t) r i n → Deep x a p (c + (d + i)) n
+      IsNextTurn x.positions redirect_lag q d r → Deep x (Some t) r i n → Deep x a p (c + (d + i)) n
 
 -- what walks that leave the section cost, from one position to another
 pub data Leaving (x : Route) (p : ℕ) : ℕ → ℕ → Type 0 where
@@ -51,7 +52,7 @@ pub data Leaving (x : Route) (p : ℕ) : ℕ → ℕ → Type 0 where
       Leaving x p (c + d) r
   comes_out : {u q c d m i r : ℕ} {k : LoopSetup → ℕ} {t : Routine} → Run x None p u q c k →
       callee x.calls u ≡ Some t →
-      (Lies (part x.calls None) (u + 4) → ⊥) → IsNextTurn x.positions 3 q d m → Through x t m i r →
+      (Lies (part x.calls None) (u + 4) → ⊥) → IsNextTurn x.positions redirect_lag q d m → Through x t m i r →
       Leaving x p (c + (d + i)) r
 
 -- what walks of the section cost, from one of the thread's own positions

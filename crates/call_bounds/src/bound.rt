@@ -2,6 +2,7 @@
 
 ghost use Rattle.std.specs.Prelude.{◌≡◌, ℕ, ◌<◌, ◌≤◌, ◌^◌, length, Contains, IfOk, IfErr, MatchResult};
 ghost use Rattle.std.specs.Option.{option_map};
+ghost use Rattle.rv_decode.specs.Lag.{redirect_lag};
 ghost use Rattle.slot_table.specs.Frame.{frame};
 ghost use Rattle.region_tree.specs.Walk.{IsOwn};
 ghost use Rattle.bound_calc.specs.Best.{Either, In, IsBest, Then};
@@ -29,7 +30,7 @@ fn leave_by(
     lag: u64,
     onto: &Matrix,
 ) -> Matrix
-    requires lag { lag ≤ 3 }
+    requires lag { lag ≤ redirect_lag }
     ensures { IsBest (entry result)
         (Either (In (entry onto.now))
         (When (leaves part.now target)

@@ -1,6 +1,7 @@
 //! What goes into the execution of an instruction, and what is known after it.
 
 ghost use Rattle.std.specs.Prelude.{◌≡◌, ◌≤◌};
+ghost use Rattle.rv_decode.specs.Lag.{redirect_lag};
 
 use rv_decode::{LATE_LAG, PLAIN_LAG, REDIRECT_LAG};
 use rv_exec::Effect;
@@ -45,7 +46,7 @@ impl Onward {
     /// one, 1 to 3.
     pub fn lag(self) -> u64
         ensures lag { result ≡ lag_of self }
-        ensures short { result ≤ 3 }
+        ensures short { result ≤ redirect_lag }
     {
         match self {
             Onward::NextWord => PLAIN_LAG,

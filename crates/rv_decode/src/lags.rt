@@ -1,7 +1,7 @@
 //! How long a thread waits after an instruction.
 
 ghost use Rattle.std.specs.Prelude.{◌≡◌, ◌≤◌};
-ghost use Rattle.rv_decode.specs.Lag.{lag};
+ghost use Rattle.rv_decode.specs.Lag.{lag, redirect_lag};
 
 use crate::instruction::Ins;
 
@@ -21,7 +21,7 @@ pub const REDIRECT_LAG: u64 = 3;
 #[tactic(auto, unfolding(crate::specs::Lag::lag))]
 pub fn lag_of(i: &Ins, taken: bool, trapped: bool) -> u64
     ensures table { result ≡ lag i.now taken trapped }
-    ensures short { result ≤ 3 }
+    ensures short { result ≤ redirect_lag }
 {
     if trapped {
         return REDIRECT_LAG;
