@@ -48,9 +48,9 @@ fn way_of(onward: Onward) -> Option<Way>
     }
 }
 
-/// How a thread goes on, and at which pc. It stands for a redirect where a function isn't inlined: a
-/// pair of two plain values is answered in registers, and an `Option<Redirect>` in memory that the
-/// caller clears in each cycle.
+/// How a thread goes on, and at which pc. It stands for a redirect where a function isn't inlined:
+/// a pair of two plain values is answered in registers, and an `Option<Redirect>` in memory that
+/// the caller clears in each cycle.
 #[derive(Clone, Copy)]
 struct Going {
     onward: Onward,
@@ -356,8 +356,8 @@ fn execute_issue(
 }
 
 /// Executes the turn that was issued two cycles ago, and tells whether its thread's next turns are
-/// flushed, and by `redirect` then where it goes on. What it changes of its thread and of the machine's own registers is changed
-/// here.
+/// flushed, and by `redirect` then where it goes on. What it changes of its thread and of the
+/// machine's own registers is changed here.
 #[tactic(auto, unfolding(pipe_model::specs::Stages::execute_stage))]
 pub fn execute_stage(
     guard: &mut Guard,
