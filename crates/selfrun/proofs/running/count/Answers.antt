@@ -1,0 +1,7 @@
+use Rattle.std.proofs.Common.{rules}
+use Rattle.pipe_model.specs.Stages.{retired}
+use Rattle.selfrun.proofs.running.count.Goals as goal
+
+pub returns : goal.returns
+unfolding retired
+returns c = search rules
