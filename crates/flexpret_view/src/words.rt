@@ -4,7 +4,8 @@ use crate::progress::Telling;
 use clap::builder::ValueParser;
 use clap::error::ErrorKind;
 use clap::{Arg, ArgAction, ArgMatches, Command, Error};
-use pipe_view::{Form, Window};
+use pipe_view::Form;
+use pipe_watch::Window;
 use std::alloc::{AllocError, Global};
 
 /// The most columns of a picture.

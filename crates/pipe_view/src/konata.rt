@@ -1,7 +1,7 @@
 //! The log of the Konata viewer, format `Kanata` 0004.
 
-use crate::cycle::{Cycle, CycleStart, is_flushed, thread_of};
 use crate::text::put_turn;
+use pipe_watch::{Cycle, CycleStart, is_flushed, thread_of};
 use pipeline_core::{Held, Stored};
 use std::io;
 use std::io::Write;

@@ -2,8 +2,8 @@
 
 ghost use Rattle.std.specs.Prelude.{◌≡◌, ◌≤◌};
 
-use crate::cycle::{Cycle, is_flushed, thread_of};
 use crate::text::{put_turn, slot_name};
+use pipe_watch::{Cycle, is_flushed, thread_of};
 use std::io;
 use std::io::Write;
 

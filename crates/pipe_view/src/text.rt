@@ -1,6 +1,6 @@
 //! A line of text for each cycle.
 
-use crate::cycle::{Cycle, is_flushed, thread_of};
+use pipe_watch::{Cycle, is_flushed, thread_of};
 use pipeline_core::{Held, Stored};
 use rv_disasm::text_at;
 use slot_table::Turn;

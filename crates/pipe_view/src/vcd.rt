@@ -1,7 +1,7 @@
 //! A value change dump (IEEE 1364-2005, 18.2), with text values as GTKWave reads them.
 
-use crate::cycle::{Cycle, CycleStart, ThreadState};
 use crate::text::slot_name;
+use pipe_watch::{Cycle, CycleStart, ThreadState};
 use pipeline_core::{Held, Stored};
 use std::io;
 use std::io::Write;

@@ -1,62 +1,22 @@
 //! A run of which a window of cycles is shown.
 
-ghost use Rattle.std.specs.Prelude.{◌≡◌, ◌+◌, ◌<◌, ◌≤◌, vec_len, OnOk};
+ghost use Rattle.std.specs.Prelude.{◌≡◌, ◌+◌, ◌<◌, ◌≤◌, vec_len};
 ghost use Rattle.timer_unit.specs.Time.{most_cycles};
 
-use crate::cycle::Cycle;
 use crate::konata::Konata;
 use crate::progress::{Progress, tell_at};
 use crate::svg::{Svg, end_svg};
 use crate::text::{put_heading, put_row};
 use crate::vcd::{Vcd, end_vcd};
-use crate::watch::Watch;
 use fp_ports::Ports;
 use machine::Machine;
+use pipe_watch::{Cycle, Watch, Window};
 use std::io;
 use std::io::Write;
-use timer_unit::MOST_CYCLES;
 
 /// How many cycles before the first one that is shown are watched: as many as there are turns
 /// behind the one in F.
 const BEFORE: u64 = 4;
-
-/// How many cycles after its issue a turn comes out of M.
-const UNTIL_WHOLE: u64 = 3;
-
-/// The cycles that are shown: from `from` on, up to the one before `to`.
-#[derive(Clone, Copy, Debug)]
-pub struct Window {
-    from: u64,
-    to: u64,
-    ghost order: { from ≤ to },
-    ghost limit: { to + 3 ≤ most_cycles },
-}
-
-impl Window {
-    /// The last cycle before which a window may end: the machine does three more.
-    pub const MOST: u64 = MOST_CYCLES - UNTIL_WHOLE;
-
-    /// The window of these cycles, if it is one: not empty, and before the last cycle.
-    pub fn new(from: u64, to: u64) -> Option<Window> {
-        if from < to && to <= Window::MOST {
-            Some(Window { from, to })
-        } else {
-            None
-        }
-    }
-
-    /// How many cycles it has.
-    pub fn len(&self) -> u64 {
-        self.to - self.from
-    }
-
-    /// How many cycles a machine does, from cycle 0 on, until all is known of the window's.
-    pub fn run_len(&self) -> u64
-        ensures { result ≡ self.now.to + 3 }
-    {
-        self.to + UNTIL_WHOLE
-    }
-}
 
 /// A form in which cycles are shown.
 #[derive(Clone, Copy, Debug, PartialEq, Eq)]
@@ -88,7 +48,7 @@ impl Writing {
                 put_heading(out)?;
                 Ok(Writing::Text)
             }
-            Form::Konata => Ok(Writing::Konata(Konata::begin(out, window.from)?)),
+            Form::Konata => Ok(Writing::Konata(Konata::begin(out, window.from())?)),
             Form::Vcd => Ok(Writing::Vcd(Vcd::begin(out)?)),
             Form::Svg => Ok(Writing::Svg(Svg::begin(out, window.len())?)),
         }
@@ -143,7 +103,7 @@ fn put_cycle<W: Write>(
     ensures eight { vec_len ports.new ≡ 8 }
 {
     match watch.tick(machine, ports) {
-        Some(cycle) if cycle.start.cycle >= window.from => writing.put(out, &cycle),
+        Some(cycle) if cycle.start.cycle >= window.from() => writing.put(out, &cycle),
         _ => Ok(()),
     }
 }
@@ -185,10 +145,10 @@ pub fn put_view<W: Write, P: Progress>(
     requires start { machine.old.at ≡ 0 }
     requires eight { vec_len ports.old ≡ 8 }
 {
-    let first = window.from.saturating_sub(BEFORE);
+    let first = window.from().saturating_sub(BEFORE);
     go(machine, ports, first, progress);
     progress.begin_window();
     let mut writing = Writing::begin(out, form, window)?;
     put_window(out, &mut writing, window, machine, ports, progress)?;
-    writing.end(out, machine.units.clock.now(window.to))
+    writing.end(out, machine.units.clock.now(window.to()))
 }

@@ -50,7 +50,7 @@ pub struct Cycle {
 }
 
 /// The thread of a turn, if one was picked.
-pub(crate) fn thread_of(turn: &Held<Stored>) -> Option<u8> {
+pub fn thread_of(turn: &Held<Stored>) -> Option<u8> {
     match *turn {
         Held::Bubble => None,
         Held::Flushed { thread } | Held::Issue { thread, .. } => Some(thread),
@@ -58,7 +58,7 @@ pub(crate) fn thread_of(turn: &Held<Stored>) -> Option<u8> {
 }
 
 /// Whether a turn is one that was lost.
-pub(crate) fn is_flushed(turn: &Held<Stored>) -> bool {
+pub fn is_flushed(turn: &Held<Stored>) -> bool {
     matches!(turn, Held::Flushed { .. })
 }
 

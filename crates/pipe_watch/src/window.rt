@@ -1,0 +1,61 @@
+//! The cycles that are shown.
+
+ghost use Rattle.std.specs.Prelude.{◌≡◌, ◌+◌, ◌≤◌};
+ghost use Rattle.timer_unit.specs.Time.{most_cycles};
+
+use timer_unit::MOST_CYCLES;
+
+/// How many cycles after its issue a turn comes out of M.
+const UNTIL_WHOLE: u64 = 3;
+
+/// The cycles that are shown: from `from` on, up to the one before `to`.
+#[derive(Clone, Copy, Debug)]
+pub struct Window {
+    from: u64,
+    to: u64,
+    ghost order: { from ≤ to },
+    ghost limit: { to + 3 ≤ most_cycles },
+}
+
+impl Window {
+    /// The last cycle before which a window may end: the machine does three more.
+    pub const MOST: u64 = MOST_CYCLES - UNTIL_WHOLE;
+
+    /// The window of these cycles, if it is one: not empty, and before the last cycle.
+    pub fn new(from: u64, to: u64) -> Option<Window> {
+        if from < to && to <= Window::MOST {
+            Some(Window { from, to })
+        } else {
+            None
+        }
+    }
+
+    /// The first cycle that is shown.
+    pub fn from(&self) -> u64
+        ensures at { result ≡ self.now.from }
+        ensures limit { result + 3 ≤ most_cycles }
+    {
+        self.from
+    }
+
+    /// The cycle behind the last one that is shown.
+    pub fn to(&self) -> u64
+        ensures at { result ≡ self.now.to }
+        ensures limit { result + 3 ≤ most_cycles }
+    {
+        self.to
+    }
+
+    /// How many cycles it has.
+    pub fn len(&self) -> u64 {
+        self.to - self.from
+    }
+
+    /// How many cycles a machine does, from cycle 0 on, until all is known of the window's.
+    pub fn run_len(&self) -> u64
+        ensures at { result ≡ self.now.to + 3 }
+        ensures limit { result ≤ most_cycles }
+    {
+        self.to + UNTIL_WHOLE
+    }
+}
