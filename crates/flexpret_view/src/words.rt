@@ -1,9 +1,9 @@
 //! What the words of the command line ask.
 
+use crate::options::{BEFORE, commands};
 use crate::progress::Telling;
-use clap::builder::ValueParser;
 use clap::error::ErrorKind;
-use clap::{Arg, ArgAction, ArgMatches, Command, Error};
+use clap::{ArgMatches, Error};
 use pipe_view::Form;
 use pipe_watch::Window;
 use std::alloc::{AllocError, Global};
@@ -13,21 +13,6 @@ const MOST_COLUMNS: u64 = 2000;
 
 /// The file name that stands for standard output.
 pub const STANDARD_OUTPUT: &str = "-";
-
-/// The value of `--progress` until the window begins.
-const BEFORE: &str = "before";
-
-/// The value of `--progress` to the end of the run.
-const ALL: &str = "all";
-
-/// What `--help` says behind the options.
-const AFTER: &str = "The cycles from `from` on are shown, up to the one before `to`. \
-Without --konata, --vcd and --svg they are shown as text; FILE is `-` for standard output. \
-A picture has at most 2000 cycles. \
-With `--progress before` it is told how far the run is while standard output gets nothing, with \
-`--progress all` to the end of the run.\n\n\
-The program is proved to be safe and to end. Nothing is proved of what it shows; it reads the \
-machine that `flexpret` runs.";
 
 /// What is asked.
 #[derive(Clone, Copy)]
@@ -68,104 +53,6 @@ impl From<AllocError> for WordsNo {
     fn from(_error: AllocError) -> WordsNo {
         WordsNo::NoMemory
     }
-}
-
-/// An option that takes a value.
-fn value_option<'a>(alloc: Global, name: &'a str, value_name: &'a str, help: &'a str) -> Arg<'a> {
-    Arg::new(alloc, name)
-        .long(name)
-        .action(ArgAction::Set)
-        .value_name(value_name)
-        .help(help)
-}
-
-/// An option that is a cycle.
-fn cycle_option<'a>(alloc: Global, name: &'a str, help: &'a str) -> Arg<'a> {
-    value_option(alloc, name, "CYCLE", help)
-        .required(true)
-        .value_parser(ValueParser::unsigned(0, Window::MOST))
-}
-
-/// An option that names the file of a form. It is never given beside one of the two others.
-fn form_option<'a>(
-    alloc: Global,
-    name: &'a str,
-    others: (&'a str, &'a str),
-    help: &'a str,
-) -> Result<Arg<'a>, AllocError> {
-    value_option(alloc, name, "FILE", help)
-        .conflicts_with(others.0)?
-        .conflicts_with(others.1)
-}
-
-/// The option that says until when it is told how far the run is.
-fn progress_option<'a>(alloc: Global) -> Arg<'a> {
-    let values: &'a [&'a str] = &[BEFORE, ALL];
-    value_option(
-        alloc,
-        "progress",
-        "UNTIL",
-        "tells on standard error how far a long run is",
-    )
-    .value_parser(ValueParser::Names(values))
-}
-
-/// The argument that names the setup.
-fn setup_argument<'a>(alloc: Global) -> Arg<'a> {
-    Arg::new(alloc, "setup")
-        .required(true)
-        .action(ArgAction::Set)
-        .value_name("SETUP")
-        .help("the setup of the machine, a TOML file")
-}
-
-/// A command with the two cycles of a window as options.
-fn with_window<'a>(alloc: Global, command: Command<'a>) -> Result<Command<'a>, AllocError> {
-    command
-        .arg(cycle_option(alloc, "from", "the first cycle"))?
-        .arg(cycle_option(alloc, "to", "the cycle behind the last one"))
-}
-
-/// A command with the option of a form.
-fn with_form<'a>(
-    alloc: Global,
-    command: Command<'a>,
-    name: &'a str,
-    others: (&'a str, &'a str),
-    help: &'a str,
-) -> Result<Command<'a>, AllocError> {
-    let option = form_option(alloc, name, others, help)?;
-    command.arg(option)
-}
-
-/// A command with the options of the three forms that are written to a file.
-fn with_forms<'a>(alloc: Global, command: Command<'a>) -> Result<Command<'a>, AllocError> {
-    let konata = "writes the log of the Konata viewer";
-    let vcd = "writes a value change dump, for GTKWave";
-    let svg = "writes a picture, for a browser";
-    let command = with_form(alloc, command, "konata", ("vcd", "svg"), konata)?;
-    let command = with_form(alloc, command, "vcd", ("konata", "svg"), vcd)?;
-    with_form(alloc, command, "svg", ("konata", "vcd"), svg)
-}
-
-/// The command `turns`.
-fn turns_command<'a>(alloc: Global) -> Result<Command<'a>, AllocError> {
-    let command = Command::new(alloc, "turns")
-        .about("shows what the pipeline does in each cycle of a window")
-        .after_help(AFTER)
-        .arg(setup_argument(alloc))?;
-    let command = with_window(alloc, command)?;
-    let command = with_forms(alloc, command)?;
-    command.arg(progress_option(alloc))
-}
-
-/// The program's commands.
-fn commands<'a>(alloc: Global) -> Result<Command<'a>, AllocError> {
-    Command::new(alloc, "flexpret_view")
-        .about("Shows runs of the FlexPRET core, cycle by cycle")
-        .after_help("The program is proved to be safe and to end, and nothing more.")
-        .subcommand_required(true)
-        .subcommand(turns_command(alloc)?)
 }
 
 /// The form that is asked for, and its file.
