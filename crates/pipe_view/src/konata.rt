@@ -1,13 +1,19 @@
 //! The log of the Konata viewer, format `Kanata` 0004.
 
-use crate::text::put_turn;
-use pipe_watch::{Cycle, CycleStart, is_flushed, thread_of};
+use crate::text::TurnText;
+use pipe_watch::{Cycle, is_flushed, thread_of};
 use pipeline_core::{Held, Stored};
 use std::io;
 use std::io::Write;
 
 /// The names of the stages, the first one first.
 const STAGES: [&str; 5] = ["F", "D", "E", "M", "W"];
+
+/// How a turn ends that went through all stages.
+const RETIRED: u8 = 0;
+
+/// How a turn ends that is flushed.
+const FLUSHED: u8 = 1;
 
 /// A turn that is shown.
 #[derive(Clone, Copy)]
@@ -49,13 +55,12 @@ impl Konata {
     pub fn put<W: Write>(&mut self, out: &mut W, cycle: &Cycle) -> io::Result<()> {
         let turn = self.shown(cycle.turn());
         let [f, d, e, m, w] = self.stages;
-        if let Some(done) = w {
-            put_end(out, done)?;
-        }
-        self.stages = [turn, f, flushed_out(out, d)?, e, m];
+        let (behind_d, lost) = behind_d(d);
+        self.stages = [turn, f, behind_d, e, m];
+        put_end(out, w, RETIRED)?;
+        put_end(out, lost, FLUSHED)?;
         put_begin(out, turn, cycle)?;
-        self.put_stages(out)?;
-        out.write_all(b"C\t1\n")
+        self.put_stages(out)
     }
 
     /// The turn with the next number, where somebody was picked.
@@ -69,41 +74,34 @@ impl Konata {
         })
     }
 
-    /// Puts in which stage each turn is.
+    /// Puts in which stage each turn is, and that a cycle is over.
     fn put_stages<W: Write>(&self, out: &mut W) -> io::Result<()> {
         for (turn, stage) in self.stages.iter().zip(&STAGES) {
-            put_stage(out, turn, stage)?;
+            if let Some(turn) = turn {
+                let id = turn.id;
+                write!(out, "S\t{id}\t0\t{stage}\n")?;
+            }
         }
-        Ok(())
+        out.write_all(b"C\t1\n")
     }
 }
 
-/// Puts that a turn comes to a stage.
-fn put_stage<W: Write>(out: &mut W, turn: &Option<Shown>, stage: &str) -> io::Result<()> {
+/// The turn that comes out of D, and the one that is flushed and so ends there, of the one in D.
+fn behind_d(turn: Option<Shown>) -> (Option<Shown>, Option<Shown>) {
+    match turn {
+        Some(shown) if shown.is_flushed => (None, turn),
+        _ => (turn, None),
+    }
+}
+
+/// Puts that a turn has ended, and how, if there is one.
+fn put_end<W: Write>(out: &mut W, turn: Option<Shown>, how: u8) -> io::Result<()> {
     match turn {
         Some(turn) => {
             let id = turn.id;
-            write!(out, "S\t{id}\t0\t{stage}\n")
+            write!(out, "R\t{id}\t{id}\t{how}\n")
         }
         None => Ok(()),
-    }
-}
-
-/// Puts that a turn that went through all stages has ended.
-fn put_end<W: Write>(out: &mut W, turn: Shown) -> io::Result<()> {
-    let id = turn.id;
-    write!(out, "R\t{id}\t{id}\t0\n")
-}
-
-/// The turn behind D: one that is flushed has ended there.
-fn flushed_out<W: Write>(out: &mut W, turn: Option<Shown>) -> io::Result<Option<Shown>> {
-    match turn {
-        Some(turn) if turn.is_flushed => {
-            let id = turn.id;
-            write!(out, "R\t{id}\t{id}\t1\n")?;
-            Ok(None)
-        }
-        _ => Ok(turn),
     }
 }
 
@@ -113,14 +111,11 @@ fn put_begin<W: Write>(out: &mut W, turn: Option<Shown>, cycle: &Cycle) -> io::R
         return Ok(());
     };
     let id = turn.id;
-    write!(out, "I\t{id}\t{id}\t{thread}\nL\t{id}\t0\t")?;
-    put_turn(out, cycle)?;
-    put_when(out, id, &cycle.start)
-}
-
-/// Puts the second label of a turn: the cycle and time of its beginning.
-fn put_when<W: Write>(out: &mut W, id: u64, start: &CycleStart) -> io::Result<()> {
-    let number = start.cycle;
-    let time = start.time;
-    write!(out, "\nL\t{id}\t1\tcycle {number}, {time} ns\n")
+    let label = TurnText(cycle);
+    let number = cycle.start.cycle;
+    let time = cycle.start.time;
+    write!(
+        out,
+        "I\t{id}\t{id}\t{thread}\nL\t{id}\t0\t{label}\nL\t{id}\t1\tcycle {number}, {time} ns\n"
+    )
 }

@@ -2,7 +2,7 @@
 
 ghost use Rattle.std.specs.Prelude.{◌≡◌, ◌≤◌};
 
-use crate::text::{put_turn, slot_name};
+use crate::text::{TurnText, slot_name};
 use pipe_watch::{Cycle, is_flushed, thread_of};
 use std::io;
 use std::io::Write;
@@ -159,11 +159,10 @@ fn put_cell<W: Write>(out: &mut W, x: u64, cycle: &Cycle) -> io::Result<()> {
     let y = row_of(thread) + 1;
     let number = cycle.start.cycle;
     let time = cycle.start.time;
+    let turn = TurnText(cycle);
     write!(
         out,
         "<rect class=\"{class}{donated}\" x=\"{x}\" y=\"{y}\" width=\"12\" height=\"16\">\
-         <title>cycle {number}, {time} ns: "
-    )?;
-    put_turn(out, cycle)?;
-    out.write_all(b"</title></rect>\n")
+         <title>cycle {number}, {time} ns: {turn}</title></rect>\n"
+    )
 }

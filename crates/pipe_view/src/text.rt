@@ -4,8 +4,8 @@ use pipe_watch::{Cycle, is_flushed, thread_of};
 use pipeline_core::{Held, Stored};
 use rv_disasm::text_at;
 use slot_table::Turn;
-use std::io;
 use std::io::Write;
+use std::{fmt, io};
 
 /// The name of a slot: `T0` to `T7`, `S` for the soft threads, `-` for nobody.
 pub(crate) fn slot_name(slot: Turn) -> &'static str {
@@ -32,35 +32,6 @@ pub fn put_heading<W: Write>(out: &mut W) -> io::Result<()> {
     out.write_all(b"     cycle            ns slot  F  D  E  M  W  turn\n")
 }
 
-/// Puts what stands in a stage: the thread, with an `x` where its turn is flushed, or a point.
-fn put_stage<W: Write>(out: &mut W, turn: &Held<Stored>) -> io::Result<()> {
-    let Some(thread) = thread_of(turn) else {
-        return out.write_all(b" . ");
-    };
-    let mark = if is_flushed(turn) { "x" } else { " " };
-    write!(out, " {thread}{mark}")
-}
-
-/// Puts the picked turn: its thread, and its address, word, instruction and effect, or that it is
-/// flushed.
-pub(crate) fn put_turn<W: Write>(out: &mut W, cycle: &Cycle) -> io::Result<()> {
-    match *cycle.turn() {
-        Held::Bubble => return out.write_all(b"-"),
-        Held::Flushed { thread } => write!(out, "T{thread} ")?,
-        Held::Issue { thread, what } => put_issue(out, thread, &what)?,
-    }
-    out.write_all(cycle.outcome().as_bytes())
-}
-
-/// Puts an issue: its thread, and its address, word and instruction.
-fn put_issue<W: Write>(out: &mut W, thread: u8, what: &Stored) -> io::Result<()> {
-    let pc = what.pc;
-    let word = what.word;
-    let instruction = text_at(pc, word);
-    let text = instruction.as_str();
-    write!(out, "T{thread} {pc:08x} {word:08x} {text:<26} ")
-}
-
 /// Puts the line of a cycle: its number, its time in nanoseconds, its slot, the thread in each of
 /// the five stages, and its turn.
 ///
@@ -71,16 +42,51 @@ pub fn put_row<W: Write>(out: &mut W, cycle: &Cycle) -> io::Result<()> {
     let number = cycle.start.cycle;
     let time = cycle.start.time;
     let slot = slot_name(cycle.start.slot);
-    write!(out, "{number:>10} {time:>13} {slot:<4} ")?;
-    put_stages(out, &cycle.turns)?;
-    put_turn(out, cycle)?;
-    out.write_all(b"\n")
+    let stages = Stages(&cycle.turns);
+    let turn = TurnText(cycle);
+    write!(out, "{number:>10} {time:>13} {slot:<4} {stages} {turn}\n")
 }
 
-/// Puts what stands in the five stages, and a blank.
-fn put_stages<W: Write>(out: &mut W, turns: &[Held<Stored>; 5]) -> io::Result<()> {
-    for turn in turns {
-        put_stage(out, turn)?;
+/// What stands in the five stages.
+#[derive(Clone, Copy)]
+struct Stages<'a>(&'a [Held<Stored>; 5]);
+
+impl fmt::Display for Stages<'_> {
+    fn fmt<W: fmt::Write>(&self, f: &mut fmt::Formatter<W>) -> fmt::Result {
+        for turn in self.0 {
+            put_stage(f, turn)?;
+        }
+        Ok(())
     }
-    out.write_all(b" ")
+}
+
+/// Puts what stands in a stage: the thread, with an `x` where its turn is flushed, or a point.
+fn put_stage<W: fmt::Write>(f: &mut fmt::Formatter<W>, turn: &Held<Stored>) -> fmt::Result {
+    let Some(thread) = thread_of(turn) else {
+        return f.write_str(" . ");
+    };
+    let mark = if is_flushed(turn) { "x" } else { " " };
+    write!(f, " {thread}{mark}")
+}
+
+/// The picked turn of a cycle: its thread, and its address, word, instruction and effect, or that
+/// it is flushed.
+#[derive(Clone, Copy)]
+pub(crate) struct TurnText<'a>(pub(crate) &'a Cycle);
+
+impl fmt::Display for TurnText<'_> {
+    fn fmt<W: fmt::Write>(&self, f: &mut fmt::Formatter<W>) -> fmt::Result {
+        let outcome = self.0.outcome();
+        match *self.0.turn() {
+            Held::Bubble => f.write_str("-"),
+            Held::Flushed { thread } => write!(f, "T{thread} {outcome}"),
+            Held::Issue { thread, what } => {
+                let pc = what.pc;
+                let word = what.word;
+                let instruction = text_at(pc, word);
+                let text = instruction.as_str();
+                write!(f, "T{thread} {pc:08x} {word:08x} {text:<26} {outcome}")
+            }
+        }
+    }
 }

@@ -3,26 +3,47 @@
 use crate::text::slot_name;
 use pipe_watch::{Cycle, CycleStart, ThreadState};
 use pipeline_core::{Held, Stored};
-use std::io;
+use rv_disasm::text_at;
 use std::io::Write;
+use std::{fmt, io};
 
-/// The signals of a thread: the letter, the type with its width in bits, and the name.
-const SIGNALS: [(&str, &str, &str); 8] = [
-    ("p", "wire 32", "pc"),
-    ("t", "string 1", "instruction"),
-    ("i", "wire 1", "issue"),
-    ("f", "wire 1", "flushed"),
-    ("s", "wire 1", "asleep"),
-    ("a", "wire 64", "armed"),
-    ("l", "wire 32", "latch"),
-    ("n", "wire 32", "input"),
-];
+/// The declarations of the machine's signals and of those of each thread.
+macro_rules! declarations {
+    ($($thread:literal)*) => {
+        concat!(
+            "$timescale 1 ns $end\n$scope module flexpret $end\n",
+            "$var string 1 S slot $end\n$var wire 16 M modes $end\n",
+            $(
+                "$scope module T", $thread, " $end\n",
+                "$var wire 32 p", $thread, " pc $end\n",
+                "$var string 1 t", $thread, " instruction $end\n",
+                "$var wire 1 i", $thread, " issue $end\n",
+                "$var wire 1 f", $thread, " flushed $end\n",
+                "$var wire 1 s", $thread, " asleep $end\n",
+                "$var wire 64 a", $thread, " armed $end\n",
+                "$var wire 32 l", $thread, " latch $end\n",
+                "$var wire 32 n", $thread, " input $end\n",
+                "$upscope $end\n",
+            )*
+            "$upscope $end\n$enddefinitions $end\n",
+        )
+    };
+}
 
-/// A dump that is written cycle by cycle. A signal's name in it is a letter and its thread.
+/// What a dump begins with. A signal's name in it is a letter and its thread.
+const DECLARATIONS: &str = declarations!(0 1 2 3 4 5 6 7);
+
+/// That no thread issues and none is flushed.
+const ZEROS: &str =
+    "0i0\n0f0\n0i1\n0f1\n0i2\n0f2\n0i3\n0f3\n0i4\n0f4\n0i5\n0f5\n0i6\n0f6\n0i7\n0f7\n";
+
+/// A dump that is written cycle by cycle.
 #[derive(Drop)]
 pub struct Vcd {
-    /// The cycle before, if one was put.
-    last: Option<(CycleStart, Held<Stored>)>,
+    /// What the machine held at the start of the cycle before, if one was put.
+    before: Option<CycleStart>,
+    /// The turn that the cycle before picked.
+    turn: Held<Stored>,
 }
 
 impl Vcd {
@@ -32,13 +53,11 @@ impl Vcd {
     ///
     /// The writer's.
     pub fn begin<W: Write>(out: &mut W) -> io::Result<Vcd> {
-        out.write_all(b"$timescale 1 ns $end\n$scope module flexpret $end\n")?;
-        out.write_all(b"$var string 1 S slot $end\n$var wire 16 M modes $end\n")?;
-        for thread in 0..8u8 {
-            put_scope(out, thread)?;
-        }
-        out.write_all(b"$upscope $end\n$enddefinitions $end\n")?;
-        Ok(Vcd { last: None })
+        out.write_all(DECLARATIONS.as_bytes())?;
+        Ok(Vcd {
+            before: None,
+            turn: Held::Bubble,
+        })
     }
 
     /// Puts what changes with a cycle, at the cycle's time.
@@ -47,22 +66,10 @@ impl Vcd {
     ///
     /// The writer's.
     pub fn put<W: Write>(&mut self, out: &mut W, cycle: &Cycle) -> io::Result<()> {
-        let time = cycle.start.time;
-        write!(out, "#{time}\n")?;
-        let before = self.last.as_ref().map(|last| last.0);
-        let (issued, lost) = match &self.last {
-            Some((_, turn)) => (issue_of(turn), flush_of(turn)),
-            None => {
-                put_zeros(out)?;
-                (None, None)
-            }
-        };
-        put_registers(out, before.as_ref(), &cycle.start)?;
-        put_pulse(out, 'i', issued, issue_of(cycle.turn()))?;
-        put_pulse(out, 'f', lost, flush_of(cycle.turn()))?;
-        put_instruction(out, cycle)?;
-        put_threads(out, before.as_ref(), &cycle.start)?;
-        self.last = Some((cycle.start, *cycle.turn()));
+        let changes = Changes { dump: self, cycle };
+        write!(out, "{changes}")?;
+        self.before = Some(cycle.start);
+        self.turn = *cycle.turn();
         Ok(())
     }
 }
@@ -76,27 +83,28 @@ pub fn end_vcd<W: Write>(out: &mut W, time: u64) -> io::Result<()> {
     write!(out, "#{time}\n")
 }
 
-/// Puts the declarations of a thread's signals.
-fn put_scope<W: Write>(out: &mut W, thread: u8) -> io::Result<()> {
-    write!(out, "$scope module T{thread} $end\n")?;
-    for signal in &SIGNALS {
-        put_signal(out, thread, signal)?;
-    }
-    out.write_all(b"$upscope $end\n")
+/// What changes with the next cycle of a dump.
+#[derive(Clone, Copy)]
+struct Changes<'a> {
+    dump: &'a Vcd,
+    cycle: &'a Cycle,
 }
 
-/// Puts the declaration of a thread's signal: its type, its letter and its name.
-fn put_signal<W: Write>(out: &mut W, thread: u8, signal: &(&str, &str, &str)) -> io::Result<()> {
-    let (letter, kind, name) = *signal;
-    write!(out, "$var {kind} {letter}{thread} {name} $end\n")
-}
-
-/// Puts that no thread issues and none is flushed.
-fn put_zeros<W: Write>(out: &mut W) -> io::Result<()> {
-    for thread in 0..8u8 {
-        write!(out, "0i{thread}\n0f{thread}\n")?;
+impl fmt::Display for Changes<'_> {
+    fn fmt<W: fmt::Write>(&self, f: &mut fmt::Formatter<W>) -> fmt::Result {
+        let before = self.dump.before.as_ref();
+        let last = &self.dump.turn;
+        let now = &self.cycle.start;
+        let turn = self.cycle.turn();
+        let time = now.time;
+        let zeros = if before.is_none() { ZEROS } else { "" };
+        write!(f, "#{time}\n{zeros}")?;
+        put_registers(f, before, now)?;
+        put_pulse(f, 'i', issue_of(last), issue_of(turn))?;
+        put_pulse(f, 'f', flush_of(last), flush_of(turn))?;
+        put_instruction(f, turn)?;
+        put_threads(f, before, now)
     }
-    Ok(())
 }
 
 /// The thread that issues in a turn, if it is an issue.
@@ -116,107 +124,109 @@ fn flush_of(turn: &Held<Stored>) -> Option<u8> {
 }
 
 /// Puts the signal of one letter, which is 1 at one thread at most, where that changes.
-fn put_pulse<W: Write>(
-    out: &mut W,
+fn put_pulse<W: fmt::Write>(
+    f: &mut fmt::Formatter<W>,
     letter: char,
     before: Option<u8>,
     now: Option<u8>,
-) -> io::Result<()> {
+) -> fmt::Result {
     if before == now {
         return Ok(());
     }
     if let Some(thread) = before {
-        write!(out, "0{letter}{thread}\n")?;
+        write!(f, "0{letter}{thread}\n")?;
     }
     if let Some(thread) = now {
-        write!(out, "1{letter}{thread}\n")?;
+        write!(f, "1{letter}{thread}\n")?;
     }
     Ok(())
 }
 
 /// Puts the address and the text of the picked turn's word. A text has no spaces in a dump.
-fn put_instruction<W: Write>(out: &mut W, cycle: &Cycle) -> io::Result<()> {
-    let Held::Issue { thread, what } = *cycle.turn() else {
+fn put_instruction<W: fmt::Write>(f: &mut fmt::Formatter<W>, turn: &Held<Stored>) -> fmt::Result {
+    let Held::Issue { thread, what } = *turn else {
         return Ok(());
     };
     let pc = what.pc;
-    write!(out, "b{pc:b} p{thread}\ns")?;
-    put_joined(out, cycle.instruction().as_str())?;
-    write!(out, " t{thread}\n")
+    write!(f, "b{pc:b} p{thread}\ns")?;
+    put_joined(f, text_at(pc, what.word).as_str())?;
+    write!(f, " t{thread}\n")
 }
 
 /// Puts a text with `_` for each space.
-fn put_joined<W: Write>(out: &mut W, text: &str) -> io::Result<()> {
-    for byte in text.as_bytes() {
-        let byte = if *byte == b' ' { b'_' } else { *byte };
-        out.write_all(&[byte])?;
+fn put_joined<W: fmt::Write>(f: &mut fmt::Formatter<W>, text: &str) -> fmt::Result {
+    for letter in text.chars() {
+        f.write_char(if letter == ' ' { '_' } else { letter })?;
     }
     Ok(())
 }
 
 /// Puts the slot and the modes where they change.
-fn put_registers<W: Write>(
-    out: &mut W,
+fn put_registers<W: fmt::Write>(
+    f: &mut fmt::Formatter<W>,
     before: Option<&CycleStart>,
     now: &CycleStart,
-) -> io::Result<()> {
-    let slot = slot_name(now.slot);
-    if before.map(|start| slot_name(start.slot)) != Some(slot) {
-        write!(out, "s{slot} S\n")?;
+) -> fmt::Result {
+    if !matches!(before, Some(last) if slot_name(last.slot) == slot_name(now.slot)) {
+        let slot = slot_name(now.slot);
+        write!(f, "s{slot} S\n")?;
     }
-    let modes = now.modes;
-    if before.map(|start| start.modes) != Some(modes) {
-        write!(out, "b{modes:b} M\n")?;
+    if !matches!(before, Some(last) if last.modes == now.modes) {
+        let modes = now.modes;
+        write!(f, "b{modes:b} M\n")?;
     }
     Ok(())
 }
 
 /// Puts what changes of the threads' modes, timers and ports.
-fn put_threads<W: Write>(
-    out: &mut W,
+fn put_threads<W: fmt::Write>(
+    f: &mut fmt::Formatter<W>,
     before: Option<&CycleStart>,
     now: &CycleStart,
-) -> io::Result<()> {
+) -> fmt::Result {
     for (thread, state) in now.threads.iter().enumerate() {
         let before = before.and_then(|start| start.threads.get(thread));
-        put_thread(out, thread, before, state)?;
+        put_thread(f, thread, before, state)?;
     }
     Ok(())
 }
 
-/// Puts what changes of a thread's mode, timer and port; `z` stands for nothing armed, and for the
-/// latch of a port that isn't there.
-fn put_thread<W: Write>(
-    out: &mut W,
+/// The letters and values of a thread's signals that show its state: asleep, armed, latch, input.
+fn signals_of(state: &ThreadState) -> [(char, Option<u64>); 4] {
+    [
+        ('s', Some(u64::from(state.asleep))),
+        ('a', state.armed),
+        ('l', state.latch.map(u64::from)),
+        ('n', Some(u64::from(state.input))),
+    ]
+}
+
+/// Puts what changes of a thread's mode, timer and port.
+fn put_thread<W: fmt::Write>(
+    f: &mut fmt::Formatter<W>,
     thread: usize,
     before: Option<&ThreadState>,
     now: &ThreadState,
-) -> io::Result<()> {
-    if before.map(|state| state.asleep) != Some(now.asleep) {
-        let bit = u8::from(now.asleep);
-        write!(out, "{bit}s{thread}\n")?;
-    }
-    if before.map(|state| state.armed) != Some(now.armed) {
-        put_vector(out, now.armed, 'a', thread)?;
-    }
-    if before.map(|state| state.latch) != Some(now.latch) {
-        put_vector(out, now.latch.map(u64::from), 'l', thread)?;
-    }
-    if before.map(|state| state.input) != Some(now.input) {
-        put_vector(out, Some(u64::from(now.input)), 'n', thread)?;
+) -> fmt::Result {
+    let before = before.map(signals_of);
+    for (place, signal) in signals_of(now).iter().enumerate() {
+        if before.as_ref().and_then(|last| last.get(place)) != Some(signal) {
+            put_signal(f, thread, *signal)?;
+        }
     }
     Ok(())
 }
 
-/// Puts the value of a signal of many bits.
-fn put_vector<W: Write>(
-    out: &mut W,
-    value: Option<u64>,
-    letter: char,
+/// Puts a signal's letter and value: the one of `s` is a bit; of the others `z` stands for nothing
+/// armed, and for the latch of a port that isn't there.
+fn put_signal<W: fmt::Write>(
+    f: &mut fmt::Formatter<W>,
     thread: usize,
-) -> io::Result<()> {
-    match value {
-        Some(value) => write!(out, "b{value:b} {letter}{thread}\n"),
-        None => write!(out, "bz {letter}{thread}\n"),
+    signal: (char, Option<u64>),
+) -> fmt::Result {
+    match signal {
+        ('s', Some(bit)) => write!(f, "{bit}s{thread}\n"),
+        (letter, Some(value)) => write!(f, "b{value:b} {letter}{thread}\n"),
+        (letter, None) => write!(f, "bz {letter}{thread}\n"),
     }
 }
