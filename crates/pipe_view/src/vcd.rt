@@ -98,12 +98,24 @@ impl fmt::Display for Changes<'_> {
         let turn = self.cycle.turn();
         let time = now.time;
         let zeros = if before.is_none() { ZEROS } else { "" };
-        write!(f, "#{time}\n{zeros}")?;
-        put_registers(f, before, now)?;
-        put_pulse(f, 'i', issue_of(last), issue_of(turn))?;
-        put_pulse(f, 'f', flush_of(last), flush_of(turn))?;
-        put_instruction(f, turn)?;
-        put_threads(f, before, now)
+        let slot = Slot { before, now };
+        let modes = Modes { before, now };
+        let issued = Pulse {
+            letter: 'i',
+            before: issue_of(last),
+            now: issue_of(turn),
+        };
+        let lost = Pulse {
+            letter: 'f',
+            before: flush_of(last),
+            now: flush_of(turn),
+        };
+        let instruction = Instruction(turn);
+        let threads = Threads { before, now };
+        write!(
+            f,
+            "#{time}\n{zeros}{slot}{modes}{issued}{lost}{instruction}{threads}"
+        )
     }
 }
 
@@ -123,72 +135,109 @@ fn flush_of(turn: &Held<Stored>) -> Option<u8> {
     }
 }
 
-/// Puts the signal of one letter, which is 1 at one thread at most, where that changes.
-fn put_pulse<W: fmt::Write>(
-    f: &mut fmt::Formatter<W>,
+/// The slot, where it changes.
+#[derive(Clone, Copy)]
+struct Slot<'a> {
+    before: Option<&'a CycleStart>,
+    now: &'a CycleStart,
+}
+
+impl fmt::Display for Slot<'_> {
+    fn fmt<W: fmt::Write>(&self, f: &mut fmt::Formatter<W>) -> fmt::Result {
+        let slot = slot_name(self.now.slot);
+        match self.before {
+            Some(before) if slot_name(before.slot) == slot => Ok(()),
+            _ => write!(f, "s{slot} S\n"),
+        }
+    }
+}
+
+/// The modes, where they change.
+#[derive(Clone, Copy)]
+struct Modes<'a> {
+    before: Option<&'a CycleStart>,
+    now: &'a CycleStart,
+}
+
+impl fmt::Display for Modes<'_> {
+    fn fmt<W: fmt::Write>(&self, f: &mut fmt::Formatter<W>) -> fmt::Result {
+        let modes = self.now.modes;
+        match self.before {
+            Some(before) if before.modes == modes => Ok(()),
+            _ => write!(f, "b{modes:b} M\n"),
+        }
+    }
+}
+
+/// The signal of one letter, which is 1 at one thread at most, where that changes.
+#[derive(Clone, Copy)]
+struct Pulse {
     letter: char,
+    /// The thread at which it was 1, if it was at one.
     before: Option<u8>,
+    /// The thread at which it is 1, if it is at one.
     now: Option<u8>,
-) -> fmt::Result {
-    if before == now {
-        return Ok(());
-    }
-    if let Some(thread) = before {
-        write!(f, "0{letter}{thread}\n")?;
-    }
-    if let Some(thread) = now {
-        write!(f, "1{letter}{thread}\n")?;
-    }
-    Ok(())
 }
 
-/// Puts the address and the text of the picked turn's word. A text has no spaces in a dump.
-fn put_instruction<W: fmt::Write>(f: &mut fmt::Formatter<W>, turn: &Held<Stored>) -> fmt::Result {
-    let Held::Issue { thread, what } = *turn else {
-        return Ok(());
-    };
-    let pc = what.pc;
-    write!(f, "b{pc:b} p{thread}\ns")?;
-    put_joined(f, text_at(pc, what.word).as_str())?;
-    write!(f, " t{thread}\n")
+impl fmt::Display for Pulse {
+    fn fmt<W: fmt::Write>(&self, f: &mut fmt::Formatter<W>) -> fmt::Result {
+        if self.before == self.now {
+            return Ok(());
+        }
+        let letter = self.letter;
+        for (bit, thread) in [self.before, self.now].iter().enumerate() {
+            if let Some(thread) = thread {
+                write!(f, "{bit}{letter}{thread}\n")?;
+            }
+        }
+        Ok(())
+    }
 }
 
-/// Puts a text with `_` for each space.
-fn put_joined<W: fmt::Write>(f: &mut fmt::Formatter<W>, text: &str) -> fmt::Result {
-    for letter in text.chars() {
-        f.write_char(if letter == ' ' { '_' } else { letter })?;
+/// The address and the text of the picked turn's word.
+#[derive(Clone, Copy)]
+struct Instruction<'a>(&'a Held<Stored>);
+
+impl fmt::Display for Instruction<'_> {
+    fn fmt<W: fmt::Write>(&self, f: &mut fmt::Formatter<W>) -> fmt::Result {
+        let Held::Issue { thread, what } = *self.0 else {
+            return Ok(());
+        };
+        let pc = what.pc;
+        let instruction = text_at(pc, what.word);
+        let text = Joined(instruction.as_str());
+        write!(f, "b{pc:b} p{thread}\ns{text} t{thread}\n")
     }
-    Ok(())
 }
 
-/// Puts the slot and the modes where they change.
-fn put_registers<W: fmt::Write>(
-    f: &mut fmt::Formatter<W>,
-    before: Option<&CycleStart>,
-    now: &CycleStart,
-) -> fmt::Result {
-    if !matches!(before, Some(last) if slot_name(last.slot) == slot_name(now.slot)) {
-        let slot = slot_name(now.slot);
-        write!(f, "s{slot} S\n")?;
+/// A text with `_` for each space, since a text has no spaces in a dump.
+#[derive(Clone, Copy)]
+struct Joined<'a>(&'a str);
+
+impl fmt::Display for Joined<'_> {
+    fn fmt<W: fmt::Write>(&self, f: &mut fmt::Formatter<W>) -> fmt::Result {
+        for letter in self.0.chars() {
+            f.write_char(if letter == ' ' { '_' } else { letter })?;
+        }
+        Ok(())
     }
-    if !matches!(before, Some(last) if last.modes == now.modes) {
-        let modes = now.modes;
-        write!(f, "b{modes:b} M\n")?;
-    }
-    Ok(())
 }
 
-/// Puts what changes of the threads' modes, timers and ports.
-fn put_threads<W: fmt::Write>(
-    f: &mut fmt::Formatter<W>,
-    before: Option<&CycleStart>,
-    now: &CycleStart,
-) -> fmt::Result {
-    for (thread, state) in now.threads.iter().enumerate() {
-        let before = before.and_then(|start| start.threads.get(thread));
-        put_thread(f, thread, before, state)?;
+/// What changes of the threads' modes, timers and ports.
+#[derive(Clone, Copy)]
+struct Threads<'a> {
+    before: Option<&'a CycleStart>,
+    now: &'a CycleStart,
+}
+
+impl fmt::Display for Threads<'_> {
+    fn fmt<W: fmt::Write>(&self, f: &mut fmt::Formatter<W>) -> fmt::Result {
+        for (thread, now) in self.now.threads.iter().enumerate() {
+            let before = self.before.and_then(|start| start.threads.get(thread));
+            put_thread(f, thread, before, now)?;
+        }
+        Ok(())
     }
-    Ok(())
 }
 
 /// The letters and values of a thread's signals that show its state: asleep, armed, latch, input.
