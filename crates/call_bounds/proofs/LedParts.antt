@@ -1,11 +1,11 @@
 -- What calls lead to, by the table of who calls whom.
 use Rattle.std.proofs.Common.{◌≡◌, ℕ, ◌<◌, ◌⊎◌, refl, arith, inl, inr, sym, subst, ◌∙◌, Some, None, List, Bool}
 use Rattle.led_parts.specs.Led.{DoesCall as DoesRow, Led}
+use Rattle.fp_routines.specs.declared.routines.Routine.{Routine}
 use Rattle.call_bounds.specs.Build.{IsTable}
 use Rattle.call_bounds.specs.CallRefusals.{IsListing}
 use Rattle.call_bounds.specs.Calls.{Calls, CallsLead, IsReached, Part}
 use Rattle.call_bounds.specs.Listing.{DoesCall, Listing, calls, part_at, part_count}
-use Rattle.call_bounds.specs.declared.routines.Routine.{Routine}
 use Rattle.call_bounds.proofs.Facts.{callee-listed}
 use Rattle.call_bounds.proofs.Numbers.{number-of, number-once, routine-of}
 

@@ -9,12 +9,12 @@ use Rattle.region_tree.specs.Search.{Before, address}
 use Rattle.region_tree.specs.Tree.{IsDraft, IsSection, Tree, graph}
 use Rattle.region_tree.proofs.DraftLaws.{draft-is}
 use Rattle.region_tree.proofs.GraphLaws.{index-address, index-within, reachable-aligned, reachable-lies}
+use Rattle.fp_routines.specs.declared.routines.Routine.{Routine}
 use Rattle.call_bounds.specs.Build.{CallsAt, IsRow, IsRowTo, IsTableTo, Marked}
 use Rattle.call_bounds.specs.CallRefusals.{IsListing}
 use Rattle.call_bounds.specs.Calls.{callee, part, range}
 use Rattle.call_bounds.specs.Listing.{DoesCall, Listing, calls, part_at, part_count}
 use Rattle.call_bounds.specs.Patched.{part_tree, patched}
-use Rattle.call_bounds.specs.declared.routines.Routine.{Routine}
 use Rattle.call_bounds.proofs.Agree.{back, reach}
 use Rattle.call_bounds.proofs.Numbers.{number-once, part-section, routine-of}
 use Rattle.call_bounds.proofs.PatchLaws.{agrees}

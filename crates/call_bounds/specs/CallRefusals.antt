@@ -4,9 +4,9 @@ use Rattle.fp_setup.specs.Loops.{AreLoops}
 use Rattle.region_tree.specs.Tree.{IsSection}
 use Rattle.region_tree.specs.Graph.{Edge, Graph, Lies, Reachable}
 use Rattle.region_tree.specs.Refusals.{IndirectAt, NestingAt, Nowhere, TimedAt, UnboundedAt}
+use Rattle.fp_routines.specs.declared.routines.Routine.{Routine}
+use Rattle.fp_routines.specs.Routines.{AreRoutines}
 use Rattle.call_bounds.specs.Calls.{Calls, CallsLead, IsReached, Part, part}
-use Rattle.call_bounds.specs.declared.routines.Routine.{Routine}
-use Rattle.call_bounds.specs.Routines.{AreRoutines}
 
 -- a routine that has a word in common with the section
 pub record OverlapAt (x : Calls) (a : ℕ) : Type 0 where

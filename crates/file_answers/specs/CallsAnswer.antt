@@ -3,14 +3,14 @@ use Rattle.std.specs.Prelude.{◌≡◌, ◌⊎◌, ◌<◌, ◌≤◌, ◌^◌,
 use Rattle.fp_setup.specs.Settings.{size_of}
 use Rattle.fp_image.specs.Rules.{word}
 use Rattle.region_tree.specs.declared.section.Section.{Section}
+use Rattle.fp_routines.specs.RoutinesFile.{routines_of}
+use Rattle.fp_routines.specs.declared.refusals.RoutinesRefused.{RoutinesRefused}
+use Rattle.fp_routines.specs.declared.refusals.RoutinesRefused.TheVariants.{Fault, NoMemory}
+use Rattle.fp_routines.specs.declared.routines.Routine.{Routine}
 use Rattle.call_bounds.specs.CallRefusals.{IsCallable, IsListing}
 use Rattle.call_bounds.specs.CallRefused.{IsCallRefused}
 use Rattle.call_bounds.specs.CallWalk.{CostsOf, IsCallBound, route}
 use Rattle.call_bounds.specs.Listing.{Listing, calls, listing_of}
-use Rattle.call_bounds.specs.RoutinesFile.{routines_of}
-use Rattle.call_bounds.specs.declared.refusals.RoutinesRefused.{RoutinesRefused}
-use Rattle.call_bounds.specs.declared.refusals.RoutinesRefused.TheVariants.{Fault, NoMemory}
-use Rattle.call_bounds.specs.declared.routines.Routine.{Routine}
 use Rattle.call_bounds.specs.declared.tree.CallNo.{CallNo}
 use Rattle.trace_print.specs.Bounds.{bound_text}
 use Rattle.trace_print.specs.declared.refusals.Refusal.TheVariants as refusal

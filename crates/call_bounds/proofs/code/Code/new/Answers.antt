@@ -1,7 +1,7 @@
 use Rattle.std.proofs.Common.{rules, sym, subst}
 use Rattle.fp_image.specs.Rules.{word}
 use Rattle.fp_setup.specs.Loops.{AreLoops}
-use Rattle.call_bounds.specs.Routines.{AreRoutines}
+use Rattle.fp_routines.specs.Routines.{AreRoutines}
 use Rattle.call_bounds.proofs.CodeLaws.{scratchpad-length}
 use Rattle.call_bounds.proofs.code.Code.new.Goals as goal
 

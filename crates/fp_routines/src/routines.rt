@@ -23,8 +23,8 @@ pub struct Routines {
 
 impl Model for Routines {
     ghost use Rattle.std.specs.Prelude.{List};
-    ghost use Rattle.call_bounds.specs.declared.routines.Routine.{Routine};
-    ghost use Rattle.call_bounds.specs.Routines.{AreRoutines};
+    ghost use Rattle.fp_routines.specs.declared.routines.Routine.{Routine};
+    ghost use Rattle.fp_routines.specs.Routines.{AreRoutines};
 
     ghost Value = { List Routine };
 
@@ -34,7 +34,7 @@ impl Model for Routines {
 }
 
 impl Routines {
-    ghost use Rattle.call_bounds.specs.Routines.{AreRoutines};
+    ghost use Rattle.fp_routines.specs.Routines.{AreRoutines};
 
     /// The routines of a list.
     pub fn from_vec(items: Vec<Routine>) -> Routines

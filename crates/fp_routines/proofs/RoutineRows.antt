@@ -1,11 +1,11 @@
 -- The definition of a file of routines, computed on some files.
 use Rattle.std.proofs.Common.{◌≡◌, ℕ, List, [], ◌∷◌, None, Result, Ok, Err, refl}
 use Rattle.std.specs.Prelude.{codes}
-use Rattle.call_bounds.specs.RoutinesFile.{lines_of, number_from, routine_at, routines_from, routines_of}
-use Rattle.call_bounds.specs.declared.refusals.RoutinesNo.TheVariants.{TooMany, BadLine, BadPlace, Order}
-use Rattle.call_bounds.specs.declared.refusals.RoutinesRefused.{RoutinesRefused}
-use Rattle.call_bounds.specs.declared.refusals.RoutinesRefused.TheVariants.{Fault}
-use Rattle.call_bounds.specs.declared.routines.Routine.{Routine}
+use Rattle.fp_routines.specs.RoutinesFile.{lines_of, number_from, routine_at, routines_from, routines_of}
+use Rattle.fp_routines.specs.declared.refusals.RoutinesNo.TheVariants.{TooMany, BadLine, BadPlace, Order}
+use Rattle.fp_routines.specs.declared.refusals.RoutinesRefused.{RoutinesRefused}
+use Rattle.fp_routines.specs.declared.refusals.RoutinesRefused.TheVariants.{Fault}
+use Rattle.fp_routines.specs.declared.routines.Routine.{Routine}
 
 -- by scratchpads of 16,384 bytes
 abbrev read : List ℕ → Result (List Routine) RoutinesRefused

@@ -1,12 +1,12 @@
 use Rattle.std.proofs.Common.{◌≡◌, inr, ◌<◌, ℕ, suc, ◌+◌, ◌++◌, [], ◌∷◌, List, length, Option, Some, None, Result, Ok, Err, sym, ap, ◌∙◌, subst, arith, length-append}
 use Rattle.std.specs.Prelude.{min}
-use Rattle.call_bounds.specs.Routines.{AreRoutines}
-use Rattle.call_bounds.specs.RoutinesFile.{lines_of, routine_at, routines_from, routines_of}
-use Rattle.call_bounds.specs.declared.refusals.RoutinesRefused.{RoutinesRefused}
-use Rattle.call_bounds.specs.declared.routines.Routine.{Routine}
-use Rattle.call_bounds.proofs.FileLines.{all-joined, joined, joined-cons, joined-none, line-next, line-stops}
-use Rattle.call_bounds.proofs.Rising.{ends-there, one-more}
-use Rattle.call_bounds.proofs.reader.read_routines.Goals as goal
+use Rattle.fp_routines.specs.Routines.{AreRoutines}
+use Rattle.fp_routines.specs.RoutinesFile.{lines_of, routine_at, routines_from, routines_of}
+use Rattle.fp_routines.specs.declared.refusals.RoutinesRefused.{RoutinesRefused}
+use Rattle.fp_routines.specs.declared.routines.Routine.{Routine}
+use Rattle.fp_routines.proofs.FileLines.{all-joined, joined, joined-cons, joined-none, line-next, line-stops}
+use Rattle.fp_routines.proofs.Rising.{ends-there, one-more}
+use Rattle.fp_routines.proofs.reader.read_routines.Goals as goal
 
 -- at first all is left
 starts : (size : ℕ) (file : List ℕ) (n : ℕ) (xs : List Routine) (rest : List ℕ) → n ≡ 1 → xs ≡ [] → rest ≡ file → routines_of size file ≡ joined xs (routines_from size n None (lines_of rest))

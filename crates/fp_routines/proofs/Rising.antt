@@ -4,9 +4,9 @@ use Rattle.std.specs.Prelude.{slice_index_or}
 use Rattle.std.proofs.lemmas.Bool.Decides.{nat_tests}
 use Rattle.std.proofs.lemmas.List.Elements.{Contains-append_cases, Contains-append_right}
 use Rattle.region_guard.specs.Regions.{IsSize}
-use Rattle.call_bounds.specs.Routines.{AreRoutines, IsRoutine, Rise}
-use Rattle.call_bounds.specs.RoutinesFile.{is_above, is_placed}
-use Rattle.call_bounds.specs.declared.routines.Routine.{Routine}
+use Rattle.fp_routines.specs.Routines.{AreRoutines, IsRoutine, Rise}
+use Rattle.fp_routines.specs.RoutinesFile.{is_above, is_placed}
+use Rattle.fp_routines.specs.declared.routines.Routine.{Routine}
 
 -- they end at this one, if there is any
 abbrev pub EndAt : Option Routine → List Routine → Type 0

@@ -2,10 +2,10 @@ use Rattle.std.proofs.Common.{◌≡◌, ◌<◌, ◌≤◌, ◌+◌, ◌*◌, �
 use Rattle.std.specs.Prelude.{slice_index_or}
 use Rattle.std.specs.List.{list_all}
 use Rattle.std.proofs.Math.Seq.{drop-cons}
-use Rattle.call_bounds.proofs.FileLines.{both}
-use Rattle.call_bounds.specs.RoutinesFile.{digit, is_digit, number_from}
+use Rattle.fp_routines.proofs.FileLines.{both}
+use Rattle.fp_routines.specs.RoutinesFile.{digit, is_digit, number_from}
 use Rattle.std.proofs.Math.Nat.{pow-le-pow_right}
-use Rattle.call_bounds.proofs.reader.number_of.Goals as goal
+use Rattle.fp_routines.proofs.reader.number_of.Goals as goal
 
 few-digits : (n i len : ℕ) → n + 1 ≤ 16 ^ i → i < len → len ≡ 8 → n + 1 ≤ 268435456
 few-digits n i len small inside most =

@@ -2,11 +2,11 @@
 -- this project's profile.
 use Rattle.std.specs.Prelude.{ℕ, suc, ◌+◌, ◌-◌, ◌*◌, ◌%◌, ◌==◌, nat_lt, nat_le, Bool, true, not, ◌&&◌, ◌||◌, if◌then◌else◌, List, [], ◌∷◌, length, take, drop, slice_index_or, Option, Some, None, Result, Ok, Err}
 use Rattle.std.specs.List.{list_all}
-use Rattle.call_bounds.specs.declared.refusals.RoutinesNo.{RoutinesNo}
-use Rattle.call_bounds.specs.declared.refusals.RoutinesNo.TheVariants.{TooMany, BadLine, BadPlace, Order}
-use Rattle.call_bounds.specs.declared.refusals.RoutinesRefused.{RoutinesRefused}
-use Rattle.call_bounds.specs.declared.refusals.RoutinesRefused.TheVariants.{Fault}
-use Rattle.call_bounds.specs.declared.routines.Routine.{Routine}
+use Rattle.fp_routines.specs.declared.refusals.RoutinesNo.{RoutinesNo}
+use Rattle.fp_routines.specs.declared.refusals.RoutinesNo.TheVariants.{TooMany, BadLine, BadPlace, Order}
+use Rattle.fp_routines.specs.declared.refusals.RoutinesRefused.{RoutinesRefused}
+use Rattle.fp_routines.specs.declared.refusals.RoutinesRefused.TheVariants.{Fault}
+use Rattle.fp_routines.specs.declared.routines.Routine.{Routine}
 
 -- a byte before lines: in front of the first of them
 abbrev pub in_front : ℕ → List (List ℕ) → List (List ℕ)

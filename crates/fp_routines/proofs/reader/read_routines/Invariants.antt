@@ -1,10 +1,10 @@
 -- the routines so far, and the bytes that are left
 use Rattle.std.proofs.Common.{◌≡◌, suc, length}
-use Rattle.call_bounds.specs.Routines.{AreRoutines}
-use Rattle.call_bounds.specs.RoutinesFile.{lines_of, routines_from, routines_of}
-use Rattle.call_bounds.proofs.FileLines.{joined}
-use Rattle.call_bounds.proofs.Rising.{EndAt}
-use Rattle.call_bounds.proofs.reader.read_routines.Given as goal
+use Rattle.fp_routines.specs.Routines.{AreRoutines}
+use Rattle.fp_routines.specs.RoutinesFile.{lines_of, routines_from, routines_of}
+use Rattle.fp_routines.proofs.FileLines.{joined}
+use Rattle.fp_routines.proofs.Rising.{EndAt}
+use Rattle.fp_routines.proofs.reader.read_routines.Given as goal
 
 abbrev pub invariant-loop-line : goal.invariant-loop-line
 invariant-loop-line l = record {

@@ -1,6 +1,6 @@
 -- The rules of routines, for scratchpads of any size.
 use Rattle.std.specs.Prelude.{◌≡◌, ◌%◌, ◌<◌, ◌≤◌, List, [], ◌∷◌, length, Contains}
-use Rattle.call_bounds.specs.declared.routines.Routine.{Routine}
+use Rattle.fp_routines.specs.declared.routines.Routine.{Routine}
 
 -- each routine begins above the one before it
 abbrev pub Rise : List Routine → Type 0

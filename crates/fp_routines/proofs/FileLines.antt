@@ -4,11 +4,11 @@ use Rattle.std.specs.Prelude.{min, slice_index_or}
 use Rattle.std.specs.List.{concat, list_all}
 use Rattle.std.proofs.Math.Seq.{drop-cons, drop-nil, take-append_seam}
 use Rattle.std.proofs.lemmas.Bool.Decides.{nat_tests}
-use Rattle.call_bounds.specs.RoutinesFile.{and_then, has_form, in_front, is_digit, lines_of, routine_at, routine_in, routines_from, unless}
-use Rattle.call_bounds.specs.declared.refusals.RoutinesNo.TheVariants.{TooMany, BadLine}
-use Rattle.call_bounds.specs.declared.refusals.RoutinesRefused.{RoutinesRefused}
-use Rattle.call_bounds.specs.declared.refusals.RoutinesRefused.TheVariants.{Fault}
-use Rattle.call_bounds.specs.declared.routines.Routine.{Routine}
+use Rattle.fp_routines.specs.RoutinesFile.{and_then, has_form, in_front, is_digit, lines_of, routine_at, routine_in, routines_from, unless}
+use Rattle.fp_routines.specs.declared.refusals.RoutinesNo.TheVariants.{TooMany, BadLine}
+use Rattle.fp_routines.specs.declared.refusals.RoutinesRefused.{RoutinesRefused}
+use Rattle.fp_routines.specs.declared.refusals.RoutinesRefused.TheVariants.{Fault}
+use Rattle.fp_routines.specs.declared.routines.Routine.{Routine}
 
 -- whether the last byte is a line feed, and the only one
 abbrev is_none : List ℕ → Bool

@@ -1,8 +1,8 @@
 -- the digits so far
 use Rattle.std.proofs.Common.{◌≡◌, ◌+◌, ◌≤◌, ◌^◌, drop, true}
 use Rattle.std.specs.List.{list_all}
-use Rattle.call_bounds.specs.RoutinesFile.{is_digit, number_from}
-use Rattle.call_bounds.proofs.reader.number_of.Given as goal
+use Rattle.fp_routines.specs.RoutinesFile.{is_digit, number_from}
+use Rattle.fp_routines.proofs.reader.number_of.Given as goal
 
 abbrev pub invariant-loop-byte : goal.invariant-loop-byte
 invariant-loop-byte l = record {

@@ -1,0 +1,3 @@
+pub mod Routines
+pub mod RoutinesFile
+pub use Rattle.region_guard.specs.Regions
