@@ -1,9 +1,14 @@
 -- The bound, from what is known of each part.
-use Rattle.std.proofs.Common.{◌≡◌, ℕ, ◌<◌, ◌≤◌, ◌^◌, arith, refl, subst, sym, Result, Ok, Err, IfOk, IfErr, MatchResult}
+use Rattle.std.proofs.Common.{◌≡◌, ◌∙◌, ℕ, ◌<◌, ◌≤◌, ◌^◌, arith, refl, subst, sym, Result, Ok, Err, IfOk, IfErr, MatchResult, Contains}
+use Rattle.std.specs.Result.{IsErrAnd}
+use Rattle.std.proofs.lemmas.Grind.{get_or_default_zero}
+use Rattle.slot_table.specs.Frame.{frame}
+use Rattle.region_tree.specs.Walk.{IsOwn, Positions}
 use Rattle.bound_calc.specs.declared.cycle_bound.BoundNo.{BoundNo}
-use Rattle.bound_calc.specs.declared.cycle_bound.BoundNo.TheVariants.{Overflow}
+use Rattle.bound_calc.specs.declared.cycle_bound.BoundNo.TheVariants.{NoMemory, Overflow}
 use Rattle.call_bounds.specs.CallWalk.{CostsOf, IsCallBound, IsTooCostly, Route}
 use Rattle.bound_calc.specs.Best.{ceiling}
+use Rattle.bound_calc.specs.Bound.{positions}
 use Rattle.call_bounds.specs.Runs.{Nested}
 use Rattle.call_bounds.specs.Summaries.{IsMost}
 use Rattle.call_bounds.proofs.Costs.{flat, in_parts}
@@ -31,3 +36,12 @@ answer-bound x most (Err why) is m h = tt
 pub answer-refused : (x : Route) (most : ℕ) (r : Result ℕ BoundNo) → AreParts x.calls → IsMost x most → Answered most r → IfErr r (IsTooCostly x)
 answer-refused x most (Ok bound) is m h = tt
 answer-refused x most (Err why) is m h = subst (λ why. IsTooCostly x why) (sym h.0) (refl, large x most is m h.1)
+
+-- where memory was refused nothing is told of the bound
+pub no-memory : (x : Route) (r : Result ℕ BoundNo) → IsErrAnd r (λ no. no ≡ NoMemory) → IfOk r (IsCallBound x) × IfErr r (IsTooCostly x)
+no-memory x (Ok bound) h = absurd h
+no-memory x (Err why) h = (tt, subst (λ why. IsTooCostly x why) (sym h) tt)
+
+-- a thread with a slot has a position of its own
+pub own-position : (slots thread : ℕ) (s : Positions) → Contains (frame slots) thread → s ≡ positions slots thread → (p : ℕ) × IsOwn s p
+own-position slots thread s h e = subst (λ (s : Positions). (p : ℕ) × IsOwn s p) (sym e) (h.0, record { within = h.1; own = sym (get_or_default_zero (frame slots) h.0 thread h.1) ∙ h.2 })

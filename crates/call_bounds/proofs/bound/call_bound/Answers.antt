@@ -3,7 +3,7 @@ use Rattle.region_tree.specs.Walk.{Positions}
 use Rattle.bound_calc.specs.Bound.{positions}
 use Rattle.call_bounds.specs.Listing.{calls}
 use Rattle.call_bounds.specs.Summaries.{IsMost, route}
-use Rattle.call_bounds.proofs.Exact.{answer-bound, answer-refused}
+use Rattle.call_bounds.proofs.Exact.{answer-bound, answer-refused, no-memory, own-position}
 use Rattle.call_bounds.proofs.Facts.{parts}
 use Rattle.call_bounds.proofs.bound.call_bound.Goals as goal
 
@@ -20,3 +20,21 @@ returns-clause-refused c =
     let d = c.in_ok-done.ensures.done in
     let m = subst (λ (s : Positions). IsMost (route l s) c.in_ok-most.field-0) c.new-steps.ensures c.in_ok-most.ensures in
     answer-refused (route l (positions c.args.slots.now c.args.thread)) c.in_ok-most.field-0 c.in_64_bits.result (parts (calls l) d.listing d.callable) m c.in_64_bits.ensures
+
+pub most-requires-clause-slot : goal.most-requires-clause-slot
+most-requires-clause-slot c = own-position c.args.slots.now c.args.thread c.new-steps.result c.requires.slot c.new-steps.ensures
+
+pub most-requires-clause-done : goal.most-requires-clause-done
+most-requires-clause-done c = c.in_ok-done.ensures.done
+
+pub most-requires-clause-known : goal.most-requires-clause-known
+most-requires-clause-known c = c.in_ok-done.ensures.known
+
+pub returns-in_err-done : goal.returns-in_err-done
+returns-in_err-done c = let z = no-memory (route c.args.tree.now (positions c.args.slots.now c.args.thread)) c.from_residual.result c.from_residual.ensures.1 in record { bound = z.0; refused = z.1 }
+
+pub returns-in_err-most : goal.returns-in_err-most
+returns-in_err-most c = let z = no-memory (route c.args.tree.now (positions c.args.slots.now c.args.thread)) c.from_residual-in_err-most.result c.from_residual-in_err-most.ensures.1 in record { bound = z.0; refused = z.1 }
+
+pub new-steps-requires : goal.new-steps-requires
+new-steps-requires c = c.requires.thread
