@@ -10,3 +10,21 @@ loop-rank-init c = record {
 
 pub returns-clause-known : goal.returns-clause-known
 returns-clause-known c = known-all c.args.tree.now c.args.steps.now c.ranks-ranks.result.now c.loop-rank.rank c.loop-rank.done.through.items c.loop-rank.done.deep.items c.ranks-ranks.ensures (omega (arith, c.loop-rank-test.false, c.part_count-count.ensures.value)) c.loop-rank.invariant.known
+
+pub overflow_add-rank-end : goal.overflow_add-rank-end
+overflow_add-rank-end c = omega (arith, c.part_count-count.ensures.few)
+
+pub summarise_rank-requires-clause-ranks : goal.summarise_rank-requires-clause-ranks
+summarise_rank-requires-clause-ranks c = c.ranks-ranks.ensures
+
+pub summarise_rank-requires-clause-done : goal.summarise_rank-requires-clause-done
+summarise_rank-requires-clause-done c = c.loop-rank.invariant.all
+
+pub summarise_rank-requires-clause-below : goal.summarise_rank-requires-clause-below
+summarise_rank-requires-clause-below c = c.loop-rank.invariant.known
+
+pub loop-rank-preserved : goal.loop-rank-preserved
+loop-rank-preserved c = record { all = c.in_ok-summarise_rank.ensures.done; known = c.in_ok-summarise_rank.ensures.known }
+
+pub returns-clause-done : goal.returns-clause-done
+returns-clause-done c = c.loop-rank.invariant.all

@@ -47,3 +47,21 @@ loop-number-preserved c = elim c.if-ranks-number.branch [ then-ranks-number+in_o
 
 pub returns-clause-known : goal.returns-clause-known
 returns-clause-known c = before-all c.args.tree.now c.args.steps.now c.args.ranks.now c.args.rank c.loop-number.number c.loop-number.done.through.items c.loop-number.done.deep.items (omega (arith, c.loop-number-test.false, c.requires.ranks.count)) c.loop-number.invariant.known
+
+pub offset_bounds-ranks-number : goal.offset_bounds-ranks-number
+offset_bounds-ranks-number c = omega (arith, c.loop-number-test.true, c.requires.ranks.count, c.requires.done.listing.routines.few)
+
+pub bounds-ranks-number : goal.bounds-ranks-number
+bounds-ranks-number c = c.loop-number-test.true
+
+pub summarise-requires-clause-routine : goal.summarise-requires-clause-routine
+summarise-requires-clause-routine c = c.loop-number.invariant.some
+
+pub summarise-requires-clause-number : goal.summarise-requires-clause-number
+summarise-requires-clause-number c = omega (arith, c.loop-number-test.true, c.requires.ranks.count)
+
+pub summarise-requires-clause-done : goal.summarise-requires-clause-done
+summarise-requires-clause-done c = c.loop-number.invariant.all
+
+pub returns-clause-done : goal.returns-clause-done
+returns-clause-done c = c.loop-number.invariant.all

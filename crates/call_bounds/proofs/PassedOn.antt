@@ -1,0 +1,38 @@
+-- What is told of errors that are passed on.
+use Rattle.std.proofs.Common.{◌≡◌, sym, subst, Result, Ok, Err, IfOk, IfErr, OnOk}
+use Rattle.std.specs.Result.{IsErrAnd}
+use Rattle.call_bounds.specs.declared.tree.CallNo.{CallNo}
+use Rattle.call_bounds.specs.declared.tree.CallNo.TheVariants.{Escape, IndirectJump, Nesting, NoMemory, Overlap, Recursion, TimedWait, UnboundedBackEdge}
+use Rattle.call_bounds.specs.Calls.{Calls}
+use Rattle.call_bounds.specs.CallRefused.{AreCallsAllowed, IsCallRefused, IsTreeRefused}
+
+-- nothing of a value
+pub no-value : {A E : Type 0} (r : Result A E) (P : A → Type 0) (Q : E → Type 0) → IsErrAnd r Q → IfOk r P
+no-value (Ok value) P Q h = absurd h
+no-value (Err why) P Q h = tt
+
+-- nothing of there being one
+pub no-success : {A E : Type 0} (r : Result A E) (P : Type 0) (Q : E → Type 0) → IsErrAnd r Q → OnOk r P
+no-success (Ok value) P Q h = absurd h
+no-success (Err why) P Q h = tt
+
+-- that memory was refused is told whatever holds
+pub memory-refused : {A : Type 0} (x : Calls) (r : Result A CallNo) → IsErrAnd r (λ no. no ≡ NoMemory) → IfErr r (IsCallRefused x)
+memory-refused x (Ok value) h = absurd h
+memory-refused x (Err why) h = subst (IsCallRefused x) (sym h) tt
+
+-- an error is told as it was
+pub refused-as : {A : Type 0} (x : Calls) (r : Result A CallNo) (why : CallNo) → IsErrAnd r (λ no. no ≡ why) → IsCallRefused x why → IfErr r (IsCallRefused x)
+refused-as x (Ok value) why h is = absurd h
+refused-as x (Err told) why h is = subst (IsCallRefused x) (sym h) is
+
+-- a refusal of a part is one of the whole, where nothing earlier holds
+pub tree-refused : (x : Calls) (why : CallNo) → AreCallsAllowed x → IsTreeRefused x why → IsCallRefused x why
+tree-refused x (Nesting a) allowed is = (allowed, is)
+tree-refused x (IndirectJump a) allowed is = (allowed, is)
+tree-refused x (TimedWait a) allowed is = (allowed, is)
+tree-refused x (UnboundedBackEdge a) allowed is = (allowed, is)
+tree-refused x NoMemory allowed is = tt
+tree-refused x (Overlap a) allowed is = absurd is
+tree-refused x (Recursion a) allowed is = absurd is
+tree-refused x (Escape a) allowed is = absurd is
