@@ -16,15 +16,14 @@ pub no-success : {A E : Type 0} (r : Result A E) (P : Type 0) (Q : E → Type 0)
 no-success (Ok value) P Q h = absurd h
 no-success (Err why) P Q h = tt
 
--- that memory was refused is told whatever holds
-pub memory-refused : {A : Type 0} (x : Calls) (r : Result A CallNo) → IsErrAnd r (λ no. no ≡ NoMemory) → IfErr r (IsCallRefused x)
-memory-refused x (Ok value) h = absurd h
-memory-refused x (Err why) h = subst (IsCallRefused x) (sym h) tt
-
 -- an error is told as it was
-pub refused-as : {A : Type 0} (x : Calls) (r : Result A CallNo) (why : CallNo) → IsErrAnd r (λ no. no ≡ why) → IsCallRefused x why → IfErr r (IsCallRefused x)
-refused-as x (Ok value) why h is = absurd h
-refused-as x (Err told) why h is = subst (IsCallRefused x) (sym h) is
+pub told-as : {A E : Type 0} (P : E → Type 0) (r : Result A E) (why : E) → IsErrAnd r (λ told. told ≡ why) → P why → IfErr r P
+told-as P (Ok value) why h is = absurd h
+told-as P (Err told) why h is = subst P (sym h) is
+
+-- that memory was refused is told whatever holds
+pub memory-refused : {A : Type 0} (x : Calls) (r : Result A CallNo) → IsErrAnd r (λ told. told ≡ NoMemory) → IfErr r (IsCallRefused x)
+memory-refused x r h = told-as (IsCallRefused x) r NoMemory h tt
 
 -- a refusal of a part is one of the whole, where nothing earlier holds
 pub tree-refused : (x : Calls) (why : CallNo) → AreCallsAllowed x → IsTreeRefused x why → IsCallRefused x why

@@ -1,5 +1,5 @@
-use Rattle.std.proofs.Common.{◌≡◌, ◌∙◌, ap, subst, length, List, None}
-use Rattle.region_tree.specs.Tree.{IsTree, Tree}
+use Rattle.std.proofs.Common.{◌≡◌, ◌∙◌, ap, subst, sym, length, List, None}
+use Rattle.region_tree.specs.Tree.{IsSection, IsTree, Tree}
 use Rattle.region_tree.specs.declared.section.Section.{Section}
 use Rattle.bound_calc.specs.Best.{Either, In, IsBest}
 use Rattle.bound_calc.specs.Matrices.{entry}
@@ -9,6 +9,7 @@ use Rattle.call_bounds.specs.Calls.{IsReached, range}
 use Rattle.call_bounds.specs.Listing.{calls}
 use Rattle.call_bounds.specs.Patched.{part_tree}
 use Rattle.call_bounds.specs.Summaries.{Any, AreCallees, Ending, LeavesAt}
+use Rattle.call_bounds.proofs.PassedOn.{no-value}
 use Rattle.call_bounds.proofs.PartLaws.{count, table-is}
 use Rattle.call_bounds.proofs.SectionLaws.{section-most}
 use Rattle.call_bounds.proofs.bound.most.Goals as goal
@@ -36,3 +37,12 @@ returns c =
     (subst (λ (t : Tree). IsBest (entry c.leaving.result) (Either (In (entry c.deep-ended.result)) (Any (LeavesAt t o (ways_on c.new-ways.result) at) (length at)))) part
     (subst (λ (at : List Matrix). IsBest (entry c.leaving.result) (Either (In (entry c.deep-ended.result)) (Any (LeavesAt c.in-Some.part.now o (ways_on c.new-ways.result) at) (length at)))) c.deref-6.ensures.value c.leaving.ensures)) in
     section-most l o callees through deep at c.deep-ended.result c.leaving.result c.largest.result c.requires.slot c.requires.done c.requires.known cs tree reached ends leaves c.largest.ensures
+
+pub callees-requires : goal.callees-requires
+callees-requires c = subst IsSection (sym c.section.ensures.value) c.section.ensures.rules.draft.section
+
+pub returns-in_err-callees : goal.returns-in_err-callees
+returns-in_err-callees c = no-value c.from_residual.result _ _ c.from_residual.ensures.1
+
+pub returns-in_err-at : goal.returns-in_err-at
+returns-in_err-at c = no-value c.from_residual-in_err-at.result _ _ c.from_residual-in_err-at.ensures.1

@@ -1,8 +1,9 @@
 use Rattle.std.proofs.Common.{subst}
 use Rattle.region_tree.specs.Search.{LowestOf}
 use Rattle.call_bounds.specs.CallRefusals.{EscapeAt}
+use Rattle.call_bounds.specs.CallRefused.{IsCallRefused}
 use Rattle.call_bounds.specs.Listing.{calls}
-use Rattle.call_bounds.proofs.PassedOn.{no-success, no-value, refused-as, tree-refused}
+use Rattle.call_bounds.proofs.PassedOn.{no-success, no-value, told-as, tree-refused}
 use Rattle.call_bounds.proofs.escape.closed_trees.Goals as goal
 
 pub returns-in_err-trees : goal.returns-in_err-trees
@@ -11,7 +12,7 @@ returns-in_err-trees c =
     let r = c.from_residual.result in
     let no = c.from_residual.ensures.1 in
     let why = c.in_err-trees.field-0.0 in
-    record { trees = no-value r _ _ no; allowed = no-success r _ _ no; refused = refused-as x r why no (tree-refused x why c.requires.allowed c.in_err-trees.ensures.refused) }
+    record { trees = no-value r _ _ no; allowed = no-success r _ _ no; refused = told-as (IsCallRefused x) r why no (tree-refused x why c.requires.allowed c.in_err-trees.ensures.refused) }
 
 pub returns-in-None : goal.returns-in-None
 returns-in-None c =

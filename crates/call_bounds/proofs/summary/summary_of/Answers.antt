@@ -1,5 +1,5 @@
-use Rattle.std.proofs.Common.{◌≡◌, ◌∙◌, ap, subst, length, List, Bool}
-use Rattle.region_tree.specs.Tree.{IsTree, Tree}
+use Rattle.std.proofs.Common.{◌≡◌, ◌∙◌, ap, subst, sym, length, List, Bool}
+use Rattle.region_tree.specs.Tree.{IsSection, IsTree, Tree}
 use Rattle.region_tree.specs.declared.section.Section.{Section}
 use Rattle.bound_calc.specs.Best.{IsBest}
 use Rattle.bound_calc.specs.Matrices.{entry}
@@ -8,6 +8,7 @@ use Rattle.bound_calc.specs.declared.matrix.Matrix.{Matrix}
 use Rattle.call_bounds.specs.Calls.{range}
 use Rattle.call_bounds.specs.Listing.{calls, part_at}
 use Rattle.call_bounds.specs.Summaries.{AreCallees, AreReturns, Ending}
+use Rattle.call_bounds.proofs.PassedOn.{no-value}
 use Rattle.call_bounds.proofs.PartLaws.{count, summary-is, table-is}
 use Rattle.call_bounds.proofs.summary.summary_of.Goals as goal
 
@@ -33,3 +34,18 @@ returns c =
     let back = subst (λ (ends : List Bool). IsBest (entry c.through.result) (Ended o ends at (length at))) c.deref-4.ensures.value (subst (λ (at : List Matrix). IsBest (entry c.through.result) (Ended o c.deref-4.result.now at (length at))) c.deref-3.ensures.value c.through.ensures) in
     let below = subst (λ (w : WayTable). IsBest (entry c.deep.result) (Ending (ways_on w) at (length at))) table' (subst (λ (at : List Matrix). IsBest (entry c.deep.result) (Ending (ways_on c.new-2.result) at (length at))) c.deref-7.ensures.value c.deep.ensures) in
     summary-is l o n callees ends through deep at c.jump-jump.result c.through.result c.deep.result c.chain.result c.chain-2.result c.requires.done c.requires.reached c.requires.known cs es tree reached c.jump-jump.ensures back below c.chain.ensures.best c.chain-2.ensures.best
+
+pub callees-requires : goal.callees-requires
+callees-requires c = subst IsSection (sym c.section.ensures.value) c.section.ensures.rules.draft.section
+
+pub returns-requires-clause-section : goal.returns-requires-clause-section
+returns-requires-clause-section c = subst IsSection (sym c.section-2.ensures.value) c.section-2.ensures.rules.draft.section
+
+pub returns-in_err-callees : goal.returns-in_err-callees
+returns-in_err-callees c = no-value c.from_residual.result _ _ c.from_residual.ensures.1
+
+pub returns-in_err-ends : goal.returns-in_err-ends
+returns-in_err-ends c = no-value c.from_residual-in_err-ends.result _ _ c.from_residual-in_err-ends.ensures.1
+
+pub returns-in_err-at : goal.returns-in_err-at
+returns-in_err-at c = no-value c.from_residual-in_err-at.result _ _ c.from_residual-in_err-at.ensures.1

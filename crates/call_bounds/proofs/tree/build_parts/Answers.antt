@@ -1,12 +1,13 @@
+use Rattle.call_bounds.specs.CallRefused.{IsCallRefused}
 use Rattle.call_bounds.specs.Listing.{calls}
-use Rattle.call_bounds.proofs.PassedOn.{memory-refused, no-success, no-value, refused-as}
+use Rattle.call_bounds.proofs.PassedOn.{memory-refused, no-success, no-value, told-as}
 use Rattle.call_bounds.proofs.tree.build_parts.Goals as goal
 
 pub returns-in_err-refuse_overlap : goal.returns-in_err-refuse_overlap
 returns-in_err-refuse_overlap c =
     let r = c.from_residual.result in
     let no = c.from_residual.ensures.1 in
-    record { trees = no-value r _ _ no; order = no-value r _ _ no; allowed = no-success r _ _ no; refused = refused-as (calls c.args.code.now) r c.in_err-refuse_overlap.field-0.0 no c.in_err-refuse_overlap.ensures }
+    record { trees = no-value r _ _ no; order = no-value r _ _ no; allowed = no-success r _ _ no; refused = told-as (IsCallRefused (calls c.args.code.now)) r c.in_err-refuse_overlap.field-0.0 no c.in_err-refuse_overlap.ensures }
 
 pub returns-in_err-table : goal.returns-in_err-table
 returns-in_err-table c =
@@ -18,7 +19,7 @@ pub returns-in_err-trees : goal.returns-in_err-trees
 returns-in_err-trees c =
     let r = c.from_residual-in_err-trees.result in
     let no = c.from_residual-in_err-trees.ensures.1 in
-    record { trees = no-value r _ _ no; order = no-value r _ _ no; allowed = no-success r _ _ no; refused = refused-as (calls c.args.code.now) r c.in_err-trees.field-0.0 no c.in_err-trees.ensures.refused }
+    record { trees = no-value r _ _ no; order = no-value r _ _ no; allowed = no-success r _ _ no; refused = told-as (IsCallRefused (calls c.args.code.now)) r c.in_err-trees.field-0.0 no c.in_err-trees.ensures.refused }
 
 pub returns-in_err-ranks : goal.returns-in_err-ranks
 returns-in_err-ranks c =
