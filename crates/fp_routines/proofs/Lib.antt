@@ -1,3 +1,4 @@
 pub mod FileLines
+pub mod LineLaws
 pub mod Rising
 mod RoutineRows
