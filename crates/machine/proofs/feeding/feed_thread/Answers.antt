@@ -1,4 +1,4 @@
-use Rattle.std.proofs.Common.{arith, refl}
+use Rattle.std.proofs.Common.{arith, refl, rules}
 use Rattle.std.proofs.lemmas.Result.{err_from_is_err_and}
 use Rattle.machine.proofs.FeedLemmas.{fed_more, fed_none}
 use Rattle.machine.proofs.feeding.feed_thread.Goals as goal
@@ -22,3 +22,6 @@ returns-in_err-feed_port-clause-eight g c = c.feed_port.ensures.eight
 
 pub returns-clause-eight : goal.returns-clause-eight
 returns-clause-eight g c = c.loop-input.invariant.eight
+
+pub offset_bounds-inputs-input-index : goal.offset_bounds-inputs-input-index
+offset_bounds-inputs-input-index c = search rules
