@@ -18,7 +18,7 @@ use fp_ports::{HeldPort, Ports};
 use fp_setup::Name;
 use machine::{Machine, feed_inputs};
 use pipe_view::put_view;
-use std::alloc::{AllocError, Global};
+use std::alloc::Global;
 use std::io::{BufWriter, Write};
 use std::process::ExitCode;
 use std::{env, fs, io};
@@ -34,31 +34,37 @@ fn read_args(rt: HostRuntime) -> Result<Vec<String>, Fault> {
     }
 }
 
-/// Runs a machine, and writes what is asked for to a writer.
-fn write_view<W: Write + Drop>(
+/// Runs a machine, and writes what is asked for to a writer, while it is told how far the run is.
+fn write_view<W: Write>(
     rt: HostRuntime,
     ask: &Ask<'_>,
-    mut machine: Machine,
+    machine: &mut Machine,
+    ports: &mut Ports,
+    out: &mut W,
+) -> io::Result<()>
+    requires start { machine.old.at ≡ 0 }
+    requires eight { vec_len ports.old ≡ 8 }
+{
+    let mut progress = ProgressLine::new(rt, ask.telling, &ask.window);
+    let put = put_view(out, ask.form, &ask.window, machine, ports, &mut progress);
+    progress.clear();
+    put
+}
+
+/// Runs a machine, and writes what is asked for to a writer through a buffer.
+fn write_buffered<W: Write + Drop>(
+    rt: HostRuntime,
+    ask: &Ask<'_>,
+    machine: &mut Machine,
     ports: &mut Ports,
     to: W,
 ) -> Result<(), Fault>
-    requires start { machine.at ≡ 0 }
+    requires start { machine.old.at ≡ 0 }
     requires eight { vec_len ports.old ≡ 8 }
 {
     let mut out = BufWriter::new(rt.alloc(), to)?;
-    let mut progress = ProgressLine::new(rt, ask.telling, &ask.window);
-    let put = put_view(
-        &mut out,
-        ask.form,
-        &ask.window,
-        &mut machine,
-        ports,
-        &mut progress,
-    );
-    progress.clear();
-    put?;
-    out.flush()?;
-    Ok(())
+    write_view(rt, ask, machine, ports, &mut out)?;
+    Ok(out.flush()?)
 }
 
 /// The program of a setup's file.
@@ -68,17 +74,13 @@ fn load_file(rt: HostRuntime, setup: &str) -> Result<Program, Fault> {
 }
 
 /// The machine of a program at its start, with the ports fed.
-fn machine_beside(
-    alloc: Global,
-    program: &Program,
-    ports: &mut Ports,
-) -> Result<Machine, AllocError>
+fn machine_beside(alloc: Global, program: &Program, ports: &mut Ports) -> Result<Machine, Fault>
     requires eight { vec_len ports.old ≡ 8 }
     ensures start { IfOk result (λ machine. machine.at ≡ 0) }
     ensures eight { vec_len ports.new ≡ 8 }
 {
     feed_inputs(&program.setup, ports)?;
-    Machine::load(alloc, &program.setup, &program.image)
+    Ok(Machine::load(alloc, &program.setup, &program.image)?)
 }
 
 /// The machine of a setup's file at its start, with the ports fed.
@@ -88,24 +90,24 @@ fn load_machine(rt: HostRuntime, setup: &str, ports: &mut Ports) -> Result<Machi
     ensures eight { vec_len ports.new ≡ 8 }
 {
     let program = load_file(rt, setup)?;
-    Ok(machine_beside(rt.alloc(), &program, ports)?)
+    machine_beside(rt.alloc(), &program, ports)
 }
 
 /// Runs a machine, and writes what is asked for to the file that is asked for.
 fn write_asked(
     rt: HostRuntime,
     ask: &Ask<'_>,
-    machine: Machine,
+    machine: &mut Machine,
     ports: &mut Ports,
 ) -> Result<(), Fault>
-    requires start { machine.at ≡ 0 }
+    requires start { machine.old.at ≡ 0 }
     requires eight { vec_len ports.old ≡ 8 }
 {
     if ask.file == STANDARD_OUTPUT {
-        write_view(rt, ask, machine, ports, io::writer(&rt))
+        write_buffered(rt, ask, machine, ports, io::writer(&rt))
     } else {
         let file = fs::create(&rt, ask.file)?;
-        write_view(rt, ask, machine, ports, file)
+        write_buffered(rt, ask, machine, ports, file)
     }
 }
 
@@ -113,8 +115,8 @@ fn write_asked(
 fn answer_beside(rt: HostRuntime, ask: &Ask<'_>, ports: &mut Ports) -> Result<(), Fault>
     requires { vec_len ports.old ≡ 8 }
 {
-    let machine = load_machine(rt, ask.setup, ports)?;
-    write_asked(rt, ask, machine, ports)
+    let mut machine = load_machine(rt, ask.setup, ports)?;
+    write_asked(rt, ask, &mut machine, ports)
 }
 
 /// Answers what is asked, beside a device at each of the eight ports that shows 0 until it is fed.

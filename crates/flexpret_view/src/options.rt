@@ -161,9 +161,10 @@ fn turns_command<'a>(alloc: Global) -> Result<Command<'a>, AllocError> {
 ///
 /// Where memory was refused.
 pub fn commands<'a>(alloc: Global) -> Result<Command<'a>, AllocError> {
+    let turns = turns_command(alloc)?;
     Command::new(alloc, "flexpret_view")
         .about("Shows runs of the FlexPRET core, cycle by cycle")
         .after_help("The program is proved to be safe and to end, and nothing more.")
         .subcommand_required(true)
-        .subcommand(turns_command(alloc)?)
+        .subcommand(turns)
 }
