@@ -1,6 +1,3 @@
-use Rattle.std.proofs.Common.{subst}
-use Rattle.region_tree.specs.Search.{LowestOf}
-use Rattle.call_bounds.specs.CallRefusals.{EscapeAt}
 use Rattle.call_bounds.specs.CallRefused.{IsCallRefused}
 use Rattle.call_bounds.specs.Listing.{calls}
 use Rattle.call_bounds.proofs.PassedOn.{no-success, no-value, told-as, tree-refused}
