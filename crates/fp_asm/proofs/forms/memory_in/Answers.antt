@@ -3,9 +3,9 @@ use Rattle.std.proofs.lemmas.Grind.{common_steps}
 use Rattle.fp_asm.specs.Operands.{memory_in}
 use Rattle.fp_asm.proofs.forms.memory_in.Goals as goal
 
-pub returns-in_default-clause-memory : goal.returns-in_default-clause-memory
+pub returns-in_default : goal.returns-in_default
 unfolding memory_in
-returns-in_default-clause-memory c = grind (arith, common_steps)
+returns-in_default c = grind (arith, common_steps)
 
 pub returns-in_default-2 : goal.returns-in_default-2
 unfolding memory_in
@@ -43,22 +43,22 @@ pub returns-in_default-10 : goal.returns-in_default-10
 unfolding memory_in
 returns-in_default-10 c = grind (arith, common_steps)
 
-pub returns-in_default-11-clause-memory : goal.returns-in_default-11-clause-memory
+pub returns-in_default-11 : goal.returns-in_default-11
 unfolding memory_in
-returns-in_default-11-clause-memory c = grind (arith, common_steps)
+returns-in_default-11 c = grind (arith, common_steps)
 
-pub returns-in-None-clause-memory : goal.returns-in-None-clause-memory
+pub returns-in-None : goal.returns-in-None
 unfolding memory_in
-returns-in-None-clause-memory c = grind (arith, common_steps)
+returns-in-None c = grind (arith, common_steps)
 
-pub returns-in-None-register-clause-memory : goal.returns-in-None-register-clause-memory
+pub returns-in-None-register : goal.returns-in-None-register
 unfolding memory_in
-returns-in-None-register-clause-memory c = grind (arith, common_steps)
+returns-in-None-register c = grind (arith, common_steps)
 
-pub returns-in-Some-clause-memory : goal.returns-in-Some-clause-memory
+pub returns-in-Some : goal.returns-in-Some
 unfolding memory_in
-returns-in-Some-clause-memory c = grind (arith, common_steps)
+returns-in-Some c = grind (arith, common_steps)
 
-pub returns-in-Some-register-clause-memory : goal.returns-in-Some-register-clause-memory
+pub returns-in-Some-register : goal.returns-in-Some-register
 unfolding memory_in
-returns-in-Some-register-clause-memory c = grind (arith, common_steps)
+returns-in-Some-register c = grind (arith, common_steps)

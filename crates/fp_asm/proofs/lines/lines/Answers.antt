@@ -16,5 +16,15 @@ loop-i-init c = grind (arith, lines_start)
 pub loop-i-preserved-then-source-i-ne10 : goal.loop-i-preserved-then-source-i-ne10
 loop-i-preserved-then-source-i-ne10 c = grind (arith, lines_on)
 
-pub returns-clause-lines : goal.returns-clause-lines
-returns-clause-lines c = grind (arith, lines_last)
+pub returns : goal.returns
+returns c = record {
+  lines = grind (arith, lines_last);
+  short = search rules;
+  few = omega arith;
+}
+
+pub returns-in_err-push : goal.returns-in_err-push
+returns-in_err-push c = search rules
+
+pub returns-in_err-push-2 : goal.returns-in_err-push-2
+returns-in_err-push-2 c = search rules

@@ -3,27 +3,26 @@ use Rattle.std.proofs.lemmas.Grind.{common_steps}
 use Rattle.fp_asm.specs.Statements.{statement_named}
 use Rattle.fp_asm.proofs.statement.named.Goals as goal
 
-pub returns-clause-statement : goal.returns-clause-statement
+pub returns : goal.returns
 unfolding statement_named
-returns-clause-statement c = grind (arith, common_steps)
+returns c = grind (arith, common_steps)
 
-pub returns-in_default-clause-refused : goal.returns-in_default-clause-refused
+pub returns-in_default : goal.returns-in_default
 unfolding statement_named
-returns-in_default-clause-refused c = grind (arith, common_steps)
+returns-in_default c = grind (arith, common_steps)
 
-pub returns-in_default-2-clause-refused : goal.returns-in_default-2-clause-refused
+pub returns-in_default-2 : goal.returns-in_default-2
 unfolding statement_named
-returns-in_default-2-clause-refused c = grind (arith, common_steps)
+returns-in_default-2 c = grind (arith, common_steps)
 
-pub returns-in_err-check-clause-refused : goal.returns-in_err-check-clause-refused
+pub returns-in_err-check : goal.returns-in_err-check
 unfolding statement_named
-returns-in_err-check-clause-refused c = grind (arith, common_steps)
+returns-in_err-check c = grind (arith, common_steps)
 
-pub returns-clause-few : goal.returns-clause-few
-returns-clause-few c = grind (arith, common_steps)
+pub returns-in_err-operands : goal.returns-in_err-operands
+unfolding statement_named
+returns-in_err-operands c = grind (arith, common_steps)
 
-pub returns-clause-checked : goal.returns-clause-checked
-returns-clause-checked c = grind (arith, common_steps)
-
-pub returns-clause-registers : goal.returns-clause-registers
-returns-clause-registers c = grind (arith, common_steps)
+pub returns-in_err-statement : goal.returns-in_err-statement
+unfolding statement_named
+returns-in_err-statement c = grind (arith, common_steps)

@@ -3,14 +3,22 @@ use Rattle.std.proofs.lemmas.Grind.{common_steps}
 use Rattle.fp_asm.specs.First.{first_line, placed_by}
 use Rattle.fp_asm.proofs.first.First.line.Goals as goal
 
-pub returns-clause-ok : goal.returns-clause-ok
+pub returns : goal.returns
 unfolding first_line placed_by
-returns-clause-ok c = grind (arith, common_steps)
+returns c = grind (arith, common_steps)
 
-pub returns-in_err-size-clause-refused : goal.returns-in_err-size-clause-refused
+pub returns-in_err-size : goal.returns-in_err-size
 unfolding first_line placed_by
-returns-in_err-size-clause-refused c = grind (arith, common_steps)
+returns-in_err-size c = grind (arith, common_steps)
 
-pub returns-in_err-take_addresses-clause-refused : goal.returns-in_err-take_addresses-clause-refused
+pub returns-in_err-take_addresses : goal.returns-in_err-take_addresses
 unfolding first_line placed_by
-returns-in_err-take_addresses-clause-refused c = grind (arith, common_steps)
+returns-in_err-take_addresses c = grind (arith, common_steps)
+
+pub returns-in_err-pieces : goal.returns-in_err-pieces
+unfolding first_line placed_by
+returns-in_err-pieces c = grind (arith, common_steps)
+
+pub returns-in_err-n : goal.returns-in_err-n
+unfolding first_line placed_by
+returns-in_err-n c = grind (arith, common_steps)
