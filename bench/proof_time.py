@@ -48,11 +48,12 @@ def kept_modules(folder: Path) -> list[tuple[float, str, int]]:
 
 
 def owner_of(name: str) -> tuple[str, str]:
-    """The function of a kept module, and the module's kind; what belongs to none is a file of its own."""
+    """The function of a kept module, and the module's kind, the last word that is one: a struct may be named as a kind is.
+    What belongs to none is a file of its own."""
     path = name.removesuffix('.oantt').removesuffix('.decls')
     path = re.sub(r'^Rattle-\w+?(-(proofs|specs))?\.', '', path)
-    kind = KIND.search(path)
-    return (path[:kind.start()], kind[1]) if kind else (path, 'file')
+    kinds = list(KIND.finditer(path))
+    return (path[:kinds[-1].start()], kinds[-1][1]) if kinds else (path, 'file')
 
 
 def spent(modules: Sequence[tuple[float, str, int]]) -> dict[str, Spent]:
