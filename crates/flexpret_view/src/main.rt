@@ -48,7 +48,8 @@ fn write_view<W: Write>(
     let mut progress = ProgressLine::new(rt, ask.telling, &ask.window);
     let put = put_view(out, ask.form, &ask.window, machine, ports, &mut progress);
     progress.clear();
-    put
+    put?;
+    out.flush()
 }
 
 /// Runs a machine, and writes what is asked for to a writer through a buffer.
@@ -63,8 +64,7 @@ fn write_buffered<W: Write + Drop>(
     requires eight { vec_len ports.old ≡ 8 }
 {
     let mut out = BufWriter::new(rt.alloc(), to)?;
-    write_view(rt, ask, machine, ports, &mut out)?;
-    Ok(out.flush()?)
+    Ok(write_view(rt, ask, machine, ports, &mut out)?)
 }
 
 /// The program of a setup's file.

@@ -1,7 +1,7 @@
 //! The commands, arguments and options that the words of the command line may give.
 
 use clap::builder::ValueParser;
-use clap::{Arg, ArgAction, Command};
+use clap::{Arg, ArgGroup, Command};
 use pipe_watch::Window;
 use std::alloc::{AllocError, Global};
 
@@ -66,8 +66,6 @@ struct OptionRow {
     name: &'static str,
     /// What it takes.
     takes: Takes,
-    /// The options that it is never given beside.
-    conflicts: &'static [&'static str],
     /// What help says of it.
     help: &'static str,
 }
@@ -77,80 +75,71 @@ const TURNS_OPTIONS: [OptionRow; 6] = [
     OptionRow {
         name: "from",
         takes: Takes::Cycle,
-        conflicts: &[],
         help: "the first cycle",
     },
     OptionRow {
         name: "to",
         takes: Takes::Cycle,
-        conflicts: &[],
         help: "the cycle behind the last one",
     },
     OptionRow {
         name: "konata",
         takes: Takes::File,
-        conflicts: &["vcd", "svg"],
         help: "writes the log of the Konata viewer",
     },
     OptionRow {
         name: "vcd",
         takes: Takes::File,
-        conflicts: &["konata", "svg"],
         help: "writes a value change dump, for GTKWave",
     },
     OptionRow {
         name: "svg",
         takes: Takes::File,
-        conflicts: &["konata", "vcd"],
         help: "writes a picture, for a browser",
     },
     OptionRow {
         name: "progress",
         takes: Takes::Until,
-        conflicts: &[],
         help: "tells on standard error how far a long run is",
     },
 ];
 
+/// The options that name the file of a form: one of them is given at most.
+const FORMS: [&str; 3] = ["konata", "vcd", "svg"];
+
 /// The argument of a row.
-fn option_argument<'a>(alloc: Global, row: &OptionRow) -> Result<Arg<'a>, AllocError> {
+fn option_argument<'a>(alloc: Global, row: &OptionRow) -> Arg<'a> {
     Arg::new(alloc, row.name)
         .long(row.name)
-        .action(ArgAction::Set)
         .required(row.takes.is_required())
         .value_name(row.takes.value_name())
         .value_parser(row.takes.parser())
         .help(row.help)
-        .conflicts_with_all(row.conflicts)
-}
-
-/// A command with one option more.
-fn with_option<'a>(
-    alloc: Global,
-    command: Command<'a>,
-    row: &OptionRow,
-) -> Result<Command<'a>, AllocError> {
-    let option = option_argument(alloc, row)?;
-    command.arg(option)
 }
 
 /// The argument that names the setup.
 fn setup_argument<'a>(alloc: Global) -> Arg<'a> {
     Arg::new(alloc, "setup")
         .required(true)
-        .action(ArgAction::Set)
         .value_name("SETUP")
         .help("the setup of the machine, a TOML file")
 }
 
-/// The command `turns`.
-fn turns_command<'a>(alloc: Global) -> Result<Command<'a>, AllocError> {
-    let mut command = Command::new(alloc, "turns")
+/// The command `turns` without its arguments.
+fn bare_turns<'a>(alloc: Global) -> Result<Command<'a>, AllocError> {
+    let names: &[&'a str] = &FORMS;
+    let forms = ArgGroup::new(alloc, "form").args(names)?;
+    Command::new(alloc, "turns")
         .about("shows what the pipeline does in each cycle of a window")
         .after_help(AFTER)
-        .arg(setup_argument(alloc))?;
+        .group(forms)
+}
+
+/// The command `turns`.
+fn turns_command<'a>(alloc: Global) -> Result<Command<'a>, AllocError> {
+    let mut command = bare_turns(alloc)?.arg(setup_argument(alloc))?;
     for row in &TURNS_OPTIONS {
-        command = with_option(alloc, command, row)?;
+        command = command.arg(option_argument(alloc, row))?;
     }
     Ok(command)
 }
