@@ -24,7 +24,7 @@ returns-in-Ok-deliver g c = record {
   counted_files = c.prepare.ensures.counted;
   counted_out = c.deliver.ensures.counted;
   said = λ read write memory. (all-of (g.F.Files.told c.args.files.now) c.args.ask.now _ _ c.in-Ok.prepared (g.K.Sink.taken c.args.out.now) (g.K.Sink.taken c.deliver.new.out)
-    c.in-Ok.ensures.ok c.in-Ok-deliver.ensures.ok);
+      c.in-Ok.ensures.ok c.in-Ok-deliver.ensures.ok);
   read = λ read. absurd (ok-no_nothing (inl read));
   write = λ write. absurd (ok-no_write write);
   front = λ write. absurd (ok-no_write write);
@@ -48,7 +48,7 @@ returns-in-Err-deliver g c = record {
   read = λ read. absurd (write-no_nothing (inl read));
   write = λ write. c.in-Err-deliver.ensures.failed;
   front = λ write. (front-of (g.F.Files.told c.args.files.now) c.args.ask.now _ _ c.in-Ok.prepared (g.K.Sink.taken c.args.out.now) (g.K.Sink.taken c.deliver.new.out)
-    c.in-Ok.ensures.ok c.in-Err-deliver.ensures.err);
+      c.in-Ok.ensures.ok c.in-Err-deliver.ensures.err);
   complete = λ no_fetch_fault no_put_fault. absurd (no_put_fault c.in-Err-deliver.ensures.failed);
   nothing = λ nothing. absurd (write-no_nothing nothing);
   ports = λ ok. absurd (write-no_ok ok);
@@ -66,29 +66,29 @@ returns-in-Err g c = record {
   counted_files = c.prepare.ensures.counted;
   counted_out = c.end.ensures.counted;
   said = λ read write memory. (let rows = rows_of (λ b. (goal.Port-dyn g (b.vtable, b.value)).latched b.value) (λ b. (goal.Port-dyn g (b.vtable, b.value)).word_at b.value) c.args.ports.now.items in
-    stop-said (g.F.Files.told c.args.files.now) c.args.ask.now rows (g.F.Files.faults c.args.files.now) (g.F.Files.faults c.prepare.new.files) c.in-Err.stop c.end.result
-    (g.K.Sink.faults c.args.out.now) (g.K.Sink.faults c.end.new.out) (g.K.Sink.taken c.args.out.now) (g.K.Sink.taken c.end.new.out) c.in-Err.ensures.stop c.end.ensures.ends read write memory);
+      stop-said (g.F.Files.told c.args.files.now) c.args.ask.now rows (g.F.Files.faults c.args.files.now) (g.F.Files.faults c.prepare.new.files) c.in-Err.stop c.end.result
+      (g.K.Sink.faults c.args.out.now) (g.K.Sink.faults c.end.new.out) (g.K.Sink.taken c.args.out.now) (g.K.Sink.taken c.end.new.out) c.in-Err.ensures.stop c.end.ensures.ends read write memory);
   read = λ read. (let rows = rows_of (λ b. (goal.Port-dyn g (b.vtable, b.value)).latched b.value) (λ b. (goal.Port-dyn g (b.vtable, b.value)).word_at b.value) c.args.ports.now.items in
-    stop-read (g.F.Files.told c.args.files.now) c.args.ask.now rows (g.F.Files.faults c.args.files.now) (g.F.Files.faults c.prepare.new.files) c.in-Err.stop c.end.result
-    (g.K.Sink.faults c.args.out.now) (g.K.Sink.faults c.end.new.out) (g.K.Sink.taken c.args.out.now) (g.K.Sink.taken c.end.new.out) c.in-Err.ensures.stop c.end.ensures.ends read);
+      stop-read (g.F.Files.told c.args.files.now) c.args.ask.now rows (g.F.Files.faults c.args.files.now) (g.F.Files.faults c.prepare.new.files) c.in-Err.stop c.end.result
+      (g.K.Sink.faults c.args.out.now) (g.K.Sink.faults c.end.new.out) (g.K.Sink.taken c.args.out.now) (g.K.Sink.taken c.end.new.out) c.in-Err.ensures.stop c.end.ensures.ends read);
   write = λ write. stop-write c.in-Err.stop c.end.result (g.K.Sink.faults c.args.out.now) (g.K.Sink.faults c.end.new.out) (g.K.Sink.taken c.args.out.now) (g.K.Sink.taken c.end.new.out) c.end.ensures.ends write;
   front = λ write. (let rows = rows_of (λ b. (goal.Port-dyn g (b.vtable, b.value)).latched b.value) (λ b. (goal.Port-dyn g (b.vtable, b.value)).word_at b.value) c.args.ports.now.items in
-    stop-front (g.F.Files.told c.args.files.now) c.args.ask.now rows (g.F.Files.faults c.args.files.now) (g.F.Files.faults c.prepare.new.files) c.in-Err.stop c.end.result
-    (g.K.Sink.faults c.args.out.now) (g.K.Sink.faults c.end.new.out) (g.K.Sink.taken c.args.out.now) (g.K.Sink.taken c.end.new.out) c.in-Err.ensures.stop c.end.ensures.ends write);
+      stop-front (g.F.Files.told c.args.files.now) c.args.ask.now rows (g.F.Files.faults c.args.files.now) (g.F.Files.faults c.prepare.new.files) c.in-Err.stop c.end.result
+      (g.K.Sink.faults c.args.out.now) (g.K.Sink.faults c.end.new.out) (g.K.Sink.taken c.args.out.now) (g.K.Sink.taken c.end.new.out) c.in-Err.ensures.stop c.end.ensures.ends write);
   complete = λ no_fetch_fault no_put_fault. (let rows = rows_of (λ b. (goal.Port-dyn g (b.vtable, b.value)).latched b.value) (λ b. (goal.Port-dyn g (b.vtable, b.value)).word_at b.value) c.args.ports.now.items in
-    stop-complete (g.F.Files.told c.args.files.now) c.args.ask.now rows (g.F.Files.faults c.args.files.now) (g.F.Files.faults c.prepare.new.files) c.in-Err.stop c.end.result
-    (g.K.Sink.faults c.args.out.now) (g.K.Sink.faults c.end.new.out) (g.K.Sink.taken c.args.out.now) (g.K.Sink.taken c.end.new.out) c.in-Err.ensures.stop c.end.ensures.ends no_fetch_fault no_put_fault);
+      stop-complete (g.F.Files.told c.args.files.now) c.args.ask.now rows (g.F.Files.faults c.args.files.now) (g.F.Files.faults c.prepare.new.files) c.in-Err.stop c.end.result
+      (g.K.Sink.faults c.args.out.now) (g.K.Sink.faults c.end.new.out) (g.K.Sink.taken c.args.out.now) (g.K.Sink.taken c.end.new.out) c.in-Err.ensures.stop c.end.ensures.ends no_fetch_fault no_put_fault);
   asked = λ usage. stop-usage c.in-Err.stop c.end.result (g.K.Sink.faults c.args.out.now) (g.K.Sink.faults c.end.new.out) (g.K.Sink.taken c.args.out.now) (g.K.Sink.taken c.end.new.out) c.end.ensures.ends usage;
   nothing = c.end.ensures.nothing;
   ports = λ ok. (stop-leaves (g.F.Files.told c.args.files.now) c.args.ask.now _ _ c.in-Err.stop c.end.result
-    (g.K.Sink.faults c.args.out.now) (g.K.Sink.faults c.end.new.out) (g.K.Sink.taken c.args.out.now) (g.K.Sink.taken c.end.new.out) c.end.ensures.ends ok);
+      (g.K.Sink.faults c.args.out.now) (g.K.Sink.faults c.end.new.out) (g.K.Sink.taken c.args.out.now) (g.K.Sink.taken c.end.new.out) c.end.ensures.ends ok);
   kept = λ ok differs write memory. (let Stops : Stop → Type 0 = λ s. Ends s (g.K.Sink.faults c.args.out.now) (g.K.Sink.faults c.end.new.out) (g.K.Sink.taken c.args.out.now) (g.K.Sink.taken c.end.new.out) c.end.result in
-    c.in-Err.ensures.kept (λ none. memory (subst Stops none c.end.ensures.ends)) (no-difference c.in-Err.stop c.end.result _ _ _ _ c.end.ensures.ends differs write));
+      c.in-Err.ensures.kept (λ none. memory (subst Stops none c.end.ensures.ends)) (no-difference c.in-Err.stop c.end.result _ _ _ _ c.end.ensures.ends differs write));
   apart = λ apart. c.prepare.ensures.apart apart;
   eight = c.prepare.ensures.eight;
   reads = λ reads. c.prepare.ensures.reads reads;
   differs = λ differs. (elim (c.in-Err.ensures.others (difference-no_memory c.in-Err.stop c.end.result _ _ _ _ c.end.ensures.ends differs)) [
     | inl reads ↦ c.prepare.ensures.reads reads
     | inr same ↦ ap (λ ports. rows_of (λ b. (goal.Port-dyn g (b.vtable, b.value)).latched b.value) (λ b. (goal.Port-dyn g (b.vtable, b.value)).word_at b.value) ports.items) same
-    ]);
+  ]);
 }
