@@ -258,8 +258,8 @@ fn put_thread<W: fmt::Write>(
     now: &ThreadState,
 ) -> fmt::Result {
     let before = before.map(signals_of);
-    for (place, signal) in signals_of(now).iter().enumerate() {
-        if before.as_ref().and_then(|last| last.get(place)) != Some(signal) {
+    for (index, signal) in signals_of(now).iter().enumerate() {
+        if before.as_ref().and_then(|last| last.get(index)) != Some(signal) {
             put_signal(f, thread, *signal)?;
         }
     }
