@@ -1,6 +1,8 @@
 //! The program: `flexpret run SETUP --thread i --cycles n`, and the commands beside it.
 #![tactic(auto)]
 
+ghost use Rattle.std.specs.Prelude.{◌≡◌, vec_len};
+
 use flexpret_top::flexpret;
 use fp_io::{Gathered, OutSink, PutFailed, RealFiles};
 use fp_ports::{HeldPort, Ports};
@@ -38,33 +40,41 @@ fn read_args(rt: HostRuntime) -> Result<Vec<String>, u8> {
     }
 }
 
-/// Runs the command that the words ask, beside a device at each of the eight ports that shows 0
-/// until it is fed. A command is done once all that it wrote has left the program.
-fn answer(rt: HostRuntime, words: &[String]) -> Result<u8, AllocError> {
+/// Runs the command that the words ask beside the devices at the ports. A command is done once all
+/// that it wrote has left the program.
+fn answer(rt: HostRuntime, words: &[String], ports: &mut Ports) -> u8
+    requires { vec_len ports.old ≡ 8 }
+{
+    let mut files = RealFiles::new(rt);
+    let mut out = Gathered::new(OutSink::new(rt));
+    let status = flexpret(rt.alloc(), words, &mut files, &mut out, ports);
+    match out.flush() {
+        Ok(()) => status,
+        Err(PutFailed) => WRITE,
+    }
+}
+
+/// The status of the command, beside a device at each of the eight ports that shows 0 until it is
+/// fed.
+fn run(rt: HostRuntime, words: &[String]) -> Result<u8, AllocError> {
     let alloc = rt.alloc();
     let mut ports: Ports = Vec::new(alloc);
     for _thread in 0..8u8 {
         ports.push(Some(Box::new(alloc, HeldPort::new(alloc))?))?;
     }
-    let mut files = RealFiles::new(rt);
-    let mut out = Gathered::new(OutSink::new(rt));
-    let status = flexpret(alloc, words, &mut files, &mut out, &mut ports);
-    Ok(match out.flush() {
-        Ok(()) => status,
-        Err(PutFailed) => WRITE,
-    })
+    Ok(answer(rt, words, &mut ports))
 }
 
-/// The status of the command, or that the words or the ports can't be made.
-fn run(rt: HostRuntime) -> u8 {
+/// The status of the program: that of the command, or that the words or the devices can't be made.
+fn status(rt: HostRuntime) -> u8 {
     match read_args(rt) {
-        Ok(words) => answer(rt, &words).unwrap_or(NO_MEMORY),
+        Ok(words) => run(rt, &words).unwrap_or(NO_MEMORY),
         Err(status) => status,
     }
 }
 
 fn main(rt: HostRuntime) -> ExitCode {
-    let status = run(rt);
+    let status = status(rt);
     if let Some(line) = complaint(status) {
         let _ = rt.eprintln(line);
     }

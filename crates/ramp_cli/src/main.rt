@@ -1,6 +1,8 @@
 //! The program of `flexpret_cli` with a device of one's own: thread 0's port shows a ramp.
 #![tactic(auto)]
 
+ghost use Rattle.std.specs.Prelude.{◌≡◌, vec_len};
+
 use flexpret_top::flexpret;
 use fp_io::{Gathered, OutSink, PutFailed, RealFiles};
 use fp_ports::{HeldPort, Ports};
@@ -21,22 +23,30 @@ const WRITE: u8 = 8;
 /// The status where memory is refused.
 const NO_MEMORY: u8 = 9;
 
-/// Runs the command that the words ask, beside a ramp at thread 0's port and a device at each other
-/// one that shows 0 until it is fed.
-fn answer(rt: HostRuntime, words: &[String]) -> Result<u8, AllocError> {
+/// Runs the command that the words ask beside the devices at the ports, and writes all that it
+/// says.
+fn answer(rt: HostRuntime, words: &[String], ports: &mut Ports) -> u8
+    requires { vec_len ports.old ≡ 8 }
+{
+    let mut files = RealFiles::new(rt);
+    let mut out = Gathered::new(OutSink::new(rt));
+    let status = flexpret(rt.alloc(), words, &mut files, &mut out, ports);
+    match out.flush() {
+        Ok(()) => status,
+        Err(PutFailed) => WRITE,
+    }
+}
+
+/// The status of the command, beside a ramp at thread 0's port and a device at each other one that
+/// shows 0 until it is fed.
+fn run(rt: HostRuntime, words: &[String]) -> Result<u8, AllocError> {
     let alloc = rt.alloc();
     let mut ports: Ports = Vec::new(alloc);
     ports.push(Some(Box::new(alloc, RampPort::new(alloc, EVERY))?))?;
     for _thread in 1..8u8 {
         ports.push(Some(Box::new(alloc, HeldPort::new(alloc))?))?;
     }
-    let mut files = RealFiles::new(rt);
-    let mut out = Gathered::new(OutSink::new(rt));
-    let status = flexpret(alloc, words, &mut files, &mut out, &mut ports);
-    Ok(match out.flush() {
-        Ok(()) => status,
-        Err(PutFailed) => WRITE,
-    })
+    Ok(answer(rt, words, &mut ports))
 }
 
 /// The words after the program's name, or the status where they can't be made.
@@ -50,7 +60,7 @@ fn read_args(rt: HostRuntime) -> Result<Vec<String>, u8> {
 
 fn main(rt: HostRuntime) -> ExitCode {
     let status = match read_args(rt) {
-        Ok(words) => answer(rt, &words).unwrap_or(NO_MEMORY),
+        Ok(words) => run(rt, &words).unwrap_or(NO_MEMORY),
         Err(status) => status,
     };
     ExitCode::from(status)
