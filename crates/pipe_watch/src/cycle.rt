@@ -10,7 +10,7 @@ use slot_table::Turn;
 const EFFECT: usize = 29;
 
 /// What a thread's mode, timer and port are at the start of a cycle.
-#[derive(Clone, Copy, Debug)]
+#[derive(Clone, Copy)]
 pub struct ThreadState {
     /// Whether its mode is asleep, or the moment until which it sleeps lies ahead.
     pub asleep: bool,
@@ -23,7 +23,7 @@ pub struct ThreadState {
 }
 
 /// What the machine holds at the start of a cycle.
-#[derive(Clone, Copy, Debug)]
+#[derive(Clone, Copy)]
 pub struct CycleStart {
     /// The number of the cycle.
     pub cycle: u64,
@@ -70,9 +70,12 @@ impl Cycle {
 
     /// Whether the picked turn is a soft thread's in the slot of a hard thread that isn't awake.
     pub fn is_donated(&self) -> bool {
-        match (self.start.slot, thread_of(self.turn())) {
-            (Turn::Thread(owner), Some(thread)) => owner != thread,
-            _ => false,
+        let Turn::Thread(owner) = self.start.slot else {
+            return false;
+        };
+        match thread_of(self.turn()) {
+            Some(thread) => thread != owner,
+            None => false,
         }
     }
 
@@ -95,13 +98,13 @@ impl Cycle {
     /// What became of the picked turn: the effect as the trace words it, `held` where it stays at a
     /// DU and leaves no line, `flushed` where it is lost; nothing where nobody was picked.
     pub fn outcome(&self) -> &str {
-        match (self.turn(), &self.line) {
-            (Held::Bubble, _) => "",
-            (Held::Flushed { .. }, _) => "flushed",
-            (Held::Issue { .. }, None) => "held",
-            (Held::Issue { .. }, Some(line)) => {
-                line.as_str().get(EFFECT..).unwrap_or("").trim_end()
-            }
+        match self.turn() {
+            Held::Bubble => "",
+            Held::Flushed { .. } => "flushed",
+            Held::Issue { .. } => match &self.line {
+                None => "held",
+                Some(line) => line.as_str().get(EFFECT..).unwrap_or("").trim_end(),
+            },
         }
     }
 }

@@ -38,18 +38,29 @@ impl Watch {
         ensures at { machine.new.at ≡ machine.old.at + 1 }
         ensures eight { vec_len ports.new ≡ 8 }
     {
-        let start = start_of(machine, ports);
+        let start = self.keep_start(start_of(machine, ports));
         let _event = machine.tick(ports);
-        let [newest, second, third] = self.starts;
-        self.starts = [Some(start), newest, second];
-        let [d, e, m, w] = self.turns;
-        let turn = machine.pipe.m;
-        self.turns = [turn, d, e, m];
-        third.map(|start| Cycle {
+        let turns = self.keep_turn(machine.pipe.m);
+        let start = start?;
+        Some(Cycle {
             start,
-            turns: [turn, d, e, m, w],
+            turns,
             line: line_in_m(machine, start.cycle),
         })
+    }
+
+    /// Keeps the start of a cycle, and gives that of three cycles before, if it was seen.
+    fn keep_start(&mut self, start: CycleStart) -> Option<CycleStart> {
+        let [newest, second, third] = self.starts;
+        self.starts = [Some(start), newest, second];
+        third
+    }
+
+    /// Keeps a turn that came out of M, and gives it with the four before it, the newest first.
+    fn keep_turn(&mut self, turn: Held<Stored>) -> [Held<Stored>; 5] {
+        let [d, e, m, w] = self.turns;
+        self.turns = [turn, d, e, m];
+        [turn, d, e, m, w]
     }
 }
 
@@ -70,6 +81,17 @@ fn line_in_m(machine: &Machine, cycle: u64) -> Option<ArrayString<96>> {
     }))
 }
 
+/// Whether a thread's mode is asleep at the start of the next cycle, or the moment until which it
+/// sleeps lies ahead.
+fn is_asleep(machine: &Machine, thread: u8) -> bool
+    requires cycle { machine.now.at < most_cycles }
+    requires thread { thread < 8 }
+{
+    let units = &machine.units;
+    units.sched.modes.mode(thread) % 2 == 1
+        || units.clock.now(machine.at) < units.sched.sleep[usize::from(thread)]
+}
+
 /// What a thread's mode, timer and port are at the start of the next cycle.
 fn thread_state(machine: &Machine, ports: &mut Ports, thread: u8) -> ThreadState
     requires cycle { machine.now.at < most_cycles }
@@ -77,12 +99,9 @@ fn thread_state(machine: &Machine, ports: &mut Ports, thread: u8) -> ThreadState
     requires thread { thread < 8 }
     ensures eight { vec_len ports.new ≡ 8 }
 {
-    let units = &machine.units;
-    let now = units.clock.now(machine.at);
     ThreadState {
-        asleep: units.sched.modes.mode(thread) % 2 == 1
-            || now < units.sched.sleep[usize::from(thread)],
-        armed: units.timers.armed(thread),
+        asleep: is_asleep(machine, thread),
+        armed: machine.units.timers.armed(thread),
         latch: latch_of(ports, thread),
         input: read_port(ports, thread, machine.at),
     }

@@ -9,7 +9,7 @@ use timer_unit::MOST_CYCLES;
 const UNTIL_WHOLE: u64 = 3;
 
 /// The cycles that are shown: from `from` on, up to the one before `to`.
-#[derive(Clone, Copy, Debug)]
+#[derive(Clone, Copy)]
 pub struct Window {
     from: u64,
     to: u64,
