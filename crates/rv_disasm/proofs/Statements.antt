@@ -22,8 +22,8 @@ use Rattle.rv_decode.specs.declared.instruction.CsrKind.TheVariants.{Rw, Rs, Rc,
 use Rattle.fp_asm.specs.Pieces.{Text, Piece, commas, operands_of}
 use Rattle.fp_asm.specs.Between.{between_from}
 use Rattle.fp_asm.specs.Names.{registers, register as register_of, csrs, csr}
-use Rattle.fp_asm.specs.Mnemonics.{mnemonics, mnemonic}
-use Rattle.fp_asm.specs.Operands.{register_in, number_in, target_in, csr_in, memory_in, filled, all_filled, all_targets}
+use Rattle.fp_asm.specs.Mnemonics.{mnemonics, mnemonic, rd_rs1_rs2, rd_rs1_number, rd_memory, rs2_memory}
+use Rattle.fp_asm.specs.Operands.{Operands, nothing_given, register_in, number_in, target_in, csr_in, memory_in, filled, all_filled, all_targets}
 use Rattle.std.proofs.lemmas.Int.{ints}
 use Rattle.std.proofs.Math.Nat.{mod-eq_of_lt}
 use Rattle.std.specs.Int.Signed.{le_z}
@@ -142,66 +142,88 @@ jump_back : (low high : ℤ) (pc : ℕ) (off : ℤ) → pc < 2 ^ 32 → IsSigned
 unfolding jump
 jump_back low high pc off h g below above four = rw (way_back pc off h g, below, above, four) refl
 
+-- The operands of a form, as the assembler fills them.
+three_filled : (d a b : ℕ) → d < 32 → a < 32 → b < 32 → all_filled rd_rs1_rs2 (operands_of (map part_piece (three_registers d a b))) nothing_given ≡ Some (record nothing_given { rd = d; rs1 = a; rs2 = b })
+unfolding operands_of commas between_from all_filled filled register_in number_in memory_in
+three_filled d a b h0 h1 h2 = rw (read d h0, read a h1, read b h2) refl
+
+number_filled : (d a : ℕ) (z : ℤ) → d < 32 → a < 32 → all_filled rd_rs1_number (operands_of (map part_piece (with_number d a z))) nothing_given ≡ Some (record nothing_given { rd = d; rs1 = a; given = z })
+unfolding operands_of commas between_from all_filled filled register_in number_in memory_in
+number_filled d a (pos n) h0 h1 = rw (read d h0, read a h1) refl
+number_filled d a (negsuc n) h0 h1 = rw (read d h0, read a h1) refl
+
+load_filled : (d a : ℕ) (z : ℤ) → d < 32 → a < 32 → all_filled rd_memory (operands_of (map part_piece (with_memory d z a))) nothing_given ≡ Some (record nothing_given { rd = d; rs1 = a; given = z })
+unfolding operands_of commas between_from all_filled filled register_in number_in memory_in
+load_filled d a (pos n) h0 h1 = rw (read d h0, read a h1) refl
+load_filled d a (negsuc n) h0 h1 = rw (read d h0, read a h1) refl
+
+store_filled : (b a : ℕ) (z : ℤ) → b < 32 → a < 32 → all_filled rs2_memory (operands_of (map part_piece (with_memory b z a))) nothing_given ≡ Some (record nothing_given { rs1 = a; rs2 = b; given = z })
+unfolding operands_of commas between_from all_filled filled register_in number_in memory_in
+store_filled b a (pos n) h0 h1 = rw (read b h0, read a h1) refl
+store_filled b a (negsuc n) h0 h1 = rw (read b h0, read a h1) refl
+
+-- What is made of a mnemonic whose operands are filled.
+alu_made : (op : AluOp) (pc w : ℕ) (ps : List Piece) (o : Operands) → all_filled rd_rs1_rs2 (operands_of ps) nothing_given ≡ Some o → encoded (Op op o.rd o.rs1 o.rs2) ≡ w → (labels : Labels) (location : ℕ) → made pc labels location (alu_name op) ps ≡ Ok (1, (location + 4) % 2 ^ 32, Ok (w ∷ []))
+unfolding statement_named mnemonic mnemonics statement_in checked size_of location_after words_of plain_word instruction
+alu_made Add pc w ps o h e labels location = rw (h, e) refl
+alu_made Sub pc w ps o h e labels location = rw (h, e) refl
+alu_made Sll pc w ps o h e labels location = rw (h, e) refl
+alu_made Slt pc w ps o h e labels location = rw (h, e) refl
+alu_made Sltu pc w ps o h e labels location = rw (h, e) refl
+alu_made Xor pc w ps o h e labels location = rw (h, e) refl
+alu_made Srl pc w ps o h e labels location = rw (h, e) refl
+alu_made Sra pc w ps o h e labels location = rw (h, e) refl
+alu_made Or pc w ps o h e labels location = rw (h, e) refl
+alu_made And pc w ps o h e labels location = rw (h, e) refl
+
 alu : (op : AluOp) (pc w d a b : ℕ) → d < 32 → a < 32 → b < 32 → encoded (Op op d a b) ≡ w → Gives pc w (alu_name op) (three_registers d a b)
-unfolding statement_named mnemonic mnemonics statement_in operands_of commas between_from all_filled filled register_in number_in memory_in csr_in target_in checked size_of location_after words_of plain_word instruction branch_word jal_word resolved all_targets some_targets all_resolved value_words
-alu Add pc w d a b h0 h1 h2 e labels location = rw (read d h0, read a h1, read b h2, e) refl
-alu Sub pc w d a b h0 h1 h2 e labels location = rw (read d h0, read a h1, read b h2, e) refl
-alu Sll pc w d a b h0 h1 h2 e labels location = rw (read d h0, read a h1, read b h2, e) refl
-alu Slt pc w d a b h0 h1 h2 e labels location = rw (read d h0, read a h1, read b h2, e) refl
-alu Sltu pc w d a b h0 h1 h2 e labels location = rw (read d h0, read a h1, read b h2, e) refl
-alu Xor pc w d a b h0 h1 h2 e labels location = rw (read d h0, read a h1, read b h2, e) refl
-alu Srl pc w d a b h0 h1 h2 e labels location = rw (read d h0, read a h1, read b h2, e) refl
-alu Sra pc w d a b h0 h1 h2 e labels location = rw (read d h0, read a h1, read b h2, e) refl
-alu Or pc w d a b h0 h1 h2 e labels location = rw (read d h0, read a h1, read b h2, e) refl
-alu And pc w d a b h0 h1 h2 e labels location = rw (read d h0, read a h1, read b h2, e) refl
+alu op pc w d a b h0 h1 h2 e = alu_made op pc w (map part_piece (three_registers d a b)) (record nothing_given { rd = d; rs1 = a; rs2 = b }) (three_filled d a b h0 h1 h2) e
+
+mul_made : (op : MulOp) (pc w : ℕ) (ps : List Piece) (o : Operands) → all_filled rd_rs1_rs2 (operands_of ps) nothing_given ≡ Some o → encoded (Muldiv op o.rd o.rs1 o.rs2) ≡ w → (labels : Labels) (location : ℕ) → made pc labels location (mul_name op) ps ≡ Ok (1, (location + 4) % 2 ^ 32, Ok (w ∷ []))
+unfolding statement_named mnemonic mnemonics statement_in checked size_of location_after words_of plain_word instruction
+mul_made Mul pc w ps o h e labels location = rw (h, e) refl
+mul_made Mulh pc w ps o h e labels location = rw (h, e) refl
+mul_made Mulhsu pc w ps o h e labels location = rw (h, e) refl
+mul_made Mulhu pc w ps o h e labels location = rw (h, e) refl
+mul_made Div pc w ps o h e labels location = rw (h, e) refl
+mul_made Divu pc w ps o h e labels location = rw (h, e) refl
+mul_made Rem pc w ps o h e labels location = rw (h, e) refl
+mul_made Remu pc w ps o h e labels location = rw (h, e) refl
 
 mul : (op : MulOp) (pc w d a b : ℕ) → d < 32 → a < 32 → b < 32 → encoded (Muldiv op d a b) ≡ w → Gives pc w (mul_name op) (three_registers d a b)
-unfolding statement_named mnemonic mnemonics statement_in operands_of commas between_from all_filled filled register_in number_in memory_in csr_in target_in checked size_of location_after words_of plain_word instruction branch_word jal_word resolved all_targets some_targets all_resolved value_words
-mul Mul pc w d a b h0 h1 h2 e labels location = rw (read d h0, read a h1, read b h2, e) refl
-mul Mulh pc w d a b h0 h1 h2 e labels location = rw (read d h0, read a h1, read b h2, e) refl
-mul Mulhsu pc w d a b h0 h1 h2 e labels location = rw (read d h0, read a h1, read b h2, e) refl
-mul Mulhu pc w d a b h0 h1 h2 e labels location = rw (read d h0, read a h1, read b h2, e) refl
-mul Div pc w d a b h0 h1 h2 e labels location = rw (read d h0, read a h1, read b h2, e) refl
-mul Divu pc w d a b h0 h1 h2 e labels location = rw (read d h0, read a h1, read b h2, e) refl
-mul Rem pc w d a b h0 h1 h2 e labels location = rw (read d h0, read a h1, read b h2, e) refl
-mul Remu pc w d a b h0 h1 h2 e labels location = rw (read d h0, read a h1, read b h2, e) refl
+mul op pc w d a b h0 h1 h2 e = mul_made op pc w (map part_piece (three_registers d a b)) (record nothing_given { rd = d; rs1 = a; rs2 = b }) (three_filled d a b h0 h1 h2) e
+
+imm_made : (op : ImmOp) (pc w : ℕ) (ps : List Piece) (o : Operands) → signed_12 o.given ≡ Some o.given → all_filled rd_rs1_number (operands_of ps) nothing_given ≡ Some o → encoded (OpImm op o.rd o.rs1 o.given) ≡ w → (labels : Labels) (location : ℕ) → made pc labels location (imm_name op) ps ≡ Ok (1, (location + 4) % 2 ^ 32, Ok (w ∷ []))
+unfolding statement_named mnemonic mnemonics statement_in checked size_of location_after words_of plain_word instruction
+imm_made Addi pc w ps o g h e labels location = rw (h, g, e) refl
+imm_made Slti pc w ps o g h e labels location = rw (h, g, e) refl
+imm_made Sltiu pc w ps o g h e labels location = rw (h, g, e) refl
+imm_made Xori pc w ps o g h e labels location = rw (h, g, e) refl
+imm_made Ori pc w ps o g h e labels location = rw (h, g, e) refl
+imm_made Andi pc w ps o g h e labels location = rw (h, g, e) refl
 
 imm : (op : ImmOp) (pc w d a : ℕ) (z : ℤ) → d < 32 → a < 32 → IsSigned 12 z → encoded (OpImm op d a z) ≡ w → Gives pc w (imm_name op) (with_number d a z)
-unfolding statement_named mnemonic mnemonics statement_in operands_of commas between_from all_filled filled register_in number_in memory_in csr_in target_in checked size_of location_after words_of plain_word instruction branch_word jal_word resolved all_targets some_targets all_resolved value_words
-imm Addi pc w d a (pos n) h0 h1 h2 e labels location = rw (read d h0, read a h1, small_12 (pos n) h2, e) refl
-imm Addi pc w d a (negsuc n) h0 h1 h2 e labels location = rw (read d h0, read a h1, small_12 (negsuc n) h2, e) refl
-imm Slti pc w d a (pos n) h0 h1 h2 e labels location = rw (read d h0, read a h1, small_12 (pos n) h2, e) refl
-imm Slti pc w d a (negsuc n) h0 h1 h2 e labels location = rw (read d h0, read a h1, small_12 (negsuc n) h2, e) refl
-imm Sltiu pc w d a (pos n) h0 h1 h2 e labels location = rw (read d h0, read a h1, small_12 (pos n) h2, e) refl
-imm Sltiu pc w d a (negsuc n) h0 h1 h2 e labels location = rw (read d h0, read a h1, small_12 (negsuc n) h2, e) refl
-imm Xori pc w d a (pos n) h0 h1 h2 e labels location = rw (read d h0, read a h1, small_12 (pos n) h2, e) refl
-imm Xori pc w d a (negsuc n) h0 h1 h2 e labels location = rw (read d h0, read a h1, small_12 (negsuc n) h2, e) refl
-imm Ori pc w d a (pos n) h0 h1 h2 e labels location = rw (read d h0, read a h1, small_12 (pos n) h2, e) refl
-imm Ori pc w d a (negsuc n) h0 h1 h2 e labels location = rw (read d h0, read a h1, small_12 (negsuc n) h2, e) refl
-imm Andi pc w d a (pos n) h0 h1 h2 e labels location = rw (read d h0, read a h1, small_12 (pos n) h2, e) refl
-imm Andi pc w d a (negsuc n) h0 h1 h2 e labels location = rw (read d h0, read a h1, small_12 (negsuc n) h2, e) refl
+imm op pc w d a z h0 h1 h2 e = imm_made op pc w (map part_piece (with_number d a z)) (record nothing_given { rd = d; rs1 = a; given = z }) (small_12 z h2) (number_filled d a z h0 h1) e
+
+load_made : (op : LoadOp) (pc w : ℕ) (ps : List Piece) (o : Operands) → signed_12 o.given ≡ Some o.given → all_filled rd_memory (operands_of ps) nothing_given ≡ Some o → encoded (Load op o.rd o.rs1 o.given) ≡ w → (labels : Labels) (location : ℕ) → made pc labels location (load_name op) ps ≡ Ok (1, (location + 4) % 2 ^ 32, Ok (w ∷ []))
+unfolding statement_named mnemonic mnemonics statement_in checked size_of location_after words_of plain_word instruction
+load_made Lb pc w ps o g h e labels location = rw (h, g, e) refl
+load_made Lh pc w ps o g h e labels location = rw (h, g, e) refl
+load_made Lw pc w ps o g h e labels location = rw (h, g, e) refl
+load_made Lbu pc w ps o g h e labels location = rw (h, g, e) refl
+load_made Lhu pc w ps o g h e labels location = rw (h, g, e) refl
 
 load : (op : LoadOp) (pc w d a : ℕ) (z : ℤ) → d < 32 → a < 32 → IsSigned 12 z → encoded (Load op d a z) ≡ w → Gives pc w (load_name op) (with_memory d z a)
-unfolding statement_named mnemonic mnemonics statement_in operands_of commas between_from all_filled filled register_in number_in memory_in csr_in target_in checked size_of location_after words_of plain_word instruction branch_word jal_word resolved all_targets some_targets all_resolved value_words
-load Lb pc w d a (pos n) h0 h1 h2 e labels location = rw (read d h0, read a h1, small_12 (pos n) h2, e) refl
-load Lb pc w d a (negsuc n) h0 h1 h2 e labels location = rw (read d h0, read a h1, small_12 (negsuc n) h2, e) refl
-load Lh pc w d a (pos n) h0 h1 h2 e labels location = rw (read d h0, read a h1, small_12 (pos n) h2, e) refl
-load Lh pc w d a (negsuc n) h0 h1 h2 e labels location = rw (read d h0, read a h1, small_12 (negsuc n) h2, e) refl
-load Lw pc w d a (pos n) h0 h1 h2 e labels location = rw (read d h0, read a h1, small_12 (pos n) h2, e) refl
-load Lw pc w d a (negsuc n) h0 h1 h2 e labels location = rw (read d h0, read a h1, small_12 (negsuc n) h2, e) refl
-load Lbu pc w d a (pos n) h0 h1 h2 e labels location = rw (read d h0, read a h1, small_12 (pos n) h2, e) refl
-load Lbu pc w d a (negsuc n) h0 h1 h2 e labels location = rw (read d h0, read a h1, small_12 (negsuc n) h2, e) refl
-load Lhu pc w d a (pos n) h0 h1 h2 e labels location = rw (read d h0, read a h1, small_12 (pos n) h2, e) refl
-load Lhu pc w d a (negsuc n) h0 h1 h2 e labels location = rw (read d h0, read a h1, small_12 (negsuc n) h2, e) refl
+load op pc w d a z h0 h1 h2 e = load_made op pc w (map part_piece (with_memory d z a)) (record nothing_given { rd = d; rs1 = a; given = z }) (small_12 z h2) (load_filled d a z h0 h1) e
+
+store_made : (op : StoreOp) (pc w : ℕ) (ps : List Piece) (o : Operands) → signed_12 o.given ≡ Some o.given → all_filled rs2_memory (operands_of ps) nothing_given ≡ Some o → encoded (Store op o.rs1 o.rs2 o.given) ≡ w → (labels : Labels) (location : ℕ) → made pc labels location (store_name op) ps ≡ Ok (1, (location + 4) % 2 ^ 32, Ok (w ∷ []))
+unfolding statement_named mnemonic mnemonics statement_in checked size_of location_after words_of plain_word instruction
+store_made Sb pc w ps o g h e labels location = rw (h, g, e) refl
+store_made Sh pc w ps o g h e labels location = rw (h, g, e) refl
+store_made Sw pc w ps o g h e labels location = rw (h, g, e) refl
 
 store : (op : StoreOp) (pc w a b : ℕ) (z : ℤ) → a < 32 → b < 32 → IsSigned 12 z → encoded (Store op a b z) ≡ w → Gives pc w (store_name op) (with_memory b z a)
-unfolding statement_named mnemonic mnemonics statement_in operands_of commas between_from all_filled filled register_in number_in memory_in csr_in target_in checked size_of location_after words_of plain_word instruction branch_word jal_word resolved all_targets some_targets all_resolved value_words
-store Sb pc w a b (pos n) h0 h1 h2 e labels location = rw (read b h1, read a h0, small_12 (pos n) h2, e) refl
-store Sb pc w a b (negsuc n) h0 h1 h2 e labels location = rw (read b h1, read a h0, small_12 (negsuc n) h2, e) refl
-store Sh pc w a b (pos n) h0 h1 h2 e labels location = rw (read b h1, read a h0, small_12 (pos n) h2, e) refl
-store Sh pc w a b (negsuc n) h0 h1 h2 e labels location = rw (read b h1, read a h0, small_12 (negsuc n) h2, e) refl
-store Sw pc w a b (pos n) h0 h1 h2 e labels location = rw (read b h1, read a h0, small_12 (pos n) h2, e) refl
-store Sw pc w a b (negsuc n) h0 h1 h2 e labels location = rw (read b h1, read a h0, small_12 (negsuc n) h2, e) refl
+store op pc w a b z h0 h1 h2 e = store_made op pc w (map part_piece (with_memory b z a)) (record nothing_given { rs1 = a; rs2 = b; given = z }) (small_12 z h2) (store_filled b a z h1 h0) e
 
 jalr : (pc w d a : ℕ) (z : ℤ) → d < 32 → a < 32 → IsSigned 12 z → encoded (Jalr d a z) ≡ w → Gives pc w (codes "jalr") (with_memory d z a)
 unfolding statement_named mnemonic mnemonics statement_in operands_of commas between_from all_filled filled register_in number_in memory_in csr_in target_in checked size_of location_after words_of plain_word instruction branch_word jal_word resolved all_targets some_targets all_resolved value_words

@@ -8,8 +8,7 @@ ghost use Rattle.rv_disasm.specs.Parts.{csr_part, digits, named};
 use rv_decode::{AluOp, BranchOp, CsrKind, ImmOp, LoadOp, MulOp, ShiftOp, StoreOp, csr};
 
 pub fn branch_name(op: BranchOp) -> &'static str
-    ensures name { result.now ≡ branch_name op }
-    ensures short { length result.now ≤ 8 }
+    ensures { result.now ≡ branch_name op }
 {
     match op {
         BranchOp::Beq => "beq",
@@ -22,8 +21,7 @@ pub fn branch_name(op: BranchOp) -> &'static str
 }
 
 pub fn load_name(op: LoadOp) -> &'static str
-    ensures name { result.now ≡ load_name op }
-    ensures short { length result.now ≤ 8 }
+    ensures { result.now ≡ load_name op }
 {
     match op {
         LoadOp::Lb => "lb",
@@ -35,8 +33,7 @@ pub fn load_name(op: LoadOp) -> &'static str
 }
 
 pub fn store_name(op: StoreOp) -> &'static str
-    ensures name { result.now ≡ store_name op }
-    ensures short { length result.now ≤ 8 }
+    ensures { result.now ≡ store_name op }
 {
     match op {
         StoreOp::Sb => "sb",
@@ -46,8 +43,7 @@ pub fn store_name(op: StoreOp) -> &'static str
 }
 
 pub fn imm_name(op: ImmOp) -> &'static str
-    ensures name { result.now ≡ imm_name op }
-    ensures short { length result.now ≤ 8 }
+    ensures { result.now ≡ imm_name op }
 {
     match op {
         ImmOp::Addi => "addi",
@@ -60,8 +56,7 @@ pub fn imm_name(op: ImmOp) -> &'static str
 }
 
 pub fn shift_name(op: ShiftOp) -> &'static str
-    ensures name { result.now ≡ shift_name op }
-    ensures short { length result.now ≤ 8 }
+    ensures { result.now ≡ shift_name op }
 {
     match op {
         ShiftOp::Slli => "slli",
@@ -71,8 +66,7 @@ pub fn shift_name(op: ShiftOp) -> &'static str
 }
 
 pub fn alu_name(op: AluOp) -> &'static str
-    ensures name { result.now ≡ alu_name op }
-    ensures short { length result.now ≤ 8 }
+    ensures { result.now ≡ alu_name op }
 {
     match op {
         AluOp::Add => "add",
@@ -89,8 +83,7 @@ pub fn alu_name(op: AluOp) -> &'static str
 }
 
 pub fn mul_name(op: MulOp) -> &'static str
-    ensures name { result.now ≡ mul_name op }
-    ensures short { length result.now ≤ 8 }
+    ensures { result.now ≡ mul_name op }
 {
     match op {
         MulOp::Mul => "mul",
@@ -105,8 +98,7 @@ pub fn mul_name(op: MulOp) -> &'static str
 }
 
 pub fn csr_op_name(op: CsrKind) -> &'static str
-    ensures name { result.now ≡ csr_name op }
-    ensures short { length result.now ≤ 8 }
+    ensures { result.now ≡ csr_name op }
 {
     match op {
         CsrKind::Rw => "csrrw",

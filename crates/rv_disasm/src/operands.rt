@@ -1,45 +1,23 @@
 //! A mnemonic with operands of a form.
 
-ghost use Rattle.std.specs.Prelude.{◌≡◌, ◌+◌, ◌<◌, ◌≤◌, ◌∷◌, [], ◌++◌, length, decimal};
+ghost use Rattle.std.specs.Prelude.{◌≡◌, ◌+◌, ◌≤◌, ◌∷◌, [], ◌++◌, length, flat_map};
 ghost use Rattle.arrayvec.specs.ArrayString.{array_string_len};
-ghost use Rattle.rv_disasm.specs.Parts.{register as register_part, digits, line, line_text};
+ghost use Rattle.rv_disasm.specs.Parts.{register as register_part, comma, digits, line, line_text};
 ghost use Rattle.rv_disasm.specs.Parts.{part_text, csr_part, two_registers, three_registers};
-ghost use Rattle.rv_disasm.specs.Parts.{with_number, with_memory, with_csr, with_upper};
-ghost use Rattle.rv_disasm.specs.Parts.{with_target, with_branch};
+ghost use Rattle.rv_disasm.specs.Parts.{with_number, with_memory, with_csr, with_branch};
 ghost use Rattle.rv_disasm.specs.Names.{csr_name as csr_name_of};
-ghost use Rattle.rv_disasm.specs.Text.{csr_source};
+ghost use Rattle.rv_disasm.specs.Text.{csr_source, word_line};
 
 use crate::names::{csr_name, csr_op_name};
 use arrayvec::ArrayString;
 use rv_decode::CsrKind;
 use trace_print::{push_decimal, push_hex, push_word};
 
-/// Appends a register.
-fn push_register(text: &mut ArrayString<96>, register: u8)
-    requires room { array_string_len text.old + 4 ≤ 96 }
-    ensures text { text.new.bytes ≡ text.old.bytes ++ part_text (register_part register) }
-    ensures len { array_string_len text.new ≤ array_string_len text.old + 4 }
-{
-    text.push_str("x");
-    push_decimal(text, register);
-}
-
-/// A mnemonic and a space.
-fn begun(name: &str) -> ArrayString<96>
-    requires short { length name.now ≤ 8 }
-    ensures text { result.bytes ≡ name.now ++ 32 ∷ [] }
-    ensures len { array_string_len result ≤ 9 }
-{
-    let mut text = ArrayString::new();
-    text.push_str(name);
-    text.push_str(" ");
-    text
-}
-
 /// A mnemonic alone.
 pub fn alone(name: &str) -> ArrayString<96>
     requires short { length name.now ≤ 8 }
-    ensures { result.bytes ≡ line_text (line name.now []) }
+    ensures text { result.bytes ≡ line_text (line name.now []) }
+    ensures len { array_string_len result ≤ 8 }
 {
     let mut text = ArrayString::new();
     text.push_str(name);
@@ -49,22 +27,34 @@ pub fn alone(name: &str) -> ArrayString<96>
 /// With a register.
 pub fn one_register(name: &str, register: u8) -> ArrayString<96>
     requires short { length name.now ≤ 8 }
-    ensures { result.bytes ≡ line_text (line name.now (register_part register ∷ [])) }
+    ensures text { result.bytes ≡ line_text (line name.now (register_part register ∷ [])) }
+    ensures len { array_string_len result ≤ 13 }
 {
-    let mut text = begun(name);
-    push_register(&mut text, register);
+    let mut text = alone(name);
+    text.push_str(" x");
+    push_decimal(&mut text, register);
     text
+}
+
+/// Appends a further register.
+fn push_next(text: &mut ArrayString<96>, register: u8)
+    requires room { array_string_len text.old + 6 ≤ 96 }
+    ensures text { text.new.bytes ≡ text.old.bytes ++ flat_map part_text
+        (comma ∷ register_part register ∷ []) }
+    ensures len { array_string_len text.new ≤ array_string_len text.old + 6 }
+{
+    text.push_str(", x");
+    push_decimal(text, register);
 }
 
 /// With two registers.
 pub fn two_registers(name: &str, first: u8, second: u8) -> ArrayString<96>
     requires short { length name.now ≤ 8 }
-    ensures { result.bytes ≡ line_text (line name.now (two_registers first second)) }
+    ensures text { result.bytes ≡ line_text (line name.now (two_registers first second)) }
+    ensures len { array_string_len result ≤ 19 }
 {
-    let mut text = begun(name);
-    push_register(&mut text, first);
-    text.push_str(", ");
-    push_register(&mut text, second);
+    let mut text = one_register(name, first);
+    push_next(&mut text, second);
     text
 }
 
@@ -73,12 +63,8 @@ pub fn three_registers(name: &str, rd: u8, rs1: u8, rs2: u8) -> ArrayString<96>
     requires short { length name.now ≤ 8 }
     ensures { result.bytes ≡ line_text (line name.now (three_registers rd rs1 rs2)) }
 {
-    let mut text = begun(name);
-    push_register(&mut text, rd);
-    text.push_str(", ");
-    push_register(&mut text, rs1);
-    text.push_str(", ");
-    push_register(&mut text, rs2);
+    let mut text = two_registers(name, rd, rs1);
+    push_next(&mut text, rs2);
     text
 }
 
@@ -87,10 +73,7 @@ pub fn with_number(name: &str, rd: u8, rs1: u8, number: i32) -> ArrayString<96>
     requires short { length name.now ≤ 8 }
     ensures { result.bytes ≡ line_text (line name.now (with_number rd rs1 number)) }
 {
-    let mut text = begun(name);
-    push_register(&mut text, rd);
-    text.push_str(", ");
-    push_register(&mut text, rs1);
+    let mut text = two_registers(name, rd, rs1);
     text.push_str(", ");
     push_decimal(&mut text, number);
     text
@@ -101,37 +84,25 @@ pub fn with_memory(name: &str, register: u8, offset: i32, base: u8) -> ArrayStri
     requires short { length name.now ≤ 8 }
     ensures { result.bytes ≡ line_text (line name.now (with_memory register offset base)) }
 {
-    let mut text = begun(name);
-    push_register(&mut text, register);
+    let mut text = one_register(name, register);
     text.push_str(", ");
     push_decimal(&mut text, offset);
-    text.push_str("(");
-    push_register(&mut text, base);
+    text.push_str("(x");
+    push_decimal(&mut text, base);
     text.push_str(")");
     text
 }
 
-/// With a register and the upper twenty bits of a word.
-pub fn with_upper(name: &str, rd: u8, imm: u32) -> ArrayString<96>
+/// With a register and so many hexadecimal digits of a number.
+pub fn with_digits(name: &str, rd: u8, width: usize, number: u32) -> ArrayString<96>
     requires short { length name.now ≤ 8 }
-    ensures { result.bytes ≡ line_text (line name.now (with_upper rd imm)) }
+    requires width { width ≤ 8 }
+    ensures { result.bytes
+        ≡ line_text (line name.now (register_part rd ∷ comma ∷ digits width number ∷ [])) }
 {
-    let mut text = begun(name);
-    push_register(&mut text, rd);
+    let mut text = one_register(name, rd);
     text.push_str(", 0x");
-    push_hex(&mut text, u64::from(imm), 5);
-    text
-}
-
-/// With a register and an address.
-pub fn with_target(name: &str, rd: u8, to: u32) -> ArrayString<96>
-    requires short { length name.now ≤ 8 }
-    ensures { result.bytes ≡ line_text (line name.now (with_target rd to)) }
-{
-    let mut text = begun(name);
-    push_register(&mut text, rd);
-    text.push_str(", 0x");
-    push_word(&mut text, to);
+    push_hex(&mut text, u64::from(number), width);
     text
 }
 
@@ -140,22 +111,18 @@ pub fn with_branch(name: &str, rs1: u8, rs2: u8, to: u32) -> ArrayString<96>
     requires short { length name.now ≤ 8 }
     ensures { result.bytes ≡ line_text (line name.now (with_branch rs1 rs2 to)) }
 {
-    let mut text = begun(name);
-    push_register(&mut text, rs1);
-    text.push_str(", ");
-    push_register(&mut text, rs2);
+    let mut text = two_registers(name, rs1, rs2);
     text.push_str(", 0x");
     push_word(&mut text, to);
     text
 }
 
-/// With a word.
-pub fn with_word(name: &str, word: u32) -> ArrayString<96>
-    requires short { length name.now ≤ 8 }
-    ensures { result.bytes ≡ line_text (line name.now (digits 8 word ∷ [])) }
+/// A word as it is.
+pub fn word_line(word: u32) -> ArrayString<96>
+    ensures { result.bytes ≡ line_text (word_line word) }
 {
-    let mut text = begun(name);
-    text.push_str("0x");
+    let mut text = ArrayString::new();
+    text.push_str(".word 0x");
     push_word(&mut text, word);
     text
 }
@@ -181,7 +148,10 @@ fn push_source(text: &mut ArrayString<96>, op: CsrKind, source: u8)
     ensures { text.new.bytes ≡ text.old.bytes ++ part_text (csr_source op source) }
 {
     match op {
-        CsrKind::Rw | CsrKind::Rs | CsrKind::Rc => push_register(text, source),
+        CsrKind::Rw | CsrKind::Rs | CsrKind::Rc => {
+            text.push_str("x");
+            push_decimal(text, source);
+        }
         CsrKind::Rwi | CsrKind::Rsi | CsrKind::Rci => push_decimal(text, source),
     }
 }
@@ -191,8 +161,7 @@ pub fn with_csr(op: CsrKind, rd: u8, csr: u16, source: u8) -> ArrayString<96>
     ensures { result.bytes ≡ line_text
         (line (csr_name_of op) (with_csr rd csr (csr_source op source))) }
 {
-    let mut text = begun(csr_op_name(op));
-    push_register(&mut text, rd);
+    let mut text = one_register(csr_op_name(op), rd);
     text.push_str(", ");
     push_csr(&mut text, csr);
     text.push_str(", ");

@@ -1,15 +1,14 @@
 //! The text of a word.
 
 ghost use Rattle.std.specs.Prelude.{◌≡◌};
-ghost use Rattle.rv_decode.specs.Range.{InRange};
 ghost use Rattle.rv_disasm.specs.Parts.{line_text};
 ghost use Rattle.rv_disasm.specs.Text.{branch_line, fence_line, jump_line, line_of, target};
 ghost use Rattle.rv_disasm.specs.Text.{text_at as text_of};
 
 use crate::names::{alu_name, branch_name, imm_name, load_name, mul_name, shift_name, store_name};
 use crate::operands::{
-    alone, one_register, three_registers, two_registers, with_branch, with_csr, with_memory,
-    with_number, with_target, with_upper, with_word,
+    alone, one_register, three_registers, two_registers, with_branch, with_csr, with_digits,
+    with_memory, with_number, word_line,
 };
 use arrayvec::ArrayString;
 use rv_decode::{BranchOp, Ins, decode};
@@ -38,9 +37,9 @@ fn jump_line(pc: u32, word: u32, rd: u8, off: i32) -> ArrayString<96>
 {
     let to = target(pc, off);
     if to % 4 == 0 {
-        with_target("jal", rd, to)
+        with_digits("jal", rd, 8, to)
     } else {
-        with_word(".word", word)
+        word_line(word)
     }
 }
 
@@ -52,7 +51,7 @@ fn branch_line(pc: u32, word: u32, op: BranchOp, rs1: u8, rs2: u8, off: i32) -> 
     if to % 4 == 0 {
         with_branch(branch_name(op), rs1, rs2, to)
     } else {
-        with_word(".word", word)
+        word_line(word)
     }
 }
 
@@ -63,19 +62,18 @@ fn fence_line(word: u32) -> ArrayString<96>
     match word {
         0x0ff0_000f => alone("fence"),
         0x0000_100f => alone("fence.i"),
-        _ => with_word(".word", word),
+        _ => word_line(word),
     }
 }
 
 /// The text of a word that means an instruction.
 #[tactic(auto, unfolding(crate::specs::Text::line_of))]
 fn line_of(pc: u32, word: u32, i: &Ins) -> ArrayString<96>
-    requires { InRange i.now }
     ensures { result.bytes ≡ line_text (line_of pc word i.now) }
 {
     match *i {
-        Ins::Lui { rd, imm } => with_upper("lui", rd, imm),
-        Ins::Auipc { rd, imm } => with_upper("auipc", rd, imm),
+        Ins::Lui { rd, imm } => with_digits("lui", rd, 5, imm),
+        Ins::Auipc { rd, imm } => with_digits("auipc", rd, 5, imm),
         Ins::Jal { rd, off } => jump_line(pc, word, rd, off),
         Ins::Jalr { rd, rs1, imm } => with_memory("jalr", rd, imm, rs1),
         Ins::Branch { op, rs1, rs2, off } => branch_line(pc, word, op, rs1, rs2, off),
@@ -101,6 +99,6 @@ fn line_of(pc: u32, word: u32, i: &Ins) -> ArrayString<96>
         Ins::Wu { rs1, rs2 } => two_registers("wu", rs1, rs2),
         Ins::Ee { rs1, rs2 } => two_registers("ee", rs1, rs2),
         Ins::De => alone("de"),
-        Ins::Illegal { .. } => with_word(".word", word),
+        Ins::Illegal { .. } => word_line(word),
     }
 }
