@@ -3,11 +3,8 @@
 use crate::text::TurnText;
 use pipe_watch::{Cycle, is_flushed, thread_of};
 use pipeline_core::{Held, Stored};
-use std::io;
 use std::io::Write;
-
-/// The names of the stages, the first one first.
-const STAGES: [&str; 5] = ["F", "D", "E", "M", "W"];
+use std::{fmt, io};
 
 /// How a turn ends that went through all stages.
 const RETIRED: u8 = 0;
@@ -20,6 +17,8 @@ const FLUSHED: u8 = 1;
 struct Shown {
     /// Its number in the log.
     id: u64,
+    /// Its thread.
+    thread: u8,
     /// Whether it is flushed.
     is_flushed: bool,
 }
@@ -47,42 +46,38 @@ impl Konata {
         })
     }
 
-    /// Puts a cycle: the turns that go a stage further in it, those that end, and its own.
+    /// Puts a cycle: the turns that end, its own, in which stage each turn is, and that the cycle
+    /// is over.
     ///
     /// # Errors
     ///
     /// The writer's.
     pub fn put<W: Write>(&mut self, out: &mut W, cycle: &Cycle) -> io::Result<()> {
         let turn = self.shown(cycle.turn());
-        let [f, d, e, m, w] = self.stages;
-        let (behind_d, lost) = behind_d(d);
-        self.stages = [turn, f, behind_d, e, m];
-        put_end(out, w, RETIRED)?;
-        put_end(out, lost, FLUSHED)?;
-        put_begin(out, turn, cycle)?;
-        self.put_stages(out)
+        let [in_f, in_d, in_e, in_m, in_w] = self.stages;
+        let (out_of_d, lost) = behind_d(in_d);
+        self.stages = [turn, in_f, out_of_d, in_e, in_m];
+        let retired = End(in_w, RETIRED);
+        let lost = End(lost, FLUSHED);
+        let begun = Begin(turn, cycle);
+        let f = Stage(turn, "F");
+        let d = Stage(in_f, "D");
+        let e = Stage(out_of_d, "E");
+        let m = Stage(in_e, "M");
+        let w = Stage(in_m, "W");
+        write!(out, "{retired}{lost}{begun}{f}{d}{e}{m}{w}C\t1\n")
     }
 
     /// The turn with the next number, where somebody was picked.
     fn shown(&mut self, turn: &Held<Stored>) -> Option<Shown> {
-        thread_of(turn)?;
+        let thread = thread_of(turn)?;
         let id = self.count;
         self.count = id.saturating_add(1);
         Some(Shown {
             id,
+            thread,
             is_flushed: is_flushed(turn),
         })
-    }
-
-    /// Puts in which stage each turn is, and that a cycle is over.
-    fn put_stages<W: Write>(&self, out: &mut W) -> io::Result<()> {
-        for (turn, stage) in self.stages.iter().zip(&STAGES) {
-            if let Some(turn) = turn {
-                let id = turn.id;
-                write!(out, "S\t{id}\t0\t{stage}\n")?;
-            }
-        }
-        out.write_all(b"C\t1\n")
     }
 }
 
@@ -94,28 +89,53 @@ fn behind_d(turn: Option<Shown>) -> (Option<Shown>, Option<Shown>) {
     }
 }
 
-/// Puts that a turn has ended, and how, if there is one.
-fn put_end<W: Write>(out: &mut W, turn: Option<Shown>, how: u8) -> io::Result<()> {
-    match turn {
-        Some(turn) => {
-            let id = turn.id;
-            write!(out, "R\t{id}\t{id}\t{how}\n")
-        }
-        None => Ok(()),
+/// That a turn has ended, if there is one, and how.
+#[derive(Clone, Copy)]
+struct End(Option<Shown>, u8);
+
+impl fmt::Display for End {
+    fn fmt<W: fmt::Write>(&self, f: &mut fmt::Formatter<W>) -> fmt::Result {
+        let Some(turn) = self.0 else {
+            return Ok(());
+        };
+        let id = turn.id;
+        let how = self.1;
+        write!(f, "R\t{id}\t{id}\t{how}\n")
     }
 }
 
-/// Puts a turn's beginning: its thread, its label, and the cycle and time of it.
-fn put_begin<W: Write>(out: &mut W, turn: Option<Shown>, cycle: &Cycle) -> io::Result<()> {
-    let (Some(turn), Some(thread)) = (turn, thread_of(cycle.turn())) else {
-        return Ok(());
-    };
-    let id = turn.id;
-    let label = TurnText(cycle);
-    let number = cycle.start.cycle;
-    let time = cycle.start.time;
-    write!(
-        out,
-        "I\t{id}\t{id}\t{thread}\nL\t{id}\t0\t{label}\nL\t{id}\t1\tcycle {number}, {time} ns\n"
-    )
+/// The beginning of a cycle's turn, if there is one: its thread, its label, and its cycle and time.
+#[derive(Clone, Copy)]
+struct Begin<'a>(Option<Shown>, &'a Cycle);
+
+impl fmt::Display for Begin<'_> {
+    fn fmt<W: fmt::Write>(&self, f: &mut fmt::Formatter<W>) -> fmt::Result {
+        let Some(turn) = self.0 else {
+            return Ok(());
+        };
+        let id = turn.id;
+        let thread = turn.thread;
+        let label = TurnText(self.1);
+        let number = self.1.start.cycle;
+        let time = self.1.start.time;
+        write!(
+            f,
+            "I\t{id}\t{id}\t{thread}\nL\t{id}\t0\t{label}\nL\t{id}\t1\tcycle {number}, {time} ns\n"
+        )
+    }
+}
+
+/// That a turn is in the stage of this name, if there is one.
+#[derive(Clone, Copy)]
+struct Stage(Option<Shown>, &'static str);
+
+impl fmt::Display for Stage {
+    fn fmt<W: fmt::Write>(&self, f: &mut fmt::Formatter<W>) -> fmt::Result {
+        let Some(turn) = self.0 else {
+            return Ok(());
+        };
+        let id = turn.id;
+        let name = self.1;
+        write!(f, "S\t{id}\t0\t{name}\n")
+    }
 }

@@ -233,7 +233,10 @@ struct Threads<'a> {
 impl fmt::Display for Threads<'_> {
     fn fmt<W: fmt::Write>(&self, f: &mut fmt::Formatter<W>) -> fmt::Result {
         for (thread, now) in self.now.threads.iter().enumerate() {
-            let before = self.before.and_then(|start| start.threads.get(thread));
+            let before = match self.before {
+                Some(start) => start.threads.get(thread),
+                None => None,
+            };
             put_thread(f, thread, before, now)?;
         }
         Ok(())
@@ -242,10 +245,14 @@ impl fmt::Display for Threads<'_> {
 
 /// The letters and values of a thread's signals that show its state: asleep, armed, latch, input.
 fn signals_of(state: &ThreadState) -> [(char, Option<u64>); 4] {
+    let latch = match state.latch {
+        Some(word) => Some(u64::from(word)),
+        None => None,
+    };
     [
         ('s', Some(u64::from(state.asleep))),
         ('a', state.armed),
-        ('l', state.latch.map(u64::from)),
+        ('l', latch),
         ('n', Some(u64::from(state.input))),
     ]
 }
@@ -259,7 +266,11 @@ fn put_thread<W: fmt::Write>(
 ) -> fmt::Result {
     let before = before.map(signals_of);
     for (index, signal) in signals_of(now).iter().enumerate() {
-        if before.as_ref().and_then(|last| last.get(index)) != Some(signal) {
+        let last = match &before {
+            Some(signals) => signals.get(index),
+            None => None,
+        };
+        if last != Some(signal) {
             put_signal(f, thread, *signal)?;
         }
     }
@@ -273,9 +284,10 @@ fn put_signal<W: fmt::Write>(
     thread: usize,
     signal: (char, Option<u64>),
 ) -> fmt::Result {
-    match signal {
-        ('s', Some(bit)) => write!(f, "{bit}s{thread}\n"),
-        (letter, Some(value)) => write!(f, "b{value:b} {letter}{thread}\n"),
-        (letter, None) => write!(f, "bz {letter}{thread}\n"),
+    let (letter, value) = signal;
+    match value {
+        Some(bit) if letter == 's' => write!(f, "{bit}s{thread}\n"),
+        Some(value) => write!(f, "b{value:b} {letter}{thread}\n"),
+        None => write!(f, "bz {letter}{thread}\n"),
     }
 }

@@ -19,7 +19,7 @@ use std::io::Write;
 const BEFORE: u64 = 4;
 
 /// A form in which cycles are shown.
-#[derive(Clone, Copy, Debug, PartialEq, Eq)]
+#[derive(Clone, Copy, PartialEq, Eq)]
 pub enum Form {
     /// A line of text for each cycle.
     Text,
