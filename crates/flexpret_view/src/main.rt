@@ -129,12 +129,11 @@ fn answer(rt: HostRuntime, ask: &Ask<'_>) -> Result<(), Fault> {
     answer_beside(rt, ask, &mut ports)
 }
 
-/// The status of what the words ask.
-fn run(rt: HostRuntime) -> Result<(), Fault> {
-    let words = read_args(rt)?;
-    match read_words(rt.alloc(), &words) {
-        Ok(ask) => answer(rt, &ask),
-        Err(WordsNo::Told(error)) => {
+/// Tells why the words ask nothing, where the parser has a text. Where that text is its help, all
+/// is well.
+fn tell_no(rt: HostRuntime, no: &WordsNo) -> Result<(), Fault> {
+    match no {
+        WordsNo::Told(error) => {
             error.print(&rt)?;
             if error.use_stderr() {
                 Err(Fault::Told)
@@ -142,8 +141,17 @@ fn run(rt: HostRuntime) -> Result<(), Fault> {
                 Ok(())
             }
         }
-        Err(WordsNo::Usage) => Err(Fault::Usage),
-        Err(WordsNo::NoMemory) => Err(Fault::NoMemory),
+        WordsNo::Usage => Err(Fault::Usage),
+        WordsNo::NoMemory => Err(Fault::NoMemory),
+    }
+}
+
+/// Answers what the words of the command line ask.
+fn run(rt: HostRuntime) -> Result<(), Fault> {
+    let words = read_args(rt)?;
+    match read_words(rt.alloc(), &words) {
+        Ok(ask) => answer(rt, &ask),
+        Err(no) => tell_no(rt, &no),
     }
 }
 

@@ -23,9 +23,11 @@ With `--progress before` it is told how far the run is while standard output get
 The program is proved to be safe and to end. Nothing is proved of what it shows; it reads the \
 machine that `flexpret` runs.";
 
-/// What an option takes.
+/// What an argument takes.
 #[derive(Clone, Copy)]
 enum Takes {
+    /// The name of the setup, which has to be given, without the argument's name before it.
+    Setup,
     /// A cycle, which has to be given.
     Cycle,
     /// The name of the file that gets a form.
@@ -38,31 +40,32 @@ impl Takes {
     /// What help calls the value.
     fn value_name(self) -> &'static str {
         match self {
+            Takes::Setup => "SETUP",
             Takes::Cycle => "CYCLE",
             Takes::File => "FILE",
             Takes::Until => "UNTIL",
         }
     }
 
-    /// Whether an option that takes it has to be given.
+    /// Whether an argument that takes it has to be given.
     fn is_required(self) -> bool {
-        matches!(self, Takes::Cycle)
+        matches!(self, Takes::Setup | Takes::Cycle)
     }
 
     /// What the value has to be.
     fn parser(self) -> ValueParser<'static> {
         match self {
             Takes::Cycle => ValueParser::Unsigned(0, Window::MOST),
-            Takes::File => ValueParser::String,
+            Takes::Setup | Takes::File => ValueParser::String,
             Takes::Until => ValueParser::Names(&UNTILS),
         }
     }
 }
 
-/// An option.
+/// An argument.
 #[derive(Clone, Copy)]
-struct OptionRow {
-    /// Its name, without the hyphens.
+struct ArgumentRow {
+    /// Its name, without the hyphens of an option.
     name: &'static str,
     /// What it takes.
     takes: Takes,
@@ -70,34 +73,39 @@ struct OptionRow {
     help: &'static str,
 }
 
-/// The options of `turns`, in the order in which help has them.
-const TURNS_OPTIONS: [OptionRow; 6] = [
-    OptionRow {
+/// The arguments of `turns`, in the order in which help has them.
+const TURNS_ARGUMENTS: [ArgumentRow; 7] = [
+    ArgumentRow {
+        name: "setup",
+        takes: Takes::Setup,
+        help: "the setup of the machine, a TOML file",
+    },
+    ArgumentRow {
         name: "from",
         takes: Takes::Cycle,
         help: "the first cycle",
     },
-    OptionRow {
+    ArgumentRow {
         name: "to",
         takes: Takes::Cycle,
         help: "the cycle behind the last one",
     },
-    OptionRow {
+    ArgumentRow {
         name: "konata",
         takes: Takes::File,
         help: "writes the log of the Konata viewer",
     },
-    OptionRow {
+    ArgumentRow {
         name: "vcd",
         takes: Takes::File,
         help: "writes a value change dump, for GTKWave",
     },
-    OptionRow {
+    ArgumentRow {
         name: "svg",
         takes: Takes::File,
         help: "writes a picture, for a browser",
     },
-    OptionRow {
+    ArgumentRow {
         name: "progress",
         takes: Takes::Until,
         help: "tells on standard error how far a long run is",
@@ -108,40 +116,53 @@ const TURNS_OPTIONS: [OptionRow; 6] = [
 const FORMS: [&str; 3] = ["konata", "vcd", "svg"];
 
 /// The argument of a row.
-fn option_argument<'a>(alloc: Global, row: &OptionRow) -> Arg<'a> {
-    Arg::new(alloc, row.name)
-        .long(row.name)
+fn argument<'a>(alloc: Global, row: &ArgumentRow) -> Arg<'a> {
+    let argument = Arg::new(alloc, row.name)
         .required(row.takes.is_required())
         .value_name(row.takes.value_name())
         .value_parser(row.takes.parser())
-        .help(row.help)
+        .help(row.help);
+    match row.takes {
+        Takes::Setup => argument,
+        Takes::Cycle | Takes::File | Takes::Until => argument.long(row.name),
+    }
 }
 
-/// The argument that names the setup.
-fn setup_argument<'a>(alloc: Global) -> Arg<'a> {
-    Arg::new(alloc, "setup")
-        .required(true)
-        .value_name("SETUP")
-        .help("the setup of the machine, a TOML file")
+/// The arguments of `turns`.
+fn turns_arguments<'a>(alloc: Global) -> Result<Vec<Arg<'a>>, AllocError> {
+    let mut arguments = Vec::new(alloc);
+    for row in &TURNS_ARGUMENTS {
+        arguments.push(argument(alloc, row))?;
+    }
+    Ok(arguments)
+}
+
+/// The group of the options of which one is given at most.
+fn forms_group<'a>(alloc: Global) -> Result<ArgGroup<'a>, AllocError> {
+    let names: &[&'a str] = &FORMS;
+    ArgGroup::new(alloc, "form").args(names)
 }
 
 /// The command `turns` without its arguments.
-fn bare_turns<'a>(alloc: Global) -> Result<Command<'a>, AllocError> {
-    let names: &[&'a str] = &FORMS;
-    let forms = ArgGroup::new(alloc, "form").args(names)?;
+fn bare_turns<'a>(alloc: Global) -> Command<'a> {
     Command::new(alloc, "turns")
         .about("shows what the pipeline does in each cycle of a window")
         .after_help(AFTER)
-        .group(forms)
 }
 
 /// The command `turns`.
 fn turns_command<'a>(alloc: Global) -> Result<Command<'a>, AllocError> {
-    let mut command = bare_turns(alloc)?.arg(setup_argument(alloc))?;
-    for row in &TURNS_OPTIONS {
-        command = command.arg(option_argument(alloc, row))?;
-    }
-    Ok(command)
+    let forms = forms_group(alloc)?;
+    let arguments = turns_arguments(alloc)?;
+    bare_turns(alloc).args(arguments)?.group(forms)
+}
+
+/// The program without its commands.
+fn bare_program<'a>(alloc: Global) -> Command<'a> {
+    Command::new(alloc, "flexpret_view")
+        .about("Shows runs of the FlexPRET core, cycle by cycle")
+        .after_help("The program is proved to be safe and to end, and nothing more.")
+        .subcommand_required(true)
 }
 
 /// The program's commands.
@@ -151,9 +172,5 @@ fn turns_command<'a>(alloc: Global) -> Result<Command<'a>, AllocError> {
 /// Where memory was refused.
 pub fn commands<'a>(alloc: Global) -> Result<Command<'a>, AllocError> {
     let turns = turns_command(alloc)?;
-    Command::new(alloc, "flexpret_view")
-        .about("Shows runs of the FlexPRET core, cycle by cycle")
-        .after_help("The program is proved to be safe and to end, and nothing more.")
-        .subcommand_required(true)
-        .subcommand(turns)
+    bare_program(alloc).subcommand(turns)
 }

@@ -77,12 +77,17 @@ fn telling_of(matches: &ArgMatches<'_>, file: &str) -> Telling {
     }
 }
 
+/// The cycles that the words of `turns` give, if they are a window.
+fn window_of(matches: &ArgMatches<'_>) -> Option<Window> {
+    let from = matches.get_one::<u64>("from")?;
+    let to = matches.get_one::<u64>("to")?;
+    Window::new(from, to)
+}
+
 /// What the words of `turns` ask, if its cycles are a window that its form can show.
 fn asked<'a>(matches: &ArgMatches<'a>) -> Option<Ask<'a>> {
     let setup = matches.get_str("setup")?;
-    let from = matches.get_one::<u64>("from")?;
-    let to = matches.get_one::<u64>("to")?;
-    let window = Window::new(from, to)?;
+    let window = window_of(matches)?;
     let (form, file) = form_of(matches);
     if form == Form::Svg && window.len() > MOST_COLUMNS {
         return None;
@@ -96,6 +101,12 @@ fn asked<'a>(matches: &ArgMatches<'a>) -> Option<Ask<'a>> {
     })
 }
 
+/// What the parser makes of the words.
+fn parsed<'a>(alloc: Global, words: &'a [String]) -> Result<ArgMatches<'a>, WordsNo> {
+    let commands = commands(alloc)?;
+    Ok(commands.try_get_matches_from(words)?)
+}
+
 /// What the words of the command line ask, the program's name first.
 ///
 /// # Errors
@@ -103,7 +114,7 @@ fn asked<'a>(matches: &ArgMatches<'a>) -> Option<Ask<'a>> {
 /// Told with the parser's text where they don't fit the options, or ask for help; Usage where the
 /// cycles are no window or too many for a picture; NoMemory where memory was refused.
 pub fn read_words<'a>(alloc: Global, words: &'a [String]) -> Result<Ask<'a>, WordsNo> {
-    let matches = commands(alloc)?.try_get_matches_from(words)?;
+    let matches = parsed(alloc, words)?;
     match matches.subcommand_matches("turns").and_then(asked) {
         Some(ask) => Ok(ask),
         None => Err(WordsNo::Usage),
