@@ -22,6 +22,7 @@ use file_answers::{Program, Stop, load};
 use fp_io::RealFiles;
 use fp_ports::{HeldPort, Ports};
 use fp_setup::Name;
+use std::io;
 
 /// The setup, whose thread 0 is the controller.
 const SETUP: &str = "examples/device/loop.toml";
@@ -44,13 +45,12 @@ fn read_program(rt: HostRuntime) -> Result<Program> {
 
 /// Prints a line: the time in nanoseconds, the set point, what drives the plant, and what its
 /// sensor shows.
-fn print_line(rt: HostRuntime, ns: u64, closed: &ControlLoop) -> Result<()>
+fn print_line(rt: HostRuntime, ns: u64, closed: &ControlLoop) -> io::Result<()>
     requires { vec_len closed.now.ports ≡ 8 }
 {
     let drive = Fixed(closed.drive());
     let measured = Fixed(closed.measured());
-    println!(rt; "{ns} {SET_POINT} {drive} {measured}")?;
-    Ok(())
+    println!(rt; "{ns} {SET_POINT} {drive} {measured}")
 }
 
 /// Does the periods of a run from cycle 0 on, of so many nanoseconds a cycle, and prints a line
