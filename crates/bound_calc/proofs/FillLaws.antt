@@ -94,14 +94,14 @@ filled-same t o ways k powers is none f = record {
     go i known le r (inr ne) = f.some i known (omega arith) r
 
 -- no head of a loop is passed over
-pub filled-down : (t : Tree) (o : Positions) (ways : WaysOn) (head n : ℕ) (powers : Powers) → index t head < n → ((j : LoopSetup) → Contains t.loops j → j.head < address t n → j.head ≤ head) → IsFilled (over t o ways) t n powers → IsFilled (over t o ways) t (index t head + 1) powers
-filled-down t o ways head n powers lt next f = record {
+pub filled-down : (t : Tree) (o : Positions) (ways : WaysOn) (k n : ℕ) (powers : Powers) → k < n → ((j : LoopSetup) → Contains t.loops j → j.head < address t n → index t j.head ≤ k) → IsFilled (over t o ways) t n powers → IsFilled (over t o ways) t (k + 1) powers
+filled-down t o ways k n powers lt next f = record {
   count = f.count;
   some = λ j known le r. f.some j known (above j known le (let z : (j.head < address t n) ⊎ (address t n ≤ j.head) = grind arith in z)) r;
   only = λ w m e. let y = f.only w m e in (omega (arith, y.0), y.1);
 }
   where
-    above : (j : LoopSetup) → Contains t.loops j → index t head + 1 ≤ index t j.head → (j.head < address t n) ⊎ (address t n ≤ j.head) → n ≤ index t j.head
+    above : (j : LoopSetup) → Contains t.loops j → k + 1 ≤ index t j.head → (j.head < address t n) ⊎ (address t n ≤ j.head) → n ≤ index t j.head
     above j known le (inl below) = absurd (let h = next j known below in omega arith)
     above j known le (inr up) = omega arith
 

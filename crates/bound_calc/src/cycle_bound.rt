@@ -14,7 +14,7 @@ use crate::advance::{largest, leave};
 use crate::fill::fill;
 use crate::front::Front;
 use crate::matrix::Matrix;
-use crate::pass::{arrive, begin, edges_at, go_on, is_straight, skip, span_of};
+use crate::pass::{begin, edges_at, go_over, is_straight, skip, span_of};
 use crate::steps::Steps;
 use crate::ways::Ways;
 use region_tree::{Edges, JUMP_LAG, LoopTree};
@@ -104,12 +104,29 @@ fn most(
             most = leave(&front.base, &front.hops, most);
             skip(steps, edges.next_lag, front);
         } else {
-            arrive(alloc, &powers[index], index, front)?;
+            let power = &powers[index];
+            go_over(alloc, tree, steps, None, power, &edges, index, last, front)?;
             most = most_from(tree, steps, &front.base, &edges, most);
-            go_on(alloc, tree, steps, None, &edges, index, last, front)?;
         }
     }
     Ok(most)
+}
+
+/// The largest cost of a walk, by a front that has room for each word.
+fn largest_cost_by(
+    alloc: Global,
+    tree: &LoopTree,
+    steps: &Steps,
+    front: &mut Front,
+) -> Result<u128, AllocError>
+    requires tree { IsTree tree.now }
+    requires frame { length steps.now.frame ≤ 8 }
+    requires slot { (p : ℕ) × IsOwn steps.now p }
+    requires room { length front.old.waiting.items ≡ length tree.now.words }
+    ensures { IfOk result (IsBound (walks tree.now steps.now)) }
+{
+    let powers = fill(alloc, tree, steps, &Ways::new(&[], &[]), front)?;
+    most(alloc, tree, steps, &powers, front)
 }
 
 /// The largest cost of a walk.
@@ -119,8 +136,7 @@ fn largest_cost(alloc: Global, tree: &LoopTree, steps: &Steps) -> Result<u128, A
     ensures { IfOk result (IsBound (walks tree.now steps.now)) }
 {
     let mut front = Front::new(alloc, span_of(tree, None).last + 1)?;
-    let powers = fill(alloc, tree, steps, &Ways::new(&[], &[]), &mut front)?;
-    most(alloc, tree, steps, &powers, &mut front)
+    largest_cost_by(alloc, tree, steps, &mut front)
 }
 
 /// A bound in 64 bits, if it has no more.

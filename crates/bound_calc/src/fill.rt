@@ -1,8 +1,10 @@
 //! The powers of all loops, from the last head to the first.
 
 ghost use Rattle.std.specs.Prelude.{◌≡◌, ◌≢◌, ℕ, ◌+◌, ◌<◌, ◌≤◌, length, MatchOption, Contains, OnOk, IfOk};
-ghost use Rattle.region_tree.specs.Tree.{IsTree};
-ghost use Rattle.bound_calc.specs.Passing.{AreWays, IsFilled, over, power_at, ways_on};
+ghost use Rattle.region_tree.specs.Graph.{Reachable};
+ghost use Rattle.region_tree.specs.Search.{address};
+ghost use Rattle.region_tree.specs.Tree.{IsTree, graph};
+ghost use Rattle.bound_calc.specs.Passing.{AreWays, IsFilled, index as index_of, over, power_at, ways_on};
 
 use crate::front::Front;
 use crate::matrix::Matrix;
@@ -42,6 +44,23 @@ fn loop_at(loops: &[LoopSetup], head: u32) -> Option<LoopSetup>
     None
 }
 
+/// The loop whose head is the word at an index, if it is one that is reachable.
+fn loop_from(tree: &LoopTree, index: usize) -> Option<LoopSetup>
+    requires { index < length tree.now.words }
+    ensures found { let head = address tree.now index in MatchOption result
+        ((j : _) → Contains tree.now.loops j → head ≡ j.head →
+        Reachable (graph tree.now) head → ⊥)
+        (λ j. Contains tree.now.loops j × (head ≡ j.head) × Reachable (graph tree.now) head) }
+    ensures rules { IsTree tree.now }
+{
+    let address = tree.section().from + 4 * index as u32;
+    if tree.is_reachable(address) {
+        loop_at(tree.loops(), address)
+    } else {
+        None
+    }
+}
+
 /// The power of the loop whose head is the word at an index, if it is one that is reachable.
 fn fill_word(
     alloc: Global,
@@ -61,11 +80,7 @@ fn fill_word(
         tree.now index powers.new) }
     ensures room { OnOk result (length front.new.waiting.items ≡ length tree.now.words) }
 {
-    let address = tree.section().from + 4 * index as u32;
-    if !tree.is_reachable(address) {
-        return Ok(());
-    }
-    let Some(j) = loop_at(tree.loops(), address) else {
+    let Some(j) = loop_from(tree, index) else {
         return Ok(());
     };
     let power = rounds(alloc, tree, steps, ways, powers, j, front)?;
@@ -89,6 +104,19 @@ fn head_below(loops: &[LoopSetup], first: u32, address: u32) -> u32
     head
 }
 
+/// The index of the highest head of a loop below an index, or 0 where there is none.
+fn index_below(tree: &LoopTree, index: usize) -> usize
+    requires some { 0 < index }
+    requires within { index ≤ length tree.now.words }
+    ensures below { result < index }
+    ensures next { (j : _) → Contains tree.now.loops j → j.head < address tree.now index →
+        index_of tree.now j.head ≤ result }
+{
+    let from = tree.section().from;
+    let head = head_below(tree.loops(), from, from + 4 * index as u32);
+    ((head - from) / 4) as usize
+}
+
 /// The powers of all loops whose heads are reachable, inner loops first. From each head it goes on
 /// to the next one below: to look for a loop at every word of a large section would be a tenth of
 /// all steps of its bound.
@@ -103,19 +131,17 @@ pub fn fill(
     ways: &Ways,
     front: &mut Front,
 ) -> Result<Vec<Option<Box<Matrix>>>, AllocError>
+    requires tree { IsTree tree.now }
     requires own { AreWays steps.now (ways_on ways.now) }
     requires room { length front.old.waiting.items ≡ length tree.now.words }
     ensures filled { IfOk result (λ powers.
         IsFilled (over tree.now steps.now (ways_on ways.now)) tree.now 0 powers.items) }
     ensures room { OnOk result (length front.new.waiting.items ≡ length tree.now.words) }
-    ensures rules { IsTree tree.now }
 {
-    let from = tree.section().from;
     let mut index = front.waiting.len();
     let mut powers = empty(alloc, index)?;
     while index > 0 {
-        let head = head_below(tree.loops(), from, from + 4 * index as u32);
-        index = ((head - from) / 4) as usize;
+        index = index_below(tree, index);
         fill_word(alloc, tree, steps, ways, index, &mut powers, front)?;
     }
     Ok(powers)

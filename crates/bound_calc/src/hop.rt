@@ -3,8 +3,6 @@
 ghost use Rattle.std.specs.Prelude.{◌≡◌, ℕ, ◌<◌, ◌≤◌, ◌^◌, Some};
 ghost use Rattle.bound_calc.specs.Hops.{Hops, followed};
 
-use std::array;
-
 /// A step to a later turn of the thread: the cycles until then, and the turn's frame position.
 #[derive(Clone, Copy)]
 pub struct Hop {
@@ -52,8 +50,10 @@ impl HopRow {
             followed (slice_index_or self.now.hops p None) row.now.hops }
         ensures long { (length self.now.hops ≡ 8) × (length result.hops ≡ 8) }
     {
-        HopRow {
-            hops: array::from_fn(|p| follow(self.hops[p], row)),
+        let mut hops = [None; 8];
+        for p in 0..8 {
+            hops[p] = follow(self.hops[p], row);
         }
+        HopRow { hops }
     }
 }

@@ -4,8 +4,6 @@ ghost use Rattle.std.specs.Prelude.{◌≡◌, ℕ, ◌+◌, ◌<◌, ◌^◌, O
 ghost use Rattle.bound_calc.specs.Best.{Either, In, IsBest, Then};
 ghost use Rattle.bound_calc.specs.Matrices.{larger_of, sum_of};
 
-use std::array;
-
 /// For each pair of frame positions the largest sum, or none. The row is the position at the start,
 /// the column the one at the end.
 #[derive(Clone, Copy, Debug)]
@@ -73,7 +71,11 @@ fn join_row(a: &[Option<u128>; 8], b: &[Option<u128>; 8]) -> [Option<u128>; 8]
     ensures { (q : ℕ) → q < 8 → slice_index_or result q None ≡
         larger_of (slice_index_or a.now q None) (slice_index_or b.now q None) }
 {
-    array::from_fn(|q| larger(a[q], b[q]))
+    let mut row = [None; 8];
+    for q in 0..8 {
+        row[q] = larger(a[q], b[q]);
+    }
+    row
 }
 
 impl Matrix {

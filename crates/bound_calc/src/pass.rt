@@ -257,7 +257,7 @@ pub fn skip(steps: &Steps, lag: u64, front: &mut Front)
 /// # Errors
 ///
 /// Memory was refused.
-pub fn arrive(
+fn arrive(
     alloc: Global,
     power: &Option<Box<Matrix>>,
     index: usize,
@@ -305,7 +305,7 @@ fn lead(
 /// # Errors
 ///
 /// Memory was refused.
-pub fn go_on(
+fn go_on(
     alloc: Global,
     tree: &LoopTree,
     steps: &Steps,
@@ -327,4 +327,35 @@ pub fn go_on(
     lead(alloc, steps, way, next, edges.next_lag, index, front)?;
     let jump = up_to(tree, index, last, edges.jump);
     bring(alloc, steps, way, jump, JUMP_LAG, front)
+}
+
+/// Goes over the word at an index: takes up what reaches it, and goes on along its edges to later
+/// words. What reached it is what the front goes on from then.
+///
+/// # Errors
+///
+/// Memory was refused.
+pub fn go_over(
+    alloc: Global,
+    tree: &LoopTree,
+    steps: &Steps,
+    way: Option<&Matrix>,
+    power: &Option<Box<Matrix>>,
+    edges: &Edges,
+    index: usize,
+    last: usize,
+    front: &mut Front,
+) -> Result<(), AllocError>
+    requires order { index ≤ last }
+    requires within { last < length tree.now.words }
+    requires edges { edges.now ≡ edges_at tree.now index }
+    requires room { length front.old.waiting.items ≡ length tree.now.words }
+    requires positions { (p d q : ℕ) → Hops (held front.old).hops p d q → (p < 8) × (q < 8) }
+    ensures { OnOk result ((here : _) ×
+        IsArrived (option_map (λ b. b.value) power.now) index (held front.old) here ×
+        IsGone tree.now steps.now (option_map (λ m. m.now) way.entry)
+        (edges_at tree.now index) index last here (held front.new)) }
+{
+    arrive(alloc, power, index, front)?;
+    go_on(alloc, tree, steps, way, edges, index, last, front)
 }

@@ -8,7 +8,7 @@ ghost use Rattle.bound_calc.specs.Section.{whole};
 use crate::fill::fill;
 use crate::front::Front;
 use crate::matrix::Matrix;
-use crate::pass::{arrive, begin, edges_at, go_on, span_of};
+use crate::pass::{begin, edges_at, go_over, span_of};
 use crate::steps::Steps;
 use crate::ways::Ways;
 use region_tree::LoopTree;
@@ -33,21 +33,30 @@ fn reach_in(
     begin(alloc, tree, steps, None, front)?;
     let mut at = Vec::with_capacity(alloc, last + 1)?;
     for index in 0..last + 1 {
-        arrive(alloc, &powers[index], index, front)?;
-        at.push(*front.base)?;
+        let way = ways.at(index);
+        let power = &powers[index];
         let edges = edges_at(tree, index);
-        go_on(
-            alloc,
-            tree,
-            steps,
-            ways.at(index),
-            &edges,
-            index,
-            last,
-            front,
-        )?;
+        go_over(alloc, tree, steps, way, power, &edges, index, last, front)?;
+        at.push(*front.base)?;
     }
     Ok(at)
+}
+
+/// By index what reaches each word of the section, by a front that has room for each.
+fn reach_by(
+    alloc: Global,
+    tree: &LoopTree,
+    steps: &Steps,
+    ways: &Ways,
+    front: &mut Front,
+) -> Result<Vec<Matrix>, AllocError>
+    requires tree { IsTree tree.now }
+    requires own { AreWays steps.now (ways_on ways.now) }
+    requires room { length front.old.waiting.items ≡ length tree.now.words }
+    ensures { IfOk result (λ at. AreReached tree.now steps.now (ways_on ways.now) at.items) }
+{
+    let powers = fill(alloc, tree, steps, ways, front)?;
+    reach_in(alloc, tree, steps, ways, &powers, front)
 }
 
 /// By index the largest costs of what reaches each word of the section. The words that have ways of
@@ -68,6 +77,5 @@ pub fn reach(
     ensures rules { IsTree tree.now }
 {
     let mut front = Front::new(alloc, span_of(tree, None).last + 1)?;
-    let powers = fill(alloc, tree, steps, ways, &mut front)?;
-    reach_in(alloc, tree, steps, ways, &powers, &mut front)
+    reach_by(alloc, tree, steps, ways, &mut front)
 }

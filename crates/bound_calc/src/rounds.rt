@@ -1,6 +1,6 @@
 //! The rounds of a loop.
 
-ghost use Rattle.std.specs.Prelude.{◌≡◌, ◌≤◌, length, Contains, IfOk, OnOk};
+ghost use Rattle.std.specs.Prelude.{◌≡◌, ℕ, ◌≤◌, length, Contains, IfOk, OnOk};
 ghost use Rattle.region_tree.specs.Graph.{Reachable};
 ghost use Rattle.region_tree.specs.Tree.{IsTree, graph};
 ghost use Rattle.std.specs.Option.{option_map};
@@ -14,12 +14,12 @@ ghost use Rattle.bound_calc.specs.Passing.{AreWays, IsReady, IsTurned, moved, ov
 
 use crate::front::Front;
 use crate::matrix::Matrix;
-use crate::pass::{arrive, begin, edges_at, go_on, is_straight, join_along, skip, span_of};
+use crate::pass::{begin, edges_at, go_over, is_straight, join_along, skip, span_of};
 use crate::powers::power;
 use crate::steps::Steps;
 use crate::ways::Ways;
 use fp_setup::LoopSetup;
-use region_tree::{JUMP_LAG, LoopTree};
+use region_tree::{Edges, JUMP_LAG, LoopTree};
 use std::alloc::{AllocError, Global};
 
 /// Joins with what is back at a head what an edge brings there.
@@ -40,6 +40,25 @@ fn turn(
         Some(to) if to == head => join_along(steps, way, here, lag, back),
         _ => {}
     }
+}
+
+/// Joins with what is back at a head what the edges of a word bring there.
+fn turn_edges(
+    steps: &Steps,
+    way: Option<&Matrix>,
+    back: &mut Matrix,
+    here: &Matrix,
+    edges: &Edges,
+    head: u32,
+)
+    requires lag { edges.now.next_lag ≤ redirect_lag }
+    ensures { let way = option_map (λ m. m.now) way.entry in (mid : _) ×
+        IsTurned (moved steps.now way edges.now.next_lag)
+        back.old here.now edges.now.next head mid ×
+        IsTurned (moved steps.now way redirect_lag) mid here.now edges.now.jump head back.new }
+{
+    turn(steps, way, back, here, edges.next, edges.next_lag, head);
+    turn(steps, way, back, here, edges.jump, JUMP_LAG, head);
 }
 
 /// What a round of a loop brings back to its head.
@@ -71,19 +90,11 @@ fn back_at_head(
         if is_straight(tree, &edges, index, span.last, way, &powers[index], front) {
             skip(steps, edges.next_lag, front);
         } else {
-            arrive(alloc, &powers[index], index, front)?;
-            let here = &front.base;
-            turn(
-                steps,
-                way,
-                &mut back,
-                here,
-                edges.next,
-                edges.next_lag,
-                j.head,
-            );
-            turn(steps, way, &mut back, here, edges.jump, JUMP_LAG, j.head);
-            go_on(alloc, tree, steps, way, &edges, index, span.last, front)?;
+            let power = &powers[index];
+            go_over(
+                alloc, tree, steps, way, power, &edges, index, span.last, front,
+            )?;
+            turn_edges(steps, way, &mut back, &front.base, &edges, j.head);
         }
     }
     Ok(back)

@@ -1,21 +1,7 @@
-use Rattle.std.proofs.Common.{arith, subst, sym}
-use Rattle.bound_calc.specs.Passing.{AreWays, IsFilled, IsReady, WayTable, over, ways_on}
-use Rattle.bound_calc.specs.Section.{whole}
-use Rattle.bound_calc.proofs.FillLaws.{ready-whole}
-use Rattle.bound_calc.proofs.MostLaws.{no-ways, none-lead}
+use Rattle.std.proofs.Common.{arith}
+use Rattle.bound_calc.proofs.MostLaws.{no-ways}
 use Rattle.bound_calc.proofs.PassLaws.{span-count}
 use Rattle.bound_calc.proofs.cycle_bound.largest_cost.Goals as goal
 
-pub fill-requires-clause-room : goal.fill-requires-clause-room
-fill-requires-clause-room c = omega (arith, c.in_ok-front.ensures, span-count c.args.tree.now c.args.steps.now no-ways c.span_of.result.first c.span_of.result.last c.span_of.ensures.rules (c.span_of.ensures.span c.args.steps.now no-ways))
-
-pub fill-requires-clause-own : goal.fill-requires-clause-own
-fill-requires-clause-own c = subst (λ (w : WayTable). AreWays c.args.steps.now (ways_on w)) (sym c.new-2.ensures) (none-lead c.args.steps.now)
-
-pub most-requires-clause-ready : goal.most-requires-clause-ready
-most-requires-clause-ready c =
-    let t = c.args.tree.now in
-    let o = c.args.steps.now in
-    let filled = subst (λ (w : WayTable). IsFilled (over t o (ways_on w)) t 0 c.in_ok-powers.powers.items) c.new-2.ensures c.in_ok-powers.ensures.filled in
-    subst (λ powers. IsReady (over t o no-ways) t (whole (over t o no-ways)) powers) (sym c.deref.ensures.value)
-    (ready-whole t o no-ways c.in_ok-powers.powers.items c.span_of.ensures.rules (none-lead o) filled)
+pub largest_cost_by-requires-clause-room : goal.largest_cost_by-requires-clause-room
+largest_cost_by-requires-clause-room c = omega (arith, c.in_ok-front.ensures, span-count c.args.tree.now c.args.steps.now no-ways c.span_of.result.first c.span_of.result.last c.span_of.ensures.rules (c.span_of.ensures.span c.args.steps.now no-ways))

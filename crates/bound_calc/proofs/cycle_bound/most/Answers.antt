@@ -1,13 +1,15 @@
 use Rattle.std.proofs.Common.{◌+◌, ◌≤◌, None, arith, refl, subst, sym}
 use Rattle.region_tree.specs.Search.{address}
+use Rattle.bound_calc.specs.Best.{IsBest}
 use Rattle.bound_calc.specs.Hops.{IsLeft}
 use Rattle.bound_calc.specs.Matrices.{entry}
 use Rattle.bound_calc.specs.Passing.{IsArrived, IsFront, IsMost, IsMostFrom, IsSkipped, IsStraight, Led, edges_at, held, over, power_at, walks}
-use Rattle.bound_calc.specs.Section.{whole}
+use Rattle.bound_calc.specs.Section.{net, whole}
+use Rattle.bound_calc.specs.Ways.{Reaches}
 use Rattle.bound_calc.proofs.MostLaws.{most-all, most-first, most-more, most-straight, no-ways, turns-are, turns-best}
 use Rattle.bound_calc.proofs.PassLaws.{arrived, gone, lag-small, read-power, skipped, span-count, straight}
 use Rattle.bound_calc.proofs.cycle_bound.most.Goals as goal
-use Rattle.bound_calc.proofs.cycle_bound.most.Goals.{then-is_straight, else-is_straight+in_ok-arrive+in_ok-go_on}
+use Rattle.bound_calc.proofs.cycle_bound.most.Goals.{then-is_straight, else-is_straight+in_ok-go_over}
 
 pub loop-index-init : goal.loop-index-init
 loop-index-init c = record {
@@ -20,9 +22,6 @@ skip-requires-clause-lag c = subst (λ e. e.next_lag ≤ 3) (sym c.edges_at-edge
 
 pub most_from-most-requires : goal.most_from-most-requires
 most_from-most-requires c = record { lag = subst (λ e. e.next_lag ≤ 3) (sym c.edges_at-edges.ensures) (lag-small c.args.tree.now c.loop-index.index) }
-
-pub go_on-requires-clause-lag : goal.go_on-requires-clause-lag
-go_on-requires-clause-lag c = subst (λ e. e.next_lag ≤ 3) (sym c.edges_at-edges.ensures) (lag-small c.args.tree.now c.loop-index.index)
 
 pub loop-index-preserved : goal.loop-index-preserved
 loop-index-preserved c =
@@ -47,17 +46,18 @@ loop-index-preserved c =
             front = subst (λ n. IsFront x t s (k + 1) (held n)) (sym w.front-is) (skipped t o no-ways s first last k f (held w.skip.new.front) powers is c.requires.ready sp (omega (arith, sp.low)) (omega arith) c.loop-index.invariant.front z g);
             most = subst (λ n. IsMost (walks t o) t (k + 1) n) (sym w.most-is) (most-straight t o k last None (power_at powers k) f c.loop-index.most w.leave-most.result is sp.inside best z c.loop-index.invariant.most l);
           }
-      | else-is_straight+in_ok-arrive+in_ok-go_on w ↦
-          let here = held w.arrive.new.front in
-          let new = held w.go_on.new.front in
+      | else-is_straight+in_ok-go_over w ↦
+          let here = w.in_ok-go_over.ensures.0 in
+          let new = held w.go_over.new.front in
+          let g = w.in_ok-go_over.ensures.2 in
           let r = w.index-powers-index-else-is_straight in
-          let a = subst (λ p. IsArrived p k f here) (sym (read-power powers k r.result r.is (omega (arith, c.requires.ready.count, sp.inside)))) w.in_ok-arrive.ensures in
-          let best = turns-best t o (entry here.base) (address t k) (arrived t o no-ways s k f here powers is c.requires.ready c.loop-index.invariant.front (omega (arith, sp.low)) (omega (arith, sp.within)) (omega (arith, sp.inside)) a) in
-          let m = subst (λ e. IsMostFrom t o here.base e c.loop-index.most w.most_from-most.result) c.edges_at-edges.ensures
+          let a = subst (λ p. IsArrived p k f here) (sym (read-power powers k r.result r.is (omega (arith, c.requires.ready.count, sp.inside)))) w.in_ok-go_over.ensures.1 in
+          let best = turns-best t o (entry new.base) (address t k) (subst (λ m. IsBest (entry m) (Reaches (net x) s (address t k))) (sym g.base) (arrived t o no-ways s k f here powers is c.requires.ready c.loop-index.invariant.front (omega (arith, sp.low)) (omega (arith, sp.within)) (omega (arith, sp.inside)) a)) in
+          let m = subst (λ e. IsMostFrom t o new.base e c.loop-index.most w.most_from-most.result) c.edges_at-edges.ensures
           (subst (λ b. IsMostFrom t o b c.edges_at-edges.result c.loop-index.most w.most_from-most.result) w.deref-else-is_straight.ensures w.most_from-most.ensures) in
           record {
-            front = subst (λ n. IsFront x t s (k + 1) (held n)) (sym w.front-is) (gone t o no-ways s first last k f here new powers is c.requires.ready sp (omega (arith, sp.low)) (omega arith) c.loop-index.invariant.front a w.in_ok-go_on.ensures);
-            most = subst (λ n. IsMost (walks t o) t (k + 1) n) (sym w.most-is) (most-more t o k here.base c.loop-index.most w.most_from-most.result best c.loop-index.invariant.most m);
+            front = subst (λ n. IsFront x t s (k + 1) (held n)) (sym w.front-is) (gone t o no-ways s first last k f here new powers is c.requires.ready sp (omega (arith, sp.low)) (omega arith) c.loop-index.invariant.front a g);
+            most = subst (λ n. IsMost (walks t o) t (k + 1) n) (sym w.most-is) (most-more t o k new.base c.loop-index.most w.most_from-most.result best c.loop-index.invariant.most m);
           }
     ]
 

@@ -1,4 +1,4 @@
-use Rattle.std.proofs.Common.{◌+◌, ◌<◌, ◌≤◌, arith, ap, length, subst, sym, ◌∙◌}
+use Rattle.std.proofs.Common.{◌+◌, ◌<◌, arith, ap, length, subst, sym, ◌∙◌}
 use Rattle.std.proofs.lemmas.List.{length_push}
 use Rattle.region_tree.specs.Search.{address}
 use Rattle.bound_calc.specs.Best.{IsBest}
@@ -6,7 +6,7 @@ use Rattle.bound_calc.specs.Matrices.{entry}
 use Rattle.bound_calc.specs.Passing.{IsArrived, IsGone, edges_at, held, matrix_at, over, ways_on}
 use Rattle.bound_calc.specs.Section.{net, whole}
 use Rattle.bound_calc.specs.Ways.{Reaches}
-use Rattle.bound_calc.proofs.PassLaws.{arrived, gone, lag-small, reach-more, read-power, span-count}
+use Rattle.bound_calc.proofs.PassLaws.{arrived, gone, reach-more, read-power, span-count}
 use Rattle.bound_calc.proofs.reached.reach_in.Goals as goal
 
 pub loop-index-init : goal.loop-index-init
@@ -15,9 +15,6 @@ loop-index-init c = record {
   count = ap length c.in_ok-at.ensures.items;
   best = λ k lt. absurd (omega arith);
 }
-
-pub go_on-requires-clause-lag : goal.go_on-requires-clause-lag
-go_on-requires-clause-lag c = subst (λ e. e.next_lag ≤ 3) (sym c.edges_at-edges.ensures) (lag-small c.args.tree.now c.loop-index.index)
 
 pub loop-index-preserved : goal.loop-index-preserved
 loop-index-preserved c =
@@ -31,12 +28,12 @@ loop-index-preserved c =
     let last = c.span_of-last.result.last in
     let powers = c.args.powers.now in
     let f = held c.loop-index.front in
-    let here = held c.arrive.new.front in
-    let new = held c.go_on.new.front in
+    let here = c.in_ok-go_over.ensures.0 in
+    let new = held c.go_over.new.front in
     let sp = c.span_of-last.ensures.span o h in
-    let a = subst (λ p. IsArrived p k f here) (sym (read-power powers k c.index-powers-index.result c.index-powers-index.is (omega (arith, c.requires.ready.count, sp.inside)))) c.in_ok-arrive.ensures in
-    let g = subst (λ y. IsGone t o y (edges_at t k) k last here new) c.at.ensures c.in_ok-go_on.ensures in
-    let best = arrived t o h s k f here powers c.requires.tree c.requires.ready c.loop-index.invariant.front (omega (arith, sp.low)) (omega (arith, sp.within)) (omega (arith, sp.inside)) a in
+    let a = subst (λ p. IsArrived p k f here) (sym (read-power powers k c.index-powers-index.result c.index-powers-index.is (omega (arith, c.requires.ready.count, sp.inside)))) c.in_ok-go_over.ensures.1 in
+    let g = subst (λ y. IsGone t o y (edges_at t k) k last here new) c.at-way.ensures c.in_ok-go_over.ensures.2 in
+    let best = subst (λ m. IsBest (entry m) (Reaches (net x) s (address t k))) (sym g.base) (arrived t o h s k f here powers c.requires.tree c.requires.ready c.loop-index.invariant.front (omega (arith, sp.low)) (omega (arith, sp.within)) (omega (arith, sp.inside)) a) in
     let pushed = c.in_ok-push.ensures.items in
     record {
       front = gone t o h s first last k f here new powers c.requires.tree c.requires.ready sp (omega (arith, sp.low)) (omega arith) c.loop-index.invariant.front a g;

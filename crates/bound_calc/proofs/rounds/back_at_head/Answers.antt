@@ -1,6 +1,9 @@
-use Rattle.std.proofs.Common.{◌+◌, ◌≤◌, arith, ap, ◌∙◌, refl, subst, sym}
+use Rattle.std.proofs.Common.{ℕ, Option, ◌+◌, ◌≤◌, arith, ap, ◌∙◌, refl, subst, sym}
 use Rattle.std.specs.Option.{option_map}
 use Rattle.region_tree.specs.Search.{address}
+use Rattle.region_tree.specs.Walk.{Positions}
+use Rattle.region_tree.specs.declared.edges.Edges.{Edges}
+use Rattle.bound_calc.specs.declared.matrix.Matrix.{Matrix}
 use Rattle.region_tree.proofs.GraphLaws.{address-index}
 use Rattle.bound_calc.specs.Best.{IsBest}
 use Rattle.bound_calc.specs.Context.{body}
@@ -8,10 +11,15 @@ use Rattle.bound_calc.specs.Matrices.{entry}
 use Rattle.bound_calc.specs.Pass.{Below, Turns}
 use Rattle.bound_calc.specs.Passing.{IsArrived, IsFront, IsGone, IsSkipped, IsStraight, IsTurned, edges_at, held, moved, over, power_at, ways_on}
 use Rattle.bound_calc.specs.Section.{net}
+use Rattle.bound_calc.specs.Ways.{Reaches}
 use Rattle.bound_calc.proofs.PassLaws.{arrived, gone, lag-small, none-entry, read-power, skipped}
 use Rattle.bound_calc.proofs.TurnLaws.{turned, turns-done, turns-none, turns-straight, turns-word}
 use Rattle.bound_calc.proofs.rounds.back_at_head.Goals as goal
-use Rattle.bound_calc.proofs.rounds.back_at_head.Goals.{then-is_straight, else-is_straight+in_ok-arrive+in_ok-go_on}
+use Rattle.bound_calc.proofs.rounds.back_at_head.Goals.{then-is_straight, else-is_straight+in_ok-go_over}
+
+-- both edges of a word were taken back to a head
+abbrev TurnedBy : Positions → Option Matrix → Edges → Matrix → Matrix → ℕ → Matrix → Type 0
+TurnedBy o way e back here head new = (mid : Matrix) × IsTurned (moved o way e.next_lag) back here e.next head mid × IsTurned (moved o way 3) mid here e.jump head new
 
 pub loop-index-init : goal.loop-index-init
 loop-index-init c =
@@ -24,11 +32,8 @@ loop-index-init c =
 pub skip-requires-clause-lag : goal.skip-requires-clause-lag
 skip-requires-clause-lag c = subst (λ e. e.next_lag ≤ 3) (sym c.edges_at-edges.ensures) (lag-small c.args.tree.now c.loop-index.index)
 
-pub turn-requires : goal.turn-requires
-turn-requires c = record { lag = subst (λ e. e.next_lag ≤ 3) (sym c.edges_at-edges.ensures) (lag-small c.args.tree.now c.loop-index.index) }
-
-pub go_on-requires-clause-lag : goal.go_on-requires-clause-lag
-go_on-requires-clause-lag c = subst (λ e. e.next_lag ≤ 3) (sym c.edges_at-edges.ensures) (lag-small c.args.tree.now c.loop-index.index)
+pub turn_edges-requires : goal.turn_edges-requires
+turn_edges-requires c = record { lag = subst (λ e. e.next_lag ≤ 3) (sym c.edges_at-edges.ensures) (lag-small c.args.tree.now c.loop-index.index) }
 
 pub loop-index-preserved : goal.loop-index-preserved
 loop-index-preserved c =
@@ -54,25 +59,22 @@ loop-index-preserved c =
             front = subst (λ n. IsFront x t s (k + 1) (held n)) (sym w.front-is) (skipped t o h s first last k f (held w.skip.new.front) powers is c.requires.ready sp (omega arith) (omega arith) c.loop-index.invariant.front z g);
             back = subst (λ b. IsBest (entry b) (Turns x c.args.j (Below x (address t (k + 1))))) (sym w.back-is) (turns-straight t o h c.args.j k last (h k) (power_at powers k) f is c.requires.reached c.requires.ready.part (omega (arith, sp.low)) z c.loop-index.invariant.back);
           }
-      | else-is_straight+in_ok-arrive+in_ok-go_on w ↦
-          let here = held w.arrive.new.front in
-          let new = held w.go_on.new.front in
+      | else-is_straight+in_ok-go_over w ↦
+          let here = w.in_ok-go_over.ensures.0 in
+          let new = held w.go_over.new.front in
           let r = w.index-powers-index-else-is_straight in
-          let a = subst (λ p. IsArrived p k f here) (sym (read-power powers k r.result r.is (omega (arith, c.requires.ready.count, sp.inside)))) w.in_ok-arrive.ensures in
-          let g = subst (λ y. IsGone t o y (edges_at t k) k last here new) c.at-way.ensures w.in_ok-go_on.ensures in
-          let best = arrived t o h s k f here powers is c.requires.ready c.loop-index.invariant.front (omega (arith, sp.low)) (omega (arith, sp.within)) (omega (arith, sp.inside)) a in
-          let next = subst (λ y. IsTurned (moved o y (edges_at t k).next_lag) c.loop-index.back here.base (edges_at t k).next c.args.j.head w.turn.new.back) (sym way)
-          (subst (λ e. IsTurned (moved o (option_map (λ m. m.now) c.at-way.result) e.next_lag) c.loop-index.back here.base e.next c.args.j.head w.turn.new.back) c.edges_at-edges.ensures
-          (subst (λ m. IsTurned (moved o (option_map (λ m. m.now) c.at-way.result) c.edges_at-edges.result.next_lag) c.loop-index.back m c.edges_at-edges.result.next c.args.j.head w.turn.new.back) w.deref.ensures w.turn.ensures)) in
-          let jump = subst (λ y. IsTurned (moved o y 3) w.turn.new.back here.base (edges_at t k).jump c.args.j.head w.turn-else-is_straight.new.back) (sym way)
-          (subst (λ e. IsTurned (moved o (option_map (λ m. m.now) c.at-way.result) 3) w.turn.new.back here.base e.jump c.args.j.head w.turn-else-is_straight.new.back) c.edges_at-edges.ensures
-          (subst (λ m. IsTurned (moved o (option_map (λ m. m.now) c.at-way.result) 3) w.turn.new.back m c.edges_at-edges.result.jump c.args.j.head w.turn-else-is_straight.new.back) w.deref-else-is_straight.ensures w.turn-else-is_straight.ensures)) in
+          let a = subst (λ p. IsArrived p k f here) (sym (read-power powers k r.result r.is (omega (arith, c.requires.ready.count, sp.inside)))) w.in_ok-go_over.ensures.1 in
+          let g = subst (λ y. IsGone t o y (edges_at t k) k last here new) c.at-way.ensures w.in_ok-go_over.ensures.2 in
+          let best = subst (λ m. IsBest (entry m) (Reaches (net x) s (address t k))) (sym g.base) (arrived t o h s k f here powers is c.requires.ready c.loop-index.invariant.front (omega (arith, sp.low)) (omega (arith, sp.within)) (omega (arith, sp.inside)) a) in
+          let turns = subst (λ y. TurnedBy o y (edges_at t k) c.loop-index.back new.base c.args.j.head w.turn_edges.new.back) (sym way)
+          (subst (λ e. TurnedBy o (option_map (λ m. m.now) c.at-way.result) e c.loop-index.back new.base c.args.j.head w.turn_edges.new.back) c.edges_at-edges.ensures
+          (subst (λ m. TurnedBy o (option_map (λ m. m.now) c.at-way.result) c.edges_at-edges.result c.loop-index.back m c.args.j.head w.turn_edges.new.back) w.deref.ensures w.turn_edges.ensures)) in
           record {
             front = subst (λ n. IsFront x t s (k + 1) (held n)) (sym w.front-is) (gone t o h s first last k f here new powers is c.requires.ready sp (omega arith) (omega arith) c.loop-index.invariant.front a g);
             back = subst (λ b. IsBest (entry b) (Turns x c.args.j (Below x (address t (k + 1))))) (sym w.back-is)
                 (turns-word t o h c.args.j k is c.requires.reached c.requires.ready.part
-                (turned c.args.j (address t k) (edges_at t k).jump 3 c.requires.reached c.requires.ready.part best jump
-                (turned c.args.j (address t k) (edges_at t k).next (edges_at t k).next_lag c.requires.reached c.requires.ready.part best next c.loop-index.invariant.back)));
+                (turned c.args.j (address t k) (edges_at t k).jump 3 c.requires.reached c.requires.ready.part best turns.2
+                (turned c.args.j (address t k) (edges_at t k).next (edges_at t k).next_lag c.requires.reached c.requires.ready.part best turns.1 c.loop-index.invariant.back)));
           }
     ]
 
