@@ -1,4 +1,5 @@
 use Rattle.std.proofs.Common.{◌≡◌, arith, sym, ◌∙◌, false, true}
+use Rattle.std.proofs.lemmas.Grind.{common_steps}
 use Rattle.bound_calc.specs.Bound.{positions}
 use Rattle.bound_calc.proofs.StepLaws.{own-position, position-own}
 use Rattle.bound_calc.proofs.steps.hop.Goals as goal
@@ -12,3 +13,9 @@ returns-then-position-count-clause-all c = λ d q t. absurd (elim c.then-positio
 
 pub distance-cost-requires-clause-own : goal.distance-cost-requires-clause-own
 distance-cost-requires-clause-own c = own-position (positions c.args.slots.now c.args.thread) c.args.position (omega (arith, c.frame_len.ensures, c.from-count.ensures)) (c.is_own.ensures.0 c.if-not-is_own.false)
+
+pub returns-clause-found : goal.returns-clause-found
+returns-clause-found c = grind (arith, common_steps)
+
+pub returns-clause-all : goal.returns-clause-all
+returns-clause-all c = grind (arith, common_steps)
