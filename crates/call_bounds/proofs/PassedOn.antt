@@ -16,6 +16,11 @@ pub no-success : {A E : Type 0} (r : Result A E) (P : Type 0) (Q : E → Type 0)
 no-success (Ok value) P Q h = absurd h
 no-success (Err why) P Q h = tt
 
+-- what holds anyway is told of a success
+pub any-success : {A E : Type 0} (r : Result A E) (P : Type 0) → P → OnOk r P
+any-success (Ok value) P p = p
+any-success (Err why) P p = tt
+
 -- an error is told as it was
 pub told-as : {A E : Type 0} (P : E → Type 0) (r : Result A E) (why : E) → IsErrAnd r (λ told. told ≡ why) → P why → IfErr r P
 told-as P (Ok value) why h is = absurd h

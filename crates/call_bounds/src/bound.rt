@@ -1,6 +1,6 @@
 //! The bound of a section through its calls.
 
-ghost use Rattle.std.specs.Prelude.{◌≡◌, ℕ, ◌<◌, ◌≤◌, ◌^◌, length, Contains, IfOk, IfErr, MatchResult};
+ghost use Rattle.std.specs.Prelude.{◌≡◌, ℕ, ◌<◌, ◌≤◌, ◌^◌, length, None, Contains, IfOk, IfErr, MatchResult, OnOk};
 ghost use Rattle.std.specs.Option.{option_map};
 ghost use Rattle.rv_decode.specs.Lag.{redirect_lag};
 ghost use Rattle.slot_table.specs.Frame.{frame};
@@ -10,7 +10,10 @@ ghost use Rattle.bound_calc.specs.Bound.{positions};
 ghost use Rattle.bound_calc.specs.declared.cycle_bound.BoundNo.TheVariants.{Overflow};
 ghost use Rattle.bound_calc.specs.Matrices.{entry};
 ghost use Rattle.bound_calc.specs.Passing.{leaves, moved, ways_on};
+ghost use Rattle.call_bounds.specs.CallRefusals.{IsCallable, IsListing};
 ghost use Rattle.call_bounds.specs.CallWalk.{IsCallBound, IsTooCostly};
+ghost use Rattle.call_bounds.specs.Listing.{calls};
+ghost use Rattle.call_bounds.specs.Patched.{part_tree};
 ghost use Rattle.call_bounds.specs.Summaries.{Any, AreKnown, AreSummaries, IsMost, LeavesAt, When, route};
 
 use crate::summary::{Summaries, callees, deep, summaries_of};
@@ -61,6 +64,28 @@ fn leaving(part: &LoopTree, steps: &Steps, ways: &Ways, at: &[Matrix], onto: &Ma
     out
 }
 
+/// The largest cost of a walk of the section, by its tree and from what calls cost.
+fn most_in(
+    alloc: Global,
+    tree: &CallTree,
+    part: &LoopTree,
+    steps: &Steps,
+    done: &Summaries,
+) -> Result<u128, AllocError>
+    requires part { part.now ≡ part_tree (calls tree.now) None }
+    requires slot { (p : ℕ) × IsOwn steps.now p }
+    requires done { AreSummaries tree.now steps.now done.now.through.items done.now.deep.items }
+    requires known { AreKnown tree.now steps.now (λ k. Unit {0}) done.now.through.items
+        done.now.deep.items }
+    ensures { IfOk result (IsMost (route tree.now steps.now)) }
+{
+    let callees = callees(alloc, tree, part.section())?;
+    let ways = Ways::new(&callees, &done.through);
+    let at = reach(alloc, part, steps, &ways)?;
+    let ended = deep(&Ways::new(&callees, &done.deep), &at);
+    Ok(largest(&leaving(part, steps, &ways, &at, &ended), 0))
+}
+
 /// The largest cost of a walk of the section, from what calls cost.
 fn most(alloc: Global, tree: &CallTree, steps: &Steps, done: &Summaries) -> Result<u128, AllocError>
     requires slot { (p : ℕ) × IsOwn steps.now p }
@@ -69,14 +94,20 @@ fn most(alloc: Global, tree: &CallTree, steps: &Steps, done: &Summaries) -> Resu
         done.now.deep.items }
     ensures { IfOk result (IsMost (route tree.now steps.now)) }
 {
-    let Some(part) = tree.tree(0) else {
-        return Ok(0);
-    };
-    let callees = callees(alloc, tree, part.section())?;
-    let ways = Ways::new(&callees, &done.through);
-    let at = reach(alloc, part, steps, &ways)?;
-    let ended = deep(&Ways::new(&callees, &done.deep), &at);
-    Ok(largest(&leaving(part, steps, &ways, &at, &ended), 0))
+    match tree.tree(0) {
+        Some(part) => most_in(alloc, tree, part, steps, done),
+        None => Ok(0),
+    }
+}
+
+/// The largest cost of a walk of the section.
+fn largest_cost(alloc: Global, tree: &CallTree, steps: &Steps) -> Result<u128, AllocError>
+    requires { (p : ℕ) × IsOwn steps.now p }
+    ensures most { IfOk result (IsMost (route tree.now steps.now)) }
+    ensures rules { OnOk result (IsListing (calls tree.now) × IsCallable (calls tree.now)) }
+{
+    let done = summaries_of(alloc, tree, steps)?;
+    most(alloc, tree, steps, &done)
 }
 
 /// A bound in 64 bits, if it has no more.
@@ -110,6 +141,5 @@ pub fn call_bound(
     ensures refused { IfErr result (IsTooCostly (route tree.now (positions slots.now thread))) }
 {
     let steps = Steps::new(*slots, thread);
-    let done = summaries_of(alloc, tree, &steps)?;
-    in_64_bits(most(alloc, tree, &steps, &done)?)
+    in_64_bits(largest_cost(alloc, tree, &steps)?)
 }

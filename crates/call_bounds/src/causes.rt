@@ -1,6 +1,6 @@
 //! Why parts are refused.
 
-ghost use Rattle.std.specs.Prelude.{◌≡◌, ◌<◌, IfOk, IfErr, OnOk, MatchResult};
+ghost use Rattle.std.specs.Prelude.{◌≡◌, ◌<◌, [], ◌∷◌, ◌++◌, IfOk, IfErr, OnOk, MatchResult};
 ghost use Rattle.call_bounds.specs.Build.{AreReached, AreTreesTo, IsCauseOf, IsFirst, IsTried, joined, no_causes};
 ghost use Rattle.call_bounds.specs.CallRefused.{ArePartsAllowed, IsTreeRefused};
 ghost use Rattle.call_bounds.specs.Listing.{ArePartTrees, calls, part_count};
@@ -112,6 +112,14 @@ struct Trees {
     causes: Causes,
 }
 
+/// Puts the tree of one more part, if it has one, behind those before it.
+fn push_tree(trees: &mut Vec<Option<LoopTree>>, tree: Option<LoopTree>) -> Result<(), AllocError>
+    ensures { OnOk result (trees.new.items ≡ trees.old.items ++ tree ∷ []) }
+{
+    trees.push(tree)?;
+    Ok(())
+}
+
 /// Builds the trees of the reached parts.
 fn try_parts(alloc: Global, code: &Code, reached: &[bool]) -> Result<Trees, CallNo>
     requires { AreReached code.now reached.now }
@@ -124,7 +132,7 @@ fn try_parts(alloc: Global, code: &Code, reached: &[bool]) -> Result<Trees, Call
     for part in 0..code.part_count() {
         let tried = try_part(alloc, code, reached, part)?;
         causes = causes.join(tried.causes);
-        trees.push(tried.tree).map_err(AllocError::from)?;
+        push_tree(&mut trees, tried.tree)?;
     }
     Ok(Trees { trees, causes })
 }

@@ -1,6 +1,6 @@
 //! What walks of routines cost, between the frame positions at which they begin and end.
 
-ghost use Rattle.std.specs.Prelude.{◌≡◌, ℕ, ◌+◌, ◌-◌, ◌*◌, ◌/◌, ◌<◌, ◌≤◌, length, IfOk, OnOk};
+ghost use Rattle.std.specs.Prelude.{◌≡◌, ℕ, ◌+◌, ◌-◌, ◌*◌, ◌/◌, ◌<◌, ◌≤◌, None, length, replicate, IfOk, OnOk};
 ghost use Rattle.std.specs.Option.{option_map};
 ghost use Rattle.region_tree.specs.Tree.{IsSection};
 ghost use Rattle.bound_calc.specs.Best.{Either, In, IsBest};
@@ -181,6 +181,18 @@ fn summarise_rank(
     Ok(())
 }
 
+/// Nothing is known yet of what calls of any of so many parts cost.
+fn none_known(alloc: Global, count: usize) -> Result<Summaries, AllocError>
+    ensures { IfOk result (λ none.
+        (none.through.items ≡ replicate count (record { best = replicate 8 (replicate 8 None) })) ×
+        (none.deep.items ≡ replicate count (record { best = replicate 8 (replicate 8 None) }))) }
+{
+    Ok(Summaries {
+        through: vec![in alloc; Matrix::NONE; count]?,
+        deep: vec![in alloc; Matrix::NONE; count]?,
+    })
+}
+
 /// What calls of the reached routines cost: those first that call no other.
 ///
 /// # Errors
@@ -194,10 +206,7 @@ pub fn summaries_of(alloc: Global, tree: &CallTree, steps: &Steps) -> Result<Sum
 {
     let count = tree.part_count();
     let ranks = tree.ranks();
-    let mut done = Summaries {
-        through: vec![in alloc; Matrix::NONE; count]?,
-        deep: vec![in alloc; Matrix::NONE; count]?,
-    };
+    let mut done = none_known(alloc, count)?;
     for rank in 0..count + 1 {
         summarise_rank(alloc, tree, steps, ranks, rank, &mut done)?;
     }

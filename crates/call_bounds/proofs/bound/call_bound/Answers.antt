@@ -10,31 +10,22 @@ use Rattle.call_bounds.proofs.bound.call_bound.Goals as goal
 pub returns-clause-bound : goal.returns-clause-bound
 returns-clause-bound c =
     let l = c.args.tree.now in
-    let d = c.in_ok-done.ensures.done in
-    let m = subst (λ (s : Positions). IsMost (route l s) c.in_ok-most.field-0) c.new-steps.ensures c.in_ok-most.ensures in
-    answer-bound (route l (positions c.args.slots.now c.args.thread)) c.in_ok-most.field-0 c.in_64_bits.result (parts (calls l) d.listing d.callable) m c.in_64_bits.ensures
+    let rules = c.in_ok-largest_cost.ensures.rules in
+    let m = subst (λ (s : Positions). IsMost (route l s) c.in_ok-largest_cost.field-0) c.new-steps.ensures c.in_ok-largest_cost.ensures.most in
+    answer-bound (route l (positions c.args.slots.now c.args.thread)) c.in_ok-largest_cost.field-0 c.in_64_bits.result (parts (calls l) rules.0 rules.1) m c.in_64_bits.ensures
 
 pub returns-clause-refused : goal.returns-clause-refused
 returns-clause-refused c =
     let l = c.args.tree.now in
-    let d = c.in_ok-done.ensures.done in
-    let m = subst (λ (s : Positions). IsMost (route l s) c.in_ok-most.field-0) c.new-steps.ensures c.in_ok-most.ensures in
-    answer-refused (route l (positions c.args.slots.now c.args.thread)) c.in_ok-most.field-0 c.in_64_bits.result (parts (calls l) d.listing d.callable) m c.in_64_bits.ensures
+    let rules = c.in_ok-largest_cost.ensures.rules in
+    let m = subst (λ (s : Positions). IsMost (route l s) c.in_ok-largest_cost.field-0) c.new-steps.ensures c.in_ok-largest_cost.ensures.most in
+    answer-refused (route l (positions c.args.slots.now c.args.thread)) c.in_ok-largest_cost.field-0 c.in_64_bits.result (parts (calls l) rules.0 rules.1) m c.in_64_bits.ensures
 
-pub most-requires-clause-slot : goal.most-requires-clause-slot
-most-requires-clause-slot c = own-position c.args.slots.now c.args.thread c.new-steps.result c.requires.slot c.new-steps.ensures
+pub largest_cost-requires : goal.largest_cost-requires
+largest_cost-requires c = own-position c.args.slots.now c.args.thread c.new-steps.result c.requires.slot c.new-steps.ensures
 
-pub most-requires-clause-done : goal.most-requires-clause-done
-most-requires-clause-done c = c.in_ok-done.ensures.done
-
-pub most-requires-clause-known : goal.most-requires-clause-known
-most-requires-clause-known c = c.in_ok-done.ensures.known
-
-pub returns-in_err-done : goal.returns-in_err-done
-returns-in_err-done c = let z = no-memory (route c.args.tree.now (positions c.args.slots.now c.args.thread)) c.from_residual.result c.from_residual.ensures.1 in record { bound = z.0; refused = z.1 }
-
-pub returns-in_err-most : goal.returns-in_err-most
-returns-in_err-most c = let z = no-memory (route c.args.tree.now (positions c.args.slots.now c.args.thread)) c.from_residual-in_err-most.result c.from_residual-in_err-most.ensures.1 in record { bound = z.0; refused = z.1 }
+pub returns-in_err-largest_cost : goal.returns-in_err-largest_cost
+returns-in_err-largest_cost c = let z = no-memory (route c.args.tree.now (positions c.args.slots.now c.args.thread)) c.from_residual.result c.from_residual.ensures.1 in record { bound = z.0; refused = z.1 }
 
 pub new-steps-requires : goal.new-steps-requires
 new-steps-requires c = c.requires.thread

@@ -1,4 +1,4 @@
-use Rattle.std.proofs.Common.{◌≡◌, ◌+◌, arith, rules, refl, sym, subst, [], ◌∷◌, ◌++◌}
+use Rattle.std.proofs.Common.{◌≡◌, ◌+◌, arith, refl, sym, subst}
 use Rattle.call_bounds.specs.Build.{AreTreesTo}
 use Rattle.call_bounds.specs.Listing.{part_count}
 use Rattle.call_bounds.specs.declared.tree.CallNo.TheVariants.{NoMemory}
@@ -8,9 +8,8 @@ use Rattle.call_bounds.proofs.causes.try_parts.Goals as goal
 
 pub loop-part-preserved : goal.loop-part-preserved
 loop-part-preserved c =
-    let pushed : c.push.new.self.items ≡ c.loop-part.trees.items ++ c.in_ok-tried.tried.tree ∷ [] = search rules in
-    subst (AreTreesTo c.args.code.now (c.loop-part.part + 1) c.push.new.self.items) (sym c.join-causes.ensures)
-    (trees-next c.args.code.now c.loop-part.part c.loop-part.trees.items c.push.new.self.items c.in_ok-tried.tried.tree c.loop-part.causes c.in_ok-tried.tried.causes pushed c.in_ok-tried.ensures.tried c.loop-part.invariant)
+    subst (AreTreesTo c.args.code.now (c.loop-part.part + 1) c.push_tree.new.trees.items) (sym c.join-causes.ensures)
+    (trees-next c.args.code.now c.loop-part.part c.loop-part.trees.items c.push_tree.new.trees.items c.in_ok-tried.tried.tree c.loop-part.causes c.in_ok-tried.tried.causes c.in_ok-push_tree.ensures c.in_ok-tried.ensures.tried c.loop-part.invariant)
 
 pub try_part-requires-clause-part : goal.try_part-requires-clause-part
 try_part-requires-clause-part c = omega (arith, c.loop-part-test.true, c.part_count-part-end.ensures.value)
@@ -21,10 +20,10 @@ returns-in_err-tried c =
     let no = c.from_residual.ensures.1 in
     record { trees = no-value r _ _ no; memory = told-as (λ why. why ≡ NoMemory) r c.in_err-tried.field-0.0 no c.in_err-tried.ensures.memory }
 
-pub returns-in_err-map_err : goal.returns-in_err-map_err
-returns-in_err-map_err c =
-    let r = c.from_residual-in_err-map_err.result in
-    let no = c.from_residual-in_err-map_err.ensures.1 in
+pub returns-in_err-push_tree : goal.returns-in_err-push_tree
+returns-in_err-push_tree c =
+    let r = c.from_residual-in_err-push_tree.result in
+    let no = c.from_residual-in_err-push_tree.ensures.1 in
     record { trees = no-value r _ _ no; memory = told-as (λ why. why ≡ NoMemory) r NoMemory no refl }
 
 pub returns-clause-trees : goal.returns-clause-trees

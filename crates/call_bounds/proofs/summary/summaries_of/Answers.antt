@@ -4,8 +4,8 @@ use Rattle.call_bounds.proofs.summary.summaries_of.Goals as goal
 
 pub loop-rank-init : goal.loop-rank-init
 loop-rank-init c = record {
-  all = summaries-none c.args.tree.now c.args.steps.now c.part_count-count.result c.in_ok-vec.field-0.items c.in_ok-vec-2.field-0.items c.part_count-count.ensures.listing c.part_count-count.ensures.callable c.part_count-count.ensures.value (c.in_ok-vec.ensures.items_if_clones_equal (λ y h. h)) (c.in_ok-vec-2.ensures.items_if_clones_equal (λ y h. h));
-  known = known-none c.args.tree.now c.args.steps.now c.ranks-ranks.result.now c.in_ok-vec.field-0.items c.in_ok-vec-2.field-0.items;
+  all = summaries-none c.args.tree.now c.args.steps.now c.part_count-count.result c.in_ok-done.done.through.items c.in_ok-done.done.deep.items c.part_count-count.ensures.listing c.part_count-count.ensures.callable c.part_count-count.ensures.value c.in_ok-done.ensures.0 c.in_ok-done.ensures.1;
+  known = known-none c.args.tree.now c.args.steps.now c.ranks-ranks.result.now c.in_ok-done.done.through.items c.in_ok-done.done.deep.items;
 }
 
 pub returns-clause-known : goal.returns-clause-known
