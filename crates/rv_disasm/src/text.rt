@@ -1,7 +1,8 @@
 //! The text of a word.
 
 ghost use Rattle.std.specs.Prelude.{◌≡◌};
-ghost use Rattle.rv_disasm.specs.Parts.{line_text};
+ghost use Rattle.rv_disasm.specs.Names.{store_name};
+ghost use Rattle.rv_disasm.specs.Parts.{line, line_text, with_memory};
 ghost use Rattle.rv_disasm.specs.Text.{branch_line, fence_line, jump_line, line_of, target};
 ghost use Rattle.rv_disasm.specs.Text.{text_at as text_of};
 
@@ -11,7 +12,7 @@ use crate::operands::{
     with_memory, with_number, word_line,
 };
 use arrayvec::ArrayString;
-use rv_decode::{BranchOp, Ins, decode};
+use rv_decode::{BranchOp, Ins, StoreOp, decode};
 
 /// The text of a word at its address: its mnemonic with its operands, a branch's or a jump's target
 /// as an address. A word that the assembler has no text for is `.word` with the word: one that is
@@ -55,6 +56,13 @@ fn branch_line(pc: u32, word: u32, op: BranchOp, rs1: u8, rs2: u8, off: i32) -> 
     }
 }
 
+/// The text of a store: the register with the value, then where it goes.
+fn store_line(op: StoreOp, rs1: u8, rs2: u8, imm: i32) -> ArrayString<96>
+    ensures { result.bytes ≡ line_text (line (store_name op) (with_memory rs2 imm rs1)) }
+{
+    with_memory(store_name(op), rs2, imm, rs1)
+}
+
 /// The text of a FENCE or a FENCE.I.
 fn fence_line(word: u32) -> ArrayString<96>
     ensures { result.bytes ≡ line_text (fence_line word) }
@@ -78,7 +86,7 @@ fn line_of(pc: u32, word: u32, i: &Ins) -> ArrayString<96>
         Ins::Jalr { rd, rs1, imm } => with_memory("jalr", rd, imm, rs1),
         Ins::Branch { op, rs1, rs2, off } => branch_line(pc, word, op, rs1, rs2, off),
         Ins::Load { op, rd, rs1, imm } => with_memory(load_name(op), rd, imm, rs1),
-        Ins::Store { op, rs1, rs2, imm } => with_memory(store_name(op), rs2, imm, rs1),
+        Ins::Store { op, rs1, rs2, imm } => store_line(op, rs1, rs2, imm),
         Ins::OpImm { op, rd, rs1, imm } => with_number(imm_name(op), rd, rs1, imm),
         Ins::Shift {
             op,
