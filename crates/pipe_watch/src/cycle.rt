@@ -2,7 +2,6 @@
 
 use arrayvec::ArrayString;
 use pipeline_core::{Held, Stored};
-use rv_disasm::text_at;
 use rv_exec::Effect;
 use slot_table::Turn;
 
@@ -84,14 +83,6 @@ impl Cycle {
         match *self.turn() {
             Held::Issue { what, .. } => matches!(what.effect, Some(Effect::Trap { .. })),
             _ => false,
-        }
-    }
-
-    /// The text of the picked turn's word at its address; none where it has no word.
-    pub fn instruction(&self) -> ArrayString<96> {
-        match *self.turn() {
-            Held::Issue { what, .. } => text_at(what.pc, what.word),
-            _ => ArrayString::new(),
         }
     }
 
