@@ -128,15 +128,6 @@ fn argument<'a>(alloc: Global, row: &ArgumentRow) -> Arg<'a> {
     }
 }
 
-/// The arguments of `turns`.
-fn turns_arguments<'a>(alloc: Global) -> Result<Vec<Arg<'a>>, AllocError> {
-    let mut arguments = Vec::new(alloc);
-    for row in &TURNS_ARGUMENTS {
-        arguments.push(argument(alloc, row))?;
-    }
-    Ok(arguments)
-}
-
 /// The group of the options of which one is given at most.
 fn forms_group<'a>(alloc: Global) -> Result<ArgGroup<'a>, AllocError> {
     let names: &[&'a str] = &FORMS;
@@ -153,8 +144,11 @@ fn bare_turns<'a>(alloc: Global) -> Command<'a> {
 /// The command `turns`.
 fn turns_command<'a>(alloc: Global) -> Result<Command<'a>, AllocError> {
     let forms = forms_group(alloc)?;
-    let arguments = turns_arguments(alloc)?;
-    bare_turns(alloc).args(arguments)?.group(forms)
+    let mut turns = bare_turns(alloc).group(forms)?;
+    for row in &TURNS_ARGUMENTS {
+        turns = turns.arg(argument(alloc, row))?;
+    }
+    Ok(turns)
 }
 
 /// The program without its commands.
