@@ -1,6 +1,6 @@
 //! The cycles that are shown.
 
-ghost use Rattle.std.specs.Prelude.{◌≡◌, ◌+◌, ◌≤◌};
+ghost use Rattle.std.specs.Prelude.{◌≡◌, ◌+◌, ◌<◌, ◌≤◌, MatchOption};
 ghost use Rattle.timer_unit.specs.Time.{most_cycles};
 
 use timer_unit::MOST_CYCLES;
@@ -22,7 +22,10 @@ impl Window {
     pub const MOST: u64 = MOST_CYCLES - UNTIL_WHOLE;
 
     /// The window of these cycles, if it is one: not empty, and before the last cycle.
-    pub fn new(from: u64, to: u64) -> Option<Window> {
+    pub fn new(from: u64, to: u64) -> Option<Window>
+        ensures { MatchOption result (from < to → to + 3 ≤ most_cycles → ⊥)
+            (λ window. (from < to) × (window.from ≡ from) × (window.to ≡ to)) }
+    {
         if from < to && to <= Window::MOST {
             Some(Window { from, to })
         } else {
@@ -47,7 +50,9 @@ impl Window {
     }
 
     /// How many cycles it has.
-    pub fn len(&self) -> u64 {
+    pub fn len(&self) -> u64
+        ensures { self.now.from + result ≡ self.now.to }
+    {
         self.to - self.from
     }
 
