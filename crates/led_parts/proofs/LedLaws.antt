@@ -1,6 +1,6 @@
 -- Meeting callees until nothing is new.
-use Rattle.std.proofs.Common.{◌≡◌, ◌≢◌, ℕ, ◌+◌, ◌<◌, ◌≤◌, ◌⊎◌, refl, arith, inl, inr, ap, sym, subst, ◌∙◌, cond, if◌then◌else◌, Bool, true, false, List, length, slice_set, get_or-set_other, get_or-set_same, length-set}
-use Rattle.std.proofs.lemmas.List.{get_or_past}
+use Rattle.std.proofs.Common.{◌≡◌, ◌≢◌, ℕ, zero, suc, ◌+◌, ◌<◌, ◌≤◌, ◌⊎◌, refl, arith, inl, inr, ap, sym, subst, ◌∙◌, cond, if◌then◌else◌, Bool, true, false, List, [], length, replicate, slice_index_or, slice_set, get_or-set_other, get_or-set_same, length-set}
+use Rattle.std.proofs.lemmas.List.{get_or_default, get_or_past, length-replicate}
 use Rattle.std.proofs.lemmas.List.Sums.{sum_by-set}
 use Rattle.led_parts.specs.Led.{DoesCall, IsClosed, IsExact, IsSound, Led, Spread, SpreadMet, Swept, is_met, unmet}
 
@@ -17,6 +17,19 @@ met-within met k h = go (let z : (k < length met) ⊎ (length met ≤ k) = grind
     go : (k < length met) ⊎ (length met ≤ k) → k < length met
     go (inl lt) = lt
     go (inr past) = absurd (differ (is_met met k) h (get_or_past met k false past))
+
+-- a mark, as it is read
+pub mark-at : (met : List Bool) (k : ℕ) (b : Bool) → k < length met → b ≡ slice_index_or met k b → is_met met k ≡ b
+mark-at met k b within e = get_or_default met k false b within ∙ sym e
+
+none-at : (n k : ℕ) → is_met (replicate n false) k ≡ false
+none-at zero k = get_or_past [] k false (omega arith)
+none-at (suc n) zero = refl
+none-at (suc n) (suc k) = none-at n k
+
+-- so many marks, of which none is set
+pub none-met : (n : ℕ) (met : List Bool) → met ≡ replicate n false → (length met ≡ n) × ((k : ℕ) → is_met met k ≡ false)
+none-met n met e = (ap length e ∙ length-replicate n false, λ k. ap (λ m. is_met m k) e ∙ none-at n k)
 
 pub spread-start : (n : ℕ) (table : List Bool) (j : ℕ) (met : List Bool) → length met ≡ n → Spread n table j 0 met met false
 spread-start n table j met count = record { count = count; grows = λ k h. h; here = λ k lt h. absurd (omega arith); from = λ k h. inl h; same = λ e. refl; less = λ e. cc; fewer = omega arith }
