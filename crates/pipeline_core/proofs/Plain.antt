@@ -1,5 +1,5 @@
 -- An issue that leaves what its thread owns changes nothing of the control.
-use Rattle.std.proofs.Common.{◌≡◌, ◌≢◌, ◌==◌, ℕ, if◌then◌else◌, Some, None, refl, arith}
+use Rattle.std.proofs.Common.{◌≡◌, ◌≢◌, ◌==◌, ℕ, Bool, true, false, if◌then◌else◌, Some, None, refl, arith}
 use Rattle.std.proofs.lemmas.Bool.Decides.{nat_tests}
 use Rattle.std.specs.Prelude.{Option}
 use Rattle.std.proofs.lemmas.List.{set-get_or}
@@ -14,6 +14,9 @@ use Rattle.hart_exec.specs.AsDefined.{executed_as_defined, IsPlain}
 use Rattle.pipe_model.specs.declared.stage_registers.Held.TheVariants.{Issue}
 use Rattle.pipe_model.specs.declared.stage_registers.Decoded.{Decoded}
 use Rattle.pipe_model.specs.declared.stage_registers.Executed as stage
+use Rattle.pipe_model.specs.declared.stage_registers.Redirect.{Redirect}
+use Rattle.pipe_model.specs.declared.stage_registers.Way.{Way}
+use Rattle.pipe_model.specs.declared.stage_registers.Way.TheVariants.{LateValue, Elsewhere}
 use Rattle.pipe_model.specs.Stages.{Control, own_in, executed, controlled, redirect_of, executes}
 
 registers-left : (e : Option Effect) (r : Registers) → IsPlain e → registers_after e r ≡ r
@@ -45,3 +48,11 @@ pub shown_executed : (x : Decoded) (done : Executed) → done.word ≢ 0 →
     let l : stage.Executed = record { pc = x.pc; word = done.word; a = x.a; b = x.b; address = done.address; effect = done.effect } in
     l ≡ executed x (executed_as_defined no_own done)
 shown_executed x done h = rw (← source done.word x.a h, ← source done.word x.b h) refl
+
+-- the redirect of a thread whose next turns are flushed in a way
+pub redirecting : (plain late : Bool) (k pc : ℕ) (way : Way) → Some way ≡ (if plain then None else Some (if late then LateValue else Elsewhere)) →
+    let told : Redirect = record { thread = k; pc = pc; way = if late then LateValue else Elsewhere } in
+    let to : Redirect = record { thread = k; pc = pc; way = way } in
+    (if plain then None else Some told) ≡ Some to
+redirecting true late k pc way h = cc
+redirecting false late k pc way h = cc

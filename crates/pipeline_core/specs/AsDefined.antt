@@ -1,5 +1,5 @@
 -- The code's values as those of the definitions.
-use Rattle.std.specs.Prelude.{List, Option}
+use Rattle.std.specs.Prelude.{ℕ, ◌-◌, List, Option}
 use Rattle.fp_ports.specs.Rows.{Row}
 use Rattle.rv_exec.specs.declared.outcome.Event.{Event}
 use Rattle.region_guard.specs.declared.access.Guard.{Guard}
@@ -7,7 +7,10 @@ use Rattle.slot_scheduler.specs.declared.picking.Sched.{Sched}
 use Rattle.timer_unit.specs.declared.row.Timer.{Timer}
 use Rattle.core_model.specs.declared.own.Trapping.{Trapping}
 use Rattle.world_model.specs.World.{Registers}
-use Rattle.pipe_model.specs.Stages.{StageRegisters, Control, State, Ticked}
+use Rattle.timer_unit.specs.Time.{time}
+use Rattle.pipe_model.specs.declared.stage_registers.Held.{Held}
+use Rattle.pipe_model.specs.declared.stage_registers.Decoded.{Decoded}
+use Rattle.pipe_model.specs.Stages.{StageRegisters, Control, State, Ticked, After, execute_stage}
 use Rattle.pipeline_core.specs.declared.pipe.Pipe.{Pipe}
 use Rattle.pipeline_core.specs.declared.units.Units.{Units}
 
@@ -22,6 +25,10 @@ registers_as_defined s g = record { slots = s.slots; modes = s.modes; dregions =
 -- what the execute stage reads and writes
 abbrev pub control_as_defined : Sched → Guard → List Timer → List Trapping → Control
 control_as_defined s g timers traps = record { registers = registers_as_defined s g; timers = timers; traps = traps; sleeps = s.sleep }
+
+-- what the execute stage makes of a turn in a cycle
+abbrev pub executed_by : Units → ℕ → Held Decoded → After
+executed_by u cycle d = execute_stage u.guard.size u.confined u.permit (time u.clock (cycle - 2)) (control_as_defined u.sched u.guard u.timers u.traps) d
 
 -- what the units hold, beside the ports
 abbrev pub state_as_defined : Units → List (Option Row) → State

@@ -3,7 +3,7 @@
 ghost use Rattle.std.specs.Prelude.{◌≡◌, All};
 ghost use Rattle.std.proofs.Props.{props};
 ghost use Rattle.timer_unit.specs.Time.{most_cycles};
-ghost use Rattle.pipeline_core.specs.StageFacts.{IsPc, FetchedFits, DecodedFits, ExecutedFits, StoredFits, WrittenFits, FetchedFits-prop, DecodedFits-prop, ExecutedFits-prop, StoredFits-prop, WrittenFits-prop};
+ghost use Rattle.pipeline_core.specs.StageFacts.{IsPc, FetchedFits, DecodedFits, ExecutedFits, StoredFits, WrittenFits, RedirectFits, FetchedFits-prop, DecodedFits-prop, ExecutedFits-prop, StoredFits-prop, WrittenFits-prop};
 
 use crate::decode::decode_stage;
 use crate::execute::execute_stage;
@@ -47,16 +47,16 @@ pub struct Pipe {
 }
 
 impl Pipe {
-    ghost use Rattle.std.specs.Prelude.{◌<◌, ◌-◌, List, Option, map, vec_len};
+    ghost use Rattle.std.specs.Prelude.{◌<◌, ◌-◌, if◌then◌else◌, List, Option, Some, None, map, vec_len};
     ghost use Rattle.fp_ports.specs.Rows.{Row, rows_of};
     ghost use Rattle.world_model.specs.World.{Start, start_world};
     ghost use Rattle.slot_scheduler.specs.Picking.{IsPick};
     ghost use Rattle.timer_unit.specs.Time.{time};
-    ghost use Rattle.pipe_model.specs.Stages.{advanced, decode_stage, fetch_stage, retired, step};
+    ghost use Rattle.pipe_model.specs.Stages.{advanced, bank_after, decode_stage, fetch_stage, memory_stage, ports_stored, redirected, retired, step, words_stored, writeback_stage};
     ghost use Rattle.pipe_model.specs.Relation.{Begins, Shows, Stands, Kept, HasLatches};
     ghost use Rattle.pipe_model.specs.PipelineLaws.{empty, first_units};
     ghost use Rattle.pipeline_core.specs.StageFacts.{IsEventShowable};
-    ghost use Rattle.pipeline_core.specs.AsDefined.{stage_registers_as_defined, state_as_defined, ticked_as_defined};
+    ghost use Rattle.pipeline_core.specs.AsDefined.{executed_by, stage_registers_as_defined, state_as_defined, ticked_as_defined};
 
     /// A pipeline with nothing in it, whose threads start at these entries. It stands for cycle 0
     /// of each world whose threads start there, beside units and ports that hold that world's
@@ -117,7 +117,6 @@ impl Pipe {
     /// instructions from each. A program should have one such loop: with a second copy the
     /// compiler leaves calls in both.
     #[inline(always)]
-    #[tactic(auto, unfolding(pipe_model::specs::Stages::step))]
     fn step(&mut self, units: &mut Units, ports: &mut Ports, cycle: u64)
         requires cycle { cycle < most_cycles }
         requires eight { vec_len ports.old ≡ 8 }
@@ -126,6 +125,39 @@ impl Pipe {
             step (stage_registers_as_defined self.old) (state_as_defined units.old
             (rows_of latched word_at ports.old.items)) cycle }
         ensures eight { vec_len ports.new ≡ 8 }
+    {
+        self.older_stages(units, ports, cycle);
+        let now = units.clock.now(cycle);
+        let pick = units.scheduler.pick(&units.sched, cycle, now);
+        let mut redirect = Redirect {
+            thread: 0,
+            pc: 0,
+            way: Way::LateValue,
+        };
+        let redirects = self.execute(units, cycle, &mut redirect);
+        self.younger_stages(units, redirects, redirect, pick, cycle);
+    }
+
+    /// W and M: the turn that M left writes its register, and the one that E left goes to memory
+    /// and to its thread's port.
+    #[inline(always)]
+    fn older_stages(&mut self, units: &mut Units, ports: &mut Ports, cycle: u64)
+        requires eight { vec_len ports.old ≡ 8 }
+        ensures w { self.new.w ≡ writeback_stage self.old.m }
+        ensures m { self.new.m ≡ memory_stage units.old.guard.size units.old.imem units.old.dmem
+            (rows_of latched word_at ports.old.items) (cycle - 3) self.old.e }
+        ensures units { let rows = rows_of latched word_at ports.old.items in
+            state_as_defined units.new (rows_of latched word_at ports.new.items)
+            ≡ record (state_as_defined units.old rows) {
+              bank = bank_after self.old.m units.old.bank;
+              d_words = words_stored units.old.guard.size self.new.m units.old.dmem;
+              ports = ports_stored self.new.m rows;
+            } }
+        ensures eight { vec_len ports.new ≡ 8 }
+        ensures next { self.new.next ≡ self.old.next }
+        ensures f { self.new.f ≡ self.old.f }
+        ensures d { self.new.d ≡ self.old.d }
+        ensures e { self.new.e ≡ self.old.e }
     {
         writeback_stage(&mut units.bank, &self.m, &mut self.w);
         memory_stage(
@@ -137,14 +169,28 @@ impl Pipe {
             &self.e,
             &mut self.m,
         );
-        let now = units.clock.now(cycle);
-        let pick = units.scheduler.pick(&units.sched, cycle, now);
-        let mut redirect = Redirect {
-            thread: 0,
-            pc: 0,
-            way: Way::LateValue,
-        };
-        let redirects = execute_stage(
+    }
+
+    /// E. The answer is whether a thread's next turns are flushed; where they are, `redirect` tells
+    /// where it goes on.
+    #[inline(always)]
+    fn execute(&mut self, units: &mut Units, cycle: u64, redirect: &mut Redirect) -> bool
+        requires cycle { cycle < most_cycles }
+        ensures e { self.new.e ≡ (executed_by units.old cycle self.old.d).e }
+        ensures redirect { (executed_by units.old cycle self.old.d).redirect
+            ≡ (if result then Some redirect.new else None) }
+        ensures units { (ports : List (Option Row)) → state_as_defined units.new ports
+            ≡ record (state_as_defined units.old ports) {
+              control = (executed_by units.old cycle self.old.d).control;
+            } }
+        ensures fits { RedirectFits (if result then Some redirect.new else None) }
+        ensures next { self.new.next ≡ self.old.next }
+        ensures f { self.new.f ≡ self.old.f }
+        ensures d { self.new.d ≡ self.old.d }
+        ensures m { self.new.m ≡ self.old.m }
+        ensures w { self.new.w ≡ self.old.w }
+    {
+        execute_stage(
             &mut units.guard,
             &mut units.sched,
             &mut units.timers,
@@ -155,8 +201,36 @@ impl Pipe {
             cycle,
             &self.d,
             &mut self.e,
-            &mut redirect,
-        );
+            redirect,
+        )
+    }
+
+    /// D and F, by what E tells: where its answer was that a thread's next turns are flushed, that
+    /// thread fetches next where the redirect says.
+    #[inline(always)]
+    fn younger_stages(
+        &mut self,
+        units: &Units,
+        redirects: bool,
+        redirect: Redirect,
+        pick: Pick,
+        cycle: u64,
+    )
+        requires cycle { cycle < most_cycles }
+        requires pick { IsPick pick }
+        requires fits { RedirectFits (if redirects then Some redirect else None) }
+        ensures d { let told = if redirects then Some redirect else None in self.new.d ≡
+            decode_stage units.now.bank self.old.m self.old.e units.now.timers told
+            (time units.now.clock (cycle - 1)) self.old.f }
+        ensures f { let told = if redirects then Some redirect else None in self.new.f ≡
+            fetch_stage units.now.guard.size units.now.imem told
+            (redirected told self.old.next) pick }
+        ensures next { let told = if redirects then Some redirect else None in self.new.next ≡
+            advanced told pick (redirected told self.old.next) }
+        ensures e { self.new.e ≡ self.old.e }
+        ensures m { self.new.m ≡ self.old.m }
+        ensures w { self.new.w ≡ self.old.w }
+    {
         if redirects {
             redirect_to(&mut self.next, redirect);
             self.follow(units, Some(redirect), pick, cycle);

@@ -1,20 +1,15 @@
--- The stages one by one are the step, with and without a redirect.
-use Rattle.pipeline_core.proofs.Stepping.{steps, straight, turned, unturned}
+-- The stages one by one are the step.
+use Rattle.std.proofs.Common.{sym}
+use Rattle.pipeline_core.proofs.Stepping.{steps}
 use Rattle.pipeline_core.proofs.pipe.Pipe.step.Goals as goal
 
-pub returns-then-redirects-clause-step : goal.returns-then-redirects-clause-step
-returns-then-redirects-clause-step g c =
-    let left = c.execute_stage-redirects.ensures in
-    rw (c.follow.ensures.w, c.follow.ensures.m, c.follow.ensures.e)
-    (steps _ _ c.args.cycle _ _ _ _ _ _ _ _ _ _ _ _ _ _ _ _ c.writeback_stage.ensures.bank c.writeback_stage.ensures.stage c.memory_stage.ensures.stage c.memory_stage.ensures.words c.memory_stage.ensures.rows
-    c.now-now.ensures c.pick-pick.ensures.pick c.pick-pick.ensures.pointer left.e (turned _ _ _ left.redirect c.if-redirects.true) left.control
-    left.size c.redirect_to.ensures.next c.follow.ensures.f c.follow.ensures.next c.follow.ensures.d)
-
-pub returns-else-redirects-clause-step : goal.returns-else-redirects-clause-step
-returns-else-redirects-clause-step g c =
-    let left = c.execute_stage-redirects.ensures in
-    let followed = c.follow-else-redirects.ensures in
-    rw (followed.w, followed.m, followed.e)
-    (steps _ _ c.args.cycle _ _ _ _ _ _ _ _ _ _ _ _ _ _ _ _ c.writeback_stage.ensures.bank c.writeback_stage.ensures.stage c.memory_stage.ensures.stage c.memory_stage.ensures.words c.memory_stage.ensures.rows
-    c.now-now.ensures c.pick-pick.ensures.pick c.pick-pick.ensures.pointer left.e (unturned _ _ _ left.redirect c.if-redirects.false) left.control
-    left.size (straight c.args.self.now.next) followed.f followed.next followed.d)
+pub returns-clause-step : goal.returns-clause-step
+returns-clause-step g c =
+    rw (c.younger_stages.ensures.w, c.younger_stages.ensures.m, c.younger_stages.ensures.e, c.execute-redirects.ensures.w, c.execute-redirects.ensures.m)
+    (steps _ _ _ _ c.args.cycle _ _ _ _ _ _ _ _ _ _ c.older_stages.ensures.w c.older_stages.ensures.m c.older_stages.ensures.units
+    c.now-now.ensures c.pick-pick.ensures.pick c.pick-pick.ensures.pointer
+    (rw c.older_stages.ensures.d at c.execute-redirects.ensures.e) (sym (rw c.older_stages.ensures.d at c.execute-redirects.ensures.redirect))
+    (rw c.older_stages.ensures.d at c.execute-redirects.ensures.units _)
+    (rw (c.execute-redirects.ensures.next, c.older_stages.ensures.next) at c.younger_stages.ensures.f)
+    (rw (c.execute-redirects.ensures.next, c.older_stages.ensures.next) at c.younger_stages.ensures.next)
+    (rw (c.execute-redirects.ensures.m, c.execute-redirects.ensures.f, c.older_stages.ensures.f) at c.younger_stages.ensures.d))
