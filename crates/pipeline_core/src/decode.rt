@@ -2,7 +2,9 @@
 
 ghost use Rattle.std.specs.Prelude.{◌≡◌, ◌-◌, ◌<◌, ℕ, List, length};
 ghost use Rattle.timer_unit.specs.Time.{is_due, time, timer_of, most_cycles};
+ghost use Rattle.rv_decode.specs.Table.{ins};
 ghost use Rattle.core_model.specs.Thread.{reg_in};
+ghost use Rattle.core_model.specs.Issue.{source_1, source_2};
 ghost use Rattle.regfile_bank.specs.Registers.{registers_of};
 ghost use Rattle.pipe_model.specs.declared.stage_registers.Held.TheVariants.{Issue};
 ghost use Rattle.pipe_model.specs.Stages.{forward, from_m, from_e, operand, flushes_d, decode_stage};
@@ -97,6 +99,42 @@ fn is_due(timers: &Timers, clock: &Clock, cycle: u64, thread: u8) -> bool
     }
 }
 
+/// An issue with its sources, and whether its thread's armed moment was reached when it was issued,
+/// in the cycle before this one.
+#[inline(always)]
+fn decoded(
+    bank: &Bank,
+    m: &Held<Stored>,
+    e: &Held<Executed>,
+    timers: &Timers,
+    clock: &Clock,
+    cycle: u64,
+    thread: u8,
+    x: &Fetched,
+) -> Decoded
+    requires m { StoredFits m.now }
+    requires e { ExecutedFits e.now }
+    requires cycle { cycle < most_cycles }
+    requires thread { thread < 8 }
+    ensures { result ≡ record {
+      pc = x.now.pc;
+      word = x.now.word;
+      expired = is_due (timer_of timers.now thread).armed (time clock.now (cycle - 1));
+      a = operand bank.now m.now e.now thread (source_1 (ins x.now.word));
+      b = operand bank.now m.now e.now thread (source_2 (ins x.now.word));
+    } }
+{
+    let (rs1, rs2) = sources_in(x.word);
+    let (a, b) = sources(bank, m, e, thread, rs1, rs2);
+    Decoded {
+        pc: x.pc,
+        word: x.word,
+        expired: is_due(timers, clock, cycle, thread),
+        a,
+        b,
+    }
+}
+
 /// Leaves an issue in `d`. Where an issue stands there, as in most cycles, its fields are written
 /// one by one, so that none is written that no field has: that takes two instructions from a cycle.
 #[inline(always)]
@@ -157,14 +195,6 @@ pub fn decode_stage(
         *d = Held::Flushed { thread };
         return;
     }
-    let (rs1, rs2) = sources_in(x.word);
-    let (a, b) = sources(bank, m, e, thread, rs1, rs2);
-    let what = Decoded {
-        pc: x.pc,
-        word: x.word,
-        expired: is_due(timers, clock, cycle, thread),
-        a,
-        b,
-    };
+    let what = decoded(bank, m, e, timers, clock, cycle, thread, x);
     put_decoded(thread, what, d);
 }
