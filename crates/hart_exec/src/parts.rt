@@ -7,7 +7,8 @@ ghost use Rattle.core_model.specs.Traps.{trapped};
 ghost use Rattle.core_model.specs.Outcomes.{plus, load, store, branch, delay, wait};
 ghost use Rattle.rv_exec.specs.Line.{IsPrintable, IsWidth};
 ghost use Rattle.hart_exec.specs.AsDefined.{executed_as_defined, IsShowable, IsAlignedStore, IsPlain};
-ghost use Rattle.hart_exec.specs.declared.outcome.Onward.TheVariants.{Elsewhere};
+ghost use Rattle.hart_exec.specs.declared.outcome.Onward.TheVariants.{Elsewhere, LateValue};
+ghost use Rattle.rv_exec.specs.declared.outcome.Effect.TheVariants.{Nothing};
 
 use crate::outcome::{Executed, Onward, PcWord};
 use core_model::Own;
@@ -145,6 +146,19 @@ pub fn store_at(at: PcWord, address: u32, size: u8, value: u32) -> Executed
             },
         )
     }
+}
+
+/// A multiplication or division.
+pub fn muldiv_at(at: PcWord) -> Executed
+    ensures { result ≡ record {
+      pc = plus at.pc 4;
+      onward = LateValue;
+      word = at.word;
+      address = 0;
+      effect = Some Nothing;
+    } }
+{
+    go_on(at, Onward::LateValue, Effect::Nothing)
 }
 
 /// DU: the thread stays at its word until the moment.

@@ -3,16 +3,17 @@
 
 ghost use Rattle.std.specs.Prelude.{◌≡◌, ◌≢◌, ◌<◌, ◌%◌, ◌^◌, IfSome, is_some};
 ghost use Rattle.rv_decode.specs.Table.{ins};
-ghost use Rattle.rv_exec.specs.Access.{IsAligned, store_size};
+ghost use Rattle.rv_exec.specs.Access.{IsAligned, load_size, store_size};
 ghost use Rattle.core_model.specs.declared.own.Own.{Own};
 ghost use Rattle.core_model.specs.Issue.{execute_untrapped, execute_in};
+ghost use Rattle.core_model.specs.Outcomes.{load, store};
 ghost use Rattle.rv_decode.specs.Range.{InRange};
 ghost use Rattle.hart_exec.specs.AsDefined.{executed_as_defined, is_plain, leaves_own, IsShowable, IsAlignedStore, IsPlain};
 
 use crate::outcome::{Executed, Onward, PcWord, Sources};
-use crate::parts::{branch_on, delay_until, go_on, go_to, load_at, store_at, write_to};
+use crate::parts::{branch_on, delay_until, go_on, go_to, load_at, muldiv_at, store_at, write_to};
 use crate::surroundings::Surroundings;
-use rv_decode::{Ins, StoreOp, decode};
+use rv_decode::{Ins, LoadOp, StoreOp, decode};
 use rv_exec::{Effect, Outcome, execute, load_size, store_size};
 use timer_unit::moment;
 
@@ -25,6 +26,54 @@ fn cut(op: StoreOp, value: u32) -> u32
         StoreOp::Sb => value & 0xff,
         StoreOp::Sh => value & 0xffff,
         StoreOp::Sw => value,
+    }
+}
+
+/// A load; None exactly where it isn't allowed.
+#[inline(always)]
+fn load_plain<S: Surroundings>(around: &S, at: PcWord, address: u32, op: LoadOp) -> Option<Executed>
+    ensures answers { is_some result ≡ (S.asks around.now).load address (load_size op) }
+    ensures did { IfSome result (λ done. (own : Own) → executed_as_defined own done ≡
+        load at.pc own at.word address ((S.asks around.now).load address (load_size op))) }
+    ensures showable { IfSome result (λ done. IsShowable done.effect) }
+    ensures store { IfSome result (λ done. IsAlignedStore done.effect) }
+    ensures plain { IfSome result (λ done. IsPlain done.effect) }
+    ensures word { IfSome result (λ done. done.word ≡ at.word) }
+    ensures address { IfSome result (λ done. done.address ≡ address) }
+{
+    let allowed = around.may_load(address, load_size(op));
+    if allowed {
+        Some(load_at(at, address))
+    } else {
+        None
+    }
+}
+
+/// A store; None exactly where it isn't allowed.
+#[inline(always)]
+fn store_plain<S: Surroundings>(
+    around: &S,
+    at: PcWord,
+    address: u32,
+    op: StoreOp,
+    value: u32,
+) -> Option<Executed>
+    requires aligned { address % store_size op ≡ 0 }
+    ensures answers { is_some result ≡ (S.asks around.now).store address (store_size op) }
+    ensures did { IfSome result (λ done. (own : Own) → executed_as_defined own done ≡
+        store at.pc own at.word address (store_size op) (value % 256 ^ store_size op)
+        ((S.asks around.now).store address (store_size op))) }
+    ensures showable { IfSome result (λ done. IsShowable done.effect) }
+    ensures store { IfSome result (λ done. IsAlignedStore done.effect) }
+    ensures plain { IfSome result (λ done. IsPlain done.effect) }
+    ensures word { IfSome result (λ done. done.word ≡ at.word) }
+    ensures address { IfSome result (λ done. done.address ≡ address) }
+{
+    let allowed = around.may_store(address, store_size(op));
+    if allowed {
+        Some(store_at(at, address, store_size(op), cut(op, value)))
+    } else {
+        None
     }
 }
 
@@ -60,13 +109,9 @@ pub(crate) fn plain<S: Surroundings>(
             Some(go_to(at, o.target, write_to(rd, o.value)))
         }
         Ins::Branch { .. } => Some(branch_on(at, o.taken, o.target)),
-        Ins::Load { op, .. } if around.may_load(o.address, load_size(op)) => {
-            Some(load_at(at, o.address))
-        }
-        Ins::Store { op, .. } if around.may_store(o.address, store_size(op)) => {
-            Some(store_at(at, o.address, store_size(op), cut(op, s.b)))
-        }
-        Ins::Muldiv { .. } => Some(go_on(at, Onward::LateValue, Effect::Nothing)),
+        Ins::Load { op, .. } => load_plain(around, at, o.address, op),
+        Ins::Store { op, .. } => store_plain(around, at, o.address, op, s.b),
+        Ins::Muldiv { .. } => Some(muldiv_at(at)),
         Ins::Fence { .. } => Some(go_on(at, Onward::NextWord, Effect::Nothing)),
         Ins::Du { .. } => Some(delay_until(at, around.now(), moment(s.a, s.b))),
         _ => None,
