@@ -1,5 +1,5 @@
 -- The words of code, its calls and returns.
-use Rattle.std.proofs.Common.{◌≡◌, ℕ, ◌+◌, ◌*◌, ◌<◌, refl, arith, ap, sym, ◌∙◌, Option, Some, None, MatchOption, is_some, Bool, true, List, length, slice_index_or}
+use Rattle.std.proofs.Common.{◌≡◌, ℕ, ◌+◌, ◌*◌, ◌<◌, refl, arith, ap, sym, ◌∙◌, Option, Some, None, MatchOption, is_some, Bool, true, false, List, length, slice_index_or}
 use Rattle.std.specs.List.{position}
 use Rattle.rv_decode.specs.Table.{ins}
 use Rattle.std.proofs.lemmas.List.Elements.{Contains-get_or}
@@ -38,6 +38,12 @@ pub patch-call : (l : Listing) (u w : ℕ) (back : Bool) (o : Option ℕ) → is
     0xc0002073 ≡ patch (callee (calls l) u) back w
 patch-call l u w back None e says = cc
 patch-call l u w back (Some k) e says = let z = routine-of l k says.0 says.1 in sym (ap (λ o. patch o back w) (says.2 ∙ z.1))
+
+-- the word in the place of a return
+pub patch-return : (l : Listing) (u w : ℕ) (back : Bool) (o : Option ℕ) → is_some o ≡ false → back ≡ true → MatchOption o (callee (calls l) u ≡ None) (λ k. (0 < k) × (k < part_count l) × (callee (calls l) u ≡ part_at l k)) →
+    0x00000073 ≡ patch (callee (calls l) u) back w
+patch-return l u w back None e is says = sym (ap (λ o. patch o back w) says ∙ ap (λ b. patch None b w) is)
+patch-return l u w back (Some k) e is says = cc
 
 -- the words of a part are as many as it holds
 pub part-words : (memory : ℕ → ℕ) (s t : Section) (words : List ℕ) → IsSection s → s ≡ t → words ≡ words_of memory t → s.to ≡ s.from + 4 * length words

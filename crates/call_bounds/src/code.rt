@@ -1,8 +1,10 @@
 //! A section with the routines that it may call, and its words.
 
-ghost use Rattle.std.specs.Prelude.{◌≡◌, ◌==◌, position};
+ghost use Rattle.std.specs.Prelude.{◌≡◌, ◌==◌, position, IfOk};
 ghost use Rattle.rv_decode.specs.Table.{ins};
 ghost use Rattle.region_guard.specs.MemoryMap.{large_size};
+ghost use Rattle.fp_setup.specs.Loops.{AreLoops};
+ghost use Rattle.fp_routines.specs.Routines.{AreRoutines};
 ghost use Rattle.call_bounds.specs.Calls.{linked};
 
 use fp_image::Image;
@@ -81,6 +83,22 @@ fn index_of(routines: &[Routine], head: u32) -> Option<usize>
     routines.iter().position(|r| r.head == head)
 }
 
+/// A copy of a list of routines.
+fn copied_routines(alloc: Global, routines: &Routines) -> Result<Routines, AllocError>
+    ensures same { IfOk result (λ copy. copy ≡ routines.now) }
+    ensures rules { IfOk result AreRoutines }
+{
+    Ok(Routines::from_vec(routines.as_slice().to_vec(alloc)?))
+}
+
+/// A copy of a list of loops.
+fn copied_loops(alloc: Global, loops: &Loops) -> Result<Loops, AllocError>
+    ensures same { IfOk result (λ copy. copy ≡ loops.now) }
+    ensures rules { IfOk result AreLoops }
+{
+    Ok(Loops::from_vec(loops.as_slice().to_vec(alloc)?))
+}
+
 impl Code {
     ghost use Rattle.std.specs.Prelude.{◌≡◌, ℕ, ◌+◌, ◌*◌, ◌/◌, ◌<◌, ◌≤◌, ◌%◌, length, IfOk, IfErr, OnOk};
     ghost use Rattle.fp_image.specs.Rules.{word};
@@ -111,8 +129,8 @@ impl Code {
             (λ code. code ≡ listing_of (word image.now) section routines.now loops.now) }
     {
         let words = words(alloc, image, SCRATCHPAD)?;
-        let routines = Routines::from_vec(routines.as_slice().to_vec(alloc)?);
-        let loops = Loops::from_vec(loops.as_slice().to_vec(alloc)?);
+        let routines = copied_routines(alloc, routines)?;
+        let loops = copied_loops(alloc, loops)?;
         Ok(Code {
             section,
             routines,

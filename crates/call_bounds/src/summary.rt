@@ -3,9 +3,9 @@
 ghost use Rattle.std.specs.Prelude.{◌≡◌, ℕ, ◌+◌, ◌-◌, ◌*◌, ◌/◌, ◌<◌, ◌≤◌, None, length, replicate, IfOk, OnOk};
 ghost use Rattle.std.specs.Option.{option_map};
 ghost use Rattle.region_tree.specs.Tree.{IsSection};
-ghost use Rattle.bound_calc.specs.Best.{Either, In, IsBest};
+ghost use Rattle.bound_calc.specs.Best.{Either, In, IsBest, Then};
 ghost use Rattle.bound_calc.specs.Matrices.{entry};
-ghost use Rattle.bound_calc.specs.Passing.{ways_on};
+ghost use Rattle.bound_calc.specs.Passing.{Ended, ways_on};
 ghost use Rattle.call_bounds.specs.Calls.{IsReached};
 ghost use Rattle.call_bounds.specs.Listing.{AreRanks, calls, part_at, part_count, rank_at};
 ghost use Rattle.call_bounds.specs.Patched.{part_tree};
@@ -101,6 +101,26 @@ pub fn deep(into: &Ways, at: &[Matrix]) -> Matrix
     deep
 }
 
+/// From a call to the word after it: the jump, and then what leads to a return and back.
+fn jump_through(jump: &Matrix, steps: &Steps, at: &[Matrix], ends: &[bool]) -> Matrix
+    requires { length ends.now ≡ length at.now }
+    ensures { (back : _) ×
+        IsBest (entry back) (Ended steps.now ends.now at.now (length at.now)) ×
+        IsBest (entry result) (Then (In (entry jump.now)) (In (entry back))) }
+{
+    jump.chain(&through(steps, at, ends))
+}
+
+/// From a call to where a walk may end: the jump, and then what leads to the routine's words or on
+/// from one of them into a routine that it calls.
+fn jump_deep(jump: &Matrix, into: &Ways, at: &[Matrix]) -> Matrix
+    ensures { (below : _) ×
+        IsBest (entry below) (Ending (ways_on into.now) at.now (length at.now)) ×
+        IsBest (entry result) (Then (In (entry jump.now)) (In (entry below))) }
+{
+    jump.chain(&deep(into, at))
+}
+
 /// What calls of a routine cost, from what calls of the parts that it calls cost.
 fn summary_of(
     alloc: Global,
@@ -123,8 +143,8 @@ fn summary_of(
     let at = reach(alloc, part, steps, &Ways::new(&callees, &done.through))?;
     let jump = jump(steps);
     Ok(Summary {
-        through: jump.chain(&through(steps, &at, &ends)),
-        deep: jump.chain(&deep(&Ways::new(&callees, &done.deep), &at)),
+        through: jump_through(&jump, steps, &at, &ends),
+        deep: jump_deep(&jump, &Ways::new(&callees, &done.deep), &at),
     })
 }
 

@@ -2,6 +2,9 @@ use Rattle.std.proofs.lemmas.Result.{err_from_is_err_and}
 use Rattle.call_bounds.proofs.CauseLaws.{tree-allowed, tree-refused}
 use Rattle.call_bounds.proofs.causes.part_trees.Goals as goal
 
+pub try_parts-requires : goal.try_parts-requires
+try_parts-requires c = c.requires
+
 pub returns-in_err-refuse-clause-refused : goal.returns-in_err-refuse-clause-refused
 returns-in_err-refuse-clause-refused c =
     let p = err_from_is_err_and c.from_residual-in_err-refuse.result c.from_residual-in_err-refuse.ensures.1 in

@@ -31,9 +31,9 @@ returns c =
     let table = table-is c.new.result c.new.ensures c.deref.ensures.value c.deref-2.ensures.value in
     let table' = table-is c.new-2.result c.new-2.ensures c.deref-5.ensures.value c.deref-6.ensures.value in
     let reached = subst (λ (t : Tree). AreReached t o (ways_on (record { indices = callees; costs = through })) at) part (subst (λ (w : WayTable). AreReached c.args.part.now o (ways_on w) at) table c.in_ok-at.ensures.reached) in
-    let back = subst (λ (ends : List Bool). IsBest (entry c.through.result) (Ended o ends at (length at))) c.deref-4.ensures.value (subst (λ (at : List Matrix). IsBest (entry c.through.result) (Ended o c.deref-4.result.now at (length at))) c.deref-3.ensures.value c.through.ensures) in
-    let below = subst (λ (w : WayTable). IsBest (entry c.deep.result) (Ending (ways_on w) at (length at))) table' (subst (λ (at : List Matrix). IsBest (entry c.deep.result) (Ending (ways_on c.new-2.result) at (length at))) c.deref-7.ensures.value c.deep.ensures) in
-    summary-is l o n callees ends through deep at c.jump-jump.result c.through.result c.deep.result c.chain.result c.chain-2.result c.requires.done c.requires.reached c.requires.known cs es tree reached c.jump-jump.ensures back below c.chain.ensures.best c.chain-2.ensures.best
+    let back = subst (λ (ends : List Bool). IsBest (entry c.jump_through.ensures.0) (Ended o ends at (length at))) c.deref-4.ensures.value (subst (λ (at : List Matrix). IsBest (entry c.jump_through.ensures.0) (Ended o c.deref-4.result.now at (length at))) c.deref-3.ensures.value c.jump_through.ensures.1) in
+    let below = subst (λ (w : WayTable). IsBest (entry c.jump_deep.ensures.0) (Ending (ways_on w) at (length at))) table' (subst (λ (at : List Matrix). IsBest (entry c.jump_deep.ensures.0) (Ending (ways_on c.new-2.result) at (length at))) c.deref-7.ensures.value c.jump_deep.ensures.1) in
+    summary-is l o n callees ends through deep at c.jump-jump.result c.jump_through.ensures.0 c.jump_deep.ensures.0 c.jump_through.result c.jump_deep.result c.requires.done c.requires.reached c.requires.known cs es tree reached c.jump-jump.ensures back below c.jump_through.ensures.2 c.jump_deep.ensures.2
 
 pub callees-requires : goal.callees-requires
 callees-requires c = subst IsSection (sym c.section.ensures.value) c.section.ensures.rules.draft.section
