@@ -1,5 +1,5 @@
 -- The answers where a section has no bound.
-use Rattle.std.proofs.Common.{◌≡◌, ◌<◌, ℕ, ◌==◌, Bool, true, false, Option, Some, None, List, [], ◌∷◌, filter, refl, sym, arith, ◌%◌, ◌≤◌, not, ◌&&◌, ◌||◌, nat_le, nat_lt, if◌then◌else◌, inl, inr}
+use Rattle.std.proofs.Common.{◌≡◌, ◌<◌, ℕ, ◌==◌, Bool, true, false, Option, Some, None, List, [], ◌∷◌, filter, refl, sym, arith, ◌%◌, ◌≤◌, ◌^◌, ap₂, subst, not, ◌&&◌, ◌||◌, nat_le, nat_lt, if◌then◌else◌, inl, inr}
 use Rattle.std.proofs.lemmas.Bool.Decides.{nat_tests}
 use Rattle.std.proofs.lemmas.Bool.{cases_Bool}
 use Rattle.std.specs.List.{Contains, list_any}
@@ -14,9 +14,16 @@ use Rattle.file_answers.specs.BoundAnswer.{names, section_fault}
 use Rattle.region_tree.specs.declared.tree.TreeNo.{TreeNo}
 use Rattle.region_tree.specs.declared.tree.TreeNo.TheVariants as in_tree
 use Rattle.region_tree.specs.Refusals.{IsRefused}
-use Rattle.region_tree.specs.Tree.{Tree, graph}
-use Rattle.file_answers.specs.BoundAnswer.{IsTreeRefused}
-use Rattle.file_answers.specs.Stops.{IsAnswerStop, stop_of_tree}
+use Rattle.region_tree.specs.Tree.{IsTree, Tree, graph}
+use Rattle.bound_calc.specs.Bound.{IsBound, IsTooLarge, course}
+use Rattle.bound_calc.specs.declared.cycle_bound.BoundNo.{BoundNo}
+use Rattle.bound_calc.specs.declared.cycle_bound.BoundNo.TheVariants as in_bound
+use Rattle.trace_print.specs.Bounds.{bound_text}
+use Rattle.file_answers.specs.Answer.Answer.{Says}
+use Rattle.file_answers.specs.BoundAnswer.{IsTreeAnswer, IsTreeRefused}
+use Rattle.file_answers.specs.declared.stop.Stop.{Stop}
+use Rattle.file_answers.specs.declared.stop.Stop.TheVariants.{Refused, Differs, Read, NoMemory}
+use Rattle.file_answers.specs.Stops.{IsAnswerStop, stop_of_bound, stop_of_tree}
 
 pub tree_stops : (t : Tree) (no : TreeNo) → IsRefused (graph t) no → IsAnswerStop (IsTreeRefused t) (stop_of_tree no)
 tree_stops t (in_tree.Nesting address) is = record { no = in_tree.Nesting address; is = is; line = refl }
@@ -24,6 +31,27 @@ tree_stops t (in_tree.IndirectJump address) is = record { no = in_tree.IndirectJ
 tree_stops t (in_tree.TimedWait address) is = record { no = in_tree.TimedWait address; is = is; line = refl }
 tree_stops t (in_tree.UnboundedBackEdge address) is = record { no = in_tree.UnboundedBackEdge address; is = is; line = refl }
 tree_stops t in_tree.NoMemory is = tt
+
+-- a tree that is refused has this answer
+pub refused_stops : (t : Tree) (slots i : ℕ) (stop : Stop) → IsAnswerStop (IsTreeRefused t) stop → IsAnswerStop (IsTreeAnswer t slots i) stop
+refused_stops t slots i (Refused refusal) is = inl is
+refused_stops t slots i (Differs line) is = inl is
+refused_stops t slots i Read is = is
+refused_stops t slots i NoMemory is = tt
+
+-- the bound of a tree, by a word of the slots, is that of the section where these are the section's
+pub bound_told : (t section : Tree) (word slots i cycles : ℕ) → t ≡ section → word ≡ slots → IsTree section → cycles < 2 ^ 64 →
+    IsBound (course t word i) cycles → IsTreeAnswer section slots i (Says 0 (bound_text cycles))
+bound_told t section word slots i cycles same_tree same_slots accepted small is =
+    let same = ap₂ (λ (t : Tree) (w : ℕ). course t w i) same_tree same_slots in
+    inr (inr (record { accepted = accepted; cycles = cycles; is = subst (λ x. IsBound x cycles) same is; small = small; line = refl }))
+
+pub bound_stops : (t section : Tree) (word slots i : ℕ) (no : BoundNo) → t ≡ section → word ≡ slots → IsTree section →
+    IsTooLarge (course t word i) no → IsAnswerStop (IsTreeAnswer section slots i) (stop_of_bound no)
+bound_stops t section word slots i (in_bound.Overflow value) same_tree same_slots accepted is =
+    let same = ap₂ (λ (t : Tree) (w : ℕ). course t w i) same_tree same_slots in
+    inr (inl (record { accepted = accepted; cycles = value; is = subst (λ x. IsBound x value) same is.0; large = is.1; line = refl }))
+bound_stops t section word slots i in_bound.NoMemory same_tree same_slots accepted is = tt
 
 -- a slot that names a thread is in the frame
 used-more : (slot : ℕ) (slots : List ℕ) (i : ℕ) (same used : Bool) → i < 8 → (slot == i) ≡ same → is_used slot ≡ used →
