@@ -1,6 +1,12 @@
+use Rattle.std.proofs.Common.{arith}
+use Rattle.std.proofs.lemmas.Grind.{common_steps}
 use Rattle.std.proofs.lemmas.Result.{on_err_weaker}
 use Rattle.fp_io.proofs.Fronts.{front_after}
 use Rattle.fp_io.proofs.gathered.Gathered.hand_on.Goals as goal
+
+-- All of the bytes are taken.
+pub returns-clause-ok : goal.returns-clause-ok
+returns-clause-ok g c = grind (arith, common_steps)
 
 pub returns-clause-err : goal.returns-clause-err
 returns-clause-err g c =

@@ -1,6 +1,6 @@
-use Rattle.std.proofs.Common.{◌∙◌, ap, ap₂, arith}
-use Rattle.std.proofs.lemmas.Grind.{common_steps}
-use Rattle.std.specs.FinMap.{insert}
+use Rattle.std.proofs.Common.{◌∙◌, ap, ap₂, map, string_bytes}
+use Rattle.std.proofs.lemmas.Result.{err_from_is_err_and}
+use Rattle.std.specs.FinMap.{from_entries, insert}
 use Rattle.fp_io.specs.Memory.{MemoryFiles}
 use Rattle.fp_io.proofs.NamedBytes.{named_by, named_by-insert}
 use Rattle.fp_io.proofs.memory_files.MemFiles.add.Goals as goal
@@ -15,4 +15,8 @@ returns-clause-after c =
 
 -- Memory was refused.
 pub returns-in_err-insert-clause-after : goal.returns-in_err-insert-clause-after
-returns-in_err-insert-clause-after c = grind (arith, common_steps)
+returns-in_err-insert-clause-after c =
+    let inside = c.self.inside in
+    let kept = ap (λ es. from_entries (map (λ e. (string_bytes e.0, e.1.items)) es)) c.in_err-insert.ensures.err in
+    let refused = err_from_is_err_and c.from_residual-in_err-insert.result c.from_residual-in_err-insert.ensures.1 in
+    rw refused.1 (ap (λ n. record { named = n; failing = inside.failing.items; calls = inside.calls; faults = inside.faults }) kept ∙ c.self.view_is)
