@@ -28,6 +28,29 @@ pub never : (shown : Bool) (x y : ℕ) → shown ≡ true → shown ≡ false �
 never true x y h k = cc
 never false x y h k = cc
 
+-- moments of cycles: a cycle of an advance, what is passed over behind it, and the end
+pub up_to : (at end : ℕ) → at < end → at ≤ end
+up_to at end low = omega arith
+
+pub below_in : (at end limit : ℕ) → at < end → end ≤ limit → at < limit
+below_in at end limit low within = omega arith
+
+pub stop_within : (at stop end : ℕ) → stop ≡ at + 1 → at < end → stop ≤ end
+stop_within at stop end is low = omega arith
+
+pub as_within : (stop old limit : ℕ) → stop ≡ old → old ≤ limit → stop ≤ limit
+as_within stop old limit is within = omega arith
+
+pub goes_forth : (start at after later : ℕ) → start ≤ at → after ≡ at + 1 → after ≤ later → start ≤ later
+goes_forth start at after later forth next on = omega arith
+
+pub stays_here : (at stop after later : ℕ) → stop ≡ at + 1 → after ≡ at + 1 → after ≤ later → later ≤ stop → later ≡ after
+stays_here at stop after later is next on end = omega arith
+
+-- a cycle was done
+pub begun_no_more : (start at after later x y : ℕ) → later ≡ start → start ≤ at → after ≡ at + 1 → after ≤ later → x ≡ y
+begun_no_more start at after later x y h forth next on = absurd (omega arith)
+
 pub shown_as : {s : Start} {c n thread : ℕ} {m : Machine} {rows : List (Option Row)} {a b : Bool} {line : List ℕ} → a ≡ b → Advanced s c n thread m rows a line → Advanced s c n thread m rows b line
 shown_as {s} {c} {n} {thread} {m} {rows} {a} {b} {line} same gone = subst (λ (x : Bool). Advanced s c n thread m rows x line) same gone
 

@@ -2,9 +2,9 @@
 
 ghost use Rattle.std.specs.Prelude.{◌≡◌, ◌+◌, ◌/◌, ◌<◌, ◌≤◌, ◌*◌, ◌==◌, [], true, vec_len, slice_index_or, length};
 ghost use Rattle.std.specs.List.{list_all};
-ghost use Rattle.fp_ports.specs.Rows.{rows_of};
+ghost use Rattle.fp_ports.specs.Rows.{rows_of, row_at, latch_seen};
 ghost use Rattle.core_model.specs.Thread.{reg_in};
-ghost use Rattle.trace_print.specs.DumpLines.{thread_words_text};
+ghost use Rattle.trace_print.specs.DumpLines.{latch_text, thread_words_text};
 ghost use Rattle.machine.specs.DumpedState.{eight_from, traps_seen, timer_seen, words_seen};
 ghost use Rattle.machine.specs.Fields.{fetched_held, decoded_held, shown_word, executed_held, stored_held, written_held, head_line, thread_line, dump_line};
 ghost use Rattle.timer_unit.specs.Time.{timer_of};
@@ -86,6 +86,16 @@ fn is_zero(words: &[u32; 8]) -> bool
     words.iter().all(|word| *word == 0)
 }
 
+/// The line of a thread's latch.
+fn latch_line_of(ports: &Ports, thread: u8) -> ArrayString<96>
+    requires eight { vec_len ports.now ≡ 8 }
+    requires thread { thread < 8 }
+    ensures { result.bytes ≡ latch_text thread (latch_seen (row_at
+        (rows_of latched word_at ports.now.items) thread)) }
+{
+    latch_line(thread, latch_of(ports, thread))
+}
+
 impl Machine {
     /// Whether a thread is confined.
     fn is_confined(&self, thread: u8) -> bool
@@ -152,16 +162,15 @@ impl Machine {
         }
     }
 
-    /// The line of eight registers of a thread, from `first` on.
-    fn registers_line(&self, thread: u8, name: &str, first: u8) -> ArrayString<96>
+    /// Eight registers of a thread, from `first` on.
+    fn registers_row(&self, thread: u8, first: u8) -> [u32; 8]
         requires thread { thread < 8 }
-        requires name { length name.now ≤ 3 }
         requires first { first ≤ 24 }
-        ensures { result.bytes ≡ thread_words_text thread name.now
-            (eight_from (reg_in (slice_index_or self.now.units.bank thread [])) first) }
+        ensures { result ≡
+            eight_from (reg_in (slice_index_or self.now.units.bank thread [])) first }
     {
         let bank = &self.units.bank;
-        let words = [
+        [
             bank.read(thread, first),
             bank.read(thread, first + 1),
             bank.read(thread, first + 2),
@@ -170,8 +179,18 @@ impl Machine {
             bank.read(thread, first + 5),
             bank.read(thread, first + 6),
             bank.read(thread, first + 7),
-        ];
-        thread_words_line(thread, name, &words)
+        ]
+    }
+
+    /// The line of eight registers of a thread, from `first` on.
+    fn registers_line(&self, thread: u8, name: &str, first: u8) -> ArrayString<96>
+        requires thread { thread < 8 }
+        requires name { length name.now ≤ 3 }
+        requires first { first ≤ 24 }
+        ensures { result.bytes ≡ thread_words_text thread name.now
+            (eight_from (reg_in (slice_index_or self.now.units.bank thread [])) first) }
+    {
+        thread_words_line(thread, name, &self.registers_row(thread, first))
     }
 
     /// The line of a thread's trap registers.
@@ -210,7 +229,7 @@ impl Machine {
             3 => self.registers_line(thread, "x24", 24),
             4 => self.traps_line(thread),
             5 => self.timer_line(thread),
-            _ => latch_line(thread, latch_of(ports, thread)),
+            _ => latch_line_of(ports, thread),
         }
     }
 
