@@ -1,7 +1,9 @@
 //! The commands.
 
-ghost use Rattle.std.specs.Prelude.{◌≡◌, map, string_bytes, IfOk, IfErr, Some, option_map, find, true};
+ghost use Rattle.std.specs.Prelude.{◌≡◌, ◌≤◌, map, string_bytes, IfOk, IfErr, IfSome, Some, option_map, find, true};
 ghost use Rattle.std.specs.Str.{bytes_eq};
+ghost use Rattle.timer_unit.specs.Time.{most_cycles};
+ghost use Rattle.ask_words.specs.Commands.{cycles_in, checked_cycles_in};
 ghost use Rattle.ask_words.specs.Commands.{ask, asked, commands, run_asks, dump_asks, asm_asks, bound_asks, selfrun_asks, phases_asks, solo_asks, check_asks, elf_asks, calls_asks};
 ghost use Rattle.ask_words.specs.Code.{row_of};
 ghost use Rattle.ask_words.specs.Rules.{is_fit};
@@ -69,6 +71,22 @@ fn two_names(alloc: Global, first: &str, second: &str) -> Result<(Name, Name), A
     Ok((first, Name::from_str(alloc, second)?))
 }
 
+/// A number of cycles, at most [`MOST_CYCLES`].
+fn cycles_of(word: &str) -> Option<u64>
+    ensures value { result ≡ cycles_in word.now }
+    ensures limit { IfSome result (λ n. n ≤ most_cycles) }
+{
+    number_of(MOST_CYCLES, word)
+}
+
+/// A number of cycles that a trace is compared over, at most [`MOST_CHECKED_CYCLES`].
+fn checked_cycles_of(word: &str) -> Option<u64>
+    ensures value { result ≡ checked_cycles_in word.now }
+    ensures limit { IfSome result (λ n. n ≤ 1000000) }
+{
+    number_of(MOST_CHECKED_CYCLES, word)
+}
+
 /// `run SETUP --thread i --cycles n`
 fn run(alloc: Global, texts: &[&str]) -> Result<Ask, WordsNo>
     ensures asked { IfOk result (λ a. run_asks (map (λ t. t.now) texts.now) ≡ Some a) }
@@ -78,7 +96,7 @@ fn run(alloc: Global, texts: &[&str]) -> Result<Ask, WordsNo>
     if texts.len() != 3 {
         return Err(WordsNo::Usage);
     }
-    match (thread_of(texts[1]), number_of(MOST_CYCLES, texts[2])) {
+    match (thread_of(texts[1]), cycles_of(texts[2])) {
         (Some(thread), Some(cycles)) => Ok(Ask::Run {
             setup: Name::from_str(alloc, texts[0])?,
             thread,
@@ -97,7 +115,7 @@ fn dump(alloc: Global, texts: &[&str]) -> Result<Ask, WordsNo>
     if texts.len() != 2 {
         return Err(WordsNo::Usage);
     }
-    match number_of(MOST_CYCLES, texts[1]) {
+    match cycles_of(texts[1]) {
         Some(cycles) => Ok(Ask::Dump {
             setup: Name::from_str(alloc, texts[0])?,
             cycles,
@@ -169,7 +187,7 @@ fn phases(alloc: Global, texts: &[&str]) -> Result<Ask, WordsNo>
     if texts.len() != 2 {
         return Err(WordsNo::Usage);
     }
-    match number_of(MOST_CYCLES, texts[1]) {
+    match cycles_of(texts[1]) {
         Some(cycles) => Ok(Ask::Phases {
             setup: Name::from_str(alloc, texts[0])?,
             cycles,
@@ -187,7 +205,7 @@ fn solo(alloc: Global, texts: &[&str]) -> Result<Ask, WordsNo>
     if texts.len() != 3 {
         return Err(WordsNo::Usage);
     }
-    match (thread_of(texts[1]), number_of(MOST_CYCLES, texts[2])) {
+    match (thread_of(texts[1]), cycles_of(texts[2])) {
         (Some(thread), Some(cycles)) => Ok(Ask::Solo {
             setup: Name::from_str(alloc, texts[0])?,
             thread,
@@ -206,10 +224,7 @@ fn check(alloc: Global, texts: &[&str]) -> Result<Ask, WordsNo>
     if texts.len() != 4 {
         return Err(WordsNo::Usage);
     }
-    match (
-        thread_of(texts[1]),
-        number_of(MOST_CHECKED_CYCLES, texts[2]),
-    ) {
+    match (thread_of(texts[1]), checked_cycles_of(texts[2])) {
         (Some(thread), Some(cycles)) => {
             let (setup, trace) = two_names(alloc, texts[0], texts[3])?;
             Ok(Ask::Check {
