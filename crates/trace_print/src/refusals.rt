@@ -2,7 +2,7 @@
 
 ghost use Rattle.std.specs.Prelude.{◌≡◌, ◌+◌, ◌≤◌, ◌++◌, length, codes, decimal};
 ghost use Rattle.arrayvec.specs.ArrayString.{array_string_len};
-ghost use Rattle.trace_print.specs.Refusals.{name_of, setup_names, section_names, image_names, source_names, bound_names, routine_names, bound_value, refusal_text};
+ghost use Rattle.trace_print.specs.Refusals.{name_of, setup_names, section_names, image_names, source_names, bound_names, routine_names, bound_value, code_text, refusal_text};
 
 use crate::digits::{push_decimal, push_hex};
 use crate::key_path::push_path;
@@ -51,7 +51,7 @@ pub fn refusal_line(r: &Refusal) -> ArrayString<96>
         }
         Refusal::Source { line, code } => {
             text.push_str("refused source ");
-            push_line_code(&mut text, line, code, source_name(code));
+            push_source(&mut text, line, code);
         }
         Refusal::Bound { code, value } => {
             text.push_str("refused bound ");
@@ -92,6 +92,16 @@ fn push_line_code(text: &mut ArrayString<96>, line: u32, code: u8, name: &str)
     push_decimal(text, line);
     text.push_str(" ");
     push_code(text, code, name);
+}
+
+/// Appends the line of a source, and the code of its fault with its name.
+fn push_source(text: &mut ArrayString<96>, line: u32, code: u8)
+    requires room { array_string_len text.old + 32 ≤ 96 }
+    ensures text { text.new.bytes ≡
+        text.old.bytes ++ (decimal line ++ (codes " " ++ code_text source_names code)) }
+    ensures len { array_string_len text.new ≤ array_string_len text.old + 32 }
+{
+    push_line_code(text, line, code, source_name(code));
 }
 
 /// Appends the number that a bound's refusal tells.
