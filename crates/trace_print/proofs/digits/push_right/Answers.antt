@@ -10,3 +10,10 @@ loop-column-init c = search rules
 pub returns-clause-text : goal.returns-clause-text
 unfolding right
 returns-clause-text c = grind (arith, common_steps)
+
+pub returns-clause-len : goal.returns-clause-len
+returns-clause-len c = grind (arith, common_steps)
+
+pub loop-column-preserved : goal.loop-column-preserved
+unfolding right
+loop-column-preserved c = grind (arith, common_steps)
