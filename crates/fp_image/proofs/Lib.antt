@@ -1,3 +1,4 @@
+mod Checked
 pub mod Rising
 pub mod Steps
 pub mod ReadBack
