@@ -1,4 +1,5 @@
 mod Checked
+mod Header
 pub mod Rising
 pub mod Steps
 pub mod ReadBack
