@@ -1,3 +1,4 @@
 pub mod Bitwise
 pub mod ByteLanes
 pub mod Remainder
+pub mod Signs
