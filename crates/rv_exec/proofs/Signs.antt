@@ -1,16 +1,20 @@
 -- Words read with a sign, and their products.
-use Rattle.std.proofs.Common.{◌≡◌, ℕ, ◌-◌, ◌^◌, ◌<◌, ◌≤◌, ℤ, pos, negsuc, ◌*ℤ◌, ◌∙◌, arith}
-use Rattle.std.proofs.lemmas.Bool.Decides.{nat_tests}
+use Rattle.std.proofs.Common.{◌≡◌, ℕ, ◌-◌, ◌^◌, ◌<◌, ◌≤◌, ℤ, pos, negsuc, ◌*ℤ◌, Bool, true, false, nat_lt, refl, ap, ◌∙◌, arith}
 use Rattle.std.proofs.lemmas.Int.{ints, to_z-of_z, fits_signed_mul}
 use lib.IntN.{nat_abs}
 use lib.Signed.{mag}
-use mir.Syntax.{w32, w64}
+use mir.Syntax.{Width, w8, w16, w32, w64}
 use mir.Val.{SFits, of_z, to_z}
 use Rattle.rv_exec.specs.Words.{signed}
+use Rattle.rv_exec.specs.Access.{extended}
 
 -- the code's reading of a word is that of the manual
 signed-is : (a : ℕ) → a < 2 ^ 32 → to_z w32 a ≡ signed a
-signed-is a h = grind (arith, ints, nat_tests)
+signed-is a h = by_test (nat_lt a (2 ^ 31)) refl
+  where
+    by_test : (b : Bool) → nat_lt a (2 ^ 31) ≡ b → to_z w32 a ≡ signed a
+    by_test true e = rw e refl
+    by_test false e = rw e (omega (arith, ints))
 
 -- the absolute value of a number that a word holds with its sign
 pub abs_within : (x : ℤ) (m : ℕ) → mag x < m → nat_abs x ≤ m
@@ -34,3 +38,22 @@ widened a s x h k e f =
     let fits : SFits w32 s = record { sfits = k } in
     let same : x ≡ s = f ∙ to_z-of_z w32 s fits in
     (same ∙ e ∙ signed-is a h, rw same k)
+
+-- a number that was read with its sign, in a word
+pub extended_word : (w : Width) (s f : ℤ) (r : ℕ) → SFits w s → SFits w32 f → f ≡ to_z w (of_z w s) → r ≡ of_z w32 (to_z w32 (of_z w32 f)) → r ≡ of_z w32 s
+extended_word w s f r p q e g = g ∙ ap (of_z w32) (to_z-of_z w32 f q ∙ e ∙ to_z-of_z w s p)
+
+-- a byte with its sign, and two bytes
+pub byte_extended : (n : ℕ) → n < 2 ^ 8 → of_z w32 (to_z w8 n) ≡ extended 1 n
+byte_extended n h = by_test (nat_lt n (2 ^ 7)) refl
+  where
+    by_test : (b : Bool) → nat_lt n (2 ^ 7) ≡ b → of_z w32 (to_z w8 n) ≡ extended 1 n
+    by_test true e = rw e refl
+    by_test false e = rw e (omega arith)
+
+pub half_extended : (n : ℕ) → n < 2 ^ 16 → of_z w32 (to_z w16 n) ≡ extended 2 n
+half_extended n h = by_test (nat_lt n (2 ^ 15)) refl
+  where
+    by_test : (b : Bool) → nat_lt n (2 ^ 15) ≡ b → of_z w32 (to_z w16 n) ≡ extended 2 n
+    by_test true e = rw e refl
+    by_test false e = rw e (omega arith)
