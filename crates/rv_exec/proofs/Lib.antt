@@ -1,4 +1,5 @@
 pub mod Bitwise
 pub mod ByteLanes
+pub mod Quotients
 pub mod Remainder
 pub mod Signs

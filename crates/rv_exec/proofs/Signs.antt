@@ -9,7 +9,7 @@ use Rattle.rv_exec.specs.Words.{signed}
 use Rattle.rv_exec.specs.Access.{extended}
 
 -- the code's reading of a word is that of the manual
-signed-is : (a : ℕ) → a < 2 ^ 32 → to_z w32 a ≡ signed a
+pub signed-is : (a : ℕ) → a < 2 ^ 32 → to_z w32 a ≡ signed a
 signed-is a h = by_test (nat_lt a (2 ^ 31)) refl
   where
     by_test : (b : Bool) → nat_lt a (2 ^ 31) ≡ b → to_z w32 a ≡ signed a
