@@ -3,7 +3,7 @@ use Rattle.std.proofs.Common.{◌≡◌, ℕ, ◌-◌, ◌^◌, ◌<◌, ◌≤�
 use Rattle.std.proofs.lemmas.Int.{ints, to_z-of_z, fits_signed_mul}
 use lib.IntN.{nat_abs}
 use lib.Signed.{mag}
-use mir.Syntax.{Width, w8, w16, w32, w64}
+use mir.Syntax.{Width, w16, w32, w64}
 use mir.Val.{SFits, of_z, to_z}
 use Rattle.rv_exec.specs.Words.{signed}
 use Rattle.rv_exec.specs.Access.{extended}
@@ -43,14 +43,7 @@ widened a s x h k e f =
 pub extended_word : (w : Width) (s f : ℤ) (r : ℕ) → SFits w s → SFits w32 f → f ≡ to_z w (of_z w s) → r ≡ of_z w32 (to_z w32 (of_z w32 f)) → r ≡ of_z w32 s
 extended_word w s f r p q e g = g ∙ ap (of_z w32) (to_z-of_z w32 f q ∙ e ∙ to_z-of_z w s p)
 
--- a byte with its sign, and two bytes
-pub byte_extended : (n : ℕ) → n < 2 ^ 8 → of_z w32 (to_z w8 n) ≡ extended 1 n
-byte_extended n h = by_test (nat_lt n (2 ^ 7)) refl
-  where
-    by_test : (b : Bool) → nat_lt n (2 ^ 7) ≡ b → of_z w32 (to_z w8 n) ≡ extended 1 n
-    by_test true e = rw e refl
-    by_test false e = rw e (omega arith)
-
+-- two bytes with their sign
 pub half_extended : (n : ℕ) → n < 2 ^ 16 → of_z w32 (to_z w16 n) ≡ extended 2 n
 half_extended n h = by_test (nat_lt n (2 ^ 15)) refl
   where

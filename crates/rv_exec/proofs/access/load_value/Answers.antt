@@ -1,23 +1,16 @@
 -- The bytes that are loaded, with their sign.
 use Rattle.std.proofs.Common.{ℕ, ◌%◌, ◌^◌, ◌<◌, ◌∙◌, ap, arith, bit_and}
+use Rattle.std.proofs.lemmas.Grind.{common_steps}
 use Rattle.std.proofs.lemmas.Nat.{and_mask}
-use mir.Syntax.{w8, w16, w32}
+use mir.Syntax.{w16, w32}
 use mir.Val.{SFits, of_z}
 use Rattle.rv_exec.specs.Access.{loaded, extended}
-use Rattle.rv_exec.proofs.Signs.{extended_word, byte_extended, half_extended}
+use Rattle.rv_exec.proofs.Signs.{extended_word, half_extended}
 use Rattle.rv_exec.proofs.access.load_value.Goals as goal
 
 pub returns-in-Lb : goal.returns-in-Lb
 unfolding loaded
-returns-in-Lb c =
-    let n = bit_and c.bytes_from-bytes.result 255 in
-    let low = and_mask c.bytes_from-bytes.result 8 in
-    let small : n < 2 ^ 8 = omega (arith, low) in
-    let read : SFits w8 c.cast_signed.result = record { sfits = c.cast_signed.type_inv } in
-    let wider : SFits w32 c.from.result = record { sfits = c.from.type_inv } in
-    let word = extended_word w8 _ _ _ read wider c.from.ensures c.cast_unsigned.ensures in
-    let bytes = low ∙ ap (λ (x : ℕ). x % 256) c.bytes_from-bytes.ensures in
-    rw c.in-Lb.is (word ∙ ap (of_z w32) c.cast_signed.ensures ∙ byte_extended n small ∙ ap (extended 1) bytes)
+returns-in-Lb c = grind (arith, common_steps)
 
 pub returns-in-Lh : goal.returns-in-Lh
 unfolding loaded
