@@ -216,6 +216,17 @@ pub fn begin(
     Ok(())
 }
 
+/// Whether the one edge of the word at an index is to the next word.
+fn leads_on(tree: &LoopTree, edges: &Edges, index: usize, last: usize) -> bool
+    requires order { index ≤ last }
+    requires within { last < length tree.now.words }
+    requires next { index + 1 < 2 ^ 64 }
+    ensures { IsTrue result ↔ ((edges.now.jump ≡ None) ×
+        (up_of tree.now index last edges.now.next ≡ Some (index + 1))) }
+{
+    edges.jump.is_none() && is_index(up_to(tree, index, last, edges.next), index + 1)
+}
+
 /// Whether a word is one of straight code, where a pass need not stop: nothing waits there, and
 /// its one edge is to the next word, by the turns.
 pub fn is_straight(
@@ -234,8 +245,7 @@ pub fn is_straight(
     ensures { IsTrue result ↔ IsStraight tree.now (edges_at tree.now index) index last
         (option_map (λ m. m.now) way.entry) (option_map (λ b. b.value) power.now) (held front.now) }
 {
-    edges.jump.is_none()
-        && is_index(up_to(tree, index, last, edges.next), index + 1)
+    leads_on(tree, edges, index, last)
         && way.is_none()
         && power.is_none()
         && front.waiting[index].is_none()
