@@ -1,6 +1,6 @@
 -- What a run of one thread alone has to do with the definition of its command.
 use Rattle.std.proofs.Common.{◌≡◌, ℕ, zero, suc, ◌+◌, ◌-◌, ◌*◌, ◌<◌, ◌≤◌, Bool, true, false, cond, nat_eq, if◌then◌else◌, List, [], ◌∷◌, ◌++◌, length, take, drop, map, get_or, set, take-append-drop, find, is_some, nat_le, option_map, reverse, ap₂, Option, Some, None, Result, Ok, Err, refl, ap, sym, subst, ◌∙◌, arith, inl, inr}
-use Rattle.std.specs.Prelude.{IfSome, IsSomeAnd}
+use Rattle.std.specs.Prelude.{IfSome, IsSomeAnd, IfErr, OnOk}
 use Rattle.std.specs.List.{AllWithin, slice_get}
 use Rattle.std.specs.List.Sorted.{IsNonDecreasingBy}
 use Rattle.std.specs.Str.{bytes_eq}
@@ -33,7 +33,10 @@ use Rattle.world_model.specs.Viewed.{view, setting_of}
 use Rattle.solo_run.specs.View.{view_as_defined}
 use Rattle.solo_run.specs.declared.view.SoloView.{SoloView}
 use Rattle.file_answers.specs.Answer.{Answer, differs_text, over_file}
-use Rattle.flexpret_top.specs.SoloAndCheck.{compared, same_text}
+use Rattle.flexpret_top.specs.SoloAndCheck.{compared, said_by, same_text}
+use Rattle.file_answers.specs.declared.stop.Stop.{Stop}
+use Rattle.file_answers.specs.declared.stop.Stop.TheVariants as in_stop
+use Rattle.file_answers.specs.Stops.{IsStop, IsStopOf, is_difference}
 use Rattle.file_answers.specs.Answer.Answer.{Says}
 
 -- one of the threads stands at its own index
@@ -93,11 +96,6 @@ checked-file file given text n answer cut few is =
       | inr short ↦ (let Is : List ℕ → Type 0 = λ bytes. IsChecked bytes text answer in subst Is (cut ∙ take_all (60 * n + 1) file short) is)
     ]
 
--- what a comparison answers
-abbrev pub said_by : Checked → Result (List ℕ) Answer
-said_by Same = Ok same_text
-said_by (Differs line) = Err (Says 1 (differs_text line))
-
 not-true : (b : Bool) → (b ≡ true → ⊥) → b ≡ false
 not-true true never = absurd (never refl)
 not-true false never = refl
@@ -122,6 +120,37 @@ compared-file (Some files) name bytes items text n most answer limit fetched sam
     found : (o : Option (List ℕ)) → IsSomeAnd o (λ whole. items ≡ take (most + 1) whole) → over_file (compared text) o ≡ said_by answer
     found None there = absurd there
     found (Some whole) there = compared-is whole text answer (checked-file whole bytes text n answer (same ∙ there ∙ ap (λ m. take (m + 1) whole) limit) few is)
+
+-- and so what the command answers is that of the comparison, if it goes on and if it ends
+pub compared-ok : (told : Option FileMap) (name text : List ℕ) (answer : Checked) (r : Result Unit Stop) → IfSome told (λ files. over_file (compared text) (files name) ≡ said_by answer) →
+    OnOk r (said_by answer ≡ Ok same_text) → OnOk r (IfSome told (λ files. over_file (compared text) (files name) ≡ Ok same_text))
+compared-ok told name text answer (Ok done) is same = over told is
+  where
+    over : (told : Option FileMap) → IfSome told (λ files. over_file (compared text) (files name) ≡ said_by answer) → IfSome told (λ files. over_file (compared text) (files name) ≡ Ok same_text)
+    over None is = tt
+    over (Some files) is = is ∙ same
+compared-ok told name text answer (Err stop) is same = tt
+
+pub compared-stop : (told : Option FileMap) (name text : List ℕ) (answer : Checked) (before after : ℕ) (r : Result Unit Stop) → IfSome told (λ files. over_file (compared text) (files name) ≡ said_by answer) →
+    IfErr r (IsStopOf (said_by answer)) → IfErr r (IsStop told (λ files x. over_file (compared text) (files name) ≡ Err x) before after)
+compared-stop told name text answer before after (Ok done) is stops = tt
+compared-stop told name text answer before after (Err stop) is stops = over told stop is stops
+  where
+    over : (told : Option FileMap) (stop : Stop) → IfSome told (λ files. over_file (compared text) (files name) ≡ said_by answer) → IsStopOf (said_by answer) stop →
+        IsStop told (λ files x. over_file (compared text) (files name) ≡ Err x) before after stop
+    over None (in_stop.Refused refusal) is stops = tt
+    over None (in_stop.Differs line) is stops = tt
+    over None in_stop.Read is stops = absurd stops
+    over None in_stop.NoMemory is stops = tt
+    over (Some files) (in_stop.Refused refusal) is stops = is ∙ stops
+    over (Some files) (in_stop.Differs line) is stops = is ∙ stops
+    over (Some files) in_stop.Read is stops = absurd stops
+    over (Some files) in_stop.NoMemory is stops = tt
+
+-- what ends by a difference has no other way to end
+pub difference-kept : (r : Result Unit Stop) (Kept : Type 0) → IfErr r (λ stop. is_difference stop ≡ true) → IfErr r (λ stop. is_difference stop ≡ false → Kept)
+difference-kept (Ok done) Kept is = tt
+difference-kept (Err stop) Kept is = λ none. absurd (cc)
 
 or-map : {A B : Type 0} → (g : A → B) (o p : Option A) → option_map g (option_or o p) ≡ option_or (option_map g o) (option_map g p)
 or-map g None p = refl

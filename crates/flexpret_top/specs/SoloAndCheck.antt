@@ -8,6 +8,8 @@ use Rattle.fp_setup.specs.Settings.{Settings}
 use Rattle.setup_model.specs.Start.{shown_to, thread_of}
 use Rattle.slot_scheduler.specs.ModeWord.{mode_of}
 use Rattle.solo_run.specs.FirstDifference.{first_differing_line}
+use Rattle.solo_run.specs.declared.checked.Checked.{Checked}
+use Rattle.solo_run.specs.declared.checked.Checked.TheVariants.{Same, Differs}
 use Rattle.solo_run.specs.Setup.{setup_view}
 use Rattle.solo_run.specs.View.{view_as_defined}
 use Rattle.trace_print.specs.Text.{text}
@@ -55,6 +57,11 @@ same_text = codes "same\n"
 abbrev pub compared : List ℕ → List ℕ → Result (List ℕ) Answer
 compared text given =
     if bytes_eq given text then Ok same_text else Err (Says 1 (differs_text (first_differing_line given text)))
+
+-- what a comparison answers
+abbrev pub said_by : Checked → Result (List ℕ) Answer
+said_by Same = Ok same_text
+said_by (Differs line) = Err (Says 1 (differs_text line))
 
 abbrev pub checked_of : FileMap → List (Option Row) → ℕ → ℕ → List ℕ → Program → Result (List ℕ) Answer
 checked_of files ports i n trace p = over_file (compared (alone_text ports i n p)) (files trace)

@@ -1,6 +1,6 @@
 //! One thread of a program from its view alone.
 
-ghost use Rattle.std.specs.Prelude.{◌≡◌, ◌*◌, ◌<◌, ◌≤◌, nat_eq, false, Ok, Err, OnOk, OnErr, IfOk, IfErr, IfSome, vec_len};
+ghost use Rattle.std.specs.Prelude.{◌≡◌, ◌*◌, ◌<◌, ◌≤◌, nat_eq, false, true, Ok, Err, OnOk, OnErr, IfOk, IfErr, IfSome, vec_len};
 ghost use Rattle.std.specs.Io.KnownBytes.{Appends};
 ghost use Rattle.std.specs.List.{common_prefix_len};
 ghost use Rattle.fp_io.specs.Causes.{Rose};
@@ -8,9 +8,9 @@ ghost use Rattle.fp_io.specs.Content.{AppendsFront};
 ghost use Rattle.timer_unit.specs.Time.{most_cycles};
 ghost use Rattle.fp_ports.specs.Rows.{rows_of};
 ghost use Rattle.solo_run.specs.FirstDifference.{IsChecked};
-ghost use Rattle.flexpret_top.specs.SoloAndCheck.{IsAlone, IsAloneOf, alone_fault, alone_in, alone_program, compared, same_text, told_alone};
+ghost use Rattle.flexpret_top.specs.SoloAndCheck.{IsAlone, IsAloneOf, alone_fault, alone_in, alone_program, compared, said_by, same_text, told_alone};
 ghost use Rattle.file_answers.specs.Answer.{on_file};
-ghost use Rattle.file_answers.specs.Stops.{IsAnswerStop, IsStopIn, Makes, is_difference};
+ghost use Rattle.file_answers.specs.Stops.{IsAnswerStop, IsStopIn, IsStopOf, Makes, is_difference};
 
 use crate::ready::Alone;
 use crate::shown::ReadPort;
@@ -139,6 +139,18 @@ pub fn check_alone(alone: Alone, ports: &mut Ports, given: &[u8]) -> Checked
     checked
 }
 
+/// What a comparison answers: a trace that isn't the defined one ends the command.
+fn said_by(checked: Checked) -> Result<(), Stop>
+    ensures same { OnOk result (said_by checked ≡ Ok same_text) }
+    ensures stop { IfErr result (IsStopOf (said_by checked)) }
+    ensures difference { IfErr result (λ stop. is_difference stop ≡ true) }
+{
+    match checked {
+        Checked::Same => Ok(()),
+        Checked::Differs { line } => Err(Stop::Differs { line }),
+    }
+}
+
 /// Fetches a recorded trace, and compares it with the lines of the thread's events.
 ///
 /// # Errors
@@ -167,10 +179,7 @@ pub fn compare_alone<F: Files>(
     ensures eight { vec_len ports.new ≡ 8 }
 {
     match fetch(alloc, trace, MOST_OF_A_LINE * alone.cycles as usize, files) {
-        Ok(given) => match check_alone(alone, ports, &given) {
-            Checked::Same => Ok(()),
-            Checked::Differs { line } => Err(Stop::Differs { line }),
-        },
+        Ok(given) => said_by(check_alone(alone, ports, &given)),
         Err(stop) => Err(stop),
     }
 }
