@@ -2,6 +2,7 @@
 use Rattle.std.specs.Prelude.{ℕ, List, [], ◌∷◌, Option, Some, None, option_map, option_and_then, codes, find}
 use Rattle.std.specs.Str.{bytes_eq}
 use Rattle.timer_unit.specs.Time.{most_cycles}
+use Rattle.ask_words.specs.Limits.{most_checked_cycles}
 use Rattle.ask_words.specs.Forms.{Text, texts_in}
 use Rattle.ask_words.specs.Numbers.{thread_in, number_in, address_in}
 use Rattle.ask_words.specs.declared.asked.Ask.{Ask}
@@ -59,9 +60,9 @@ abbrev pub solo_asks : List Text → Option Ask
 solo_asks (setup ∷ thread ∷ cycles ∷ []) = of_two (Solo setup) (thread_in thread) (cycles_in cycles)
 solo_asks _ = None
 
--- a number of cycles that a trace is compared over, at most 1,000,000
+-- a number of cycles that a trace is compared over
 abbrev pub checked_cycles_in : Text → Option ℕ
-checked_cycles_in = number_in 1000000
+checked_cycles_in = number_in most_checked_cycles
 
 abbrev pub check_of : Text → Text → ℕ → ℕ → Ask
 check_of setup trace thread cycles = Check setup thread cycles trace

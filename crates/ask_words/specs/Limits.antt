@@ -1,8 +1,12 @@
 -- The values that a command may have.
-use Rattle.std.specs.Prelude.{◌<◌, ◌≤◌}
+use Rattle.std.specs.Prelude.{ℕ, ◌<◌, ◌≤◌}
 use Rattle.timer_unit.specs.Time.{most_cycles}
 use Rattle.ask_words.specs.declared.asked.Ask.{Ask}
 use Rattle.ask_words.specs.declared.asked.Ask.TheVariants.{Run, Dump, Asm, Bound, Selfrun, Phases, Solo, Check, Elf, Calls}
+
+-- the most cycles that a recorded trace is compared over
+abbrev pub most_checked_cycles : ℕ
+most_checked_cycles = 1000000
 
 -- threads are below 8, cycles at most 4,000,000,000, those of `check` at most 1,000,000, the number of `selfrun` at most 4,294,967,295
 abbrev pub IsWithinLimits : Ask → Type 0
@@ -13,6 +17,6 @@ IsWithinLimits (Bound setup thread section) = thread < 8
 IsWithinLimits (Selfrun number) = number ≤ 4294967295
 IsWithinLimits (Phases setup cycles) = cycles ≤ most_cycles
 IsWithinLimits (Solo setup thread cycles) = (thread < 8) × (cycles ≤ most_cycles)
-IsWithinLimits (Check setup thread cycles trace) = (thread < 8) × (cycles ≤ 1000000)
+IsWithinLimits (Check setup thread cycles trace) = (thread < 8) × (cycles ≤ most_checked_cycles)
 IsWithinLimits (Elf file) = Unit {0}
 IsWithinLimits (Calls setup thread section routines) = thread < 8

@@ -3,6 +3,7 @@
 ghost use Rattle.std.specs.Prelude.{◌≡◌, ◌≤◌, map, string_bytes, IfOk, IfErr, IfSome, Some, option_map, find, true};
 ghost use Rattle.std.specs.Str.{bytes_eq};
 ghost use Rattle.timer_unit.specs.Time.{most_cycles};
+ghost use Rattle.ask_words.specs.Limits.{most_checked_cycles};
 ghost use Rattle.ask_words.specs.Commands.{cycles_in, checked_cycles_in};
 ghost use Rattle.ask_words.specs.Commands.{ask, asked, commands, run_asks, dump_asks, asm_asks, bound_asks, selfrun_asks, phases_asks, solo_asks, check_asks, elf_asks, calls_asks};
 ghost use Rattle.ask_words.specs.Code.{row_of};
@@ -82,7 +83,7 @@ fn cycles_of(word: &str) -> Option<u64>
 /// A number of cycles that a trace is compared over, at most [`MOST_CHECKED_CYCLES`].
 fn checked_cycles_of(word: &str) -> Option<u64>
     ensures value { result ≡ checked_cycles_in word.now }
-    ensures limit { IfSome result (λ n. n ≤ 1000000) }
+    ensures limit { IfSome result (λ n. n ≤ most_checked_cycles) }
 {
     number_of(MOST_CHECKED_CYCLES, word)
 }
