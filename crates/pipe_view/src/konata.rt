@@ -1,7 +1,8 @@
 //! The log of the Konata viewer, format `Kanata` 0004.
 
 use crate::text::TurnText;
-use pipe_watch::{Cycle, is_flushed, thread_of};
+use crate::view::Writing;
+use pipe_watch::{Cycle, Window, is_flushed, thread_of};
 use pipeline_core::{Held, Stored};
 use std::io::Write;
 use std::{fmt, io};
@@ -32,13 +33,10 @@ pub struct Konata {
     stages: [Option<Shown>; 5],
 }
 
-impl Konata {
+impl Writing for Konata {
     /// Begins a log with its head, at the cycle that is shown first.
-    ///
-    /// # Errors
-    ///
-    /// The writer's.
-    pub fn begin<W: Write>(out: &mut W, from: u64) -> io::Result<Konata> {
+    fn begin<W: Write>(out: &mut W, window: &Window) -> io::Result<Konata> {
+        let from = window.from();
         write!(out, "Kanata\t0004\nC=\t{from}\n")?;
         Ok(Konata {
             count: 0,
@@ -48,11 +46,7 @@ impl Konata {
 
     /// Puts a cycle: the turns that end, its own, in which stage each turn is, and that the cycle
     /// is over.
-    ///
-    /// # Errors
-    ///
-    /// The writer's.
-    pub fn put<W: Write>(&mut self, out: &mut W, cycle: &Cycle) -> io::Result<()> {
+    fn put<W: Write>(&mut self, out: &mut W, cycle: &Cycle) -> io::Result<()> {
         let turn = self.shown(cycle.turn());
         let [in_f, in_d, in_e, in_m, in_w] = self.stages;
         let (out_of_d, lost) = behind_d(in_d);
@@ -68,6 +62,12 @@ impl Konata {
         write!(out, "{retired}{lost}{begun}{f}{d}{e}{m}{w}C\t1\n")
     }
 
+    fn end<W: Write>(self, _out: &mut W, _time: u64) -> io::Result<()> {
+        Ok(())
+    }
+}
+
+impl Konata {
     /// The turn with the next number, where somebody was picked.
     fn shown(&mut self, turn: &Held<Stored>) -> Option<Shown> {
         let thread = thread_of(turn)?;

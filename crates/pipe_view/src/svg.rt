@@ -3,7 +3,8 @@
 ghost use Rattle.std.specs.Prelude.{◌≡◌, ◌≤◌};
 
 use crate::text::{TurnText, slot_name};
-use pipe_watch::{Cycle, is_flushed, thread_of};
+use crate::view::Writing;
+use pipe_watch::{Cycle, Window, is_flushed, thread_of};
 use std::io;
 use std::io::Write;
 
@@ -50,14 +51,10 @@ pub struct Svg {
     x: u64,
 }
 
-impl Svg {
-    /// Begins a picture of so many cycles, with the names of its rows and its legend.
-    ///
-    /// # Errors
-    ///
-    /// The writer's.
-    pub fn begin<W: Write>(out: &mut W, cycles: u64) -> io::Result<Svg> {
-        let columns = COLUMN.saturating_mul(cycles);
+impl Writing for Svg {
+    /// Begins a picture as wide as its cycles want, with the names of its rows and its legend.
+    fn begin<W: Write>(out: &mut W, window: &Window) -> io::Result<Svg> {
+        let columns = COLUMN.saturating_mul(window.len());
         let width = LEAST_WIDTH.max(columns.saturating_add(LEFT + TIME_WIDTH));
         write!(
             out,
@@ -68,11 +65,7 @@ impl Svg {
     }
 
     /// Puts the column of the next cycle.
-    ///
-    /// # Errors
-    ///
-    /// The writer's.
-    pub fn put<W: Write>(&mut self, out: &mut W, cycle: &Cycle) -> io::Result<()> {
+    fn put<W: Write>(&mut self, out: &mut W, cycle: &Cycle) -> io::Result<()> {
         let x = self.x;
         self.x = x.saturating_add(COLUMN);
         put_time(out, x, cycle)?;
@@ -84,15 +77,10 @@ impl Svg {
         }
         put_cell(out, x, cycle)
     }
-}
 
-/// Ends a picture.
-///
-/// # Errors
-///
-/// The writer's.
-pub fn end_svg<W: Write>(out: &mut W) -> io::Result<()> {
-    out.write_all(b"</svg>\n")
+    fn end<W: Write>(self, out: &mut W, _time: u64) -> io::Result<()> {
+        out.write_all(b"</svg>\n")
+    }
 }
 
 /// Where a thread's row begins, under those of the cycles, the times and the slots.

@@ -1,6 +1,7 @@
 //! A line of text for each cycle.
 
-use pipe_watch::{Cycle, is_flushed, thread_of};
+use crate::view::Writing;
+use pipe_watch::{Cycle, Window, is_flushed, thread_of};
 use pipeline_core::{Held, Stored};
 use rv_disasm::text_at;
 use slot_table::Turn;
@@ -23,28 +24,30 @@ pub(crate) fn slot_name(slot: Turn) -> &'static str {
     }
 }
 
-/// Puts the line that names the columns.
-///
-/// # Errors
-///
-/// The writer's.
-pub fn put_heading<W: Write>(out: &mut W) -> io::Result<()> {
-    out.write_all(b"     cycle            ns slot  F  D  E  M  W  turn\n")
-}
+/// Lines of text: one that names the columns, and one for each cycle.
+#[derive(Clone, Copy)]
+pub struct Rows;
 
-/// Puts the line of a cycle: its number, its time in nanoseconds, its slot, the thread in each of
-/// the five stages, and its turn.
-///
-/// # Errors
-///
-/// The writer's.
-pub fn put_row<W: Write>(out: &mut W, cycle: &Cycle) -> io::Result<()> {
-    let number = cycle.start.cycle;
-    let time = cycle.start.time;
-    let slot = slot_name(cycle.start.slot);
-    let stages = Stages(&cycle.turns);
-    let turn = TurnText(cycle);
-    write!(out, "{number:>10} {time:>13} {slot:<4} {stages} {turn}\n")
+impl Writing for Rows {
+    fn begin<W: Write>(out: &mut W, _window: &Window) -> io::Result<Rows> {
+        out.write_all(b"     cycle            ns slot  F  D  E  M  W  turn\n")?;
+        Ok(Rows)
+    }
+
+    /// Puts the line of a cycle: its number, its time in nanoseconds, its slot, the thread in each
+    /// of the five stages, and its turn.
+    fn put<W: Write>(&mut self, out: &mut W, cycle: &Cycle) -> io::Result<()> {
+        let number = cycle.start.cycle;
+        let time = cycle.start.time;
+        let slot = slot_name(cycle.start.slot);
+        let stages = Stages(&cycle.turns);
+        let turn = TurnText(cycle);
+        write!(out, "{number:>10} {time:>13} {slot:<4} {stages} {turn}\n")
+    }
+
+    fn end<W: Write>(self, _out: &mut W, _time: u64) -> io::Result<()> {
+        Ok(())
+    }
 }
 
 /// What stands in the five stages.

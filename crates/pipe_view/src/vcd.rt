@@ -1,7 +1,8 @@
 //! A value change dump (IEEE 1364-2005, 18.2), with text values as GTKWave reads them.
 
 use crate::text::slot_name;
-use pipe_watch::{Cycle, CycleStart, ThreadState};
+use crate::view::Writing;
+use pipe_watch::{Cycle, CycleStart, ThreadState, Window};
 use pipeline_core::{Held, Stored};
 use rv_disasm::text_at;
 use std::io::Write;
@@ -46,13 +47,9 @@ pub struct Vcd {
     turn: Held<Stored>,
 }
 
-impl Vcd {
+impl Writing for Vcd {
     /// Begins a dump with its declarations.
-    ///
-    /// # Errors
-    ///
-    /// The writer's.
-    pub fn begin<W: Write>(out: &mut W) -> io::Result<Vcd> {
+    fn begin<W: Write>(out: &mut W, _window: &Window) -> io::Result<Vcd> {
         out.write_all(DECLARATIONS.as_bytes())?;
         Ok(Vcd {
             before: None,
@@ -61,26 +58,18 @@ impl Vcd {
     }
 
     /// Puts what changes with a cycle, at the cycle's time.
-    ///
-    /// # Errors
-    ///
-    /// The writer's.
-    pub fn put<W: Write>(&mut self, out: &mut W, cycle: &Cycle) -> io::Result<()> {
+    fn put<W: Write>(&mut self, out: &mut W, cycle: &Cycle) -> io::Result<()> {
         let changes = Changes { dump: self, cycle };
         write!(out, "{changes}")?;
         self.before = Some(cycle.start);
         self.turn = *cycle.turn();
         Ok(())
     }
-}
 
-/// Ends a dump at the time of the cycle that is shown no more, in nanoseconds.
-///
-/// # Errors
-///
-/// The writer's.
-pub fn end_vcd<W: Write>(out: &mut W, time: u64) -> io::Result<()> {
-    write!(out, "#{time}\n")
+    /// Ends a dump at the time of the cycle that is shown no more.
+    fn end<W: Write>(self, out: &mut W, time: u64) -> io::Result<()> {
+        write!(out, "#{time}\n")
+    }
 }
 
 /// What changes with the next cycle of a dump.

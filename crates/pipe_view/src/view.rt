@@ -5,9 +5,9 @@ ghost use Rattle.timer_unit.specs.Time.{most_cycles};
 
 use crate::konata::Konata;
 use crate::progress::{Progress, tell_at};
-use crate::svg::{Svg, end_svg};
-use crate::text::{put_heading, put_row};
-use crate::vcd::{Vcd, end_vcd};
+use crate::svg::Svg;
+use crate::text::Rows;
+use crate::vcd::Vcd;
 use fp_ports::Ports;
 use machine::Machine;
 use pipe_watch::{Cycle, Watch, Window};
@@ -31,47 +31,28 @@ pub enum Form {
     Svg,
 }
 
-/// A form that is being written.
-#[derive(Drop)]
-enum Writing {
-    Text,
-    Konata(Konata),
-    Vcd(Vcd),
-    Svg(Svg),
-}
+/// A form that is written cycle by cycle.
+pub(crate) trait Writing {
+    /// Begins the form, for these cycles.
+    ///
+    /// # Errors
+    ///
+    /// The writer's.
+    fn begin<W: Write>(out: &mut W, window: &Window) -> io::Result<Self>;
 
-impl Writing {
-    /// Begins a form.
-    fn begin<W: Write>(out: &mut W, form: Form, window: &Window) -> io::Result<Writing> {
-        match form {
-            Form::Text => {
-                put_heading(out)?;
-                Ok(Writing::Text)
-            }
-            Form::Konata => Ok(Writing::Konata(Konata::begin(out, window.from())?)),
-            Form::Vcd => Ok(Writing::Vcd(Vcd::begin(out)?)),
-            Form::Svg => Ok(Writing::Svg(Svg::begin(out, window.len())?)),
-        }
-    }
+    /// Puts the next cycle.
+    ///
+    /// # Errors
+    ///
+    /// The writer's.
+    fn put<W: Write>(&mut self, out: &mut W, cycle: &Cycle) -> io::Result<()>;
 
-    /// Puts a cycle.
-    fn put<W: Write>(&mut self, out: &mut W, cycle: &Cycle) -> io::Result<()> {
-        match self {
-            Writing::Text => put_row(out, cycle),
-            Writing::Konata(log) => log.put(out, cycle),
-            Writing::Vcd(dump) => dump.put(out, cycle),
-            Writing::Svg(picture) => picture.put(out, cycle),
-        }
-    }
-
-    /// Ends the form, with the time of the cycle behind the window.
-    fn end<W: Write>(self, out: &mut W, time: u64) -> io::Result<()> {
-        match self {
-            Writing::Text | Writing::Konata(_) => Ok(()),
-            Writing::Vcd(_) => end_vcd(out, time),
-            Writing::Svg(_) => end_svg(out),
-        }
-    }
+    /// Ends the form, with the time of the cycle behind the window, in nanoseconds.
+    ///
+    /// # Errors
+    ///
+    /// The writer's.
+    fn end<W: Write>(self, out: &mut W, time: u64) -> io::Result<()>;
 }
 
 /// Does so many cycles from cycle 0 on.
@@ -99,9 +80,9 @@ fn pass_over(machine: &mut Machine, ports: &mut Ports)
 }
 
 /// Does a cycle, and puts the one that is whole then, if the window has it.
-fn put_cycle<W: Write>(
+fn put_cycle<V: Writing, W: Write>(
     out: &mut W,
-    writing: &mut Writing,
+    writing: &mut V,
     watch: &mut Watch,
     window: &Window,
     machine: &mut Machine,
@@ -120,9 +101,9 @@ fn put_cycle<W: Write>(
 
 /// Runs a machine from a cycle on until all is known of a window's cycles, and puts them as they
 /// come.
-fn put_window<W: Write, P: Progress>(
+fn put_window<V: Writing, W: Write, P: Progress>(
     out: &mut W,
-    writing: &mut Writing,
+    writing: &mut V,
     window: &Window,
     machine: &mut Machine,
     ports: &mut Ports,
@@ -136,6 +117,22 @@ fn put_window<W: Write, P: Progress>(
         tell_at(progress, machine.at);
     }
     Ok(())
+}
+
+/// Runs a machine from a cycle on until all is known of a window's cycles, and puts them in a form
+/// as they come.
+fn put_form<V: Writing + Drop, W: Write, P: Progress>(
+    out: &mut W,
+    window: &Window,
+    machine: &mut Machine,
+    ports: &mut Ports,
+    progress: &mut P,
+) -> io::Result<()>
+    requires eight { vec_len ports.old ≡ 8 }
+{
+    let mut writing = V::begin(out, window)?;
+    put_window(out, &mut writing, window, machine, ports, progress)?;
+    writing.end(out, machine.units.clock.now(window.to()))
 }
 
 /// Runs a machine from cycle 0 on until all is known of a window's cycles, and puts them as they
@@ -158,7 +155,10 @@ pub fn put_view<W: Write, P: Progress>(
     let first = window.from().saturating_sub(BEFORE);
     go(machine, ports, first, progress);
     progress.begin_window();
-    let mut writing = Writing::begin(out, form, window)?;
-    put_window(out, &mut writing, window, machine, ports, progress)?;
-    writing.end(out, machine.units.clock.now(window.to()))
+    match form {
+        Form::Text => put_form::<Rows, _, _>(out, window, machine, ports, progress),
+        Form::Konata => put_form::<Konata, _, _>(out, window, machine, ports, progress),
+        Form::Vcd => put_form::<Vcd, _, _>(out, window, machine, ports, progress),
+        Form::Svg => put_form::<Svg, _, _>(out, window, machine, ports, progress),
+    }
 }
