@@ -1,5 +1,8 @@
 //! What is seen of one cycle.
 
+ghost use Rattle.std.specs.Prelude.{◌≡◌, option_map};
+ghost use Rattle.pipe_watch.specs.Watching.{IsOutcome, is_donated, is_flushed, is_trap, picked_turn, thread_of};
+
 use arrayvec::ArrayString;
 use pipeline_core::{Held, Stored};
 use rv_exec::Effect;
@@ -49,7 +52,9 @@ pub struct Cycle {
 }
 
 /// The thread of a turn, if one was picked.
-pub fn thread_of(turn: &Held<Stored>) -> Option<u8> {
+pub fn thread_of(turn: &Held<Stored>) -> Option<u8>
+    ensures { result ≡ thread_of turn.now }
+{
     match *turn {
         Held::Bubble => None,
         Held::Flushed { thread } | Held::Issue { thread, .. } => Some(thread),
@@ -57,18 +62,24 @@ pub fn thread_of(turn: &Held<Stored>) -> Option<u8> {
 }
 
 /// Whether a turn is one that was lost.
-pub fn is_flushed(turn: &Held<Stored>) -> bool {
+pub fn is_flushed(turn: &Held<Stored>) -> bool
+    ensures { result ≡ is_flushed turn.now }
+{
     matches!(turn, Held::Flushed { .. })
 }
 
 impl Cycle {
     /// The turn that the cycle picked.
-    pub fn turn(&self) -> &Held<Stored> {
+    pub fn turn(&self) -> &Held<Stored>
+        ensures { result.now ≡ picked_turn self.now }
+    {
         &self.turns[0]
     }
 
     /// Whether the picked turn is a soft thread's in the slot of a hard thread that isn't awake.
-    pub fn is_donated(&self) -> bool {
+    pub fn is_donated(&self) -> bool
+        ensures { result ≡ is_donated self.now.start.slot (thread_of (picked_turn self.now)) }
+    {
         let Turn::Thread(owner) = self.start.slot else {
             return false;
         };
@@ -79,7 +90,9 @@ impl Cycle {
     }
 
     /// Whether the picked turn traps.
-    pub fn is_trap(&self) -> bool {
+    pub fn is_trap(&self) -> bool
+        ensures { result ≡ is_trap (picked_turn self.now) }
+    {
         match *self.turn() {
             Held::Issue { what, .. } => matches!(what.effect, Some(Effect::Trap { .. })),
             _ => false,
@@ -88,7 +101,10 @@ impl Cycle {
 
     /// What became of the picked turn: the effect as the trace words it, `held` where it stays at a
     /// DU and leaves no line, `flushed` where it is lost; nothing where nobody was picked.
-    pub fn outcome(&self) -> &str {
+    pub fn outcome(&self) -> &str
+        ensures { IsOutcome (picked_turn self.now)
+            (option_map (λ text. text.bytes) self.now.line) result.now }
+    {
         match self.turn() {
             Held::Bubble => "",
             Held::Flushed { .. } => "flushed",

@@ -1,8 +1,8 @@
 //! What is seen of the machine cycle by cycle, as plain values, and the window of cycles that is
 //! asked for.
 //!
-//! The contracts promise that each function is safe and ends, and that a watched cycle is one cycle
-//! of the machine.
+//! The contracts say what is seen: what the machine holds at a cycle's start, the turns in the
+//! stages, and the line that the picked turn leaves. A watched cycle is one cycle of the machine.
 #![tactic(auto)]
 
 mod cycle;

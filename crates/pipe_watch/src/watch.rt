@@ -1,6 +1,12 @@
 //! A machine that is watched cycle by cycle.
 
-ghost use Rattle.std.specs.Prelude.{◌≡◌, ◌+◌, ◌<◌, vec_len};
+ghost use Rattle.std.specs.Prelude.{◌≡◌, ◌+◌, ◌<◌, [], ◌∷◌, None, Some, MatchOption, option_map, slice_index_or, vec_len};
+ghost use Rattle.fp_ports.specs.Rows.{rows_of};
+ghost use Rattle.machine.specs.WorldRelation.{AreLeft};
+ghost use Rattle.pipe_model.specs.declared.stage_registers.Held.TheVariants.{Bubble};
+ghost use Rattle.pipe_model.specs.Stages.{retired};
+ghost use Rattle.pipe_watch.specs.Watching.{HasLine, IsTick, is_asleep, seen_after, start_of, thread_state, whole_next};
+ghost use Rattle.trace_print.specs.Text.{line_text};
 ghost use Rattle.timer_unit.specs.Time.{most_cycles};
 
 use crate::cycle::{Cycle, CycleStart, ThreadState};
@@ -15,14 +21,17 @@ use trace_print::line;
 #[derive(Drop)]
 pub struct Watch {
     /// The starts of the last three cycles, the newest first.
-    starts: [Option<CycleStart>; 3],
+    pub starts: [Option<CycleStart>; 3],
     /// The last turns that came out of M, the newest first.
-    turns: [Held<Stored>; 4],
+    pub turns: [Held<Stored>; 4],
 }
 
 impl Watch {
     /// One that has seen no cycle.
-    pub fn new() -> Watch {
+    pub fn new() -> Watch
+        ensures starts { result.starts ≡ None ∷ None ∷ None ∷ [] }
+        ensures turns { result.turns ≡ Bubble ∷ Bubble ∷ Bubble ∷ Bubble ∷ [] }
+    {
         Watch {
             starts: [None; 3],
             turns: [Held::Bubble; 4],
@@ -35,37 +44,73 @@ impl Watch {
     pub fn tick(&mut self, machine: &mut Machine, ports: &mut Ports) -> Option<Cycle>
         requires cycle { machine.old.at < most_cycles }
         requires eight { vec_len ports.old ≡ 8 }
+        ensures shown { MatchOption result (whole_next self.old ≡ None) (λ cycle.
+            (whole_next self.old ≡ Some cycle.start)
+            × (cycle.turns ≡ machine.new.pipe.m ∷ self.old.turns) × HasLine cycle) }
+        ensures kept { self.new ≡ seen_after self.old (start_of machine.old
+            (rows_of latched word_at ports.old.items)) machine.new.pipe.m }
+        ensures relation { IsTick machine.old (rows_of latched word_at ports.old.items)
+            machine.new (rows_of latched word_at ports.new.items) }
+        ensures words { AreLeft (rows_of latched word_at ports.old.items)
+            (rows_of latched word_at ports.new.items) }
         ensures at { machine.new.at ≡ machine.old.at + 1 }
         ensures eight { vec_len ports.new ≡ 8 }
     {
         let start = self.keep_start(start_of(machine, ports));
         let _event = machine.tick(ports);
         let turns = self.keep_turn(machine.pipe.m);
-        let start = start?;
-        Some(Cycle {
-            start,
-            turns,
-            line: line_in_m(machine, start.cycle),
-        })
+        whole_cycle(machine, start, turns)
     }
 
     /// Keeps the start of a cycle, and gives that of three cycles before, if it was seen.
-    fn keep_start(&mut self, start: CycleStart) -> Option<CycleStart> {
+    fn keep_start(&mut self, start: CycleStart) -> Option<CycleStart>
+        ensures third { result ≡ slice_index_or self.old.starts 2 None }
+        ensures starts { self.new.starts ≡ Some start ∷ slice_index_or self.old.starts 0 None
+            ∷ slice_index_or self.old.starts 1 None ∷ [] }
+        ensures turns { self.new.turns ≡ self.old.turns }
+    {
         let [newest, second, third] = self.starts;
         self.starts = [Some(start), newest, second];
         third
     }
 
     /// Keeps a turn that came out of M, and gives it with the four before it, the newest first.
-    fn keep_turn(&mut self, turn: Held<Stored>) -> [Held<Stored>; 5] {
+    fn keep_turn(&mut self, turn: Held<Stored>) -> [Held<Stored>; 5]
+        ensures turns { result ≡ turn ∷ self.old.turns }
+        ensures newest { self.new.turns ≡ turn ∷ slice_index_or self.old.turns 0 Bubble
+            ∷ slice_index_or self.old.turns 1 Bubble ∷ slice_index_or self.old.turns 2 Bubble ∷ [] }
+        ensures starts { self.new.starts ≡ self.old.starts }
+    {
         let [d, e, m, w] = self.turns;
         self.turns = [turn, d, e, m];
         [turn, d, e, m, w]
     }
 }
 
+/// The cycle that began so, if it was seen, with these turns, of which M holds the first one now.
+fn whole_cycle(
+    machine: &Machine,
+    start: Option<CycleStart>,
+    turns: [Held<Stored>; 5],
+) -> Option<Cycle>
+    ensures { MatchOption result (start ≡ None) (λ cycle. (start ≡ Some cycle.start)
+        × (cycle.turns ≡ turns) × (option_map (λ text. text.bytes) cycle.line
+        ≡ option_map line_text (retired cycle.start.cycle machine.now.pipe.m))) }
+{
+    let start = start?;
+    Some(Cycle {
+        start,
+        turns,
+        line: line_in_m(machine, start.cycle),
+    })
+}
+
 /// The line of the turn that M holds, which was issued in this cycle, if it leaves one.
-fn line_in_m(machine: &Machine, cycle: u64) -> Option<ArrayString<96>> {
+#[tactic(auto, unfolding(pipe_model::specs::Stages::retired))]
+fn line_in_m(machine: &Machine, cycle: u64) -> Option<ArrayString<96>>
+    ensures { option_map (λ text. text.bytes) result
+        ≡ option_map line_text (retired cycle machine.now.pipe.m) }
+{
     let Held::Issue { thread, what } = &machine.pipe.m else {
         return None;
     };
@@ -86,6 +131,7 @@ fn line_in_m(machine: &Machine, cycle: u64) -> Option<ArrayString<96>> {
 fn is_asleep(machine: &Machine, thread: u8) -> bool
     requires cycle { machine.now.at < most_cycles }
     requires thread { thread < 8 }
+    ensures { result ≡ is_asleep machine.now thread }
 {
     let units = &machine.units;
     units.sched.modes.mode(thread) % 2 == 1
@@ -97,6 +143,10 @@ fn thread_state(machine: &Machine, ports: &mut Ports, thread: u8) -> ThreadState
     requires cycle { machine.now.at < most_cycles }
     requires eight { vec_len ports.old ≡ 8 }
     requires thread { thread < 8 }
+    ensures seen { result
+        ≡ thread_state machine.now (rows_of latched word_at ports.old.items) thread }
+    ensures rows { rows_of latched word_at ports.new.items
+        ≡ rows_of latched word_at ports.old.items }
     ensures eight { vec_len ports.new ≡ 8 }
 {
     ThreadState {
@@ -111,6 +161,9 @@ fn thread_state(machine: &Machine, ports: &mut Ports, thread: u8) -> ThreadState
 fn start_of(machine: &Machine, ports: &mut Ports) -> CycleStart
     requires cycle { machine.now.at < most_cycles }
     requires eight { vec_len ports.old ≡ 8 }
+    ensures seen { result ≡ start_of machine.now (rows_of latched word_at ports.old.items) }
+    ensures rows { rows_of latched word_at ports.new.items
+        ≡ rows_of latched word_at ports.old.items }
     ensures eight { vec_len ports.new ≡ 8 }
 {
     CycleStart {
