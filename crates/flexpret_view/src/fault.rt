@@ -70,7 +70,10 @@ impl<T: Drop> From<AllocFailed<T>> for Fault {
 }
 
 impl From<io::Error> for Fault {
-    fn from(_error: io::Error) -> Fault {
-        Fault::Write
+    fn from(error: io::Error) -> Fault {
+        match error.kind() {
+            io::ErrorKind::OutOfMemory => Fault::NoMemory,
+            _ => Fault::Write,
+        }
     }
 }

@@ -2,7 +2,7 @@
 //! cycle of a window, as text, for a viewer, or as a picture.
 #![tactic(auto)]
 
-ghost use Rattle.std.specs.Prelude.{◌≡◌, IfOk, vec_len};
+ghost use Rattle.std.specs.Prelude.{◌≡◌, vec_len};
 
 mod fault;
 mod options;
@@ -12,13 +12,12 @@ mod words;
 use crate::fault::Fault;
 use crate::progress::ProgressLine;
 use crate::words::{Ask, STANDARD_OUTPUT, WordsNo, read_words};
-use file_answers::{Program, load};
+use file_answers::{Program, Stop, load};
 use fp_io::RealFiles;
 use fp_ports::{HeldPort, Ports};
 use fp_setup::Name;
 use machine::{Machine, feed_inputs};
 use pipe_view::put_view;
-use std::alloc::Global;
 use std::io::{BufWriter, Write};
 use std::process::ExitCode;
 use std::{env, fs, io};
@@ -59,38 +58,12 @@ fn write_buffered<W: Write + Drop>(
     machine: &mut Machine,
     ports: &mut Ports,
     to: W,
-) -> Result<(), Fault>
+) -> io::Result<()>
     requires start { machine.old.at ≡ 0 }
     requires eight { vec_len ports.old ≡ 8 }
 {
     let mut out = BufWriter::new(rt.alloc(), to)?;
-    Ok(write_view(rt, ask, machine, ports, &mut out)?)
-}
-
-/// The program of a setup's file.
-fn load_file(rt: HostRuntime, setup: &str) -> Result<Program, Fault> {
-    let name = Name::from_str(rt.alloc(), setup)?;
-    Ok(load(rt.alloc(), &name, &mut RealFiles::new(rt))?)
-}
-
-/// The machine of a program at its start, with the ports fed.
-fn machine_beside(alloc: Global, program: &Program, ports: &mut Ports) -> Result<Machine, Fault>
-    requires eight { vec_len ports.old ≡ 8 }
-    ensures start { IfOk result (λ machine. machine.at ≡ 0) }
-    ensures eight { vec_len ports.new ≡ 8 }
-{
-    feed_inputs(&program.setup, ports)?;
-    Ok(Machine::load(alloc, &program.setup, &program.image)?)
-}
-
-/// The machine of a setup's file at its start, with the ports fed.
-fn load_machine(rt: HostRuntime, setup: &str, ports: &mut Ports) -> Result<Machine, Fault>
-    requires eight { vec_len ports.old ≡ 8 }
-    ensures start { IfOk result (λ machine. machine.at ≡ 0) }
-    ensures eight { vec_len ports.new ≡ 8 }
-{
-    let program = load_file(rt, setup)?;
-    machine_beside(rt.alloc(), &program, ports)
+    write_view(rt, ask, machine, ports, &mut out)
 }
 
 /// Runs a machine, and writes what is asked for to the file that is asked for.
@@ -99,7 +72,7 @@ fn write_asked(
     ask: &Ask<'_>,
     machine: &mut Machine,
     ports: &mut Ports,
-) -> Result<(), Fault>
+) -> io::Result<()>
     requires start { machine.old.at ≡ 0 }
     requires eight { vec_len ports.old ≡ 8 }
 {
@@ -111,12 +84,33 @@ fn write_asked(
     }
 }
 
+/// Runs the machine of a program from its start, its inputs fed to the ports, and answers what is
+/// asked.
+fn run_program(
+    rt: HostRuntime,
+    ask: &Ask<'_>,
+    program: &Program,
+    ports: &mut Ports,
+) -> Result<(), Fault>
+    requires { vec_len ports.old ≡ 8 }
+{
+    feed_inputs(&program.setup, ports)?;
+    let mut machine = Machine::load(rt.alloc(), &program.setup, &program.image)?;
+    write_asked(rt, ask, &mut machine, ports).map_err(Fault::from)
+}
+
+/// The program of a setup's file.
+fn load_file(rt: HostRuntime, setup: &str) -> Result<Program, Stop> {
+    let name = Name::from_str(rt.alloc(), setup)?;
+    load(rt.alloc(), &name, &mut RealFiles::new(rt))
+}
+
 /// Answers what is asked, beside these devices.
 fn answer_beside(rt: HostRuntime, ask: &Ask<'_>, ports: &mut Ports) -> Result<(), Fault>
     requires { vec_len ports.old ≡ 8 }
 {
-    let mut machine = load_machine(rt, ask.setup, ports)?;
-    write_asked(rt, ask, &mut machine, ports)
+    let program = load_file(rt, ask.setup)?;
+    run_program(rt, ask, &program, ports)
 }
 
 /// Answers what is asked, beside a device at each of the eight ports that shows 0 until it is fed.

@@ -6,7 +6,7 @@ use clap::error::ErrorKind;
 use clap::{ArgMatches, Error};
 use pipe_view::Form;
 use pipe_watch::Window;
-use std::alloc::{AllocError, Global};
+use std::alloc::Global;
 
 /// The most columns of a picture.
 const MOST_COLUMNS: u64 = 2000;
@@ -46,12 +46,6 @@ impl From<Error> for WordsNo {
             ErrorKind::OutOfMemory => WordsNo::NoMemory,
             _ => WordsNo::Told(error),
         }
-    }
-}
-
-impl From<AllocError> for WordsNo {
-    fn from(_error: AllocError) -> WordsNo {
-        WordsNo::NoMemory
     }
 }
 
@@ -102,9 +96,8 @@ fn asked<'a>(matches: &ArgMatches<'a>) -> Option<Ask<'a>> {
 }
 
 /// What the parser makes of the words.
-fn parsed<'a>(alloc: Global, words: &'a [String]) -> Result<ArgMatches<'a>, WordsNo> {
-    let commands = commands(alloc)?;
-    Ok(commands.try_get_matches_from(words)?)
+fn parsed<'a>(alloc: Global, words: &'a [String]) -> Result<ArgMatches<'a>, Error> {
+    commands(alloc)?.try_get_matches_from(words)
 }
 
 /// What the words of the command line ask, the program's name first.
