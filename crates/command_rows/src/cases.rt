@@ -165,19 +165,11 @@ enum AnswerPart {
 
 /// How the text of a command is written.
 fn style_of(status: u8, line: &str) -> Style {
-    if status != 0 {
-        Style::Plain
-    } else if ["run", "solo", "phases"]
-        .iter()
-        .any(|name| line.starts_with(*name))
-    {
-        Style::Trace
-    } else if line.starts_with("dump") {
-        Style::Dump
-    } else if line.starts_with("asm") || line.starts_with("elf") {
-        Style::Digits
-    } else {
-        Style::Plain
+    match (status, line.split(' ').next().unwrap_or("")) {
+        (0, "run" | "solo" | "phases") => Style::Trace,
+        (0, "dump") => Style::Dump,
+        (0, "asm" | "elf") => Style::Digits,
+        _ => Style::Plain,
     }
 }
 
@@ -200,11 +192,8 @@ fn push_line(to: &mut Vec<u8>, alloc: Global, style: Style, line: &str) -> Resul
 fn fails_of(head: &str) -> Fails {
     let mut words = head.split_whitespace().skip(1);
     let kind = words.next().unwrap_or("");
-    let call = words.next().and_then(|call| call.parse().ok());
-    let taken = words
-        .next()
-        .and_then(|taken| taken.parse().ok())
-        .unwrap_or(0);
+    let call = words.next().unwrap_or("").parse().ok();
+    let taken = words.next().unwrap_or("").parse().unwrap_or(0);
     match (kind, call) {
         ("put", Some(call)) => Fails::at_put(call, taken),
         ("fetch", Some(call)) => Fails::at_fetch(call),
