@@ -27,7 +27,7 @@ use Rattle.pipe_watch.specs.declared.watch.Watch.{Watch}
 abbrev pub is_asleep : Machine → ℕ → Bool
 is_asleep m k = mode_of m.units.sched.modes k % 2 == 1 || nat_lt (time m.units.clock m.at) (slice_index_or m.units.sched.sleep k 0)
 
--- that, its armed moment, and its port's latch and word
+-- what is seen of a thread there: whether it is asleep, its armed moment, and its port's latch and word
 abbrev pub thread_state : Machine → List (Option Row) → ℕ → ThreadState
 thread_state m rows k =
     record {
@@ -37,7 +37,7 @@ thread_state m rows k =
       input = word_seen (row_at rows k) m.at;
     }
 
--- of the machine
+-- what is seen of the machine at the start of its next cycle
 abbrev pub start_of : Machine → List (Option Row) → CycleStart
 start_of m rows =
     record {
@@ -54,7 +54,7 @@ thread_of Bubble = None
 thread_of (Flushed k) = Some k
 thread_of (Issue k x) = Some k
 
--- whether it is one that was lost
+-- whether a turn is one that was lost
 abbrev pub is_flushed : Held Stored → Bool
 is_flushed (Flushed k) = true
 is_flushed _ = false
@@ -68,7 +68,7 @@ abbrev pub is_donated : Turn → Option ℕ → Bool
 is_donated (Thread owner) (Some k) = not (k == owner)
 is_donated _ _ = false
 
--- whether a turn is_trap
+-- whether a turn traps, by its effect
 abbrev pub trapped : Option Effect → Bool
 trapped (Some (Trap cause target)) = true
 trapped _ = false

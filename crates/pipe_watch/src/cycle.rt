@@ -9,7 +9,7 @@ use rv_exec::Effect;
 use slot_table::Turn;
 
 /// Where the effect begins in a line of a trace.
-const EFFECT: usize = 29;
+const EFFECT_COLUMN: usize = 29;
 
 /// What a thread's mode, timer and port are at the start of a cycle.
 #[derive(Clone, Copy)]
@@ -110,7 +110,7 @@ impl Cycle {
             Held::Flushed { .. } => "flushed",
             Held::Issue { .. } => match &self.line {
                 None => "held",
-                Some(line) => line.as_str().get(EFFECT..).unwrap_or("").trim_end(),
+                Some(line) => line.as_str().get(EFFECT_COLUMN..).unwrap_or("").trim_end(),
             },
         }
     }

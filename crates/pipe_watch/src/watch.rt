@@ -64,7 +64,7 @@ impl Watch {
 
     /// Keeps the start of a cycle, and gives that of three cycles before, if it was seen.
     fn keep_start(&mut self, start: CycleStart) -> Option<CycleStart>
-        ensures third { result ≡ slice_index_or self.old.starts 2 None }
+        ensures third { result ≡ whole_next self.old }
         ensures starts { self.new.starts ≡ Some start ∷ slice_index_or self.old.starts 0 None
             ∷ slice_index_or self.old.starts 1 None ∷ [] }
         ensures turns { self.new.turns ≡ self.old.turns }
