@@ -1,6 +1,5 @@
 -- The mnemonics of the operations. Source: RISC-V unprivileged manual, "RV32/64G Instruction Set Listings".
 use Rattle.std.specs.Prelude.{codes}
-use Rattle.fp_asm.specs.Pieces.{Text}
 use Rattle.rv_decode.specs.declared.instruction.BranchOp.{BranchOp}
 use Rattle.rv_decode.specs.declared.instruction.BranchOp.TheVariants.{Beq, Bne, Blt, Bge, Bltu, Bgeu}
 use Rattle.rv_decode.specs.declared.instruction.LoadOp.{LoadOp}
@@ -17,6 +16,7 @@ use Rattle.rv_decode.specs.declared.instruction.MulOp.{MulOp}
 use Rattle.rv_decode.specs.declared.instruction.MulOp.TheVariants.{Mul, Mulh, Mulhsu, Mulhu, Div, Divu, Rem, Remu}
 use Rattle.rv_decode.specs.declared.instruction.CsrKind.{CsrKind}
 use Rattle.rv_decode.specs.declared.instruction.CsrKind.TheVariants.{Rw, Rs, Rc, Rwi, Rsi, Rci}
+use Rattle.rv_disasm.specs.Parts.{Text}
 
 abbrev pub branch_name : BranchOp → Text
 branch_name Beq = codes "beq"

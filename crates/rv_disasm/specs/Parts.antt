@@ -2,7 +2,10 @@
 use Rattle.std.specs.Prelude.{ℕ, suc, ◌==◌, ℤ, pos, negsuc, List, [], ◌∷◌, ◌++◌, codes, decimal, flat_map, if◌then◌else◌}
 use Rattle.rv_decode.specs.CsrNumbers.{csr_mtvec, csr_mscratch, csr_mepc, csr_mcause, csr_mhartid, csr_slots, csr_modes, csr_dregions, csr_iregions}
 use Rattle.trace_print.specs.Digits.{hex}
-use Rattle.fp_asm.specs.Pieces.{Text}
+
+-- a text by its bytes
+abbrev pub Text : Type 0
+Text = List ℕ
 
 -- A name, a number in decimal, so many hexadecimal digits of a number behind `0x`, or a mark.
 pub data Part : Type 0 where

@@ -1,6 +1,5 @@
 -- The text of a word at its address, as the assembler reads it.
 use Rattle.std.specs.Prelude.{ℕ, ◌==◌, ◌+◌, ◌%◌, ◌^◌, ℤ, pos, List, [], ◌∷◌, codes, if◌then◌else◌}
-use Rattle.fp_asm.specs.Pieces.{Text}
 use Rattle.rv_decode.specs.Encoding.{low_bits}
 use Rattle.rv_decode.specs.Table.{ins}
 use Rattle.rv_decode.specs.declared.instruction.Ins.{Ins}
@@ -9,7 +8,7 @@ use Rattle.rv_decode.specs.declared.instruction.BranchOp.{BranchOp}
 use Rattle.rv_decode.specs.declared.instruction.CsrKind.{CsrKind}
 use Rattle.rv_decode.specs.declared.instruction.CsrKind.TheVariants.{Rw, Rs, Rc, Rwi, Rsi, Rci}
 use Rattle.rv_disasm.specs.Names.{branch_name, load_name, store_name, imm_name, shift_name, alu_name, mul_name, csr_name}
-use Rattle.rv_disasm.specs.Parts.{Part, counted, digits, comma, Line, line, line_text, register, two_registers, three_registers, with_number, with_memory, with_csr, with_upper, with_target, with_branch}
+use Rattle.rv_disasm.specs.Parts.{Text, Part, counted, digits, Line, line, line_text, register, two_registers, three_registers, with_number, with_memory, with_csr, with_upper, with_target, with_branch}
 
 -- a word as it is
 abbrev pub word_line : ℕ → Line
