@@ -4,8 +4,11 @@ use crate::text::TurnText;
 use crate::view::Writing;
 use pipe_watch::{Cycle, Window, is_flushed, thread_of};
 use pipeline_core::{Held, Stored};
+use std::io;
 use std::io::Write;
-use std::{fmt, io};
+
+/// The names of the five stages.
+const STAGES: [&str; 5] = ["F", "D", "E", "M", "W"];
 
 /// How a turn ends that went through all stages.
 const RETIRED: u8 = 0;
@@ -48,18 +51,12 @@ impl Writing for Konata {
     /// is over.
     fn put<W: Write>(&mut self, out: &mut W, cycle: &Cycle) -> io::Result<()> {
         let turn = self.shown(cycle.turn());
-        let [in_f, in_d, in_e, in_m, in_w] = self.stages;
-        let (out_of_d, lost) = behind_d(in_d);
-        self.stages = [turn, in_f, out_of_d, in_e, in_m];
-        let retired = End(in_w, RETIRED);
-        let lost = End(lost, FLUSHED);
-        let begun = Begin(turn, cycle);
-        let f = Stage(turn, "F");
-        let d = Stage(in_f, "D");
-        let e = Stage(out_of_d, "E");
-        let m = Stage(in_e, "M");
-        let w = Stage(in_m, "W");
-        write!(out, "{retired}{lost}{begun}{f}{d}{e}{m}{w}C\t1\n")
+        let (retired, lost) = self.advance(turn);
+        put_end(out, retired, RETIRED)?;
+        put_end(out, lost, FLUSHED)?;
+        put_begin(out, turn, cycle)?;
+        put_stages(out, &self.stages)?;
+        out.write_all(b"C\t1\n")
     }
 
     fn end<W: Write>(self, _out: &mut W, _time: u64) -> io::Result<()> {
@@ -79,6 +76,15 @@ impl Konata {
             is_flushed: is_flushed(turn),
         })
     }
+
+    /// Moves the turns on by a stage, with the next one in F. Returns the one that was in W, and the
+    /// one that was in D where it is flushed.
+    fn advance(&mut self, next: Option<Shown>) -> (Option<Shown>, Option<Shown>) {
+        let [in_f, in_d, in_e, in_m, in_w] = self.stages;
+        let (out_of_d, lost) = behind_d(in_d);
+        self.stages = [next, in_f, out_of_d, in_e, in_m];
+        (in_w, lost)
+    }
 }
 
 /// The turn that comes out of D, and the one that is flushed and so ends there, of the one in D.
@@ -89,53 +95,45 @@ fn behind_d(turn: Option<Shown>) -> (Option<Shown>, Option<Shown>) {
     }
 }
 
-/// That a turn has ended, if there is one, and how.
-#[derive(Clone, Copy)]
-struct End(Option<Shown>, u8);
-
-impl fmt::Display for End {
-    fn fmt<W: fmt::Write>(&self, f: &mut fmt::Formatter<W>) -> fmt::Result {
-        let Some(turn) = self.0 else {
-            return Ok(());
-        };
-        let id = turn.id;
-        let how = self.1;
-        write!(f, "R\t{id}\t{id}\t{how}\n")
-    }
+/// Puts that a turn has ended, if there is one, and how.
+fn put_end<W: Write>(out: &mut W, turn: Option<Shown>, how: u8) -> io::Result<()> {
+    let Some(turn) = turn else {
+        return Ok(());
+    };
+    let id = turn.id;
+    write!(out, "R\t{id}\t{id}\t{how}\n")
 }
 
-/// The beginning of a cycle's turn, if there is one: its thread, its label, and its cycle and time.
-#[derive(Clone, Copy)]
-struct Begin<'a>(Option<Shown>, &'a Cycle);
-
-impl fmt::Display for Begin<'_> {
-    fn fmt<W: fmt::Write>(&self, f: &mut fmt::Formatter<W>) -> fmt::Result {
-        let Some(turn) = self.0 else {
-            return Ok(());
-        };
-        let id = turn.id;
-        let thread = turn.thread;
-        let label = TurnText(self.1);
-        let number = self.1.start.cycle;
-        let time = self.1.start.time;
-        write!(
-            f,
-            "I\t{id}\t{id}\t{thread}\nL\t{id}\t0\t{label}\nL\t{id}\t1\tcycle {number}, {time} ns\n"
-        )
-    }
+/// Puts the beginning of a cycle's turn, if there is one: its thread, its label, and its cycle and
+/// time.
+fn put_begin<W: Write>(out: &mut W, turn: Option<Shown>, cycle: &Cycle) -> io::Result<()> {
+    let Some(turn) = turn else {
+        return Ok(());
+    };
+    let id = turn.id;
+    let thread = turn.thread;
+    let label = TurnText(cycle);
+    let number = cycle.start.cycle;
+    let time = cycle.start.time;
+    write!(
+        out,
+        "I\t{id}\t{id}\t{thread}\nL\t{id}\t0\t{label}\nL\t{id}\t1\tcycle {number}, {time} ns\n"
+    )
 }
 
-/// That a turn is in the stage of this name, if there is one.
-#[derive(Clone, Copy)]
-struct Stage(Option<Shown>, &'static str);
-
-impl fmt::Display for Stage {
-    fn fmt<W: fmt::Write>(&self, f: &mut fmt::Formatter<W>) -> fmt::Result {
-        let Some(turn) = self.0 else {
-            return Ok(());
-        };
-        let id = turn.id;
-        let name = self.1;
-        write!(f, "S\t{id}\t0\t{name}\n")
+/// Puts in which stage each turn is.
+fn put_stages<W: Write>(out: &mut W, stages: &[Option<Shown>; 5]) -> io::Result<()> {
+    for (turn, name) in stages.iter().zip(&STAGES) {
+        put_stage(out, *turn, name)?;
     }
+    Ok(())
+}
+
+/// Puts that a turn, if there is one, is in the stage of this name.
+fn put_stage<W: Write>(out: &mut W, turn: Option<Shown>, name: &str) -> io::Result<()> {
+    let Some(turn) = turn else {
+        return Ok(());
+    };
+    let id = turn.id;
+    write!(out, "S\t{id}\t0\t{name}\n")
 }

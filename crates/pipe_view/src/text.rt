@@ -40,9 +40,10 @@ impl Writing for Rows {
         let number = cycle.start.cycle;
         let time = cycle.start.time;
         let slot = slot_name(cycle.start.slot);
-        let stages = Stages(&cycle.turns);
+        write!(out, "{number:>10} {time:>13} {slot:<4} ")?;
+        put_stages(out, &cycle.turns)?;
         let turn = TurnText(cycle);
-        write!(out, "{number:>10} {time:>13} {slot:<4} {stages} {turn}\n")
+        write!(out, " {turn}\n")
     }
 
     fn end<W: Write>(self, _out: &mut W, _time: u64) -> io::Result<()> {
@@ -50,26 +51,21 @@ impl Writing for Rows {
     }
 }
 
-/// What stands in the five stages.
-#[derive(Clone, Copy)]
-struct Stages<'a>(&'a [Held<Stored>; 5]);
-
-impl fmt::Display for Stages<'_> {
-    fn fmt<W: fmt::Write>(&self, f: &mut fmt::Formatter<W>) -> fmt::Result {
-        for turn in self.0 {
-            put_stage(f, turn)?;
-        }
-        Ok(())
+/// Puts what stands in the five stages.
+fn put_stages<W: Write>(out: &mut W, turns: &[Held<Stored>; 5]) -> io::Result<()> {
+    for turn in turns {
+        put_stage(out, turn)?;
     }
+    Ok(())
 }
 
 /// Puts what stands in a stage: the thread, with an `x` where its turn is flushed, or a point.
-fn put_stage<W: fmt::Write>(f: &mut fmt::Formatter<W>, turn: &Held<Stored>) -> fmt::Result {
+fn put_stage<W: Write>(out: &mut W, turn: &Held<Stored>) -> io::Result<()> {
     let Some(thread) = thread_of(turn) else {
-        return f.write_str(" . ");
+        return out.write_all(b" . ");
     };
     let mark = if is_flushed(turn) { "x" } else { " " };
-    write!(f, " {thread}{mark}")
+    write!(out, " {thread}{mark}")
 }
 
 /// The picked turn of a cycle: its thread, and its address, word, instruction and effect, or that

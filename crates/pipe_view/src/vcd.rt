@@ -59,8 +59,7 @@ impl Writing for Vcd {
 
     /// Puts what changes with a cycle, at the cycle's time.
     fn put<W: Write>(&mut self, out: &mut W, cycle: &Cycle) -> io::Result<()> {
-        let changes = Changes { dump: self, cycle };
-        write!(out, "{changes}")?;
+        self.put_changes(out, cycle)?;
         self.before = Some(cycle.start);
         self.turn = *cycle.turn();
         Ok(())
@@ -72,39 +71,53 @@ impl Writing for Vcd {
     }
 }
 
-/// What changes with the next cycle of a dump.
-#[derive(Clone, Copy)]
-struct Changes<'a> {
-    dump: &'a Vcd,
-    cycle: &'a Cycle,
+impl Vcd {
+    /// Puts a cycle's time, and what changes with it.
+    fn put_changes<W: Write>(&self, out: &mut W, cycle: &Cycle) -> io::Result<()> {
+        let before = self.before.as_ref();
+        let now = &cycle.start;
+        put_time(out, before, now)?;
+        put_slot(out, before, now)?;
+        put_modes(out, before, now)?;
+        put_turn(out, &self.turn, cycle.turn())?;
+        put_threads(out, before, now)
+    }
 }
 
-impl fmt::Display for Changes<'_> {
-    fn fmt<W: fmt::Write>(&self, f: &mut fmt::Formatter<W>) -> fmt::Result {
-        let before = self.dump.before.as_ref();
-        let last = &self.dump.turn;
-        let now = &self.cycle.start;
-        let turn = self.cycle.turn();
-        let time = now.time;
-        let zeros = if before.is_none() { ZEROS } else { "" };
-        let slot = Slot { before, now };
-        let modes = Modes { before, now };
-        let issued = Pulse {
-            letter: 'i',
-            before: issue_of(last),
-            now: issue_of(turn),
-        };
-        let lost = Pulse {
-            letter: 'f',
-            before: flush_of(last),
-            now: flush_of(turn),
-        };
-        let instruction = Instruction(turn);
-        let threads = Threads { before, now };
-        write!(
-            f,
-            "#{time}\n{zeros}{slot}{modes}{issued}{lost}{instruction}{threads}"
-        )
+/// Puts a cycle's time; at the first one also that no thread issues and none is flushed.
+fn put_time<W: Write>(
+    out: &mut W,
+    before: Option<&CycleStart>,
+    now: &CycleStart,
+) -> io::Result<()> {
+    let time = now.time;
+    let zeros = if before.is_none() { ZEROS } else { "" };
+    write!(out, "#{time}\n{zeros}")
+}
+
+/// Puts the slot, where it changes.
+fn put_slot<W: Write>(
+    out: &mut W,
+    before: Option<&CycleStart>,
+    now: &CycleStart,
+) -> io::Result<()> {
+    let slot = slot_name(now.slot);
+    match before {
+        Some(before) if slot_name(before.slot) == slot => Ok(()),
+        _ => write!(out, "s{slot} S\n"),
+    }
+}
+
+/// Puts the modes, where they change.
+fn put_modes<W: Write>(
+    out: &mut W,
+    before: Option<&CycleStart>,
+    now: &CycleStart,
+) -> io::Result<()> {
+    let modes = now.modes;
+    match before {
+        Some(before) if before.modes == modes => Ok(()),
+        _ => write!(out, "b{modes:b} M\n"),
     }
 }
 
@@ -124,79 +137,40 @@ fn flush_of(turn: &Held<Stored>) -> Option<u8> {
     }
 }
 
-/// The slot, where it changes.
-#[derive(Clone, Copy)]
-struct Slot<'a> {
-    before: Option<&'a CycleStart>,
-    now: &'a CycleStart,
+/// Puts who issues and who is flushed, where that changes, and what is issued.
+fn put_turn<W: Write>(out: &mut W, before: &Held<Stored>, now: &Held<Stored>) -> io::Result<()> {
+    put_pulse(out, 'i', issue_of(before), issue_of(now))?;
+    put_pulse(out, 'f', flush_of(before), flush_of(now))?;
+    put_instruction(out, now)
 }
 
-impl fmt::Display for Slot<'_> {
-    fn fmt<W: fmt::Write>(&self, f: &mut fmt::Formatter<W>) -> fmt::Result {
-        let slot = slot_name(self.now.slot);
-        match self.before {
-            Some(before) if slot_name(before.slot) == slot => Ok(()),
-            _ => write!(f, "s{slot} S\n"),
-        }
-    }
-}
-
-/// The modes, where they change.
-#[derive(Clone, Copy)]
-struct Modes<'a> {
-    before: Option<&'a CycleStart>,
-    now: &'a CycleStart,
-}
-
-impl fmt::Display for Modes<'_> {
-    fn fmt<W: fmt::Write>(&self, f: &mut fmt::Formatter<W>) -> fmt::Result {
-        let modes = self.now.modes;
-        match self.before {
-            Some(before) if before.modes == modes => Ok(()),
-            _ => write!(f, "b{modes:b} M\n"),
-        }
-    }
-}
-
-/// The signal of one letter, which is 1 at one thread at most, where that changes.
-#[derive(Clone, Copy)]
-struct Pulse {
+/// Puts the signal of one letter, which is 1 at one thread at most, where that changes.
+fn put_pulse<W: Write>(
+    out: &mut W,
     letter: char,
-    /// The thread at which it was 1, if it was at one.
     before: Option<u8>,
-    /// The thread at which it is 1, if it is at one.
     now: Option<u8>,
+) -> io::Result<()> {
+    if before == now {
+        return Ok(());
+    }
+    for (bit, thread) in [before, now].iter().enumerate() {
+        if let Some(thread) = thread {
+            write!(out, "{bit}{letter}{thread}\n")?;
+        }
+    }
+    Ok(())
 }
 
-impl fmt::Display for Pulse {
-    fn fmt<W: fmt::Write>(&self, f: &mut fmt::Formatter<W>) -> fmt::Result {
-        if self.before == self.now {
-            return Ok(());
-        }
-        let letter = self.letter;
-        for (bit, thread) in [self.before, self.now].iter().enumerate() {
-            if let Some(thread) = thread {
-                write!(f, "{bit}{letter}{thread}\n")?;
-            }
-        }
-        Ok(())
-    }
-}
-
-/// The address and the text of the picked turn's word.
-#[derive(Clone, Copy)]
-struct Instruction<'a>(&'a Held<Stored>);
-
-impl fmt::Display for Instruction<'_> {
-    fn fmt<W: fmt::Write>(&self, f: &mut fmt::Formatter<W>) -> fmt::Result {
-        let Held::Issue { thread, what } = *self.0 else {
-            return Ok(());
-        };
-        let pc = what.pc;
-        let instruction = text_at(pc, what.word);
-        let text = Joined(instruction.as_str());
-        write!(f, "b{pc:b} p{thread}\ns{text} t{thread}\n")
-    }
+/// Puts the address and the text of a turn's word, if it is an issue.
+fn put_instruction<W: Write>(out: &mut W, turn: &Held<Stored>) -> io::Result<()> {
+    let Held::Issue { thread, what } = *turn else {
+        return Ok(());
+    };
+    let pc = what.pc;
+    let instruction = text_at(pc, what.word);
+    let text = Joined(instruction.as_str());
+    write!(out, "b{pc:b} p{thread}\ns{text} t{thread}\n")
 }
 
 /// A text with `_` for each space, since a text has no spaces in a dump.
@@ -212,24 +186,20 @@ impl fmt::Display for Joined<'_> {
     }
 }
 
-/// What changes of the threads' modes, timers and ports.
-#[derive(Clone, Copy)]
-struct Threads<'a> {
-    before: Option<&'a CycleStart>,
-    now: &'a CycleStart,
-}
-
-impl fmt::Display for Threads<'_> {
-    fn fmt<W: fmt::Write>(&self, f: &mut fmt::Formatter<W>) -> fmt::Result {
-        for (thread, now) in self.now.threads.iter().enumerate() {
-            let before = match self.before {
-                Some(start) => start.threads.get(thread),
-                None => None,
-            };
-            put_thread(f, thread, before, now)?;
-        }
-        Ok(())
+/// Puts what changes of the threads' modes, timers and ports.
+fn put_threads<W: Write>(
+    out: &mut W,
+    before: Option<&CycleStart>,
+    now: &CycleStart,
+) -> io::Result<()> {
+    for (thread, now) in now.threads.iter().enumerate() {
+        let before = match before {
+            Some(start) => start.threads.get(thread),
+            None => None,
+        };
+        put_thread(out, thread, before, now)?;
     }
+    Ok(())
 }
 
 /// The letters and values of a thread's signals that show its state: asleep, armed, latch, input.
@@ -247,12 +217,12 @@ fn signals_of(state: &ThreadState) -> [(char, Option<u64>); 4] {
 }
 
 /// Puts what changes of a thread's mode, timer and port.
-fn put_thread<W: fmt::Write>(
-    f: &mut fmt::Formatter<W>,
+fn put_thread<W: Write>(
+    out: &mut W,
     thread: usize,
     before: Option<&ThreadState>,
     now: &ThreadState,
-) -> fmt::Result {
+) -> io::Result<()> {
     let before = before.map(signals_of);
     for (index, signal) in signals_of(now).iter().enumerate() {
         let last = match &before {
@@ -260,7 +230,7 @@ fn put_thread<W: fmt::Write>(
             None => None,
         };
         if last != Some(signal) {
-            put_signal(f, thread, *signal)?;
+            put_signal(out, thread, *signal)?;
         }
     }
     Ok(())
@@ -268,15 +238,11 @@ fn put_thread<W: fmt::Write>(
 
 /// Puts a signal's letter and value: the one of `s` is a bit; of the others `z` stands for nothing
 /// armed, and for the latch of a port that isn't there.
-fn put_signal<W: fmt::Write>(
-    f: &mut fmt::Formatter<W>,
-    thread: usize,
-    signal: (char, Option<u64>),
-) -> fmt::Result {
+fn put_signal<W: Write>(out: &mut W, thread: usize, signal: (char, Option<u64>)) -> io::Result<()> {
     let (letter, value) = signal;
     match value {
-        Some(bit) if letter == 's' => write!(f, "{bit}s{thread}\n"),
-        Some(value) => write!(f, "b{value:b} {letter}{thread}\n"),
-        None => write!(f, "bz {letter}{thread}\n"),
+        Some(bit) if letter == 's' => write!(out, "{bit}s{thread}\n"),
+        Some(value) => write!(out, "b{value:b} {letter}{thread}\n"),
+        None => write!(out, "bz {letter}{thread}\n"),
     }
 }
