@@ -19,11 +19,12 @@ use Rattle.bound_calc.specs.Bound.{IsBound, IsTooLarge, course}
 use Rattle.bound_calc.specs.declared.cycle_bound.BoundNo.{BoundNo}
 use Rattle.bound_calc.specs.declared.cycle_bound.BoundNo.TheVariants as in_bound
 use Rattle.trace_print.specs.Bounds.{bound_text}
-use Rattle.file_answers.specs.Answer.Answer.{Says}
+use Rattle.program_files.specs.Answer.Answer.{Says}
 use Rattle.file_answers.specs.BoundAnswer.{IsTreeAnswer, IsTreeRefused}
-use Rattle.file_answers.specs.declared.stop.Stop.{Stop}
-use Rattle.file_answers.specs.declared.stop.Stop.TheVariants.{Refused, Differs, Read, NoMemory}
-use Rattle.file_answers.specs.Stops.{IsAnswerStop, stop_of_bound, stop_of_tree}
+use Rattle.program_files.specs.declared.stop.Stop.{Stop}
+use Rattle.program_files.specs.declared.stop.Stop.TheVariants.{Refused, Differs, Read, NoMemory}
+use Rattle.program_files.specs.Stops.{IsAnswerStop}
+use Rattle.file_answers.specs.BoundStops.{stop_of_bound, stop_of_tree}
 
 pub tree_stops : (t : Tree) (no : TreeNo) → IsRefused (graph t) no → IsAnswerStop (IsTreeRefused t) (stop_of_tree no)
 tree_stops t (in_tree.Nesting address) is = record { no = in_tree.Nesting address; is = is; line = refl }

@@ -15,14 +15,15 @@ use Rattle.call_bounds.specs.declared.tree.CallNo.{CallNo}
 use Rattle.call_bounds.specs.declared.tree.CallNo.TheVariants as in_calls
 use Rattle.trace_print.specs.Bounds.{bound_text}
 use Rattle.trace_print.specs.declared.refusals.Refusal.TheVariants as refusal
-use Rattle.file_answers.specs.Answer.{Answer, over_file, refused}
-use Rattle.file_answers.specs.Answer.Answer.{Says}
+use Rattle.program_files.specs.Answer.{Answer, over_file, refused}
+use Rattle.program_files.specs.Answer.Answer.{Says}
 use Rattle.file_answers.specs.BoundAnswer.{section_fault}
 use Rattle.file_answers.specs.CallsAnswer.{IsCallsAnswer, IsListingAnswer, IsListingRefused, routines_in, section_listing}
-use Rattle.file_answers.specs.declared.program.Program.{Program}
-use Rattle.file_answers.specs.declared.stop.Stop.{Stop}
-use Rattle.file_answers.specs.declared.stop.Stop.TheVariants.{Refused, Differs, Read, NoMemory}
-use Rattle.file_answers.specs.Stops.{IsAnswerStop, IsStop, stop_of_bound, stop_of_calls}
+use Rattle.program_files.specs.declared.program.Program.{Program}
+use Rattle.program_files.specs.declared.stop.Stop.{Stop}
+use Rattle.program_files.specs.declared.stop.Stop.TheVariants.{Refused, Differs, Read, NoMemory}
+use Rattle.program_files.specs.Stops.{IsAnswerStop, IsStop}
+use Rattle.file_answers.specs.BoundStops.{stop_of_bound, stop_of_calls}
 
 pub call_stops : (l : Listing) (no : CallNo) → IsCallRefused (calls l) no → IsAnswerStop (IsListingRefused l) (stop_of_calls no)
 call_stops l (in_calls.Nesting address) is = record { no = in_calls.Nesting address; is = is; line = refl }

@@ -9,7 +9,7 @@ use Rattle.fp_routines.specs.declared.refusals.RoutinesRefused.TheVariants.{Faul
 use Rattle.fp_routines.specs.declared.routines.Routine.{Routine}
 use Rattle.fp_routines.proofs.FileLines.{line-next, line-stops}
 use Rattle.file_answers.specs.CallsAnswer.{of_routines, routines_in}
-use Rattle.file_answers.proofs.Cuts.{IsCut}
+use Rattle.program_files.proofs.Cuts.{IsCut}
 
 -- the routines of bytes by the next 18 of them
 next : (size n : ℕ) (before : Option Routine) (bytes : List ℕ) (r : Routine) → routine_at size n before (take 18 bytes) ≡ Ok r →

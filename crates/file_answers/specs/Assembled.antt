@@ -8,8 +8,8 @@ use Rattle.fp_asm.specs.declared.refusal.AsmRefused.{AsmRefused}
 use Rattle.fp_asm.specs.declared.refusal.AsmRefused.TheVariants.{Fault, NoMemory}
 use Rattle.trace_print.specs.declared.refusals.Refusal.TheVariants.{Source}
 use Rattle.file_answers.specs.Codes.{source_code}
-use Rattle.file_answers.specs.Answer.{Answer, refused, then_by, over_file, ends}
-use Rattle.file_answers.specs.Answer.Answer.{Says}
+use Rattle.program_files.specs.Answer.{Answer, refused, then_by, over_file, ends}
+use Rattle.program_files.specs.Answer.Answer.{Says}
 
 -- a source is never refused for want of memory by its definition
 abbrev pub of_assembled : Result (List Segment) AsmRefused → Result (List Segment) Answer

@@ -12,10 +12,10 @@ use Rattle.region_tree.specs.Tree.{IsTree, Tree, graph, tree_of}
 use Rattle.bound_calc.specs.Bound.{IsBound, course}
 use Rattle.trace_print.specs.Bounds.{bound_text}
 use Rattle.trace_print.specs.declared.refusals.Refusal.TheVariants as refusal
-use Rattle.file_answers.specs.declared.program.Program.{Program}
+use Rattle.program_files.specs.declared.program.Program.{Program}
 use Rattle.file_answers.specs.Codes.{tree_refusal}
-use Rattle.file_answers.specs.Answer.{Answer, refused}
-use Rattle.file_answers.specs.Answer.Answer.{Says}
+use Rattle.program_files.specs.Answer.{Answer, refused}
+use Rattle.program_files.specs.Answer.Answer.{Says}
 
 -- whether a slot of the register names a thread
 abbrev pub names : ℕ → ℕ → Bool

@@ -14,10 +14,10 @@ use Rattle.call_bounds.specs.Listing.{Listing, calls, listing_of}
 use Rattle.call_bounds.specs.declared.tree.CallNo.{CallNo}
 use Rattle.trace_print.specs.Bounds.{bound_text}
 use Rattle.trace_print.specs.declared.refusals.Refusal.TheVariants as refusal
-use Rattle.file_answers.specs.declared.program.Program.{Program}
+use Rattle.program_files.specs.declared.program.Program.{Program}
 use Rattle.file_answers.specs.Codes.{call_refusal, routines_code}
-use Rattle.file_answers.specs.Answer.{Answer, over_file, refused}
-use Rattle.file_answers.specs.Answer.Answer.{Says}
+use Rattle.program_files.specs.Answer.{Answer, over_file, refused}
+use Rattle.program_files.specs.Answer.Answer.{Says}
 use Rattle.file_answers.specs.BoundAnswer.{section_fault}
 
 -- a list of routines is never refused for want of memory by its definition

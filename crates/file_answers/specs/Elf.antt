@@ -8,8 +8,8 @@ use Rattle.fp_image.specs.declared.parts.Segment.{Segment}
 use Rattle.fp_io.specs.Content.{FileMap}
 use Rattle.trace_print.specs.declared.refusals.Refusal.TheVariants.{Image}
 use Rattle.file_answers.specs.Codes.{elf_code}
-use Rattle.file_answers.specs.Answer.{Answer, refused, then_by, over_file, ends}
-use Rattle.file_answers.specs.Answer.Answer.{Says}
+use Rattle.program_files.specs.Answer.{Answer, refused, then_by, over_file, ends}
+use Rattle.program_files.specs.Answer.Answer.{Says}
 
 -- an executable is never refused for want of memory by its definition
 abbrev pub of_elf : Result (List Segment) ElfRefused → Result (List Segment) Answer

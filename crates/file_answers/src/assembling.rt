@@ -2,18 +2,17 @@
 
 ghost use Rattle.std.specs.Prelude.{◌≡◌, ◌≤◌, Ok, IfOk, IfErr, IfSome};
 ghost use Rattle.fp_image.specs.Format.{written};
-ghost use Rattle.file_answers.specs.Answer.{on_file};
-ghost use Rattle.file_answers.specs.Answer.Answer.{Says};
+ghost use Rattle.program_files.specs.Answer.{on_file};
+ghost use Rattle.program_files.specs.Answer.Answer.{Says};
 ghost use Rattle.file_answers.specs.Assembled.{asm_answer, source_in};
 ghost use Rattle.file_answers.specs.Codes.{source_code};
-ghost use Rattle.file_answers.specs.Stops.{IsStop, IsStopIn, IsStopOf, Makes};
+ghost use Rattle.program_files.specs.Stops.{IsStop, IsStopIn, IsStopOf, Makes};
 
-use crate::program::fetch;
-use crate::stop::Stop;
 use fp_asm::{AsmNo, AsmRefused, MOST_SOURCE_BYTES, assemble};
 use fp_image::{Image, write_image};
 use fp_io::Files;
 use fp_setup::Name;
+use program_files::{Stop, fetch};
 use std::alloc::Global;
 use trace_print::Refusal;
 

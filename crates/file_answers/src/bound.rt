@@ -2,16 +2,16 @@
 
 ghost use Rattle.std.specs.Prelude.{◌≡◌, ◌<◌, ◌≤◌, ◌↔◌, IsTrue, Some, Ok, IfOk, IfErr, OnOk, None, Contains, length};
 ghost use Rattle.region_tree.specs.Tree.{IsSection, IsTree};
-ghost use Rattle.file_answers.specs.Answer.Answer.{Says};
+ghost use Rattle.program_files.specs.Answer.Answer.{Says};
 ghost use Rattle.trace_print.specs.Bounds.{bound_text};
 ghost use Rattle.file_answers.specs.BoundAnswer.{IsBoundAnswer, IsTreeRefused, IsTreeAnswer, names, section_fault, section_tree};
-ghost use Rattle.file_answers.specs.Stops.{IsAnswerStop, stop_of_tree, stop_of_bound};
+ghost use Rattle.program_files.specs.Stops.{IsAnswerStop};
+ghost use Rattle.file_answers.specs.BoundStops.{stop_of_tree, stop_of_bound};
 
-use crate::program::Program;
-use crate::stop::Stop;
 use bound_calc::{BoundNo, bound};
 use fp_setup::Setup;
 use nibble_word::nibbles_of;
+use program_files::{Program, Stop};
 use region_tree::{LoopTree, Section, TreeNo};
 use setup_model::{modes, slot_table};
 use slot_table::SlotTable;

@@ -6,22 +6,22 @@ ghost use Rattle.region_tree.specs.Tree.{IsSection};
 ghost use Rattle.call_bounds.specs.CallRefusals.{IsCallable};
 ghost use Rattle.call_bounds.specs.Listing.{calls};
 ghost use Rattle.trace_print.specs.Bounds.{bound_text};
-ghost use Rattle.file_answers.specs.Answer.{on_file};
-ghost use Rattle.file_answers.specs.Answer.Answer.{Says};
+ghost use Rattle.program_files.specs.Answer.{on_file};
+ghost use Rattle.program_files.specs.Answer.Answer.{Says};
 ghost use Rattle.file_answers.specs.BoundAnswer.{section_fault};
 ghost use Rattle.file_answers.specs.CallsAnswer.{IsCallsAnswer, IsListingAnswer, IsListingRefused, routines_in, section_listing};
 ghost use Rattle.file_answers.specs.Codes.{routines_code};
-ghost use Rattle.file_answers.specs.Stops.{IsAnswerStop, IsStop, IsStopIn, IsStopOf, Makes, stop_of_calls};
+ghost use Rattle.program_files.specs.Stops.{IsAnswerStop, IsStop, IsStopIn, IsStopOf, Makes};
+ghost use Rattle.file_answers.specs.BoundStops.{stop_of_calls};
 
 use crate::bound::{bound_stop, section_fault};
-use crate::program::{Program, fetch};
-use crate::stop::Stop;
 use call_bounds::{
     CallNo, CallTree, MOST_LIST_BYTES, Routines, RoutinesNo, RoutinesRefused, call_bound,
     read_routines,
 };
 use fp_io::Files;
 use fp_setup::Name;
+use program_files::{Program, Stop, fetch};
 use region_tree::Section;
 use setup_model::slot_table;
 use std::alloc::Global;

@@ -1,13 +1,13 @@
 //! The line of a trace that isn't the defined one.
 
 ghost use Rattle.std.specs.Prelude.{◌≡◌};
-ghost use Rattle.file_answers.specs.Answer.{differs_text};
+ghost use Rattle.program_files.specs.Answer.{differs_text};
 
 use arrayvec::ArrayString;
 use trace_print::push_decimal;
 
 /// The line that tells where a trace first differs: `differs line ` and the number in decimal.
-#[tactic(auto, unfolding(crate::specs::Answer::differs_text))]
+#[tactic(auto, unfolding(program_files::specs::Answer::differs_text))]
 pub fn difference_line(line: u64) -> ArrayString<96>
     ensures { result.bytes ≡ differs_text line }
 {

@@ -1,5 +1,5 @@
-//! What the commands that run no machine answer over files: the setup and the image that a command
-//! reads, the bound of a section, also through calls, and the image of a source or an executable.
+//! What the commands that run no machine answer over files: the bound of a section, also through
+//! calls, and the image of a source or an executable.
 #![tactic(auto)]
 
 mod assembling;
@@ -7,13 +7,9 @@ mod bound;
 mod calls;
 mod difference;
 mod elf;
-mod program;
-mod stop;
 
 pub use assembling::image_bytes;
 pub use bound::section_bound;
 pub use calls::calls_bound;
 pub use difference::difference_line;
 pub use elf::imported_bytes;
-pub use program::{Program, fetch, load};
-pub use stop::Stop;

@@ -10,8 +10,8 @@ use Rattle.ask_words.specs.declared.asked.Ask.{Ask}
 use Rattle.flexpret_top.specs.declared.ready.Prepared.{Prepared}
 use Rattle.flexpret_top.specs.declared.status.Status.{Status}
 use Rattle.flexpret_top.specs.declared.status.Status.TheVariants.{Ok, Differs, Usage, Setup, Image, Source, Bound, Read, Write, NoMemory, Routines}
-use Rattle.file_answers.specs.Answer.{IsAnswered}
-use Rattle.file_answers.specs.Answer.Answer.{Says, Missing}
+use Rattle.program_files.specs.Answer.{IsAnswered}
+use Rattle.program_files.specs.Answer.Answer.{Says, Missing}
 use Rattle.flexpret_top.specs.Command.{IsAnswer, IsAnswerIn, IsAnswerTo, IsApart, IsApartBy, OnlyReads, OnlyReadsBy, Leaves, LeavesBy, Said, Began, Answered}
 use Rattle.flexpret_top.specs.Prepared.{Delivers, LeavesPorts, Prepares}
 use Rattle.flexpret_top.specs.Status.{IsStatus, number_of}

@@ -37,8 +37,8 @@ use Rattle.trace_print.specs.declared.refusals.Refusal.TheVariants as refusal
 use Rattle.file_answers.specs.BoundAnswer.{IsBoundAnswer, IsSectionAnswer, section_fault, section_tree}
 use Rattle.file_answers.specs.CallsAnswer.{IsCallsAnswer, IsRoutinesAnswer, IsSectionCallsAnswer, of_routines, routines_in, section_listing}
 use Rattle.file_answers.specs.Codes.{call_refusal, tree_refusal}
-use Rattle.file_answers.specs.declared.program.Program.{Program}
-use Rattle.file_answers.specs.Answer.{Answer, IsSaid, refused, then_by, over_file, ends}
+use Rattle.program_files.specs.declared.program.Program.{Program}
+use Rattle.program_files.specs.Answer.{Answer, IsSaid, refused, then_by, over_file, ends}
 use Rattle.flexpret_top.specs.SoloAndCheck.{alone_fault, alone_in, alone_of, alone_text, unless_fault}
 use Rattle.file_answers.specs.Elf.{elf_in, of_elf}
 use Rattle.ask_words.specs.Commands.{ask}
@@ -47,7 +47,7 @@ use Rattle.flexpret_top.specs.declared.status.Status.TheVariants.{Read, Write, N
 use Rattle.flexpret_top.specs.Status.{number_of}
 use Rattle.flexpret_top.specs.Command.{IsAnswerIn, IsAnswerTo, Said}
 use Rattle.flexpret_top.specs.Headline.{BoundsCallVisits, BoundsVisits, IsImported, IsLongest, IsLongestByCalls, WritesAlone, WritesAsRun, WritesByPhases, WritesImage, machine_of}
-use Rattle.file_answers.specs.Program.{image_in, of_setup, program, setup_in, with_image}
+use Rattle.program_files.specs.Program.{image_in, of_setup, program, setup_in, with_image}
 use Rattle.flexpret_top.specs.Run.{trace_of}
 
 -- a refusal isn't status 0

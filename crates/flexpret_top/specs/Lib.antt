@@ -8,10 +8,10 @@ pub mod Status
 pub use Rattle.ask_words.specs.Commands
 pub use Rattle.ask_words.specs.Limits
 pub use Rattle.ask_words.specs.declared.asked.Ask
-pub use Rattle.file_answers.specs.Answer
-pub use Rattle.file_answers.specs.Program
-pub use Rattle.file_answers.specs.Stops
-pub use Rattle.file_answers.specs.declared.stop.Stop
+pub use Rattle.program_files.specs.Answer
+pub use Rattle.program_files.specs.Program
+pub use Rattle.program_files.specs.Stops
+pub use Rattle.program_files.specs.declared.stop.Stop
 pub use Rattle.fp_io.specs.Causes
 pub use Rattle.fp_io.specs.Content
 pub use Rattle.fp_ports.specs.Rows

@@ -9,15 +9,15 @@ ghost use Rattle.timer_unit.specs.Time.{most_cycles};
 ghost use Rattle.fp_ports.specs.Rows.{rows_of};
 ghost use Rattle.solo_run.specs.FirstDifference.{IsChecked};
 ghost use Rattle.flexpret_top.specs.SoloAndCheck.{IsAlone, IsAloneOf, alone_fault, alone_in, alone_program, compared, said_by, same_text, told_alone};
-ghost use Rattle.file_answers.specs.Answer.{on_file};
-ghost use Rattle.file_answers.specs.Stops.{IsAnswerStop, IsStopIn, IsStopOf, Makes, is_difference};
+ghost use Rattle.program_files.specs.Answer.{on_file};
+ghost use Rattle.program_files.specs.Stops.{IsAnswerStop, IsStopIn, IsStopOf, Makes, is_difference};
 
 use crate::ready::Alone;
 use crate::shown::ReadPort;
-use file_answers::{Program, Stop, fetch, load};
 use fp_io::{Files, PutFailed, Sink};
 use fp_ports::Ports;
 use fp_setup::{Name, Setup};
+use program_files::{Program, Stop, fetch, load};
 use setup_model::modes;
 use solo_run::{Checked, SoloRun, SoloView};
 use std::alloc::Global;

@@ -15,7 +15,7 @@ ghost use Rattle.file_answers.specs.BoundAnswer.{IsBoundAnswer};
 ghost use Rattle.file_answers.specs.CallsAnswer.{IsCallsAnswer};
 ghost use Rattle.flexpret_top.specs.Command.{IsAnswerIn, IsApart, OnlyReads};
 ghost use Rattle.file_answers.specs.Elf.{elf_answer};
-ghost use Rattle.file_answers.specs.Program.{program};
+ghost use Rattle.program_files.specs.Program.{program};
 ghost use Rattle.flexpret_top.specs.Prepared.{
   IsApartFrom,
   IsPrepared,
@@ -25,17 +25,18 @@ ghost use Rattle.flexpret_top.specs.Prepared.{
   OnlyReadsFor,
   Prepares,
 };
-ghost use Rattle.file_answers.specs.Stops.{IsStop, IsStopIn, is_difference};
-ghost use Rattle.file_answers.specs.declared.stop.Stop.TheVariants.{NoMemory};
+ghost use Rattle.program_files.specs.Stops.{IsStop, IsStopIn, is_difference};
+ghost use Rattle.program_files.specs.declared.stop.Stop.TheVariants.{NoMemory};
 
 use crate::alone::{compare_alone, load_alone};
 use crate::ready::{Prepared, Ready};
 use ask_words::Ask;
-use file_answers::{Program, Stop, calls_bound, image_bytes, imported_bytes, load, section_bound};
+use file_answers::{calls_bound, image_bytes, imported_bytes, section_bound};
 use fp_io::Files;
 use fp_ports::Ports;
 use fp_setup::Name;
 use machine::{Machine, feed_inputs};
+use program_files::{Program, Stop, load};
 use region_tree::Section;
 use selfrun::Selfrun;
 use std::alloc::{AllocError, Global};

@@ -1,6 +1,6 @@
 //! Why nothing, or not all, was shown.
 
-use file_answers::Stop;
+use program_files::Stop;
 use std::alloc::{AllocError, AllocFailed};
 use std::io;
 use trace_print::Refusal;

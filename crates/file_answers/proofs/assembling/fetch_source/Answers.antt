@@ -1,5 +1,6 @@
 use Rattle.file_answers.specs.Assembled.{source_in}
-use Rattle.file_answers.proofs.Cuts.{source-cut, ok-over, stop-over}
+use Rattle.program_files.proofs.Cuts.{ok-over, stop-over}
+use Rattle.file_answers.proofs.Cuts.{source-cut}
 use Rattle.file_answers.proofs.assembling.fetch_source.Goals as goal
 
 pub returns-clause-ok : goal.returns-clause-ok

@@ -3,8 +3,8 @@ use Rattle.std.proofs.lemmas.Result.{err_from_is_err_and}
 use Rattle.std.specs.List.{Contains}
 use Rattle.slot_table.specs.Frame.{frame}
 use Rattle.file_answers.specs.BoundAnswer.{IsTreeAnswer, section_tree}
-use Rattle.file_answers.specs.declared.stop.Stop.{Stop}
-use Rattle.file_answers.specs.Stops.{IsAnswerStop}
+use Rattle.program_files.specs.declared.stop.Stop.{Stop}
+use Rattle.program_files.specs.Stops.{IsAnswerStop}
 use Rattle.file_answers.proofs.Bounds.{asked_for, bound_stops, bound_told, named-there, refused_stops}
 use Rattle.file_answers.proofs.bound.bound_in.Goals as goal
 

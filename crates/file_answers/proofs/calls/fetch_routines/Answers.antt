@@ -1,5 +1,5 @@
 use Rattle.file_answers.specs.CallsAnswer.{routines_in}
-use Rattle.file_answers.proofs.Cuts.{ok-over, stop-over}
+use Rattle.program_files.proofs.Cuts.{ok-over, stop-over}
 use Rattle.file_answers.proofs.ListCut.{routines-cut}
 use Rattle.file_answers.proofs.calls.fetch_routines.Goals as goal
 

@@ -1,5 +1,6 @@
 use Rattle.file_answers.specs.Elf.{elf_in}
-use Rattle.file_answers.proofs.Cuts.{elf-cut, ok-over, stop-over}
+use Rattle.program_files.proofs.Cuts.{ok-over, stop-over}
+use Rattle.file_answers.proofs.Cuts.{elf-cut}
 use Rattle.file_answers.proofs.elf.fetch_executable.Goals as goal
 
 pub returns-clause-ok : goal.returns-clause-ok

@@ -1,7 +1,7 @@
 use Rattle.std.proofs.Common.{ℕ, subst, sym}
-use Rattle.file_answers.specs.Program.{image_in}
-use Rattle.file_answers.proofs.Cuts.{IsCut, image-cut, ok-over, stop-over}
-use Rattle.file_answers.proofs.program.fetch_image.Goals as goal
+use Rattle.program_files.specs.Program.{image_in}
+use Rattle.program_files.proofs.Cuts.{IsCut, image-cut, ok-over, stop-over}
+use Rattle.program_files.proofs.program.fetch_image.Goals as goal
 
 pub returns-clause-ok : goal.returns-clause-ok
 returns-clause-ok g c =

@@ -18,7 +18,7 @@ pub enum Stop {
 
 impl From<AllocError> for Stop {
     ghost use Rattle.std.specs.Prelude.{◌≡◌};
-    ghost use Rattle.file_answers.specs.declared.stop.Stop.TheVariants.{NoMemory};
+    ghost use Rattle.program_files.specs.declared.stop.Stop.TheVariants.{NoMemory};
 
     ghost from_gives = { λ _ stop. stop ≡ NoMemory };
 

@@ -2,17 +2,10 @@
 use Rattle.std.specs.Prelude.{◌≡◌, ◌⊎◌, ℕ, Bool, true, false, List, Option, Result, Ok, Err, IfSome, IsSomeAnd}
 use Rattle.fp_io.specs.Causes.{Rose}
 use Rattle.fp_io.specs.Content.{FileMap, Lacks}
-use Rattle.trace_print.specs.declared.refusals.Refusal.TheVariants.{Bound}
-use Rattle.region_tree.specs.declared.tree.TreeNo.{TreeNo}
-use Rattle.region_tree.specs.declared.tree.TreeNo.TheVariants as in_tree
-use Rattle.call_bounds.specs.declared.tree.CallNo.{CallNo}
-use Rattle.call_bounds.specs.declared.tree.CallNo.TheVariants as in_calls
-use Rattle.bound_calc.specs.declared.cycle_bound.BoundNo.{BoundNo}
-use Rattle.bound_calc.specs.declared.cycle_bound.BoundNo.TheVariants as in_bound
-use Rattle.file_answers.specs.declared.stop.Stop.{Stop}
-use Rattle.file_answers.specs.declared.stop.Stop.TheVariants.{Refused, Differs, Read, NoMemory}
-use Rattle.file_answers.specs.Answer.{Answer, differs_text, refused}
-use Rattle.file_answers.specs.Answer.Answer.{Says, Missing}
+use Rattle.program_files.specs.declared.stop.Stop.{Stop}
+use Rattle.program_files.specs.declared.stop.Stop.TheVariants.{Refused, Differs, Read, NoMemory}
+use Rattle.program_files.specs.Answer.{Answer, differs_text, refused}
+use Rattle.program_files.specs.Answer.Answer.{Says, Missing}
 
 -- Over the told files it is the answer that is meant: a refusal is that answer, with its line, and so is a difference; a
 -- read fault comes only where a fault was counted in this call, or where a file isn't there. Want of memory is free.
@@ -45,31 +38,7 @@ IsStopIn told step before after stop = IsStop told (λ files x. step files ≡ E
 abbrev pub IsFetchStop : Option FileMap → List ℕ → ℕ → ℕ → Stop → Type 0
 IsFetchStop told name before after stop = (stop ≡ NoMemory) ⊎ ((stop ≡ Read) × (Rose before after ⊎ Lacks told name))
 
--- why a section has no bound
-abbrev pub stop_of_tree : TreeNo → Stop
-stop_of_tree (in_tree.Nesting address) = Refused (Bound 1 address)
-stop_of_tree (in_tree.IndirectJump address) = Refused (Bound 2 address)
-stop_of_tree (in_tree.TimedWait address) = Refused (Bound 3 address)
-stop_of_tree (in_tree.UnboundedBackEdge address) = Refused (Bound 4 address)
-stop_of_tree in_tree.NoMemory = NoMemory
-
--- why a section with its routines has none
-abbrev pub stop_of_calls : CallNo → Stop
-stop_of_calls (in_calls.Nesting address) = Refused (Bound 1 address)
-stop_of_calls (in_calls.IndirectJump address) = Refused (Bound 2 address)
-stop_of_calls (in_calls.TimedWait address) = Refused (Bound 3 address)
-stop_of_calls (in_calls.UnboundedBackEdge address) = Refused (Bound 4 address)
-stop_of_calls (in_calls.Overlap address) = Refused (Bound 8 address)
-stop_of_calls (in_calls.Recursion address) = Refused (Bound 9 address)
-stop_of_calls (in_calls.Escape address) = Refused (Bound 10 address)
-stop_of_calls in_calls.NoMemory = NoMemory
-
--- why none was answered
-abbrev pub stop_of_bound : BoundNo → Stop
-stop_of_bound (in_bound.Overflow value) = Refused (Bound 6 value)
-stop_of_bound in_bound.NoMemory = NoMemory
-
--- the port of the thread was read by then
+-- whether a recorded trace differs; the port of its thread may have been read by then
 abbrev pub is_difference : Stop → Bool
 is_difference (Differs line) = true
 is_difference _ = false

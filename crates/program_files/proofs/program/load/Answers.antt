@@ -1,5 +1,5 @@
 use Rattle.std.proofs.Common.{rules}
-use Rattle.file_answers.proofs.program.load.Goals as goal
+use Rattle.program_files.proofs.program.load.Goals as goal
 
 pub returns-in_err-image-clause-stop : goal.returns-in_err-image-clause-stop
 returns-in_err-image-clause-stop g c = search rules

@@ -9,10 +9,10 @@ use Rattle.fp_image.specs.declared.parts.Segment.{Segment}
 use Rattle.fp_image.specs.declared.refusals.ImageRefused.{ImageRefused}
 use Rattle.fp_image.specs.declared.refusals.ImageRefused.TheVariants as image_no
 use Rattle.trace_print.specs.declared.refusals.Refusal.TheVariants.{Setup, Image}
-use Rattle.file_answers.specs.declared.program.Program.{Program}
-use Rattle.file_answers.specs.Codes.{setup_code, image_code}
-use Rattle.file_answers.specs.Answer.{Answer, refused, then_by, over_file}
-use Rattle.file_answers.specs.Answer.Answer.{Says}
+use Rattle.program_files.specs.declared.program.Program.{Program}
+use Rattle.program_files.specs.Codes.{setup_code, image_code}
+use Rattle.program_files.specs.Answer.{Answer, refused, then_by, over_file}
+use Rattle.program_files.specs.Answer.Answer.{Says}
 
 abbrev pub of_setup : Result Settings Fault → Result Settings Answer
 of_setup (Ok s) = Ok s

@@ -1,6 +1,6 @@
-use Rattle.file_answers.specs.Program.{setup_in}
-use Rattle.file_answers.proofs.Cuts.{setup-cut, ok-over, stop-over}
-use Rattle.file_answers.proofs.program.fetch_setup.Goals as goal
+use Rattle.program_files.specs.Program.{setup_in}
+use Rattle.program_files.proofs.Cuts.{setup-cut, ok-over, stop-over}
+use Rattle.program_files.proofs.program.fetch_setup.Goals as goal
 
 pub returns-clause-ok : goal.returns-clause-ok
 returns-clause-ok g c =

@@ -5,10 +5,10 @@ ghost use Rattle.fp_io.specs.Content.{Fetched};
 ghost use Rattle.fp_setup.specs.Settings.{size_of};
 ghost use Rattle.region_guard.specs.Regions.{IsSize};
 ghost use Rattle.fp_image.specs.Format.{longest};
-ghost use Rattle.file_answers.specs.Answer.{on_file};
-ghost use Rattle.file_answers.specs.Codes.{setup_code, image_code};
-ghost use Rattle.file_answers.specs.Program.{setup_in, image_in, program};
-ghost use Rattle.file_answers.specs.Stops.{IsFetchStop, IsStopIn, IsStopOf, Makes};
+ghost use Rattle.program_files.specs.Answer.{on_file};
+ghost use Rattle.program_files.specs.Codes.{setup_code, image_code};
+ghost use Rattle.program_files.specs.Program.{setup_in, image_in, program};
+ghost use Rattle.program_files.specs.Stops.{IsFetchStop, IsStopIn, IsStopOf, Makes};
 
 use crate::stop::Stop;
 use fp_image::{Image, ImageNo, ImageRefused, longest, read_image};
