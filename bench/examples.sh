@@ -5,9 +5,8 @@ set -eu
 cd "$(dirname "${BASH_SOURCE[0]}")/.."
 differ=0
 for file in examples/{calls,sum}.* examples/drive.{fpx,s,toml,trace} examples/c/pid.*; do
-    cmp "$file" "crates/command_rows/data/${file##*/}" || differ=1
+    cmp "$file" "crates/rows/data/${file##*/}" || differ=1
 done
-cmp examples/drive.toml crates/rows/data/drive.toml || differ=1
 cmp examples/drive.fpx crates/flexpret_view/data/drive.fpx || differ=1
 for file in examples/device/ramp.{toml,fpx}; do
     cmp "$file" "crates/ramp_cli/data/$file" || differ=1

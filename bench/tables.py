@@ -1,12 +1,11 @@
-"""Reads the tables of rows and command_rows: files and command lines that a row is made of."""
+"""Reads the tables of rows: files and command lines that a row is made of."""
 import re
 import shlex
 from dataclasses import dataclass, field
-from pathlib import Path
 
 from program import TOP
 
-FOLDERS = (TOP / 'crates/rows/data', TOP / 'crates/command_rows/data')
+FOLDER = TOP / 'crates/rows/data'
 
 ESCAPED = re.compile(rb'\\(x[0-9a-f]{2}|.)', re.DOTALL)
 LETTERS = {b'n': b'\n', b'r': b'\r', b't': b'\t'}
@@ -45,9 +44,8 @@ def unescaped(text: str) -> bytes:
 
 
 def lines_of(table: str) -> list[str]:
-    """The lines of a table, in the folder that has it."""
-    path = next(filter(Path.exists, (folder / table for folder in FOLDERS)))
-    return path.read_text().splitlines()
+    """The lines of a table."""
+    return (FOLDER / table).read_text().splitlines()
 
 
 def cases(table: str) -> list[Case]:

@@ -1,4 +1,4 @@
-"""The tables of command_rows: devices and files, and command lines over them with their answers; commands.txt says how
+"""The tables of commands: devices and files, and command lines over them with their answers; commands.txt says how
 they are written."""
 from __future__ import annotations
 

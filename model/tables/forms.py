@@ -6,7 +6,7 @@ from itertools import groupby
 from pathlib import Path
 
 TOP = Path(__file__).resolve().parents[2]
-ROWS, COMMAND_ROWS = TOP / "crates/rows/data", TOP / "crates/command_rows/data"
+ROWS = TOP / "crates/rows/data"
 
 Row = tuple[str, "str | None"]
 """What a row is called, and what is wrong with it: nothing where that is empty, and None where it couldn't be
@@ -19,7 +19,7 @@ LETTERS = {b"n": b"\n", b"r": b"\r", b"t": b"\t"}
 
 def table(name: str) -> Path:
     """The path of a table by its name."""
-    return next(path for folder in (ROWS, COMMAND_ROWS) if (path := folder / name).exists())
+    return ROWS / name
 
 
 def rows(name: str) -> list[tuple[str, str]]:

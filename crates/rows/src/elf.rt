@@ -6,8 +6,7 @@
 
 ghost use Rattle.region_guard.specs.Regions.{IsSize};
 
-use crate::expanded::push_bytes;
-use crate::numbers::{low_word, number};
+use crate::commands::expanded::push_bytes;
 use fp_elf::{ElfRefused, read_elf};
 use fp_image::{read_image, write_image};
 use std::alloc::{AllocError, Global};
@@ -29,21 +28,8 @@ pub fn push_answer(text: &mut String, alloc: Global, call: &str) -> Result<(), A
 /// The bytes of a file.
 fn file_of(alloc: Global, call: &str) -> Result<Vec<u8>, AllocError> {
     let mut file = Vec::new(alloc);
-    for word in call.split(' ') {
-        let (digits, count) = word.split_once('*').unwrap_or((word, "1"));
-        let mut bytes = Vec::new(alloc);
-        push_bytes(&mut bytes, digits)?;
-        push_times(&mut file, &bytes, low_word(number(count)))?;
-    }
+    push_bytes(&mut file, alloc, call)?;
     Ok(file)
-}
-
-/// Appends bytes so many times.
-fn push_times(file: &mut Vec<u8>, bytes: &[u8], count: u32) -> Result<(), AllocError> {
-    for _time in 0..count {
-        file.extend_from_slice(bytes)?;
-    }
-    Ok(())
 }
 
 /// The segments of an image as they are read from the bytes that were written of it.

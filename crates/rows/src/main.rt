@@ -1,17 +1,17 @@
-//! Compares what the crates below the top call answer to calls, by what these offer to all, with
-//! tables that were worked out apart from them. It stands apart so that none of those crates is
-//! proved a second time beside its tests.
+//! Compares what the crates answer to calls, by what these offer to all, and what the program answers
+//! to command lines, with tables that were worked out apart from them. It stands apart so that none
+//! of those crates is proved a second time beside its tests.
 //!
-//! The tables stand in the folder where it runs. A line of a table is an answer, a tab, and the
-//! call with what it is called with; in `setups.txt` a call is several lines after `=== `, and each
-//! line of its answer begins with `--- `. Standard output has each call at which the two differ,
-//! and for each table how many there are and how many differ.
+//! The tables stand in the folder where it runs. A line of a table of calls is an answer, a tab, and
+//! the call with what it is called with; in `setups.txt` a call is several lines after `=== `, and
+//! each line of its answer begins with `--- `. Standard output has each call and each command at
+//! which the two differ, and for each table how many there are and how many differ.
 #![tactic(auto)]
 
 mod bounds;
+mod commands;
 mod elf;
 mod escapes;
-mod expanded;
 mod files;
 mod images;
 mod instructions;
@@ -28,11 +28,13 @@ mod short_io;
 mod solo;
 mod sources;
 mod steps;
+mod tally;
 mod tokens;
 mod units;
 mod values;
 mod words;
 
+use crate::tally::Tally;
 use std::alloc::AllocError;
 use std::{fs, io};
 
@@ -137,26 +139,26 @@ fn agrees(rt: HostRuntime, table: Table, row: &str) -> io::Result<bool> {
     Ok(agrees)
 }
 
+/// The tally of a table's rows.
+fn tally_of(rt: HostRuntime, table: Table, text: &str) -> io::Result<Tally> {
+    let mut tally = Tally::new();
+    for row in text.split(table.separator()) {
+        if !row.is_empty() {
+            tally.count(agrees(rt, table, row)?);
+        }
+    }
+    Ok(tally)
+}
+
 /// Compares the calls of a table.
 fn compare(rt: HostRuntime, name: &str, table: Table) -> io::Result<()> {
     let text = fs::read_to_string(&rt, name)?;
-    let mut calls = 0u32;
-    let mut differ = 0u32;
-    for row in text.split(table.separator()) {
-        if row.is_empty() {
-            continue;
-        }
-        calls = calls.saturating_add(1);
-        if !agrees(rt, table, row)? {
-            differ = differ.saturating_add(1);
-        }
-    }
-    println!(rt; "{name}: {calls} calls, {differ} differ")
+    tally_of(rt, table, text.as_str())?.print(rt, name, "calls")
 }
 
 fn main(rt: HostRuntime) -> io::Result<()> {
     for (name, table) in &TABLES {
         compare(rt, name, *table)?;
     }
-    Ok(())
+    commands::compare_all(rt)
 }

@@ -1,9 +1,10 @@
 //! Commands of which each call of `fetch`, and each call of `put`, fails in turn: what was written
 //! before it stays, and nothing is called after it.
 
-use crate::answer::{Answer, answer_to};
-use crate::cases::{Case, Command, Fails, cases};
-use crate::commands::{Tally, agrees};
+use crate::commands::agrees;
+use crate::commands::answer::{Answer, answer_to};
+use crate::commands::cases::{Case, Command, Fails, cases};
+use crate::tally::Tally;
 use std::alloc::{AllocError, Global};
 use std::{fs, io};
 
@@ -18,7 +19,7 @@ pub fn compare(rt: HostRuntime, name: &str) -> io::Result<()> {
     }
     let mut told = String::from_str(rt.alloc(), name)?;
     told.push_str(", each fetch and put failing")?;
-    tally.print(rt, told.as_str())
+    tally.print(rt, told.as_str(), "commands")
 }
 
 /// Counts a command with each of its calls failing. One in which a call fails already is left out.

@@ -1,6 +1,6 @@
 //! The tables of command lines with their answers.
 
-use crate::expanded::{push_bytes, push_event, push_expanded};
+use crate::commands::expanded::{push_bytes, push_event, push_expanded};
 use std::alloc::{AllocError, Global};
 
 /// A file that is there from its row of the table on.

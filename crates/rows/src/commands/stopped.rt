@@ -2,8 +2,8 @@
 ghost use Rattle.std.specs.Prelude.{◌<◌, ◌≡◌, ◌≤◌, vec_len};
 ghost use Rattle.timer_unit.specs.Time.{most_cycles};
 
-use crate::answer::{ROOM, sink_of, words_of};
-use crate::cases::{Case, Command, Cut};
+use crate::commands::answer::{ROOM, sink_of, words_of};
+use crate::commands::cases::{Case, Command, Cut};
 use ask_words::{Ask, read_words};
 use fp_image::{Image, read_image};
 use fp_io::MemSink;

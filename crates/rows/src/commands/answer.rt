@@ -1,9 +1,9 @@
 //! What the program answers to a command.
 
-use crate::cases::{Case, Command, Cut};
-use crate::devices::{CountPort, DropPort, StepPort};
-use crate::noted::{NotedFiles, NotedPort, NotedSink, Notes, Put};
-use crate::ports::{half_of, left_at, room_of};
+use crate::commands::cases::{Case, Command, Cut};
+use crate::commands::devices::{CountPort, DropPort, StepPort};
+use crate::commands::noted::{NotedFiles, NotedPort, NotedSink, Notes, Put};
+use crate::commands::ports::{half_of, left_at, room_of};
 use flexpret_top::flexpret;
 use fp_io::{MemFiles, MemSink};
 use fp_ports::{HeldPort, Port, Ports, WavePort};

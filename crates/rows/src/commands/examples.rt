@@ -1,8 +1,8 @@
 //! The examples of the repository: commands over their files, of which copies stand in the folder
 //! where it runs.
 
-use crate::cases::{Case, Command, Fails, File};
 use crate::commands;
+use crate::commands::cases::{Case, Command, Fails, File};
 use std::{fs, io};
 
 /// The names of files in commands and setups, each with its copy.

@@ -1,42 +1,49 @@
 //! Compares what the program answers to command lines: its status, what it writes, what is left of
 //! the devices at the ports, and the calls that it makes. `commands.txt` says at its head how its
-//! tables are written.
+//! tables are written. Beside them stand copies of the files of the repository's examples with what
+//! commands over them write.
 
-use crate::answer::{Answer, answer_to, is_wanted, push_answer};
-use crate::cases::{Case, Command, cases};
-use crate::stopped::is_shown;
+mod answer;
+mod cases;
+mod devices;
+mod examples;
+pub mod expanded;
+mod failing;
+mod noted;
+mod ports;
+mod stopped;
+
+use crate::commands::answer::{Answer, answer_to, is_wanted, push_answer};
+use crate::commands::cases::{Case, Command, cases};
+use crate::commands::stopped::is_shown;
+use crate::tally::Tally;
 use std::{fs, io};
 
-/// How many commands there are, and how many differ.
-#[derive(Clone, Copy)]
-pub struct Tally {
-    commands: u32,
-    differ: u32,
-}
+/// The tables.
+const TABLES: [&str; 8] = [
+    "commands.txt",
+    "worlds.txt",
+    "settings.txt",
+    "worked.txt",
+    "calls.txt",
+    "noted.txt",
+    "limits.txt",
+    "stopped.txt",
+];
 
-impl Tally {
-    pub fn new() -> Tally {
-        Tally {
-            commands: 0,
-            differ: 0,
-        }
-    }
+/// Those whose commands are run again with each fetch and each put failing.
+const FAILING: [&str; 2] = ["worked.txt", "noted.txt"];
 
-    /// Counts a command, which agrees with its row or not.
-    pub fn count(&mut self, agrees: bool) {
-        self.commands = self.commands.saturating_add(1);
-        if !agrees {
-            self.differ = self.differ.saturating_add(1);
-        }
+/// Compares the commands over the examples, and those of each table.
+pub fn compare_all(rt: HostRuntime) -> io::Result<()> {
+    examples::compare(rt)?;
+    for name in TABLES {
+        compare(rt, name)?;
     }
-
-    /// Prints how many there are under a name.
-    pub fn print(self, rt: HostRuntime, name: &str) -> io::Result<()> {
-        println!(rt;
-            "{name}: {} commands, {} differ",
-            self.commands, self.differ
-        )
+    for name in FAILING {
+        failing::compare(rt, name)?;
     }
+    Ok(())
 }
 
 /// Whether a command has the answer that is wanted. One that differs is printed.
@@ -80,5 +87,5 @@ pub fn compare(rt: HostRuntime, name: &str) -> io::Result<()> {
 
 /// Compares the commands of cases.
 pub fn compare_cases(rt: HostRuntime, name: &str, cases: &[Case]) -> io::Result<()> {
-    tally_of(rt, cases)?.print(rt, name)
+    tally_of(rt, cases)?.print(rt, name, "commands")
 }
