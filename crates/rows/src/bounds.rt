@@ -53,19 +53,38 @@ pub fn push_answer(text: &mut String, alloc: Global, call: &str) -> Result<(), A
     let Some(question) = Question::of_words(words) else {
         return text.push_str("no question");
     };
-    let Some(loops) = loops_of(alloc, numbers)? else {
-        return text.push_str("no loops");
-    };
-    let Some(image) = image_of(alloc, file)? else {
-        return text.push_str("no image");
-    };
-    push_asked(text, alloc, question, &image, &loops)
+    match loops_of(alloc, numbers)? {
+        Some(loops) => push_over(text, alloc, question, file, &loops),
+        None => text.push_str("no loops"),
+    }
+}
+
+/// The answer over the image of a file's words.
+fn push_over(
+    text: &mut String,
+    alloc: Global,
+    question: Question,
+    file: &str,
+    loops: &Loops,
+) -> Result<(), AllocError> {
+    match image_of(alloc, file)? {
+        Some(image) => push_asked(text, alloc, question, &image, loops),
+        None => text.push_str("no image"),
+    }
 }
 
 fn is_loop(j: &LoopSetup) -> bool
     ensures { IsTrue result ↔ IsLoop j.now }
 {
     j.head % 4 == 0 && j.last % 4 == 0 && j.head <= j.last && j.limit <= 1_048_576
+}
+
+/// Loops as a setup has them; None where they break a rule of loops.
+fn kept_loops(loops: Vec<LoopSetup>) -> Option<Loops> {
+    if loops.len() > 256 || !loops.iter().all(is_loop) {
+        return None;
+    }
+    Some(Loops::from_vec(loops))
 }
 
 /// The loops of a list of numbers, three each; None where they break a rule of loops.
@@ -83,10 +102,7 @@ fn loops_of(alloc: Global, numbers: &str) -> Result<Option<Loops>, AllocError> {
         };
         loops.push(LoopSetup { head, last, limit })?;
     }
-    if loops.len() > 256 || !loops.iter().all(is_loop) {
-        return Ok(None);
-    }
-    Ok(Some(Loops::from_vec(loops)))
+    Ok(kept_loops(loops))
 }
 
 /// The image of a file's words; None where a word is no number.

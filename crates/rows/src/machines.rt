@@ -1,6 +1,6 @@
 //! That the machine's whole state stands in its fields.
 
-ghost use Rattle.std.specs.Prelude.{◌≡◌, All, length};
+ghost use Rattle.std.specs.Prelude.{◌≡◌, All, length, vec_len};
 ghost use Rattle.pipeline_core.specs.StageFacts.{IsPc};
 
 use crate::pipelines::{guard, sched};
@@ -58,21 +58,39 @@ fn units(sched: Sched, guard: Guard, imem: Spm, dmem: Spm) -> Units
     }
 }
 
-/// Appends the trace of thread 0 in eleven cycles, with a semicolon at the end of each line, and
-/// the cycle then.
+/// Appends the lines of a trace, after the number of thread 0 and with a semicolon at the end.
+fn push_lines(text: &mut String, trace: &str) -> Result<(), AllocError> {
+    for line in trace.lines() {
+        write!(text, "0 {};", line.trim())?;
+    }
+    Ok(())
+}
+
+/// Appends the trace of thread 0 in eleven cycles beside these ports, and the cycle then.
+fn push_run_beside(
+    alloc: Global,
+    text: &mut String,
+    machine: &mut Machine,
+    ports: &mut Ports,
+) -> Result<(), AllocError>
+    requires start { machine.old.at ≡ 0 }
+    requires eight { vec_len ports.old ≡ 8 }
+{
+    let mut out = MemSink::new(alloc, 4096)?;
+    let ran = machine.run(11, 0, ports, &mut out);
+    push_lines(text, str::from_utf8(out.bytes()).unwrap_or(""))?;
+    write!(text, "{ran:?} {}", machine.cycle())
+}
+
+/// Appends the trace of thread 0 in eleven cycles without a device, and the cycle then.
 fn push_run(alloc: Global, text: &mut String, machine: &mut Machine) -> Result<(), AllocError>
     requires { machine.old.at ≡ 0 }
 {
-    let mut out = MemSink::new(alloc, 4096)?;
     let mut ports: Ports = Vec::new(alloc);
     for _count in 0..8usize {
         ports.push(None)?;
     }
-    let ran = machine.run(11, 0, &mut ports, &mut out);
-    for line in str::from_utf8(out.bytes()).unwrap_or("").lines() {
-        write!(text, "0 {};", line.trim())?;
-    }
-    write!(text, "{ran:?} {}", machine.cycle())
+    push_run_beside(alloc, text, machine, &mut ports)
 }
 
 /// Appends what the machine of these fields does.

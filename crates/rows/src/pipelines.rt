@@ -137,10 +137,24 @@ fn push_shown(
     for _count in 1..8usize {
         ports.push(None)?;
     }
-    feed(&mut ports, fed)?;
+    push_beside(text, units, &mut ports, fed, second, cycles)
+}
+
+/// Appends the events of some cycles beside these ports, and the latch of thread 0's device then.
+fn push_beside(
+    text: &mut String,
+    units: &mut Units,
+    ports: &mut Ports,
+    fed: &str,
+    second: u32,
+    cycles: u64,
+) -> Result<(), AllocError>
+    requires { vec_len ports.old ≡ 8 }
+{
+    feed(ports, fed)?;
     let entries = [0, second / 4 * 4, 0, 0, 0, 0, 0, 0];
-    push_events(text, units, &mut ports, entries, cycles.min(1000))?;
-    match latch_of(&ports, 0) {
+    push_events(text, units, ports, entries, cycles.min(1000))?;
+    match latch_of(ports, 0) {
         Some(latch) => write!(text, "latch {latch:x}"),
         None => Ok(()),
     }
@@ -149,13 +163,12 @@ fn push_shown(
 /// Appends the events of a program: the registers of slots and modes, the entry of thread 1 and how
 /// many cycles; the words of its code after their indices; and what thread 0's port is fed.
 pub fn push_program(alloc: Global, text: &mut String, program: &str) -> Result<(), AllocError> {
-    let mut parts = program.split(", ");
-    let n = numbers(parts.next().unwrap_or(""));
-    let imem = code_of(alloc, parts.next().unwrap_or(""))?;
+    let (head, rest) = program.split_once(", ").unwrap_or((program, ""));
+    let (code, fed) = rest.split_once(", ").unwrap_or((rest, ""));
+    let n = numbers(head);
     let (Some(sched), Some(guard)) = (sched(low_word(n[0]), low_word(n[1])), guard(0)) else {
         return text.push_str("no registers");
     };
-    let mut units = units(alloc, sched, guard, imem)?;
-    let fed = parts.next().unwrap_or("");
+    let mut units = units(alloc, sched, guard, code_of(alloc, code)?)?;
     push_shown(alloc, text, &mut units, fed, low_word(n[2]), n[3])
 }

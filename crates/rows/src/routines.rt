@@ -4,7 +4,7 @@ ghost use Rattle.region_guard.specs.Regions.{IsSize};
 
 use crate::escapes::unescaped;
 use crate::numbers::head;
-use call_bounds::{RoutinesRefused, read_routines};
+use call_bounds::{Routine, RoutinesRefused, read_routines};
 use std::alloc::{AllocError, Global};
 use std::fmt::Write;
 
@@ -19,13 +19,16 @@ fn size_of(name: &str) -> u32
 /// the first fault with its line.
 pub fn push_answer(text: &mut String, alloc: Global, call: &str) -> Result<(), AllocError> {
     let (size, bytes) = head(call);
-    let bytes = unescaped(alloc, bytes)?;
-    let routines = match read_routines(alloc, &bytes, size_of(size)) {
-        Ok(routines) => routines,
-        Err(RoutinesRefused::Fault { line, code }) => return write!(text, "{code:?} {line}"),
-        Err(RoutinesRefused::NoMemory) => return Err(AllocError),
-    };
-    for routine in routines.as_slice() {
+    match read_routines(alloc, &unescaped(alloc, bytes)?, size_of(size)) {
+        Ok(routines) => push_routines(text, routines.as_slice()),
+        Err(RoutinesRefused::Fault { line, code }) => write!(text, "{code:?} {line}"),
+        Err(RoutinesRefused::NoMemory) => Err(AllocError),
+    }
+}
+
+/// The first and the last word of each routine.
+fn push_routines(text: &mut String, routines: &[Routine]) -> Result<(), AllocError> {
+    for routine in routines {
         write!(text, "{:x}:{:x};", routine.head, routine.last)?;
     }
     Ok(())

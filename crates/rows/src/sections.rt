@@ -1,8 +1,8 @@
 //! What a tree of sections answers.
 
-ghost use Rattle.std.specs.Prelude.{◌<◌};
+ghost use Rattle.std.specs.Prelude.{◌<◌, ◌≤◌};
 
-use fp_image::read_image;
+use fp_image::{Image, read_image};
 use fp_setup::{LoopSetup, Loops};
 use region_tree::{LoopTree, Section};
 use std::alloc::{AllocError, Global};
@@ -24,16 +24,30 @@ const OUTSIDE: LoopSetup = LoopSetup {
     limit: 1,
 };
 
-/// What the tree of the whole file holds: its ends, how many loops, the word at 8, and whether 12
-/// and 16 are reachable.
+const SECTION: Section = Section { from: 0, to: 20 };
+
+/// What the tree of the whole file holds.
 pub fn push_answer(text: &mut String, alloc: Global) -> Result<(), AllocError> {
+    match read_image(alloc, FILE, 16_384) {
+        Ok(image) => push_built(text, alloc, &image),
+        Err(_) => text.push_str("no image"),
+    }
+}
+
+/// What the tree of an image's section holds.
+fn push_built(text: &mut String, alloc: Global, image: &Image) -> Result<(), AllocError> {
     let loops = Loops::from_vec(vec![in alloc; OUTSIDE, ROUND]?);
-    let Ok(image) = read_image(alloc, FILE, 16_384) else {
-        return text.push_str("no image");
-    };
-    let Ok(tree) = LoopTree::build(alloc, &image, Section { from: 0, to: 20 }, &loops) else {
-        return text.push_str("no tree");
-    };
+    match LoopTree::build(alloc, image, SECTION, &loops) {
+        Ok(tree) => push_tree(text, &tree),
+        Err(_) => text.push_str("no tree"),
+    }
+}
+
+/// A tree's ends, how many loops it has, the word at 8, and whether 12 and 16 are reachable.
+fn push_tree(text: &mut String, tree: &LoopTree) -> Result<(), AllocError>
+    requires from { tree.now.section.from ≤ 8 }
+    requires to { 16 < tree.now.section.to }
+{
     let (section, count, word) = (tree.section(), tree.loops().len(), tree.word(8));
     let (behind, target) = (tree.is_reachable(12), tree.is_reachable(16));
     write!(text, "{section:?} {count} {word:x} {behind} {target}")

@@ -3,7 +3,7 @@
 //! its answer is how many bytes the thread's trace has. The trace itself goes nowhere, so that what
 //! takes time is the engine.
 
-ghost use Rattle.std.specs.Prelude.{◌≤◌};
+ghost use Rattle.std.specs.Prelude.{◌<◌, ◌≤◌, IfSome};
 ghost use Rattle.timer_unit.specs.Time.{most_cycles};
 ghost use Rattle.solo_run.specs.View.{IsView};
 
@@ -47,26 +47,25 @@ fn bytes_of(view: SoloView, cycles: u64) -> Option<u64>
     }
 }
 
-/// How many bytes a thread's trace has; None where setup or image is refused, or there is no such
-/// thread or so many cycles.
-fn trace_length(
-    alloc: Global,
-    setup: &[u8],
-    image: &[u8],
-    thread: u8,
-    cycles: u64,
-) -> Result<Option<u64>, AllocError> {
-    if thread > 7 || cycles > MOST_CYCLES {
-        return Ok(None);
+/// The view of a thread; None where setup or image is refused, or memory was.
+fn view_of(alloc: Global, setup: &[u8], image: &[u8], thread: u8) -> Option<SoloView>
+    requires { thread < 8 }
+    ensures { IfSome result IsView }
+{
+    let setup = read_setup(alloc, setup).ok()?;
+    let image = read_image(alloc, image, setup.size()).ok()?;
+    SoloView::of(alloc, &setup, &image, thread).ok()
+}
+
+/// How many bytes a thread's trace has; None where it has no view, memory was refused, or there
+/// aren't so many cycles.
+fn trace_length(alloc: Global, setup: &[u8], image: &[u8], thread: u8, cycles: u64) -> Option<u64>
+    requires { thread < 8 }
+{
+    if cycles > MOST_CYCLES {
+        return None;
     }
-    let Ok(setup) = read_setup(alloc, setup) else {
-        return Ok(None);
-    };
-    let Ok(image) = read_image(alloc, image, setup.size()) else {
-        return Ok(None);
-    };
-    let view = SoloView::of(alloc, &setup, &image, thread)?;
-    Ok(bytes_of(view, cycles))
+    bytes_of(view_of(alloc, setup, image, thread)?, cycles)
 }
 
 /// The bytes of a file; none where it can't be read.
@@ -84,7 +83,7 @@ pub fn push_answer(text: &mut String, rt: HostRuntime, call: &str) -> Result<(),
     let (thread, cycles) = head(call);
     let (setup, image) = (bytes_in(rt, setup), bytes_in(rt, image));
     let thread = thread_of(number(thread));
-    match trace_length(rt.alloc(), &setup, &image, thread, number(cycles))? {
+    match trace_length(rt.alloc(), &setup, &image, thread, number(cycles)) {
         Some(bytes) => write!(text, "{bytes} bytes"),
         None => text.push_str("nothing"),
     }

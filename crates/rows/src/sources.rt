@@ -17,8 +17,16 @@ use std::fmt::Write;
 pub fn push_answer(text: &mut String, alloc: Global, call: &str) -> Result<(), AllocError> {
     let (count, source) = call.split_once('\t').unwrap_or(("1", call));
     let source = unescaped(alloc, source)?;
-    let source = with_first(alloc, count.parse().unwrap_or(1), &source)?;
-    match assemble(alloc, &source) {
+    push_image(
+        text,
+        alloc,
+        &with_first(alloc, count.parse().unwrap_or(1), &source)?,
+    )
+}
+
+/// The image of a source, or its first fault.
+fn push_image(text: &mut String, alloc: Global, source: &[u8]) -> Result<(), AllocError> {
+    match assemble(alloc, source) {
         Ok(image) => {
             text.push_str("image ")?;
             push_segments(text, &image)

@@ -180,22 +180,22 @@ fn push_words(text: &mut String, units: &Units) -> Result<(), AllocError> {
 
 /// Words of a small scratchpad that was filled and stored to, and the last word of a large one.
 pub fn push_memory(text: &mut String, alloc: Global) -> Result<(), AllocError> {
+    push_small(text, alloc)?;
+    let mut large = Spm::new(alloc, 65_536)?;
+    large.fill(16_383, &[1, 2, 3, 4]);
+    write!(text, "{:x}", large.word_at(16_383))
+}
+
+/// Words of a small scratchpad that was filled and stored to.
+fn push_small(text: &mut String, alloc: Global) -> Result<(), AllocError> {
     let mut small = Spm::new(alloc, 16_384)?;
     small.fill(1, &[0x93, 0x02, 0x10, 0x00, 0xff, 0xff, 0xff, 0x7f]);
     small.store(2, lanes(0b0100, 0x0055_0000));
     small.store(4_095, lanes(0b1111, 42));
-    let mut large = Spm::new(alloc, 65_536)?;
-    large.fill(16_383, &[1, 2, 3, 4]);
-    write!(
-        text,
-        "{:x} {:x} {:x} {:x} {:x} {:x}",
-        small.word_at(0),
-        small.word_at(1),
-        small.word_at(2),
-        small.word_at(3),
-        small.word_at(4_095),
-        large.word_at(16_383)
-    )
+    for index in [0, 1, 2, 3, 4_095] {
+        write!(text, "{:x} ", small.word_at(index))?;
+    }
+    Ok(())
 }
 
 fn lanes(mask: u8, value: u32) -> Lanes {

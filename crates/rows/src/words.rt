@@ -7,13 +7,23 @@ use std::fmt::Write;
 
 /// `none`, or the words after a colon: what they ask, with all values.
 pub fn push_answer(text: &mut String, alloc: Global, call: &str) -> Result<(), AllocError> {
+    push_asked_by(text, alloc, &words_of(alloc, call)?)
+}
+
+/// The words of a call.
+fn words_of(alloc: Global, call: &str) -> Result<Vec<String>, AllocError> {
     let mut words = Vec::new(alloc);
     if let Some(line) = call.strip_prefix(':') {
         for word in line.split(' ') {
             words.push(String::from_str(alloc, word)?)?;
         }
     }
-    match read_words(alloc, &words) {
+    Ok(words)
+}
+
+/// What words ask.
+fn push_asked_by(text: &mut String, alloc: Global, words: &[String]) -> Result<(), AllocError> {
+    match read_words(alloc, words) {
         Ok(ask) => push_ask(text, &ask),
         Err(WordsNo::Usage) => text.push_str("usage"),
         Err(WordsNo::NoMemory) => Err(AllocError),
