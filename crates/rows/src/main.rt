@@ -1,11 +1,11 @@
-//! Compares what the crates answer to calls, by what these offer to all, and what the program answers
-//! to command lines, with tables that were worked out apart from them. It stands apart so that none
-//! of those crates is proved a second time beside its tests.
+//! Compares what the crates answer to calls, by what these offer to all, and what the program
+//! answers to command lines, with tables that were worked out apart from them. It stands apart so
+//! that none of those crates is proved a second time beside its tests.
 //!
-//! The tables stand in the folder where it runs. A line of a table of calls is an answer, a tab, and
-//! the call with what it is called with; in `setups.txt` a call is several lines after `=== `, and
-//! each line of its answer begins with `--- `. Standard output has each call and each command at
-//! which the two differ, and for each table how many there are and how many differ.
+//! The tables stand in the folder where it runs. A line of a table of calls is an answer, a tab,
+//! and the call with what it is called with; in `setups.txt` a call is several lines after `=== `,
+//! and each line of its answer begins with `--- `. Standard output has each call and each command
+//! at which the two differ, and for each table how many there are and how many differ.
 #![tactic(auto)]
 
 mod bounds;
