@@ -4,16 +4,12 @@
 set -eu
 cd "$(dirname "${BASH_SOURCE[0]}")/.."
 differ=0
-for file in examples/{calls,sum}.* examples/drive.{fpx,s,toml,trace} examples/c/pid.*; do
+for file in examples/{calls,sum}.* examples/drive.{fpx,s,toml,trace} examples/c/pid.* examples/device/ramp.*; do
     cmp "$file" "crates/rows/data/${file##*/}" || differ=1
 done
 cmp examples/drive.fpx crates/flexpret_view/data/drive.fpx || differ=1
-for file in examples/device/ramp.{toml,fpx}; do
-    cmp "$file" "crates/ramp_cli/data/$file" || differ=1
-done
 for file in examples/device/loop.toml examples/c/pid.fpx; do
-    cmp "$file" "crates/closed_loop/data/$file" || differ=1
+    cmp "$file" "crates/device_cli/data/$file" || differ=1
 done
-cmp examples/device/ramp.trace crates/ramp_cli/stdout || differ=1
-cmp examples/device/loop.txt crates/closed_loop/stdout || differ=1
+cmp examples/device/loop.txt crates/device_cli/stdout || differ=1
 exit "$differ"

@@ -1,5 +1,5 @@
 #!/usr/bin/env python3
-"""Draws what crates/closed_loop prints: reads its lines from standard input, and writes a picture in SVG."""
+"""Draws what `device_cli loop` prints: reads its lines from standard input, and writes a picture in SVG."""
 
 import sys
 

@@ -58,7 +58,7 @@ try_block() {
 # Whether a block of code stands in one of the crates' sources.
 try_code() {
     local file
-    for file in "$top"/crates/{ramp_port/src/lib,ramp_cli/src/main,closed_loop/src/control_loop}.rt; do
+    for file in "$top"/crates/{ramp_port/src/lib,device_cli/src/main,device_cli/src/control_loop}.rt; do
         [[ $(<"$file") != *"$code"* ]] || return 0
     done
     fail "the page shows other code: ${code%%$'\n'*}"

@@ -7,17 +7,12 @@
 //! proved. No clause says what a run is: each cycle is the machine's, but after a feeding the
 //! machine stands for no cycle of a world that is known from the start, and so no theorem on runs,
 //! traces and isolation speaks of it.
-#![tactic(auto)]
-
-mod control_loop;
-mod fixed;
-mod plant;
 
 ghost use Rattle.std.specs.Prelude.{◌≡◌, vec_len};
 
 use crate::control_loop::ControlLoop;
 use crate::fixed::Fixed;
-use anyhow::{Result, bail};
+use crate::{NO_MEMORY, WRITE};
 use fp_io::RealFiles;
 use fp_ports::{HeldPort, Ports};
 use fp_setup::Name;
@@ -33,14 +28,13 @@ const PERIODS: u64 = 160;
 /// What the controller is to hold, as it is written there.
 const SET_POINT: Fixed = Fixed(16 * 0x1_0000);
 
+/// The status where the setup or its image can't be read, or has a fault.
+const READ: u8 = 7;
+
 /// The setup and its image.
-fn read_program(rt: HostRuntime) -> Result<Program> {
+fn read_program(rt: HostRuntime) -> Result<Program, Stop> {
     let name = Name::from_str(rt.alloc(), SETUP)?;
-    match load(rt.alloc(), &name, &mut RealFiles::new(rt)) {
-        Ok(program) => Ok(program),
-        Err(Stop::NoMemory) => bail!("out of memory"),
-        Err(_) => bail!("{SETUP} or its image can't be read, or has a fault"),
-    }
+    load(rt.alloc(), &name, &mut RealFiles::new(rt))
 }
 
 /// Prints a line: the time in nanoseconds, the set point, what drives the plant, and what its
@@ -55,7 +49,7 @@ fn print_line(rt: HostRuntime, ns: u64, closed: &ControlLoop) -> io::Result<()>
 
 /// Does the periods of a run from cycle 0 on, of so many nanoseconds a cycle, and prints a line
 /// after each.
-fn print_periods(rt: HostRuntime, closed: &mut ControlLoop, ns: u64) -> Result<()>
+fn print_periods(rt: HostRuntime, closed: &mut ControlLoop, ns: u64) -> io::Result<()>
     requires eight { vec_len closed.old.ports ≡ 8 }
     requires start { closed.old.machine.at ≡ 0 }
 {
@@ -68,7 +62,7 @@ fn print_periods(rt: HostRuntime, closed: &mut ControlLoop, ns: u64) -> Result<(
 }
 
 /// Closes the loop over devices at the ports.
-fn close_over(rt: HostRuntime, program: &Program, ports: Ports) -> Result<()>
+fn close_over(rt: HostRuntime, program: &Program, ports: Ports) -> io::Result<()>
     requires { vec_len ports ≡ 8 }
 {
     let mut closed = ControlLoop::new(rt.alloc(), program, ports)?;
@@ -76,7 +70,7 @@ fn close_over(rt: HostRuntime, program: &Program, ports: Ports) -> Result<()>
 }
 
 /// Closes the loop over a device at each of the eight ports that shows 0 until it is fed.
-fn run(rt: HostRuntime, program: &Program) -> Result<()> {
+fn run(rt: HostRuntime, program: &Program) -> io::Result<()> {
     let alloc = rt.alloc();
     let mut ports: Ports = Vec::new(alloc);
     for _thread in 0..8u8 {
@@ -85,7 +79,17 @@ fn run(rt: HostRuntime, program: &Program) -> Result<()> {
     close_over(rt, program, ports)
 }
 
-fn main(rt: HostRuntime) -> Result<()> {
-    let program = read_program(rt)?;
-    run(rt, &program)
+/// Closes the loop, and gives the status: that of `flexpret` where memory is refused, or what it
+/// prints can't be written.
+pub fn status(rt: HostRuntime) -> u8 {
+    let program = match read_program(rt) {
+        Ok(program) => program,
+        Err(Stop::NoMemory) => return NO_MEMORY,
+        Err(_) => return READ,
+    };
+    match run(rt, &program) {
+        Ok(()) => 0,
+        Err(error) if error.kind() == io::ErrorKind::OutOfMemory => NO_MEMORY,
+        Err(_) => WRITE,
+    }
 }

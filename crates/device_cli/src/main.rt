@@ -1,7 +1,13 @@
-//! The program of `flexpret_cli` with a device of one's own: thread 0's port shows a ramp.
+//! The program of `flexpret_cli` with a device of one's own: thread 0's port shows a ramp. By the
+//! word `loop` it closes a loop instead.
 #![tactic(auto)]
 
 ghost use Rattle.std.specs.Prelude.{◌≡◌, vec_len};
+
+mod closed_loop;
+mod control_loop;
+mod fixed;
+mod plant;
 
 use flexpret_top::flexpret;
 use fp_io::{Gathered, OutSink, PutFailed, RealFiles};
@@ -13,6 +19,9 @@ use std::{env, io};
 
 /// For how many cycles each word of the ramp stands.
 const EVERY: u64 = 16;
+
+/// The word that asks for the closed loop.
+const LOOP: &str = "loop";
 
 /// The status where the words aren't UTF-8.
 const USAGE: u8 = 2;
@@ -58,9 +67,17 @@ fn read_args(rt: HostRuntime) -> Result<Vec<String>, u8> {
     }
 }
 
+/// The status of what the words ask: the closed loop, or a command beside the ramp.
+fn status_of(rt: HostRuntime, words: &[String]) -> u8 {
+    match words.first() {
+        Some(word) if words.len() == 1 && word.as_str() == LOOP => closed_loop::status(rt),
+        _ => run(rt, words).unwrap_or(NO_MEMORY),
+    }
+}
+
 fn main(rt: HostRuntime) -> ExitCode {
     let status = match read_args(rt) {
-        Ok(words) => run(rt, &words).unwrap_or(NO_MEMORY),
+        Ok(words) => status_of(rt, &words),
         Err(status) => status,
     };
     ExitCode::from(status)

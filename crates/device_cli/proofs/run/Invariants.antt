@@ -1,5 +1,5 @@
 use Rattle.std.proofs.Common.{◌≡◌, vec_len}
-use Rattle.ramp_cli.proofs.run.Given as goal
+use Rattle.device_cli.proofs.run.Given as goal
 
 abbrev pub invariant-loop-thread : goal.invariant-loop-thread
 invariant-loop-thread l = vec_len l.ports ≡ l._thread

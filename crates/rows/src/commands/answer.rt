@@ -7,6 +7,7 @@ use crate::commands::ports::{half_of, left_at, room_of};
 use flexpret_top::flexpret;
 use fp_io::{MemFiles, MemSink};
 use fp_ports::{HeldPort, Port, Ports, WavePort};
+use ramp_port::RampPort;
 use std::alloc::{AllocError, Global};
 use std::cell::Cell;
 use std::fmt::Write;
@@ -14,6 +15,9 @@ use std::rc::Rc;
 
 /// More than the bytes of any text of the tables.
 pub const ROOM: usize = 65_536;
+
+/// For how many cycles each word of the ramp stands, as in the program of the examples with it.
+const EVERY: u64 = 16;
 
 /// No status of the program.
 const NO_PORTS: u8 = 255;
@@ -109,9 +113,9 @@ struct Ended {
 }
 
 /// Runs a command beside devices of some kinds. The kinds have a space between two: `h` is a device
-/// that holds what it is fed, `wN` a square wave, `step` one that shows the cycle, `drop` one that
-/// counts its drops, `count` one whose calls are counted, `+` one that holds what it is fed and
-/// notes its calls, `+N` one that does so and can be fed N times, `-` none.
+/// that holds what it is fed, `wN` a square wave, `step` one that shows the cycle, `ramp` one that
+/// rises, `drop` one that counts its drops, `count` one whose calls are counted, `+` one that holds
+/// what it is fed and notes its calls, `+N` one that does so and can be fed N times, `-` none.
 fn run_beside(
     alloc: Global,
     kinds: &str,
@@ -126,6 +130,7 @@ fn run_beside(
         let port: Option<Box<dyn Port>> = match (kind, room) {
             ("h", _) => Some(Box::new(alloc, HeldPort::new(alloc))?),
             ("step", _) => Some(Box::new(alloc, StepPort::new())?),
+            ("ramp", _) => Some(Box::new(alloc, RampPort::new(alloc, EVERY))?),
             ("count", _) => Some(Box::new(alloc, CountPort::new(&counted)?)?),
             ("drop", _) => Some(Box::new(alloc, DropPort::new(alloc, &drops)?)?),
             (_, Some(room)) => {

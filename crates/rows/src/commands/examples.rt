@@ -55,17 +55,51 @@ const COMMANDS: [(&str, &str); 11] = [
     ),
 ];
 
+/// The files of the example with a device of one's own, each with its copy.
+const DEVICE_FILES: [(&str, &str); 3] = [
+    ("examples/device/ramp.s", "ramp.s"),
+    ("examples/device/ramp.fpx", "ramp.fpx"),
+    ("examples/device/ramp.toml", "ramp.toml"),
+];
+
+/// Its commands, each with the file that has what it writes.
+const DEVICE_COMMANDS: [(&str, &str); 2] = [
+    ("asm examples/device/ramp.s", "ramp.fpx"),
+    (
+        "run examples/device/ramp.toml --thread 0 --cycles 400",
+        "ramp.trace",
+    ),
+];
+
 /// Compares what the commands write.
 pub fn compare(rt: HostRuntime) -> io::Result<()> {
-    let mut case = Case::named(rt.alloc(), "examples")?;
-    case.ports.push_str("h h h h h h h h")?;
-    for (name, copy) in &FILES {
+    compare_by(rt, "examples", "h h h h h h h h", &FILES, &COMMANDS)?;
+    compare_by(
+        rt,
+        "examples/device",
+        "ramp h h h h h h h",
+        &DEVICE_FILES,
+        &DEVICE_COMMANDS,
+    )
+}
+
+/// Compares what commands over files write beside these ports.
+fn compare_by(
+    rt: HostRuntime,
+    name: &str,
+    ports: &str,
+    files: &[(&str, &str)],
+    commands: &[(&str, &str)],
+) -> io::Result<()> {
+    let mut case = Case::named(rt.alloc(), name)?;
+    case.ports.push_str(ports)?;
+    for (name, copy) in files {
         add_file(rt, &mut case, name, copy)?;
     }
-    for (line, wanted) in &COMMANDS {
+    for (line, wanted) in commands {
         add_command(rt, &mut case, line, wanted)?;
     }
-    commands::compare_cases(rt, "examples", &vec![in rt.alloc(); case]?)
+    commands::compare_cases(rt, name, &vec![in rt.alloc(); case]?)
 }
 
 /// Adds a file with the bytes of its copy.

@@ -1,5 +1,5 @@
 use Rattle.std.proofs.Common.{◌≡◌, ◌*◌, vec_len}
-use Rattle.closed_loop.proofs.print_periods.Given as goal
+use Rattle.device_cli.proofs.closed_loop.print_periods.Given as goal
 
 abbrev pub invariant-loop-period : goal.invariant-loop-period
 invariant-loop-period g l = record {

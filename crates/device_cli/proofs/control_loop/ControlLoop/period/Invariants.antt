@@ -1,5 +1,5 @@
 use Rattle.std.proofs.Common.{◌≡◌, ◌+◌, ◌*◌, vec_len}
-use Rattle.closed_loop.proofs.control_loop.ControlLoop.period.Given as goal
+use Rattle.device_cli.proofs.control_loop.ControlLoop.period.Given as goal
 
 abbrev pub invariant-loop-step : goal.invariant-loop-step
 invariant-loop-step g l = record {

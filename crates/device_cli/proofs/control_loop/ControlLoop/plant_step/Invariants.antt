@@ -1,5 +1,5 @@
 use Rattle.std.proofs.Common.{◌≡◌, ◌+◌, vec_len}
-use Rattle.closed_loop.proofs.control_loop.ControlLoop.plant_step.Given as goal
+use Rattle.device_cli.proofs.control_loop.ControlLoop.plant_step.Given as goal
 
 abbrev pub invariant-loop-cycle : goal.invariant-loop-cycle
 invariant-loop-cycle g l = record {
