@@ -43,7 +43,7 @@ try_block() {
     local made status
     made=$(sed -n 's/.* > \(examples\/device\/[^ ]*\)$/\1/p' <<<"$command")
     [ -z "$made" ] || rm -f "$made"
-    bash -c "$command" >"$work/written" 2>"$work/errors"
+    bash -c "$command" </dev/null >"$work/written" 2>"$work/errors"
     status=$?
     if [ $status -ne 0 ] || ! stands_in "$work/shown" "$work/written"; then
         fail "$command (status $status)"
