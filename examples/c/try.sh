@@ -1,11 +1,12 @@
 #!/usr/bin/env bash
 # Runs each command that docs/C.md shows, on a copy of this folder, and compares what it writes with the page. It is no
-# part of the gate. FP names the program, if it isn't ../../flexpret. Without gcc for RISC-V it says so and stops with
-# success.
+# part of the gate. FP names the program, if it isn't ../../flexpret, and FLEXPRET_VIEW the view, if it isn't
+# ../../flexpret-view. Without gcc for RISC-V it says so and stops with success.
 set -u
 here=$(cd "$(dirname "${BASH_SOURCE[0]}")" && pwd)
 top=$(cd "$here/../.." && pwd)
 program=${FP:-$top/flexpret}
+view=${FLEXPRET_VIEW:-$top/flexpret-view}
 
 for tool in make riscv64-unknown-elf-gcc; do
     if ! command -v "$tool" >/dev/null; then
@@ -19,7 +20,8 @@ trap 'rm -rf "$work"' EXIT
 mkdir "$work/examples"
 cp -R "$here" "$work/examples/c"
 printf '#!/bin/sh\nexec "%s" "$@"\n' "$program" >"$work/flexpret"
-chmod +x "$work/flexpret"
+printf '#!/bin/sh\nexec "%s" "$@"\n' "$view" >"$work/flexpret-view"
+chmod +x "$work/flexpret" "$work/flexpret-view"
 cd "$work"
 make -s -C examples/c clean
 
@@ -47,28 +49,40 @@ try_block() {
         fail "$command (status $status)"
         cat "$work/errors"
     elif stands_in "$work/shown" "$work/written"; then
-        echo "as shown: $command"
+        echo "as shown: ${command%%$'\n'*}"
     else
-        fail "$command"
+        fail "${command%%$'\n'*}"
         head -20 "$work/written"
     fi
     if [ "$command" = 'make -C examples/c' ] && ! cmp -s examples/c/pid.elf "$here/pid.elf"; then
-        echo "this compiler makes another pid.elf than the repository's, which the others are tried on"
+        echo "this compiler makes another pid.elf than the repository's, which the others are tried on, but for section 8"
         cp "$here/pid.elf" examples/c/pid.elf
+        other=1
     fi
     command=
 }
 
-command=
+# A line of the page, without the four spaces of a block. Lines up to END belong to a command that ends with <<'END'. The
+# addresses of section 8 are those of one compiler.
+command= text= other=
 while IFS= read -r line; do
-    case $line in
+    case $text$line in
+    open*)
+        line=${line#'    '}
+        command+=$'\n'$line
+        [ "$line" != END ] || text=
+        ;;
     '    $ '*)
         try_block
         command=${line#'    $ '}
         : >"$work/shown"
+        [ "${line%"<<'END'"}" = "$line" ] || text=open
         ;;
     '    '*) [ -z "$command" ] || echo "${line#'    '}" >>"$work/shown" ;;
-    *) try_block ;;
+    *)
+        try_block
+        [[ -z $other || $line != '## 8. '* ]] || break
+        ;;
     esac
 done <"$top/docs/C.md"
 try_block
