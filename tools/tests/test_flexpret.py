@@ -171,6 +171,25 @@ def test_the_files_follow_a_read_that_failed(
     assert told("calls", "own/a.toml", "--routines=r")[-1] == "r (the file of --routines) isn't there"
 
 
+def test_the_files_follow_a_view_that_could_not_read(tmp_path: Path) -> None:
+    checkout = Checkout(tmp_path, "flexpret-view", "flexpret_view")
+    checkout.environment["RT_PROGRAM"] = "#!/bin/sh\necho 'flexpret_view: read failed' >&2\nexit 7\n"
+    checkout.run("x")
+    folder = tmp_path / "call"
+    (folder / "own").mkdir(parents=True)
+    (folder / "own/a.toml").write_text('image = "a.fpx"\n')
+    (folder / "own/a.fpx").write_text("")
+    ran = checkout.run("turns", "--from", "0", "own/a.toml", "--to=9", "--svg", "a.svg", cwd=folder)
+    assert (ran.returncode, ran.stdout) == (7, "")
+    assert ran.stderr.splitlines() == [
+        "flexpret_view: read failed",
+        f"files are looked for from {folder}:",
+        "  own/a.toml (the setup) is there",
+        "  a.fpx (the setup's image) isn't there",
+        "  own/a.fpx is there: a setup's image is named as it is seen from the folder of the call",
+    ]
+
+
 def test_the_program_ends_with_the_script(checkout: Checkout) -> None:
     checkout.build()
     script = subprocess.Popen(
