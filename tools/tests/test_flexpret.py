@@ -79,6 +79,17 @@ def test_a_first_build_says_how_long_it_takes_and_counts_crates(either: Checkout
     assert (ran.returncode, ran.stdout) == (0, "in\n2:run a b\n")
 
 
+@pytest.mark.parametrize("words", [(), ("--help",), ("-h",), ("help",)])
+def test_help_waits_for_no_build(checkout: Checkout, words: tuple[str, ...]) -> None:
+    checkout.environment["RT_PROGRAM"] = "#!/bin/sh\necho 'flexpret: usage' >&2\nexit 2\n"
+    before = checkout.run(*words)
+    assert not checkout.out.exists()
+    checkout.run("x")
+    after = checkout.run(*words)
+    assert (before.returncode, before.stdout, before.stderr) == (after.returncode, after.stdout, after.stderr)
+    assert (after.returncode, after.stderr.splitlines()[0]) == (2, "flexpret: usage")
+
+
 def test_nothing_is_built_twice_until_a_source_changes(either: Checkout) -> None:
     either.build()
     assert either.run("x").stderr == ""
