@@ -1,7 +1,7 @@
 #!/usr/bin/env bash
 # Runs each command that the setups of this folder show in their comments as `./flexpret .. > FILE`, on a copy of the
-# folder, and compares what it writes with that file here. The gate does so too. FLEXPRET names the program, if it
-# isn't ../flexpret.
+# folder, and compares what it writes with that file here; and so those that drive, sum and calls tell in other words. The
+# gate does so too. FLEXPRET names the program, if it isn't ../flexpret.
 set -u
 here=$(dirname "$(readlink -f "${BASH_SOURCE[0]}")")
 program=$(readlink -f "${FLEXPRET:-$here/../flexpret}")
@@ -34,6 +34,23 @@ for setup in examples/*.toml; do
         as_here "$made" "$command"
     done < <(commands "$setup")
 done
+
+# Makes a file of the folder by a command.
+writes() {
+    local made=examples/$1
+    shift
+    rm -f "$made"
+    ./flexpret "$@" >"$made"
+    as_here "$made" "./flexpret $*"
+}
+writes drive.fpx asm examples/drive.s
+writes drive.trace run examples/drive.toml --thread 0 --cycles 57
+writes sum.fpx asm examples/sum.s
+writes sum.bound bound examples/sum.toml --thread 0 --from 0x10 --to 0x3c
+writes sum.trace run examples/sum.toml --thread 0 --cycles 820
+writes calls.fpx asm examples/calls.s
+writes calls.bound calls examples/calls.toml --thread 0 --from 0x8 --to 0x18 --routines examples/calls.routines
+writes calls.trace run examples/calls.toml --thread 0 --cycles 200
 
 # The large image from its source, by whichever tools are installed.
 if command -v clang >/dev/null && command -v ld.lld >/dev/null; then
