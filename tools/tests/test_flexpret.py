@@ -107,10 +107,16 @@ def test_a_build_that_fails(either: Checkout) -> None:
     ran = either.run("x")
     assert ran.returncode == 1
     (log,) = either.out.glob("*.log")
-    assert ran.stderr.endswith(
-        f"{either.script}: the program can't be built; see {log.relative_to(either.folder)}\n"
-    )
+    assert ran.stderr.endswith(f"{either.script}: the program can't be built; see {log}\n")
     assert log.read_text().count("logic=proved") == 3
+
+
+def test_a_build_without_a_kit(either: Checkout) -> None:
+    (either.folder / "bin/rt").unlink()
+    either.environment["PATH"] = f"{either.folder}/bin:/usr/bin:/bin"
+    ran = either.run("x")
+    assert (ran.returncode, ran.stdout, len(ran.stderr.splitlines())) == (1, "", 1)
+    assert "isn't on the PATH" in ran.stderr
 
 
 def test_a_link_to_the_script_from_elsewhere(
