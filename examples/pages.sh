@@ -84,10 +84,10 @@ stands 'selfrun 1' 'T0 events 12500 fold c695866c'
 # The setup with each key, and the list of an executable's routines.
 sed -n '/^```toml$/,/^```$/{/^```/d; p}' "$top/docs/FORMATS.md" >each-key.toml
 ./flexpret run each-key.toml --thread 0 --cycles 9 >"$work/written" || fail 'the setup with each key'
-if command -v riscv64-unknown-elf-nm >/dev/null; then
+if command -v riscv64-unknown-elf-readelf >/dev/null; then
     cp "$here/c/pid.elf" prog.elf
-    sed -n '/^    .*nm -n -S prog.elf/,/done$/s/^    //p' "$top/docs/FORMATS.md" >list
-    if [ "$(bash list | tr '\n' ,)" = '0000001c 00000050,00000054 000001a8,0000081c 00000874,' ]; then
+    sed -n '/^    .*readelf -sW prog.elf/,/done$/s/^    //p' "$top/docs/FORMATS.md" >list
+    if [ "$(bash list | tr '\n' ,)" = '0000001c 00000050,0000081c 00000874,' ]; then
         echo 'as shown: the list of routines'
     else
         fail 'the list of routines'
