@@ -133,12 +133,18 @@ class Judge:
             if not meant and way.exit not in (Exit.INDIRECT, Exit.WAIT):
                 to = "" if way.to is None else f" to {way.to:#x} {self.program.name_of(way.to)}".rstrip()
                 raise Unknown(f"{way.word.pc:#x}{to}: {way.exit.value}")
+        if not any(way.exit is Exit.END or way.to in self.exits for way in section.ways_out):
+            raise Unknown("no way leads to the section's end")
 
     def _look_at_routines(self, routines: list[Section]) -> None:
-        """The program refuses ways out of a routine that are no returns, but for traps."""
+        """The program refuses ways out of a routine that are no returns, but for traps, and takes one without any."""
         for way in (it for routine in routines for it in routine.ways_out):
             if way.exit in (Exit.MISSING, Exit.TRAP, Exit.CALL):
                 raise Unknown(f"{way.word.pc:#x} {self.program.name_of(way.word.pc)}: {way.exit.value}")
+        for routine in routines:
+            if not routine.ways_out:
+                where = f"{routine.start:#x} {self.program.name_of(routine.start)}".rstrip()
+                raise Unknown(f"{where}: a function that is called never returns")
 
     def _are_of_executable(self, sections: list[Section]) -> None:
         """Names of an executable say nothing of an image that was made of another."""

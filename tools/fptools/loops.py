@@ -93,6 +93,6 @@ def ways_out(section: Section, program: Program) -> Iterator[str]:
 
 
 def is_whole(section: Section, loops: list[StatedLoop]) -> bool:
-    """Whether every loop has its bound and the section's end is the only way out."""
+    """Whether every loop has its bound and the section's end is the only way out, and one."""
     only_end = all(way.exit is Exit.END for way in section.ways_out)
-    return only_end and all(it.bound is not None and not it.doubt for it in loops)
+    return section.ends and only_end and all(it.bound is not None and not it.doubt for it in loops)

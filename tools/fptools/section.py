@@ -56,9 +56,14 @@ class Section:
     def holds(self, address: int) -> bool:
         return self.start <= address < self.end
 
+    @property
+    def ends(self) -> bool:
+        """Whether a way through the section reaches its end."""
+        return any(way.exit is Exit.END for way in self.ways_out)
+
 
 def walk(words: Mapping[int, int], start: int, end: int, routines: Collection[int] = ()) -> Section:
-    """Goes through a section. A call of one of the routines, by their heads, comes back to the next word."""
+    """Goes through a section. A call of one of the routines by x1, by their heads, comes back to the next word."""
     section = Section(start, end)
     backs: dict[int, list[int]] = defaultdict(list)
     ahead = [start]
@@ -94,7 +99,7 @@ def _ends(section: Section, word: Word, routines: Collection[int]) -> list[int]:
         return []
     if target is None:
         return [word.next]
-    if flow is Flow.CALL and target in routines:
+    if word.comes_back and target in routines:
         section.callees.add(target)
         return [word.next]
     return [word.next, target] if flow is Flow.BRANCH else [target]

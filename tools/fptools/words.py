@@ -15,6 +15,7 @@ ECALL, EBREAK, MRET = 0x0000_0073, 0x0010_0073, 0x3020_0073
 FUNCT3_WAITS = (2, 3)  # DU, WU
 FUNCT3_EXPIRE = 4  # EE
 CSR_MTVEC = 0x305
+RETURN_ADDRESS = 1
 
 # The instructions of the core: which bits of a word are fixed, and what they are.
 OPCODE, OPCODE_FUNCT3, OPCODE_FUNCT = 0x0000_007F, 0x0000_707F, 0xFE00_707F
@@ -97,6 +98,11 @@ class Word:
         if self.opcode == OPCODE_TIMING and self.funct3 in FUNCT3_WAITS:
             return Flow.WAIT
         return Flow.NEXT
+
+    @property
+    def comes_back(self) -> bool:
+        """Whether it is a call as the command `calls` has them: by x1, which `ret` goes back to."""
+        return self.flow is Flow.CALL and self.rd == RETURN_ADDRESS
 
     @property
     def target(self) -> int | None:

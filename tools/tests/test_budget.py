@@ -7,6 +7,11 @@ from xml.etree import ElementTree
 
 import pytest
 from conftest import TOP, Tool
+from fptools.budgets import Budget, Judge, Verdict
+from fptools.elf import Function, Program
+from fptools.image import read_image
+from fptools.program import Flexpret
+from fptools.setup import read_setup
 
 PID = ("examples/c/pid.toml", "--elf", "examples/c/pid.elf")
 STEP = 'name = "step"\nthread = 0\nfrom = "step_begin"\nto = "step_end"\n'
@@ -73,17 +78,22 @@ def test_a_jump_elsewhere_is_unknown_unless_it_is_meant(asking: Tool, tmp_path: 
     assert judged(asking, tmp_path, words, section("0x108", "0x110", meant))[0] == 0
 
 
+def setup_text(image: Path) -> str:
+    """A setup in which T0 has all turns and begins at address 0."""
+    regions = ["readonly"] * 8
+    return (
+        f"period = 10\nimage = {str(image)!r}\nslots = {['T0'] + ['D'] * 7}\n"
+        f"i_regions = {regions}\nd_regions = {regions}\n[[thread]]\nid = 0\nmode = 'hard'\nentry = 0\n"
+    )
+
+
 @pytest.fixture
 def calling(flexpret: str, tmp_path: Path) -> tuple[str, ...]:
     """The words for a setup of calls.elf, in which T0 has all turns."""
     elf = TOP / "tools/tests/data/calls.elf"
     image, setup = tmp_path / "calls.fpx", tmp_path / "calls.toml"
     image.write_bytes(subprocess.run([flexpret, "elf", elf], capture_output=True, check=True).stdout)
-    regions = ["readonly"] * 8
-    setup.write_text(
-        f"period = 10\nimage = {str(image)!r}\nslots = {['T0'] + ['D'] * 7}\n"
-        f"i_regions = {regions}\nd_regions = {regions}\n[[thread]]\nid = 0\nmode = 'hard'\nentry = 0\n"
-    )
+    setup.write_text(setup_text(image))
     return str(setup), "--elf", str(elf)
 
 
@@ -105,6 +115,51 @@ def test_a_called_function_that_traps(asking: Tool, tmp_path: Path, calling: tup
         2,
         ["UNKNOWN  T0 it: 0x24 broken: traps: a bound ends here"],
     )
+
+
+def setup_of(folder: Path, words: list[int], loops: str = "") -> Path:
+    """A setup over these words from address 0 on."""
+    code = b"".join(it.to_bytes(4, "little") for it in words)
+    image, setup = folder / "own.fpx", folder / "own.toml"
+    image.write_bytes(b"FPX1" + b"".join(it.to_bytes(4, "little") for it in (1, 0, len(code))) + code)
+    setup.write_text(setup_text(image) + loops)
+    return setup
+
+
+NOP, RETURN, HERE, CALL_FOUR_ON, CALL_BY_T0 = 0x13, 0x8067, 0x6F, 0x010000EF, 0x010002EF
+
+
+def of_functions(flexpret: str, folder: Path, words: list[int], loops: str = "") -> tuple[Verdict, str]:
+    """What is said of the section of the first three words, where a function stands from the sixth on."""
+    setup = read_setup(setup_of(folder, words, loops))
+    image = read_image(setup.image)
+    program = Program()
+    program.functions = [Function(0x14, 4 * len(words), "called")]
+    judge = Judge(Flexpret(flexpret), setup, image, program)
+    result = judge.judge(Budget("it", 0, 0, 0xC, 1000, calls=True))
+    return result.verdict, result.text
+
+
+def test_a_call_by_another_register_than_x1_leaves_a_section(flexpret: str, tmp_path: Path) -> None:
+    words = [NOP, CALL_FOUR_ON, NOP, HERE, HERE, NOP, RETURN]
+    assert of_functions(flexpret, tmp_path, words) == (Verdict.HOLDS, "9 of 1000 cycles (90 ns)")
+    words[1] = CALL_BY_T0
+    text = "0x4 to 0x14: a call leaves the section: a bound ends here"
+    assert of_functions(flexpret, tmp_path, words) == (Verdict.UNKNOWN, text)
+
+
+def test_a_called_function_whose_endless_loop_has_a_table(flexpret: str, tmp_path: Path) -> None:
+    words = [NOP, CALL_FOUR_ON, NOP, HERE, HERE, NOP, HERE]
+    loops = "[[loop]]\nhead = 0x18\nlast = 0x18\nbound = 3\n"
+    text = "0x14: a function that is called never returns"
+    assert of_functions(flexpret, tmp_path, words, loops) == (Verdict.UNKNOWN, text)
+
+
+def test_a_section_whose_endless_loop_has_a_table(asking: Tool, tmp_path: Path) -> None:
+    loops = "[[loop]]\nhead = 0x4\nlast = 0x4\nbound = 3\n"
+    setup = setup_of(tmp_path, [NOP, HERE, NOP], loops)
+    status, lines = judged(asking, tmp_path, (str(setup),), section("0", "8"))
+    assert (status, lines) == (2, ["UNKNOWN  T0 it: no way leads to the section's end"])
 
 
 def test_a_called_function_that_never_returns(asking: Tool, tmp_path: Path) -> None:

@@ -4,7 +4,8 @@ from __future__ import annotations
 import pytest
 from conftest import TOP, Tool
 from fptools.image import read_image
-from fptools.section import walk
+from fptools.loops import StatedLoop, is_whole
+from fptools.section import Loop, Section, walk
 from fptools.setup import read_setup
 
 LOOPS = "tools/tests/data/loops.elf"
@@ -56,6 +57,12 @@ def test_a_call_leaves_a_section_and_comes_back_with_calls(tool: Tool) -> None:
     assert tool(*words).returncode == 1
     assert tool(*words, "--calls").stdout == "# 0x14 start0+0x14 to 0x18 stopped0: reaches the end\n"
     assert tool(*words, "--calls").returncode == 0
+
+
+def test_a_section_that_never_reaches_its_end_is_not_whole() -> None:
+    loop = Loop(4, (4,))
+    stated = [StatedLoop(loop, frozenset({3}), None)]
+    assert not is_whole(Section(0, 8, loops=[loop]), stated)
 
 
 def test_without_an_end_the_function_is_the_section(tool: Tool) -> None:
