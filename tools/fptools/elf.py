@@ -6,16 +6,23 @@ from bisect import bisect_right
 from dataclasses import dataclass
 from functools import cached_property
 from pathlib import Path
-from typing import Any, Iterator
+from typing import Any, Collection, Iterable, Iterator
 
 from elftools.common.exceptions import DWARFError, ELFError
+from elftools.construct import ConstructError
 from elftools.elf.elffile import ELFFile
 from elftools.elf.sections import SymbolTableSection
 
 from fptools.image import words_of
 
 CODE_END = 0x1_0000
-ADDRESS = re.compile(r"(?P<name>[A-Za-z_.$][\w.$]*)?(?P<plus>\+)?(?P<number>0x[0-9a-fA-F]+|\d+)?")
+ADDRESS = re.compile(r"(?P<name>[A-Za-z_.$][\w.$]*)?(?P<plus>\+)?(?P<number>0x[0-9a-fA-F]{1,16}|[0-9]{1,20})?")
+
+
+# What pyelftools raises beyond its own errors where a file has been cut, or a table of it leads astray.
+FAULTS = (
+    ArithmeticError, AssertionError, AttributeError, ConstructError, LookupError, MemoryError, TypeError, ValueError,
+)  # fmt: skip
 
 
 class ProgramError(Exception):
@@ -42,6 +49,10 @@ class Line:
         return f"{self.file.name}:{self.number}"
 
 
+# From which address on a line counts, or none.
+Row = tuple[int, Line | None]
+
+
 class Program:
     """A static ELF32 executable; without a file, one that has no words, symbols and lines."""
 
@@ -57,8 +68,13 @@ class Program:
                 self._read(ELFFile(file))
         except ELFError as fault:
             raise ProgramError(f"{path} is no ELF file: {fault}") from fault
+        except FAULTS as fault:
+            raise ProgramError(f"{path} is a broken ELF file: {fault}") from fault
 
     def _read(self, elf: ELFFile) -> None:
+        kind = elf.elfclass, elf.little_endian, elf["e_machine"], elf["e_type"]
+        if kind != (32, True, "EM_RISCV", "ET_EXEC"):
+            raise ProgramError(f"{self.path} is no static executable of RISC-V with 32 bits")
         for segment in elf.iter_segments():
             if segment["p_type"] == "PT_LOAD":
                 self.words |= words_of(segment.data(), segment["p_vaddr"])
@@ -92,13 +108,16 @@ class Program:
         parts = ADDRESS.fullmatch(text)
         if not text or parts is None or bool(parts["plus"]) != bool(parts["name"] and parts["number"]):
             raise ProgramError(f"{text} is no address: a number, NAME or NAME+NUMBER")
-        number = int(parts["number"] or "0", 0)
+        digits = parts["number"] or "0"
+        number = int(digits, 16 if digits.startswith("0x") else 10)
         if not parts["name"]:
             return number
-        for at, name in self.symbols:
-            if name == parts["name"]:
-                return at + number
-        raise ProgramError(f"{parts['name']} is no symbol of code in {self.path or 'no executable'}")
+        named = sorted({at for at, name in self.symbols if name == parts["name"]})
+        if not named:
+            raise ProgramError(f"{parts['name']} is no symbol of code in {self.path or 'no executable'}")
+        if len(named) > 1:
+            raise ProgramError(f"{parts['name']} is at {' and '.join(map(hex, named))}: give the number")
+        return named[0] + number
 
     def function_at(self, address: int) -> Function | None:
         """The function in which an address lies."""
@@ -110,27 +129,46 @@ class Program:
         return self._lines[index][1] if index >= 0 else None
 
     @cached_property
-    def _lines(self) -> list[tuple[int, Line | None]]:
+    def _lines(self) -> list[Row]:
         """From which address on which line counts; None from the end of what was compiled together."""
         if self.path is None:
             return []
-        with self.path.open("rb") as file:
-            elf = ELFFile(file)
-            if not elf.has_dwarf_info():
-                return []
-            dwarf = elf.get_dwarf_info()
-            try:
-                rows = [row for unit in dwarf.iter_CUs() for row in _rows_of(dwarf, unit)]
-            except (KeyError, ValueError, IndexError, DWARFError) as fault:
-                # Version 0.29 of pyelftools has no form for the checksums of files that clang writes.
-                text = "has line tables that pyelftools can't read; -gdwarf-4 gives others"
-                raise ProgramError(f"{self.path} {text}") from fault
+        try:
+            with self.path.open("rb") as file:
+                elf = ELFFile(file)
+                dwarf = elf.get_dwarf_info() if elf.has_dwarf_info() else None
+                units = dwarf.iter_CUs() if dwarf else ()
+                pieces = [piece for unit in units for piece in pieces_of(_rows_of(dwarf, unit))]
+        except (ELFError, DWARFError, *FAULTS) as fault:
+            # Version 0.29 of pyelftools has no form for the checksums of files that clang writes.
+            text = "has line tables that pyelftools can't read; -gdwarf-4 gives others"
+            raise ProgramError(f"{self.path} {text}") from fault
         # Where one unit ends another may begin: its line counts.
-        rows.sort(key=lambda row: (row[0], row[1] is not None))
-        return rows
+        return sorted(
+            (row for piece in linked(pieces) for row in piece), key=lambda row: (row[0], row[1] is not None)
+        )
 
 
-def _rows_of(dwarf: Any, unit: Any) -> Iterator[tuple[int, Line | None]]:
+def pieces_of(rows: Iterable[Row]) -> Iterator[list[Row]]:
+    """The rows of what was compiled together, up to its end, which is the row without a line."""
+    piece: list[Row] = []
+    for row in rows:
+        piece.append(row)
+        if row[1] is None:
+            yield piece
+            piece = []
+
+
+def linked(pieces: Collection[list[Row]]) -> Iterator[list[Row]]:
+    """Those that are in the executable: what a linker drops (--gc-sections) has lines at address 0 alone, or from there
+    on, where others are."""
+    whole = [piece for piece in pieces if piece[0][0] < piece[-1][0]]
+    for piece in whole:
+        if piece[0][0] != 0 or not any(it[0][0] < piece[-1][0] for it in whole if it is not piece):
+            yield piece
+
+
+def _rows_of(dwarf: Any, unit: Any) -> Iterator[Row]:
     """The rows of a unit's line table."""
     table = dwarf.line_program_for_CU(unit)
     if table is None:
