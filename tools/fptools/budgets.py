@@ -1,10 +1,8 @@
 """Bounds of sections against budgets. What can't be said is unknown, and never taken to hold."""
 from __future__ import annotations
 
-import json
 import re
 import tempfile
-import tomllib
 from dataclasses import dataclass, field
 from enum import IntEnum
 from pathlib import Path
@@ -17,6 +15,7 @@ from fptools.elf import CODE_END, Function, Program, ProgramError
 from fptools.program import Answer, Flexpret
 from fptools.section import Exit, Section, walk
 from fptools.setup import Setup
+from fptools.toml import faults, read_toml
 
 SCHEMA = Path(__file__).resolve().parents[1] / "budgets.schema.json"
 BOUND = re.compile(r"bound (\d+)")
@@ -57,8 +56,10 @@ class Result:
 
 def read_budgets(path: Path, period: int) -> list[Budget]:
     """The budgets of a file; nanoseconds are cycles of the period, rounded down."""
-    values = tomllib.loads(path.read_text(encoding="utf-8"))
-    jsonschema.validate(values, json.loads(SCHEMA.read_text(encoding="utf-8")))
+    _, values = read_toml(path)
+    fault = jsonschema.exceptions.best_match(faults(SCHEMA, values))
+    if fault:
+        raise fault
     return [_budget(table, period) for table in values["budget"]]
 
 

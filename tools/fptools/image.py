@@ -4,7 +4,10 @@ from __future__ import annotations
 import struct
 from pathlib import Path
 
+from fptools.setup import DATA_START, LARGE
+
 MAGIC = b"FPX1"
+MOST_SEGMENTS = 16
 
 
 class ImageError(Exception):
@@ -18,21 +21,35 @@ def words_of(data: bytes, start: int = 0) -> dict[int, int]:
 
 
 def read_image(path: Path) -> dict[int, int]:
-    """The words that an image places, by address."""
+    """The words that an image places, by address; what the program takes for no image of any setup is an `ImageError`."""
     data = path.read_bytes()
     if data[:4] != MAGIC:
         raise ImageError(f"{path} is no image: it begins with {data[:40]!r}")
     words: dict[int, int] = {}
     try:
         (segments,) = struct.unpack_from("<I", data, 4)
-        offset = 8
+        if segments > MOST_SEGMENTS:
+            raise ImageError(f"{path} is no image: {segments} segments, of {MOST_SEGMENTS} at most")
+        offset, before = 8, 0
         for _ in range(segments):
             start, length = struct.unpack_from("<II", data, offset)
             offset += 8
+            _look_at(path, start, length, before)
             if offset + length > len(data):
                 raise ImageError(f"{path} is no image: it was cut")
             words |= words_of(data[offset : offset + length], start)
-            offset += length
+            offset, before = offset + length, start + length
     except struct.error as fault:
         raise ImageError(f"{path} is no image: it was cut") from fault
+    if offset < len(data):
+        raise ImageError(f"{path} is no image: bytes follow its last segment")
     return words
+
+
+def _look_at(path: Path, start: int, length: int, before: int) -> None:
+    """A segment is of whole words in one scratchpad, behind the one before."""
+    is_inside = any(base <= start and start + length <= base + LARGE for base in (0, DATA_START))
+    if start % 4 or length % 4 or not length or not is_inside:
+        raise ImageError(f"{path} is no image: a segment of {length} bytes at {start:#x}")
+    if start < before:
+        raise ImageError(f"{path} is no image: the segment at {start:#x} isn't behind the one before")

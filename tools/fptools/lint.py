@@ -1,18 +1,16 @@
 """The rules of fp_lint."""
 from __future__ import annotations
 
-import json
 import re
 from dataclasses import dataclass
 from enum import Enum
 from pathlib import Path
 from typing import Any, Callable, Iterator, Mapping
 
-import jsonschema
-
 from fptools.image import ImageError, read_image
 from fptools.rounds import counted_rounds, jumps_of
 from fptools.setup import DATA_START, LARGE, KeyPath, Setup, spelled
+from fptools.toml import faults
 from fptools.words import Flow, Word
 
 SCHEMA = Path(__file__).resolve().parents[1] / "setup.schema.json"
@@ -75,13 +73,9 @@ def refusals(setup: Setup) -> list[Said]:
 
 
 def _schema(setup: Setup) -> Iterator[Said]:
-    """What the schema of setups refuses. A TOML float is no integer, though JSON takes 10.0 for one."""
-    types = jsonschema.Draft7Validator.TYPE_CHECKER.redefine(
-        "integer", lambda _, value: isinstance(value, int) and not isinstance(value, bool)
-    )
-    validator = jsonschema.validators.extend(jsonschema.Draft7Validator, type_checker=types)
-    for fault in validator(json.loads(SCHEMA.read_text(encoding="utf-8"))).iter_errors(setup.values):
-        missing = MISSING.fullmatch(fault.message) if fault.validator == "required" else None
+    """What the schema of setups refuses."""
+    for fault in faults(SCHEMA, setup.values):
+        missing = MISSING.fullmatch(fault.message)
         yield error((*fault.absolute_path, *(missing.groups() if missing else ())), fault.message)
 
 
@@ -139,6 +133,8 @@ def _image(setup: Setup) -> tuple[dict[int, int] | None, list[Said]]:
         beside = setup.path.parent / image.name
         hint = f"; {beside} is there: names are seen from the folder of the call" if beside.is_file() else ""
         return None, [warning(("image",), f"{image} can't be read from here: {fault.strerror}{hint}")]
+    except ValueError as fault:  # a name with a zero byte
+        return None, [warning(("image",), f"can't be read: {fault}")]
     if any(at % DATA_START >= setup.size for at in words):
         return None, [error(("image",), f"places words past {setup.size} bytes: write version = 2")]
     return words, []

@@ -7,12 +7,16 @@ from dataclasses import dataclass
 from pathlib import Path
 from typing import Any, Iterator
 
+from fptools.toml import read_toml
+
 SMALL, LARGE = 16_384, 65_536
 DATA_START = 0x2000_0000
 REGIONS = 8
 
-COMMENT = re.compile(r"#.*")
-TABLE = re.compile(r"\s*\[\[\s*(\w+)\s*\]\]")
+MOST_BYTES = 262_144
+
+# A comment, or a text, in which a `#` begins none.
+TEXT_OR_COMMENT = re.compile(r"""("(?:[^"\\]|\\.)*"|'[^']*')|#.*""")
 
 KeyPath = tuple[str | int, ...]
 
@@ -55,9 +59,9 @@ class Setup:
 
 
 def read_setup(path: Path) -> Setup:
-    """Reads a setup; what TOML refuses is a `tomllib.TOMLDecodeError`."""
-    text = path.read_text(encoding="utf-8")
-    return Setup(path, tomllib.loads(text), dict(_lines_of(text)))
+    """Reads a setup; what is no TOML document is a `TomlError`."""
+    text, values = read_toml(path, MOST_BYTES)
+    return Setup(path, values, dict(_lines_of(text)))
 
 
 def _lines_of(text: str) -> Iterator[tuple[KeyPath, int]]:
@@ -65,25 +69,28 @@ def _lines_of(text: str) -> Iterator[tuple[KeyPath, int]]:
     counts: dict[str, int] = {}
     table: KeyPath = ()
     for number, statement in _statements(text):
-        header = TABLE.match(statement)
-        if header:
-            name = header[1]
+        keys = tomllib.loads(statement)
+        if not statement.lstrip().startswith("["):
+            yield from ((table + (key,), number) for key in keys)
+            continue
+        name = next(iter(keys))
+        table = (name,)
+        if name not in counts:
+            yield table, number
+        if statement.lstrip().startswith("[["):
             counts[name] = counts.get(name, -1) + 1
             table = (name, counts[name])
             yield table, number
-        else:
-            for key in tomllib.loads(statement):
-                yield table + (key,), number
 
 
 def _statements(text: str) -> Iterator[tuple[int, str]]:
     """The runs of lines that TOML reads alone, as a list over several lines, with the number of their first."""
     begun, lines = 0, ""
-    for number, line in enumerate(text.splitlines(), 1):
+    for number, line in enumerate(text.split("\n"), 1):
         begun = begun if lines else number
         lines += line + "\n"
         # A line that ends so is no end of a statement; asking TOML at each line of a long list would take long.
-        if COMMENT.sub("", line).rstrip().endswith((",", "[")):
+        if TEXT_OR_COMMENT.sub(r"\1", line).rstrip().endswith((",", "[")):
             continue
         try:
             is_empty = not tomllib.loads(lines)

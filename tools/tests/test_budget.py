@@ -209,12 +209,24 @@ def test_the_junit_file(asking: Tool, tmp_path: Path) -> None:
         (f"{STEP}cycles = 0", "budget[0].cycles: 0 is less than the minimum of 1"),
         (f"{STEP}cycles = 1\nns = 10", "budget[0]: "),
         (f"{STEP}cycle = 1", "budget[0]: "),
+        (f"{STEP}cycles = 400.0", "budget[0].cycles: 400.0 is not of type 'integer'"),
+        (section("0.0", "8"), "budget[0].from: 0.0 is not of type 'integer', 'string'"),
+        (section("0", "8", "cycles = 10").replace('"it"', '"a\\u0001"'), "budget[0].name: "),
     ],
 )
 def test_faulty_budgets(asking: Tool, tmp_path: Path, table: str, error: str) -> None:
     status, lines = judged(asking, tmp_path, PID, table)
     assert status == 2
     assert lines[0].startswith(f"fp_budget: {tmp_path}/budgets.toml: {error}")
+
+
+def test_a_file_that_is_no_toml_is_named(asking: Tool, tmp_path: Path) -> None:
+    faulty = tmp_path / "faulty.toml"
+    faulty.write_text("\na = = 1\n")
+    error = f"fp_budget: {faulty}:2: Invalid value (at line 2, column 5)\n"
+    for files in ((faulty, "examples/c/budgets.toml"), ("examples/c/pid.toml", faulty)):
+        ran = asking("fp_budget", *files, "--elf", "examples/c/pid.elf")
+        assert (ran.returncode, ran.stderr) == (2, error)
 
 
 def test_the_examples_of_budgets_are_read(asking: Tool) -> None:

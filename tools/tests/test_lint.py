@@ -1,11 +1,13 @@
 """What fp_lint says of setups, with the line and the key."""
 from __future__ import annotations
 
+import subprocess
 from pathlib import Path
 
 import pytest
 from conftest import TOP, Tool
 
+TOO_MANY = "warning: loop[0].bound: the code counts 8 rounds, which is bound = 7; 8 is more than that"
 SUM = (TOP / "examples/sum.toml").read_text()
 EXAMPLES = sorted(
     str(it.relative_to(TOP)) for it in TOP.glob("examples/**/*.toml") if it.name != "budgets.toml"
@@ -82,6 +84,35 @@ def test_what_is_seldom_meant(tool: Tool, tmp_path: Path, old: str, new: str, fi
     assert lines == [finding]
 
 
+def image_of(*numbers: int, after: bytes = b"") -> bytes:
+    return b"FPX1" + b"".join(number.to_bytes(4, "little") for number in numbers) + after
+
+
+@pytest.mark.parametrize(
+    ("data", "fault"),
+    [
+        (b"FPX1", "it was cut"),
+        (image_of(1, 0, 8, 0x13), "it was cut"),
+        (image_of(17), "17 segments, of 16 at most"),
+        (image_of(1, 2, 4, 0x13), "a segment of 4 bytes at 0x2"),
+        (image_of(1, 0, 0), "a segment of 0 bytes at 0x0"),
+        (image_of(1, 0x4000_0000, 4, 0x13), "a segment of 4 bytes at 0x40000000"),
+        (image_of(1, 0xFFFC, 8, 0x13, 0x13), "a segment of 8 bytes at 0xfffc"),
+        (image_of(2, 0, 8, 0x13, 0x13, 4, 4, 0x13), "the segment at 0x4 isn't behind the one before"),
+        (image_of(1, 0, 4, 0x13, after=b"\n"), "bytes follow its last segment"),
+    ],
+)
+def test_images_that_the_program_refuses(
+    tool: Tool, flexpret: str, tmp_path: Path, data: bytes, fault: str
+) -> None:
+    image = tmp_path / "own.fpx"
+    image.write_bytes(data)
+    text = changed(('"examples/sum.fpx"', f"{str(image)!r}"))
+    assert said(tool, tmp_path, text) == (1, [f"10: error: image: {image} is no image: {fault}"])
+    dump = [flexpret, "dump", str(tmp_path / "setup.toml"), "--cycles", "1"]
+    assert subprocess.run(dump, capture_output=True, check=False).returncode == 4
+
+
 def test_an_image_beside_the_setup_is_named(tool: Tool, tmp_path: Path) -> None:
     (tmp_path / "own.fpx").write_bytes((TOP / "examples/sum.fpx").read_bytes())
     _, lines = said(tool, tmp_path, changed(('examples/sum.fpx"', 'own.fpx"')))
@@ -113,3 +144,46 @@ def test_what_is_no_toml(tool: Tool, tmp_path: Path) -> None:
 
 def test_a_setup_that_is_not_there(tool: Tool, tmp_path: Path) -> None:
     assert tool("fp_lint", tmp_path / "none.toml").returncode == 2
+
+
+def test_the_other_setups_are_looked_at_where_one_is_not_there(tool: Tool, tmp_path: Path) -> None:
+    (tmp_path / "empty.toml").write_text("")
+    ran = tool("fp_lint", tmp_path / "none.toml", tmp_path / "empty.toml")
+    assert (ran.returncode, ran.stdout.count("is a required property")) == (2, 5)
+
+
+@pytest.mark.parametrize(
+    ("old", "new", "finding"),
+    [
+        ("bound = 7", "bound = = 7", "32: error: -: Invalid value (at line 32, column 9)"),
+        ("bound = 7", "bound = [7", "32: error: -: Unclosed array (at end of document)"),
+        ("bound = 7", "bound = \udce9", "32: error: -: isn't UTF-8: invalid continuation byte"),
+        ("period = 10 ", f"period = {'9' * 5000} ", "1: error: -: a number has too many digits"),
+        ("bound = 7", f"bound = {'[' * 5000}", "1: error: -: its lists or tables nest too deep"),
+        ("bound = 7", f"bound = 7 # {'-' * 262_144}", "1: error: -: has 263474 bytes, of 262144 at most"),
+        ('"examples/sum.fpx"', '"x,#y"', "10: warning: image: x,#y can't be read from here: No such file or directory"),
+        ('"examples/sum.fpx"', '"x\\u0000y"', "10: warning: image: can't be read: embedded null byte"),
+        ("[[thread]]", "[thread]", "20: error: thread: "),
+    ],
+    ids=("value", "end", "bytes", "digits", "nest", "long", "comma", "zero", "table"),
+)  # fmt: skip
+def test_lines_of_setups_of_any_bytes(tool: Tool, tmp_path: Path, old: str, new: str, finding: str) -> None:
+    setup = tmp_path / "setup.toml"
+    setup.write_bytes(changed((old, new)).encode("utf-8", "surrogateescape"))
+    ran = tool("fp_lint", setup)
+    assert (ran.returncode, ran.stderr) == (1, "")
+    assert any(line.startswith(f"{setup}:{finding}") for line in ran.stdout.splitlines()), ran.stdout
+
+
+def test_lines_go_on_behind_unicodes_separators_and_commas_in_texts(tool: Tool, tmp_path: Path) -> None:
+    head = "# \u2028 \u0085 \u2029\nimage = 'x,#y'\n"
+    setup = tmp_path / "setup.toml"
+    setup.write_text(head + changed(('image = "examples/sum.fpx"', ""), ("bound = 7", "bound = -1")))
+    ran = tool("fp_lint", setup)
+    assert ran.stdout == f"{setup}:34: error: loop[0].bound: -1 is less than the minimum of 0\n"
+
+
+def test_a_byte_order_mark_and_returns_are_passed_over(tool: Tool, tmp_path: Path) -> None:
+    setup = tmp_path / "setup.toml"
+    setup.write_bytes(b"\xef\xbb\xbf" + changed(("bound = 7", "bound = 8")).replace("\n", "\r\n").encode())
+    assert tool("fp_lint", setup).stdout == f"{setup}:32: {TOO_MANY}\n"

@@ -1,13 +1,13 @@
 """fp_lint refuses what the program refuses: each row that the gate compares with the proved reader of setups."""
 from __future__ import annotations
 
-import tomllib
 from pathlib import Path
 
 import pytest
 from conftest import TOP
 from fptools.lint import refusals
 from fptools.setup import read_setup, spelled
+from fptools.toml import TomlError
 
 # What the schema can't say, since it compares values; it is looked at in a setup that the schema takes.
 BEYOND_SCHEMA = ("OutOfRange", "ConfinedPermit", "DoubleThread")
@@ -34,7 +34,7 @@ def test_a_row_of_setups(name: str, tmp_path: Path) -> None:
     setup.write_text(text, encoding="utf-8")
     try:
         paths = [spelled(path) for _, path, _ in refusals(read_setup(setup))]
-    except tomllib.TOMLDecodeError:
+    except TomlError:
         paths = ["-"]
     if not read.startswith("refused"):
         assert paths == []
