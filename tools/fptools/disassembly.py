@@ -8,6 +8,7 @@ import tempfile
 from pathlib import Path
 from typing import Mapping
 
+from fptools.elf import CODE_END
 from fptools.words import OPCODE_TIMING, Word
 
 TOOLS = (
@@ -58,7 +59,8 @@ class Disassembler:
     def learn(self, words: Mapping[int, int]) -> None:
         """Has the texts of words of code, by address, made in one call of the tool."""
         new = {at: bits for at, bits in words.items() if (at, bits) not in self._known}
-        shown = self._shown(new) if new and self.tool else {}
+        code = {at: bits for at, bits in new.items() if at < CODE_END}
+        shown = self._shown(code) if code and self.tool else {}
         for at, bits in new.items():
             self._known[at, bits] = timing_text(Word(at, bits)) or shown.get(at) or f"{bits:#010x}"
 

@@ -2,6 +2,7 @@
 from __future__ import annotations
 
 import shutil
+from pathlib import Path
 
 import pytest
 from conftest import TOP, Tool
@@ -81,12 +82,42 @@ def test_source_lines(tool: Tool) -> None:
         (("--pc", "main0"), "", "main0 is no symbol of code in no executable"),
         (("--elf", LOOPS, "--pc", "main0+"), "", "main0+ is no address: a number, NAME or NAME+NUMBER"),
         (("--elf", "README.md"), "", "README.md is no ELF file: Magic number does not match"),
+        (("--elf", LOOPS, "--function", "0x4000"), "", f"0x4000 is in no function of {LOOPS}"),
+        (("--function", "8"), "", "8 is in no function of no executable"),
+        (("--store", "x"), "", "invalid literal for int() with base 0: 'x'"),
         (("none.trace",), "", "[Errno 2] No such file or directory: 'none.trace'"),
     ],
 )
 def test_what_cannot_be_shown(tool: Tool, words: tuple[str, ...], given: str, error: str) -> None:
     ran = tool("fp_trace", *words, given=given)
     assert (ran.returncode, ran.stderr) == (2, f"fp_trace: {error}\n")
+
+
+def test_a_setup_that_is_refused_gives_no_period(tool: Tool, tmp_path: Path) -> None:
+    setup = tmp_path / "setup.toml"
+    setup.write_text((TOP / "examples/c/pid.toml").read_text().replace("period = 10", 'period = "10"'))
+    ran = tool("fp_trace", "examples/c/pid.trace", "--setup", setup)
+    assert (ran.returncode, ran.stdout, ran.stderr) == (2, "", f"fp_trace: {setup} is refused; fp_lint says why\n")
+
+
+@pytest.mark.parametrize("period", ["0", "-5", "1001"])
+def test_a_period_that_no_setup_has(tool: Tool, period: str) -> None:
+    assert tool("fp_trace", "examples/c/pid.trace", f"--period={period}").returncode == 2
+
+
+def test_an_executable_with_other_words_is_told_once(tool: Tool) -> None:
+    ran = tool("fp_trace", "examples/c/pid.trace", "--elf", LOOPS, "--objdump", "")
+    text = "has another word: names and lines are of another program"
+    assert (ran.returncode, ran.stderr) == (0, f"fp_trace: 0x0: {LOOPS} {text}\n")
+
+
+def test_an_address_far_beyond_code_has_its_word_for_a_text(tool: Tool, tmp_path: Path) -> None:
+    never = tmp_path / "objdump"
+    never.write_text("#!/bin/sh\nexit 1\n")
+    never.chmod(0o755)
+    ran = tool("fp_trace", "--objdump", never, given="         0 fffffff0 00000013 -\n")
+    assert (ran.returncode, ran.stderr) == (0, "")
+    assert ran.stdout.splitlines()[1].split()[4] == "0x00000013"
 
 
 def test_a_reader_that_stops_early_is_no_fault(tool: Tool) -> None:
