@@ -102,6 +102,15 @@ def test_nothing_is_built_twice_until_a_source_changes(either: Checkout) -> None
     assert "building" in either.run("x").stderr
 
 
+def test_a_source_that_changes_while_it_is_built_is_built_again(either: Checkout) -> None:
+    source = either.folder / "crates/low/src/lib.rt"
+    rt = either.folder / "bin/rt"
+    rt.write_text(RT.replace("#!/bin/sh\n", f"#!/bin/sh\nsleep 0.1; [ -s {source} ] || echo changed >{source}\n"))
+    either.build()
+    assert "building" in either.run("x").stderr
+    assert either.run("x").stderr == ""
+
+
 def test_a_build_that_fails(either: Checkout) -> None:
     either.environment["RT_STATUS"] = "1"
     ran = either.run("x")
@@ -151,7 +160,8 @@ def test_the_forms_are_those_of_the_man_page_and_the_completion(checkout: Checko
     forms = [line.strip() for line in checkout.run("status", "2").stderr.splitlines()[1:]]
     page = (TOP / "tools/flexpret.1").read_text()
     synopsis = re.findall(r"^\.B (flexpret .*)$", page[: page.index(".SH DESCRIPTION")], re.M)
-    assert [re.sub(r"\\f[IP]", "", line) for line in synopsis] == forms
+    assert [re.sub(r"\\f[IP]|\\(?=-)", "", line) for line in synopsis] == forms
+    assert not re.search(r"(?<!\\)-[-0-9]", page), "a minus of an option is written \\-"
     completion = (TOP / "tools/flexpret.bash").read_text()
     commands = re.search(r"compgen -W '(run [^']*)'", completion)
     assert commands and commands[1].split() == [form.split()[1] for form in forms]
