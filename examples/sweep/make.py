@@ -5,6 +5,7 @@ There is a setup for every frame of eight slots in which T0 has one at least, an
 nanoseconds (40 if it is left out). A line of jobs.tsv has, with tabs between: the job's name, the slots (T for T0, S
 for the soft threads), the period, and the budget in cycles: what the 2,000 nanoseconds of the loop in sum.s are.
 FLEXPRET names the program, if it isn't the built one of this repository."""
+import argparse
 import os
 import shutil
 import sys
@@ -37,9 +38,12 @@ bound = 7
 
 
 def make(folder: Path, most: int) -> None:
+    program = Path(os.environ.get("FLEXPRET") or BUILT)
+    if not os.access(program, os.X_OK):
+        raise FileNotFoundError(f"{program} is no program: build it by ./flexpret, or name it by FLEXPRET")
     (folder / "setups").mkdir(parents=True)
     (folder / "results").mkdir()
-    shutil.copy(os.environ.get("FLEXPRET", BUILT), folder / "flexpret")
+    shutil.copy(program, folder / "flexpret")
     for file in (*HERE.glob("*.sh"), HERE / "slack.gp", HERE.parent / "sum.fpx"):
         shutil.copy(file, folder)
     frames = ["".join(frame) for frame in product("ST", repeat=8) if "T" in frame]
@@ -53,6 +57,13 @@ def make(folder: Path, most: int) -> None:
 
 
 if __name__ == "__main__":
-    if not 2 <= len(sys.argv) <= 3:
-        sys.exit(__doc__)
-    make(Path(sys.argv[1]), int(sys.argv[2]) if len(sys.argv) > 2 else MOST_PERIOD)
+    parser = argparse.ArgumentParser(
+        description=__doc__, formatter_class=argparse.RawDescriptionHelpFormatter
+    )
+    parser.add_argument("folder", type=Path)
+    parser.add_argument("most", type=int, nargs="?", default=MOST_PERIOD, choices=range(1, 1001), metavar="MOST")
+    asked = parser.parse_args()
+    try:
+        make(asked.folder, asked.most)
+    except OSError as fault:
+        sys.exit(f"make.py: {fault}")

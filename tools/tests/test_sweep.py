@@ -1,0 +1,52 @@
+"""examples/sweep/make.py: the setups of a sweep, and what it can't make."""
+from __future__ import annotations
+
+import os
+import subprocess
+from pathlib import Path
+
+import pytest
+from conftest import TOP
+from fptools.lint import refusals
+from fptools.setup import read_setup
+
+
+def made(folder: Path, *words: str, program: str = "/bin/true") -> subprocess.CompletedProcess[str]:
+    return subprocess.run(
+        [TOP / "examples/sweep/make.py", *words], cwd=folder, env={**os.environ, "FLEXPRET": program},
+        capture_output=True, text=True, check=False,
+    )  # fmt: skip
+
+
+def test_each_job_has_a_setup_that_is_not_refused(tmp_path: Path) -> None:
+    assert made(tmp_path, "work", "1").returncode == 0
+    jobs = (tmp_path / "work/jobs.tsv").read_text().splitlines()
+    assert len(jobs) == 255
+    for job in jobs[::50]:
+        name, slots, period, budget = job.split("\t")
+        setup = read_setup(tmp_path / f"work/setups/{name}.toml")
+        assert refusals(setup) == []
+        assert "".join(slot[0] for slot in setup.values["slots"]) == slots
+        assert (setup.values["period"], 2000 // int(period)) == (int(period), int(budget))
+
+
+@pytest.mark.parametrize("words", [(), ("--help",), ("work", "x"), ("work", "0"), ("work", "1001")])
+def test_words_that_ask_for_no_sweep_make_no_folder(tmp_path: Path, words: tuple[str, ...]) -> None:
+    ran = made(tmp_path, *words)
+    assert (ran.returncode == 0) == ("--help" in words)
+    assert "Traceback" not in ran.stderr
+    assert list(tmp_path.iterdir()) == []
+
+
+def test_without_a_program_no_folder_is_made(tmp_path: Path) -> None:
+    ran = made(tmp_path, "work", "1", program="/none")
+    text = "make.py: /none is no program: build it by ./flexpret, or name it by FLEXPRET\n"
+    assert (ran.returncode, ran.stderr) == (1, text)
+    assert list(tmp_path.iterdir()) == []
+
+
+def test_a_folder_that_is_there_stays_as_it_is(tmp_path: Path) -> None:
+    (tmp_path / "setups").mkdir()
+    ran = made(tmp_path, ".", "1")
+    assert ran.returncode == 1
+    assert ran.stderr.startswith("make.py: [Errno 17] File exists")
