@@ -51,4 +51,7 @@ def draw(rows: list[list[float]]) -> str:
 
 if __name__ == "__main__":
     lines = [line.split() for line in sys.stdin if not line.startswith("#")]
-    sys.stdout.write(draw([[float(number) for number in line] for line in lines]))
+    rows = [[float(number) for number in line] for line in lines]
+    if not rows or rows[-1][0] <= 0:
+        sys.exit("plot.py: no line of `device_cli loop` behind 0 nanoseconds came in")
+    sys.stdout.write(draw(rows))

@@ -190,6 +190,18 @@ def test_unknown_counts_before_over(asking: Tool, tmp_path: Path) -> None:
     assert [line.split()[0] for line in lines] == ["OVER", "UNKNOWN", "holds"]
 
 
+def test_results_that_cannot_be_written_are_unknown(asking: Tool, tmp_path: Path) -> None:
+    (tmp_path / "budgets.toml").write_text(f"[[budget]]\n{STEP}cycles = 352\n")
+    with open("/dev/full", "w", encoding="ascii") as full:
+        ran = subprocess.run(
+            [TOP / "tools/fp_budget", PID[0], tmp_path / "budgets.toml", *PID[1:]], cwd=TOP,
+            env=asking.environment, stdout=full, stderr=subprocess.PIPE, text=True, check=False,
+        )  # fmt: skip
+    assert ran.returncode not in (0, 1)
+    assert ran.stderr.startswith("fp_budget: [Errno 28] No space left on device")
+    assert "Traceback" not in ran.stderr
+
+
 def test_the_junit_file(asking: Tool, tmp_path: Path) -> None:
     words = (*PID, "--junit", str(tmp_path / "budgets.xml"))
     judged(asking, tmp_path, words, f"{STEP}cycles = 352", f"{STEP}cycles = 1", section("0x700", "0x704"))
