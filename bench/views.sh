@@ -27,6 +27,17 @@ shows examples/slots.konata examples/slots.toml --from 3 --to 20 --konata -
 shows docs/drive.svg examples/drive.toml --from 0 --to 60 --svg -
 shows <(sed -n '/^    \$ .*sleep.toml/,/^$/{/^    \$/d; /^$/d; s/^    //p}' docs/VIEW.md) examples/sleep.toml --from 4 --to 13
 
+# Compares the line of a view that is refused for its words.
+refuses() {
+    local line=$1 said
+    shift
+    said=$("$view" turns examples/drive.toml "$@" 2>&1)
+    [ "$?:$said" = "2:flexpret_view: $line" ] || wrong "$*: ${said@Q}"
+}
+
+refuses "--from isn't below --to" --from 5 --to 5
+refuses "a picture has at most 2000 cycles" --from 0 --to 2001 --svg -
+
 for setup in examples/*.toml examples/c/pid.toml examples/device/*.toml; do
     name=$work/$(basename "$setup" .toml)
     "$view" turns "$setup" --from 1 --to 500 --konata "$name.konata" || wrong "no log of $setup"

@@ -12,6 +12,10 @@ pub enum Fault {
     Usage,
     /// The words ask nothing, which was told.
     Told,
+    /// No cycle is to be shown.
+    EmptyWindow,
+    /// A picture of too many cycles.
+    WidePicture,
     /// The setup or its image has a fault.
     Refused(Refusal),
     /// A file isn't there, or could not be read.
@@ -26,7 +30,7 @@ impl Fault {
     /// The status of the program, which is that of `flexpret` for the same fault.
     pub fn status(&self) -> u8 {
         match self {
-            Fault::Usage | Fault::Told => 2,
+            Fault::Usage | Fault::Told | Fault::EmptyWindow | Fault::WidePicture => 2,
             Fault::Refused(Refusal::Image { .. }) => 4,
             Fault::Refused(_) => 3,
             Fault::Read => 7,
@@ -40,6 +44,8 @@ impl Fault {
         match self {
             Fault::Usage => Some("flexpret_view: usage"),
             Fault::Told | Fault::Refused(_) => None,
+            Fault::EmptyWindow => Some("flexpret_view: --from isn't below --to"),
+            Fault::WidePicture => Some("flexpret_view: a picture has at most 2000 cycles"),
             Fault::Read => Some("flexpret_view: read failed"),
             Fault::Write => Some("flexpret_view: write failed"),
             Fault::NoMemory => Some("flexpret_view: out of memory"),

@@ -136,6 +136,8 @@ fn tell_no(rt: HostRuntime, no: &WordsNo) -> Result<(), Fault> {
             }
         }
         WordsNo::Usage => Err(Fault::Usage),
+        WordsNo::EmptyWindow => Err(Fault::EmptyWindow),
+        WordsNo::WidePicture => Err(Fault::WidePicture),
         WordsNo::NoMemory => Err(Fault::NoMemory),
     }
 }

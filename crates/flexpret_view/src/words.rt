@@ -34,8 +34,12 @@ pub struct Ask<'a> {
 pub enum WordsNo {
     /// The parser says what is wrong, or shows its help.
     Told(Error),
-    /// The cycles are no window.
+    /// They name no command, or leave out what it needs.
     Usage,
+    /// No cycle is to be shown.
+    EmptyWindow,
+    /// A picture of more cycles than it has columns.
+    WidePicture,
     /// Memory was refused.
     NoMemory,
 }
@@ -71,22 +75,27 @@ fn telling_of(matches: &ArgMatches<'_>, file: &str) -> Telling {
     }
 }
 
-/// The cycles that the words of `turns` give, if they are a window.
-fn window_of(matches: &ArgMatches<'_>) -> Option<Window> {
-    let from = matches.get_one::<u64>("from")?;
-    let to = matches.get_one::<u64>("to")?;
-    Window::new(from, to)
+/// The cycle that an option of `turns` gives.
+fn cycle_of(matches: &ArgMatches<'_>, option: &str) -> Result<u64, WordsNo> {
+    matches.get_one::<u64>(option).ok_or(WordsNo::Usage)
 }
 
-/// What the words of `turns` ask, if its cycles are a window that its form can show.
-fn asked<'a>(matches: &ArgMatches<'a>) -> Option<Ask<'a>> {
-    let setup = matches.get_str("setup")?;
+/// The cycles that the words of `turns` give, of which the parser takes none that is past the last
+/// one of a window.
+fn window_of(matches: &ArgMatches<'_>) -> Result<Window, WordsNo> {
+    let (from, to) = (cycle_of(matches, "from")?, cycle_of(matches, "to")?);
+    Window::new(from, to).ok_or(WordsNo::EmptyWindow)
+}
+
+/// What the words of `turns` ask, where its form can show its cycles.
+fn asked<'a>(matches: &ArgMatches<'a>) -> Result<Ask<'a>, WordsNo> {
+    let setup = matches.get_str("setup").ok_or(WordsNo::Usage)?;
     let window = window_of(matches)?;
     let (form, file) = form_of(matches);
     if form == Form::Svg && window.len() > MOST_COLUMNS {
-        return None;
+        return Err(WordsNo::WidePicture);
     }
-    Some(Ask {
+    Ok(Ask {
         setup,
         window,
         form,
@@ -104,12 +113,13 @@ fn parsed<'a>(alloc: Global, words: &'a [String]) -> Result<ArgMatches<'a>, Erro
 ///
 /// # Errors
 ///
-/// Told with the parser's text where they don't fit the options, or ask for help; Usage where the
-/// cycles are no window or too many for a picture; NoMemory where memory was refused.
+/// Told with the parser's text where they don't fit the options, or ask for help; EmptyWindow where
+/// `from` isn't below `to`, and WidePicture where a picture is asked for of more cycles than 2,000;
+/// NoMemory where memory was refused.
 pub fn read_words<'a>(alloc: Global, words: &'a [String]) -> Result<Ask<'a>, WordsNo> {
     let matches = parsed(alloc, words)?;
-    match matches.subcommand_matches("turns").and_then(asked) {
-        Some(ask) => Ok(ask),
+    match matches.subcommand_matches("turns") {
+        Some(turns) => asked(turns),
         None => Err(WordsNo::Usage),
     }
 }
