@@ -1,4 +1,4 @@
-use Rattle.std.proofs.Common.{◌<◌, [], ◌∷◌, filter, length, take, get_or, refl, arith, length-append}
+use Rattle.std.proofs.Common.{◌<◌, [], ◌∷◌, filter, length, take, get_or, refl, arith, length-append, rules}
 use Rattle.std.proofs.lemmas.List.{take_all}
 use Rattle.slot_table.specs.Frame.{is_used}
 use Rattle.slot_table.proofs.Turns.{used-kept, used-left, in_positions-push}
@@ -27,3 +27,6 @@ pub returns : goal.returns
 returns c =
     let all = take_all c.loop-slot.slot-index c.args.slots.now (omega arith) in
     rw (c.magic_of.ensures, c.loop-slot.invariant.used, c.loop-slot.invariant.len, all) refl
+
+pub loop-slot-init : goal.loop-slot-init
+loop-slot-init c = search rules
