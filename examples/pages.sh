@@ -1,7 +1,7 @@
 #!/usr/bin/env bash
 # Runs the commands that README.md, docs/VIEW.md, docs/FORMATS.md and model/README.md show, in a folder of its own, and compares
 # what they write with what is stored or told there; a line of theirs with a command that isn't known here is a difference too.
-# FLEXPRET and FLEXPRET_VIEW name the programs, if they aren't ../flexpret and ../flexpret-view. It is no part of the gate.
+# FLEXPRET and FLEXPRET_VIEW name the programs, if they aren't ../flexpret and ../flexpret-view. The gate does so too.
 set -u
 here=$(dirname "$(readlink -f "${BASH_SOURCE[0]}")")
 top=$(dirname "$here")

@@ -19,40 +19,18 @@ ln -s "$program" "$work/top/flexpret"
 cp -R "$here" "$work/top/examples/device"
 cd "$work/top" || exit 1
 
-failed=0
-fail() {
-    echo "differs: $1"
-    failed=1
-}
+. "$top/examples/shown.bash"
 
-# Whether the lines of a file stand in another, in their order; where no `..` is among them, nothing else may.
-stands_in() {
-    awk -v shown="$1" '
-        BEGIN { at = n = 0; while ((getline line < shown) > 0) if (line == "..") open = 1; else want[n++] = line }
-        at < n && $0 == want[at] { at++; next }
-        !open { extra = 1 }
-        END { exit at < n || extra }' "$2"
-}
-
-# Runs the command of a block of the page, and compares what it writes and the file that it makes.
-try_block() {
-    [ -n "$command" ] || return 0
-    if [ "$built" = --built ] && [[ $command =~ rt\ (check|try|run) ]]; then
+# Runs a command, and compares what it writes and the file that it makes.
+try_command() {
+    local made
+    if [ "$built" = --built ] && [[ $1 =~ rt\ (check|try|run) ]]; then
         return 0
     fi
-    local made status
-    made=$(sed -n 's/.* > \(examples\/device\/[^ ]*\)$/\1/p' <<<"$command")
+    made=$(sed -n 's/.* > \(examples\/device\/[^ ]*\)$/\1/p' <<<"$1")
     [ -z "$made" ] || rm -f "$made"
-    bash -c "$command" </dev/null >"$work/written" 2>"$work/errors"
-    status=$?
-    if [ $status -ne 0 ] || ! stands_in "$work/shown" "$work/written"; then
-        fail "$command (status $status)"
-        head -20 "$work/written" "$work/errors"
-    elif [ -n "$made" ] && ! cmp -s "$made" "$top/$made"; then
-        fail "$command"
-    else
-        echo "as shown: $command"
-    fi
+    as_shown "$1"
+    [ -z "$made" ] || cmp -s "$made" "$top/$made" || fail "$made, by: $1"
 }
 
 # Whether a block of code stands in one of the crates' sources.
@@ -64,28 +42,14 @@ try_code() {
     fail "the page shows other code: ${code%%$'\n'*}"
 }
 
-command= code= inside=
-while IFS= read -r line; do
-    case $inside$line in
-    '```rust') inside=code: code= ;;
-    'code:```') inside= && try_code ;;
-    code:*) code+=${code:+$'\n'}$line ;;
-    more:*)
-        command+=$'\n'${line#'    '}
-        [[ $line == *'\' ]] || inside=
-        ;;
-    '    $ '*)
-        try_block
-        command=${line#'    $ '}
-        : >"$work/shown"
-        [[ $line != *'\' ]] || inside=more:
-        ;;
-    '    '*) [ -z "$command" ] || echo "${line#'    '}" >>"$work/shown" ;;
-    *)
-        try_block
-        command=
-        ;;
+# Gathers the blocks of Rust.
+is_rust= code=
+other_line() {
+    case $is_rust$1 in
+    '```rust') is_rust=yes: code= ;;
+    'yes:```') is_rust= && try_code ;;
+    yes:*) code+=${code:+$'\n'}$1 ;;
     esac
-done <"$top/docs/DEVICES.md"
-try_block
+}
+read_page "$top/docs/DEVICES.md"
 exit $failed
