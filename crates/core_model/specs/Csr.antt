@@ -74,7 +74,7 @@ csr_done pc t word rd csr op operand writes None = trapped pc t word cause_illeg
 csr_done pc t word rd csr op operand writes (Some old) =
     if writes then csr_put pc t word rd csr (changed op old operand) old else wrote pc t word redirect_lag rd old
 
--- an access to a register, refused as an illegal instruction
+-- an access to a register; a refused one is an illegal instruction
 unfoldable pub csr_access : ℕ → ℕ → Own → ℕ → ℕ → ℕ → CsrOp → ℕ → Bool → Option ℕ → Did
 csr_access thread pc t word rd csr op operand writes shared =
     csr_done pc t word rd csr op operand writes (csr_value thread t csr shared)

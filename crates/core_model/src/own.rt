@@ -5,8 +5,7 @@ ghost use Rattle.std.specs.Prelude.{◌≡◌};
 use timer_unit::Timer;
 
 /// The thread's trap registers (RISC-V privileged manual, "Machine-Level CSRs"). The two low bits
-/// of
-/// `mtvec` and `mepc` are 0.
+/// of `mtvec` and `mepc` are 0.
 #[derive(Clone, Copy, Debug)]
 pub struct Trapping {
     /// The address to which a trap goes.

@@ -44,7 +44,7 @@ pub fn sources_of(i: &Ins) -> (u8, u8)
 }
 
 /// An instruction whose result has no trap. What `plain` declines is a load or store that is
-/// refused, or goes by what the thread owns.
+/// refused, or changes what the thread owns or goes by it.
 #[tactic(auto, unfolding(core_model::specs::Issue::execute_untrapped, core_model::specs::Outcomes::load, core_model::specs::Outcomes::store, crate::specs::AsDefined::is_plain), using(crate::proofs::Zero::aligned_zero))]
 fn execute_untrapped<S: Surroundings>(
     own: &mut Own,

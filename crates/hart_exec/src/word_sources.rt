@@ -82,7 +82,7 @@ fn entry_of(word: u32) -> usize
     ((word & 0x0000_707c).wrapping_mul(0x0200_1000) >> 24) as usize
 }
 
-/// The same of a word that the table leaves open.
+/// The registers that the instruction of a word reads, for a word that the table leaves open.
 #[cold]
 #[inline(never)]
 fn decoded_sources(word: u32) -> (u8, u8)

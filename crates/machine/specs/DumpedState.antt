@@ -60,7 +60,7 @@ registers_seen i regs =
     ++ (thread_words_text i (codes "x16") (eight_from (reg_in regs) 16)
     ++ thread_words_text i (codes "x24") (eight_from (reg_in regs) 24)))
 
--- its trap registers, and its timer with its sleep moment
+-- the trap registers of a thread
 abbrev pub traps_seen : ℕ → Trapping → List ℕ
 traps_seen i t = thread_words_text i (codes "csr") (t.mtvec ∷ t.mscratch ∷ t.mepc ∷ t.mcause ∷ [])
 

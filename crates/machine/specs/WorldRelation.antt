@@ -34,6 +34,7 @@ abbrev pub IsLeft : Option Row → Option Row → Type 0
 IsLeft before None = Unit {0}
 IsLeft before (Some row) = words_of before ≡ Some row.words
 
+-- the same of the ports of all threads
 abbrev pub AreLeft : List (Option Row) → List (Option Row) → Type 0
 AreLeft before after = (k : ℕ) → k < 8 → IsLeft (row_at before k) (row_at after k)
 
@@ -74,6 +75,7 @@ row_after s n k row =
     then written row (slice_index_or (world s (n - 3)).latches k 0)
     else None
 
+-- the ports after n cycles of a world
 abbrev pub PortsAfter : Start → ℕ → List (Option Row) → List (Option Row) → Type 0
 PortsAfter s n before after = (k : ℕ) → k < 8 → row_at after k ≡ row_after s n k (row_at before k)
 

@@ -77,7 +77,7 @@ fn permits(setup: &Setup) -> [bool; 8]
     ]
 }
 
-/// When each thread's port is taken away.
+/// The cycle from which on each thread's issues find no port, if there is one.
 fn unplugs(setup: &Setup) -> [Option<u64>; 8]
     ensures { result ≡ map (λ (t : ThreadSetup). t.unplug) setup.now.threads }
 {

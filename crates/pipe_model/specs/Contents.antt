@@ -54,6 +54,7 @@ address_of (instruction.Load op rd rs1 imm) a = offset a imm
 address_of (instruction.Store op rs1 rs2 imm) a = offset a imm
 address_of _ a = 0
 
+-- that address, but 0 where the turn traps
 abbrev pub unless_trapped : Option Effect → ℕ → ℕ
 unless_trapped (Some (Trap cause target)) address = 0
 unless_trapped effect address = address

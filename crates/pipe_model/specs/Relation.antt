@@ -105,6 +105,7 @@ abbrev pub in_fetch : Start → ℕ → World → Took → Pick → Held Fetched
 in_fetch s c w turn chosen.Bubble = Bubble
 in_fetch s c w turn (chosen.Issue k) = if nat_le c (thread_of w k).ready then Flushed k else Issue k (fetched_in s w turn k)
 
+-- whether f holds a word that the thread fetched
 abbrev pub fetches : ℕ → Held Fetched → Bool
 fetches k Bubble = false
 fetches k (Flushed j) = false
@@ -124,6 +125,7 @@ control_in w =
       sleeps = map (λ t. t.own.sleep) w.threads;
     }
 
+-- the registers of each thread, by the world
 abbrev pub bank_in : World → List (List ℕ)
 bank_in w = map (λ t. t.regs) w.threads
 
@@ -194,10 +196,11 @@ event_in cycle Idle = None
 event_in cycle (Lost k) = None
 event_in cycle (Ran k pc word effect) = event_at cycle k pc word effect
 
--- the same ports are there, and show the same words
+-- what a port shows in each cycle, if it is there
 abbrev pub words_of : Option Row → Option (ℕ → ℕ)
 words_of row = option_map (λ r. r.words) row
 
+-- the same ports are there, and show the same words
 abbrev pub SamePorts : List (Option Row) → List (Option Row) → Type 0
 SamePorts before after = (k : ℕ) → words_of (row_at after k) ≡ words_of (row_at before k)
 

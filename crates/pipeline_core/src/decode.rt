@@ -136,7 +136,7 @@ fn decoded(
 }
 
 /// Leaves an issue in `d`. Where an issue stands there, as in most cycles, its fields are written
-/// one by one, so that none is written that no field has: that takes two instructions from a cycle.
+/// one by one, so that no byte between them is written: that takes two instructions from a cycle.
 #[inline(always)]
 fn put_decoded(thread: u8, what: Decoded, d: &mut Held<Decoded>)
     ensures { d.new ≡ Issue thread what }

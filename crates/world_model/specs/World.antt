@@ -97,7 +97,7 @@ around now size confined permit r k =
 abbrev pub port_word : Start → ℕ → ℕ → ℕ
 port_word s c k = slice_index_or (slice_index_or s.shown k []) c 0xFFFFFFFF
 
--- what an issue of thread k in cycle c asks, and what it finds
+-- what an issue of thread k in cycle c asks
 abbrev pub surroundings : Start → ℕ → World → ℕ → Around
 surroundings s c w k = around (time s.period c) s.size s.confined s.permit w.registers k
 
