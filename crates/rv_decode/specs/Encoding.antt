@@ -28,7 +28,7 @@ low_bits count (pos n) = n % 2 ^ count
 low_bits count (negsuc n) = 2 ^ count - 1 - n % 2 ^ count
 
 -- The formats. The numbers are the opcode, the fields by their names, and the bits of the
--- immediate.
+-- immediate. Format R: a register is written, and two are read.
 abbrev pub r_word : ℕ → ℕ → ℕ → ℕ → ℕ → ℕ → ℕ
 r_word code rd funct3 rs1 rs2 funct7 = code + rd * 2 ^ 7 + funct3 * 2 ^ 12 + rs1 * 2 ^ 15 + rs2 * 2 ^ 20 + funct7 * 2 ^ 25
 
@@ -52,7 +52,7 @@ u_word code rd imm = code + rd * 2 ^ 7 + imm * 2 ^ 12
 abbrev pub j_word : ℕ → ℕ → ℕ → ℕ
 j_word code rd off = u_word code rd (field off 20 1 * 2 ^ 19 + field off 1 10 * 2 ^ 9 + field off 11 1 * 2 ^ 8 + field off 12 8)
 
--- The numbers of the operations.
+-- The numbers of the operations: funct3 of each branch,
 abbrev pub branch_funct3 : BranchOp → ℕ
 branch_funct3 Beq = 0
 branch_funct3 Bne = 1
@@ -61,7 +61,7 @@ branch_funct3 Bge = 5
 branch_funct3 Bltu = 6
 branch_funct3 Bgeu = 7
 
--- the third field of each load
+-- of each load,
 abbrev pub load_funct3 : LoadOp → ℕ
 load_funct3 Lb = 0
 load_funct3 Lh = 1
@@ -69,13 +69,13 @@ load_funct3 Lw = 2
 load_funct3 Lbu = 4
 load_funct3 Lhu = 5
 
--- of each store
+-- of each store,
 abbrev pub store_funct3 : StoreOp → ℕ
 store_funct3 Sb = 0
 store_funct3 Sh = 1
 store_funct3 Sw = 2
 
--- of each operation on a register and an immediate
+-- of each operation on a register and an immediate,
 abbrev pub imm_funct3 : ImmOp → ℕ
 imm_funct3 Addi = 0
 imm_funct3 Slti = 2
@@ -84,19 +84,19 @@ imm_funct3 Xori = 4
 imm_funct3 Ori = 6
 imm_funct3 Andi = 7
 
--- of each shift by a constant amount
+-- and of each shift by a constant amount
 abbrev pub shift_funct3 : ShiftOp → ℕ
 shift_funct3 Slli = 1
 shift_funct3 Srli = 5
 shift_funct3 Srai = 5
 
--- the upper field of each shift by a constant amount
+-- funct7 of each shift by a constant amount
 abbrev pub shift_funct7 : ShiftOp → ℕ
 shift_funct7 Slli = 0
 shift_funct7 Srli = 0
 shift_funct7 Srai = 0x20
 
--- the third field of each operation on two registers
+-- funct3 of each operation on two registers
 abbrev pub alu_funct3 : AluOp → ℕ
 alu_funct3 Add = 0
 alu_funct3 Sub = 0
@@ -109,7 +109,7 @@ alu_funct3 Sra = 5
 alu_funct3 Or = 6
 alu_funct3 And = 7
 
--- the upper field of each operation on two registers
+-- funct7 of each operation on two registers
 abbrev pub alu_funct7 : AluOp → ℕ
 alu_funct7 Add = 0
 alu_funct7 Sub = 0x20
@@ -122,7 +122,7 @@ alu_funct7 Sra = 0x20
 alu_funct7 Or = 0
 alu_funct7 And = 0
 
--- the third field of each multiplication and division
+-- funct3 of each multiplication and division
 abbrev pub mul_funct3 : MulOp → ℕ
 mul_funct3 Mul = 0
 mul_funct3 Mulh = 1
@@ -133,7 +133,7 @@ mul_funct3 Divu = 5
 mul_funct3 Rem = 6
 mul_funct3 Remu = 7
 
--- of each CSR instruction
+-- funct3 of each CSR instruction
 abbrev pub csr_funct3 : CsrKind → ℕ
 csr_funct3 Rw = 1
 csr_funct3 Rs = 2

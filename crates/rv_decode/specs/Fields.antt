@@ -10,7 +10,7 @@ field w low count = w / 2 ^ low % 2 ^ count
 abbrev pub sign_extended : ℕ → ℕ → ℤ
 sign_extended count n = if nat_lt n (2 ^ (count - 1)) then pos n else pos n -ℤ pos (2 ^ count)
 
--- the registers that a word names
+-- the register that is written
 abbrev pub rd : ℕ → ℕ
 rd w = field w 7 5
 

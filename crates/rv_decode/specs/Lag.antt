@@ -1,5 +1,5 @@
 -- The table of lags: after an issue in cycle c the thread's next instruction issues at its first
--- turn at or after c and the lag. Source: this project's profile.
+-- turn at or after cycle c + lag. Source: this project's profile.
 use Rattle.std.specs.Prelude.{ℕ, Bool, true, false, if◌then◌else◌}
 use Rattle.rv_decode.specs.declared.instruction.Ins.{Ins}
 use Rattle.rv_decode.specs.declared.instruction.Ins.TheVariants.{Jal, Jalr, Branch, Load, Muldiv, Ecall, Ebreak, Mret, Csr, Du, Wu, Ee, De, Illegal}

@@ -119,7 +119,7 @@ pub enum MulOp {
     Remu,
 }
 
-/// What a CSR instruction does, with a register or with an immediate ("Zicsr").
+/// What a CSR instruction does with the old value, by a register or by an immediate ("Zicsr").
 #[derive(Clone, Copy, Debug)]
 pub enum CsrKind {
     /// CSRRW: the register takes its place.
@@ -258,7 +258,8 @@ pub enum Ins {
     Ebreak,
     /// MRET: goes to mepc (privileged manual, "Trap-Return Instructions").
     Mret,
-    /// `src` is a register, or the value itself in the immediate forms.
+    /// A CSR instruction ("Zicsr"): `src` is a register, or the value itself in the immediate
+    /// forms.
     Csr {
         /// What it does, and whether `src` is a register.
         op: CsrKind,
@@ -286,7 +287,7 @@ pub enum Ins {
         /// The register with its low word, 0 to 31.
         rs2: u8,
     },
-    /// Wait until that moment, giving the slots away.
+    /// Wait until that moment, or the armed one where that is earlier, giving the slots away.
     Wu {
         /// The register with the high word of the moment in nanoseconds, 0 to 31.
         rs1: u8,

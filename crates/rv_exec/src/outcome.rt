@@ -14,7 +14,7 @@ pub struct Outcome {
     pub target: u32,
     /// Whether a branch is taken.
     pub taken: bool,
-    /// The trap's cause, one of those of [`cause`] that follow from the instruction alone.
+    /// The trap's cause, one of those of [`cause`] that follow from these alone.
     pub trap: Option<u8>,
 }
 
@@ -72,6 +72,7 @@ impl Outcome {
         Self::of_access(address, size, cause::MISALIGNED_STORE)
     }
 
+    /// An access of `size` bytes, which traps with `cause` where its address isn't aligned.
     #[inline(always)]
     fn of_access(address: u32, size: u8, cause: u8) -> Self
         requires { 0 < size }
@@ -172,7 +173,7 @@ pub enum Effect {
     Trap {
         /// The cause, as mcause then has it: 0 to 7, 11 or 24.
         cause: u8,
-        /// The address of mtvec.
+        /// The address that mtvec holds.
         target: u32,
     },
     /// A WU puts its thread to sleep.
