@@ -37,7 +37,7 @@ piece_of kind.Mark text value = mark value
 unfoldable pub piece : Text → Token → Piece
 piece line t = piece_of t.kind (slice_range line t.start t.end) t.value
 
--- the pieces of tokens, or the fault of a line that has none
+-- the pieces of tokens, or the fault of a line that isn't one of tokens
 abbrev pub pieces_or_fault : Text → Result (List Token) LexNo → Result (List Piece) AsmNo
 pieces_or_fault line (Ok ts) = Ok (map (piece line) ts)
 pieces_or_fault line (Err fault) = Err no.Lex

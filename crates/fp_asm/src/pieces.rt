@@ -94,7 +94,7 @@ fn pieces_at<'a>(
 ///
 /// # Errors
 ///
-/// [`AsmNo::Lex`] where the line has no tokens; or memory was refused.
+/// [`AsmNo::Lex`] where the line isn't one of tokens; or memory was refused.
 pub(crate) fn pieces<'a>(alloc: Global, line: &'a [u8]) -> Result<Vec<Piece<'a>>, Stop>
     requires { length line.now < 2 ^ 32 }
     ensures pieces { IfOk result

@@ -11,13 +11,14 @@ pub enum AsmNo {
     /// More than 1,048,576 bytes.
     #[error("the source is too long")]
     TooLong = 1,
-    /// The line has no tokens: a bad byte, a bad number, or more than 64 tokens.
+    /// The line isn't one of tokens: a bad byte, a bad number, or more than 64 tokens.
     #[error("a bad byte, a bad number or too many tokens")]
     Lex = 2,
     /// The name before the operands is no mnemonic.
     #[error("an unknown name")]
     UnknownName = 3,
-    /// The operands' number or form is wrong, or what follows the labels begins with no name.
+    /// The operands' number or form is wrong, one is no name of a register or of a CSR, or what
+    /// follows the labels begins with no name.
     #[error("wrong operands")]
     Operands = 4,
     /// A number or a way is outside its range.
@@ -29,7 +30,7 @@ pub enum AsmNo {
     /// A label that is nowhere.
     #[error("an unknown label")]
     NoLabel = 7,
-    /// A location, a size or a branch's address that is no multiple of four.
+    /// A location, a size or the address of a branch or jump that is no multiple of four.
     #[error("no multiple of four")]
     Misaligned = 8,
     /// A word outside the scratchpads.

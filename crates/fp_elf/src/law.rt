@@ -3,6 +3,7 @@
 ghost use Rattle.fp_elf.specs.Law.{ReadsBack};
 
 /// The file of the image of an executable is read, for scratchpads of 65,536 bytes, as this image.
+/// The contract is the law; the call does nothing.
 pub fn reads_back()
     ensures { ReadsBack }
 {}

@@ -13,7 +13,8 @@ use Rattle.fp_image.specs.declared.refusals.ImageNo.TheVariants.{TooLong, Magic,
 use Rattle.fp_image.specs.declared.refusals.ImageRefused.{ImageRefused}
 use Rattle.fp_image.specs.declared.refusals.ImageRefused.TheVariants.{Fault, NoMemory}
 
--- the longest file, by the size of a scratchpad
+-- the longest file, by the size of a scratchpad: the bytes of both, and an eighth of one of them for
+-- what stands around the segments, which is more than they need
 abbrev pub longest : ℕ → ℕ
 longest size = if size == small_size then 34816 else 139264
 
@@ -93,7 +94,7 @@ segments_of size total (suc n) from rest =
 unfoldable pub image_of : ℕ → List ℕ → Result (List Segment) ImageRefused
 image_of size file = and_then (count_of size file) (λ count. segments_of size (length file) count 0 (drop 8 file))
 
--- The file of an image.
+-- a segment in the file: its address, its length and its bytes
 abbrev pub segment_written : Segment → List ℕ
 segment_written s = little_bytes 4 s.address ++ (little_bytes 4 (length s.bytes) ++ s.bytes)
 

@@ -33,11 +33,11 @@ unfoldable pub number_from : ℕ → List ℕ → ℕ
 number_from n [] = n
 number_from n (byte ∷ bytes) = number_from (n * 16 + digit byte) bytes
 
--- the two addresses of a line
+-- the eight digits of the address of the first word
 abbrev pub head_digits : List ℕ → List ℕ
 head_digits line = take 8 line
 
--- the eight digits after the separator
+-- the eight digits of the address of the last word, behind the space
 abbrev pub last_digits : List ℕ → List ℕ
 last_digits line = take 8 (drop 9 line)
 
@@ -102,7 +102,7 @@ unfoldable pub routine_at : ℕ → ℕ → Option Routine → List ℕ → Resu
 routine_at size number before line =
     unless (first_fault number (line_checks size number before line)) (routine_in line)
 
--- those of lines from this number on
+-- the routines of lines from this number on, or the first fault
 unfoldable pub routines_from : ℕ → ℕ → Option Routine → List (List ℕ) →
     Result (List Routine) RoutinesRefused
 routines_from size number before [] = Ok []

@@ -33,6 +33,7 @@ pub data Kind : Type 0 where
   Threads : ℕ → Kind
   Loops : ℕ → Kind
 
+-- a key of a table: its name, what its value is, and whether it has to be there
 pub record Key : Type 0 where
   pub name : Text
   pub kind : Kind
@@ -44,6 +45,7 @@ needed name kind = record { name = name; kind = kind; is_needed = true }
 abbrev pub optional : Text → Kind → Key
 optional name kind = record { name = name; kind = kind; is_needed = false }
 
+-- the keys of the top table, of the table of a thread, and of that of a loop
 abbrev pub top_keys : List Key
 top_keys =
     optional (codes "version") (Integer 1 2)

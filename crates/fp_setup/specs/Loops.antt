@@ -3,7 +3,7 @@ use Rattle.std.specs.Prelude.{ℕ, ◌≡◌, ◌%◌, ◌≤◌, List, length}
 use Rattle.std.specs.List.{All}
 use Rattle.fp_setup.specs.declared.loop_list.LoopSetup.{LoopSetup}
 
--- the most times that a setup lets a loop go back in a visit
+-- the largest bound of a loop: how often it may go back to its head for one entry
 abbrev pub most_turns : ℕ
 most_turns = 1048576
 

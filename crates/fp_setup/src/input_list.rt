@@ -7,8 +7,9 @@ use std::marker::Model;
 /// A word that is fed to a thread's port.
 #[derive(Clone, Copy, Debug)]
 pub struct Input {
-    /// The cycle from which the port shows the word.
+    /// The cycle from which on the port shows the word, 0 to 4,000,000,000.
     pub at: u64,
+    /// The word that the port shows then.
     pub word: u32,
 }
 

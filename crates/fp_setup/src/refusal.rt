@@ -28,7 +28,7 @@ pub enum SetupNo {
     ConfinedPermit = 10,
     /// Two thread tables have one id.
     DoubleThread = 11,
-    /// There are too many thread tables, loop tables or inputs.
+    /// There are more than 8 thread tables, 256 loop tables, or 4,096 inputs of a thread.
     TooMany = 12,
 }
 
@@ -125,7 +125,9 @@ impl KeyPath {
 /// A fault of a setup with its path.
 #[derive(Clone, Copy, Debug, PartialEq, Eq)]
 pub struct Fault {
+    /// What is wrong.
     pub code: SetupNo,
+    /// Where it stands.
     pub path: KeyPath,
 }
 
@@ -147,7 +149,7 @@ pub enum SetupRefused {
     /// The setup's first fault and its path.
     #[error("setup fault {code:?} at {path:?}")]
     Fault { code: SetupNo, path: KeyPath },
-    /// Memory was refused. Among the numbers of refusals this is 13.
+    /// Memory was refused.
     #[error("out of memory")]
     NoMemory,
 }

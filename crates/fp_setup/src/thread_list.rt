@@ -17,7 +17,7 @@ pub struct ThreadSetup {
     /// Whether the thread may read and write the registers of scheduling and regions. A confined
     /// thread may not.
     pub permit: bool,
-    /// The cycle at which the thread's port is taken away, if it is.
+    /// The cycle from which on the thread's issues find no port, if there is one.
     pub unplug: Option<u64>,
     /// What is fed to the thread's port.
     pub inputs: Inputs,

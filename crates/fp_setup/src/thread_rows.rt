@@ -80,7 +80,7 @@ impl ThreadRows {
     }
 }
 
-/// The moment at which a port is taken away, as a cycle.
+/// The cycle from which on issues find no port, in 64 bits.
 fn as_cycle(moment: Option<u32>) -> Option<u64>
     ensures { result ≡ moment }
 {
