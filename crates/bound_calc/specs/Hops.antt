@@ -23,7 +23,7 @@ pub record IsHops (s : Positions) (lag : ℕ) (hops : List (Option Hop)) : Type 
   pub found : (p d q : ℕ) → Hops hops p d q → IsNextTurn s lag p d q
   pub all : (p d q : ℕ) → IsNextTurn s lag p d q → Hops hops p d q
 
--- a row of a matrix after one of its sums was made a step longer
+-- a row of a matrix after a sum that was made a step longer was taken into it
 abbrev pub raised : Option ℕ → Option Hop → List (Option ℕ) → List (Option ℕ)
 raised None hop row = row
 raised (Some x) None row = row

@@ -22,10 +22,10 @@ use slot_table::SlotTable;
 use std::alloc::{AllocError, Global};
 use thiserror::Error;
 
-/// Why no bound was answered. The numbers are 1 and 2.
+/// Why no bound was answered.
 #[derive(Clone, Copy, Debug, PartialEq, Eq, Error)]
 pub enum BoundNo {
-    /// The bound, which is above 2^64 - 1.
+    /// The bound, which is above 2^64 - 1; of a bound through calls 2^64 stands in its place.
     #[error("the bound {value} has more than 64 bits")]
     Overflow { value: u128 },
     /// Memory was refused.

@@ -21,7 +21,7 @@ pub record Listing : Type 0 where
 abbrev pub scratchpad : Section
 scratchpad = record { from = 0; to = large_size }
 
--- of a memory that is told by its words
+-- the listing of a memory that is told by its words
 abbrev pub listing_of : (ℕ → ℕ) → Section → List Routine → List LoopSetup → Listing
 listing_of memory s routines loops =
     record { section = s; routines = routines; words = words_of memory scratchpad; loops = loops }
@@ -35,7 +35,7 @@ calls l = record {
   loops = l.loops;
 }
 
--- The parts by number: the section is number 0, and the routines follow in their order.
+-- how many parts there are: the section and the routines
 abbrev pub part_count : Listing → ℕ
 part_count l = length l.routines + 1
 

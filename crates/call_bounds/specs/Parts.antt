@@ -8,8 +8,7 @@ use Rattle.call_bounds.specs.Calls.{Calls, IsReached, callee, range}
 use Rattle.call_bounds.specs.Listing.{Listing, calls, listing_of, part_at, part_count}
 use Rattle.call_bounds.specs.Patched.{part_tree, patched}
 
--- A part by its number: whether it is reached, its range, its words with calls and returns out of
--- the way, and its tree.
+-- whether the part with a number is reached
 abbrev pub IsPartReached : Listing → ℕ → Type 0
 IsPartReached l k = IsReached (calls l) (part_at l k)
 

@@ -16,7 +16,7 @@ use Rattle.call_bounds.specs.Listing.{DoesCall, Listing, calls, part_at, part_co
 use Rattle.call_bounds.specs.Parts.{IsCallee}
 use Rattle.call_bounds.specs.Runs.{Deep, Nested, Through}
 
--- of the first words of a section, by index
+-- the numbers of the parts that the first n words of a section call, by index
 pub record AreCallees (l : Listing) (s : Section) (n : ℕ) (callees : List (Option ℕ)) : Type 0 where
   pub count : length callees ≡ n
   pub each : (k : ℕ) → k < n → IsCallee l (s.from + 4 * k) (slice_index_or callees k None)
@@ -77,7 +77,7 @@ IsSummaryAt l s k through deep =
 abbrev pub Lands : Positions → List Matrix → Type 0
 Lands s ms = (k p c q : ℕ) → matrix_at ms k p q ≡ Some c → IsOwn s q
 
--- by the number of the part, as many as there are parts, where nothing refuses the parts
+-- the matrices of calls, by the number of the part that is called, where nothing refuses the parts
 pub record AreSummaries (l : Listing) (s : Positions) (through deep : List Matrix) : Type 0 where
   pub listing : IsListing (calls l)
   pub callable : IsCallable (calls l)

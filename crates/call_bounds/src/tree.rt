@@ -22,7 +22,7 @@ use std::marker::Model;
 use thiserror::Error;
 
 /// Why a section with routines has no bound through calls. The numbers that a refusal line shows
-/// are 1 to 5 and 8 to 10.
+/// are 1 to 4 for the first four and 8 to 10 for the last three; want of memory has none.
 #[derive(Clone, Copy, Debug, PartialEq, Eq, Error)]
 pub enum CallNo {
     /// Loops of a reached part overlap, lie too deep or are entered not at their head; the head of

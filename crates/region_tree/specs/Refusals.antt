@@ -26,7 +26,7 @@ pub record CrossedAt (loops : List LoopSetup) (a : ℕ) : Type 0 where
   pub crosses : Crosses (loop_at loops earlier) (loop_at loops later)
   pub address : a ≡ (loop_at loops later).head
 
--- how many loops hold all of a loop, itself among them
+-- whether the second loop holds all of the first
 abbrev pub around : LoopSetup → LoopSetup → Bool
 around j i = nat_le i.head j.head && nat_le j.last i.last
 

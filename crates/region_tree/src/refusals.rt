@@ -36,7 +36,7 @@ fn is_inside(outer: &LoopSetup, inner: &LoopSetup) -> bool
     outer.head < inner.head && inner.last <= outer.last
 }
 
-/// Whether two loops overlap, and neither lies in the other.
+/// Whether two loops overlap, and neither lies in the other with its head above the other's.
 fn crosses(j: &LoopSetup, i: &LoopSetup) -> bool
     ensures { IsTrue result ↔ Crosses j.now i.now }
 {

@@ -12,7 +12,7 @@ use std::alloc::{AllocError, Global};
 use std::marker::Model;
 use thiserror::Error;
 
-/// Why a section with loops has no bound. The numbers are those that a refusal line shows.
+/// Why a section with loops has no bound, in the order in which the causes count.
 #[derive(Clone, Copy, Debug, PartialEq, Eq, Error)]
 pub enum TreeNo {
     /// Loops overlap, lie too deep or are entered not at their head; the head of such a loop.
