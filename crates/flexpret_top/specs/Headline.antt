@@ -36,7 +36,7 @@ use Rattle.program_files.specs.Program.{program}
 abbrev pub machine_of : Program → List (Option Row) → Machine
 machine_of p ports = record { setup = p.setup; image = p.image; ports = ports }
 
--- For every confined hard thread, in a run that writes no scheduling or protection register, what `run` wrote is the
+-- For every confined hard thread, in a run that writes none of the machine's own registers, what `run` wrote is the
 -- text of the one-thread definition over the thread's view: its own code, slots, private memory and inputs.
 abbrev pub WritesAlone : Option Ask → FileMap → List (Option Row) → Option (List ℕ) → Option (List ℕ) → Type 0
 WritesAlone (Some (Run setup i n)) files ports before after =
@@ -44,7 +44,7 @@ WritesAlone (Some (Run setup i n)) files ports before after =
     Appends before after (text (solo (view_of (machine_of p ports) i n) n))
 WritesAlone _ files ports before after = Unit {0}
 
--- In a run that writes no scheduling or protection register, what `solo` wrote is the trace that the machine has, which
+-- In a run that writes none of the machine's own registers, what `solo` wrote is the trace that the machine has, which
 -- `run` writes.
 abbrev pub WritesAsRun : Option Ask → FileMap → List (Option Row) → Option (List ℕ) → Option (List ℕ) → Type 0
 WritesAsRun (Some (Solo setup i n)) files ports before after =

@@ -22,7 +22,7 @@ use Rattle.program_files.specs.Answer.Answer.{Says}
 use Rattle.program_files.specs.Program.{program}
 use Rattle.flexpret_top.specs.Run.{start_of}
 
--- why a thread isn't run from its view alone, if so: it isn't hard, or else it isn't confined
+-- why a thread isn't run from its view alone, if so: it isn't hard and awake, or else it isn't confined
 unfoldable pub alone_fault : Settings → ℕ → Option ℕ
 alone_fault s i =
     if not (mode_of s.modes i == 0) then Some 1

@@ -155,7 +155,8 @@ fn said_by(checked: Checked) -> Result<(), Stop>
 ///
 /// # Errors
 ///
-/// Where they differ, with the line; where the trace isn't there or can't be read.
+/// Where they differ, with the line; where the trace isn't there or can't be read; NoMemory where
+/// memory was refused.
 pub fn compare_alone<F: Files>(
     alloc: Global,
     alone: Alone,

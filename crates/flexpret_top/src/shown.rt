@@ -14,7 +14,9 @@ use solo_run::Shown;
 /// setup's inputs, and from its unplugging on it isn't there.
 #[derive(Drop)]
 pub struct ReadPort<'a> {
+    /// What stands at the port.
     pub device: Option<Box<dyn Port>>,
+    /// What the setup says of the thread: its inputs and its unplugging.
     pub thread: &'a ThreadSetup,
 }
 
@@ -48,7 +50,7 @@ fn word_beside(device: &mut Option<Box<dyn Port>>, thread: &ThreadSetup, at: u64
     }
 }
 
-/// Whether a port is taken away by a cycle.
+/// Whether an issue of cycle `at` finds no port, by the cycle from which on that is so.
 fn is_gone(unplug: Option<u64>, at: u64) -> bool
     ensures { result ≡ is_gone unplug at }
 {
@@ -67,7 +69,7 @@ fn last_input(inputs: &Inputs, at: u64) -> Option<&Input>
     inputs[..past].last()
 }
 
-/// Its word.
+/// The word of the last input whose cycle is at most `at`, if there is one.
 fn input_at(inputs: &Inputs, at: u64) -> Option<u32>
     ensures { result ≡ input_at (map (λ (input : Input). (input.at, input.word)) inputs.now) at }
 {
