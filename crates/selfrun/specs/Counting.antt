@@ -10,7 +10,7 @@ use Rattle.world_model.specs.World.{Start, events}
 use Rattle.selfrun.specs.declared.tally.Tally.{Tally}
 use Rattle.selfrun.specs.Text.{folded, tally_at, tally_of}
 
--- with one more event
+-- a tally with one more event
 abbrev pub with_event : Tally → Event → Tally
 with_event t e = record { events = t.events + 1; fold = folded t.fold (line_text e) }
 

@@ -16,7 +16,7 @@ use Rattle.fp_setup.specs.SetupOfTables.{the_threads}
 use Rattle.fp_setup.specs.Settings.{Settings}
 use Rattle.fp_setup.specs.Plain.{plain_setup}
 
--- the draw after a number, and the n-th draw from a first number on
+-- the draw after a number
 unfoldable pub next_draw : ℕ → ℕ
 next_draw x = (x * 1664525 + 1013904223) % 2 ^ 32
 

@@ -20,7 +20,7 @@ pair_text byte = hex_digit (byte / 16) ∷ hex_digit (byte % 16) ∷ []
 abbrev pub pair_sum : ℕ → ℕ
 pair_sum byte = hex_digit (byte / 16) * 31 + hex_digit (byte % 16)
 
--- by byte
+-- a table of these folds, by byte
 abbrev pub ArePairs : List ℕ → Type 0
 ArePairs pairs = (byte : ℕ) → byte < 256 → slice_index_or pairs byte 0 ≡ pair_sum byte
 
@@ -28,6 +28,7 @@ ArePairs pairs = (byte : ℕ) → byte < 256 → slice_index_or pairs byte 0 ≡
 abbrev pub name_text : ℕ → List ℕ
 name_text rd = codes "x" ++ (two_digits rd ++ codes "=")
 
+-- a table of the pieces of these, by register
 abbrev pub AreNames : List Piece → Type 0
 AreNames names = (rd : ℕ) → rd < 32 → IsPieceAt names rd (name_text rd)
 
@@ -43,6 +44,7 @@ upper_text width tens = if tens == 0 then replicate width 32 else right width te
 abbrev pub lower_text : ℕ → List ℕ
 lower_text n = two_digits n ++ codes " "
 
+-- a table of the pieces of these, by the two digits
 abbrev pub AreLower : List Piece → Type 0
 AreLower lower = (n : ℕ) → n < 100 → IsPieceAt lower n (lower_text n)
 
@@ -54,9 +56,10 @@ IsFirst first = (100 ≤ first) × (first % 100 ≡ 0) × (first < 10 ^ 10)
 abbrev pub site_text : ℕ → ℕ → List ℕ
 site_text pc word = (hex 8 pc ++ codes " ") ++ (hex 8 word ++ codes " ")
 
+-- the piece that is kept for a pc and a word is that of their text
 abbrev pub IsSite : Site → Type 0
 IsSite s = IsPiece s.piece (site_text s.pc s.word)
 
--- by index
+-- a table of such sites, by index
 abbrev pub AreSites : List Site → Type 0
 AreSites sites = (n : ℕ) → n < 1024 → IsSite (slice_index_or sites n (record { pc = 0; word = 0; piece = record { weight = 0; sum = 0 } }))

@@ -10,7 +10,7 @@ use Rattle.world_model.specs.World.{Start, events}
 use Rattle.selfrun.specs.declared.tally.Tally.{Tally}
 use Rattle.selfrun.specs.Drawn.{own_setup, programs}
 
--- the fold of bytes, on from a fold
+-- a fold with one more byte
 abbrev pub with_byte : ℕ → ℕ → ℕ
 with_byte h byte = (h * 31 + byte) % 2 ^ 32
 
@@ -34,7 +34,7 @@ own_start number n = start own_setup (programs number) no_ports n
 unfoldable pub own_tallies : ℕ → List Tally
 own_tallies number = map (λ k. tally_of (events (own_start number 100000) k 100000)) the_threads
 
--- of no event, and the tally of thread k
+-- the tally of no event
 abbrev pub no_tally : Tally
 no_tally = record { events = 0; fold = 0 }
 
