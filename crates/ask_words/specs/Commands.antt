@@ -28,6 +28,7 @@ of_three make _ _ _ = None
 abbrev pub cycles_in : Text → Option ℕ
 cycles_in = number_in most_cycles
 
+-- What each command asks, by the texts of its file name and of its options in order.
 abbrev pub run_asks : List Text → Option Ask
 run_asks (setup ∷ thread ∷ cycles ∷ []) = of_two (Run setup) (thread_in thread) (cycles_in cycles)
 run_asks _ = None
@@ -40,6 +41,7 @@ abbrev pub asm_asks : List Text → Option Ask
 asm_asks (source ∷ []) = Some (Asm source)
 asm_asks _ = None
 
+-- a bound by its addresses
 abbrev pub bound_of : Text → ℕ → ℕ → ℕ → Ask
 bound_of setup thread from to = Bound setup thread (record { from = from; to = to })
 
@@ -82,6 +84,7 @@ abbrev pub calls_asks : List Text → Option Ask
 calls_asks (setup ∷ thread ∷ from ∷ to ∷ routines ∷ []) = of_three (calls_of setup routines) (thread_in thread) (address_in from) (address_in to)
 calls_asks _ = None
 
+-- The commands, each with its name and its options in order.
 abbrev pub run_row : CommandRow
 run_row = record { name = codes "run"; options = codes "thread" ∷ codes "cycles" ∷ []; asks = run_asks }
 
@@ -119,6 +122,7 @@ commands = run_row ∷ dump_row ∷ asm_row ∷ bound_row ∷ selfrun_row ∷ ph
 unfoldable pub asked : CommandRow → List Text → Option Ask
 asked row words = option_and_then row.asks (texts_in row.options words)
 
+-- what the words after the name ask, where that is a command's
 abbrev pub asked_by : Option CommandRow → List Text → Option Ask
 asked_by None words = None
 asked_by (Some row) words = asked row words

@@ -24,6 +24,7 @@ is_plain (x ∷ xs) = not (x == 45)
 abbrev pub is_equals : ℕ → Bool
 is_equals b = b == 61
 
+-- whether a name is one of these
 abbrev pub is_among : List Text → Text → Bool
 is_among names name = list_any (λ n. bytes_eq n name) names
 
@@ -61,6 +62,7 @@ Pairs = List (Text × Text)
 abbrev pub and_pair : Text → Text → Option Pairs → Option Pairs
 and_pair name value = option_map (λ ps. (name, value) ∷ ps)
 
+-- what a word gives by its form, and then what the words after it give
 abbrev pub with_form : Form → Option Pairs → (Text → Option Pairs) → Option Pairs
 with_form (gives name value) next after = and_pair name value next
 with_form (opens name) next after = after name
@@ -72,6 +74,7 @@ pairs names None [] = Some []
 pairs names (Some name) [] = None
 pairs names waiting (word ∷ rest) = with_form (form names waiting word) (pairs names None rest) (λ name. pairs names (Some name) rest)
 
+-- how often a name is given a value
 abbrev pub count_of : Text → Pairs → ℕ
 count_of name [] = 0
 count_of name (p ∷ ps) = (if bytes_eq p.0 name then 1 else 0) + count_of name ps
@@ -80,6 +83,7 @@ count_of name (p ∷ ps) = (if bytes_eq p.0 name then 1 else 0) + count_of name 
 abbrev pub each_once : List Text → Pairs → Bool
 each_once names ps = list_all (λ name. count_of name ps == 1) (file_id ∷ names)
 
+-- the first value that a name is given, if there is one
 abbrev pub value_of : Text → Pairs → Option Text
 value_of name ps = option_map (λ p. p.1) (find (λ p. bytes_eq p.0 name) ps)
 

@@ -44,7 +44,7 @@ pub enum Ask {
         thread: u8,
         section: Section,
     },
-    /// `selfrun NUMBER`: a large run of programs that the number draws.
+    /// `selfrun NUMBER`: the machine's own run, of programs that the number draws.
     Selfrun {
         number: u32,
     },

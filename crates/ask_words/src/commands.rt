@@ -23,7 +23,7 @@ use timer_unit::MOST_CYCLES;
 /// The most cycles of a run that a trace is compared with.
 const MOST_CHECKED_CYCLES: u64 = 1_000_000;
 
-/// The largest number of a large run.
+/// The largest number of the machine's own run.
 const MOST_NUMBER: u64 = 4_294_967_295;
 
 /// The command of this name.

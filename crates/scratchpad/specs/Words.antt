@@ -13,6 +13,7 @@ word_in bytes offset =
 abbrev pub first_words : List ℕ → ℕ → List ℕ
 first_words bytes count = map (word_in bytes) (range_with_len 0 count)
 
+-- the words of bytes
 unfoldable pub words_of : List ℕ → List ℕ
 words_of bytes = first_words bytes (length bytes / 4)
 

@@ -8,13 +8,12 @@ use Rattle.section_visits.specs.Visits.{Issued, first_of}
 use Rattle.call_bounds.specs.Calls.{Calls, Counts, callee, is_back, part}
 use Rattle.call_bounds.specs.CallWalk.{called, part_in}
 
--- the open calls after a word, the newest first, from those before it: a call is added, and a
--- return takes one away
+-- the open calls, the newest first, without the newest one
 abbrev pub without : List ℕ → List ℕ
 without [] = []
 without (w ∷ s) = s
 
--- the open calls after one word: of a call, of a return, or of another
+-- the open calls after one word, from those before it: a call is added, and a return takes one away
 abbrev pub open_after : Option Routine → Bool → ℕ → List ℕ → List ℕ
 open_after (Some t) back u s = u ∷ s
 open_after None back u s = cond back (without s) s
