@@ -1,4 +1,4 @@
-//! Tokens, and why a line has none.
+//! Tokens, and why a line isn't one of tokens.
 
 ghost use Rattle.std.specs.Prelude.{◌≡◌};
 

@@ -77,8 +77,8 @@ impl Konata {
         })
     }
 
-    /// Moves the turns on by a stage, with the next one in F. Returns the one that was in W, and the
-    /// one that was in D where it is flushed.
+    /// Moves the turns on by a stage, with the next one in F. The answer is the one that was in W,
+    /// and the one that was in D where it is flushed.
     fn advance(&mut self, next: Option<Shown>) -> (Option<Shown>, Option<Shown>) {
         let [in_f, in_d, in_e, in_m, in_w] = self.stages;
         let (out_of_d, lost) = behind_d(in_d);

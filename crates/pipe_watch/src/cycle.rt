@@ -33,7 +33,7 @@ pub struct CycleStart {
     pub time: u64,
     /// The frame's slot of the cycle.
     pub slot: Turn,
-    /// The modes' register: bits 2i and 2i + 1 are thread i's.
+    /// The modes register: bits 2i and 2i + 1 are thread i's.
     pub modes: u32,
     /// By thread, 0 to 7.
     pub threads: [ThreadState; 8],
@@ -76,7 +76,7 @@ impl Cycle {
         &self.turns[0]
     }
 
-    /// Whether the picked turn is a soft thread's in the slot of a hard thread that isn't awake.
+    /// Whether the picked turn is a soft thread's in the slot of another thread, which isn't awake.
     pub fn is_donated(&self) -> bool
         ensures { result ≡ is_donated self.now.start.slot (thread_of (picked_turn self.now)) }
     {

@@ -17,6 +17,7 @@ pub data Part : Type 0 where
   closing : Part
   minus : Part
 
+-- the text of a part
 abbrev pub part_text : Part → Text
 part_text (named x) = x
 part_text (counted n) = decimal n
@@ -39,6 +40,7 @@ abbrev pub behind : List Part → Text
 behind [] = []
 behind (p ∷ ps) = codes " " ++ flat_map part_text (p ∷ ps)
 
+-- the text of a line
 abbrev pub line_text : Line → Text
 line_text l = l.mnemonic ++ behind l.operands
 

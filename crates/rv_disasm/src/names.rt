@@ -7,6 +7,7 @@ ghost use Rattle.rv_disasm.specs.Parts.{csr_part, digits, named};
 
 use rv_decode::{AluOp, BranchOp, CsrKind, ImmOp, LoadOp, MulOp, ShiftOp, StoreOp, csr};
 
+/// The mnemonic of a branch.
 pub fn branch_name(op: BranchOp) -> &'static str
     ensures { result.now ≡ branch_name op }
 {
@@ -20,6 +21,7 @@ pub fn branch_name(op: BranchOp) -> &'static str
     }
 }
 
+/// The mnemonic of a load.
 pub fn load_name(op: LoadOp) -> &'static str
     ensures { result.now ≡ load_name op }
 {
@@ -32,6 +34,7 @@ pub fn load_name(op: LoadOp) -> &'static str
     }
 }
 
+/// The mnemonic of a store.
 pub fn store_name(op: StoreOp) -> &'static str
     ensures { result.now ≡ store_name op }
 {
@@ -42,6 +45,7 @@ pub fn store_name(op: StoreOp) -> &'static str
     }
 }
 
+/// The mnemonic of an operation on a register and an immediate.
 pub fn imm_name(op: ImmOp) -> &'static str
     ensures { result.now ≡ imm_name op }
 {
@@ -55,6 +59,7 @@ pub fn imm_name(op: ImmOp) -> &'static str
     }
 }
 
+/// The mnemonic of a shift by a constant amount.
 pub fn shift_name(op: ShiftOp) -> &'static str
     ensures { result.now ≡ shift_name op }
 {
@@ -65,6 +70,7 @@ pub fn shift_name(op: ShiftOp) -> &'static str
     }
 }
 
+/// The mnemonic of an operation on two registers.
 pub fn alu_name(op: AluOp) -> &'static str
     ensures { result.now ≡ alu_name op }
 {
@@ -82,6 +88,7 @@ pub fn alu_name(op: AluOp) -> &'static str
     }
 }
 
+/// The mnemonic of a multiplication or division.
 pub fn mul_name(op: MulOp) -> &'static str
     ensures { result.now ≡ mul_name op }
 {
@@ -97,6 +104,7 @@ pub fn mul_name(op: MulOp) -> &'static str
     }
 }
 
+/// The mnemonic of an instruction on control and status registers.
 pub fn csr_op_name(op: CsrKind) -> &'static str
     ensures { result.now ≡ csr_name op }
 {

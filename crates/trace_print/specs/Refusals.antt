@@ -36,7 +36,7 @@ setup_names =
     ∷ named 20 (codes "NotBuilt")
     ∷ []
 
--- with the section that a bound is asked for
+-- with the section or the thread that is asked for
 unfoldable pub section_names : List Named
 section_names =
     named 1 (codes "NotHard")
@@ -117,6 +117,7 @@ code_text table code = decimal code ++ (codes " " ++ name_of table code)
 unfoldable pub bound_value : ℕ → ℕ → List ℕ
 bound_value code value = if code == 6 then decimal value else hex 8 (value % 2 ^ 32)
 
+-- the line of a refusal: what is refused, the code with its name, and where
 unfoldable pub refusal_text : Refusal → List ℕ
 refusal_text (Setup code path) =
     codes "refused setup " ++ (code_text setup_names code ++ (codes " " ++ (path_text path ++ codes "\n")))

@@ -14,13 +14,14 @@ use fp_setup::KeyPath;
 pub enum Refusal {
     /// A setup, with the path of the fault.
     Setup { code: u8, path: KeyPath },
-    /// The section that a bound is asked for.
+    /// The section or the thread that is asked for.
     Section { code: u8 },
     /// An image or an ELF file, with the offset of the fault in bytes.
     Image { code: u8, offset: u32 },
     /// A source, with the line of the fault, counted from 1; 0 for the source as a whole.
     Source { line: u32, code: u8 },
-    /// A bound, with the address of the fault, or where the bound is too large (code 6) the bound.
+    /// A bound, with the address of the fault, or where the bound is too large (code 6) the bound,
+    /// of one through calls 2^64.
     Bound { code: u8, value: u128 },
     /// A list of routines, with the line of the fault, counted from 1.
     Routines { line: u32, code: u8 },
