@@ -50,6 +50,7 @@ is_writable ReadOnly = false
 is_writable Shared = true
 is_writable Foreign = false
 
+-- where a store changes what the thread reads
 abbrev pub is_mine : RegionKind → Bool
 is_mine Mine = true
 is_mine ReadOnly = false

@@ -32,6 +32,7 @@ abbrev pub found : Option ℕ → ℕ → Picked
 found None last = record { pick = Bubble; last = last }
 found (Some thread) last = record { pick = Issue thread; last = thread }
 
+-- the pick of a slot that is soft, or whose thread isn't awake: the next soft thread that is awake
 unfoldable pub donated : Sched → ℕ → ℕ → Picked
 donated s now last = found (find (takes_donated s now) (after_last last)) last
 

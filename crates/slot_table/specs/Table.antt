@@ -30,6 +30,7 @@ in_positions slots = slots ++ replicate (8 - length slots) 15
 abbrev pub magic_of : ℕ → ℕ
 magic_of len = (18446744073709551615 / max len 1 + 1) % 18446744073709551616
 
+-- the layout of a frame, by its slots in order
 abbrev pub laid_out : List ℕ → Frame
 laid_out slots =
     record { slots = in_positions slots; len = length slots; magic = magic_of (length slots) }

@@ -38,12 +38,13 @@ pub struct Frame {
     pub magic: u64,
 }
 
+/// The nibble of a slot for the soft threads.
 const SOFT: u8 = 14;
 
+/// The nibble of a slot that nobody has.
 const DISABLED: u8 = 15;
 
-/// The first cycle for which the multiplication doesn't give the position: 2^61. No run comes so
-/// far.
+/// From this cycle on, 2^61, the multiplication need not give the position. No run comes so far.
 const EARLY: u64 = 0x2000_0000_0000_0000;
 
 // Whether a nibble may stand in a slot.
