@@ -171,8 +171,8 @@ fn laws()
 /// - 0: the command's text was written;
 /// - 1: the recorded trace isn't the defined one; the line that tells where was written;
 /// - 2: the words ask no command; nothing was fetched, and nothing written;
-/// - 3: the setup has a fault, the section asked for is none, or the thread asked for isn't hard and
-///   awake, has no slot or isn't confined; the refusal line was written;
+/// - 3: the setup has a fault, the section asked for is none, or the thread asked for isn't hard
+///   and awake, has no slot or isn't confined; the refusal line was written;
 /// - 4: the image or the executable has a fault; its refusal line was written;
 /// - 5: the source has a fault; its refusal line was written;
 /// - 6: the section has no bound, or one past 64 bits; the refusal line was written;

@@ -13,7 +13,8 @@ pub enum Status {
     Differs = 1,
     /// The words ask no command.
     Usage = 2,
-    /// The setup has a fault, or the section or the thread can't be asked for; its line was written.
+    /// The setup has a fault, or the section or the thread can't be asked for; its line was
+    /// written.
     Setup = 3,
     /// The image, or the executable, has a fault; its line was written.
     Image = 4,
