@@ -13,6 +13,9 @@ use std::{env, io};
 /// The status where the words ask no command.
 const USAGE: u8 = 2;
 
+/// The status where a file can't be read.
+const READ: u8 = 7;
+
 /// The status where standard output can't be written.
 const WRITE: u8 = 8;
 
@@ -23,7 +26,7 @@ const NO_MEMORY: u8 = 9;
 fn complaint(status: u8) -> Option<&'static str> {
     match status {
         USAGE => Some("flexpret: usage"),
-        7 => Some("flexpret: read failed"),
+        READ => Some("flexpret: read failed"),
         WRITE => Some("flexpret: write failed"),
         NO_MEMORY => Some("flexpret: out of memory"),
         _ => None,
