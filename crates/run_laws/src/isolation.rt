@@ -3,20 +3,20 @@
 
 ghost use Rattle.run_laws.specs.Isolation.{EqualViews, Isolation, PhasedIsolation, QuietUnpermitted, WideIsolation};
 
-/// A confined hard thread runs as if it were alone: in a quiet run its events are those of the
-/// definition of one thread, over its view.
+/// A confined hard thread without a permit runs as if it were alone: in a quiet run its events are
+/// those of the definition of one thread, over its view.
 pub fn runs_alone()
     ensures { Isolation }
 {}
 
-/// A confined thread that is never soft active runs as if it were alone over the settings of the
-/// scheduling: while no region register is written, its events are those of the definition of one
-/// thread, over its view and the settings of the run.
+/// A confined thread without a permit that is never soft active runs as if it were alone over the
+/// settings of the scheduling: while no region register is written, its events are those of the
+/// definition of one thread, over its view and the settings of the run.
 pub fn runs_by_phases()
     ensures { PhasedIsolation }
 {}
 
-/// Two machines that agree in such a thread's view show equal events of it.
+/// In quiet runs two machines that agree in a confined hard thread's view show equal events of it.
 pub fn shows_equal_events()
     ensures { EqualViews }
 {}
@@ -27,7 +27,8 @@ pub fn stays_quiet()
 {}
 
 /// A hard thread that isn't confined runs by its wide view: in a quiet run its events are those of
-/// the definition of one thread, over the view and what its loads find where others may write.
+/// the definition of one thread, over the view, all code, what its loads find where others may
+/// write, and with a permit the machine's own registers.
 pub fn runs_by_wide_view()
     ensures { WideIsolation }
 {}

@@ -21,7 +21,7 @@ pub fn traces_by_phases()
     crate::isolation::runs_by_phases();
 }
 
-/// Machines that agree in such a thread's view write equal traces of it.
+/// In quiet runs machines that agree in a confined hard thread's view write equal traces of it.
 pub fn writes_equal_traces()
     ensures { EqualTraces }
 {

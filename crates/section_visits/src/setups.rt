@@ -5,17 +5,19 @@
 ghost use Rattle.section_visits.specs.SetupCallVisitBound.{CallVisitsStayBounded};
 ghost use Rattle.section_visits.specs.SetupVisitBound.{VisitsStayBounded};
 
-/// No visit of a hard thread takes longer than the section's bound, whatever else the machine is
-/// and the other threads run, while none of the machine's own registers is written.
+/// No visit of a hard thread that keeps the stated bounds of the loops takes longer than what no
+/// walk of the section costs more than, whatever else the machine is and the other threads run,
+/// while none of the machine's own registers is written.
 pub fn stays_bounded()
     ensures { VisitsStayBounded }
 {
     crate::sections::stays_bounded();
 }
 
-/// No call visit of a hard thread that comes back to where it called from takes longer than the
-/// bound of the section with its routines, whatever else the machine is and the other threads run,
-/// while none of the machine's own registers is written.
+/// No call visit of a hard thread that keeps the stated bounds of the loops and comes back to where
+/// it called from takes longer than what no call walk of the section with its routines costs more
+/// than, whatever else the machine is and the other threads run, while none of the machine's own
+/// registers is written.
 pub fn calls_stay_bounded()
     ensures { CallVisitsStayBounded }
 {
