@@ -1,4 +1,4 @@
-use Rattle.std.proofs.Common.{◌-◌, length, take, drop, subst, arith}
+use Rattle.std.proofs.Common.{◌-◌, length, take, drop, subst, arith, rules}
 use Rattle.std.specs.Io.KnownBytes.{Appends}
 use Rattle.std.proofs.KnownBytes.{Appends-trans}
 use Rattle.fp_io.proofs.Pieces.{take_piece}
@@ -15,3 +15,9 @@ loop-at-preserved g c =
       within = omega (arith, c.in-Ok.ensures.bound);
       taken = subst (Appends (held c.args.to.now) (held c.write.new.self)) (take_piece bytes at c.in-Ok.count) both;
     }
+
+pub returns-in_default-clause-some : goal.returns-in_default-clause-some
+returns-in_default-clause-some g c = search rules
+
+pub returns-in_default-2-clause-some : goal.returns-in_default-2-clause-some
+returns-in_default-2-clause-some g c = search rules
