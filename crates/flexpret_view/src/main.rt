@@ -128,12 +128,11 @@ fn answer(rt: HostRuntime, ask: &Ask<'_>) -> Result<(), Fault> {
 fn tell_no(rt: HostRuntime, no: &WordsNo) -> Result<(), Fault> {
     match no {
         WordsNo::Told(error) => {
-            error.print(&rt)?;
+            let printed = error.print(&rt);
             if error.use_stderr() {
-                Err(Fault::Told)
-            } else {
-                Ok(())
+                return Err(Fault::Told);
             }
+            Ok(printed?)
         }
         WordsNo::Usage => Err(Fault::Usage),
         WordsNo::EmptyWindow => Err(Fault::EmptyWindow),

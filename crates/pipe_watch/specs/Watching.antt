@@ -2,7 +2,8 @@
 -- that the picked turn leaves.
 use Rattle.std.specs.Prelude.{ℕ, ◌≡◌, ◌+◌, ◌-◌, ◌<◌, ◌%◌, ◌==◌, ◌||◌, not, nat_lt, Bool, true, false, List, [], ◌∷◌, map, slice_index_or, Option, Some, None, option_map, length, slice_range, codes}
 use Rattle.std.specs.Str.{IsCharBoundary, trim_end}
-use Rattle.fp_ports.specs.Rows.{Row, row_at, latch_seen, word_seen}
+use Rattle.fp_ports.specs.Rows.{Row, row_at, latch_seen}
+use Rattle.machine.specs.FieldRelation.{found}
 use Rattle.machine.specs.declared.state.Machine.{Machine}
 use Rattle.machine.specs.WorldRelation.{StandsFor, Ticks}
 use Rattle.pipe_model.specs.declared.stage_registers.Held.{Held}
@@ -27,14 +28,15 @@ use Rattle.pipe_watch.specs.declared.watch.Watch.{Watch}
 abbrev pub is_asleep : Machine → ℕ → Bool
 is_asleep m k = mode_of m.units.sched.modes k % 2 == 1 || nat_lt (time m.units.clock m.at) (slice_index_or m.units.sched.sleep k 0)
 
--- what is seen of a thread there: whether it is asleep, its armed moment, and its port's latch and word
+-- what is seen of a thread there: whether it is asleep, its armed moment, its port's latch, and what an issue of the cycle
+-- finds at the port
 abbrev pub thread_state : Machine → List (Option Row) → ℕ → ThreadState
 thread_state m rows k =
     record {
       asleep = is_asleep m k;
       armed = (timer_of m.units.timers k).armed;
       latch = latch_seen (row_at rows k);
-      input = word_seen (row_at rows k) m.at;
+      input = found (slice_index_or m.unplugs k None) (row_at rows k) m.at;
     }
 
 -- what is seen of the machine at the start of its next cycle

@@ -20,7 +20,7 @@ pub struct ThreadState {
     pub armed: Option<u64>,
     /// What its port's latch holds, if it has a port.
     pub latch: Option<u32>,
-    /// The word that its port shows in the cycle: ones where it has none.
+    /// The word that an issue of the cycle finds at its port: ones where there is none.
     pub input: u32,
 }
 

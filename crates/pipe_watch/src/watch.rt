@@ -1,7 +1,8 @@
 //! A machine that is watched cycle by cycle.
 
 ghost use Rattle.std.specs.Prelude.{◌≡◌, ◌+◌, ◌<◌, [], ◌∷◌, None, Some, MatchOption, option_map, slice_index_or, vec_len};
-ghost use Rattle.fp_ports.specs.Rows.{rows_of};
+ghost use Rattle.fp_ports.specs.Rows.{row_at, rows_of};
+ghost use Rattle.machine.specs.FieldRelation.{found};
 ghost use Rattle.machine.specs.WorldRelation.{AreLeft};
 ghost use Rattle.pipe_model.specs.declared.stage_registers.Held.TheVariants.{Bubble};
 ghost use Rattle.pipe_model.specs.Stages.{retired};
@@ -153,7 +154,27 @@ fn thread_state(machine: &Machine, ports: &mut Ports, thread: u8) -> ThreadState
         asleep: is_asleep(machine, thread),
         armed: machine.units.timers.armed(thread),
         latch: latch_of(ports, thread),
-        input: read_port(ports, thread, machine.at),
+        input: input_of(machine, ports, thread),
+    }
+}
+
+/// The word that an issue of the next cycle finds at a thread's port: ones from the cycle on from
+/// which the port is gone, though the machine takes it away three cycles later, when the issues
+/// before are through.
+fn input_of(machine: &Machine, ports: &mut Ports, thread: u8) -> u32
+    requires cycle { machine.now.at < most_cycles }
+    requires eight { vec_len ports.old ≡ 8 }
+    requires thread { thread < 8 }
+    ensures word { result ≡ found (slice_index_or machine.now.unplugs thread None)
+        (row_at (rows_of latched word_at ports.old.items) thread) machine.now.at }
+    ensures rows { rows_of latched word_at ports.new.items
+        ≡ rows_of latched word_at ports.old.items }
+    ensures eight { vec_len ports.new ≡ 8 }
+{
+    let gone_from = machine.unplugs[usize::from(thread)];
+    match gone_from {
+        Some(cycle) if cycle <= machine.at => u32::MAX,
+        _ => read_port(ports, thread, machine.at),
     }
 }
 
