@@ -55,8 +55,9 @@ for name in sys.argv[1:]:
 END
 
 # The script, by a link, beside a program that is as new as the sources: it builds nothing.
-mkdir -p "$work/top/crates/flexpret_view/out" "$work/bin"
+mkdir -p "$work/top/crates/flexpret_view/out" "$work/top/tools" "$work/bin"
 cp flexpret-view crates.txt "$work/top"
+cp tools/launch.bash "$work/top/tools"
 cp -R crates/flexpret_view/src "$work/top/crates/flexpret_view"
 ln -s "$view" "$work/top/crates/flexpret_view/out/flexpret_view"
 touch "$work/top/crates/flexpret_view/out/flexpret_view.built"

@@ -41,6 +41,8 @@ class Checkout:
         (folder / "crates/low/src/lib.rt").write_text("")
         (folder / "crates.txt").write_text(CRATES)
         shutil.copy(TOP / script, folder / script)
+        (folder / "tools").mkdir()
+        shutil.copy(TOP / "tools/launch.bash", folder / "tools")
         (folder / "bin").mkdir()
         (folder / "bin/rt").write_text(RT)
         (folder / "bin/rt").chmod(0o755)
