@@ -60,7 +60,8 @@ cp flexpret-view crates.txt "$work/top"
 cp tools/launch.bash "$work/top/tools"
 cp -R crates/flexpret_view/src "$work/top/crates/flexpret_view"
 ln -s "$view" "$work/top/crates/flexpret_view/out/flexpret_view"
-touch "$work/top/crates/flexpret_view/out/flexpret_view.built"
+# shellcheck source=tools/launch.bash disable=SC2154
+(. tools/launch.bash && launches "$work/top/flexpret-view" flexpret_view && sources >"$built")
 printf '#!/bin/sh\necho "$0 is called"\nexit 1\n' >"$work/bin/rt"
 chmod +x "$work/bin/rt"
 ln -s "$work/top/flexpret-view" "$work/view"

@@ -12,13 +12,15 @@ launches() {
     built=$out/${script//-/_}.built
 }
 
-newer() {
-    find "$top/crates.txt" "$top/crates" \( -name out -o -name incremental -o -name data -o -name must-fail \) -prune -o \
-        \( -name '*.rt' -o -name '*.antt' -o -name crates.txt \) -newer "$built" -print -quit 2>/dev/null
+# The names of the sources, or of those that find's words choose.
+sources() {
+    (cd "$top" && find crates.txt crates \( -name out -o -name incremental -o -name data -o -name must-fail \) -prune -o \
+        \( -name '*.rt' -o -name '*.antt' -o -name crates.txt \) "$@" -print) | LC_ALL=C sort
 }
 
+# Whether the sources are those that were built, whose names the stamp has: none went, none came, and none is newer.
 is_built() {
-    [ -x "$program" ] && [ -e "$built" ] && [ -z "$(newer)" ]
+    [ -x "$program" ] && [ -e "$built" ] && [ "$(sources ! -newer "$built")" = "$(<"$built")" ]
 }
 
 # How many crates the program is made of: its own and those below it. The list has lower ones first.
@@ -40,7 +42,7 @@ build() {
     echo "$script: building, which proves $all crates first: up to an hour on four processors" >&2
     mkdir -p "$out"
     # A source that is changed while this goes on is newer than what is built.
-    touch "$built.begun"
+    sources >"$built.begun"
     (cd "$top/crates/$crate" && rt run -- "$@") 2>&1 </dev/null | tee "$log" |
         while IFS= read -r line; do
             case $line in

@@ -104,6 +104,23 @@ def test_nothing_is_built_twice_until_a_source_changes(either: Checkout) -> None
     assert "building" in either.run("x").stderr
 
 
+def test_a_source_that_went_or_came_with_an_old_date_is_built(either: Checkout) -> None:
+    law = either.folder / "crates/low/law.antt"
+    law.write_text("")
+    either.build()
+    law.rename(either.folder / "aside")
+    assert "building" in either.run("x").stderr
+    assert either.run("x").stderr == ""
+    (either.folder / "aside").rename(law)
+    assert "building" in either.run("x").stderr
+
+
+def test_a_checkout_that_moved_is_not_built_again(either: Checkout, tmp_path_factory: pytest.TempPathFactory) -> None:
+    either.build()
+    either.folder = either.folder.rename(tmp_path_factory.mktemp("elsewhere") / "checkout")
+    assert either.run("x").stderr == ""
+
+
 def test_a_source_that_changes_while_it_is_built_is_built_again(either: Checkout) -> None:
     source = either.folder / "crates/low/src/lib.rt"
     rt = either.folder / "bin/rt"
