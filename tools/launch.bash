@@ -31,12 +31,15 @@ crates() {
         END { print count }'
 }
 
+# The status where the program can't be built: none of the program's.
+readonly NOT_BUILT=125
+
 # Builds the program by a run of it with these words, and tells each crate that is proved as it goes.
 build() {
     local all proved=0 line
     if ! command -v rt >/dev/null; then
         echo "$script: the program is to be built, but rt, of the kit that README.md names, isn't on the PATH" >&2
-        exit 1
+        exit "$NOT_BUILT"
     fi
     all=$(crates)
     echo "$script: building, which proves $all crates first: up to an hour on four processors" >&2
@@ -54,7 +57,7 @@ build() {
         done
     if [ "${PIPESTATUS[0]}" -ne 0 ]; then
         echo "$script: the program can't be built; see $log" >&2
-        exit 1
+        exit "$NOT_BUILT"
     fi
     mv "$built.begun" "$built"
 }

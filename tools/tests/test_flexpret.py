@@ -26,6 +26,7 @@ program=out/${PWD##*/}
 [ "$RT_STATUS" = 0 ] && printf '%s' "$RT_PROGRAM" >"$program" && chmod +x "$program"
 exit "$RT_STATUS"
 """
+NOT_BUILT = 125
 CRATES = "low:\nbeside: low\nmiddle: low arrayvec\nflexpret_cli: middle\nflexpret_view: middle\n"
 
 
@@ -133,7 +134,7 @@ def test_a_source_that_changes_while_it_is_built_is_built_again(either: Checkout
 def test_a_build_that_fails(either: Checkout) -> None:
     either.environment["RT_STATUS"] = "1"
     ran = either.run("x")
-    assert ran.returncode == 1
+    assert ran.returncode == NOT_BUILT
     (log,) = either.out.glob("*.log")
     assert ran.stderr.endswith(f"{either.script}: the program can't be built; see {log}\n")
     assert log.read_text().count("logic=proved") == 3
@@ -143,8 +144,14 @@ def test_a_build_without_a_kit(either: Checkout) -> None:
     (either.folder / "bin/rt").unlink()
     either.environment["PATH"] = f"{either.folder}/bin:/usr/bin:/bin"
     ran = either.run("x")
-    assert (ran.returncode, ran.stdout, len(ran.stderr.splitlines())) == (1, "", 1)
+    assert (ran.returncode, ran.stdout, len(ran.stderr.splitlines())) == (NOT_BUILT, "", 1)
     assert "isn't on the PATH" in ran.stderr
+
+
+def test_without_what_the_scripts_share(either: Checkout) -> None:
+    (either.folder / "tools/launch.bash").unlink()
+    ran = either.run("x")
+    assert (ran.returncode, ran.stdout) == (NOT_BUILT, "")
 
 
 def test_a_link_to_the_script_from_elsewhere(
