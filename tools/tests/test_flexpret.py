@@ -3,6 +3,7 @@ from __future__ import annotations
 
 import os
 import re
+import shlex
 import shutil
 import signal
 import subprocess
@@ -188,9 +189,9 @@ def test_the_forms_are_those_of_the_man_page_and_the_completion(checkout: Checko
     synopsis = re.findall(r"^\.B (flexpret .*)$", page[: page.index(".SH DESCRIPTION")], re.M)
     assert [re.sub(r"\\f[IP]|\\(?=-)", "", line) for line in synopsis] == forms
     assert not re.search(r"(?<!\\)-[-0-9]", page), "a minus of an option is written \\-"
-    completion = (TOP / "tools/flexpret.bash").read_text()
-    commands = re.search(r"compgen -W '(run [^']*)'", completion)
-    assert commands and commands[1].split() == [form.split()[1] for form in forms]
+    assert offered("flexpret", "") == [form.split()[1] for form in forms]
+    for form in forms:
+        assert offered("flexpret", form.split()[1], "-") == re.findall("--[a-z]+", form)
 
 
 def test_the_files_follow_a_read_that_failed(
@@ -264,26 +265,45 @@ def test_install_puts_program_page_and_completion(tmp_path: Path) -> None:
     program.write_text("#!/bin/sh\necho installed\n")
     program.chmod(0o755)
     prefix = tmp_path / "prefix"
-    subprocess.run(
-        [TOP / "tools/install.sh", prefix], env={**os.environ, "FLEXPRET": str(program)}, check=True
-    )
+    named = {"FLEXPRET": str(program), "FLEXPRET_VIEW": str(tmp_path / "none")}
+    subprocess.run([TOP / "tools/install.sh", prefix], env={**os.environ, **named}, check=True)
     assert (
         subprocess.run([prefix / "bin/flexpret"], capture_output=True, text=True, check=True).stdout
         == "installed\n"
     )
     assert (prefix / "share/man/man1/flexpret.1").read_text() == (TOP / "tools/flexpret.1").read_text()
     assert (prefix / "share/bash-completion/completions/flexpret").is_file()
+    assert sorted(it.name for it in prefix.glob("bin/*")) == ["flexpret"]
     assert subprocess.run([TOP / "tools/install.sh"], capture_output=True, check=False).returncode == 2
 
 
-def test_completion_offers_commands_options_and_values() -> None:
-    def offered(*words: str) -> list[str]:
-        script = f". tools/flexpret.bash; COMP_WORDS=({' '.join(words)}); COMP_CWORD={len(words) - 1}; _flexpret; echo ${{COMPREPLY[@]}}"
-        return subprocess.run(
-            ["bash", "-c", script], cwd=TOP, capture_output=True, text=True, check=True
-        ).stdout.split()
+def offered(*words: str) -> list[str]:
+    """What is offered for the last of a line's words, as bash takes them apart."""
+    function = f"_{words[0].replace('-', '_')}"
+    line = f"COMP_WORDS=({' '.join(map(shlex.quote, words))}); COMP_CWORD={len(words) - 1}"
+    script = f". tools/flexpret.bash; {line}; {function}; echo ${{COMPREPLY[@]}}"
+    return subprocess.run(["bash", "-c", script], cwd=TOP, capture_output=True, text=True, check=True).stdout.split()
 
+
+def test_completion_offers_commands_options_and_values() -> None:
     assert offered("flexpret", "p") == ["phases"]
     assert offered("flexpret", "bound", "--") == ["--thread", "--from", "--to"]
     assert offered("flexpret", "run", "x.toml", "--thread", "7") == ["7"]
     assert "README.md" in offered("flexpret", "asm", "READ")
+
+
+def test_completion_behind_an_equals_sign() -> None:
+    assert offered("flexpret", "run", "--thread", "=") == list("01234567")
+    assert offered("flexpret", "run", "--thread", "=", "7") == ["7"]
+    assert offered("flexpret", "run", "--cycles", "=") == []
+    assert offered("flexpret", "check", "--trace", "=", "READ") == ["README.md"]
+    assert offered("flexpret-view", "turns", "--progress", "=") == ["before", "all"]
+
+
+def test_completion_of_the_view() -> None:
+    assert offered("flexpret-view", "") == ["turns"]
+    form = re.search(r"^    \./(flexpret-view turns SETUP .*)$", (TOP / "docs/VIEW.md").read_text(), re.M)
+    assert form and offered("flexpret-view", "turns", "--") == re.findall("--[a-z]+", form[1])
+    assert offered("flexpret-view", "turns", "x.toml", "--progress", "b") == ["before"]
+    assert offered("flexpret-view", "turns", "READ") == ["README.md"]
+    assert offered("flexpret-view", "turns", "--svg", "READ") == ["README.md"]
