@@ -1,6 +1,6 @@
 #!/usr/bin/env bash
 # tools/install.sh PREFIX: puts the built program, its man page and its completion for bash under PREFIX, as /usr/local, and
-# the view with its own, if ./flexpret-view has built it. They need nothing else of this repository. FLEXPRET and
+# the view with those of it, if ./flexpret-view has built it. They need nothing else of this repository. FLEXPRET and
 # FLEXPRET_VIEW name the programs, if they aren't the ones that the scripts build.
 set -eu
 if [ $# -ne 1 ] || [ "${1#-}" != "$1" ]; then
@@ -15,14 +15,15 @@ if [ ! -x "$program" ]; then
     echo "install.sh: no program is built yet; ./flexpret selfrun 1 builds it" >&2
     exit 1
 fi
-# Puts a program under a name, with its completion.
+
+# Puts a program under a name, with its man page and completion.
 put() {
     install -D -m 755 "$1" "$prefix/bin/$2"
+    install -D -m 644 "$tools/$2.1" "$prefix/share/man/man1/$2.1"
     install -D -m 644 "$tools/flexpret.bash" "$prefix/share/bash-completion/completions/$2"
 }
 
 put "$program" flexpret
-install -D -m 644 "$tools/flexpret.1" "$prefix/share/man/man1/flexpret.1"
 if [ -x "$view" ]; then
     put "$view" flexpret-view
 fi

@@ -188,10 +188,28 @@ def test_the_forms_are_those_of_the_man_page_and_the_completion(checkout: Checko
     page = (TOP / "tools/flexpret.1").read_text()
     synopsis = re.findall(r"^\.B (flexpret .*)$", page[: page.index(".SH DESCRIPTION")], re.M)
     assert [re.sub(r"\\f[IP]|\\(?=-)", "", line) for line in synopsis] == forms
-    assert not re.search(r"(?<!\\)-[-0-9]", page), "a minus of an option is written \\-"
     assert offered("flexpret", "") == [form.split()[1] for form in forms]
     for form in forms:
         assert offered("flexpret", form.split()[1], "-") == re.findall("--[a-z]+", form)
+
+
+@pytest.mark.parametrize("name", ["flexpret", "flexpret-view"])
+def test_a_man_page_is_shown_without_warnings(name: str) -> None:
+    page = TOP / f"tools/{name}.1"
+    assert not re.search(r"(?<!\\)-[-0-9]", page.read_text()), "a minus of an option is written \\-"
+    if not shutil.which("groff"):
+        pytest.skip("groff isn't installed")
+    shown = subprocess.run(["groff", "-man", "-ww", "-Tascii", page], capture_output=True, text=True, check=True)
+    assert shown.stderr == ""
+
+
+def test_the_form_of_the_view_is_that_of_its_man_page_and_completion() -> None:
+    form = re.search(r"^    \./(flexpret-view turns SETUP .*)$", (TOP / "docs/VIEW.md").read_text(), re.M)
+    assert form
+    page = (TOP / "tools/flexpret-view.1").read_text()
+    synopsis = page[page.index(".SH SYNOPSIS\n") : page.index(".SH DESCRIPTION")].split("\n", 1)[1]
+    assert " ".join(re.sub(r'\.(BI|B|I) |\\f[BIP]|\\(?=-)|"', "", synopsis).split()) == form[1]
+    assert offered("flexpret-view", "turns", "--") == re.findall("--[a-z]+", form[1])
 
 
 def test_the_files_follow_a_read_that_failed(
@@ -260,21 +278,29 @@ def test_the_program_ends_with_the_script(checkout: Checkout) -> None:
     raise AssertionError("the program still runs")
 
 
+def elf(path: Path) -> str:
+    """A program of its own there, which is no script."""
+    shutil.copy("/bin/echo", path)
+    return str(path)
+
+
+def install(*words: object, **named: str) -> subprocess.CompletedProcess[str]:
+    return subprocess.run(
+        [TOP / "tools/install.sh", *map(str, words)], env={**os.environ, **named}, capture_output=True, text=True, check=False,
+    )  # fmt: skip
+
+
 def test_install_puts_program_page_and_completion(tmp_path: Path) -> None:
-    program = tmp_path / "program"
-    program.write_text("#!/bin/sh\necho installed\n")
-    program.chmod(0o755)
-    prefix = tmp_path / "prefix"
-    named = {"FLEXPRET": str(program), "FLEXPRET_VIEW": str(tmp_path / "none")}
-    subprocess.run([TOP / "tools/install.sh", prefix], env={**os.environ, **named}, check=True)
-    assert (
-        subprocess.run([prefix / "bin/flexpret"], capture_output=True, text=True, check=True).stdout
-        == "installed\n"
-    )
-    assert (prefix / "share/man/man1/flexpret.1").read_text() == (TOP / "tools/flexpret.1").read_text()
-    assert (prefix / "share/bash-completion/completions/flexpret").is_file()
-    assert sorted(it.name for it in prefix.glob("bin/*")) == ["flexpret"]
-    assert subprocess.run([TOP / "tools/install.sh"], capture_output=True, check=False).returncode == 2
+    prefix, program = tmp_path / "prefix", elf(tmp_path / "program")
+    for view, names in (("/none", ["flexpret"]), (elf(tmp_path / "view"), ["flexpret", "flexpret-view"])):
+        assert install(prefix, FLEXPRET=program, FLEXPRET_VIEW=view).returncode == 0
+        assert sorted(it.name for it in prefix.glob("bin/*")) == names
+    for name in names:
+        ran = subprocess.run([prefix / "bin" / name, "installed"], capture_output=True, text=True, check=True)
+        assert ran.stdout == "installed\n"
+        assert (prefix / f"share/man/man1/{name}.1").read_text() == (TOP / f"tools/{name}.1").read_text()
+        assert (prefix / "share/bash-completion/completions" / name).is_file()
+    assert install().returncode == 2
 
 
 def offered(*words: str) -> list[str]:
@@ -302,8 +328,6 @@ def test_completion_behind_an_equals_sign() -> None:
 
 def test_completion_of_the_view() -> None:
     assert offered("flexpret-view", "") == ["turns"]
-    form = re.search(r"^    \./(flexpret-view turns SETUP .*)$", (TOP / "docs/VIEW.md").read_text(), re.M)
-    assert form and offered("flexpret-view", "turns", "--") == re.findall("--[a-z]+", form[1])
     assert offered("flexpret-view", "turns", "x.toml", "--progress", "b") == ["before"]
     assert offered("flexpret-view", "turns", "READ") == ["README.md"]
     assert offered("flexpret-view", "turns", "--svg", "READ") == ["README.md"]
