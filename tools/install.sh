@@ -16,6 +16,14 @@ if [ ! -x "$program" ]; then
     exit 1
 fi
 
+# Ends here where a file is no ELF executable, as the script ./flexpret, which is of use in its own folder alone.
+refuse_script() {
+    if [ "$(head -c 4 "$1" | tr -d '\0')" != $'\x7fELF' ]; then
+        echo "install.sh: $1 is no ELF executable: name the program itself, no script that calls it" >&2
+        exit 1
+    fi
+}
+
 # Puts a program under a name, with its man page and completion.
 put() {
     install -D -m 755 "$1" "$prefix/bin/$2"
@@ -23,6 +31,8 @@ put() {
     install -D -m 644 "$tools/flexpret.bash" "$prefix/share/bash-completion/completions/$2"
 }
 
+refuse_script "$program"
+[ ! -x "$view" ] || refuse_script "$view"
 put "$program" flexpret
 if [ -x "$view" ]; then
     put "$view" flexpret-view

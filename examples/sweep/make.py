@@ -37,10 +37,18 @@ bound = 7
 """
 
 
+def is_elf(program: Path) -> bool:
+    """Whether a file runs by itself, as the script ./flexpret doesn't once it is copied."""
+    with program.open("rb") as file:
+        return file.read(4) == b"\x7fELF"
+
+
 def make(folder: Path, most: int) -> None:
     program = Path(os.environ.get("FLEXPRET") or BUILT)
     if not os.access(program, os.X_OK):
         raise FileNotFoundError(f"{program} is no program: build it by ./flexpret, or name it by FLEXPRET")
+    if not is_elf(program):
+        raise OSError(f"{program} is no ELF executable: name the program itself, no script that calls it")
     (folder / "setups").mkdir(parents=True)
     (folder / "results").mkdir()
     shutil.copy(program, folder / "flexpret")
@@ -61,7 +69,9 @@ if __name__ == "__main__":
         description=__doc__, formatter_class=argparse.RawDescriptionHelpFormatter
     )
     parser.add_argument("folder", type=Path)
-    parser.add_argument("most", type=int, nargs="?", default=MOST_PERIOD, choices=range(1, 1001), metavar="MOST")
+    parser.add_argument(
+        "most", type=int, nargs="?", default=MOST_PERIOD, choices=range(1, 1001), metavar="MOST"
+    )
     asked = parser.parse_args()
     try:
         make(asked.folder, asked.most)

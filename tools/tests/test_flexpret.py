@@ -117,7 +117,9 @@ def test_a_source_that_went_or_came_with_an_old_date_is_built(either: Checkout) 
     assert "building" in either.run("x").stderr
 
 
-def test_a_checkout_that_moved_is_not_built_again(either: Checkout, tmp_path_factory: pytest.TempPathFactory) -> None:
+def test_a_checkout_that_moved_is_not_built_again(
+    either: Checkout, tmp_path_factory: pytest.TempPathFactory
+) -> None:
     either.build()
     either.folder = either.folder.rename(tmp_path_factory.mktemp("elsewhere") / "checkout")
     assert either.run("x").stderr == ""
@@ -126,7 +128,9 @@ def test_a_checkout_that_moved_is_not_built_again(either: Checkout, tmp_path_fac
 def test_a_source_that_changes_while_it_is_built_is_built_again(either: Checkout) -> None:
     source = either.folder / "crates/low/src/lib.rt"
     rt = either.folder / "bin/rt"
-    rt.write_text(RT.replace("#!/bin/sh\n", f"#!/bin/sh\nsleep 0.1; [ -s {source} ] || echo changed >{source}\n"))
+    rt.write_text(
+        RT.replace("#!/bin/sh\n", f"#!/bin/sh\nsleep 0.1; [ -s {source} ] || echo changed >{source}\n")
+    )
     either.build()
     assert "building" in either.run("x").stderr
     assert either.run("x").stderr == ""
@@ -199,7 +203,9 @@ def test_a_man_page_is_shown_without_warnings(name: str) -> None:
     assert not re.search(r"(?<!\\)-[-0-9]", page.read_text()), "a minus of an option is written \\-"
     if not shutil.which("groff"):
         pytest.skip("groff isn't installed")
-    shown = subprocess.run(["groff", "-man", "-ww", "-Tascii", page], capture_output=True, text=True, check=True)
+    shown = subprocess.run(
+        ["groff", "-man", "-ww", "-Tascii", page], capture_output=True, text=True, check=True
+    )
     assert shown.stderr == ""
 
 
@@ -303,12 +309,29 @@ def test_install_puts_program_page_and_completion(tmp_path: Path) -> None:
     assert install().returncode == 2
 
 
+def test_install_puts_no_script(tmp_path: Path) -> None:
+    program, prefix = elf(tmp_path / "program"), tmp_path / "prefix"
+    for named in (
+        {"FLEXPRET": str(TOP / "flexpret")},
+        {"FLEXPRET": program, "FLEXPRET_VIEW": str(TOP / "flexpret-view")},
+    ):
+        ran = install(prefix, **named)
+        script = list(named.values())[-1]
+        text = (
+            f"install.sh: {script} is no ELF executable: name the program itself, no script that calls it\n"
+        )
+        assert (ran.returncode, ran.stderr) == (1, text)
+    assert not prefix.exists()
+
+
 def offered(*words: str) -> list[str]:
     """What is offered for the last of a line's words, as bash takes them apart."""
     function = f"_{words[0].replace('-', '_')}"
     line = f"COMP_WORDS=({' '.join(map(shlex.quote, words))}); COMP_CWORD={len(words) - 1}"
     script = f". tools/flexpret.bash; {line}; {function}; echo ${{COMPREPLY[@]}}"
-    return subprocess.run(["bash", "-c", script], cwd=TOP, capture_output=True, text=True, check=True).stdout.split()
+    return subprocess.run(
+        ["bash", "-c", script], cwd=TOP, capture_output=True, text=True, check=True
+    ).stdout.split()
 
 
 def test_completion_offers_commands_options_and_values() -> None:

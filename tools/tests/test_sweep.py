@@ -45,6 +45,13 @@ def test_without_a_program_no_folder_is_made(tmp_path: Path) -> None:
     assert list(tmp_path.iterdir()) == []
 
 
+def test_a_script_is_no_program(tmp_path: Path) -> None:
+    ran = made(tmp_path, "work", "1", program=str(TOP / "flexpret"))
+    text = f"make.py: {TOP}/flexpret is no ELF executable: name the program itself, no script that calls it\n"
+    assert (ran.returncode, ran.stderr) == (1, text)
+    assert list(tmp_path.iterdir()) == []
+
+
 def test_a_folder_that_is_there_stays_as_it_is(tmp_path: Path) -> None:
     (tmp_path / "setups").mkdir()
     ran = made(tmp_path, ".", "1")
