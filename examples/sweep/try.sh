@@ -48,8 +48,8 @@ cd "$work" || exit 1
 cd array || exit 1
 tasks() {
     local task
-    for task in 0 1 2 3; do
-        SLURM_ARRAY_TASK_ID=$task SLURM_ARRAY_TASK_COUNT=4 ./array.sh || return 1
+    for task in 1 2 3 4; do
+        SLURM_ARRAY_TASK_ID=$task SLURM_ARRAY_TASK_COUNT=4 SLURM_ARRAY_TASK_MIN=1 SLURM_ARRAY_TASK_MAX=4 ./array.sh || return 1
     done
 }
 holds 'the tasks of an array do all jobs' tasks

@@ -1,7 +1,8 @@
-"""examples/sweep/make.py: the setups of a sweep, and what it can't make."""
+"""examples/sweep: the setups that make.py writes, what it can't make, and the shares of array.sh."""
 from __future__ import annotations
 
 import os
+import shutil
 import subprocess
 from pathlib import Path
 
@@ -57,3 +58,37 @@ def test_a_folder_that_is_there_stays_as_it_is(tmp_path: Path) -> None:
     ran = made(tmp_path, ".", "1")
     assert ran.returncode == 1
     assert ran.stderr.startswith("make.py: [Errno 17] File exists")
+
+
+def array(folder: Path, numbers: list[int]) -> tuple[list[str], list[int]]:
+    """The jobs, of 30, that the tasks of an array with these numbers do, and the statuses of the tasks."""
+    shutil.copy(TOP / "examples/sweep/array.sh", folder)
+    (folder / "jobs.tsv").write_text("".join(f"{job:02}\tS\n" for job in range(30)))
+    (folder / "job.sh").write_text('#!/bin/sh\necho "$1" >>done\n')
+    (folder / "job.sh").chmod(0o755)
+    (folder / "done").write_text("")
+    sets = {"COUNT": len(numbers), "MIN": min(numbers), "MAX": max(numbers)}
+    set_for_all = {f"SLURM_ARRAY_TASK_{name}": str(value) for name, value in sets.items()}
+    statuses = [
+        subprocess.run(
+            [folder / "array.sh"], cwd=folder, env={**os.environ, **set_for_all, "SLURM_ARRAY_TASK_ID": str(number)},
+            stderr=subprocess.DEVNULL, check=False,
+        ).returncode
+        for number in numbers
+    ]  # fmt: skip
+    return (folder / "done").read_text().split(), statuses
+
+
+@pytest.mark.parametrize(
+    "numbers",
+    [range(0, 4), range(1, 5), range(1, 11), range(0, 20, 2), range(3, 30, 9), range(7, 8), range(0, 40)],
+)
+def test_the_tasks_of_an_array_do_each_job_once(tmp_path: Path, numbers: range) -> None:
+    done, statuses = array(tmp_path, list(numbers))
+    assert sorted(done) == [f"{job:02}" for job in range(30)]
+    assert set(statuses) == {0}
+
+
+@pytest.mark.parametrize("numbers", [[0, 1, 5], [0, 6, 7, 8], [1, 2, 4]])
+def test_tasks_whose_numbers_rise_by_other_steps_are_refused(tmp_path: Path, numbers: list[int]) -> None:
+    assert 1 in array(tmp_path, numbers)[1]
