@@ -19,6 +19,7 @@ from fptools.toml import faults, read_toml
 
 SCHEMA = Path(__file__).resolve().parents[1] / "budgets.schema.json"
 BOUND = re.compile(r"bound (\d+)")
+NOT_XML = re.compile("[^\t\n\r -\ud7ff\ue000-\ufffd\U00010000-\U0010ffff]")
 
 
 class Verdict(IntEnum):
@@ -166,18 +167,30 @@ class Judge:
             return self.flexpret.calls(self.setup.path, budget.thread, start, end, listed)
 
 
-def junit(results: list[Result], name: str) -> bytes:
-    """The results as a JUnit file: what is over is a failure, what is unknown an error."""
+def junit(results: list[Result], name: str, fault: str | None = None) -> bytes:
+    """The results as a JUnit file: what is over is a failure, what is unknown, or stood against all of them, an error."""
     of = {verdict: sum(it.verdict is verdict for it in results) for verdict in Verdict}
+    faults = 0 if fault is None else 1
     suite = ElementTree.Element(
-        "testsuite", name=name, tests=str(len(results)),
-        failures=str(of[Verdict.OVER]), errors=str(of[Verdict.UNKNOWN]),
+        "testsuite", name=_xml(name), tests=str(len(results) + faults),
+        failures=str(of[Verdict.OVER]), errors=str(of[Verdict.UNKNOWN] + faults),
     )  # fmt: skip
     for result in results:
-        named = {"classname": f"T{result.budget.thread}", "name": result.budget.name}
-        case = ElementTree.SubElement(suite, "testcase", named)
-        if result.verdict is not Verdict.HOLDS:
-            kind = "failure" if result.verdict is Verdict.OVER else "error"
-            ElementTree.SubElement(case, kind, message=result.text)
+        kind = {Verdict.HOLDS: None, Verdict.OVER: "failure", Verdict.UNKNOWN: "error"}[result.verdict]
+        _case(suite, f"T{result.budget.thread}", result.budget.name, kind, result.text)
+    if fault is not None:
+        _case(suite, "fp_budget", name, "error", fault)
     ElementTree.indent(suite)
     return bytes(ElementTree.tostring(suite, encoding="utf-8", xml_declaration=True)) + b"\n"
+
+
+def _case(suite: ElementTree.Element, group: str, name: str, kind: str | None, text: str) -> None:
+    """Adds a case, with a fault of a kind, if it has one."""
+    case = ElementTree.SubElement(suite, "testcase", {"classname": group, "name": _xml(name)})
+    if kind:
+        ElementTree.SubElement(case, kind, message=_xml(text))
+
+
+def _xml(text: str) -> str:
+    """A text without the characters that XML has no place for, as names of files may have them."""
+    return NOT_XML.sub("\ufffd", text)

@@ -214,6 +214,29 @@ def test_the_junit_file(asking: Tool, tmp_path: Path) -> None:
     assert [[child.tag for child in case] for case in suite] == [[], ["failure"], ["error"]]
 
 
+@pytest.mark.parametrize("faulty", ["setup", "budgets", "schema", "refused"])
+def test_the_junit_file_where_nothing_can_be_said(asking: Tool, tmp_path: Path, faulty: str) -> None:
+    setup, budgets, junit = TOP / PID[0], tmp_path / "budgets.toml", tmp_path / "budgets.xml"
+    budgets.write_text(f"[[budget]]\n{STEP}cycles = {0 if faulty == 'schema' else 352}\n")
+    junit.write_text("of an earlier call")
+    if faulty == "setup":
+        setup = tmp_path / "none\x01.toml"
+    if faulty == "budgets":
+        budgets.unlink()
+    if faulty == "refused":
+        setup = tmp_path / "setup.toml"
+        setup.write_text("period = 0\n")
+    ran = asking("fp_budget", setup, budgets, *PID[1:], "--junit", junit)
+    assert (ran.returncode, ran.stdout) == (2, "")
+    suite = ElementTree.parse(junit).getroot()
+    assert (suite.get("tests"), suite.get("failures"), suite.get("errors")) == ("1", "0", "1")
+    ((error,),) = suite
+    assert (error.tag, f"fp_budget: {error.get('message')}\n") == (
+        "error",
+        ran.stderr.replace("\x01", "\ufffd"),
+    )
+
+
 @pytest.mark.parametrize(
     ("table", "error"),
     [
