@@ -42,6 +42,9 @@ class Budget:
     calls: bool = False
     exits: tuple[int | str, ...] = ()
 
+    def __str__(self) -> str:
+        return f"T{self.thread} {self.name}"
+
 
 @dataclass(frozen=True)
 class Result:
@@ -49,10 +52,11 @@ class Result:
     verdict: Verdict
     text: str
     bound: int | None = None
+    note: str | None = None
 
     def __str__(self) -> str:
         word = {Verdict.HOLDS: "holds", Verdict.OVER: "OVER", Verdict.UNKNOWN: "UNKNOWN"}[self.verdict]
-        return f"{word:<8} T{self.budget.thread} {self.budget.name}: {self.text}"
+        return f"{word:<8} {self.budget}: {self.text}"
 
 
 def read_budgets(path: Path, period: int) -> list[Budget]:
@@ -86,14 +90,15 @@ class Judge:
 
     def judge(self, budget: Budget) -> Result:
         try:
-            bound = self._bound(budget)
+            bound, note = self._bound(budget)
         except (Unknown, ProgramError) as why:
             return Result(budget, Verdict.UNKNOWN, str(why))
         verdict = Verdict.HOLDS if bound <= budget.cycles else Verdict.OVER
         time = bound * self.setup.values["period"]
-        return Result(budget, verdict, f"{bound} of {budget.cycles} cycles ({time} ns)", bound)
+        return Result(budget, verdict, f"{bound} of {budget.cycles} cycles ({time} ns)", bound, note)
 
-    def _bound(self, budget: Budget) -> int:
+    def _bound(self, budget: Budget) -> tuple[int, str | None]:
+        """The bound, and what is to be noted of it."""
         start, end = self._address(budget.start), self._address(budget.end)
         routines = self._routines(budget, start, end)
         self.exits = {self._address(it) for it in budget.exits}
@@ -109,7 +114,15 @@ class Judge:
         self._look_at_routines(called)
         if int(found[1]) == 0:
             raise Unknown("a bound of 0: nothing of the section issues")
-        return int(found[1])
+        return int(found[1]), self._expiry([section, *called])
+
+    def _expiry(self, sections: list[Section]) -> str | None:
+        """Which word arms a moment first, if one does."""
+        arms = [word.pc for section in sections for word in section.reached.values() if word.arms]
+        if not arms:
+            return None
+        where = f"{min(arms):#x} {self.program.name_of(min(arms))}".rstrip()
+        return f"{where}: an EE; the bound ends where its moment expires"
 
     def _address(self, value: int | str) -> int:
         return value if isinstance(value, int) else self.program.address(value)

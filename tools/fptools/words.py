@@ -130,8 +130,12 @@ class Word:
     @property
     def traps_by_intent(self) -> bool:
         """An ECALL or EBREAK, or an EE, whose moment ends in a trap."""
-        expires = self.opcode == OPCODE_TIMING and self.funct3 == FUNCT3_EXPIRE
-        return expires or self.bits in (ECALL, EBREAK)
+        return self.arms or self.bits in (ECALL, EBREAK)
+
+    @property
+    def arms(self) -> bool:
+        """Whether it is an EE, which arms a moment that may expire at any later word."""
+        return self.is_code and self.opcode == OPCODE_TIMING and self.funct3 == FUNCT3_EXPIRE
 
     @property
     def immediate(self) -> int:

@@ -14,6 +14,7 @@ from fptools.program import Flexpret
 from fptools.setup import read_setup
 
 PID = ("examples/c/pid.toml", "--elf", "examples/c/pid.elf")
+STEP_NOTE = "fp_budget: T0 step: 0xc0 step_begin+0xc: an EE; the bound ends where its moment expires"
 STEP = 'name = "step"\nthread = 0\nfrom = "step_begin"\nto = "step_end"\n'
 
 
@@ -32,11 +33,11 @@ def section(start: str, end: str, more: str = "cycles = 1000") -> str:
 def test_a_budget_that_holds_and_one_that_is_over(asking: Tool, tmp_path: Path) -> None:
     assert judged(asking, tmp_path, PID, f"{STEP}cycles = 352") == (
         0,
-        ["holds    T0 step: 352 of 352 cycles (3520 ns)"],
+        ["holds    T0 step: 352 of 352 cycles (3520 ns)", STEP_NOTE],
     )
     assert judged(asking, tmp_path, PID, f"{STEP}cycles = 351") == (
         1,
-        ["OVER     T0 step: 352 of 351 cycles (3520 ns)"],
+        ["OVER     T0 step: 352 of 351 cycles (3520 ns)", STEP_NOTE],
     )
     assert judged(asking, tmp_path, PID, f"{STEP}ns = 3529")[0] == 0
     assert judged(asking, tmp_path, PID, f"{STEP}ns = 3519")[0] == 1
@@ -162,6 +163,32 @@ def test_a_section_whose_endless_loop_has_a_table(asking: Tool, tmp_path: Path) 
     assert (status, lines) == (2, ["UNKNOWN  T0 it: no way leads to the section's end"])
 
 
+EXPIRE, DISARM = 0x0062_C00B, 0x500B
+
+
+def test_an_expiry_that_may_end_a_visit_is_told(asking: Tool, tmp_path: Path) -> None:
+    setup = setup_of(tmp_path, [NOP, EXPIRE, NOP, DISARM, NOP])
+    status, lines = judged(asking, tmp_path, (str(setup),), section("0", "16"))
+    assert (status, lines) == (
+        0,
+        [
+            "holds    T0 it: 8 of 1000 cycles (80 ns)",
+            "fp_budget: T0 it: 0x4: an EE; the bound ends where its moment expires",
+        ],
+    )
+    assert len(judged(asking, tmp_path, (str(setup),), section("8", "16"))[1]) == 1
+
+
+def test_an_expiry_of_a_called_function_is_told(flexpret: str, tmp_path: Path) -> None:
+    setup = read_setup(setup_of(tmp_path, [NOP, CALL_FOUR_ON, NOP, HERE, HERE, EXPIRE, RETURN]))
+    program = Program()
+    program.functions = [Function(0x14, 0x1C, "called")]
+    judge = Judge(Flexpret(flexpret), setup, read_image(setup.image), program)
+    note = "0x14: an EE; the bound ends where its moment expires"
+    assert judge.judge(Budget("it", 0, 0, 0xC, 1000, calls=True)).note == note
+    assert judge.judge(Budget("it", 0, 0, 0x4, 1000, calls=True)).note is None
+
+
 def test_a_called_function_that_never_returns(asking: Tool, tmp_path: Path) -> None:
     table = section('"start0"', '"stopped0"', "cycles = 1000\ncalls = true")
     status, lines = judged(asking, tmp_path, PID, table)
@@ -187,7 +214,8 @@ def test_unknown_counts_before_over(asking: Tool, tmp_path: Path) -> None:
         asking, tmp_path, PID, f"{STEP}cycles = 1", section("0x700", "0x704"), f"{STEP}cycles = 352"
     )
     assert status == 2
-    assert [line.split()[0] for line in lines] == ["OVER", "UNKNOWN", "holds"]
+    assert [line.split()[0] for line in lines[:3]] == ["OVER", "UNKNOWN", "holds"]
+    assert lines[3:] == [STEP_NOTE, STEP_NOTE]
 
 
 def test_results_that_cannot_be_written_are_unknown(asking: Tool, tmp_path: Path) -> None:

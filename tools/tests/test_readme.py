@@ -44,8 +44,9 @@ def test_each_command_writes_what_is_shown(flexpret: str, tmp_path: Path) -> Non
             ["bash", "-c", command],
             cwd=tmp_path,
             env=environment,
-            capture_output=True,
+            stdout=subprocess.PIPE,
+            stderr=subprocess.STDOUT,
             text=True,
             check=False,
         )
-        assert (ran.stdout.splitlines(), ran.stderr) == (lines, ""), command
+        assert ran.stdout.splitlines() == lines, command
