@@ -215,11 +215,11 @@ def returns(place: Place) -> Iterator[Change]:
                 if rest not in ('', value) and not rest.startswith('return'):
                     yield before(place, at, f'return {value}'.rstrip() + '; ')
     for k, token in place.tokens():
-        opened = source.block_behind(k, place.body.last) if token.text in ('for', 'while') else None
-        if opened is not None:
-            for _, last in source.statements(opened):
+        repeated = source.block_behind(k, place.body.last) if token.text in ('for', 'while') else None
+        if repeated is not None:
+            for _, last in source.statements(repeated):
                 yield before(place, last, 'break; ')
-                if last < source.closing[opened]:
+                if last < source.closing[repeated]:
                     yield before(place, last, 'continue; ')
 
 

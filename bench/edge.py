@@ -12,7 +12,7 @@ import struct
 import subprocess
 import sys
 import tempfile
-from collections.abc import Callable, Iterator
+from collections.abc import Callable, Iterator, Sequence
 from dataclasses import dataclass, field
 from pathlib import Path
 from typing import IO
@@ -68,7 +68,7 @@ class Edge:
     rows: int = 0
     differences: list[str] = field(default_factory=list)
 
-    def call(self, words: list[Word], out: IO[bytes] | int = subprocess.PIPE,
+    def call(self, words: Sequence[Word], out: IO[bytes] | int = subprocess.PIPE,
              before: Callable[[], None] | None = None, ignored: bool = False) -> Seen:
         """Calls the program. `before` runs in the child; `ignored` keeps SIGXFSZ and SIGPIPE ignored there."""
         try:
@@ -99,7 +99,7 @@ class Edge:
         return (self.folder / 'examples' / name).read_bytes()
 
 
-def shown(words: list[Word]) -> str:
+def shown(words: Sequence[Word]) -> str:
     return ' '.join(w if isinstance(w, str) else repr(w) for w in words) or 'no words'
 
 
@@ -154,7 +154,7 @@ def write_files(edge: Edge) -> None:
 
 def statuses(edge: Edge) -> None:
     """Each status with a command line that gives it, its text, and its line of standard error."""
-    rows: list[tuple[Status, list[Word], bytes]] = [
+    rows: list[tuple[Status, Sequence[Word], bytes]] = [
         (Status.OK, RUN_DRIVE, edge.example('drive.trace')),
         (Status.OK, BOUND_SUM, edge.example('sum.bound')),
         (Status.OK, [*CALLS, 'examples/calls.routines'], edge.example('calls.bound')),
@@ -182,7 +182,7 @@ def statuses(edge: Edge) -> None:
 def files(edge: Edge) -> None:
     """A file that isn't there, a folder, and names below a file, in each place that names a file."""
     run = ['--thread', '0', '--cycles', '5']
-    rows: list[list[Word]] = [
+    rows: list[Sequence[Word]] = [
         ['run', 'isnt.toml', *run], ['run', 'lost.toml', *run], ['run', 'examples', *run],
         ['run', 'examples/drive.toml/a', *run], ['run', 'a' * 5000, *run], ['asm', 'examples'], ['elf', 'isnt.elf'],
         [*CHECK_DRIVE, 'isnt.trace'], [*CALLS, 'examples'],
@@ -194,9 +194,10 @@ def files(edge: Edge) -> None:
 def words_that_are_no_text(edge: Edge) -> None:
     """A word that isn't UTF-8 asks nothing, wherever it stands; one beyond ASCII may name a file."""
     bad = b'\xff\xfe'
-    for place in range(len(RUN_DRIVE) + 1):
-        for words in ([*RUN_DRIVE[:place], bad, *RUN_DRIVE[place:]], [*RUN_DRIVE[:place], bad, *RUN_DRIVE[place + 1:]]):
-            edge.want(shown(words), edge.call(words), Status.USAGE)
+    run: list[Word] = [*RUN_DRIVE]
+    for place in range(len(run) + 1):
+        for with_bad in ([*run[:place], bad, *run[place:]], [*run[:place], bad, *run[place + 1:]]):
+            edge.want(shown(with_bad), edge.call(with_bad), Status.USAGE)
     for word in (b'--cycles=\xc3', b'\xc3\x28.toml', b'\xed\xa0\x80', b'\xf4\x90\x80\x80'):
         edge.want(shown([word]), edge.call(['run', word, '--thread', '0', '--cycles', '5']), Status.USAGE)
     words = ['dump', 'h\u00e4fen.toml', '--cycles', '0']
@@ -224,7 +225,7 @@ def output_with_room(edge: Edge) -> None:
                       Status.OK if room == len(whole) else Status.WRITE, whole[:room])
 
 
-def limited(edge: Edge, words: list[Word], room: int) -> Seen:
+def limited(edge: Edge, words: Sequence[Word], room: int) -> Seen:
     """A call whose standard output is a file that may grow to `room` bytes; a write past it fails."""
     def limit() -> None:
         resource.setrlimit(resource.RLIMIT_FSIZE, (room, room))

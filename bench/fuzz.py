@@ -90,7 +90,8 @@ class Caller:
             os.ftruncate(stream, 0)
             os.lseek(stream, 0, os.SEEK_SET)
         streams = [(os.POSIX_SPAWN_DUP2, stream, k) for k, stream in enumerate((self.nothing, self.out, self.err))]
-        child = os.posix_spawn(self.program, [b'flexpret', *words], {}, file_actions=streams)
+        no_variables: dict[str, str] = {}
+        child = os.posix_spawn(self.program, [b'flexpret', *words], no_variables, file_actions=streams)
         return Ended(self.end_of(child), *(os.pread(stream, os.fstat(stream).st_size, 0) for stream in (self.out, self.err)))
 
     def end_of(self, child: int) -> int | None:
@@ -163,7 +164,7 @@ def wrong_of(ended: Ended) -> str | None:
         return 'no end in time'
     if ended.status < 0:
         return f'ended by {signal.Signals(-ended.status).name}'
-    if ended.status not in iter(Status):
+    if ended.status not in list(Status):
         return 'a status that is not listed'
     if ended.status in (Status.WRITE, Status.NO_MEMORY):
         return 'output and memory were there'

@@ -179,7 +179,7 @@ class Hostile:
 
     def thread(self, setup: bytes) -> bytes:
         """Mostly a hard thread of a setup, of which alone a section and a trace of its own are told."""
-        hard = HARD_THREAD.findall(setup)
+        hard: list[bytes] = HARD_THREAD.findall(setup)
         return self.chance.choice(hard) if hard and self.chance.random() < 0.8 else b'%d' % self.chance.randrange(8)
 
     def section(self, setup: bytes) -> list[bytes]:

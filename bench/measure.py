@@ -128,7 +128,7 @@ def ended(command: Sequence[str | Path], item: Item, folder: Path) -> str:
 
 def count(program: Path, item: Item, folder: Path) -> int:
     """The instructions of a call."""
-    tool = ['valgrind', '--tool=callgrind', '--callgrind-out-file=/dev/null', program]
+    tool: list[str | Path] = ['valgrind', '--tool=callgrind', '--callgrind-out-file=/dev/null', program]
     said = ended([*tool, *item.words], item, folder)
     return int(re.findall(r'Collected : (\d+)', said)[-1])
 
@@ -138,7 +138,7 @@ def seconds(program: Path, item: Item, folder: Path) -> float:
     with open(os.devnull, 'wb') as sink:
         child = subprocess.Popen([program, *(item.timed or item.words)], cwd=folder, stdout=sink)
     used = os.wait4(child.pid, 0)[2]
-    return used.ru_utime + used.ru_stime
+    return float(used.ru_utime + used.ru_stime)
 
 
 def memory(program: Path, item: Item, folder: Path) -> int:

@@ -24,7 +24,7 @@ class Status(enum.IntEnum):
     ROUTINES = 10
 
 
-COMPLAINTS = {
+COMPLAINTS: dict[int, bytes] = {
     Status.USAGE: b'flexpret: usage\n',
     Status.READ: b'flexpret: read failed\n',
     Status.WRITE: b'flexpret: write failed\n',

@@ -8,9 +8,10 @@ import re
 import subprocess
 import sys
 import tempfile
-from collections import Counter, defaultdict
-from collections.abc import Iterable, Sequence
+from collections import defaultdict
+from collections.abc import Iterable, Mapping, Sequence
 from dataclasses import dataclass, field
+from heapq import nlargest
 from pathlib import Path
 
 from checking import Bench
@@ -26,10 +27,15 @@ SHOWN = 4
 """How many kinds are told of a function."""
 
 
+def longest(kinds: Mapping[str, float], most: int) -> list[tuple[str, float]]:
+    """The kinds that took the most seconds."""
+    return nlargest(most, kinds.items(), key=lambda kind: kind[1])
+
+
 @dataclass
 class Spent:
     """Seconds by kind of module, and the bytes of the function's table of steps as it is kept."""
-    kinds: Counter[str] = field(default_factory=Counter)
+    kinds: dict[str, float] = field(default_factory=lambda: defaultdict(float))
     table: int = 0
 
     @property
@@ -37,7 +43,7 @@ class Spent:
         return sum(self.kinds.values())
 
     def row(self, name: str) -> str:
-        kinds = ', '.join(f'{kind} {took:.1f}' for kind, took in self.kinds.most_common(SHOWN) if took >= 0.1)
+        kinds = ', '.join(f'{kind} {took:.1f}' for kind, took in longest(self.kinds, SHOWN) if took >= 0.1)
         return f'{self.seconds:8.1f}  {name}  ({kinds}; table {self.table // 1000} KB)'
 
 
@@ -80,10 +86,11 @@ def check_anew(bench: Bench, crate: str) -> None:
 
 
 def tell(crate: str, by_function: dict[str, Spent], most: int) -> None:
-    kinds: Counter[str] = Counter()
+    kinds: dict[str, float] = defaultdict(float)
     for one in by_function.values():
-        kinds.update(one.kinds)
-    whole = ', '.join(f'{kind} {took:.0f}' for kind, took in kinds.most_common(SHOWN + 2))
+        for kind, took in one.kinds.items():
+            kinds[kind] += took
+    whole = ', '.join(f'{kind} {took:.0f}' for kind, took in longest(kinds, SHOWN + 2))
     print(f'{crate}: {sum(kinds.values()):.0f} seconds ({whole})')
     rows: Iterable[tuple[str, Spent]] = sorted(by_function.items(), key=lambda one: -one[1].seconds)[:most]
     for name, one in rows:
