@@ -230,6 +230,14 @@ def test_results_that_cannot_be_written_are_unknown(asking: Tool, tmp_path: Path
     assert "Traceback" not in ran.stderr
 
 
+def test_a_name_that_standard_output_cannot_take(asking: Tool, tmp_path: Path) -> None:
+    asking.environment["PYTHONIOENCODING"] = "ascii"
+    table = STEP.replace('"step"', '"étape"') + "cycles = 352"
+    status, lines = judged(asking, tmp_path, PID, table)
+    assert status == 2
+    assert lines[0].startswith("fp_budget: 'ascii' codec can't encode")
+
+
 def test_the_junit_file(asking: Tool, tmp_path: Path) -> None:
     words = (*PID, "--junit", str(tmp_path / "budgets.xml"))
     judged(asking, tmp_path, words, f"{STEP}cycles = 352", f"{STEP}cycles = 1", section("0x700", "0x704"))
