@@ -15,7 +15,7 @@ launches() {
 # The names of the sources, or of those that find's words choose.
 sources() {
     (cd "$top" && find crates.txt crates \( -name out -o -name incremental -o -name data -o -name must-fail \) -prune -o \
-        \( -name '*.rt' -o -name '*.antt' -o -name crates.txt \) "$@" -print) | LC_ALL=C sort
+        \( -name '*.rt' -o -name '*.antt' -o -name crates.txt \) "$@" -print 2>/dev/null) | LC_ALL=C sort
 }
 
 # Whether the sources are those that were built, whose names the stamp has: none went, none came, and none is newer.
