@@ -89,9 +89,9 @@ if ! script -qec true /dev/null </dev/null >/dev/null 2>&1; then
     exit $failed
 fi
 gets "$(tr '\n' '\r' <"$work/lines")" "${here[@]}"
-gets "" "${here[@]} --progress before >$work/out"
-gets "$(told 1048583)" "${here[@]} >$work/out"
+gets "" "${here[*]} --progress before >$work/out"
+gets "$(told 1048583)" "${here[*]} >$work/out"
 cmp "$work/lines" "$work/out" || failed=1
-gets "$(told 1048583)" "${here[@]} --vcd $work/out"
+gets "$(told 1048583)" "${here[*]} --vcd $work/out"
 gets "$(told 1048593)$("$view" "${behind[@]}" | tr '\n' '\r')" "${behind[@]}"
 exit $failed
