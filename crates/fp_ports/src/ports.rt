@@ -3,7 +3,7 @@
 //! A contract sees them as eight rows, one for each thread. Each call states the new row of its
 //! thread, and keeps the other seven.
 
-ghost use Rattle.std.specs.Prelude.{◌≡◌, ◌<◌, None, is_ok, if◌then◌else◌, slice_set, vec_len, OnOk, OnErr};
+ghost use Rattle.std.specs.Prelude.{◌≡◌, ◌<◌, None, true, is_ok, if◌then◌else◌, slice_set, vec_len, OnOk, OnErr};
 ghost use Rattle.fp_ports.specs.Rows.{row_of, rows_of, row_at, word_seen, latch_seen, written, fed};
 ghost use Rattle.fp_ports.specs.PortWords.{SameWords, fed_words};
 
@@ -50,6 +50,8 @@ pub fn feed_port(ports: &mut Ports, thread: u8, at: u64, word: u32) -> Result<()
         let row = row_at rows thread in
         rows_of latched word_at ports.new.items
         ≡ slice_set rows thread (if is_ok result then fed row at word else row) }
+    ensures none { row_at (rows_of latched word_at ports.old.items) thread ≡ None
+        → is_ok result ≡ true }
     ensures eight { vec_len ports.new ≡ 8 }
 {
     feed_entry(&mut ports[thread as usize], at, word)
@@ -94,8 +96,9 @@ fn write_entry(entry: &mut Option<Box<dyn Port>>, word: u32)
 }
 
 fn feed_entry(entry: &mut Option<Box<dyn Port>>, at: u64, word: u32) -> Result<(), AllocError>
-    ensures { let row = row_of latched word_at entry.old in
+    ensures row { let row = row_of latched word_at entry.old in
         row_of latched word_at entry.new ≡ (if is_ok result then fed row at word else row) }
+    ensures none { row_of latched word_at entry.old ≡ None → is_ok result ≡ true }
 {
     match entry {
         Some(port) => feed_box(port, at, word),

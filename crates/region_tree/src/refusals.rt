@@ -1,10 +1,11 @@
 //! Why a section with its loops has no bound.
 
-ghost use Rattle.std.specs.Prelude.{◌≡◌, ◌≢◌, ℕ, ◌+◌, ◌*◌, ◌<◌, ◌≤◌, ◌⊎◌, ◌↔◌, length, IsTrue, Contains, Option, MatchResult};
+ghost use Rattle.std.specs.Prelude.{◌≡◌, ◌≢◌, ℕ, ◌+◌, ◌*◌, ◌<◌, ◌≤◌, ◌⊎◌, ◌↔◌, length, IsTrue, Contains, Option, IfErr, MatchResult};
 ghost use Rattle.region_tree.specs.Graph.{Holds, Inside, Reachable};
 ghost use Rattle.region_tree.specs.Refusals.{Crosses, CrossedAt, DeepAt, EnteredAt, NestingAt, UnboundedAt, IsAllowed, IsRefused, depth, loop_at};
 ghost use Rattle.region_tree.specs.Search.{Before, CrossedHere, DeepHere, EntersOff, EnteredHere, EnteredBy, EnteredFrom, GoesBack, ReturnsBadly, IsMet, LowestOf, address, is_met, lower_of};
 ghost use Rattle.region_tree.specs.Tree.{IsDraft, graph};
+ghost use Rattle.region_tree.specs.declared.tree.TreeNo.TheVariants.{NoMemory};
 
 use crate::draft::Draft;
 use crate::edges::Stop;
@@ -251,7 +252,9 @@ fn unbounded(draft: &Draft, met: &[bool]) -> Option<u32>
 /// The first of the four kinds that the section has, with the lowest address at which it has it.
 pub fn check(draft: &Draft, met: &[bool]) -> Result<(), TreeNo>
     requires { IsMet draft.now met.now }
-    ensures { MatchResult result (λ _. IsAllowed (graph draft.now)) (IsRefused (graph draft.now)) }
+    ensures allowed { MatchResult result (λ _. IsAllowed (graph draft.now))
+        (IsRefused (graph draft.now)) }
+    ensures told { IfErr result (λ no. no ≢ NoMemory) }
 {
     if let Some(address) = nesting(draft, met) {
         return Err(TreeNo::Nesting { address });

@@ -6,4 +6,4 @@ use Rattle.fp_ports.proofs.ports.feed_port.Goals as goal
 pub returns-clause-rows : goal.returns-clause-rows
 returns-clause-rows g c =
     let inside : c.args.thread < length c.args.ports.now.items = omega arith in
-    rows_step _ _ _ _ _ _ c.index_mut.ensures.value inside (λ row. if is_ok c.feed_entry.result then fed row c.args.at c.args.word else row) c.feed_entry.ensures
+    rows_step _ _ _ _ _ _ c.index_mut.ensures.value inside (λ row. if is_ok c.feed_entry.result then fed row c.args.at c.args.word else row) c.feed_entry.ensures.row
