@@ -1,0 +1,56 @@
+"""The must-fail edits: each can be applied, and those of the table of wrong bodies are in the gate."""
+from __future__ import annotations
+
+import re
+import subprocess
+import sys
+from pathlib import Path
+
+import pytest
+from conftest import TOP
+
+sys.path.insert(0, str(TOP / "bench"))
+
+from edits import fault_of  # noqa: E402
+
+GATE = sorted(TOP.glob("crates/*/must-fail/*.edit"))
+MOVED = sorted(TOP.glob("bench/edits/*/*.edit"))
+
+
+def table() -> list[tuple[str, str]]:
+    """The crate and the wrong body of each edit that docs/TESTING.md lists."""
+    text = (TOP / "docs/TESTING.md").read_text()
+    rows = re.findall(r"^\| [^|]+ \| ([^|]+) \|$", text[text.index("| body | edits |") :], re.MULTILINE)
+    found = []
+    for row in rows:
+        for group in row.split(";"):
+            crate, colon, bodies = group.partition(":")
+            if colon and re.fullmatch(r"\s*\w+", crate):
+                found += [(crate.strip(), body.strip()) for body in bodies.split(",")]
+    return found
+
+
+@pytest.mark.parametrize("edit", GATE, ids=[f"{it.parents[1].name}/{it.stem}" for it in GATE])
+def test_an_edit_of_the_gate_can_be_applied(edit: Path) -> None:
+    assert fault_of(edit, edit.parents[1]) is None
+
+
+@pytest.mark.parametrize("edit", MOVED, ids=[f"{it.parent.name}/{it.stem}" for it in MOVED])
+def test_an_edit_outside_the_gate_can_be_applied(edit: Path) -> None:
+    assert fault_of(edit, TOP / "crates" / edit.parent.name) is None
+
+
+@pytest.mark.parametrize(("crate", "body"), table())
+def test_the_gate_has_each_edit_of_the_table(crate: str, body: str) -> None:
+    assert list((TOP / "crates" / crate / "must-fail").glob(f"*.{body}.edit"))
+
+
+def test_no_edit_is_in_both_places() -> None:
+    gate = {(it.parents[1].name, it.name) for it in GATE}
+    assert not gate & {(it.parent.name, it.name) for it in MOVED}
+
+
+def test_an_unknown_crate_is_named() -> None:
+    ran = subprocess.run([sys.executable, TOP / "bench/edits.py", "nosuch"], capture_output=True, text=True, check=False)
+    assert ran.returncode == 2
+    assert "nosuch: no folder of bench/edits has this name" in ran.stderr
