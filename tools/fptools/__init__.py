@@ -2,11 +2,19 @@
 import importlib.util
 import sys
 
-# What the tools are made of beyond Python itself: the module's name and the package's.
-NEEDED = {"elftools": "pyelftools", "jsonschema": "jsonschema"}
+# What the tools are made of beyond Python itself: the module's name, that of pip's package, and that of Debian's.
+NEEDED = {
+    "elftools": ("pyelftools", "python3-pyelftools"),
+    "jsonschema": ("jsonschema", "python3-jsonschema"),
+    "networkx": ("networkx", "python3-networkx"),
+}
 
-_missing = [package for module, package in NEEDED.items() if importlib.util.find_spec(module) is None]
+_missing = [packages for module, packages in NEEDED.items() if importlib.util.find_spec(module) is None]
 if _missing or sys.version_info < (3, 11):
+    version = ".".join(map(str, sys.version_info[:3]))
+    print(f"the tools run by {sys.executable}, which is Python {version}; they need 3.11 or later", file=sys.stderr)
+    for pip, debian in _missing:
+        print(f"  its package {pip} is missing: {sys.executable} -m pip install {pip}, or, for Debian's own", file=sys.stderr)
+        print(f"  /usr/bin/python3, apt-get install {debian} and call /usr/bin/python3 {sys.argv[0]} ..", file=sys.stderr)
     # Status 2 says of every tool that it couldn't do its work.
-    print(f"the tools need Python 3.11 or later and {' and '.join(NEEDED.values())}", file=sys.stderr)
     sys.exit(2)

@@ -3,7 +3,7 @@ from __future__ import annotations
 
 import re
 from bisect import bisect_right
-from dataclasses import dataclass
+from dataclasses import dataclass, field
 from functools import cached_property
 from pathlib import Path
 from typing import Any, Collection, Iterable, Iterator
@@ -40,13 +40,23 @@ class Function:
 
 @dataclass(frozen=True)
 class Line:
-    """A line of a source."""
+    """A line of a source, and the column in it, from 1 on; 0 where none is known."""
 
     file: Path
     number: int
+    column: int = field(default=0, compare=False)
 
     def __str__(self) -> str:
         return f"{self.file.name}:{self.number}"
+
+
+@dataclass(frozen=True)
+class Inlined:
+    """The addresses of a function that was put in place of a call, and the line of that call."""
+
+    start: int
+    end: int
+    call: Line
 
 
 # From which address on a line counts, or none.
@@ -128,6 +138,32 @@ class Program:
         index = bisect_right(self._lines, address, key=lambda row: row[0]) - 1
         return self._lines[index][1] if index >= 0 else None
 
+    @property
+    def all_lines(self) -> list[Line]:
+        """The source lines that some address was compiled from."""
+        return sorted({line for _, line in self._lines if line is not None}, key=lambda it: (it.file, it.number))
+
+    def call_line_of(self, address: int) -> Line | None:
+        """The line of an address in the function that was compiled: for the code of an inlined one, where it is called."""
+        inlined = [it for it in self._inlined if it.start <= address < it.end]
+        # An inlined function that is called in another lies in it: the widest is called in the function itself.
+        return max(inlined, key=lambda it: it.end - it.start).call if inlined else self.line_of(address)
+
+    @cached_property
+    def _inlined(self) -> list[Inlined]:
+        """The functions that the compiler put in place of calls."""
+        if self.path is None:
+            return []
+        with self.path.open("rb") as file:
+            elf = ELFFile(file)
+            if not elf.has_dwarf_info():
+                return []
+            try:
+                dwarf = elf.get_dwarf_info()
+                return [it for unit in dwarf.iter_CUs() for it in _inlined_of(dwarf, unit)]
+            except (ELFError, DWARFError, *FAULTS):
+                return []  # a form of DWARF that isn't known: each address has its own line
+
     @cached_property
     def _lines(self) -> list[Row]:
         """From which address on which line counts; None from the end of what was compiled together."""
@@ -179,8 +215,42 @@ def _rows_of(dwarf: Any, unit: Any) -> Iterator[Row]:
         state = entry.state
         if state is None:
             continue
-        line = Line(_file_of(table, state.file, base), state.line)
+        line = Line(_file_of(table, state.file, base), state.line, state.column)
         yield state.address, None if state.end_sequence else line
+
+
+def _inlined_of(dwarf: Any, unit: Any) -> Iterator[Inlined]:
+    """The inlined functions of a unit, a piece for each range of addresses."""
+    table = dwarf.line_program_for_CU(unit)
+    top = unit.get_top_DIE()
+    folder = top.attributes.get("DW_AT_comp_dir")
+    base = Path(folder.value.decode()) if folder else Path()
+    for entry in unit.iter_DIEs():
+        known = entry.attributes
+        if entry.tag != "DW_TAG_inlined_subroutine" or "DW_AT_call_line" not in known:
+            continue
+        line = Line(_file_of(table.header, known["DW_AT_call_file"].value, base), known["DW_AT_call_line"].value)
+        for start, end in _ranges_of(dwarf, unit, entry):
+            yield Inlined(start, end, line)
+
+
+def _ranges_of(dwarf: Any, unit: Any, entry: Any) -> Iterator[tuple[int, int]]:
+    """The ranges of addresses of an entry."""
+    known = entry.attributes
+    if "DW_AT_low_pc" in known and "DW_AT_high_pc" in known:
+        low, high = known["DW_AT_low_pc"].value, known["DW_AT_high_pc"]
+        yield low, high.value if high.form == "DW_FORM_addr" else low + high.value
+    if "DW_AT_ranges" not in known:
+        return
+    top = unit.get_top_DIE().attributes.get("DW_AT_low_pc")
+    base = top.value if top else 0
+    ranges = dwarf.range_lists()
+    for piece in ranges.get_range_list_at_offset(known["DW_AT_ranges"].value, unit):
+        if hasattr(piece, "base_address"):
+            base = piece.base_address
+            continue
+        is_absolute = getattr(piece, "is_absolute", False)
+        yield (piece.begin_offset, piece.end_offset) if is_absolute else (base + piece.begin_offset, base + piece.end_offset)
 
 
 def _file_of(table: Any, number: int, base: Path) -> Path:

@@ -1,15 +1,20 @@
-"""The loops of a section as tables for a setup, with bounds that the sources state."""
+"""The loops of a section as tables for a setup, with bounds that the sources state.
+
+A round is an execution of the loop's body as its source has it. A loop of N rounds goes back at most N times. It goes
+back N - 1 times if its source has the body before the test, or if the code counts N rounds."""
 from __future__ import annotations
 
 import re
 from dataclasses import dataclass
 from pathlib import Path
-from typing import Iterator
+from typing import Collection, Iterator, Mapping
 
-from fptools.elf import Program
-from fptools.rounds import counted_rounds, jumps_of
-from fptools.section import Exit, Loop, Section
+from fptools.elf import Line, Program
+from fptools.rounds import rounds_in
+from fptools.section import Loop, Section
 from fptools.sources import Sources
+from fptools.values import Values, jumps_of
+from fptools.words import Flow
 
 # A number alone: one that goes on, as in `4 * WIDTH` or `4..8`, states nothing.
 ROUNDS = re.compile(r"@rounds\b(?:\s+(\d{1,9})(?=\s*(?:\*/|$)|[,;:.)](?:\s+\D|\s*$)))?")
@@ -24,6 +29,8 @@ class Comment:
     file: Path
     line: int
     rounds: int | None
+    # The line that it is for, which is below a line of its own.
+    of_line: int = 0
 
 
 @dataclass(frozen=True)
@@ -33,24 +40,41 @@ class StatedLoop:
     loop: Loop
     stated: frozenset[int | None]  # rounds, by the sources
     counted: int | None  # rounds, read off the code
-    is_shared: bool = False  # with a loop around or inside
+    why: str = ""  # why the sources' rounds aren't certain to be of this loop
+    is_body_first: bool = False  # whether the source has the body before the test
+
+    @property
+    def rounds(self) -> int | None:
+        """The rounds, where the sources state one number of this loop."""
+        (rounds, *more) = self.stated or {None}
+        return None if self.why or more else rounds
 
     @property
     def bound(self) -> int | None:
         """How often it goes back, where the sources state one number of rounds that a setup takes."""
-        if self.is_shared or len(self.stated) != 1:
+        if not self.rounds or not self.loop.is_interval:
             return None
-        (rounds,) = self.stated
-        return rounds - 1 if rounds and rounds - 1 <= MOST_BOUND else None
+        is_less = self.is_body_first or self.counted == self.rounds
+        bound = self.rounds - 1 if is_less else self.rounds
+        return bound if bound <= MOST_BOUND else None
+
+    @property
+    def least(self) -> int | None:
+        """The least bound that is certain to be kept: by the code where it counts, else by the sources."""
+        if self.counted is not None and self.loop.is_interval:
+            return self.counted - 1
+        return self.bound
 
     @property
     def doubt(self) -> str:
         """What speaks against the stated rounds, or helps to state them."""
         counts = "" if self.counted is None else f"the code counts {self.counted}"
+        if not self.loop.is_interval:
+            return "it is entered elsewhere than at its head, or a part of it lies before its head"
         if not self.stated:
             return "no `@rounds N` in the sources" + (f"; {counts}" if counts else "")
-        if self.is_shared:
-            return "a loop around or inside has the same `@rounds`"
+        if self.why:
+            return self.why + (f"; {counts}" if counts else "")
         if None in self.stated:
             return "no number alone follows `@rounds`"
         rounds, *more = sorted(number for number in self.stated if number is not None)
@@ -60,26 +84,91 @@ class StatedLoop:
             return f"{counts} rounds, the sources state {rounds}"
         if rounds == 0:
             return "a loop that is entered makes a round"
-        return f"a setup takes {MOST_BOUND} at most" if rounds - 1 > MOST_BOUND else ""
+        return f"a setup takes {MOST_BOUND} at most" if self.bound is None else ""
 
 
 class Comments:
-    """Which comments of the sources are of which loop."""
+    """Which comments of the sources are of which loop of a section."""
 
-    def __init__(self, program: Program, sources: Sources) -> None:
-        self.program, self.sources = program, sources
+    def __init__(self, section: Section, program: Program, sources: Sources) -> None:
+        self.section, self.program, self.sources = section, program, sources
 
     def of_loop(self, loop: Loop) -> frozenset[Comment]:
-        """Those of the branches that go back, and those of the head that stand above or beside one of these: further
-        down they are of what the loop has inside."""
-        backs = [line for pc in loop.backs if (line := self.program.line_of(pc))]
+        """Those of the branches that go back. Where none of them has one: those of the head that stand above or beside
+        them, as further down they are of what the loop has inside."""
         own = {comment for pc in loop.backs for comment in self._at(pc)}
-        heads = {
+        if own:
+            return frozenset(own)
+        lines = [line for pc in loop.backs if (line := self.program.line_of(pc))]
+        return frozenset(
             comment
             for comment in self._at(loop.head)
-            if any(comment.file == line.file and comment.line <= line.number for line in backs)
+            if any(comment.file == line.file and comment.line <= line.number for line in lines)
+        )
+
+    def why_not(self, loop: Loop, own: Collection[Comment]) -> str:
+        """Why it isn't certain that comments are of this loop, and of it alone; empty where it is."""
+        unstated = [pc for pc in loop.backs if not set(self._at(pc)) & set(own)]
+        if len(loop.backs) > 1 and unstated:
+            where = self._where(unstated[0])
+            return f"of its {len(loop.backs)} back edges {where} states no rounds: two loops may have one head"
+        if len({(comment.file, comment.line) for comment in own}) > 1:
+            return "several comments `@rounds` are of it: two loops may have one head"
+        columns = {line.column if line else 0 for line in map(self.program.line_of, loop.backs)}
+        if len(loop.backs) > 1 and (len(columns) > 1 or 0 in columns):
+            return "its back edges are of several places of one line: two loops may have one head"
+        comment = next(iter(own))
+        if unstated and not self._goes_back_in(unstated[0], comment):
+            return f"{self._where(unstated[0])} isn't certain to go back in the loop with `@rounds`"
+        if self.sources.hides_loops(comment.file, comment.of_line) > self._words_of_one(comment):
+            return "the line of `@rounds` has several loops: write each in a line of its own"
+        merged = self._merged(loop, comment)
+        return f"the loop in {merged} has no head of its own in the code" if merged else ""
+
+    def _goes_back_in(self, pc: int, comment: Comment) -> bool:
+        """Whether no loop of the source inside the stated one has the line of a branch that goes back."""
+        line = self.program.line_of(pc)
+        inner = self.sources.innermost(line.file, line.number) if line else None
+        return inner is None or comment.of_line in (inner.first, inner.last)
+
+    def is_body_first(self, comment: Comment) -> bool:
+        loops = self.sources.loops_from(comment.file, comment.of_line)
+        return len(loops) == 1 and loops[0].is_body_first
+
+    def _words_of_one(self, comment: Comment) -> int:
+        """How many words of its line a single loop has: two where a `do` has its `while` beside it."""
+        loops = self.sources.loops_from(comment.file, comment.of_line)
+        is_whole_do = len(loops) == 1 and loops[0].is_body_first and loops[0].first == loops[0].last
+        return 2 if is_whole_do else 1
+
+    def _merged(self, loop: Loop, comment: Comment) -> Line | None:
+        """A loop of the sources inside the stated one that has no loop of its own in the code. The compiler may have
+        unrolled it; or the two go back by one edge."""
+        inside = [it for it in self.section.loops if it is not loop and it.head in loop.body]
+        owned = {
+            line for it in inside for pc in (*it.backs, *it.exits) if (line := self.program.line_of(pc))
         }
-        return frozenset(own | heads)
+        own = set(loop.body).difference(*(it.body for it in inside))
+        branches = [pc for pc in sorted(own) if self.section.reached[pc].flow is Flow.BRANCH]
+        lines = {line for pc in branches if (line := self.program.line_of(pc))}
+        for text in self.sources.loops_from(comment.file, comment.of_line):
+            lines |= {Line(comment.file, number) for number in range(text.first, text.last + 1)}
+            owned |= {Line(comment.file, number) for number in (text.first, text.last)}
+        owned.add(Line(comment.file, comment.of_line))
+        for line in sorted(lines - owned, key=str):
+            if self.sources.hides_loops(line.file, line.number) and not self._is_end_of_do(line, owned):
+                return line
+        return None
+
+    def _is_end_of_do(self, line: Line, owned: Collection[Line]) -> bool:
+        """Whether a loop that begins or ends in a line does so at its other end in a line that is accounted for."""
+        loops = self.sources.loops_from(line.file, line.number)
+        ends = [{Line(line.file, it.first), Line(line.file, it.last)} for it in loops]
+        return bool(ends) and all(lines & set(owned) for lines in ends)
+
+    def _where(self, pc: int) -> str:
+        line = self.program.line_of(pc)
+        return f"that at {pc:#x}" + (f" ({line})" if line else "")
 
     def _at(self, address: int) -> list[Comment]:
         """Those in the source line of an address, or in a comment line right above it."""
@@ -92,31 +181,46 @@ class Comments:
             texts.append((line.number - 1, above))
         found = ((number, ROUNDS.findall(text)) for number, text in texts)
         number, stated = next(((number, all_of) for number, all_of in found if all_of), (0, []))
-        return [Comment(line.file, number, int(rounds) if rounds else None) for rounds in stated]
+        return [
+            Comment(line.file, number, int(rounds) if rounds else None, line.number) for rounds in stated
+        ]
 
 
 def _overlap(one: Loop, other: Loop) -> bool:
     return one is not other and one.head <= other.last and other.head <= one.last
 
 
-def state_loops(section: Section, program: Program, sources: Sources) -> list[StatedLoop]:
-    jumps = jumps_of(program.words)
-    comments = {loop: Comments(program, sources).of_loop(loop) for loop in section.loops}
-    return [
-        StatedLoop(
-            loop,
-            frozenset(comment.rounds for comment in own),
-            counted_rounds(program.words, jumps, loop.head, loop.last),
-            any(own & comments[other] for other in section.loops if _overlap(loop, other)),
-        )
-        for loop, own in comments.items()
-    ]
+def state_loops(
+    section: Section,
+    program: Program,
+    sources: Sources,
+    entries: Collection[int] = (),
+    words: Mapping[int, int] | None = None,
+) -> list[StatedLoop]:
+    """What is known of the loops of a section. Code is also entered at `entries`, as those of threads. The words are
+    those of the executable, or others that were made of it."""
+    words = program.words if words is None else words
+    jumps = jumps_of(words)
+    function = program.function_at(section.start)
+    values = Values(words, function.start if function else section.start, jumps, entries)
+    known = Comments(section, program, sources)
+    comments = {loop: known.of_loop(loop) for loop in section.loops}
+    loops = []
+    for loop, own in comments.items():
+        why = known.why_not(loop, own) if own else ""
+        if any({*own} & {*comments[other]} for other in section.loops if _overlap(loop, other)):
+            why = "a loop around or inside has the same `@rounds`"
+        counted = rounds_in(section, loop, values, jumps, entries)
+        is_body_first = bool(own) and known.is_body_first(next(iter(own)))
+        stated = frozenset(comment.rounds for comment in own)
+        loops.append(StatedLoop(loop, stated, counted, why, is_body_first))
+    return loops
 
 
 def table(stated: StatedLoop, program: Program) -> str:
     """The table of a loop for a setup; one whose bound isn't stated has `?` in its place, which no setup takes."""
     loop = stated.loop
-    line = program.line_of(loop.last)
+    line = program.line_of(max(loop.backs))
     where = f"{program.name_of(loop.head)} to {program.name_of(loop.last)}" + (f", {line}" if line else "")
     doubt = f"  # {stated.doubt}" if stated.doubt else ""
     bound = "?" if stated.bound is None else stated.bound
@@ -124,13 +228,13 @@ def table(stated: StatedLoop, program: Program) -> str:
 
 
 def ways_out(section: Section, program: Program) -> Iterator[str]:
-    """How the section is left, a line for each way."""
+    """How the section is left, a line for each edge."""
     for way in section.ways_out:
         to = "" if way.to is None else f" to {way.to:#x} {program.name_of(way.to)}".rstrip()
         yield f"# {way.word.pc:#x} {program.name_of(way.word.pc)}{to}: {way.exit.value}"
 
 
 def is_whole(section: Section, loops: list[StatedLoop]) -> bool:
-    """Whether every loop has its bound and the section's end is the only way out, and one."""
-    only_end = all(way.exit is Exit.END for way in section.ways_out)
+    """Whether every loop has its bound and the section is left as meant alone."""
+    only_end = all(way.exit is section.way_of_end for way in section.ways_out)
     return section.ends and only_end and all(it.bound is not None and not it.doubt for it in loops)

@@ -1,51 +1,16 @@
 """How many rounds a counting loop makes, read off the code where its form says so."""
 from __future__ import annotations
 
-from collections import defaultdict
-from dataclasses import dataclass
-from typing import Mapping
+from typing import Collection, Mapping
 
-from fptools.setup import DATA_START
+from fptools.section import Loop, Section, dominates
+from fptools.values import State, Value, Values, adds, after, jumps_of, unknown, written_by
 from fptools.words import Flow, Word
 
-OPCODE_LUI = 0x37
-OPCODE_IMMEDIATE = 0x13
-OPCODES_WITHOUT_RESULT = (0x23, 0x63)  # stores and branches
-ADDI = 0
+__all__ = ["counted_rounds", "jumps_of", "rounds_in"]
+
 BNE, BLT, BLTU = 1, 4, 6
 MOST_BEFORE = 64
-
-
-@dataclass(frozen=True)
-class Value:
-    """A number, or what a word (by its address) or a register (-1 - its number) gave, and a distance from it."""
-
-    origin: int | None
-    offset: int
-
-
-def _signed(number: int) -> int:
-    """A number as 32 bits with a sign hold it."""
-    return (number + 2**31) % 2**32 - 2**31
-
-
-def _writes(word: Word) -> int:
-    """The register that a word changes; 0 for none."""
-    return 0 if word.opcode in OPCODES_WITHOUT_RESULT else word.rd
-
-
-def _adds(word: Word) -> bool:
-    return word.opcode == OPCODE_IMMEDIATE and word.funct3 == ADDI
-
-
-def jumps_of(words: Mapping[int, int]) -> dict[int, set[int]]:
-    """The words that branches and jumps of code lead to, each with where they stand."""
-    jumps: dict[int, set[int]] = defaultdict(set)
-    for pc, bits in words.items():
-        target = Word(pc, bits).target
-        if pc < DATA_START and target is not None:
-            jumps[target].add(pc)
-    return jumps
 
 
 def _straight_before(words: Mapping[int, int], jumps: Mapping[int, set[int]], head: int) -> int:
@@ -58,30 +23,13 @@ def _straight_before(words: Mapping[int, int], jumps: Mapping[int, set[int]], he
     return start
 
 
-def _values_at(words: Mapping[int, int], start: int, head: int) -> dict[int, Value]:
-    """The registers at a loop's head as the straight code from `start` on sets them."""
-    values = {register: Value(-1 - register, 0) for register in range(1, 32)} | {0: Value(None, 0)}
-    for pc in range(start, head, 4):
-        word = Word(pc, words[pc])
-        if _adds(word):
-            base = values[word.rs1]
-            value = Value(base.origin, _signed(base.offset + word.immediate))
-        elif word.opcode == OPCODE_LUI:
-            value = Value(None, _signed(word.field(12, 20) << 12))
-        else:
-            value = Value(pc, 0)
-        if _writes(word):
-            values[_writes(word)] = value
-    return values
-
-
-def _step(body: list[Word], register: int) -> int | None:
-    """What a round adds to a register: 0 if nothing changes it, None if that can't be said."""
-    changes = [word for word in body if _writes(word) == register and register]
+def _step(body: list[Word], always: Collection[Word], register: int) -> int | None:
+    """What a round adds to a register: 0 if nothing changes it, None if that isn't known."""
+    changes = [word for word in body if written_by(word) == register and register]
     if not changes:
         return 0
-    is_plain = len(changes) == 1 and _adds(changes[0]) and changes[0].rs1 == register
-    return changes[0].immediate if is_plain else None
+    is_plain = len(changes) == 1 and adds(changes[0]) and changes[0].rs1 == register
+    return changes[0].immediate if is_plain and changes[0] in always else None
 
 
 def _rounds(funct3: int, start: Value, limit: Value, step: int) -> int | None:
@@ -92,9 +40,16 @@ def _rounds(funct3: int, start: Value, limit: Value, step: int) -> int | None:
     way = end - first
     if funct3 == BNE:
         return way // step if way % step == 0 and way // step > 0 else None
-    # What is compared with what isn't known may have wrapped.
-    is_known = start.origin is None or min(first, end) >= 0
-    return max(1, -(-way // step)) if step > 0 and is_known else None
+    if step <= 0 or not _meets_limit(funct3, start, first, end, step):
+        return None
+    return max(1, -(-way // step))
+
+
+def _meets_limit(funct3: int, start: Value, first: int, end: int, step: int) -> bool:
+    """Whether a rising counter can't wrap past its limit. What isn't known may be anywhere: it has to hit the limit."""
+    if start.origin is not None:
+        return min(first, end) >= 0 and (end - first) % step == 0
+    return max(first, end) + step < (2**32 if funct3 == BLTU else 2**31)
 
 
 def counted_rounds(
@@ -102,14 +57,51 @@ def counted_rounds(
 ) -> int | None:
     """The rounds of a loop of straight code that counts by one step against a limit, from numbers set before it."""
     *body, back = [Word(pc, words.get(pc, 0)) for pc in range(head, last + 4, 4)]
-    is_straight = jumps.get(head) == {last} and all(word.flow is Flow.NEXT for word in body)
-    if not is_straight or back.flow is not Flow.BRANCH or back.funct3 not in (BNE, BLT, BLTU):
+    if jumps.get(head) != {last} or any(word.flow is not Flow.NEXT for word in body):
         return None
-    values = _values_at(words, _straight_before(words, jumps, head), head)
+    start = _straight_before(words, jumps, head)
+    state = unknown(start)
+    for pc in range(start, head, 4):
+        state = after(Word(pc, words[pc]), state)
+    return _counted(state, head, body, body, back)
+
+
+def rounds_in(
+    section: Section, loop: Loop, values: Values, jumps: Mapping[int, set[int]], entries: Collection[int] = ()
+) -> int | None:
+    """The most rounds of a loop of any form that ends in a comparison of a counter with a limit, if one word of each
+    round adds to the counter, and numbers set before the loop give both. Code is also entered at `entries`."""
+    head, (last, *more) = loop.head, loop.backs
+    if more or not loop.is_interval or jumps.get(head) != {last} or head in entries:
+        return None
+    state = values.entering(head, loop.body)
+    inside = [other for other in section.loops if other.head in loop.body and other is not loop]
+    if state is None or not all(other.is_natural for other in inside):
+        return None
+    body = [section.reached[pc] for pc in sorted(loop.body - {last})]
+    back = section.reached[last]
+    calls = [word.target for word in body if word.flow is Flow.CALL and word.target is not None]
+    if any({back.rs1, back.rs2} & (values.clobbered(target) - {0}) for target in calls):
+        return None
+    always = {
+        word
+        for word in body
+        if dominates(section, word.pc, last) and not any(word.pc in other.body for other in inside)
+    }
+    return _counted(state, head, body, always, back)
+
+
+def _counted(
+    state: State, head: int, body: list[Word], always: Collection[Word], back: Word
+) -> int | None:
+    """The rounds of a loop by what registers hold where it is entered, its words, those that each round issues once, and
+    the branch that goes back."""
+    if back.flow is not Flow.BRANCH or back.funct3 not in (BNE, BLT, BLTU) or back.target != head:
+        return None
     counter, limit = back.rs1, back.rs2
-    if back.funct3 == BNE and _step(body, counter) == 0:
+    if back.funct3 == BNE and _step(body, always, counter) == 0:
         counter, limit = limit, counter
-    step = _step(body, counter)
-    if not step or _step(body, limit) != 0 or values[counter].origin != values[limit].origin:
+    step = _step(body, always, counter)
+    if not step or _step(body, always, limit) != 0 or state[counter].origin != state[limit].origin:
         return None
-    return _rounds(back.funct3, values[counter], values[limit], step)
+    return _rounds(back.funct3, state[counter], state[limit], step)

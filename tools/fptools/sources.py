@@ -3,6 +3,7 @@ from __future__ import annotations
 
 from pathlib import Path
 
+from fptools.ctext import KEYWORD, NAME, CText, LoopText, is_c
 from fptools.elf import Line
 
 
@@ -11,7 +12,10 @@ class Sources:
 
     def __init__(self, folder: Path | None) -> None:
         self.folder = folder
+        self._texts: dict[Path, str] = {}
         self._lines: dict[Path, list[str]] = {}
+        self._c: dict[Path, CText] = {}
+        self._hiding: dict[Path, frozenset[str]] = {}
 
     def text(self, line: Line) -> str:
         """The text of a line; empty where its source isn't found, or has no such line."""
@@ -19,12 +23,53 @@ class Sources:
 
     def text_at(self, file: Path, number: int) -> str:
         if file not in self._lines:
-            found = self._find(file)
-            # What a comment has beyond UTF-8 is no fault of an executable, and a form feed ends no line.
-            text = found.read_text(encoding="utf-8", errors="replace") if found else ""
-            self._lines[file] = text.split("\n")
+            self._lines[file] = self._text(file).split("\n")
         lines = self._lines[file]
         return lines[number - 1] if 0 < number <= len(lines) else ""
+
+    def loops_from(self, file: Path, number: int) -> list[LoopText]:
+        """The loops of a C source that begin or end in a line."""
+        return [it for it in self._code(file).loops if number in (it.first, it.last)]
+
+    def innermost(self, file: Path, number: int) -> LoopText | None:
+        """The smallest loop of a C source around a line."""
+        around = [it for it in self._code(file).loops if it.first <= number <= it.last]
+        return min(around, key=lambda it: (it.last - it.first, -it.first)) if around else None
+
+    def hides_loops(self, file: Path, number: int) -> int:
+        """How many words of a line are `for`, `while`, `do` or `goto`, or a macro with one of them; 0 in assembler."""
+        if not is_c(file):
+            return 0
+        line = self._code(file).line(number)
+        macros = self._macros_with_loops(file)
+        return len(KEYWORD.findall(line)) + sum(name in macros for name in NAME.findall(line))
+
+    def _text(self, file: Path) -> str:
+        if file not in self._texts:
+            found = self._find(file)
+            # What a comment has beyond UTF-8 is no fault of an executable, and a form feed ends no line.
+            self._texts[file] = found.read_text(encoding="utf-8", errors="replace") if found else ""
+        return self._texts[file]
+
+    def _code(self, file: Path) -> CText:
+        if file not in self._c:
+            self._c[file] = CText(self._text(file) if is_c(file) else "")
+        return self._c[file]
+
+    def _macros_with_loops(self, file: Path) -> frozenset[str]:
+        """The macros of a source, and of the sources beside it that it includes, with a loop in their text."""
+        if file not in self._hiding:
+            macros: dict[str, str] = {}
+            ahead, seen = [file], {file}
+            while ahead:
+                code = self._code(ahead[-1])
+                folder = ahead.pop().parent
+                macros |= code.macros
+                new = {folder / name for name in code.included} - seen
+                seen |= new
+                ahead += new
+            self._hiding[file] = _with_loops(macros)
+        return self._hiding[file]
 
     def _find(self, file: Path) -> Path | None:
         """In a folder the file with the most of the name's own folders, as `src/io/port.c` before `port.c`."""
@@ -33,3 +78,13 @@ class Sources:
             parts = file.parts[1:] if file.is_absolute() else file.parts
             names = [self.folder.joinpath(*parts[at:]) for at in range(len(parts))]
         return next((name for name in names if name.is_file()), None)
+
+
+def _with_loops(macros: dict[str, str]) -> frozenset[str]:
+    """The macros whose text has a loop, or a macro that has one."""
+    found = {name for name, text in macros.items() if KEYWORD.search(text)}
+    while True:
+        more = {name for name, text in macros.items() if found & set(NAME.findall(text))} - found
+        if not more:
+            return frozenset(found)
+        found |= more

@@ -9,12 +9,17 @@ OPCODE_JALR = 0x67
 OPCODE_JAL = 0x6F
 OPCODE_SYSTEM = 0x73
 OPCODE_TIMING = 0x0B
+OPCODE_LOAD, OPCODE_STORE = 0x03, 0x23
+OPCODE_LUI, OPCODE_AUIPC = 0x37, 0x17
+OPCODE_IMMEDIATE = 0x13
 
 ECALL, EBREAK, MRET = 0x0000_0073, 0x0010_0073, 0x3020_0073
+RETURN = 0x0000_8067  # jalr x0, 0(x1)
 
 FUNCT3_WAITS = (2, 3)  # DU, WU
 FUNCT3_EXPIRE = 4  # EE
 CSR_MTVEC = 0x305
+CONFIGURATION = (0x7C0, 0x7C1, 0x7C2, 0x7C3)  # slots, modes, dregions, iregions
 RETURN_ADDRESS = 1
 
 # The instructions of the core: which bits of a word are fixed, and what they are.
@@ -124,8 +129,24 @@ class Word:
         return self.pc + 4
 
     @property
+    def csr(self) -> int | None:
+        """The control and status register that it uses."""
+        return self.field(20, 12) if self.opcode == OPCODE_SYSTEM and self.funct3 % 4 != 0 else None
+
+    @property
     def writes_mtvec(self) -> bool:
-        return self.opcode == OPCODE_SYSTEM and self.funct3 % 4 != 0 and self.field(20, 12) == CSR_MTVEC
+        return self.csr == CSR_MTVEC
+
+    @property
+    def writes_configuration(self) -> bool:
+        """Whether it writes slots, modes or regions: CSRRW does, CSRRS and CSRRC do but for x0 and 0."""
+        return self.is_code and self.csr in CONFIGURATION and (self.funct3 % 4 == 1 or self.rs1 != 0)
+
+    @property
+    def may_trap(self) -> bool:
+        """Whether it may trap by itself: a load or store, a CSR instruction, a jump through a register, or no code."""
+        kinds = (OPCODE_LOAD, OPCODE_STORE, OPCODE_SYSTEM, OPCODE_JALR)
+        return self.opcode in kinds or not self.is_code
 
     @property
     def traps_by_intent(self) -> bool:

@@ -33,7 +33,7 @@ class Tool:
     def __call__(self, *words: object, given: str = "") -> subprocess.CompletedProcess[str]:
         tool, *rest = map(str, words)
         return subprocess.run(
-            [str(TOOLS / tool), *rest], cwd=self.folder, env=self.environment, input=given,
+            [sys.executable, str(TOOLS / tool), *rest], cwd=self.folder, env=self.environment, input=given,
             capture_output=True, text=True, check=False, timeout=60,
         )  # fmt: skip
 

@@ -7,15 +7,19 @@ from xml.etree import ElementTree
 
 import pytest
 from conftest import TOP, Tool
-from fptools.budgets import Budget, Judge, Verdict
+from fptools.budgets import HELP, Budget, Judge, Verdict
 from fptools.elf import Function, Program
 from fptools.image import read_image
 from fptools.program import Flexpret
 from fptools.setup import read_setup
 
 PID = ("examples/c/pid.toml", "--elf", "examples/c/pid.elf")
-STEP_NOTE = "fp_budget: T0 step: 0xc0 step_begin+0xc: an EE; the bound ends where its moment expires"
-STEP = 'name = "step"\nthread = 0\nfrom = "step_begin"\nto = "step_end"\n'
+COMES_BACK = "0x50 on_trap+0x34: MRET goes on where a trap was; 0xc0 step_begin+0xc: an EE"
+STEP_NOTE = f"fp_budget: T0 step: assumes no traps: it is of executions without a trap ({COMES_BACK})"
+PLAIN_STEP = 'name = "step"\nthread = 0\nfrom = "step_begin"\nto = "step_end"\n'
+STEP = f'{PLAIN_STEP}assume = ["no traps"]\n'
+CALLS = "calls = true goes through functions that are called by x1"
+ELSEWHERE = "lay the code out by fp_layout, or name the address in `exits` if it may end there"
 
 
 def judged(asking: Tool, folder: Path, words: tuple[str, ...], *tables: str) -> tuple[int, list[str]]:
@@ -46,14 +50,14 @@ def test_a_budget_that_holds_and_one_that_is_over(asking: Tool, tmp_path: Path) 
 @pytest.mark.parametrize(
     ("setup", "start", "end", "why"),
     [
-        ("stack", "0x10", "0x14", "0x10 to 0x100: a call leaves the section: a bound ends here"),
-        ("nest", "0x10", "0x18", "0x14 to 0xc: leaves for another address: a bound ends here"),
-        ("nest", "0x24", "0x30", "status 6: refused bound 4 UnboundedBackEdge 00000024"),
-        ("nest", "0x40", "0x50", "0x40: no code is here: a bound ends here"),
+        ("stack", "0x10", "0x14", f"0x10 to 0x100: a call leaves the section: a bound ends here; {CALLS}"),
+        ("nest", "0x10", "0x18", f"0x14 to 0xc: leaves for another address: a bound ends here; {ELSEWHERE}"),
+        ("nest", "0x24", "0x30", f"status 6: refused bound 4 UnboundedBackEdge 00000024: {HELP['UnboundedBackEdge']}"),
+        ("nest", "0x40", "0x50", "0x40: no code is here: a bound ends here; is the address right?"),
         ("traps", "0x14", "0x18", "0x14: traps: a bound ends here"),
-        ("traps", "0x1c", "0x20", "0x1c: no code is here: a bound ends here"),
-        ("traps", "0x100", "0x130", "status 6: refused bound 2 IndirectJump 00000124"),
-        ("drive", "0x10", "0x2c", "status 6: refused bound 3 TimedWait 00000028"),
+        ("traps", "0x1c", "0x20", "0x1c: no code is here: a bound ends here; is the address right?"),
+        ("traps", "0x100", "0x130", f"status 6: refused bound 2 IndirectJump 00000124: {HELP['IndirectJump']}"),
+        ("drive", "0x10", "0x2c", f"status 6: refused bound 3 TimedWait 00000028: {HELP['TimedWait']}"),
         ("drive", "0x40", "0x20", "status 3: refused section 3 Order"),
     ],
 )
@@ -67,13 +71,14 @@ def test_a_bound_of_0_is_unknown(asking: Tool, tmp_path: Path) -> None:
     program.write_text("#!/bin/sh\necho bound 0\n")
     program.chmod(0o755)
     words = ("examples/nest.toml", "--flexpret", str(program))
-    status, lines = judged(asking, tmp_path, words, section("0x8", "0x20"))
+    table = section("0x8", "0x20", 'cycles = 1000\nassume = ["loop tables"]')
+    status, lines = judged(asking, tmp_path, words, table)
     assert (status, lines) == (2, ["UNKNOWN  T0 it: a bound of 0: nothing of the section issues"])
 
 
 def test_a_jump_elsewhere_is_unknown_unless_it_is_meant(asking: Tool, tmp_path: Path) -> None:
     words = ("examples/traps.toml",)
-    way = "0x10c to 0x124: leaves for another address: a bound ends here"
+    way = f"0x10c to 0x124: leaves for another address: a bound ends here; {ELSEWHERE}"
     assert judged(asking, tmp_path, words, section("0x108", "0x110")) == (2, [f"UNKNOWN  T0 it: {way}"])
     meant = "cycles = 1000\nexits = [0x124]"
     assert judged(asking, tmp_path, words, section("0x108", "0x110", meant))[0] == 0
@@ -101,7 +106,7 @@ def calling(flexpret: str, tmp_path: Path) -> tuple[str, ...]:
 def test_calls_of_functions(asking: Tool, tmp_path: Path, calling: tuple[str, ...]) -> None:
     table = section('"start"', '"back"')
     assert judged(asking, tmp_path, calling, table) == (
-        2, ["UNKNOWN  T0 it: 0x0 to 0xc outer: a call leaves the section: a bound ends here"],
+        2, [f"UNKNOWN  T0 it: 0x0 start to 0xc outer: a call leaves the section: a bound ends here; {CALLS}"],
     )  # fmt: skip
     # Three cycles for each call and return, one for each of three other words.
     assert judged(asking, tmp_path, calling, f"{table}calls = true\n") == (
@@ -145,7 +150,7 @@ def test_a_call_by_another_register_than_x1_leaves_a_section(flexpret: str, tmp_
     words = [NOP, CALL_FOUR_ON, NOP, HERE, HERE, NOP, RETURN]
     assert of_functions(flexpret, tmp_path, words) == (Verdict.HOLDS, "9 of 1000 cycles (90 ns)")
     words[1] = CALL_BY_T0
-    text = "0x4 to 0x14: a call leaves the section: a bound ends here"
+    text = f"0x4 to 0x14: a call leaves the section: a bound ends here; {CALLS}"
     assert of_functions(flexpret, tmp_path, words) == (Verdict.UNKNOWN, text)
 
 
@@ -160,7 +165,7 @@ def test_a_section_whose_endless_loop_has_a_table(asking: Tool, tmp_path: Path) 
     loops = "[[loop]]\nhead = 0x4\nlast = 0x4\nbound = 3\n"
     setup = setup_of(tmp_path, [NOP, HERE, NOP], loops)
     status, lines = judged(asking, tmp_path, (str(setup),), section("0", "8"))
-    assert (status, lines) == (2, ["UNKNOWN  T0 it: no way leads to the section's end"])
+    assert (status, lines) == (2, ["UNKNOWN  T0 it: no path leads to the section's end"])
 
 
 EXPIRE, DISARM = 0x0062_C00B, 0x500B
@@ -176,7 +181,7 @@ def test_an_expiry_that_may_end_a_visit_is_told(asking: Tool, tmp_path: Path) ->
             "fp_budget: T0 it: 0x4: an EE; the bound ends where its moment expires",
         ],
     )
-    assert len(judged(asking, tmp_path, (str(setup),), section("8", "16"))[1]) == 1
+    assert lines[1:] == judged(asking, tmp_path, (str(setup),), section("8", "16"))[1][1:]
 
 
 def test_an_expiry_of_a_called_function_is_told(flexpret: str, tmp_path: Path) -> None:
@@ -186,7 +191,7 @@ def test_an_expiry_of_a_called_function_is_told(flexpret: str, tmp_path: Path) -
     judge = Judge(Flexpret(flexpret), setup, read_image(setup.image), program)
     note = "0x14: an EE; the bound ends where its moment expires"
     assert judge.judge(Budget("it", 0, 0, 0xC, 1000, calls=True)).note == note
-    assert judge.judge(Budget("it", 0, 0, 0x4, 1000, calls=True)).note is None
+    assert judge.judge(Budget("it", 0, 0, 0x4, 1000, calls=True)).note == note
 
 
 def test_a_called_function_that_never_returns(asking: Tool, tmp_path: Path) -> None:
@@ -201,7 +206,7 @@ def test_an_image_of_another_executable(asking: Tool, tmp_path: Path) -> None:
     table = 'name = "it"\nthread = 0\nfrom = "grid_begin"\nto = "grid_end"\ncycles = 1000\n'
     status, lines = judged(asking, tmp_path, words, table)
     assert status == 2
-    assert lines[0].endswith("the image has another word than the executable: make it anew by `elf`")
+    assert lines[0].endswith("the image isn't made of tools/tests/data/loops.elf: make it again by `elf`")
 
 
 def test_a_name_that_is_no_symbol(asking: Tool, tmp_path: Path) -> None:
@@ -309,11 +314,16 @@ def test_the_examples_of_budgets_are_read(asking: Tool) -> None:
 
 
 def test_a_permit_is_told_beside_the_results(asking: Tool, tmp_path: Path) -> None:
-    status, lines = judged(asking, tmp_path, ("examples/slots.toml",), section("0x8", "0xc"))
+    table = section("0x8", "0xc")
+    status, lines = judged(asking, tmp_path, ("examples/slots.toml",), table)
+    write = "T0 has a permit and writes slots, modes or regions"
+    assert status == 2
+    assert lines[0].endswith(f"{write}: no bound is promised from then on")
+    table += 'assume = ["no configuration writes"]\n'
+    status, lines = judged(asking, tmp_path, ("examples/slots.toml",), table)
     assert status == 0
-    assert (
-        lines[1] == "fp_budget: T0: a permit; bounds hold while no instruction writes slots, modes or regions"
-    )
+    assert lines[1] == "fp_budget: T0: a permit; bounds hold while no instruction writes slots, modes or regions"
+    assert lines[2].startswith("fp_budget: T0 it: assumes no configuration writes: ")
 
 
 def test_a_refused_setup(asking: Tool, tmp_path: Path) -> None:

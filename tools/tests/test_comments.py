@@ -51,7 +51,7 @@ def test_what_is_no_number_alone_states_none(tmp_path: Path, comment: str) -> No
 def test_an_outer_loop_does_not_take_the_comment_of_the_inner_at_its_head(tmp_path: Path) -> None:
     text = "for (rows)\n  /* @rounds 5 */\n  for (columns)\n    work();\n"
     inner, outer = stated(tmp_path, text, {0x4: 3, 0x8: 4, 0x10: 3, 0x18: 1}, INNER, OUTER)
-    assert (inner.bound, outer.bound) == (4, None)
+    assert (inner.bound, outer.bound) == (5, None)
     assert outer.doubt == "no `@rounds N` in the sources"
 
 
@@ -64,7 +64,7 @@ def test_a_comment_of_an_inner_loop_without_a_branch_is_not_of_the_outer(tmp_pat
 def test_a_comment_at_the_head_above_the_branch_is_of_the_loop(tmp_path: Path) -> None:
     text = "head: nop # @rounds 7\n  nop\n  bne x1, x2, head\n"
     (it,) = stated(tmp_path, text, {0x8: 1, 0x10: 3}, INNER)
-    assert (it.bound, it.doubt) == (6, "")
+    assert (it.bound, it.doubt) == (7, "")
 
 
 def test_loops_of_one_line_that_share_a_comment_have_no_bound(tmp_path: Path) -> None:
@@ -76,7 +76,7 @@ def test_loops_of_one_line_that_share_a_comment_have_no_bound(tmp_path: Path) ->
 def test_copies_of_one_loop_share_its_comment(tmp_path: Path) -> None:
     loops = (Loop(0, (4,)), Loop(8, (0xC,)))
     lines = dict.fromkeys((0, 4, 8, 0xC), 1)
-    assert [it.bound for it in stated(tmp_path, "for (rows) // @rounds 4\n", lines, *loops)] == [3, 3]
+    assert [it.bound for it in stated(tmp_path, "for (rows) // @rounds 4\n", lines, *loops)] == [4, 4]
 
 
 @pytest.mark.parametrize(

@@ -25,7 +25,7 @@ bound = 2
 [[loop]]  # grid_begin+0x28 to grid_begin+0x3c, loops.c:25
 head = 0x68
 last = 0x7c
-bound = 4
+bound = 5
 
 # 0x84 grid_begin+0x44 to 0x88 grid_end: reaches the end
 """
@@ -55,8 +55,10 @@ def test_a_call_leaves_a_section_and_comes_back_with_calls(tool: Tool) -> None:
     words = ("fp_loops", "examples/c/pid.elf", "--from", "start0", "--to", "stopped0")
     assert "# 0x14 start0+0x14 to 0x54 main0: a call leaves the section" in tool(*words).stdout
     assert tool(*words).returncode == 1
-    assert tool(*words, "--calls").stdout == "# 0x14 start0+0x14 to 0x18 stopped0: reaches the end\n"
-    assert tool(*words, "--calls").returncode == 0
+    ran = tool(*words, "--calls")
+    assert "# 0x14 start0+0x14 to 0x18 stopped0: reaches the end\n# called: main0\n" in ran.stdout
+    assert "# 0x1a4 step_end: a timed wait: it has no bound\n" in ran.stdout
+    assert ran.returncode == 1
 
 
 def test_a_section_that_never_reaches_its_end_is_not_whole() -> None:
@@ -67,7 +69,8 @@ def test_a_section_that_never_reaches_its_end_is_not_whole() -> None:
 
 def test_without_an_end_the_function_is_the_section(tool: Tool) -> None:
     ran = tool("fp_loops", LOOPS, "--from", "sum_of", *SRC)
-    assert ran.stdout.endswith("# 0x24 sum_of+0x24: an indirect jump: it has no bound\n")
+    assert ran.stdout.endswith("# 0x24 sum_of+0x24: returns\n")
+    assert ran.returncode == 0
     ran = tool("fp_loops", "examples/c/pid.elf", "--from", "start0")
     assert (ran.returncode, ran.stderr) == (2, "fp_loops: start0 is in no function, so --to is needed\n")
 

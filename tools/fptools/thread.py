@@ -1,0 +1,183 @@
+"""The code that a thread can reach from its entry, and what becomes of its traps."""
+from __future__ import annotations
+
+from dataclasses import dataclass, field
+from functools import cached_property
+from typing import Collection, Iterator, Mapping
+
+from fptools.section import Section
+from fptools.setup import LARGE
+from fptools.words import MRET, OPCODE_AUIPC, OPCODE_IMMEDIATE, OPCODE_JALR, OPCODE_LUI, RETURN, Flow, Word
+
+MOST_BEFORE = 64
+CSRRW, CSRRWI = 1, 5
+
+
+@dataclass
+class Code:
+    """The words of an image's instruction scratchpad; one that nothing places is 0, which is no instruction."""
+
+    words: Mapping[int, int]
+
+    def word(self, pc: int) -> Word:
+        return Word(pc, self.words.get(pc, 0))
+
+    @cached_property
+    def placed(self) -> list[Word]:
+        return [Word(pc, bits) for pc, bits in sorted(self.words.items()) if pc < LARGE]
+
+    @cached_property
+    def _led_to(self) -> set[int]:
+        return {word.target for word in self.placed if word.is_code and word.target is not None}
+
+    def value_at(self, pc: int, register: int) -> int | None:
+        """The number that the straight code right before a word gives a register, where it is lui, auipc and addi."""
+        if register == 0:
+            return 0
+        added = 0
+        for step in range(1, MOST_BEFORE):
+            if pc - 4 * (step - 1) in self._led_to and step > 1:
+                return None
+            word = self.word(pc - 4 * step)
+            if word.flow is not Flow.NEXT:
+                return None
+            if word.rd != register or word.opcode in (0x23, 0x63):
+                continue
+            if word.opcode in (OPCODE_LUI, OPCODE_AUIPC):
+                base = word.pc if word.opcode == OPCODE_AUIPC else 0
+                return (base + (word.field(12, 20) << 12) + added) % 2**32
+            if word.opcode != OPCODE_IMMEDIATE or word.funct3 != 0:
+                return None
+            added += word.immediate
+            register = word.rs1
+            if register == 0:
+                return added % 2**32
+        return None
+
+    def jump_target(self, word: Word) -> int | None:
+        """Where a JALR leads, if the straight code before it gives its register a number."""
+        if word.opcode != OPCODE_JALR:
+            return None
+        base = self.value_at(word.pc, word.rs1)
+        return None if base is None else (base + word.immediate) % 2**32 & ~1
+
+    def new_mtvec(self, word: Word) -> int | None:
+        """The address that a write of mtvec sets, if it is a number by the straight code before it."""
+        if word.funct3 == CSRRWI:
+            return word.rs1 & ~3
+        value = self.value_at(word.pc, word.rs1) if word.funct3 == CSRRW else None
+        return None if value is None else value & ~3
+
+
+@dataclass
+class Reach:
+    """The words that control can get to from an address, where calls come back."""
+
+    words: dict[int, Word] = field(default_factory=dict)
+    # Jumps to addresses that aren't known: through registers, but for `ret` and MRET.
+    pointers: list[Word] = field(default_factory=list)
+
+    def has(self, address: int) -> bool:
+        return address in self.words
+
+
+def reach(code: Code, starts: Collection[int], stops: Collection[int] = (), into_calls: bool = True) -> Reach:
+    """What is reached from some addresses without going on from `stops`, into called functions or past them alone."""
+    found = Reach()
+    ahead = list(starts)
+    while ahead:
+        pc = ahead.pop()
+        if pc in found.words or pc in stops or pc >= LARGE:
+            continue
+        word = found.words[pc] = code.word(pc)
+        target = word.target if word.flow is not Flow.INDIRECT else code.jump_target(word)
+        if word.flow is Flow.INDIRECT and target is None and word.bits not in (RETURN, MRET):
+            found.pointers.append(word)
+        is_call = word.flow is Flow.CALL or word.flow is Flow.INDIRECT and word.rd != 0
+        if is_call or word.flow in (Flow.NEXT, Flow.BRANCH, Flow.WAIT):
+            ahead.append(word.next)
+        if target is not None and (into_calls or not is_call) and word.bits != RETURN:
+            ahead.append(target)
+    return found
+
+
+@dataclass
+class ThreadCode:
+    """What a thread may run from its entry on, its trap handlers among it."""
+
+    code: Code
+    entry: int
+
+    @cached_property
+    def whole(self) -> Reach:
+        """From the entry, and from each address that a reached word writes into mtvec."""
+        starts, found = {self.entry}, reach(self.code, [self.entry])
+        while True:
+            handlers = {at for word in found.words.values() if (at := self._handler(word)) is not None}
+            if handlers <= starts:
+                return found
+            starts |= handlers
+            found = reach(self.code, starts)
+
+    def _handler(self, word: Word) -> int | None:
+        return self.code.new_mtvec(word) if word.is_code and word.writes_mtvec else None
+
+    @cached_property
+    def sets_mtvec(self) -> list[Word]:
+        return [word for word in self.whole.words.values() if word.is_code and word.writes_mtvec]
+
+    @cached_property
+    def jumps_anywhere(self) -> bool:
+        """Whether it may jump to an address that isn't known: by a register, or by MRET outside of a trap handler."""
+        if self.whole.pointers:
+            return True
+        return any(word.bits == MRET for word in reach(self.code, [self.entry]).words.values())
+
+    def _words(self) -> list[Word]:
+        """What it may issue, by address: each word of the image, where a jump may lead anywhere."""
+        if self.jumps_anywhere:
+            return self.code.placed
+        return [word for _, word in sorted(self.whole.words.items())]
+
+    @property
+    def configuration_write(self) -> Word | None:
+        """The first write of slots, modes or regions among them."""
+        return next((it for it in self._words() if it.writes_configuration), None)
+
+    @property
+    def expiry(self) -> Word | None:
+        """The first EE among them."""
+        return next((word for word in self._words() if word.arms), None)
+
+    def handlers(self, start: int) -> list[int]:
+        """Where traps of a section may go that begins at an address: to each value of mtvec, and to 0 if it can be
+        reached before mtvec is set."""
+        set_by = {word.pc for word in self.sets_mtvec}
+        is_unset = start in set_by or reach(self.code, [self.entry], set_by).has(start)
+        values = {at for word in self.sets_mtvec if (at := self._handler(word)) is not None}
+        return sorted(values | ({0} if is_unset or not set_by else set()))
+
+    def comes_back(self, parts: Collection[Section]) -> Iterator[tuple[Word, str]]:
+        """Why a trap in a section, the first of some parts, or in the functions that it calls may be followed by a word
+        of theirs: a word, and what it does. A handler that begins the section again is the begin of another execution."""
+        section, *_ = parts
+        for word in self.sets_mtvec:
+            if self._handler(word) is None:
+                yield word, "sets mtvec to an address that isn't known here, so a trap may come back"
+        for handler in self.handlers(section.start):
+            own = reach(self.code, [handler], [section.start], into_calls=False)
+            called = reach(self.code, [handler], [section.start])
+            yield from _ways_back(handler, own, called, section)
+
+
+def _ways_back(handler: int, own: Reach, called: Reach, section: Section) -> Iterator[tuple[Word, str]]:
+    """How a handler goes on with the code that trapped, by its own words and those of what it calls."""
+    for word in called.words.values():
+        if word.bits == MRET:
+            yield word, "MRET goes on where a trap was"
+        if word.bits == RETURN and own.has(word.pc):
+            yield word, f"the trap handler at {handler:#x} returns"
+        if section.holds(word.pc) or word.pc == section.end:
+            yield word, f"the trap handler at {handler:#x} leads here"
+    for word in called.pointers:
+        yield word, f"the trap handler at {handler:#x} jumps to an address that isn't known here"

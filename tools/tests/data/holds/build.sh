@@ -1,0 +1,38 @@
+#!/usr/bin/env bash
+# Makes the executables of this folder of their sources, by gcc 12.2 and GNU ld; the tests take those that are here.
+set -eu
+cd "$(dirname "$0")"
+c=../../../../examples/c
+compile() {
+    riscv64-unknown-elf-gcc -march=rv32im_zicsr -mabi=ilp32 -ffreestanding -Wall -Wextra -g "-fdebug-prefix-map=$PWD=." \
+        -fdebug-prefix-map=/usr/lib/gcc=gcc -I "$c" "$@"
+}
+# built NAME SOURCE OPTIONS..: the executable of a source of thread 0.
+built() {
+    local name=$1 source=$2
+    shift 2
+    compile "$@" -c -o "t0_$name.o" "$source"
+    linked "$name" "t0_$name.o"
+}
+# linked NAME OBJECT OPTIONS..: the executable of an object; one of C begins in start.s.
+linked() {
+    local objects=("$2")
+    if ! riscv64-unknown-elf-nm "$2" | grep -q ' start0$'; then
+        compile -c -o start.o start.s
+        objects+=(start.o)
+    fi
+    riscv64-unknown-elf-ld -m elf32lriscv -n -T "$c/flexpret.ld" -o "$1.elf" "${objects[@]}" "${@:3}"
+    rm "${objects[@]}"
+}
+built head_test head_test.c -Os -fno-optimize-sibling-calls
+built one_head one_head.c -Os
+built taps16 taps.c -Os -DTAPS=16
+built taps32 taps.c -Os -DTAPS=32
+built moved moved.c -Os '-DKEEP(value)='
+built kept moved.c -Os '-DKEEP(value)=FP_KEEP(value)'
+built expires expires.c -Os
+built emulates emulates.s
+built crossing crossing.s
+built callee callee.c -Os
+compile -Os -c -o t1_other.o other_thread.c
+linked other_thread t1_other.o --defsym main0=stopped0

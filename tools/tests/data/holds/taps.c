@@ -1,0 +1,17 @@
+/* A counted loop of TAPS rounds, whose comment states 16. */
+#include "flexpret.h"
+static volatile uint32_t samples[40];
+void main0(void)
+{
+    uint64_t next = fp_get_time();
+    for (;;) {
+        FP_MARK(work_begin);
+        uint32_t sum = 0;
+        for (int i = 0; i < TAPS; i++) /* @rounds 16 */
+            sum += samples[i];
+        FP_PORT = sum;
+        FP_MARK(work_end);
+        next += 10000;
+        fp_wait_until(next);
+    }
+}

@@ -1,0 +1,213 @@
+"""No budget "holds" where a run takes longer: sections of data/holds, their bounds, and their longest execution in a run."""
+from __future__ import annotations
+
+import subprocess
+from pathlib import Path
+
+import pytest
+from conftest import TOOLS, Tool
+from fptools.elf import Program
+
+HOLDS = TOOLS / "tests/data/holds"
+SRC = ("--src", str(HOLDS))
+REGIONS = ["T0", "T1", "T2", "T3", "T4", "T5", "T6"]
+THREAD = "[[thread]]\nid = 0\nmode = 'hard'\nentry = 0\nconfined = true\n"
+# What the port shows from which cycle on.
+FIFTEEN = "inputs = [[0, 15]]\n"
+ODD_THEN_EVEN = "inputs = [[0, 1], [400, 0], [1500, 1], [2600, 0]]\n"
+
+
+class Case:
+    """An executable of data/holds with its setup, in which T0 has each fourth cycle."""
+
+    def __init__(self, asking: Tool, flexpret: str, folder: Path, name: str) -> None:
+        self.asking, self.flexpret, self.folder = asking, flexpret, folder
+        self.elf = HOLDS / f"{name}.elf"
+        self.setup, self.image = folder / "own.toml", folder / "own.fpx"
+        made = subprocess.run([flexpret, "elf", str(self.elf)], capture_output=True, check=True)
+        self.image.write_bytes(made.stdout)
+
+    def set_up(self, loops: str = "", more: str = FIFTEEN, thread: str = THREAD) -> None:
+        self.setup.write_text(
+            f"period = 10\nimage = {str(self.image)!r}\nslots = {['T0', 'S', 'S', 'S'] + ['D'] * 4}\n"
+            f"i_regions = {[*REGIONS, 'readonly']}\nd_regions = {[*REGIONS, 'shared']}\n{thread}{more}{loops}"
+        )
+
+    def loops(self, start: str, end: str, *options: str) -> tuple[int, str]:
+        """The status of fp_loops, and what it writes."""
+        ran = self.asking("fp_loops", self.elf, "--from", start, "--to", end, *SRC, *options)
+        return ran.returncode, ran.stdout
+
+    def judged(self, cycles: int, more: str = "", start: str = "work_begin", end: str = "work_end") -> tuple[int, str]:
+        """The status of fp_budget for a section with calls, and what it writes of it."""
+        budgets = self.folder / "budgets.toml"
+        budgets.write_text(
+            f'[[budget]]\nname = "it"\nthread = 0\nfrom = "{start}"\nto = "{end}"\ncycles = {cycles}\n'
+            f"calls = true\n{more}"
+        )
+        ran = self.asking("fp_budget", self.setup, budgets, "--elf", self.elf, *SRC)
+        return ran.returncode, ran.stdout + ran.stderr
+
+    def longest(self, cycles: int, start: str = "work_begin", end: str = "work_end") -> int:
+        """The cycles of the longest execution in a run, from the section's first word to its end."""
+        program = Program(self.elf)
+        first, last = program.address(start), program.address(end)
+        run = [self.flexpret, "run", str(self.setup), "--thread", "0", "--cycles", str(cycles)]
+        text = subprocess.run(run, capture_output=True, check=True, text=True).stdout
+        begun, most = None, 0
+        for line in text.splitlines():
+            cycle, pc = int(line.split()[0]), int(line.split()[1], 16)
+            if pc == first:
+                begun = cycle
+            if pc == last and begun is not None:
+                most = max(most, cycle - begun)
+        return most
+
+
+@pytest.fixture
+def case(request: pytest.FixtureRequest, asking: Tool, flexpret: str, tmp_path: Path) -> Case:
+    return Case(asking, flexpret, tmp_path, request.param)
+
+
+def of(name: str) -> pytest.MarkDecorator:
+    return pytest.mark.parametrize("case", [name], indirect=True)
+
+
+def loop(head: int, last: int, bound: int) -> str:
+    return f"[[loop]]\nhead = {head:#x}\nlast = {last:#x}\nbound = {bound}\n"
+
+
+@of("head_test")
+def test_a_loop_that_tests_before_its_body_goes_back_n_times(case: Case) -> None:
+    status, loops = case.loops("work_begin", "work_end", "--calls")
+    assert (status, "bound = 15\n" in loops, "called: sum_of" in loops) == (0, True, True)
+    case.set_up(loops)
+    # The bound counts a part of a round more: one that is begun, and can't go back.
+    assert case.longest(2000) == 464
+    assert case.judged(476)[0] == 0
+    assert case.judged(475)[0] == 1
+    case.set_up(loops.replace("bound = 15", "bound = 14"))
+    status, text = case.judged(460)
+    assert status == 2
+    assert "the sources state 15 rounds, which is bound = 15; the setup's table has 14" in text
+
+
+@of("one_head")
+def test_two_loops_with_one_head(case: Case) -> None:
+    status, loops = case.loops("work_begin", "work_end")
+    assert status == 1
+    assert "bound = ?  # of its 2 back edges that at " in loops
+    assert "(one_head.c:10) states no rounds: two loops may have one head" in loops
+    case.set_up(loops.replace("?", "7"), ODD_THEN_EVEN)
+    assert case.longest(9000) > 500
+    status, text = case.judged(500)
+    assert status == 2
+    assert "only the setup's table bounds this loop" in text
+    assert "two loops may have one head" in text
+
+
+def test_a_table_that_the_code_has_outgrown(asking: Tool, flexpret: str, tmp_path: Path) -> None:
+    old = Case(asking, flexpret, tmp_path, "taps16")
+    status, loops = old.loops("work_begin", "work_end")
+    assert (status, "bound = 15\n" in loops) == (0, True)
+    old.set_up(loops)
+    longest = old.longest(3000)
+    assert old.judged(longest)[0] == 0
+    new = Case(asking, flexpret, tmp_path, "taps32")
+    new.set_up(loops)
+    assert new.longest(3000) > longest
+    status, text = new.judged(longest)
+    assert status == 2
+    assert "the code counts 32 rounds, the sources state 16: correct `@rounds`" in text
+    assert new.loops("work_begin", "work_end")[0] == 1
+
+
+@of("moved")
+def test_work_that_the_compiler_moves_behind_a_mark(case: Case) -> None:
+    case.set_up()
+    status, text = case.judged(40)
+    assert status == 2
+    assert "(moved.c:9): it comes of a line between the marks, and is done outside of the section" in text
+    assert "FP_KEEP" in text
+    assert case.judged(40, 'assume = ["moved work"]\n')[0] == 0
+
+
+@of("kept")
+def test_work_that_is_kept_before_a_mark(case: Case) -> None:
+    case.set_up()
+    status, text = case.judged(1000)
+    assert (status, text) == (0, "holds    T0 it: 48 of 1000 cycles (480 ns)\n")
+    assert case.longest(2000) == 48
+
+
+@of("other_thread")
+def test_a_thread_that_cannot_fetch_the_section(case: Case) -> None:
+    case.set_up()
+    status, text = case.judged(1000)
+    assert status == 2
+    assert "work_begin (other_thread.c:7): T0 is confined and can't fetch here: the region is T1's" in text
+
+
+@of("other_thread")
+def test_a_thread_that_never_gets_to_the_section(case: Case) -> None:
+    case.set_up(thread=THREAD.replace("true", "false"))
+    status, text = case.judged(1000)
+    assert status == 2
+    assert "work_begin (other_thread.c:7): T0 doesn't get here from its entry 0x0 start0" in text
+    assert case.judged(1000, 'assume = ["reached"]\n')[0] == 0
+
+
+@of("expires")
+def test_an_expiry_that_is_armed_before_the_section(case: Case) -> None:
+    case.set_up()
+    assert case.longest(9000) > 500
+    status, text = case.judged(500)
+    assert status == 2
+    assert "MRET goes on where a trap was" in text
+    assert "an EE: no bound counts a trap handler" in text
+    status, text = case.judged(500, 'assume = ["no traps"]\n')
+    assert status == 0
+    assert "assumes no traps: it is of executions without a trap" in text
+
+
+@of("emulates")
+def test_a_trap_handler_that_emulates_a_load(case: Case) -> None:
+    case.set_up()
+    assert case.longest(9000) > 400
+    status, text = case.judged(20)
+    assert status == 2
+    assert "MRET goes on where a trap was: no bound counts a trap handler" in text
+
+
+@of("callee")
+def test_loops_of_called_functions(case: Case) -> None:
+    status, loops = case.loops("work_begin", "work_end", "--calls")
+    assert (status, loops.count("[[loop]]"), "bound = 15\n" in loops) == (0, 1, True)
+    assert case.loops("work_begin", "work_end")[0] == 1
+    ran = case.asking("fp_loops", case.elf, "--from", "sum_of", *SRC)
+    assert ran.returncode == 0
+    assert ran.stdout.split("\n\n")[0] == loops.split("\n\n")[0]
+    assert ran.stdout.endswith("sum_of+0x2c: returns\n")
+
+
+@of("callee")
+def test_a_switch_table_of_a_called_function(case: Case) -> None:
+    status, loops = case.loops("choice_begin", "choice_end", "--calls")
+    assert status == 1
+    assert "# called: chosen" in loops
+    assert "an indirect jump" in loops
+    case.set_up()
+    status, text = case.judged(1000, start="choice_begin", end="choice_end")
+    assert status == 2
+    assert "IndirectJump" in text
+    assert "-fno-jump-tables" in text
+    assert "chosen+0x18 (callee.c:13)" in text
+
+
+@of("crossing")
+def test_an_outer_loop_that_goes_back_from_an_inner_one(case: Case) -> None:
+    status, loops = case.loops("work_begin", "work_end")
+    tables = [it.split("\n")[1:3] for it in loops.split("\n\n") if it.startswith("[[loop]]")]
+    assert tables == [["head = 0x8", "last = 0x20"], ["head = 0x10", "last = 0x20"]]
+    case.set_up(loops)
+    assert case.judged(1000)[0] == 0
