@@ -21,7 +21,6 @@ from fptools.setup import Setup
 from fptools.sources import Sources
 from fptools.thread import Code, ThreadCode
 from fptools.toml import faults, read_toml
-from fptools.words import Word
 
 SCHEMA = Path(__file__).resolve().parents[1] / "budgets.schema.json"
 BOUND = re.compile(r"bound (\d+)")
@@ -329,13 +328,15 @@ class Judge:
         words = [word for part in asked.parts for word in part.reached.values()]
         if expiry is None and not any(word.may_trap for word in words):
             return
-        back: tuple[Word, str] | None = next(thread.comes_back(asked.parts), None)
-        if back is None:
+        ways = sorted(thread.comes_back(asked.section), key=lambda way: not way.is_meant)
+        if not ways:
             if expiry:
                 asked.notes.append(f"{armed}; the bound ends where its moment expires")
             return
-        note = f"{self._where(back[0].pc)}: {back[1]}" + (f"; {armed}" if armed else "")
-        if not asked.assumes(Assumption.NO_TRAPS, f"it is of executions without a trap ({note})"):
+        note = f"{self._where(ways[0].word.pc)}: {ways[0].how}" + (f"; {armed}" if armed else "")
+        if not ways[0].is_meant:
+            asked.notes.append(f"nothing sets mtvec: it is of executions without a trap ({note})")
+        elif not asked.assumes(Assumption.NO_TRAPS, f"it is of executions without a trap ({note})"):
             helps = f"if executions without a trap are meant: assume = [{Assumption.NO_TRAPS.value!r}]"
             raise Unknown(f"{note}: no bound counts a trap handler; {helps}")
 

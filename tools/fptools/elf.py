@@ -136,7 +136,15 @@ class Program:
     def line_of(self, address: int) -> Line | None:
         """The source line that an address was compiled from, where the executable has such lines (-g)."""
         index = bisect_right(self._lines, address, key=lambda row: row[0]) - 1
-        return self._lines[index][1] if index >= 0 else None
+        line = self._lines[index][1] if index >= 0 else None
+        # A compiler gives line 0 to what comes of no line.
+        return line if line is not None and line.number else None
+
+    def lines_of(self, address: int) -> list[Line]:
+        """The line of an address, and for the code of inlined functions the lines of their calls."""
+        own = self.line_of(address)
+        calls = [it.call for it in self._inlined if it.start <= address < it.end]
+        return ([own] if own else []) + calls
 
     @property
     def all_lines(self) -> list[Line]:

@@ -9,6 +9,7 @@ from dataclasses import dataclass
 from pathlib import Path
 from typing import Collection, Iterator, Mapping
 
+from fptools.ctext import LoopText, is_c
 from fptools.elf import Line, Program
 from fptools.rounds import rounds_in
 from fptools.section import Loop, Section
@@ -95,86 +96,113 @@ class Comments:
 
     def of_loop(self, loop: Loop) -> frozenset[Comment]:
         """Those of the branches that go back. Where none of them has one: those of the head that stand above or beside
-        them, as further down they are of what the loop has inside."""
+        them, as further down they are of what the loop has inside. Where the head has none either: those of the
+        innermost loop of the source around a branch that goes back."""
         own = {comment for pc in loop.backs for comment in self._at(pc)}
         if own:
             return frozenset(own)
         lines = [line for pc in loop.backs if (line := self.program.line_of(pc))]
-        return frozenset(
+        of_head = {
             comment
             for comment in self._at(loop.head)
             if any(comment.file == line.file and comment.line <= line.number for line in lines)
-        )
+        }
+        return frozenset(of_head or {comment for line in lines for comment in self._around(line)})
 
     def why_not(self, loop: Loop, own: Collection[Comment]) -> str:
         """Why it isn't certain that comments are of this loop, and of it alone; empty where it is."""
-        unstated = [pc for pc in loop.backs if not set(self._at(pc)) & set(own)]
-        if len(loop.backs) > 1 and unstated:
-            where = self._where(unstated[0])
-            return f"of its {len(loop.backs)} back edges {where} states no rounds: two loops may have one head"
         if len({(comment.file, comment.line) for comment in own}) > 1:
             return "several comments `@rounds` are of it: two loops may have one head"
-        columns = {line.column if line else 0 for line in map(self.program.line_of, loop.backs)}
-        if len(loop.backs) > 1 and (len(columns) > 1 or 0 in columns):
-            return "its back edges are of several places of one line: two loops may have one head"
         comment = next(iter(own))
-        if unstated and not self._goes_back_in(unstated[0], comment):
-            return f"{self._where(unstated[0])} isn't certain to go back in the loop with `@rounds`"
+        elsewhere = next((pc for pc in loop.backs if not self._is_of(pc, comment)), None)
+        if elsewhere is not None and len(loop.backs) > 1:
+            where = self._where(elsewhere)
+            return f"of its {len(loop.backs)} back edges {where} states no rounds: two loops may have one head"
+        if elsewhere is not None:
+            return f"{self._where(elsewhere)} may go back in another loop than that of `@rounds`"
         if self.sources.hides_loops(comment.file, comment.of_line) > self._words_of_one(comment):
             return "the line of `@rounds` has several loops: write each in a line of its own"
-        merged = self._merged(loop, comment)
-        return f"the loop in {merged} has no head of its own in the code" if merged else ""
-
-    def _goes_back_in(self, pc: int, comment: Comment) -> bool:
-        """Whether no loop of the source inside the stated one has the line of a branch that goes back."""
-        line = self.program.line_of(pc)
-        inner = self.sources.innermost(line.file, line.number) if line else None
-        return inner is None or comment.of_line in (inner.first, inner.last)
+        return self._not_as_in_text(loop, comment)
 
     def is_body_first(self, comment: Comment) -> bool:
+        text = self._text_of(comment)
+        return text is not None and text.is_body_first
+
+    def _text_of(self, comment: Comment) -> LoopText | None:
+        """The loop of the source that a comment is for, if there is one alone."""
         loops = self.sources.loops_from(comment.file, comment.of_line)
-        return len(loops) == 1 and loops[0].is_body_first
+        return loops[0] if len(loops) == 1 else None
+
+    def _is_of(self, pc: int, comment: Comment) -> bool:
+        """Whether a branch that goes back has a comment, or lies in the loop of the source that has it, and in no loop
+        inside of that. In assembler the comment may stand at the loop's head."""
+        if comment in self._at(pc):
+            return True
+        text, line = self._text_of(comment), self.program.line_of(pc)
+        if text is None:
+            return len(self.sources.loops_from(comment.file, comment.of_line)) == 0 and not is_c(comment.file)
+        return line is not None and line.file == comment.file and self.sources.innermost(line.file, line.number) == text
 
     def _words_of_one(self, comment: Comment) -> int:
         """How many words of its line a single loop has: two where a `do` has its `while` beside it."""
-        loops = self.sources.loops_from(comment.file, comment.of_line)
-        is_whole_do = len(loops) == 1 and loops[0].is_body_first and loops[0].first == loops[0].last
-        return 2 if is_whole_do else 1
+        text = self._text_of(comment)
+        return 2 if text is not None and text.is_body_first and text.first == text.last else 1
 
-    def _merged(self, loop: Loop, comment: Comment) -> Line | None:
-        """A loop of the sources inside the stated one that has no loop of its own in the code. The compiler may have
-        unrolled it; or the two go back by one edge."""
+    def _not_as_in_text(self, loop: Loop, comment: Comment) -> str:
+        """How the code of a loop differs from its text in C, so that it may be another loop, or two; empty where it
+        doesn't."""
         inside = [it for it in self.section.loops if it is not loop and it.head in loop.body]
-        owned = {
-            line for it in inside for pc in (*it.backs, *it.exits) if (line := self.program.line_of(pc))
-        }
-        own = set(loop.body).difference(*(it.body for it in inside))
-        branches = [pc for pc in sorted(own) if self.section.reached[pc].flow is Flow.BRANCH]
-        lines = {line for pc in branches if (line := self.program.line_of(pc))}
-        for text in self.sources.loops_from(comment.file, comment.of_line):
-            lines |= {Line(comment.file, number) for number in range(text.first, text.last + 1)}
-            owned |= {Line(comment.file, number) for number in (text.first, text.last)}
-        owned.add(Line(comment.file, comment.of_line))
-        for line in sorted(lines - owned, key=str):
-            if self.sources.hides_loops(line.file, line.number) and not self._is_end_of_do(line, owned):
-                return line
-        return None
+        own = sorted(set(loop.body).difference(*(it.body for it in inside)))
+        text = self._text_of(comment)
+        if text is not None:
+            for pc in own:
+                lines = self.program.lines_of(pc)
+                if lines and not any(_is_in(line, comment.file, text) for line in lines):
+                    return f"{self._where(pc, 'the word')} is of no line of the loop with `@rounds`"
+        seen = {loop for it in inside for pc in it.body for loop in self._texts_at(pc)}
+        missing = set(self.sources.loops_in(comment.file, text)) - {it for file, it in seen if file == comment.file} if text else set()
+        if missing:
+            return f"the loop in {comment.file.name}:{min(it.first for it in missing)} has no head of its own in the code"
+        return self._hidden(own, seen, comment)
 
-    def _is_end_of_do(self, line: Line, owned: Collection[Line]) -> bool:
-        """Whether a loop that begins or ends in a line does so at its other end in a line that is accounted for."""
-        loops = self.sources.loops_from(line.file, line.number)
-        ends = [{Line(line.file, it.first), Line(line.file, it.last)} for it in loops]
-        return bool(ends) and all(lines & set(owned) for lines in ends)
+    def _hidden(self, own: list[int], seen: Collection[tuple[Path, LoopText]], comment: Comment) -> str:
+        """A branch of the loop itself that comes of another loop: of an inlined function, or of a macro."""
+        for pc in own:
+            line = self.program.line_of(pc)
+            if self.section.reached[pc].flow is not Flow.BRANCH or line is None:
+                continue
+            loops = {(line.file, it) for it in self.sources.loops_from(line.file, line.number)}
+            is_known = loops and loops <= {*seen, (comment.file, self._text_of(comment))}
+            if self.sources.hides_loops(line.file, line.number) and not is_known and not self._is_line_of(line, comment):
+                return f"the loop in {line} has no head of its own in the code"
+        return ""
 
-    def _where(self, pc: int) -> str:
+    def _is_line_of(self, line: Line, comment: Comment) -> bool:
+        text = self._text_of(comment)
+        numbers = {comment.of_line} | ({text.first, text.last} if text else set())
+        return line.file == comment.file and line.number in numbers
+
+    def _texts_at(self, pc: int) -> list[tuple[Path, LoopText]]:
+        """The innermost loops of the sources around the lines of an address."""
+        found = [(line.file, self.sources.innermost(line.file, line.number)) for line in self.program.lines_of(pc)]
+        return [(file, text) for file, text in found if text is not None]
+
+    def _where(self, pc: int, what: str = "that") -> str:
         line = self.program.line_of(pc)
-        return f"that at {pc:#x}" + (f" ({line})" if line else "")
+        return f"{what} at {pc:#x}" + (f" ({line})" if line else "")
+
+    def _around(self, line: Line) -> list[Comment]:
+        """The comments of the innermost loop of a C source around a line."""
+        text = self.sources.innermost(line.file, line.number)
+        ends = sorted({text.first, text.last}) if text else []
+        return [comment for number in ends for comment in self._of_line(Line(line.file, number))]
 
     def _at(self, address: int) -> list[Comment]:
         """Those in the source line of an address, or in a comment line right above it."""
         line = self.program.line_of(address)
-        if line is None:
-            return []
+        return [] if line is None else self._of_line(line)
+
+    def _of_line(self, line: Line) -> list[Comment]:
         above = self.sources.text_at(line.file, line.number - 1)
         texts = [(line.number, self.sources.text(line))]
         if COMMENT_LINE.match(above):
@@ -184,6 +212,10 @@ class Comments:
         return [
             Comment(line.file, number, int(rounds) if rounds else None, line.number) for rounds in stated
         ]
+
+
+def _is_in(line: Line, file: Path, text: LoopText) -> bool:
+    return line.file == file and text.first <= line.number <= text.last
 
 
 def _overlap(one: Loop, other: Loop) -> bool:

@@ -36,6 +36,11 @@ class Sources:
         around = [it for it in self._code(file).loops if it.first <= number <= it.last]
         return min(around, key=lambda it: (it.last - it.first, -it.first)) if around else None
 
+    def loops_in(self, file: Path, text: LoopText) -> list[LoopText]:
+        """The loops of a C source inside of one."""
+        inside = (it for it in self._code(file).loops if text.first <= it.first and it.last <= text.last)
+        return [it for it in inside if it != text]
+
     def hides_loops(self, file: Path, number: int) -> int:
         """How many words of a line are `for`, `while`, `do` or `goto`, or a macro with one of them; 0 in assembler."""
         if not is_c(file):

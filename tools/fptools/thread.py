@@ -152,32 +152,46 @@ class ThreadCode:
     def handlers(self, start: int) -> list[int]:
         """Where traps of a section may go that begins at an address: to each value of mtvec, and to 0 if it can be
         reached before mtvec is set."""
-        set_by = {word.pc for word in self.sets_mtvec}
-        is_unset = start in set_by or reach(self.code, [self.entry], set_by).has(start)
         values = {at for word in self.sets_mtvec if (at := self._handler(word)) is not None}
-        return sorted(values | ({0} if is_unset or not set_by else set()))
+        return sorted(values | ({0} if self.is_unset(start) else set()))
 
-    def comes_back(self, parts: Collection[Section]) -> Iterator[tuple[Word, str]]:
-        """Why a trap in a section, the first of some parts, or in the functions that it calls may be followed by a word
-        of theirs: a word, and what it does. A handler that begins the section again is the begin of another execution."""
-        section, *_ = parts
+    def is_unset(self, start: int) -> bool:
+        """Whether an address can be reached before mtvec is set, so that traps go to address 0."""
+        set_by = {word.pc for word in self.sets_mtvec}
+        return not set_by or start in set_by or reach(self.code, [self.entry], set_by).has(start)
+
+    def comes_back(self, section: Section) -> Iterator[WayBack]:
+        """Why a trap in a section, or in the functions that it calls, may be followed by a word of theirs. A handler that
+        begins the section again is the begin of another execution."""
         for word in self.sets_mtvec:
             if self._handler(word) is None:
-                yield word, "sets mtvec to an address that isn't known here, so a trap may come back"
+                yield WayBack(word, "sets mtvec to an address that isn't known here, so a trap may come back")
         for handler in self.handlers(section.start):
             own = reach(self.code, [handler], [section.start], into_calls=False)
             called = reach(self.code, [handler], [section.start])
-            yield from _ways_back(handler, own, called, section)
+            is_meant = handler != 0 or bool(self.sets_mtvec) or self.expiry is not None
+            yield from _ways_back(handler, own, called, section, is_meant)
 
 
-def _ways_back(handler: int, own: Reach, called: Reach, section: Section) -> Iterator[tuple[Word, str]]:
+@dataclass(frozen=True)
+class WayBack:
+    """A word by which a trap comes back, and how."""
+
+    word: Word
+    how: str
+    # False for a `ret` of code at address 0 that nobody made a handler: a trap is a fault of the program.
+    is_meant: bool = True
+
+
+def _ways_back(handler: int, own: Reach, called: Reach, section: Section, is_meant: bool) -> Iterator[WayBack]:
     """How a handler goes on with the code that trapped, by its own words and those of what it calls."""
     for word in called.words.values():
         if word.bits == MRET:
-            yield word, "MRET goes on where a trap was"
-        if word.bits == RETURN and own.has(word.pc):
-            yield word, f"the trap handler at {handler:#x} returns"
+            yield WayBack(word, "MRET goes on where a trap was")
         if section.holds(word.pc) or word.pc == section.end:
-            yield word, f"the trap handler at {handler:#x} leads here"
+            yield WayBack(word, f"the trap handler at {handler:#x} leads here")
     for word in called.pointers:
-        yield word, f"the trap handler at {handler:#x} jumps to an address that isn't known here"
+        yield WayBack(word, f"the trap handler at {handler:#x} jumps to an address that isn't known here")
+    for word in own.words.values():
+        if word.bits == RETURN:
+            yield WayBack(word, f"the trap handler at {handler:#x} returns", is_meant)

@@ -13,13 +13,15 @@ INNER, OUTER = Loop(0x8, (0x10,)), Loop(0x4, (0x18,))
 NAME = Path("code.c")
 
 
-def stated(folder: Path, text: str, lines: dict[int, int], *loops: Loop) -> list[StatedLoop]:
+def stated(
+    folder: Path, text: str, lines: dict[int, int], *loops: Loop, name: Path = NAME
+) -> list[StatedLoop]:
     """What is said of loops, by the source and the line of each address."""
-    (folder / NAME).write_text(text, encoding="utf-8")
+    (folder / name).write_text(text, encoding="utf-8")
 
     class Lined(Program):
         def line_of(self, address: int) -> Line | None:
-            return Line(NAME, lines[address]) if address in lines else None
+            return Line(name, lines[address]) if address in lines else None
 
     section = Section(0, 0x20, loops=list(loops))
     return state_loops(section, Lined(), Sources(folder))
@@ -63,7 +65,7 @@ def test_a_comment_of_an_inner_loop_without_a_branch_is_not_of_the_outer(tmp_pat
 
 def test_a_comment_at_the_head_above_the_branch_is_of_the_loop(tmp_path: Path) -> None:
     text = "head: nop # @rounds 7\n  nop\n  bne x1, x2, head\n"
-    (it,) = stated(tmp_path, text, {0x8: 1, 0x10: 3}, INNER)
+    (it,) = stated(tmp_path, text, {0x8: 1, 0x10: 3}, INNER, name=Path("code.s"))
     assert (it.bound, it.doubt) == (7, "")
 
 
