@@ -3,6 +3,7 @@ from __future__ import annotations
 
 import struct
 from pathlib import Path
+from typing import Mapping
 
 from fptools.setup import DATA_START, LARGE
 
@@ -53,3 +54,15 @@ def _look_at(path: Path, start: int, length: int, before: int) -> None:
         raise ImageError(f"{path} is no image: a segment of {length} bytes at {start:#x}")
     if start < before:
         raise ImageError(f"{path} is no image: the segment at {start:#x} isn't behind the one before")
+
+
+def write_image(words: Mapping[int, int]) -> bytes:
+    """An image that places words at their addresses, and zeros between them: a segment for each scratchpad."""
+    segments = []
+    for base in (0, DATA_START):
+        placed = [at for at in words if base <= at < base + LARGE]
+        if placed:
+            first, last = min(placed), max(placed)
+            data = b"".join(struct.pack("<I", words.get(at, 0)) for at in range(first, last + 4, 4))
+            segments.append(struct.pack("<II", first, len(data)) + data)
+    return MAGIC + struct.pack("<I", len(segments)) + b"".join(segments)

@@ -7,7 +7,20 @@ from typing import Collection, Iterator, Mapping
 
 from fptools.section import Section
 from fptools.setup import LARGE
-from fptools.words import MRET, OPCODE_AUIPC, OPCODE_IMMEDIATE, OPCODE_JALR, OPCODE_LUI, RETURN, Flow, Word
+from fptools.words import (
+    CSR_MEPC,
+    EBREAK,
+    ECALL,
+    MRET,
+    OPCODE_AUIPC,
+    OPCODE_IMMEDIATE,
+    OPCODE_JALR,
+    OPCODE_LUI,
+    OPCODES_WITHOUT_RESULT,
+    RETURN,
+    Flow,
+    Word,
+)
 
 MOST_BEFORE = 64
 CSRRW, CSRRWI = 1, 5
@@ -41,7 +54,7 @@ class Code:
             word = self.word(pc - 4 * step)
             if word.flow is not Flow.NEXT:
                 return None
-            if word.rd != register or word.opcode in (0x23, 0x63):
+            if word.rd != register or word.opcode in OPCODES_WITHOUT_RESULT:
                 continue
             if word.opcode in (OPCODE_LUI, OPCODE_AUIPC):
                 base = word.pc if word.opcode == OPCODE_AUIPC else 0
@@ -53,6 +66,22 @@ class Code:
             if register == 0:
                 return added % 2**32
         return None
+
+    def skips_a_word(self, word: Word) -> bool:
+        """Whether a write of mepc makes it the address behind the one that it was, or leaves it, by the code before."""
+        added, register = 0, word.rs1
+        for step in range(1, MOST_BEFORE):
+            before = self.word(word.pc - 4 * step)
+            if before.flow is not Flow.NEXT or before.next in self._led_to:
+                return False
+            if before.opcode in OPCODES_WITHOUT_RESULT or before.rd != register:
+                continue
+            if before.csr == CSR_MEPC and not before.writes_csr:
+                return word.funct3 == CSRRW and added in (0, 4)
+            if before.opcode != OPCODE_IMMEDIATE or before.funct3 != 0:
+                return False
+            added, register = added + before.immediate, before.rs1
+        return False
 
     def jump_target(self, word: Word) -> int | None:
         """Where a JALR leads, if the straight code before it gives its register a number."""
@@ -94,7 +123,8 @@ def reach(code: Code, starts: Collection[int], stops: Collection[int] = (), into
         if word.flow is Flow.INDIRECT and target is None and word.bits not in (RETURN, MRET):
             found.pointers.append(word)
         is_call = word.flow is Flow.CALL or word.flow is Flow.INDIRECT and word.rd != 0
-        if is_call or word.flow in (Flow.NEXT, Flow.BRANCH, Flow.WAIT):
+        # A trap handler may go on behind an ECALL or EBREAK.
+        if is_call or word.flow in (Flow.NEXT, Flow.BRANCH, Flow.WAIT) or word.bits in (ECALL, EBREAK):
             ahead.append(word.next)
         if target is not None and (into_calls or not is_call) and word.bits != RETURN:
             ahead.append(target)
@@ -120,18 +150,21 @@ class ThreadCode:
             found = reach(self.code, starts)
 
     def _handler(self, word: Word) -> int | None:
-        return self.code.new_mtvec(word) if word.is_code and word.writes_mtvec else None
+        return self.code.new_mtvec(word) if word.writes_mtvec else None
 
     @cached_property
     def sets_mtvec(self) -> list[Word]:
-        return [word for word in self.whole.words.values() if word.is_code and word.writes_mtvec]
+        return [word for word in self.whole.words.values() if word.writes_mtvec]
 
     @cached_property
     def jumps_anywhere(self) -> bool:
-        """Whether it may jump to an address that isn't known: by a register, or by MRET outside of a trap handler."""
+        """Whether it may jump to an address that isn't known: by a register, by MRET outside of a trap handler, or by a
+        handler that goes on elsewhere than where the trap was or at the word behind it."""
         if self.whole.pointers:
             return True
-        return any(word.bits == MRET for word in reach(self.code, [self.entry]).words.values())
+        if any(word.bits == MRET for word in reach(self.code, [self.entry]).words.values()):
+            return True
+        return any(word.writes_mepc and not self.code.skips_a_word(word) for word in self.whole.words.values())
 
     def _words(self) -> list[Word]:
         """What it may issue, by address: each word of the image, where a jump may lead anywhere."""
@@ -160,15 +193,15 @@ class ThreadCode:
         set_by = {word.pc for word in self.sets_mtvec}
         return not set_by or start in set_by or reach(self.code, [self.entry], set_by).has(start)
 
-    def comes_back(self, section: Section) -> Iterator[WayBack]:
+    def comes_back(self, section: Section, begin: int) -> Iterator[WayBack]:
         """Why a trap in a section, or in the functions that it calls, may be followed by a word of theirs. A handler that
-        begins the section again is the begin of another execution."""
+        leads to where the section begins is the begin of another execution."""
         for word in self.sets_mtvec:
             if self._handler(word) is None:
                 yield WayBack(word, "sets mtvec to an address that isn't known here, so a trap may come back")
-        for handler in self.handlers(section.start):
-            own = reach(self.code, [handler], [section.start], into_calls=False)
-            called = reach(self.code, [handler], [section.start])
+        for handler in self.handlers(begin):
+            own = reach(self.code, [handler], [begin], into_calls=False)
+            called = reach(self.code, [handler], [begin])
             is_meant = handler != 0 or bool(self.sets_mtvec) or self.expiry is not None
             yield from _ways_back(handler, own, called, section, is_meant)
 

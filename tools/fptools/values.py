@@ -5,9 +5,16 @@ from dataclasses import dataclass
 from typing import Collection, Iterator, Mapping
 
 from fptools.setup import DATA_START, LARGE
-from fptools.words import OPCODE_AUIPC, OPCODE_IMMEDIATE, OPCODE_LUI, RETURN, Flow, Word
+from fptools.words import (
+    OPCODE_AUIPC,
+    OPCODE_IMMEDIATE,
+    OPCODE_LUI,
+    OPCODES_WITHOUT_RESULT,
+    RETURN,
+    Flow,
+    Word,
+)
 
-OPCODES_WITHOUT_RESULT = (0x23, 0x63)  # stores and branches
 ADDI = 0
 
 
@@ -73,6 +80,25 @@ def joined(pc: int, one: State, other: State) -> State:
     return tuple(a if a == b else Value((pc, register), 0) for register, (a, b) in pairs)
 
 
+def clobbered_by(words: Mapping[int, int], function: int) -> frozenset[int]:
+    """The registers that a called function, and what it calls, may change: all, where it jumps by a register."""
+    found: set[int] = set()
+    seen: set[int] = set()
+    ahead = [function]
+    while ahead:
+        pc = ahead.pop()
+        if pc in seen:
+            continue
+        seen.add(pc)
+        word = Word(pc, words.get(pc, 0))
+        found.add(written_by(word))
+        if word.flow is Flow.INDIRECT and word.bits != RETURN or pc >= LARGE:
+            return frozenset(range(32))
+        ahead += [word.next] if word.flow not in (Flow.JUMP, Flow.INDIRECT, Flow.TRAP) else []
+        ahead += [word.target] if word.target is not None else []
+    return frozenset(found)
+
+
 class Values:
     """The values of a function's registers. It is entered at its first word, and wherever other code leads into it."""
 
@@ -110,21 +136,7 @@ class Values:
     def clobbered(self, function: int) -> frozenset[int]:
         """The registers that a called function, and what it calls, may change."""
         if function not in self._clobbered:
-            found: set[int] = set()
-            seen: set[int] = set()
-            ahead = [function]
-            while ahead:
-                pc = ahead.pop()
-                if pc in seen:
-                    continue
-                seen.add(pc)
-                word = self._word(pc)
-                found.add(written_by(word))
-                if word.flow is Flow.INDIRECT and word.bits != RETURN or pc >= LARGE:
-                    return self._clobbered.setdefault(function, frozenset(range(32)))
-                ahead += [word.next] if word.flow not in (Flow.JUMP, Flow.INDIRECT, Flow.TRAP) else []
-                ahead += [word.target] if word.target is not None else []
-            self._clobbered[function] = frozenset(found)
+            self._clobbered[function] = clobbered_by(self.words, function)
         return self._clobbered[function]
 
     def _word(self, pc: int) -> Word:

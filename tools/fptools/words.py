@@ -12,13 +12,14 @@ OPCODE_TIMING = 0x0B
 OPCODE_LOAD, OPCODE_STORE = 0x03, 0x23
 OPCODE_LUI, OPCODE_AUIPC = 0x37, 0x17
 OPCODE_IMMEDIATE = 0x13
+OPCODES_WITHOUT_RESULT = (OPCODE_STORE, OPCODE_BRANCH)
 
 ECALL, EBREAK, MRET = 0x0000_0073, 0x0010_0073, 0x3020_0073
 RETURN = 0x0000_8067  # jalr x0, 0(x1)
 
 FUNCT3_WAITS = (2, 3)  # DU, WU
 FUNCT3_EXPIRE = 4  # EE
-CSR_MTVEC = 0x305
+CSR_MTVEC, CSR_MEPC = 0x305, 0x341
 CONFIGURATION = (0x7C0, 0x7C1, 0x7C2, 0x7C3)  # slots, modes, dregions, iregions
 RETURN_ADDRESS = 1
 
@@ -134,13 +135,22 @@ class Word:
         return self.field(20, 12) if self.opcode == OPCODE_SYSTEM and self.funct3 % 4 != 0 else None
 
     @property
+    def writes_csr(self) -> bool:
+        """Whether it writes its CSR: CSRRW does, CSRRS and CSRRC do but for x0 and 0."""
+        return self.is_code and self.csr is not None and (self.funct3 % 4 == 1 or self.rs1 != 0)
+
+    @property
     def writes_mtvec(self) -> bool:
-        return self.csr == CSR_MTVEC
+        return self.writes_csr and self.csr == CSR_MTVEC
+
+    @property
+    def writes_mepc(self) -> bool:
+        return self.writes_csr and self.csr == CSR_MEPC
 
     @property
     def writes_configuration(self) -> bool:
-        """Whether it writes slots, modes or regions: CSRRW does, CSRRS and CSRRC do but for x0 and 0."""
-        return self.is_code and self.csr in CONFIGURATION and (self.funct3 % 4 == 1 or self.rs1 != 0)
+        """Whether it writes slots, modes or regions."""
+        return self.writes_csr and self.csr in CONFIGURATION
 
     @property
     def may_trap(self) -> bool:

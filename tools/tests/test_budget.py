@@ -252,7 +252,17 @@ def test_the_junit_file(asking: Tool, tmp_path: Path) -> None:
         "failures": "1",
         "errors": "1",
     }
-    assert [[child.tag for child in case] for case in suite] == [[], ["failure"], ["error"]]
+    assert [[child.tag for child in case] for case in suite] == [
+        ["properties"],
+        ["properties", "failure"],
+        ["properties", "error"],
+    ]
+    numbers = [{it.get("name"): it.get("value") for it in case[0]} for case in suite]
+    assert [[it.get(name) for name in ("bound", "budget", "slack", "ns")] for it in numbers] == [
+        ["352", "352", "0", "3520"],
+        ["352", "1", "-351", "3520"],
+        [None, "1000", None, None],
+    ]
 
 
 @pytest.mark.parametrize("faulty", ["setup", "budgets", "schema", "refused"])

@@ -211,3 +211,36 @@ def test_an_outer_loop_that_goes_back_from_an_inner_one(case: Case) -> None:
     assert tables == [["head = 0x8", "last = 0x20"], ["head = 0x10", "last = 0x20"]]
     case.set_up(loops)
     assert case.judged(1000)[0] == 0
+
+
+@of("elsewhere")
+def test_a_function_that_returns_elsewhere(case: Case) -> None:
+    case.set_up()
+    status, text = case.judged(1000, end="other")
+    assert status == 2
+    assert "astray+0x8 (elsewhere.s:" in text
+    assert "it isn't certain that this goes back to the call: x1 and x2 change" in text
+    assert case.judged(1000, start="other")[0] == 0
+
+
+@pytest.mark.parametrize(
+    ("function", "bound"),
+    [
+        ("continued", "15"),
+        ("endless", "15"),
+        ("empty", "9"),
+        ("hidden", "?  # a loop around or inside has the same `@rounds`; the code counts 8"),
+        ("oneline", "?"),
+        ("unrolled", "?  # no `@rounds N` in the sources"),
+        ("tested_last", "15"),
+    ],
+)
+def test_comments_of_loops_of_many_shapes(tool: Tool, function: str, bound: str) -> None:
+    ran = tool("fp_loops", HOLDS / "shapes.elf", "--from", function, *SRC)
+    assert next(it for it in ran.stdout.splitlines() if it.startswith("bound")).startswith(f"bound = {bound}")
+    assert ran.returncode == ("?" in bound)
+
+
+def test_a_comment_of_an_unrolled_loop_is_not_of_the_loop_around(tool: Tool) -> None:
+    ran = tool("fp_loops", HOLDS / "shapes_o3.elf", "--from", "unrolled", *SRC)
+    assert (ran.returncode, ran.stdout.count("[[loop]]"), ran.stdout.count("bound = ?")) == (1, 1, 1)

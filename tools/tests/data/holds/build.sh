@@ -34,5 +34,9 @@ built expires expires.c -Os
 built emulates emulates.s
 built crossing crossing.s
 built callee callee.c -Os
+built shapes shapes.c -O2 -fno-reorder-blocks
+built shapes_o3 shapes.c -O3
+built tail tail.c -O2
+built elsewhere elsewhere.s
 compile -Os -c -o t1_other.o other_thread.c
 linked other_thread t1_other.o --defsym main0=stopped0

@@ -1,0 +1,111 @@
+"""Budgets of sections, the files that state them, and what is found of them."""
+from __future__ import annotations
+
+from dataclasses import dataclass, field
+from enum import Enum, IntEnum
+from pathlib import Path
+from typing import Any, Mapping
+
+import jsonschema
+
+from fptools.toml import faults, read_toml
+
+SCHEMA = Path(__file__).resolve().parents[1] / "budgets.schema.json"
+
+
+class Assumption(Enum):
+    """What a budget takes for granted. Nothing of it is checked."""
+
+    NO_TRAPS = "no traps"
+    LOOP_TABLES = "loop tables"
+    NO_CONFIGURATION_WRITES = "no configuration writes"
+    REACHED = "reached"
+    MOVED_WORK = "moved work"
+
+
+class Verdict(IntEnum):
+    """What is said of a budget; the numbers are exit statuses, of which the largest counts."""
+
+    HOLDS = 0
+    OVER = 1
+    UNKNOWN = 2
+
+
+@dataclass(frozen=True)
+class Budget:
+    """A section and the most cycles that it may take; None where only its bound is asked."""
+
+    name: str
+    thread: int
+    start: int | str
+    end: int | str
+    cycles: int | None
+    calls: bool = False
+    exits: tuple[int | str, ...] = ()
+    assume: frozenset[Assumption] = frozenset()
+
+    def __str__(self) -> str:
+        return f"T{self.thread} {self.name}"
+
+
+@dataclass(frozen=True)
+class LoopFact:
+    """A loop of a section with its bound, and where that comes from."""
+
+    where: str
+    head: int
+    last: int
+    bound: int
+    by: str
+
+    def __str__(self) -> str:
+        return f"{self.where}: goes back {self.bound} times: {self.by}"
+
+
+@dataclass(frozen=True)
+class Result:
+    """What is found of a budget; without a budget it is the bound alone."""
+
+    budget: Budget
+    verdict: Verdict
+    text: str
+    bound: int | None = None
+    ns: int | None = None  # the bound's time
+    notes: tuple[str, ...] = ()
+    loops: tuple[LoopFact, ...] = ()
+    functions: tuple[str, ...] = ()
+
+    @property
+    def note(self) -> str | None:
+        return "; ".join(self.notes) or None
+
+    @property
+    def slack(self) -> int | None:
+        """The cycles of the budget that the bound leaves; below 0 where it is over."""
+        return None if self.bound is None or self.budget.cycles is None else self.budget.cycles - self.bound
+
+    @property
+    def word(self) -> str:
+        if self.verdict is Verdict.HOLDS:
+            return "bound" if self.budget.cycles is None else "holds"
+        return "OVER" if self.verdict is Verdict.OVER else "UNKNOWN"
+
+    def __str__(self) -> str:
+        return f"{self.word:<8} {self.budget}: {self.text}"
+
+
+def read_budgets(path: Path, period: int) -> list[Budget]:
+    """The budgets of a file; nanoseconds are cycles of the period, rounded down."""
+    _, values = read_toml(path)
+    fault = jsonschema.exceptions.best_match(faults(SCHEMA, values))
+    if fault:
+        raise fault
+    return [_budget(table, period) for table in values["budget"]]
+
+
+def _budget(table: Mapping[str, Any], period: int) -> Budget:
+    cycles = table["cycles"] if "cycles" in table else table["ns"] // period
+    return Budget(
+        table["name"], table["thread"], table["from"], table["to"], cycles,
+        table.get("calls", False), tuple(table.get("exits", [])), frozenset(map(Assumption, table.get("assume", []))),
+    )  # fmt: skip

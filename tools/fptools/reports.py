@@ -1,0 +1,84 @@
+"""Results of budgets as JUnit and JSON, with their numbers."""
+from __future__ import annotations
+
+import json
+import re
+from typing import Any
+from xml.etree import ElementTree
+
+from fptools.budget_files import Result, Verdict
+
+NOT_XML = re.compile("[^\t\n\r -\ud7ff\ue000-\ufffd\U00010000-\U0010ffff]")
+
+
+def junit(results: list[Result], name: str, fault: str | None = None) -> bytes:
+    """The results as a JUnit file: what is over is a failure, what is unknown, or stood against all of them, an error."""
+    of = {verdict: sum(it.verdict is verdict for it in results) for verdict in Verdict}
+    faults = 0 if fault is None else 1
+    suite = ElementTree.Element(
+        "testsuite", name=_xml(name), tests=str(len(results) + faults),
+        failures=str(of[Verdict.OVER]), errors=str(of[Verdict.UNKNOWN] + faults),
+    )  # fmt: skip
+    for result in results:
+        kind = {Verdict.HOLDS: None, Verdict.OVER: "failure", Verdict.UNKNOWN: "error"}[result.verdict]
+        case = _case(suite, f"T{result.budget.thread}", result.budget.name, kind, result.text)
+        _add_numbers(case, result)
+    if fault is not None:
+        _case(suite, "fp_budget", name, "error", fault)
+    ElementTree.indent(suite)
+    return bytes(ElementTree.tostring(suite, encoding="utf-8", xml_declaration=True)) + b"\n"
+
+
+def _case(suite: ElementTree.Element, group: str, name: str, kind: str | None, text: str) -> ElementTree.Element:
+    """Adds a case, with a fault of a kind, if it has one."""
+    case = ElementTree.SubElement(suite, "testcase", {"classname": group, "name": _xml(name)})
+    if kind:
+        ElementTree.SubElement(case, kind, message=_xml(text))
+    return case
+
+
+def _add_numbers(case: ElementTree.Element, result: Result) -> None:
+    """Adds the bound, the budget and what it leaves, in cycles, and what is taken for granted."""
+    numbers = {"bound": result.bound, "budget": result.budget.cycles, "slack": result.slack, "ns": result.ns}
+    known = {name: str(number) for name, number in numbers.items() if number is not None}
+    known |= {f"note {at}": _xml(note) for at, note in enumerate(result.notes, 1)}
+    if not known:
+        return
+    properties = ElementTree.Element("properties")
+    case.insert(0, properties)
+    for name, value in known.items():
+        ElementTree.SubElement(properties, "property", name=name, value=value)
+
+
+def as_json(results: list[Result], fault: str | None = None) -> str:
+    """The results as a JSON document: `bound`, `budget` and `slack` are cycles, `ns` is the bound's time."""
+    document: dict[str, Any] = {"results": [_fields(result) for result in results]}
+    if fault is not None:
+        document["error"] = fault
+    return json.dumps(document, indent=2, ensure_ascii=False)
+
+
+def _fields(result: Result) -> dict[str, Any]:
+    budget = result.budget
+    return {
+        "name": budget.name,
+        "thread": budget.thread,
+        "verdict": result.word.lower(),
+        "bound": result.bound,
+        "budget": budget.cycles,
+        "slack": result.slack,
+        "ns": result.ns,
+        "text": result.text,
+        "notes": list(result.notes),
+        "assumes": sorted(it.value for it in budget.assume),
+        "functions": list(result.functions),
+        "loops": [
+            {"at": it.where, "head": it.head, "last": it.last, "bound": it.bound, "by": it.by}
+            for it in result.loops
+        ],
+    }
+
+
+def _xml(text: str) -> str:
+    """A text without the characters that XML has no place for, as names of files may have them."""
+    return NOT_XML.sub("\ufffd", text)
