@@ -95,19 +95,17 @@ class Comments:
         self.section, self.program, self.sources = section, program, sources
 
     def of_loop(self, loop: Loop) -> frozenset[Comment]:
-        """Those of the branches that go back. Where none of them has one: those of the head that stand above or beside
-        them, as further down they are of what the loop has inside. Where the head has none either: those of the
-        innermost loop of the source around a branch that goes back."""
+        """Those of the branches that go back. Where none of them has one: those of the innermost loop of the source in C
+        around such a branch. Where that has none either: those of the head that stand above or beside the branches, as
+        further down they are of what the loop has inside."""
         own = {comment for pc in loop.backs for comment in self._at(pc)}
-        if own:
-            return frozenset(own)
         lines = [line for pc in loop.backs if (line := self.program.line_of(pc))]
-        of_head = {
+        own = own or {comment for line in lines for comment in self._around(line)}
+        return frozenset(own) or frozenset(
             comment
             for comment in self._at(loop.head)
             if any(comment.file == line.file and comment.line <= line.number for line in lines)
-        }
-        return frozenset(of_head or {comment for line in lines for comment in self._around(line)})
+        )
 
     def why_not(self, loop: Loop, own: Collection[Comment]) -> str:
         """Why it isn't certain that comments are of this loop, and of it alone; empty where it is."""
@@ -155,10 +153,11 @@ class Comments:
         own = sorted(set(loop.body).difference(*(it.body for it in inside)))
         text = self._text_of(comment)
         if text is not None:
-            for pc in own:
-                lines = self.program.lines_of(pc)
-                if lines and not any(_is_in(line, comment.file, text) for line in lines):
-                    return f"{self._where(pc, 'the word')} is of no line of the loop with `@rounds`"
+            # What decides about a loop is a branch; other words may come of lines before it.
+            for pc in (pc for pc in own if self.section.reached[pc].flow is Flow.BRANCH):
+                is_known = self.program.line_of(pc) is not None
+                if is_known and not any(_is_in(line, comment.file, text) for line in self.program.lines_of(pc)):
+                    return f"{self._where(pc, 'the branch')} is of no line of the loop with `@rounds`"
         seen = {loop for it in inside for pc in it.body for loop in self._texts_at(pc)}
         missing = set(self.sources.loops_in(comment.file, text)) - {it for file, it in seen if file == comment.file} if text else set()
         if missing:

@@ -2,6 +2,7 @@
 from __future__ import annotations
 
 import subprocess
+import sys
 from pathlib import Path
 from xml.etree import ElementTree
 
@@ -227,7 +228,7 @@ def test_results_that_cannot_be_written_are_unknown(asking: Tool, tmp_path: Path
     (tmp_path / "budgets.toml").write_text(f"[[budget]]\n{STEP}cycles = 352\n")
     with open("/dev/full", "w", encoding="ascii") as full:
         ran = subprocess.run(
-            [TOP / "tools/fp_budget", PID[0], tmp_path / "budgets.toml", *PID[1:]], cwd=TOP,
+            [sys.executable, TOP / "tools/fp_budget", PID[0], tmp_path / "budgets.toml", *PID[1:]], cwd=TOP,
             env=asking.environment, stdout=full, stderr=subprocess.PIPE, text=True, check=False,
         )  # fmt: skip
     assert ran.returncode not in (0, 1)

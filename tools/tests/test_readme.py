@@ -3,6 +3,7 @@ from __future__ import annotations
 
 import os
 import subprocess
+import sys
 from pathlib import Path
 
 import pytest
@@ -36,9 +37,13 @@ def test_each_command_writes_what_is_shown(flexpret: str, tmp_path: Path) -> Non
         ("flexpret", Path(flexpret).resolve()),
     ):
         (tmp_path / name).symlink_to(target)
-    environment = {**os.environ, "FLEXPRET": flexpret}
+    # The tools are run by the Python that runs the tests.
+    (tmp_path / "bin").mkdir()
+    (tmp_path / "bin/python3").write_text(f'#!/bin/sh\nexec {sys.executable} "$@"\n')
+    (tmp_path / "bin/python3").chmod(0o755)
+    environment = {**os.environ, "FLEXPRET": flexpret, "PATH": f"{tmp_path}/bin:{os.environ['PATH']}"}
     blocks = shown()
-    assert len(blocks) == 12
+    assert len(blocks) == 13
     for command, lines in blocks:
         ran = subprocess.run(
             ["bash", "-c", command],
