@@ -19,7 +19,7 @@ from fptools.setup import Setup
 from fptools.sources import Sources
 from fptools.thread import Code, ThreadCode
 from fptools.values import clobbered_by
-from fptools.words import MRET
+from fptools.words import MRET, OPCODE_AUIPC, OPCODE_JALR
 
 __all__ = ["HELP", "Assumption", "Budget", "Judge", "Result", "Unknown", "Verdict"]
 
@@ -40,6 +40,7 @@ HELP = {
     "NoSlot": "no slot is the thread's own",
 }
 REFUSAL = re.compile(r"refused \w+ \d+ (\w+)(?: ([0-9a-f]{8}))?")
+LONG_CALL = "a call by AUIPC and JALR, which the linker didn't shorten, as of clang: compile by -S, or with gcc"
 # What helps against a way out of a section, and out of a function.
 EXIT_HELP = {
     Exit.CALL: "calls = true goes through functions that are called by x1",
@@ -156,9 +157,15 @@ class Judge:
         refusal = REFUSAL.fullmatch(answer.text)
         if refusal is None:
             raise Unknown(text)
-        place = f", {self.where(int(refusal[2], 16))}" if refusal[2] and self.program.path else ""
-        helps = HELP.get(refusal[1])
+        at = int(refusal[2], 16) if refusal[2] else None
+        place = f", {self.where(at)}" if at is not None and self.program.path else ""
+        helps = LONG_CALL if at is not None and self._is_long_call(at) else HELP.get(refusal[1])
         raise Unknown(text + place + (f": {helps}" if helps else ""))
+
+    def _is_long_call(self, pc: int) -> bool:
+        """Whether a word is the second of a call by AUIPC and JALR."""
+        word, before = self._code.word(pc), self._code.word(pc - 4)
+        return word.opcode == OPCODE_JALR and before.opcode == OPCODE_AUIPC and before.rd == word.rs1
 
     def where(self, pc: int) -> str:
         """An address with its symbol and source line."""
@@ -173,6 +180,8 @@ class Judge:
         helps = (FUNCTION_HELP if is_function else EXIT_HELP).get(way.exit)
         if way.word.bits == MRET:
             helps = "MRET leaves a trap handler"
+        elif self._is_long_call(way.word.pc):
+            helps = LONG_CALL
         return f"{self.where(way.word.pc)}{to}: {way.exit.value}" + (f"; {helps}" if helps else "")
 
     def _look_at(self, asked: Asked) -> None:

@@ -270,7 +270,7 @@ def _loop_tables(setup: Setup, words: Words) -> Iterator[Said]:
             text = f"the code counts {rounds} rounds, which is bound = {rounds - 1}; {bound} is {side}"
             yield warning((*path, "bound"), text)
         elif rounds is None and bound == 0:
-            text = "0 says that the loop never goes back: a bound is the rounds less one"
+            text = "0 says that the loop never goes back"
             yield warning((*path, "bound"), text)
 
 

@@ -7,21 +7,29 @@ from fptools.elf import Line, Program
 from fptools.section import Section
 from fptools.sources import Sources
 from fptools.thread import Code, reach
+from fptools.words import OPCODE_AUIPC, OPCODE_IMMEDIATE, OPCODE_LUI, Flow, Word
 
 
 def moved_word(section: Section, code: Code, program: Program, sources: Sources, names: tuple[str, str]) -> int | None:
     """The first word between the section's end and its next execution that was compiled from a line between its marks,
-    which are known by names. None where there is no such word, or no line tables or sources to know it by."""
+    which are known by names. None where there is no such word, or no line tables or sources to know it by. A word that
+    gives a register a number is no work."""
     begin, end = (_line_of_mark(program, sources, name) for name in names)
     if begin is None or end is None or begin.file != end.file:
         return None
     outside = reach(code, [section.end], [section.start])
-    for pc in sorted(outside.words):
+    for pc, word in sorted(outside.words.items()):
         line = program.call_line_of(pc)
         is_between = line is not None and line.file == begin.file and begin.number < line.number < end.number
-        if is_between and not section.holds(pc):
+        if is_between and not section.holds(pc) and not _is_number(code, word):
             return pc
     return None
+
+
+def _is_number(code: Code, word: Word) -> bool:
+    """Whether a word only gives a register a number, by itself or with the straight code before it."""
+    is_plain = word.flow is Flow.NEXT and word.opcode in (OPCODE_LUI, OPCODE_AUIPC, OPCODE_IMMEDIATE)
+    return is_plain and code.value_at(word.next, word.rd) is not None
 
 
 def _line_of_mark(program: Program, sources: Sources, name: str) -> Line | None:
