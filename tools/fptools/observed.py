@@ -1,0 +1,240 @@
+"""What a run showed of a thread, and which bounds, budgets and tables it broke."""
+from __future__ import annotations
+
+import fcntl
+import subprocess
+import tempfile
+from bisect import bisect_left
+from collections import ChainMap
+from contextlib import contextmanager
+from dataclasses import dataclass, field
+from enum import Enum
+from itertools import chain
+from pathlib import Path
+from typing import IO, Collection, Iterator, Mapping, Sequence
+
+from fptools.blocks import Block, BrokenTrace, Progress, Source, TraceReader
+from fptools.program import Flexpret
+from fptools.section import walk
+from fptools.setup import Setup
+from fptools.turns import Turns, turns_of
+from fptools.visits import (
+    CallMeter, Executions, LoopMeter, LoopTable, Meter, Rounds, SectionMeter, Trapped, TrapMeter, Wait, WaitMeter, Watched, measure,
+)  # fmt: skip
+
+PIPE_BYTES = 1 << 20
+WRITE_FAILED = 8  # the status of the program
+DEFAULT_PERIOD = 10  # nanoseconds
+
+
+class RunFailed(Exception):
+    """The program couldn't give the trace of a run."""
+
+
+class Kind(Enum):
+    """What a run can break."""
+
+    TABLE = "table"  # how often a loop goes back
+    BUDGET = "budget"
+    BOUND = "bound"  # in a visit that kept all tables: a fault of the analyser
+
+
+@dataclass(frozen=True)
+class Break:
+    """A break of a table, a budget or a bound."""
+
+    kind: Kind
+    what: str  # the loop's addresses, or the section's name
+    seen: int  # rounds or cycles
+    most: int  # that were allowed
+    cycle: int  # in which it began
+    times: int
+
+
+@dataclass(frozen=True)
+class Question:
+    """What to look at in the trace of a thread."""
+
+    thread: int | None
+    watched: Sequence[Watched] = ()
+    loops: Sequence[LoopTable] = ()
+    turns: Turns | None = None
+    period: int = DEFAULT_PERIOD
+    code: Mapping[int, int] = field(default_factory=dict)  # the words of the image, where it is known
+    is_quiet: bool = True  # no thread may write slots, modes or regions
+
+
+@dataclass
+class Observation:
+    """What the trace of a thread showed."""
+
+    question: Question
+    events: int = 0
+    first_cycle: int | None = None
+    last_cycle: int | None = None
+    executions: list[Executions] = field(default_factory=list)
+    rounds: list[Rounds] = field(default_factory=list)
+    waits: list[Wait] = field(default_factory=list)
+    traps: list[Trapped] = field(default_factory=list)
+    broken: str | None = None  # which line of the trace is broken; all before it was looked at
+    foreign: str | None = None  # why the trace isn't of this image, or of this thread
+
+    @property
+    def breaks(self) -> list[Break]:
+        found = [*self._broken_tables(), *self._broken_budgets()]
+        return found if self.foreign else [*found, *self._broken_bounds()]
+
+    def _broken_tables(self) -> Iterator[Break]:
+        for rounds in self.rounds:
+            table = rounds.table
+            if table.bound is not None and rounds.breaks:
+                cycle, most = max(rounds.breaks, key=lambda it: (it[1], -it[0]))
+                yield Break(Kind.TABLE, spelled_loop(table), most, table.bound, cycle, len(rounds.breaks))
+
+    def _broken_budgets(self) -> Iterator[Break]:
+        for seen in self.executions:
+            longest, budget = seen.longest, seen.watched.budget
+            if longest is not None and budget is not None and longest.most > budget:
+                yield Break(Kind.BUDGET, seen.watched.name, longest.most, budget, longest.at, 1)
+
+    def _broken_bounds(self) -> Iterator[Break]:
+        """The visits above their bound in which no loop went back more often than its table says."""
+        starts = sorted(cycle for rounds in self.rounds for cycle, _ in rounds.breaks)
+        for seen in self.executions:
+            kept = [it for it in seen.over if not _has_break(starts, *it)]
+            if kept and seen.watched.bound is not None:
+                cycle, cycles = max(kept, key=lambda it: (it[1], -it[0]))
+                yield Break(Kind.BOUND, seen.watched.name, cycles, seen.watched.bound, cycle, len(kept))
+
+
+def _has_break(starts: Sequence[int], cycle: int, cycles: int) -> bool:
+    """Whether a loop that broke its table was entered in a visit."""
+    index = bisect_left(starts, cycle)
+    return index < len(starts) and starts[index] <= cycle + cycles
+
+
+def spelled_loop(table: LoopTable) -> str:
+    return f"{table.head:#x} to {table.last:#x}"
+
+
+def tables_of(setup: Setup) -> list[LoopTable]:
+    """The loops that a setup states."""
+    return [LoopTable(it["head"], it["last"], it["bound"]) for it in setup.values.get("loop", [])]
+
+
+def loops_without_table(watched: Collection[Watched], code: Mapping[int, int], stated: Collection[LoopTable]) -> list[LoopTable]:
+    """The loops in the code of sections that no table states, by their heads."""
+    parts = {part for it in watched if not it.is_function for part in ((it.start, it.end), *it.routines)}
+    heads = {head for it in watched for head, _ in it.routines}
+    found = chain.from_iterable(walk(code, start, end, heads).loops for start, end in sorted(parts))
+    known = {it.head for it in stated}
+    return [LoopTable(head, last) for head, last in sorted({(it.head, it.last) for it in found}) if head not in known]
+
+
+def question_of(setup: Setup, thread: int, watched: Sequence[Watched], code: Mapping[int, int]) -> Question:
+    """What to look at in a run of a setup: sections, and all loops that its tables or the sections' code have."""
+    stated = tables_of(setup)
+    loops = [*stated, *loops_without_table(watched, code, stated)]
+    is_quiet = not any(it.get("permit") for it in setup.values.get("thread", []))
+    return Question(thread, watched, loops, turns_of(setup, thread), setup.values["period"], code, is_quiet)
+
+
+class TurnMeter:
+    """Looks whether a thread's events are in its turns, at both ends of each block."""
+
+    def __init__(self, turns: Turns | None) -> None:
+        self._turns = turns
+        self.stranger: int | None = None  # the first cycle that is no turn of the thread
+
+    def take(self, block: Block) -> None:
+        for index in (0, -1):
+            cycle = block.cycle(index)
+            if self._turns is not None and self.stranger is None and not self._turns.owns(cycle):
+                self.stranger = cycle
+
+    def end(self, cycle: int) -> None:
+        """Nothing is open at the end."""
+
+
+def observe(reader: TraceReader, question: Question) -> Observation:
+    """Looks at a trace. Where a line is broken, at all before it."""
+    code: Mapping[int, int] = ChainMap(dict(question.code), reader.words) if question.code else reader.words
+    sections = [SectionMeter(it, question.turns, code) for it in question.watched if not it.is_function]
+    functions = [it for it in question.watched if it.is_function]
+    calls = CallMeter(functions, question.turns, reader)
+    loops = [LoopMeter(table) for table in question.loops]
+    waits, traps = WaitMeter(reader, question.turns, question.period), TrapMeter()
+    turns = TurnMeter(question.turns)
+    meters: list[Meter] = [*sections, *loops, waits, traps, turns, *([calls] if functions else [])]
+    seen = Observation(question)
+    try:
+        measure(reader, meters)
+    except BrokenTrace as fault:
+        seen.broken = str(fault)
+    seen.events, seen.first_cycle, seen.last_cycle = reader.events, reader.first_cycle, reader.last_cycle
+    seen.executions = [*(it.seen for it in sections), *calls.seen.values()]
+    seen.rounds = [it.seen for it in loops]
+    seen.waits = sorted(waits.seen.values(), key=lambda it: it.pc)
+    seen.traps = sorted(traps.seen.values(), key=lambda it: it.first)
+    seen.foreign = _foreign(reader, question, turns)
+    return seen
+
+
+def _foreign(reader: TraceReader, question: Question, turns: TurnMeter) -> str | None:
+    """Why a trace isn't of this image and thread."""
+    if question.code:
+        for pc, bits in sorted(reader.words.items()):
+            if bits and bits != question.code.get(pc, 0):
+                text = f"the trace has the word {bits:08x}, the image {question.code.get(pc, 0):08x}"
+                return f"{pc:#x}: {text}: the trace is of another program"
+    if turns.stranger is not None:
+        return f"cycle {turns.stranger} is no turn of T{question.thread}: the trace is of another thread or setup"
+    return None
+
+
+class _Tailed:
+    """A stream that keeps its last bytes, and knows whether it was read to its end."""
+
+    def __init__(self, stream: IO[bytes]) -> None:
+        self._stream = stream
+        self.is_at_end = False
+        self.tail = b""
+
+    def read(self, size: int, /) -> bytes:
+        data = self._stream.read(size)
+        self.is_at_end = not data
+        self.tail = data[-200:] or self.tail
+        return data
+
+
+@contextmanager
+def opened_run(flexpret: Flexpret, setup: Path, thread: int, cycles: int) -> Iterator[Source]:
+    """The trace of a run, as the program writes it. A refusal, and a run that fails, are `RunFailed`."""
+    words = [flexpret.path, "run", str(setup), "--thread", str(thread), "--cycles", str(cycles)]
+    with tempfile.TemporaryFile() as errors:
+        with subprocess.Popen(words, stdout=subprocess.PIPE, stderr=errors) as ran:
+            assert ran.stdout is not None
+            fcntl.fcntl(ran.stdout, fcntl.F_SETPIPE_SZ, PIPE_BYTES)
+            source = _Tailed(ran.stdout)
+            try:
+                yield source
+            finally:
+                ran.stdout.close()
+                if not source.is_at_end:
+                    ran.terminate()
+        # A program that is left before its end can't write the rest, which isn't its fault.
+        if ran.returncode > 0 and (source.is_at_end or ran.returncode != WRITE_FAILED):
+            errors.seek(0)
+            text = (source.tail if source.tail.startswith(b"refused") else errors.read()).decode("utf-8", "replace")
+            raise RunFailed(f"run {setup} --thread {thread}: status {ran.returncode}: {text.strip().split(chr(10))[0]}")
+
+
+def run_and_observe(
+    flexpret: Flexpret, setup: Setup, question: Question, cycles: int, start: int = 0, end: int | None = None, name: str = "fp_visits"
+) -> Observation:
+    """Runs a thread for some cycles and looks at its trace, from cycle `start` on and before `end`."""
+    assert question.thread is not None
+    most = min(cycles, end) if end is not None else cycles
+    with opened_run(flexpret, setup.path, question.thread, cycles) as source:
+        reader = TraceReader(source, f"T{question.thread}", start, end, Progress(name, most))
+        return observe(reader, question)

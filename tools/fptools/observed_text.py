@@ -1,0 +1,214 @@
+"""Observations as text, JSON and CSV."""
+from __future__ import annotations
+
+import csv
+import io
+from typing import Any, Callable, Iterator
+
+from fptools.elf import Program
+from fptools.observed import Break, Kind, Observation, spelled_loop
+from fptools.trace import CAUSES
+from fptools.visits import Executions, Rounds, Spread, Wait
+
+NO_NUMBER = "-"
+COLUMNS = (
+    "thread name from to kind executions shortest mean longest longest_at bound ratio budget interrupted interrupted_longest "
+    "detours detours_longest traps left given_up period_shortest period_mean period_longest jitter"
+).split()
+CARRY = "; the moment's high word is behind: is its carry added?"
+
+
+def ratio(seen: Executions) -> float | None:
+    """The longest execution, of those that the bound speaks of, over the bound."""
+    bound = seen.watched.bound
+    return seen.whole.most / bound if bound and seen.whole.count else None
+
+
+def _number(value: int | None) -> str:
+    return NO_NUMBER if value is None else str(value)
+
+
+class Text:
+    """The lines of an observation, with names of addresses."""
+
+    def __init__(self, program: Program) -> None:
+        self._program = program
+
+    def at(self, pc: int) -> str:
+        name = self._program.name_of(pc)
+        return f"{pc:#x} {name}" if name else f"{pc:#x}"
+
+    def lines(self, seen: Observation) -> Iterator[str]:
+        thread = NO_NUMBER if seen.question.thread is None else f"T{seen.question.thread}"
+        if seen.first_cycle is None:
+            yield f"{thread}: no events"
+            return
+        yield f"{thread}: {seen.events} events, cycles {seen.first_cycle} to {seen.last_cycle}"
+        groups: tuple[tuple[Callable[[Observation], Iterator[str]], int], ...] = (
+            (self._executions, len(seen.executions)),
+            (self._rounds, len(seen.rounds)),
+            (self._waits, len(seen.waits)),
+            (self._traps, len(seen.traps)),
+        )
+        for group, count in groups:
+            if count:
+                yield ""
+                yield from group(seen)
+
+    def _executions(self, seen: Observation) -> Iterator[str]:
+        yield f"{'executions, cycles':<32}{'number':>9}{'shortest':>10}{'mean':>11}{'longest':>10}{'at cycle':>12}{'bound':>10}{'ratio':>7}{'budget':>10}"
+        for it in seen.executions:
+            yield self._execution(it)
+            yield from (f"    {line}" for line in self._remarks(it, seen.question.period))
+
+    def _execution(self, it: Executions) -> str:
+        whole, part = it.whole, ratio(it)
+        spread = f"{whole.least:>10}{whole.mean:>11.1f}{whole.most:>10}{whole.at:>12}" if whole.count else f"{NO_NUMBER:>10}{NO_NUMBER:>11}{NO_NUMBER:>10}{NO_NUMBER:>12}"
+        share = NO_NUMBER if part is None else f"{part:.2f}"
+        return f"{it.watched.name:<32}{whole.count:>9}{spread}{_number(it.watched.bound):>10}{share:>7}{_number(it.watched.budget):>10}"
+
+    def _remarks(self, it: Executions, period: int) -> Iterator[str]:
+        if it.watched.doubt:
+            yield f"no bound: {it.watched.doubt}"
+        if it.periods.count:
+            yield _period(it.periods, period)
+        for spread, what in ((it.interrupted, "with a trap between begin and end"), (it.detours, "that left the section and came back")):
+            if spread.count:
+                yield f"{spread.count} more {what}: {spread.least} to {spread.most} cycles, the longest at cycle {spread.at}"
+        if it.left:
+            where = ", ".join(f"to {self.at(pc)} {times} times" for pc, times in it.left.most_common(3))
+            yield f"left other than by its end: {where}; the bound ends there"
+        if it.given_up:
+            yield f"{it.given_up} began again before they ended"
+        if it.unfinished:
+            yield f"one began in cycle {it.unfinished[0]} and hadn't ended {it.unfinished[1]} cycles later"
+
+    def _rounds(self, seen: Observation) -> Iterator[str]:
+        yield f"{'loops, times back to the head':<32}{'entries':>9}{'least':>10}{'mean':>11}{'most':>10}{'at cycle':>12}{'table':>10}"
+        for it in seen.rounds:
+            yield self._loop(it)
+            if it.elsewhere:
+                yield f"    {it.elsewhere} entries at another word than the head"
+
+    def _loop(self, it: Rounds) -> str:
+        backs = it.backs
+        name = f"{spelled_loop(it.table)} {self._program.name_of(it.table.head)}".rstrip()
+        spread = f"{backs.least:>10}{backs.mean:>11.1f}{backs.most:>10}{backs.at:>12}" if backs.count else f"{NO_NUMBER:>10}{NO_NUMBER:>11}{NO_NUMBER:>10}{NO_NUMBER:>12}"
+        return f"{name:<32}{backs.count:>9}{spread}{'none' if it.table.bound is None else it.table.bound:>10}"
+
+    def _waits(self, seen: Observation) -> Iterator[str]:
+        yield f"{'waits':<32}{'number':>9}{'waited':>10}{'overruns':>11}{'latest, ns':>12}{'at cycle':>12}{'least slack, ns':>17}"
+        for it in seen.waits:
+            yield self._wait(it)
+
+    def _wait(self, it: Wait) -> str:
+        name = f"{self.at(it.pc)} {'du' if it.is_delay else 'wu'}"
+        late = f"{it.late.most:>12}{it.late.at:>12}" if it.late.count else f"{NO_NUMBER:>12}{_number(it.first_overrun):>12}"
+        slack = it.slack.least if it.slack.count else None
+        return f"{name:<32}{it.count:>9}{it.waited:>10}{it.overruns:>11}{late}{_number(slack):>17}{CARRY if it.is_carry else ''}"
+
+    def _traps(self, seen: Observation) -> Iterator[str]:
+        yield f"{'traps':<32}{'number':>9}{'first at':>12}  cause"
+        for it in seen.traps:
+            yield f"{self.at(it.pc):<32}{it.count:>9}{it.first:>12}  {it.cause} {CAUSES.get(it.cause, 'unknown')}"
+
+    def broken(self, seen: Observation, it: Break) -> str:
+        """The line of a break."""
+        thread = "" if seen.question.thread is None else f"T{seen.question.thread} "
+        if it.kind is Kind.TABLE:
+            head = int(it.what.split()[0], 16)
+            name = f"{it.what} {self._program.name_of(head)}".rstrip()
+            text = f"went back {it.seen} times from cycle {it.cycle} on, its table says {it.most}; {it.times} entries broke it"
+            return f"TABLE   {thread}loop {name}: {text}"
+        if it.kind is Kind.BUDGET:
+            return f"OVER    {thread}{it.what}: {it.seen} of {it.most} cycles, from cycle {it.cycle}"
+        text = f"{it.seen} cycles from cycle {it.cycle}, {it.times} times above its bound of {it.most}"
+        return f"FAULT   {thread}{it.what}: {text}{'' if seen.question.is_quiet else NOT_QUIET}{REPORT if seen.question.is_quiet else ''}"
+
+
+NOT_QUIET = ": a thread has a permit, and a bound holds only while no slots, modes or regions are written"
+REPORT = ", though each loop kept its table: a fault of the analyser; please report it with setup, image and trace"
+
+
+def _period(spread: Spread, period: int) -> str:
+    jitter = spread.most - spread.least
+    return f"period: {spread.mean:.1f} cycles, {spread.least} to {spread.most}, jitter {jitter} cycles = {jitter * period} ns"
+
+
+def _spread(spread: Spread, **more: Any) -> dict[str, Any]:
+    if not spread.count:
+        return {"number": 0}
+    return {"number": spread.count, "shortest": spread.least, "mean": spread.mean, "longest": spread.most, "longest_at": spread.at, **more}
+
+
+def as_data(seen: Observation, text: Text) -> dict[str, Any]:
+    """An observation as JSON has it. Cycles and nanoseconds are integers, means are not."""
+    return {
+        "thread": seen.question.thread,
+        "period_ns": seen.question.period,
+        "events": seen.events,
+        "first_cycle": seen.first_cycle,
+        "last_cycle": seen.last_cycle,
+        "sections": [_section(it) for it in seen.executions],
+        "loops": [_loop(it) for it in seen.rounds],
+        "waits": [_wait(it) for it in seen.waits],
+        "traps": [{"pc": it.pc, "cause": it.cause, "number": it.count, "first_at": it.first} for it in seen.traps],
+        "breaks": [
+            {"kind": it.kind.value, "what": it.what, "seen": it.seen, "most": it.most, "cycle": it.cycle, "times": it.times, "text": text.broken(seen, it)}
+            for it in seen.breaks
+        ],
+        "broken_trace": seen.broken,
+        "foreign_trace": seen.foreign,
+    }
+
+
+def _section(it: Executions) -> dict[str, Any]:
+    watched = it.watched
+    jitter = {"jitter": it.periods.most - it.periods.least}
+    unfinished = {"since": it.unfinished[0], "cycles": it.unfinished[1]} if it.unfinished else None
+    return {
+        "name": watched.name, "from": watched.start, "to": watched.end, "kind": "function" if watched.is_function else "section",
+        "executions": _spread(it.whole), "interrupted": _spread(it.interrupted), "detours": _spread(it.detours),
+        "period": _spread(it.periods, **jitter), "traps": it.traps,
+        "left": [{"to": pc, "number": times} for pc, times in it.left.most_common()],
+        "given_up": it.given_up, "unfinished": unfinished,
+        "bound": watched.bound, "no_bound": watched.doubt or None, "ratio": ratio(it), "budget": watched.budget,
+    }  # fmt: skip
+
+
+def _loop(it: Rounds) -> dict[str, Any]:
+    table = it.table
+    return {
+        "head": table.head, "last": table.last, "bound": table.bound, "backs": _spread(it.backs),
+        "breaks": len(it.breaks), "entries_elsewhere": it.elsewhere,
+    }  # fmt: skip
+
+
+def _wait(it: Wait) -> dict[str, Any]:
+    return {
+        "pc": it.pc, "kind": "du" if it.is_delay else "wu", "number": it.count, "waited": it.waited, "overruns": it.overruns,
+        "late_ns": _spread(it.late), "slack_ns": _spread(it.slack), "first_overrun": it.first_overrun, "carry_missing": it.is_carry,
+    }  # fmt: skip
+
+
+def as_csv(seen: list[Observation]) -> str:
+    """A header and a row for each section and function."""
+    out = io.StringIO()
+    writer = csv.writer(out, lineterminator="\n")
+    writer.writerow(COLUMNS)
+    for observation in seen:
+        writer.writerows(_row(observation, it) for it in observation.executions)
+    return out.getvalue()
+
+
+def _row(seen: Observation, it: Executions) -> list[Any]:
+    watched, whole, periods, part = it.watched, it.whole, it.periods, ratio(it)
+    spread: list[Any] = [whole.least, round(whole.mean, 3), whole.most, whole.at] if whole.count else [""] * 4
+    period: list[Any] = [periods.least, round(periods.mean, 3), periods.most, periods.most - periods.least] if periods.count else [""] * 4
+    return [
+        "" if seen.question.thread is None else seen.question.thread, watched.name, f"{watched.start:#x}", f"{watched.end:#x}",
+        "function" if watched.is_function else "section", whole.count, *spread,
+        "" if watched.bound is None else watched.bound, "" if part is None else round(part, 4),
+        "" if watched.budget is None else watched.budget,
+        it.interrupted.count, it.interrupted.most, it.detours.count, it.detours.most, it.traps, sum(it.left.values()), it.given_up, *period,
+    ]  # fmt: skip

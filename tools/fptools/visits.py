@@ -1,0 +1,609 @@
+"""Measures executions of sections and functions, rounds of loops, waits and traps in a trace.
+
+Each meter takes the blocks of a trace in order. Cycles are counted as the bound counts them: from an issue of a section's first word to
+the first issue outside of the section (docs/FORMATS.md, "What the number means")."""
+from __future__ import annotations
+
+import re
+from bisect import bisect_left
+from collections import Counter
+from dataclasses import dataclass, field
+from enum import Enum, auto
+from functools import lru_cache
+from typing import Collection, Iterable, Mapping, Protocol
+
+from fptools.blocks import (
+    BITS, EFFECT, PC, Block, TraceReader, address, character, class_of, span, trap_character,
+)  # fmt: skip
+from fptools.turns import Turns, is_delay, lag
+from fptools.words import MRET, OPCODE_JAL, OPCODE_JALR, OPCODE_TIMING, Word
+
+MOST_KEPT = 10_000  # places of breaks that are kept
+MOST_OPEN_CALLS = 10_000
+CAUSE_FETCH, CAUSE_EXPIRY = 1, 24
+RETURN_REGISTER = 1
+FUNCT3_DU, FUNCT3_WU = 2, 3
+
+
+@dataclass
+class Spread:
+    """How many numbers there were, the least, the largest with the cycle of the first that large, and their sum."""
+
+    count: int = 0
+    least: int = 0
+    most: int = 0
+    at: int = 0
+    total: int = 0
+
+    def add(self, number: int, cycle: int, times: int = 1) -> None:
+        if not self.count or number < self.least:
+            self.least = number
+        if not self.count or number > self.most:
+            self.most, self.at = number, cycle
+        self.count += times
+        self.total += number * times
+
+    @property
+    def mean(self) -> float:
+        return self.total / self.count if self.count else 0.0
+
+
+@dataclass(frozen=True)
+class Watched:
+    """A section, by its first word and the address behind its last, with what is known of how long it may take."""
+
+    name: str
+    start: int
+    end: int
+    routines: tuple[tuple[int, int], ...] = ()  # that it calls: the first address, and the one behind the last
+    exits: frozenset[int] = frozenset()  # other addresses at which it may end
+    bound: int | None = None  # cycles
+    budget: int | None = None  # cycles
+    doubt: str = ""  # why there is no bound
+    is_function: bool = False  # from a call of the function at `start` to the word after the call
+
+
+@dataclass
+class Executions:
+    """What was seen of a section or function."""
+
+    watched: Watched
+    whole: Spread = field(default_factory=Spread)  # those that the bound speaks of
+    interrupted: Spread = field(default_factory=Spread)  # with a trap between begin and end
+    detours: Spread = field(default_factory=Spread)  # that left the section and came back
+    periods: Spread = field(default_factory=Spread)  # from one begin to the next
+    cut: Spread = field(default_factory=Spread)  # up to a trap, or to where the section was left
+    traps: int = 0
+    left: Counter[int] = field(default_factory=Counter)  # to which addresses other than its ends
+    given_up: int = 0  # executions that began again before they ended
+    unfinished: tuple[int, int] | None = None  # the cycle in which the last one began, and its cycles so far
+    over: list[tuple[int, int]] = field(default_factory=list)  # visits above the bound: cycle and cycles
+
+    @property
+    def count(self) -> int:
+        return self.whole.count + self.interrupted.count + self.detours.count
+
+    @property
+    def longest(self) -> Spread | None:
+        """The spread that has the longest execution, however it went."""
+        seen = [it for it in (self.whole, self.interrupted, self.detours) if it.count]
+        return max(seen, key=lambda spread: spread.most) if seen else None
+
+    def met(self, cycle: int, cycles: int) -> None:
+        """Compares a visit, as the bound speaks of them, with the bound."""
+        bound = self.watched.bound
+        if bound is not None and cycles > bound and len(self.over) < MOST_KEPT:
+            self.over.append((cycle, cycles))
+
+
+@dataclass(frozen=True)
+class LoopTable:
+    """A loop by its first and last word, and how often a table says that it goes back, at most."""
+
+    head: int
+    last: int
+    bound: int | None = None
+
+
+@dataclass
+class Rounds:
+    """How often a loop went back to its head, each time that it was entered."""
+
+    table: LoopTable
+    backs: Spread = field(default_factory=Spread)
+    breaks: list[tuple[int, int]] = field(default_factory=list)  # the cycle of the entry, and how often it went back
+    elsewhere: int = 0  # entries at another word than the head
+
+
+@dataclass
+class Wait:
+    """What was seen of a DU or WU. Moments are nanoseconds."""
+
+    pc: int
+    is_delay: bool
+    count: int = 0
+    waited: int = 0  # that spun or slept
+    overruns: int = 0  # whose moment had passed before the first try
+    late: Spread = field(default_factory=Spread)  # nanoseconds since the moment, of the overruns with a known moment
+    slack: Spread = field(default_factory=Spread)  # nanoseconds to the moment, of the others
+    first_overrun: int | None = None  # its cycle
+    is_carry: bool = False  # the moment's high word lags: a carry is missing
+
+
+@dataclass
+class Trapped:
+    """Traps of one cause at one address."""
+
+    pc: int
+    cause: int
+    count: int = 0
+    first: int = 0
+
+
+class Meter(Protocol):
+    def take(self, block: Block) -> None:
+        """Takes the next block."""
+
+    def end(self, cycle: int) -> None:
+        """Takes note that the trace ended, with an event of this cycle."""
+
+
+@lru_cache(maxsize=4096)
+def _search(classes: str) -> re.Pattern[str]:
+    return re.compile(f"[{classes}]")
+
+
+def _trap_class(pcs: Iterable[int]) -> str:
+    return "".join(f"\\u{ord(trap_character(pc)):04x}" for pc in pcs)
+
+
+def first_try(block: Block, index: int, turns: Turns | None) -> int:
+    """The cycle in which an event's word issued first: a DU that spins shows only the issue that goes on."""
+    line, before = block.lines[index], block.line(index - 1)
+    cycle = block.cycle(index)
+    if before is None or turns is None or before[EFFECT] == b"wait":
+        return cycle
+    word = Word(int(before[PC], 16), int(before[BITS], 16))
+    earliest = int(before[:10]) + lag(word, int(line[PC], 16), before[EFFECT].startswith(b"trap"))
+    return min(cycle, turns.next(earliest))
+
+
+class _Where(Enum):
+    OUTSIDE = auto()
+    INSIDE = auto()
+    AWAY = auto()  # a trap came, or the section was left, before the execution ended
+
+
+class SectionMeter:
+    """Measures a section."""
+
+    def __init__(self, watched: Watched, turns: Turns | None, code: Mapping[int, int]) -> None:
+        self.seen = Executions(watched)
+        self._turns, self._code = turns, code
+        self._ends = frozenset({watched.end, *watched.exits})
+        own = span(watched.start, watched.end)
+        called = "".join(span(*routine) for routine in watched.routines)
+        self._first = character(watched.start)
+        self._begin = _search(class_of(watched.start) + _trap_class([watched.start]))
+        self._inside = re.compile(f"[{own}{called}]*")
+        self._back = own + class_of(*self._ends) + _trap_class(self._ends)
+        self._where = _Where.OUTSIDE
+        self._started = 0
+        self._began_before: int | None = None
+        self._is_clean = True  # neither trap nor detour so far
+        self._has_trap = False
+        self._resumes: tuple[int, ...] = ()
+
+    def take(self, block: Block) -> None:
+        position = 0
+        step = {_Where.OUTSIDE: self._seek, _Where.INSIDE: self._go_on, _Where.AWAY: self._come_back}
+        while position < len(block.events):
+            position = step[self._where](block, position)
+
+    def end(self, cycle: int) -> None:
+        if self._where is _Where.OUTSIDE:
+            return
+        so_far = cycle - self._started
+        self.seen.unfinished = self._started, so_far
+        if self._is_clean:
+            self.seen.met(self._started, so_far)
+
+    def _seek(self, block: Block, position: int) -> int:
+        """Looks for the first word of the section; a turn that an expiry or a refused fetch takes is no begin."""
+        found = self._begin.search(block.events, position)
+        if found is None:
+            return len(block.events)
+        index = found.start()
+        is_trap = found.group() != self._first
+        if is_trap and _cause(block.lines[index]) in (CAUSE_FETCH, CAUSE_EXPIRY):
+            return index + 1
+        self._open(block.cycle(index))
+        if is_trap:
+            self._cut_by_trap(block, index)
+        return index + 1
+
+    def _open(self, cycle: int) -> None:
+        if self._began_before is not None:
+            self.seen.periods.add(cycle - self._began_before, self._began_before)
+        self._began_before = self._started = cycle
+        self._where = _Where.INSIDE
+        self._is_clean, self._has_trap = True, False
+
+    def _go_on(self, block: Block, position: int) -> int:
+        """Goes on to the first event that is outside, or traps."""
+        inside = self._inside.match(block.events, position)
+        index = inside.end() if inside else position
+        if index == len(block.events):
+            return index
+        pc = address(block.events[index])
+        if pc in self._ends:
+            self._close(block, index)
+        elif block.events[index] != character(int(block.lines[index][PC], 16)) and self._holds(pc):
+            self._cut_by_trap(block, index)
+        else:
+            self._cut_by_leaving(block, index)
+        return index + 1
+
+    def _holds(self, pc: int | None) -> bool:
+        watched = self.seen.watched
+        parts = ((watched.start, watched.end), *watched.routines)
+        return pc is not None and any(start <= pc < end for start, end in parts)
+
+    def _end_cycle(self, block: Block, index: int) -> int:
+        pc = int(block.lines[index][PC], 16)
+        return first_try(block, index, self._turns) if is_delay(self._code.get(pc, 0)) else block.cycle(index)
+
+    def _close(self, block: Block, index: int) -> None:
+        cycles = self._end_cycle(block, index) - self._started
+        if self._is_clean:
+            self.seen.whole.add(cycles, self._started)
+            self.seen.met(self._started, cycles)
+        else:
+            (self.seen.interrupted if self._has_trap else self.seen.detours).add(cycles, self._started)
+        self._where = _Where.OUTSIDE
+
+    def _cut(self, cycle: int) -> None:
+        if self._is_clean:
+            self.seen.cut.add(cycle - self._started, self._started)
+            self.seen.met(self._started, cycle - self._started)
+        self._is_clean = False
+        self._where = _Where.AWAY
+
+    def _cut_by_trap(self, block: Block, index: int) -> None:
+        self._cut(block.cycle(index))
+        self.seen.traps += 1
+        self._has_trap = True
+        pc = int(block.lines[index][PC], 16)
+        self._resumes = pc, pc + 4
+
+    def _cut_by_leaving(self, block: Block, index: int) -> None:
+        self._cut(self._end_cycle(block, index))
+        self.seen.left[int(block.lines[index][PC], 16)] += 1
+        self._resumes = ()
+
+    def _come_back(self, block: Block, position: int) -> int:
+        """Looks for the word at which the execution goes on or ends, or the section begins again."""
+        found = _search(self._back + class_of(*self._resumes)).search(block.events, position)
+        if found is None:
+            return len(block.events)
+        index, pc = found.start(), address(found.group())
+        if pc in self._ends:
+            self._close(block, index)
+            return index + 1
+        if found.group() == self._first and pc not in self._resumes:
+            self.seen.given_up += 1
+            self._open(block.cycle(index))
+        self._where = _Where.INSIDE
+        return index
+
+
+class LoopMeter:
+    """Counts how often a loop goes back to its head, each time that it is entered: its counter as bounds define it. Calls and traps
+    between don't end an entry where the thread comes back into the loop."""
+
+    def __init__(self, table: LoopTable) -> None:
+        self.seen = Rounds(table)
+        self._run = re.compile(f"[{span(table.head, table.last + 4)}]+")
+        self._head, self._trap_at_head = character(table.head), trap_character(table.head)
+        self._backs: int | None = None  # of the entry that is open
+        self._entered = 0  # its cycle
+        self._touches = False  # the last event was in the loop
+        self._is_taken = False  # an expiry took the turn of the head, after a word of the loop
+
+    def take(self, block: Block) -> None:
+        events = block.events
+        if self._trap_at_head in events or self._is_taken or not self._take_alike(block):
+            self._take_in_order(block)
+        self._touches = self._run.match(events, len(events) - 1) is not None
+
+    def end(self, cycle: int) -> None:
+        """An entry that is still open counts where it went back more often than all others, or than its table says."""
+        bound, most = self.seen.table.bound, self.seen.backs.most
+        if self._backs is not None and (self._backs > most or bound is not None and self._backs > bound):
+            self._close()
+
+    def _take_alike(self, block: Block) -> bool:
+        """Counts equal runs of the loop's words together, where each is an entry, and none goes back more often than those before.
+        Otherwise nothing is counted, and the answer is False."""
+        runs = self._run.findall(block.events)
+        first = 1 if runs and self._touches and self._run.match(block.events) else 0
+        middle = Counter(runs[first:-1])
+        spread, table = self.seen.backs, self.seen.table
+        most = spread.most if table.bound is None else min(spread.most, table.bound)
+        kinds = [(run.count(self._head) - 1, times) for run, times in middle.items() if run[0] == self._head]
+        is_plain = len(runs) > first + 1 and len(kinds) == len(middle) and runs[-1][0] == self._head
+        if not is_plain or not spread.count or any(backs > most for backs, _ in kinds):
+            return False
+        if first and self._backs is not None:
+            self._backs += runs[0].count(self._head)
+        self._close()
+        for backs, times in kinds:
+            spread.add(backs, 0, times)
+        last = block.events.rfind(runs[-1])
+        self._open(block.cycle(last), runs[-1].count(self._head) - 1)
+        return True
+
+    def _take_in_order(self, block: Block) -> None:
+        events = block.events
+        if self._touches and events[0] == self._trap_at_head:
+            self._is_taken = True
+        for run in self._run.finditer(events):
+            heads = run.group().count(self._head)
+            self._take_run(block, run.start(), heads, run.group()[0] == self._head)
+            self._is_taken = run.end() < len(events) and events[run.end()] == self._trap_at_head
+
+    def _take_run(self, block: Block, index: int, heads: int, begins: bool) -> None:
+        goes_on = index == 0 and self._touches or self._is_taken and _is_return_of_trap(block.line(index - 1))
+        if begins and not goes_on:
+            self._close()
+            self._open(block.cycle(index), heads - 1)
+        elif self._backs is not None:
+            self._backs += heads
+        else:
+            self.seen.elsewhere += 1
+            self._open(block.cycle(index), heads)
+
+    def _open(self, cycle: int, backs: int) -> None:
+        self._entered, self._backs = cycle, backs
+
+    def _close(self) -> None:
+        if self._backs is None:
+            return
+        self.seen.backs.add(self._backs, self._entered)
+        bound = self.seen.table.bound
+        if bound is not None and self._backs > bound and len(self.seen.breaks) < MOST_KEPT:
+            self.seen.breaks.append((self._entered, self._backs))
+        self._backs = None
+
+
+class Known:
+    """Addresses whose words are of some kind, among those that a trace has issued so far."""
+
+    def __init__(self, reader: TraceReader) -> None:
+        self._reader = reader
+        self._looked_at: set[int] = set()
+        self.kinds: dict[str, set[int]] = {}
+        self.pattern: re.Pattern[str] | None = None
+
+    def learn(self) -> None:
+        words = self._reader.words
+        if len(words) == len(self._looked_at):
+            return
+        for pc in words.keys() - self._looked_at:
+            kind = self.kind_of(Word(pc, words[pc]))
+            if kind:
+                self.kinds.setdefault(kind, set()).add(pc)
+        self._looked_at = set(words)
+        pcs = [pc for group in self.kinds.values() for pc in group]
+        self.pattern = re.compile(f"[{class_of(*pcs)}]") if pcs else None
+
+    def kind_of(self, word: Word) -> str | None:
+        raise NotImplementedError
+
+
+CALL, RETURN, DU, WU = "call", "return", "du", "wu"
+
+
+class KnownCalls(Known):
+    """Calls and returns. A call keeps the next address in x1; a return is any other jump through a register."""
+
+    def kind_of(self, word: Word) -> str | None:
+        if word.opcode not in (OPCODE_JAL, OPCODE_JALR) or not word.is_code:
+            return None
+        if word.rd == RETURN_REGISTER:
+            return CALL
+        return RETURN if word.opcode == OPCODE_JALR and word.rd == 0 else None
+
+
+class KnownWaits(Known):
+    """DU and WU."""
+
+    def kind_of(self, word: Word) -> str | None:
+        if word.opcode != OPCODE_TIMING or not word.is_code:
+            return None
+        return {FUNCT3_DU: DU, FUNCT3_WU: WU}.get(word.funct3)
+
+
+@dataclass(frozen=True)
+class _Open:
+    """A call that hasn't returned: the address after it, its cycle, how many traps there were before it, and whom it called."""
+
+    back: int
+    cycle: int
+    traps: int
+    callee: int | None
+
+
+class CallMeter:
+    """Measures functions: from the issue of a call to the first issue after its return, with all that the function calls."""
+
+    def __init__(self, watched: Iterable[Watched], turns: Turns | None, reader: TraceReader) -> None:
+        self.seen = {it.start: Executions(it) for it in watched}
+        self._turns, self._reader = turns, reader
+        self._known = KnownCalls(reader)
+        self._stack: list[_Open] = []
+        self._began_before: dict[int, int] = {}  # the cycle of the newest call of each function
+        self._traps = 0
+        self._jump: bytes | None = None  # a call or return at the end of the block before
+
+    def take(self, block: Block) -> None:
+        self._known.learn()
+        if self._jump is not None:
+            self._take_jump(block, -1)
+            self._jump = None
+        if self._known.pattern is not None:
+            for jump in self._known.pattern.finditer(block.events):
+                if jump.start() + 1 == len(block.events):
+                    self._jump = block.lines[-1]
+                else:
+                    self._take_jump(block, jump.start())
+        self._traps += len(block.traps)
+
+    def end(self, cycle: int) -> None:
+        for call in self._stack:
+            if call.callee in self.seen:
+                self.seen[call.callee].unfinished = call.cycle, cycle - call.cycle
+
+    def _take_jump(self, block: Block, index: int) -> None:
+        line = self._jump if index < 0 else block.lines[index]
+        assert line is not None
+        pc, to = int(line[PC], 16), address(block.events[index + 1])
+        traps = self._traps + bisect_left(block.traps, index + 1)
+        if pc in self._known.kinds.get(CALL, ()):
+            self._call(pc, to, int(line[:10]), traps)
+        elif to is not None:
+            self._return(block, index + 1, to, traps)
+
+    def _call(self, pc: int, callee: int | None, cycle: int, traps: int) -> None:
+        if len(self._stack) == MOST_OPEN_CALLS:
+            del self._stack[: MOST_OPEN_CALLS // 2]
+        self._stack.append(_Open(pc + 4, cycle, traps, callee))
+        if callee in self.seen:
+            if callee in self._began_before:
+                before = self._began_before[callee]
+                self.seen[callee].periods.add(cycle - before, before)
+            self._began_before[callee] = cycle
+
+    def _return(self, block: Block, index: int, to: int, traps: int) -> None:
+        """Closes the newest open call that this comes back to, and those within it. Another jump is none."""
+        for depth in range(len(self._stack) - 1, -1, -1):
+            if self._stack[depth].back == to:
+                break
+        else:
+            return
+        call = self._stack[depth]
+        del self._stack[depth:]
+        if call.callee not in self.seen:
+            return
+        seen = self.seen[call.callee]
+        is_du = is_delay(self._reader.words.get(to, 0))
+        cycles = (first_try(block, index, self._turns) if is_du else block.cycle(index)) - call.cycle
+        if traps > call.traps:
+            seen.interrupted.add(cycles, call.cycle)
+            seen.traps += traps - call.traps
+        else:
+            seen.whole.add(cycles, call.cycle)
+            seen.met(call.cycle, cycles)
+
+
+class WaitMeter:
+    """Looks at each DU and WU: whether it waited, and how late it was."""
+
+    def __init__(self, reader: TraceReader, turns: Turns | None, period: int) -> None:
+        self.seen: dict[int, Wait] = {}
+        self._reader, self._turns, self._period = reader, turns, period
+        self._known = KnownWaits(reader)
+        self._values: dict[int, int] = {0: 0}  # of the registers that waits name, as far as the trace shows them
+
+    def take(self, block: Block) -> None:
+        self._known.learn()
+        begin = 0
+        if self._known.pattern is not None:
+            for found in self._known.pattern.finditer(block.events):
+                index = found.start()
+                place = block.data.find(block.lines[index][:19], begin)
+                self._learn(block.data, begin, place)
+                begin = place
+                self._look_at(block, index)
+        self._learn(block.data, begin, len(block.data))
+
+    def end(self, cycle: int) -> None:
+        """Nothing is open at the end."""
+
+    def _registers(self) -> set[int]:
+        words = self._reader.words
+        waits = [Word(pc, words[pc]) for group in self._known.kinds.values() for pc in group]
+        return {register for word in waits for register in (word.rs1, word.rs2) if register}
+
+    def _learn(self, data: bytes, begin: int, end: int) -> None:
+        """Takes the newest values of the waits' registers from a part of a block."""
+        for register in self._registers():
+            place = data.rfind(b" x%02d=" % register, begin, end)
+            if place >= 0:
+                self._values[register] = int(data[place + 5 : place + 13], 16)
+
+    def _look_at(self, block: Block, index: int) -> None:
+        line = block.lines[index]
+        word = Word(int(line[PC], 16), int(line[BITS], 16))
+        is_du = word.pc in self._known.kinds.get(DU, ())
+        wait = self.seen.setdefault(word.pc, Wait(word.pc, is_du))
+        cycle = block.cycle(index)
+        first = first_try(block, index, self._turns) if is_du else cycle
+        high, low = self._values.get(word.rs1), self._values.get(word.rs2)
+        moment = None if high is None or low is None else high << 32 | low
+        wait.count += 1
+        did_wait = line[EFFECT] == b"wait" or is_du and first < cycle
+        wait.waited += did_wait
+        self._judge(wait, first, moment, did_wait)
+
+    def _judge(self, wait: Wait, first: int, moment: int | None, did_wait: bool) -> None:
+        """An overrun is a wait whose moment had passed at its first try. Where the registers aren't known, so is one that didn't wait."""
+        late = None if moment is None else first * self._period - moment
+        if late is None and not did_wait or late is not None and late > 0 and not did_wait:
+            wait.overruns += 1
+            wait.first_overrun = first if wait.first_overrun is None else wait.first_overrun
+        if late is not None and late > 0:
+            wait.late.add(late, first)
+            wait.is_carry |= moment is not None and late < 2**32 <= late + 2**31
+        elif late is not None:
+            wait.slack.add(-late, first)
+
+
+class TrapMeter:
+    """Counts traps by address and cause."""
+
+    def __init__(self) -> None:
+        self.seen: dict[tuple[int, int], Trapped] = {}
+
+    def take(self, block: Block) -> None:
+        for index in block.traps:
+            line = block.lines[index]
+            pc, cause = int(line[PC], 16), _cause(line)
+            trapped = self.seen.get((pc, cause))
+            if trapped is None:
+                trapped = self.seen[pc, cause] = Trapped(pc, cause, first=block.cycle(index))
+            trapped.count += 1
+
+    def end(self, cycle: int) -> None:
+        """Nothing is open at the end."""
+
+
+def _cause(line: bytes) -> int:
+    """The cause of an event that is a trap."""
+    return int(line[EFFECT].split(b" ")[1])
+
+
+def _is_return_of_trap(line: bytes | None) -> bool:
+    return line is not None and int(line[BITS], 16) == MRET
+
+
+def measure(reader: TraceReader, meters: Collection[Meter]) -> None:
+    """Has all meters take a trace. They are ended too where the trace is broken, before that is raised."""
+    try:
+        for block in reader.blocks():
+            for meter in meters:
+                meter.take(block)
+    finally:
+        if reader.last_cycle is not None:
+            for meter in meters:
+                meter.end(reader.last_cycle)
