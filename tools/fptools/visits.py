@@ -10,19 +10,19 @@ from collections import Counter
 from dataclasses import dataclass, field
 from enum import Enum, auto
 from functools import lru_cache
-from typing import Collection, Iterable, Mapping, Protocol
+from typing import Callable, Collection, Iterable, Mapping, Protocol
 
 from fptools.blocks import (
     BITS, EFFECT, PC, Block, TraceReader, address, character, class_of, span, trap_character,
 )  # fmt: skip
 from fptools.turns import Turns, is_delay, lag
-from fptools.words import MRET, OPCODE_JAL, OPCODE_JALR, OPCODE_TIMING, Word
+from fptools.words import MRET, OPCODE_JAL, OPCODE_JALR, Flow, Word
 
 MOST_KEPT = 10_000  # places of breaks that are kept
 MOST_OPEN_CALLS = 10_000
-CAUSE_FETCH, CAUSE_EXPIRY = 1, 24
+TAKES_TURN = (1, 24)  # the causes of a refused fetch and an expiry: the word at the pc doesn't issue
 RETURN_REGISTER = 1
-FUNCT3_DU, FUNCT3_WU = 2, 3
+FUNCT3_DU = 2
 
 
 @dataclass
@@ -180,6 +180,7 @@ class SectionMeter:
     def __init__(self, watched: Watched, turns: Turns | None, code: Mapping[int, int]) -> None:
         self.seen = Executions(watched)
         self._turns, self._code = turns, code
+        self._delays: dict[str, bool] = {}  # whether the word at an event's address is a DU
         self._ends = frozenset({watched.end, *watched.exits})
         own = span(watched.start, watched.end)
         called = "".join(span(*routine) for routine in watched.routines)
@@ -215,7 +216,7 @@ class SectionMeter:
             return len(block.events)
         index = found.start()
         is_trap = found.group() != self._first
-        if is_trap and _cause(block.lines[index]) in (CAUSE_FETCH, CAUSE_EXPIRY):
+        if is_trap and _cause(block.lines[index]) in TAKES_TURN:
             return index + 1
         self._open(block.cycle(index))
         if is_trap:
@@ -250,8 +251,11 @@ class SectionMeter:
         return pc is not None and any(start <= pc < end for start, end in parts)
 
     def _end_cycle(self, block: Block, index: int) -> int:
-        pc = int(block.lines[index][PC], 16)
-        return first_try(block, index, self._turns) if is_delay(self._code.get(pc, 0)) else block.cycle(index)
+        """The cycle of the first issue outside."""
+        char = block.events[index]
+        if char not in self._delays:
+            self._delays[char] = is_delay(self._code.get(address(char) or 0, 0))
+        return first_try(block, index, self._turns) if self._delays[char] else block.cycle(index)
 
     def _close(self, block: Block, index: int) -> None:
         cycles = self._end_cycle(block, index) - self._started
@@ -314,7 +318,8 @@ class LoopMeter:
         events = block.events
         if self._trap_at_head in events or self._is_taken or not self._take_alike(block):
             self._take_in_order(block)
-        self._touches = self._run.match(events, len(events) - 1) is not None
+        else:
+            self._touches = self._run.match(events, len(events) - 1) is not None
 
     def end(self, cycle: int) -> None:
         """An entry that is still open counts where it went back more often than all others, or than its table says."""
@@ -344,13 +349,22 @@ class LoopMeter:
         return True
 
     def _take_in_order(self, block: Block) -> None:
-        events = block.events
+        events = self._with_trapping_heads(block)
         if self._touches and events[0] == self._trap_at_head:
             self._is_taken = True
         for run in self._run.finditer(events):
             heads = run.group().count(self._head)
             self._take_run(block, run.start(), heads, run.group()[0] == self._head)
             self._is_taken = run.end() < len(events) and events[run.end()] == self._trap_at_head
+        self._touches = self._run.match(events, len(events) - 1) is not None
+
+    def _with_trapping_heads(self, block: Block) -> str:
+        """The events, where a trap of the head's own word is an issue of the head."""
+        events = list(block.events)
+        for index in block.traps:
+            if events[index] == self._trap_at_head and _cause(block.lines[index]) not in TAKES_TURN:
+                events[index] = self._head
+        return "".join(events)
 
     def _take_run(self, block: Block, index: int, heads: int, begins: bool) -> None:
         goes_on = index == 0 and self._touches or self._is_taken and _is_return_of_trap(block.line(index - 1))
@@ -377,51 +391,39 @@ class LoopMeter:
 
 
 class Known:
-    """Addresses whose words are of some kind, among those that a trace has issued so far."""
+    """The addresses of the words of some kind, among those that a trace has issued so far."""
 
-    def __init__(self, reader: TraceReader) -> None:
-        self._reader = reader
+    def __init__(self, reader: TraceReader, is_wanted: Callable[[Word], bool]) -> None:
+        self._reader, self._is_wanted = reader, is_wanted
         self._looked_at: set[int] = set()
-        self.kinds: dict[str, set[int]] = {}
+        self.pcs: set[int] = set()
         self.pattern: re.Pattern[str] | None = None
 
-    def learn(self) -> None:
+    def learn(self) -> bool:
+        """Looks at the words that came since the last call, and answers whether there were any."""
         words = self._reader.words
-        if len(words) == len(self._looked_at):
-            return
-        for pc in words.keys() - self._looked_at:
-            kind = self.kind_of(Word(pc, words[pc]))
-            if kind:
-                self.kinds.setdefault(kind, set()).add(pc)
-        self._looked_at = set(words)
-        pcs = [pc for group in self.kinds.values() for pc in group]
-        self.pattern = re.compile(f"[{class_of(*pcs)}]") if pcs else None
+        new = words.keys() - self._looked_at if len(words) > len(self._looked_at) else set()
+        self._looked_at |= new
+        self.pcs |= {pc for pc in new if self._is_wanted(Word(pc, words[pc]))}
+        if new and self.pcs:
+            self.pattern = re.compile(f"[{class_of(*self.pcs)}]")
+        return bool(new)
 
-    def kind_of(self, word: Word) -> str | None:
-        raise NotImplementedError
+    def __contains__(self, pc: int) -> bool:
+        return pc in self.pcs
 
 
-CALL, RETURN, DU, WU = "call", "return", "du", "wu"
+def _is_call(word: Word) -> bool:
+    """Whether a word keeps the next address in x1."""
+    return word.opcode in (OPCODE_JAL, OPCODE_JALR) and word.rd == RETURN_REGISTER and word.is_code
 
 
-class KnownCalls(Known):
-    """Calls and returns. A call keeps the next address in x1; a return is any other jump through a register."""
-
-    def kind_of(self, word: Word) -> str | None:
-        if word.opcode not in (OPCODE_JAL, OPCODE_JALR) or not word.is_code:
-            return None
-        if word.rd == RETURN_REGISTER:
-            return CALL
-        return RETURN if word.opcode == OPCODE_JALR and word.rd == 0 else None
+def _is_jump_by_register(word: Word) -> bool:
+    return word.opcode == OPCODE_JALR and word.rd == 0 and word.is_code
 
 
-class KnownWaits(Known):
-    """DU and WU."""
-
-    def kind_of(self, word: Word) -> str | None:
-        if word.opcode != OPCODE_TIMING or not word.is_code:
-            return None
-        return {FUNCT3_DU: DU, FUNCT3_WU: WU}.get(word.funct3)
+def _is_wait(word: Word) -> bool:
+    return word.flow is Flow.WAIT
 
 
 @dataclass(frozen=True)
@@ -440,7 +442,7 @@ class CallMeter:
     def __init__(self, watched: Iterable[Watched], turns: Turns | None, reader: TraceReader) -> None:
         self.seen = {it.start: Executions(it) for it in watched}
         self._turns, self._reader = turns, reader
-        self._known = KnownCalls(reader)
+        self._known = Known(reader, lambda word: _is_call(word) or _is_jump_by_register(word))
         self._stack: list[_Open] = []
         self._began_before: dict[int, int] = {}  # the cycle of the newest call of each function
         self._traps = 0
@@ -469,7 +471,7 @@ class CallMeter:
         assert line is not None
         pc, to = int(line[PC], 16), address(block.events[index + 1])
         traps = self._traps + bisect_left(block.traps, index + 1)
-        if pc in self._known.kinds.get(CALL, ()):
+        if _is_call(Word(pc, int(line[BITS], 16))):
             self._call(pc, to, int(line[:10]), traps)
         elif to is not None:
             self._return(block, index + 1, to, traps)
@@ -512,41 +514,43 @@ class WaitMeter:
     def __init__(self, reader: TraceReader, turns: Turns | None, period: int) -> None:
         self.seen: dict[int, Wait] = {}
         self._reader, self._turns, self._period = reader, turns, period
-        self._known = KnownWaits(reader)
+        self._known = Known(reader, _is_wait)
+        self._words: dict[int, Word] = {}  # the waits
+        self._registers: list[tuple[int, bytes]] = []  # that they name, with the begin of an effect that sets each
         self._values: dict[int, int] = {0: 0}  # of the registers that waits name, as far as the trace shows them
 
     def take(self, block: Block) -> None:
-        self._known.learn()
-        begin = 0
+        if self._known.learn():
+            self._words = {pc: Word(pc, bits) for pc, bits in self._reader.words.items() if pc in self._known}
+            registers = {register for word in self._words.values() for register in (word.rs1, word.rs2) if register}
+            self._registers = [(register, b" x%02d=" % register) for register in sorted(registers)]
+        begin, before = 0, 0
         if self._known.pattern is not None:
             for found in self._known.pattern.finditer(block.events):
                 index = found.start()
-                place = block.data.find(block.lines[index][:19], begin)
+                place = begin + sum(map(len, block.lines[before:index])) + index - before  # with the line feeds
                 self._learn(block.data, begin, place)
-                begin = place
+                begin, before = place, index
                 self._look_at(block, index)
         self._learn(block.data, begin, len(block.data))
 
     def end(self, cycle: int) -> None:
         """Nothing is open at the end."""
 
-    def _registers(self) -> set[int]:
-        words = self._reader.words
-        waits = [Word(pc, words[pc]) for group in self._known.kinds.values() for pc in group]
-        return {register for word in waits for register in (word.rs1, word.rs2) if register}
-
     def _learn(self, data: bytes, begin: int, end: int) -> None:
         """Takes the newest values of the waits' registers from a part of a block."""
-        for register in self._registers():
-            place = data.rfind(b" x%02d=" % register, begin, end)
+        for register, text in self._registers:
+            place = data.rfind(text, begin, end)
             if place >= 0:
                 self._values[register] = int(data[place + 5 : place + 13], 16)
 
     def _look_at(self, block: Block, index: int) -> None:
         line = block.lines[index]
-        word = Word(int(line[PC], 16), int(line[BITS], 16))
-        is_du = word.pc in self._known.kinds.get(DU, ())
-        wait = self.seen.setdefault(word.pc, Wait(word.pc, is_du))
+        word = self._words[int(line[PC], 16)]
+        is_du = word.funct3 == FUNCT3_DU
+        wait = self.seen.get(word.pc)
+        if wait is None:
+            wait = self.seen[word.pc] = Wait(word.pc, is_du)
         cycle = block.cycle(index)
         first = first_try(block, index, self._turns) if is_du else cycle
         high, low = self._values.get(word.rs1), self._values.get(word.rs2)
