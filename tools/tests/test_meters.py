@@ -252,7 +252,7 @@ begin:  lw   t0, 0(s1)
         andi t0, t0, 31
 work:   addi t0, t0, -1
         blt  x0, t0, work
-        addi a0, a0, 1200
+        addi a0, a0, 1900
 end:    du   a1, a0
         j    begin
 """
