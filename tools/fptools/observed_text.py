@@ -72,12 +72,14 @@ class Text:
             yield f"no bound: {it.watched.doubt}"
         if it.periods.count:
             yield _period(it.periods, period)
-        for spread, what in ((it.interrupted, "with a trap between begin and end"), (it.detours, "that left the section and came back")):
+        trap, detour = "with a trap between begin and end", "that left the section and came back"
+        for spread, what, ends in ((it.interrupted, trap, "at the trap"), (it.detours, detour, "where it is left")):
             if spread.count:
-                yield f"{spread.count} more {what}: {spread.least} to {spread.most} cycles, the longest at cycle {spread.at}"
+                most = f"{spread.least} to {spread.most} cycles, the longest at cycle {spread.at}"
+                yield f"{spread.count} more {what}: {most}; the bound ends {ends}"
         if it.left:
             where = ", ".join(f"to {self.at(pc)} {times} times" for pc, times in it.left.most_common(3))
-            yield f"left other than by its end: {where}; the bound ends there"
+            yield f"left other than by its end: {where}"
         if it.given_up:
             yield f"{it.given_up} began again before they ended"
         if it.unfinished:

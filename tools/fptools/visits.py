@@ -322,9 +322,9 @@ class LoopMeter:
             self._touches = self._run.match(events, len(events) - 1) is not None
 
     def end(self, cycle: int) -> None:
-        """An entry that is still open counts where it went back more often than all others, or than its table says."""
+        """An entry that the trace's end cuts counts where it went back more often than all others, or than its table says."""
         bound, most = self.seen.table.bound, self.seen.backs.most
-        if self._backs is not None and (self._backs > most or bound is not None and self._backs > bound):
+        if self._backs is not None and (not self._touches or self._backs > most or bound is not None and self._backs > bound):
             self._close()
 
     def _take_alike(self, block: Block) -> bool:

@@ -90,3 +90,11 @@ def make(folder: Path, source: str, cycles: int, slots: str = "T0 S S S D D D D"
     (folder / "it.toml").write_text(text)
     (folder / "it.trace").write_bytes(trace_of(issues_of(text, image, cycles)))
     return Made(folder, labels_of(source), image, folder / "it.toml", folder / "it.trace")
+
+
+def program(folder: Path) -> Path:
+    """The model as a program that is called like the built one."""
+    script = folder / "flexpret"
+    script.write_text(f'#!/bin/sh\nPYTHONPATH="{TOP}" exec "{sys.executable}" -m model "$@"\n')
+    script.chmod(0o755)
+    return script
