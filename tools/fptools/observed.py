@@ -76,7 +76,7 @@ class Observation:
     rounds: list[Rounds] = field(default_factory=list)
     waits: list[Wait] = field(default_factory=list)
     traps: list[Trapped] = field(default_factory=list)
-    broken: str | None = None  # which line of the trace is broken; all before it was looked at
+    broken: str | None = None  # which line of the trace is broken, or that it was stopped; all before it was looked at
     foreign: str | None = None  # why the trace isn't of this image, or of this thread
 
     @property
@@ -171,6 +171,8 @@ def observe(reader: TraceReader, question: Question) -> Observation:
         measure(reader, meters)
     except BrokenTrace as fault:
         seen.broken = str(fault)
+    except KeyboardInterrupt:
+        seen.broken = f"{reader.name}: stopped behind cycle {reader.last_cycle}"
     seen.events, seen.first_cycle, seen.last_cycle = reader.events, reader.first_cycle, reader.last_cycle
     seen.executions = [*(it.seen for it in sections), *calls.seen.values()]
     seen.rounds = [it.seen for it in loops]

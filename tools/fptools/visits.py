@@ -159,13 +159,17 @@ def _trap_class(pcs: Iterable[int]) -> str:
 
 def first_try(block: Block, index: int, turns: Turns | None) -> int:
     """The cycle in which an event's word issued first: a DU that spins shows only the issue that goes on."""
+    cycle, earliest = block.cycle(index), earliest_issue(block, index)
+    return cycle if earliest is None or turns is None else min(cycle, turns.next(earliest))
+
+
+def earliest_issue(block: Block, index: int) -> int | None:
+    """The first cycle that the lag of the issue before allows to an event; None where that isn't known, or the thread slept."""
     line, before = block.lines[index], block.line(index - 1)
-    cycle = block.cycle(index)
-    if before is None or turns is None or before[EFFECT] == b"wait":
-        return cycle
+    if before is None or before[EFFECT] == b"wait":
+        return None
     word = Word(int(before[PC], 16), int(before[BITS], 16))
-    earliest = int(before[:10]) + lag(word, int(line[PC], 16), before[EFFECT].startswith(b"trap"))
-    return min(cycle, turns.next(earliest))
+    return int(before[:10]) + lag(word, int(line[PC], 16), before[EFFECT].startswith(b"trap"))
 
 
 class _Where(Enum):
@@ -185,9 +189,11 @@ class SectionMeter:
         own = span(watched.start, watched.end)
         called = "".join(span(*routine) for routine in watched.routines)
         self._first = character(watched.start)
-        self._begin = _search(class_of(watched.start) + _trap_class([watched.start]))
+        ends, begins = class_of(*self._ends), class_of(watched.start) + _trap_class([watched.start])
+        # A whole execution, of which the group is the end; or an issue of the first word with which something else begins.
+        self._begin = re.compile(f"{class_of(watched.start)}[{own}{called}]*+([{ends}])|[{begins}]")
         self._inside = re.compile(f"[{own}{called}]*")
-        self._back = own + class_of(*self._ends) + _trap_class(self._ends)
+        self._back = own + ends + _trap_class(self._ends)
         self._where = _Where.OUTSIDE
         self._started = 0
         self._began_before: int | None = None
@@ -210,24 +216,28 @@ class SectionMeter:
             self.seen.met(self._started, so_far)
 
     def _seek(self, block: Block, position: int) -> int:
-        """Looks for the first word of the section; a turn that an expiry or a refused fetch takes is no begin."""
-        found = self._begin.search(block.events, position)
-        if found is None:
-            return len(block.events)
-        index = found.start()
-        is_trap = found.group() != self._first
-        if is_trap and _cause(block.lines[index]) in TAKES_TURN:
+        """Takes whole executions, up to one that something interrupts. A turn of the first word that an expiry or a refused fetch takes
+        is no begin."""
+        for found in self._begin.finditer(block.events, position):
+            index = found.start()
+            if found.lastindex:
+                self._open(block.cycle(index))
+                self._close(block, found.end() - 1)
+                continue
+            is_trap = found.group() != self._first
+            if is_trap and _cause(block.lines[index]) in TAKES_TURN:
+                continue
+            self._open(block.cycle(index))
+            self._where = _Where.INSIDE
+            if is_trap:
+                self._cut_by_trap(block, index)
             return index + 1
-        self._open(block.cycle(index))
-        if is_trap:
-            self._cut_by_trap(block, index)
-        return index + 1
+        return len(block.events)
 
     def _open(self, cycle: int) -> None:
         if self._began_before is not None:
             self.seen.periods.add(cycle - self._began_before, self._began_before)
         self._began_before = self._started = cycle
-        self._where = _Where.INSIDE
         self._is_clean, self._has_trap = True, False
 
     def _go_on(self, block: Block, position: int) -> int:
@@ -551,24 +561,34 @@ class WaitMeter:
         wait = self.seen.get(word.pc)
         if wait is None:
             wait = self.seen[word.pc] = Wait(word.pc, is_du)
-        cycle = block.cycle(index)
-        first = first_try(block, index, self._turns) if is_du else cycle
         high, low = self._values.get(word.rs1), self._values.get(word.rs2)
         moment = None if high is None or low is None else high << 32 | low
         wait.count += 1
-        did_wait = line[EFFECT] == b"wait" or is_du and first < cycle
-        wait.waited += did_wait
-        self._judge(wait, first, moment, did_wait)
+        if is_du:
+            self._judge_delay(wait, block, index, moment)
+        else:
+            self._judge(wait, block.cycle(index), moment, line[EFFECT] == b"wait")
+
+    def _judge_delay(self, wait: Wait, block: Block, index: int, moment: int | None) -> None:
+        """A DU spun if it went on behind its first try. Where the turns aren't known, that it is late is said only if it was by all means."""
+        cycle = block.cycle(index)
+        if self._turns is not None:
+            first = first_try(block, index, self._turns)
+            self._judge(wait, first, moment, first < cycle)
+        else:
+            earliest = earliest_issue(block, index) or 0
+            self._judge(wait, earliest, moment, moment is None or earliest * self._period <= moment)
 
     def _judge(self, wait: Wait, first: int, moment: int | None, did_wait: bool) -> None:
         """An overrun is a wait whose moment had passed at its first try. Where the registers aren't known, so is one that didn't wait."""
+        wait.waited += did_wait
         late = None if moment is None else first * self._period - moment
-        if late is None and not did_wait or late is not None and late > 0 and not did_wait:
+        if not did_wait and (late is None or late > 0):
             wait.overruns += 1
             wait.first_overrun = first if wait.first_overrun is None else wait.first_overrun
         if late is not None and late > 0:
             wait.late.add(late, first)
-            wait.is_carry |= moment is not None and late < 2**32 <= late + 2**31
+            wait.is_carry |= late < 2**32 <= late + 2**31
         elif late is not None:
             wait.slack.add(-late, first)
 

@@ -5,6 +5,7 @@ import csv
 import json
 import os
 import pty
+import signal
 import subprocess
 import sys
 from pathlib import Path
@@ -344,3 +345,31 @@ def test_a_permit_is_told_with_a_broken_bound(tool: Tool, tmp_path: Path) -> Non
     section = f"it={made.labels['begin']}:{made.labels['end']}"
     lines = shown(tool, made.trace, "--setup", made.setup, "--section", section, "--flexpret", answering(tmp_path, "bound 4"), status=1)
     assert "a thread has a permit, and a bound holds only while no slots, modes or regions are written" in lines[-1]
+
+
+def test_delays_without_known_turns(tool: Tool, tmp_path: Path) -> None:
+    """That a DU is late is said where it was by the lag of the issue before."""
+    early = make(tmp_path, LATE.format(period=200, wait="du"), 1000)
+    assert shown(tool, early.trace)[-1] == "0xc du 49 49 0 - - 110"
+    late = make(tmp_path, LATE.format(period=20, wait="du"), 1000)
+    assert shown(tool, late.trace)[-1].startswith("0xc du 82 0 82")
+
+
+def test_what_was_seen_is_shown_where_it_is_stopped() -> None:
+    endless = (
+        "import itertools, sys\n"
+        "for cycle in itertools.count():\n"
+        "    sys.stdout.write('%10d 00000000 00000013 -\\n' % cycle)\n"
+    )
+    with subprocess.Popen([sys.executable, "-c", endless], stdout=subprocess.PIPE, stderr=subprocess.DEVNULL) as source:
+        words = [sys.executable, str(TOOLS / "fp_visits")]
+        with subprocess.Popen(words, stdin=source.stdout, stdout=subprocess.PIPE, stderr=subprocess.PIPE, text=True) as ran:
+            assert source.stdout is not None
+            source.stdout.close()
+            with pytest.raises(subprocess.TimeoutExpired):
+                ran.communicate(timeout=3)
+            ran.send_signal(signal.SIGINT)
+            out, errors = ran.communicate(timeout=30)
+    assert ran.returncode == 3
+    assert out.startswith("-: ") and " events, cycles 0 to " in out
+    assert errors.startswith("fp_visits: standard input: stopped behind cycle ")
