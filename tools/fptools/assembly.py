@@ -4,6 +4,7 @@ The model of this repository reads the sources. Its tokens, mnemonics and faults
 them; tests compare the two."""
 from __future__ import annotations
 
+import os
 import re
 import sys
 from collections import Counter
@@ -15,7 +16,8 @@ TOP = Path(__file__).resolve().parents[2]
 if str(TOP) not in sys.path:
     sys.path.append(str(TOP))
 
-from model.assembler import Encoder, LineFault, Placer, SourceFault, lines_of  # noqa: E402
+from model.assembler import Encoder, LineFault, Placer, lines_of  # noqa: E402
+from model.assembler import SourceFault as SourceFault  # noqa: E402
 from model.bits import signed  # noqa: E402
 from model.instructions import CSR_OPS, Ins, decode  # noqa: E402
 
@@ -95,9 +97,9 @@ def listing(source: Source) -> Iterator[str]:
         yield from (f"{label.address:08x} {label.name}" for label in sorted(source.labels, key=lambda it: (it.address, it.name)))
 
 
-def map_lines(source: Source) -> Iterator[str]:
-    """The lines of a map: for each line of the source with labels or words its first address, its number and its labels."""
-    yield f"# map of {source.path.name}: address, line, labels"
+def map_lines(source: Source, folder: Path) -> Iterator[str]:
+    """The lines of a map in a folder: for each line of the source with labels or words its first address, its number and its labels."""
+    yield f"# map of {os.path.relpath(source.path, folder)}: address, line, labels"
     names: dict[tuple[int, int], list[str]] = {(at, number): [] for number, at, _ in source.placed}
     for label in source.labels:
         names.setdefault((label.address, label.line), []).append(label.name)

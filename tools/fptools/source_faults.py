@@ -8,7 +8,7 @@ from typing import Callable, Iterator, Sequence
 from fptools.assembly import distance, placed
 
 from model.assembler import (
-    BRANCH_TYPE, CSR_TYPE, CSRS, FORMS, I_TYPE, LOAD_TYPE, MOST_BYTES, READERS, REGISTERS, SHIFT_TYPE, STORE_TYPE, Cursor, Line,
+    BRANCH_TYPE, CSR_TYPE, FORMS, I_TYPE, LOAD_TYPE, MOST_BYTES, READERS, REGISTERS, SHIFT_TYPE, STORE_TYPE, Cursor, Line,
     Operand, Placer, lines_of,
 )  # fmt: skip
 from model.bits import word

@@ -1,0 +1,248 @@
+"""Explains the refusal lines of the program: where, by symbol and line, and what to do. docs/FORMATS.md has the tables that stand behind it."""
+from __future__ import annotations
+
+import re
+from dataclasses import dataclass, field
+from pathlib import Path
+from typing import Iterator, Mapping
+
+from fptools.assembly import text_of
+from fptools.elf import Program, ProgramError
+from fptools.image import ImageError, read_image
+from fptools.lint import Level, lint
+from fptools.setup import KeyPath, Setup, read_setup
+from fptools.source_faults import explain_source, shown
+from fptools.sources import Sources
+from fptools.toml import TomlError
+from fptools.words import MRET, OPCODE_JALR, RETURN_ADDRESS, Word
+
+from model.refusals import SourceNo
+
+REFUSAL = re.compile(r"refused (?P<what>setup|section|image|source|bound|routines) (?P<rest>.+)")
+RETURN = 0x0000_8067
+OVERFLOW = 6
+
+BOUND_HINTS = {
+    "Nesting": "its loops overlap without one inside the other, two tables have this head, it lies in four others, or a jump leads into it past its "
+    "head: correct `last`, or merge tables with one head; where the compiler placed the blocks so, fp_layout places them in order",
+    "TimedWait": "a wait takes as long as its moment says: end the section before it, and begin another behind it",
+    "UnboundedBackEdge": "state how often this loop goes back by a table; fp_loops writes it",
+    "Overlap": "it has words in common with the section: leave the function that holds the section out of the list, or end the section before it",
+    "Recursion": "calls lead from it back to it: rewrite it as a loop",
+    "Escape": "it leaves its function other than by a return: compile with -fno-optimize-sibling-calls, or correct the function's last word in the list",
+}
+SECTION_HINTS = {
+    "NotHard": ("mode", 'a bound and `solo` are of a thread that starts hard and awake: mode = "hard"'),
+    "NoSlot": ("slots", "no slot is the thread's: give it one"),
+    "Order": (None, "--to isn't above --from: the section is the words from --from up to below --to"),
+    "Misaligned": (None, "both addresses are multiples of 4"),
+    "Outside": (None, "the section ends past the instruction scratchpad; `version = 2` in the setup has 65,536 bytes"),
+    "NotConfined": ("confined", "others may have a part in its trace: `confined = true`, or use `run`"),
+}
+IMAGE_HINTS = {
+    "TooLong": "the file is longer than any image; for addresses past 16,380 the setup says `version = 2`",
+    "Magic": "it doesn't begin with FPX1: is it a source (`asm` makes an image of it), or an executable (`elf`)?",
+    "Truncated": "the file was cut: make it again",
+    "BadSegment": "a segment isn't whole words inside one scratchpad; addresses past 16,380 need `version = 2` in the setup",
+    "Overlap": "two of its parts have an address in common: correct the linker script, or sort the segments",
+    "Trailing": "bytes follow the last segment: make it again",
+    "NotElf": "it isn't an ELF file: an archive, a source, or an image already?",
+    "Class": "it isn't of 32 bits: -mabi=ilp32, and -m elf32lriscv for GNU ld",
+    "ByteOrder": "it isn't little endian",
+    "Kind": "it isn't a linked executable: link it, without -r, -pie and -shared",
+    "Machine": "it isn't for RISC-V",
+    "EntrySize": "its program headers don't have 32 bytes",
+    "Dynamic": "it is to be linked when it is loaded: link with -static",
+    "BadLoad": "a part of it lies outside of the scratchpads: give the linker a script, as examples/c/flexpret.ld",
+    "TooManySegments": "more than 16 runs of words with gaps between: place sections that follow one another together",
+}
+ROUTINES_HINTS = {
+    "TooMany": "at most 64 routines",
+    "BadLine": "a line is the addresses of a first and a last word, as `00000100 00000104`, and a line feed",
+    "BadPlace": "addresses are multiples of 4 in the instruction scratchpad, the first not above the last",
+    "Order": "each routine begins above the last word of the one before: sort the lines, and drop functions at one address",
+}
+
+
+class NoRefusal(Exception):
+    """The text is no refusal line, or what is needed to explain it isn't given."""
+
+
+@dataclass
+class Context:
+    """What the refused command was asked with, as far as it is known."""
+
+    setup: Path | None = None
+    file: Path | None = None  # the source, image, executable or list of routines
+    program: Program = field(default_factory=Program)  # names of addresses
+    sources: Path | None = None  # where they are, if not where they were compiled
+    thread: int | None = None
+
+
+def explain(line: str, context: Context) -> list[str]:
+    """The lines that explain a refusal."""
+    parts = REFUSAL.fullmatch(line.strip())
+    if parts is None:
+        raise NoRefusal(f"no refusal line: {line.strip()[:80]!r}")
+    words = parts["rest"].split()
+    explainers = {
+        "source": _source, "bound": _bound, "setup": _setup, "section": _section, "image": _image, "routines": _routines,
+    }  # fmt: skip
+    try:
+        return list(explainers[parts["what"]](words, context))
+    except (IndexError, KeyError, ValueError) as fault:
+        raise NoRefusal(f"this program has no such refusal, or the file has changed since: {line.strip()[:80]!r}") from fault
+
+
+def _source(words: list[str], context: Context) -> Iterator[str]:
+    line, _, name = words
+    if context.file is None:
+        raise NoRefusal("the source is needed: --file SOURCE")
+    data = context.file.read_bytes()
+    yield from shown(str(context.file), data, explain_source(data, int(line), SourceNo[name]))
+
+
+# ---------------------------------------------------------------- bounds
+
+
+def _code(context: Context) -> Mapping[int, int]:
+    """The words of the setup's image, or of the executable."""
+    if context.setup is not None:
+        try:
+            return read_image(read_setup(context.setup).image)
+        except (OSError, ImageError, TomlError, KeyError):
+            pass
+    return context.program.words
+
+
+def _bound(words: list[str], context: Context) -> Iterator[str]:
+    code, name, value = words
+    if int(code) == OVERFLOW:
+        yield f"error: the bound is {int(value):,} cycles, which has more than 64 bits"
+        yield "      = bounds of nested loops multiply: look at the tables of the setup"
+        return
+    at = int(value, 16)
+    bits = _code(context).get(at, 0)
+    yield from _place(at, bits, name, context)
+    if name == "IndirectJump":
+        yield f"      = {_indirect(bits)}"
+    elif name in BOUND_HINTS:
+        yield f"      = {BOUND_HINTS[name]}"
+    if name == "UnboundedBackEdge":
+        yield from _table_for(at, bits)
+    if context.setup is not None and name in ("Nesting", "UnboundedBackEdge"):
+        yield from _tables(context.setup, at, Word(at, bits).target if name == "UnboundedBackEdge" else at)
+
+
+def _place(at: int, bits: int, name: str, context: Context) -> Iterator[str]:
+    """The address with its symbol, word, and source line."""
+    program = context.program
+    symbol, line = program.name_of(at), program.line_of(at)
+    where = f"{line}: " if line else ""
+    yield f"{where}error: {name} at {at:#x}{f' {symbol}' if symbol else ''}: {text_of(at, bits, dict(program.symbols))}"
+    if line:
+        text = Sources(context.sources).text(line).rstrip()
+        if text:
+            yield f"{line.number:>5} | {text}"
+
+
+def _indirect(bits: int) -> str:
+    word = Word(0, bits)
+    if bits == RETURN:
+        return "a return: it ends the section, so end the section before it; the command calls goes through functions that return"
+    if bits == MRET:
+        return "a handler's return: end the section before it"
+    if word.opcode == OPCODE_JALR and word.rd == RETURN_ADDRESS:
+        return (
+            "a call through a register: call the function by its name; clang's calls need the linker's relaxation, or -S and an assembler that "
+            "makes `jal` of them"
+        )
+    return "a jump through a register: a switch by a table (-fno-jump-tables), a tail call by pointer, or a far jump"
+
+
+def _table_for(at: int, bits: int) -> Iterator[str]:
+    """The table that states the loop of a back edge."""
+    head = Word(at, bits).target
+    if head is not None and head <= at:
+        yield f"      = [[loop]] head = {head:#x}, last = {at:#x} or further, bound = how often it goes back at most"
+
+
+def _tables(path: Path, at: int, head: int | None) -> Iterator[str]:
+    """The setup's tables with this head, or around this address, with their lines."""
+    try:
+        setup = read_setup(path)
+    except (OSError, TomlError):
+        return
+    for index, it in enumerate(setup.values.get("loop", [])):
+        if it.get("head") == head or it.get("head", 0) <= at <= it.get("last", -1):
+            line = setup.line(("loop", index))
+            yield f"{path}:{line}: loop[{index}] is {it.get('head'):#x} to {it.get('last'):#x}, bound = {it.get('bound')}"
+
+
+# ---------------------------------------------------------------- setups, sections, images, routines
+
+
+def _setup(words: list[str], context: Context) -> Iterator[str]:
+    _, name, path = words
+    if context.setup is None:
+        raise NoRefusal("the setup is needed: --setup SETUP")
+    try:
+        findings = [it for it in lint(read_setup(context.setup)) if it.level is Level.ERROR]
+    except TomlError as fault:
+        yield f"{context.setup}:{fault.line}: error: {fault.text}"
+        return
+    own = [it for it in findings if it.key == path] or findings
+    for finding in own:
+        yield f"{context.setup}:{finding.line or 1}: error: {finding.key}: {finding.text}"
+    if not own:
+        yield f"{context.setup}: error: {path}: {name}"
+
+
+def _section(words: list[str], context: Context) -> Iterator[str]:
+    _, name = words
+    key, hint = SECTION_HINTS[name]
+    where = _key_line(context, key) if key else None
+    thread = "" if context.thread is None else f"T{context.thread}: "
+    yield f"{where}: error: {thread}{hint}" if where else f"error: {thread}{hint}"
+
+
+def _key_line(context: Context, key: str) -> str | None:
+    """FILE:LINE of a key of the thread's table, or of the top."""
+    if context.setup is None:
+        return None
+    try:
+        setup: Setup = read_setup(context.setup)
+    except (OSError, TomlError):
+        return None
+    threads = setup.values.get("thread", [])
+    index = next((at for at, it in enumerate(threads) if it.get("id") == context.thread), None)
+    path: KeyPath = (key,)
+    if key != "slots" and index is not None:
+        path = "thread", index, key
+    line = setup.line(path)
+    return f"{context.setup}:{line}" if line else str(context.setup)
+
+
+def _image(words: list[str], context: Context) -> Iterator[str]:
+    _, name, offset = words
+    file = context.file
+    if file is None and context.setup is not None:
+        try:
+            file = read_setup(context.setup).image
+        except (OSError, TomlError, KeyError):
+            pass
+    yield f"{file or 'the image'}: error: {name} at byte {int(offset)}"
+    yield f"      = {IMAGE_HINTS[name]}"
+
+
+def _routines(words: list[str], context: Context) -> Iterator[str]:
+    line, _, name = words
+    where = f"{context.file}:{line}" if context.file else f"line {line} of the routines"
+    yield f"{where}: error: {name}"
+    if context.file:
+        texts = context.file.read_text(encoding="ascii", errors="replace").split("\n")
+        yield f"{int(line):>5} | {texts[int(line) - 1]}"
+    yield f"      = {ROUTINES_HINTS[name]}"
+
+
+FAULTS = (OSError, ProgramError, NoRefusal)
