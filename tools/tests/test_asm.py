@@ -98,12 +98,12 @@ def test_what_no_map_and_no_image_is(tool: Tool, tmp_path: Path) -> None:
     assert (ran.returncode, ran.stderr) == (2, "fp_addresses: --elf and --map: names are of one of them\n")
 
 
-@pytest.mark.parametrize("path", SOURCES, ids=lambda path: path.name)
+@pytest.mark.parametrize("path", SOURCES, ids=lambda path: str(path.name))
 def test_the_words_of_a_source_are_those_of_its_image(path: Path) -> None:
     assert read_source(path).words == words_of(assembled(path.read_text()))
 
 
-@pytest.mark.parametrize("path", IMAGES, ids=lambda path: path.name)
+@pytest.mark.parametrize("path", IMAGES, ids=lambda path: str(path.name))
 def test_an_image_as_a_source_is_that_image(tool: Tool, path: Path) -> None:
     ran = tool("fp_disasm", path)
     assert (ran.returncode, ran.stderr) == (0, "")
