@@ -4,6 +4,7 @@ A trace may have 10^9 lines, so no line is taken apart unless something asks for
 sections, loops and calls are then found in these texts by regular expressions."""
 from __future__ import annotations
 
+import os
 import re
 import sys
 from bisect import bisect_left
@@ -17,7 +18,7 @@ from fptools.elf import CODE_END
 
 BLOCK_BYTES = 1 << 17
 CYCLE, PC, BITS, EFFECT = slice(0, 10), slice(11, 19), slice(20, 28), slice(29, None)
-PLACE = itemgetter(slice(10, 29))  # " pc word ", which decides the character
+PLACE = slice(10, 29)  # " pc word ", which decides the character
 # The lengths that a line with one of the effects of docs/FORMATS.md has, without its line feed.
 LENGTHS = frozenset(29 + effect for effect in (1, 4, 12, 16, 18, 19, 21, 29))
 EVENT = re.compile(
@@ -67,6 +68,16 @@ class Source(Protocol):
 
     def read(self, size: int, /) -> bytes:
         """The next bytes, at most so many; none at the end."""
+
+
+class Live:
+    """A pipe or file by its descriptor, of which a read gives what is there."""
+
+    def __init__(self, descriptor: int) -> None:
+        self._descriptor = descriptor
+
+    def read(self, size: int, /) -> bytes:
+        return os.read(self._descriptor, size)
 
 
 @dataclass(frozen=True)
@@ -170,7 +181,7 @@ class TraceReader:
         if not lines:
             return
         try:
-            chars = list(map(self.places.__getitem__, map(PLACE, lines)))
+            chars = list(map(self.places.__getitem__, map(itemgetter(PLACE), lines)))
             fault = None if self._are_sound(lines) else _first_fault(lines, self._before)
         except ValueError:
             fault = _first_fault(lines, self._before)
@@ -178,17 +189,17 @@ class TraceReader:
         if fault is not None:
             broken = self._told(self.lines_read + fault.index + 1, lines[fault.index], fault.text)
             lines = lines[: fault.index]
-            chars = [self.places[PLACE(line)] for line in lines]
+            chars = [self.places[line[PLACE]] for line in lines]
         yield from self._narrowed(lines, chars, data)
         if broken is not None:
             self._finish()
             raise BrokenTrace(broken)
 
     def _are_sound(self, lines: list[bytes]) -> bool:
-        """Whether lengths are those of events and lines rise. Cycles are right in ten columns, so that their texts compare
-        as they do."""
-        is_after = self._before is None or self._before < lines[0]
-        return is_after and LENGTHS.issuperset(map(len, lines)) and all(map(lt, lines, islice(lines, 1, None)))
+        """Whether lengths are those of events and cycles rise. These are right in ten columns, so that their texts compare as they do."""
+        cycles = list(map(itemgetter(CYCLE), lines))
+        is_after = self._before is None or self._before[CYCLE] < cycles[0]
+        return is_after and LENGTHS.issuperset(map(len, lines)) and all(map(lt, cycles, islice(cycles, 1, None)))
 
     def _narrowed(self, lines: list[bytes], chars: list[str], data: bytes) -> Iterator[Block]:
         """The block of the lines that are asked for, if it isn't empty."""
@@ -202,9 +213,10 @@ class TraceReader:
         if self.start and lines:
             first = bisect_left(lines, b"%10d" % self.start)
         if first < last:
+            before = lines[first - 1] if first else before
             if (first, last) != (0, len(lines)):
                 lines, chars = lines[first:last], chars[first:last]
-                data, before = b"\n".join(lines) + b"\n", None if first else before
+                data = b"\n".join(lines) + b"\n"
             yield self._made(lines, chars, data, before)
 
     def _made(self, lines: list[bytes], chars: list[str], data: bytes, before: bytes | None) -> Block:

@@ -19,7 +19,7 @@ from fptools.section import walk
 from fptools.setup import Setup
 from fptools.turns import Turns, turns_of
 from fptools.visits import (
-    CallMeter, Executions, LoopMeter, LoopTable, Meter, Rounds, SectionMeter, Trapped, TrapMeter, Wait, WaitMeter, Watched, measure,
+    CallMeter, Executions, LoopMeter, LoopTable, Meter, Rounds, SectionMeter, Trapped, TrapMeter, Wait, WaitJudge, WaitMeter, Watched, measure,
 )  # fmt: skip
 
 PIPE_BYTES = 1 << 20
@@ -163,7 +163,7 @@ def observe(reader: TraceReader, question: Question) -> Observation:
     functions = [it for it in question.watched if it.is_function]
     calls = CallMeter(functions, question.turns, reader)
     loops = [LoopMeter(table) for table in question.loops]
-    waits, traps = WaitMeter(reader, question.turns, question.period), TrapMeter()
+    waits, traps = WaitMeter(WaitJudge(reader, question.turns, question.period)), TrapMeter()
     turns = TurnMeter(question.turns)
     meters: list[Meter] = [*sections, *loops, waits, traps, turns, *([calls] if functions else [])]
     seen = Observation(question)

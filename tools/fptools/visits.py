@@ -10,7 +10,7 @@ from collections import Counter
 from dataclasses import dataclass, field
 from enum import Enum, auto
 from functools import lru_cache
-from typing import Callable, Collection, Iterable, Mapping, Protocol
+from typing import Callable, Collection, Iterable, Iterator, Mapping, Protocol
 
 from fptools.blocks import (
     BITS, EFFECT, PC, Block, TraceReader, address, character, class_of, span, trap_character,
@@ -518,18 +518,40 @@ class CallMeter:
             seen.met(call.cycle, cycles)
 
 
-class WaitMeter:
-    """Looks at each DU and WU: whether it waited, and how late it was."""
+@dataclass(frozen=True)
+class JudgedWait:
+    """A DU or WU: the index of its event in a block, the cycle of its first try, its moment where that is known, and whether it waited.
+    Where the turns aren't known, the first try of a DU is the earliest that the lag before it allows."""
+
+    index: int
+    word: Word
+    first: int
+    moment: int | None  # nanoseconds
+    did_wait: bool
+
+    def late(self, period: int) -> int | None:
+        """The nanoseconds from the moment to the first try; below 0 where it was early."""
+        return None if self.moment is None else self.first * period - self.moment
+
+    def is_overrun(self, period: int) -> bool:
+        """Whether the moment had passed at the first try. Where it isn't known, so it is of each that didn't wait."""
+        late = self.late(period)
+        return not self.did_wait and (late is None or late > 0)
+
+
+class WaitJudge:
+    """Finds each DU and WU of a trace, with the moment that it waits for."""
 
     def __init__(self, reader: TraceReader, turns: Turns | None, period: int) -> None:
-        self.seen: dict[int, Wait] = {}
-        self._reader, self._turns, self._period = reader, turns, period
+        self.period = period
+        self._reader, self._turns = reader, turns
         self._known = Known(reader, _is_wait)
         self._words: dict[int, Word] = {}  # the waits
         self._registers: list[tuple[int, bytes]] = []  # that they name, with the begin of an effect that sets each
         self._values: dict[int, int] = {0: 0}  # of the registers that waits name, as far as the trace shows them
 
-    def take(self, block: Block) -> None:
+    def judged(self, block: Block) -> Iterator[JudgedWait]:
+        """The waits of the next block."""
         if self._known.learn():
             self._words = {pc: Word(pc, bits) for pc, bits in self._reader.words.items() if pc in self._known}
             registers = {register for word in self._words.values() for register in (word.rs1, word.rs2) if register}
@@ -541,11 +563,8 @@ class WaitMeter:
                 place = begin + sum(map(len, block.lines[before:index])) + index - before  # with the line feeds
                 self._learn(block.data, begin, place)
                 begin, before = place, index
-                self._look_at(block, index)
+                yield self._judged(block, index)
         self._learn(block.data, begin, len(block.data))
-
-    def end(self, cycle: int) -> None:
-        """Nothing is open at the end."""
 
     def _learn(self, data: bytes, begin: int, end: int) -> None:
         """Takes the newest values of the waits' registers from a part of a block."""
@@ -554,43 +573,50 @@ class WaitMeter:
             if place >= 0:
                 self._values[register] = int(data[place + 5 : place + 13], 16)
 
-    def _look_at(self, block: Block, index: int) -> None:
-        line = block.lines[index]
+    def _judged(self, block: Block, index: int) -> JudgedWait:
+        line, cycle = block.lines[index], block.cycle(index)
         word = self._words[int(line[PC], 16)]
-        is_du = word.funct3 == FUNCT3_DU
-        wait = self.seen.get(word.pc)
-        if wait is None:
-            wait = self.seen[word.pc] = Wait(word.pc, is_du)
         high, low = self._values.get(word.rs1), self._values.get(word.rs2)
         moment = None if high is None or low is None else high << 32 | low
-        wait.count += 1
-        if is_du:
-            self._judge_delay(wait, block, index, moment)
-        else:
-            self._judge(wait, block.cycle(index), moment, line[EFFECT] == b"wait")
-
-    def _judge_delay(self, wait: Wait, block: Block, index: int, moment: int | None) -> None:
-        """A DU spun if it went on behind its first try. Where the turns aren't known, that it is late is said only if it was by all means."""
-        cycle = block.cycle(index)
+        if word.funct3 != FUNCT3_DU:
+            return JudgedWait(index, word, cycle, moment, line[EFFECT] == b"wait")
         if self._turns is not None:
             first = first_try(block, index, self._turns)
-            self._judge(wait, first, moment, first < cycle)
-        else:
-            earliest = earliest_issue(block, index) or 0
-            self._judge(wait, earliest, moment, moment is None or earliest * self._period <= moment)
+            return JudgedWait(index, word, first, moment, first < cycle)
+        earliest = earliest_issue(block, index) or 0
+        return JudgedWait(index, word, earliest, moment, moment is None or earliest * self.period <= moment)
 
-    def _judge(self, wait: Wait, first: int, moment: int | None, did_wait: bool) -> None:
-        """An overrun is a wait whose moment had passed at its first try. Where the registers aren't known, so is one that didn't wait."""
-        wait.waited += did_wait
-        late = None if moment is None else first * self._period - moment
-        if not did_wait and (late is None or late > 0):
+
+class WaitMeter:
+    """Looks at each DU and WU: whether it waited, and how late it was."""
+
+    def __init__(self, judge: WaitJudge) -> None:
+        self.seen: dict[int, Wait] = {}
+        self._judge = judge
+
+    def take(self, block: Block) -> None:
+        for it in self._judge.judged(block):
+            wait = self.seen.get(it.word.pc)
+            if wait is None:
+                wait = self.seen[it.word.pc] = Wait(it.word.pc, it.word.funct3 == FUNCT3_DU)
+            self._add(wait, it)
+
+    def end(self, cycle: int) -> None:
+        """Nothing is open at the end."""
+
+    def _add(self, wait: Wait, it: JudgedWait) -> None:
+        period = self._judge.period
+        wait.count += 1
+        wait.waited += it.did_wait
+        late = it.late(period)
+        if it.is_overrun(period):
             wait.overruns += 1
-            wait.first_overrun = first if wait.first_overrun is None else wait.first_overrun
+            wait.first_overrun = it.first if wait.first_overrun is None else wait.first_overrun
         if late is not None and late > 0:
-            wait.late.add(late, first)
+            wait.late.add(late, it.first)
             wait.is_carry |= late < 2**32 <= late + 2**31
         elif late is not None:
-            wait.slack.add(-late, first)
+            wait.slack.add(-late, it.first)
 
 
 class TrapMeter:

@@ -1,12 +1,16 @@
 """What fp_trace shows of traces."""
 from __future__ import annotations
 
+import csv
+import json
 import shutil
 from pathlib import Path
 
 import pytest
 from conftest import TOP, Tool
 from fptools.disassembly import TOOLS as OBJDUMPS
+from fptools.trace import read_trace
+from modelled import make
 
 PID = ("--setup", "examples/c/pid.toml", "--elf", "examples/c/pid.elf")
 LOOPS = "tools/tests/data/loops.elf"
@@ -78,7 +82,6 @@ def test_source_lines(tool: Tool) -> None:
 @pytest.mark.parametrize(
     ("words", "given", "error"),
     [
-        ((), "20 0 0 -\n", "line 1 is no event of a trace: 20 0 0 -"),
         (("--pc", "main0"), "", "main0 is no symbol of code in no executable"),
         (("--elf", LOOPS, "--pc", "main0+"), "", "main0+ is no address: a number, NAME or NAME+NUMBER"),
         (("--elf", "README.md"), "", "README.md is no ELF file: Magic number does not match"),
@@ -123,10 +126,111 @@ def test_an_address_far_beyond_code_has_its_word_for_a_text(tool: Tool, tmp_path
 def test_a_reader_that_stops_early_is_no_fault(tool: Tool) -> None:
     import subprocess
 
-    line = "         0 00000000 00000013 -\n"
+    lines = "awk 'BEGIN { for (c = 0; c < 200000; c++) printf \"%10d 00000000 00000013 -\\n\", c }'"
     ran = subprocess.run(
-        f"yes '{line[:-1]}' | head -200000 | tools/fp_trace --objdump '' | head -1",
+        f"{lines} | tools/fp_trace --objdump '' | head -1",
         shell=True, cwd=TOP, capture_output=True, text=True, check=False,
     )  # fmt: skip
     assert ran.stderr == ""
     assert ran.stdout.split()[0] == "cycle"
+
+
+WHOLE = "         0 00000000 00000013 -\n         4 00000004 00000013 x05=00000001\n"
+
+
+@pytest.mark.parametrize(
+    ("broken", "text"),
+    [
+        ("20 0 0 -\n", "line 3 is broken: it is no event of a trace: '20 0 0 -'"),
+        ("         8 00000008 000", "line 3 is broken: it has no line feed, so the trace was cut: '         8 00000008 000'"),
+        ("         4 00000008 00000013 -\n", "line 3 is broken: its cycle isn't above 4, the one before"),
+    ],
+)
+def test_events_before_a_broken_line_are_shown(tool: Tool, broken: str, text: str) -> None:
+    ran = tool("fp_trace", "--objdump", "", given=WHOLE + broken)
+    assert ran.returncode == 3
+    assert [line.split()[0] for line in ran.stdout.splitlines()] == ["cycle", "0", "4"]
+    assert ran.stderr.startswith(f"fp_trace: standard input: {text}")
+
+
+def test_nothing_is_read_behind_the_last_cycle(tool: Tool) -> None:
+    ran = tool("fp_trace", "--objdump", "", "--to", "5", given=WHOLE + "         8 00000008 00000013 -\nrubbish")
+    assert (ran.returncode, ran.stderr) == (0, "")
+    assert [line.split()[0] for line in ran.stdout.splitlines()] == ["cycle", "0", "4"]
+
+
+LATE = """        gt   a0
+        gth  a1
+loop:   addi a0, a0, 80
+        {wait} a1, a0
+        j    loop
+"""
+
+
+@pytest.mark.parametrize("wait", ["wu", "du"])
+def test_waits_that_come_too_late(tool: Tool, tmp_path: Path, wait: str) -> None:
+    made = make(tmp_path, LATE.format(wait=wait), 60)
+    assert shown(tool, str(made.trace), "--setup", str(made.setup), "--objdump", "", "--waits") == [
+        f"12 120 +4 0000000c {wait} a1, a0 - (late by 40 ns)",
+        f"24 240 +4 0000000c {wait} a1, a0 - (late by 80 ns)",
+        f"36 360 +4 0000000c {wait} a1, a0 - (late by 120 ns)",
+        f"48 480 +4 0000000c {wait} a1, a0 - (late by 160 ns)",
+    ]
+
+
+def test_overruns_alone(tool: Tool, tmp_path: Path) -> None:
+    made = make(tmp_path, LATE.format(wait="wu").replace("80", "150"), 100)
+    assert shown(tool, str(made.trace), "--setup", str(made.setup), "--overruns") == []
+    assert len(shown(tool, str(made.trace), "--setup", str(made.setup), "--waits")) == 6
+
+
+def test_json_a_line_an_event(tool: Tool) -> None:
+    ran = tool("fp_trace", "examples/traps.trace", "--json", "--objdump", "", "--from", "8", "--to", "24")
+    lines = [json.loads(line) for line in ran.stdout.splitlines()]
+    assert [it["cycle"] for it in lines] == [8, 12, 16, 20]
+    last = lines[-1]
+    assert (last["pc"], last["word"], last["ns"], last["gap"]) == ("00000014", "00000073", 200, 4)
+    assert (last["effect"], last["trap"]) == ("trap 11 -> 00000100", {"cause": 11, "handler": 256})
+    ran = tool("fp_trace", "examples/sum.trace", "--json", "--objdump", "", "--to", "24")
+    lines = [json.loads(line) for line in ran.stdout.splitlines()]
+    assert (lines[0]["register"], lines[0]["value"]) == (1, 0x2000_0000)
+    assert lines[-1]["store"] == {"address": 0x2000_0000, "size": 4, "value": 3}
+
+
+def test_csv_a_row_an_event(tool: Tool) -> None:
+    ran = tool("fp_trace", "examples/c/pid.trace", *PID, "--csv", "--objdump", "", "--waits")
+    rows = list(csv.DictReader(ran.stdout.splitlines()))
+    assert [(row["cycle"], row["at"], row["instruction"], row["late_ns"]) for row in rows] == [
+        ("464", "step_end", "wu a1, a5", ""),
+        ("1200", "step_end", "wu a1, a5", ""),
+    ]
+
+
+def test_labels_and_lines_of_a_map(tool: Tool, tmp_path: Path) -> None:
+    names = tmp_path / "sum.map"
+    assert tool("fp_asm", "examples/sum.s", "examples/sum.fpx", "--map", names).returncode == 0
+    lines = shown(tool, "examples/sum.trace", "--map", str(names), "--objdump", "", "--pc", "sum", "--to", "40")
+    assert lines == ["36 360 +4 00000024 sum 0x0001a383 x07=00000003 sum.s:11 sum: lw x7, 0(x3) # 0x24: eight rounds"]
+
+
+def test_events_by_the_library() -> None:
+    with (TOP / "examples/traps.trace").open("rb") as file:
+        events = list(read_trace(file, start=20, end=33))
+    assert [(event.cycle, event.gap, event.cause) for event in events] == [(20, 4, 11), (24, 4, None), (28, 4, None), (32, 4, None)]
+    assert (events[0].handler, events[0].issues, events[1].register, events[1].csr, events[1].stored) == (0x100, True, 5, None, None)
+
+
+def test_a_live_pipe_is_shown_as_it_comes() -> None:
+    import subprocess
+    import sys
+
+    words = [sys.executable, str(TOP / "tools/fp_trace"), "--objdump", ""]
+    with subprocess.Popen(words, stdin=subprocess.PIPE, stdout=subprocess.PIPE, text=True) as ran:
+        assert ran.stdin is not None and ran.stdout is not None
+        assert ran.stdout.readline().split()[0] == "cycle"
+        ran.stdin.write(WHOLE)
+        ran.stdin.flush()
+        assert ran.stdout.readline().split()[0] == "0"
+        ran.stdin.close()
+        assert ran.stdout.readline().split()[0] == "4"
+    assert ran.returncode == 0
