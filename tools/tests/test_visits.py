@@ -61,6 +61,7 @@ def test_a_run_of_the_program(tool: Tool, tmp_path: Path) -> None:
     words = ("--setup", "examples/sum.toml", "--cycles", "816", "--flexpret", program(tmp_path))
     assert shown(tool, *words, "--section", "visit=0x10:0x3c")[2] == "visit 4 184 184.0 184 16 184 1.00 -"
     assert shown(tool, *words, "--to", "400", "--section", "0x10:0x3c")[0] == "T0: 100 events, cycles 0 to 396"
+    assert shown(tool, *words[1:], "--section", "0x10:0x3c")[0] == "T0: 200 events, cycles 0 to 808"
 
 
 def test_budgets_and_names_of_an_executable(tool: Tool, tmp_path: Path) -> None:
