@@ -38,6 +38,12 @@ def _call_of(code: Mapping[int, int], functions: Sequence[Function], function: F
     return next((pc for pc in calls if not any(it.start <= pc < it.end for it in reached)), None)
 
 
+def _jump_into(code: Mapping[int, int], start: int, end: int, routines: Sequence[tuple[int, int]]) -> int | None:
+    """A word of a section that leads into a routine other than by a call of it, so that the bound ends where the execution seems to go on."""
+    ways = walk(code, start, end, [head for head, _ in routines]).ways_out
+    return next((way.word.pc for way in ways if way.to is not None and any(head <= way.to < last for head, last in routines)), None)
+
+
 def _ask_calls(flexpret: Flexpret, setup: Path, thread: int, start: int, end: int, routines: Sequence[tuple[int, int]]) -> Answer:
     with tempfile.TemporaryDirectory() as folder:
         listed = Path(folder) / "routines"
@@ -58,6 +64,9 @@ def with_bound(
             return replace(watched, doubt="no `jal ra` calls it")
         start, end = call, call + 4
         routines = [(it.start, it.end) for it in called_functions(code, functions, start, end)]
+    jump = _jump_into(code, start, end, routines)
+    if jump is not None:
+        return replace(watched, doubt=f"{jump:#x} leads into a function other than by a call of it")
     if routines:
         answer = _ask_calls(flexpret, setup, thread, start, end, routines)
     else:

@@ -19,7 +19,7 @@ from fptools.section import walk
 from fptools.setup import Setup
 from fptools.turns import Turns, turns_of
 from fptools.visits import (
-    CallMeter, Executions, LoopMeter, LoopTable, Meter, Rounds, SectionMeter, Trapped, TrapMeter, Wait, WaitJudge, WaitMeter, Watched, measure,
+    MOST_KEPT, CallMeter, Executions, LoopMeter, LoopTable, Meter, Rounds, SectionMeter, Trapped, TrapMeter, Wait, WaitJudge, WaitMeter, Watched, measure,
 )  # fmt: skip
 
 PIPE_BYTES = 1 << 20
@@ -99,6 +99,8 @@ class Observation:
 
     def _broken_bounds(self) -> Iterator[Break]:
         """The visits above their bound in which no loop went back more often than its table says."""
+        if any(len(rounds.breaks) == MOST_KEPT for rounds in self.rounds):
+            return  # not all of the breaks are known
         starts = sorted(cycle for rounds in self.rounds for cycle, _ in rounds.breaks)
         for seen in self.executions:
             kept = [it for it in seen.over if not _has_break(starts, *it)]

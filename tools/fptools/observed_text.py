@@ -58,6 +58,8 @@ class Text:
     def _executions(self, seen: Observation) -> Iterator[str]:
         yield f"{'executions, cycles':<32}{'number':>9}{'shortest':>10}{'mean':>11}{'longest':>10}{'at cycle':>12}{'bound':>10}{'ratio':>7}{'budget':>10}"
         for it in seen.executions:
+            if it.watched.is_function and not it.count and not it.unfinished:
+                continue  # of all functions of an executable a thread runs a few
             yield self._execution(it)
             yield from (f"    {line}" for line in self._remarks(it, seen.question.period))
 
@@ -125,7 +127,7 @@ class Text:
         if it.kind is Kind.BUDGET:
             return f"OVER    {thread}{it.what}: {it.seen} of {it.most} cycles, from cycle {it.cycle}"
         text = f"{it.seen} cycles from cycle {it.cycle}, {it.times} times above its bound of {it.most}"
-        return f"FAULT   {thread}{it.what}: {text}{'' if seen.question.is_quiet else NOT_QUIET}{REPORT if seen.question.is_quiet else ''}"
+        return f"FAULT   {thread}{it.what}: {text}{REPORT if seen.question.is_quiet else NOT_QUIET}"
 
 
 NOT_QUIET = ": a thread has a permit, and a bound holds only while no slots, modes or regions are written"

@@ -266,8 +266,9 @@ def test_functions_of_an_executable(tool: Tool, tmp_path: Path) -> None:
     setup.write_text(text.replace("examples/sum.fpx", str(image)).split("[[loop]]")[0])
     words = ("--setup", setup, "--elf", "tools/tests/data/calls.elf", "--cycles", "4000", "--flexpret", flexpret)
     lines = shown(tool, *words)
-    assert lines[0].startswith("T0: ")
-    assert lines[1].startswith("executions, cycles")
+    assert "inner 111 12 12.0 12 8 12 1.00 -" in lines
+    assert "outer 111 28 28.0 28 0 28 1.00 -" in lines
+    assert not any(line.startswith("start ") for line in lines)
 
 
 @pytest.mark.parametrize(
