@@ -104,6 +104,8 @@ class Text:
         yield f"{'waits':<32}{'number':>9}{'waited':>10}{'overruns':>11}{'latest, ns':>12}{'at cycle':>12}{'least slack, ns':>17}"
         for it in seen.waits:
             yield self._wait(it)
+            if it.periods.count:
+                yield f"    goes on: {_period(it.periods, seen.question.period)}"
 
     def _wait(self, it: Wait) -> str:
         name = f"{self.at(it.pc)} {'du' if it.is_delay else 'wu'}"
@@ -190,8 +192,9 @@ def _loop(it: Rounds) -> dict[str, Any]:
 
 def _wait(it: Wait) -> dict[str, Any]:
     return {
-        "pc": it.pc, "kind": "du" if it.is_delay else "wu", "number": it.count, "waited": it.waited, "overruns": it.overruns,
-        "late_ns": _spread(it.late), "slack_ns": _spread(it.slack), "first_overrun": it.first_overrun, "carry_missing": it.is_carry,
+        "pc": it.pc, "kind": "du" if it.is_delay else "wu",
+        "number": it.count, "waited": it.waited, "overruns": it.overruns,
+        "period": _spread(it.periods, jitter=it.periods.most - it.periods.least), "late_ns": _spread(it.late), "slack_ns": _spread(it.slack), "first_overrun": it.first_overrun, "carry_missing": it.is_carry,
     }  # fmt: skip
 
 

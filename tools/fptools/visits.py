@@ -126,6 +126,7 @@ class Wait:
     overruns: int = 0  # whose moment had passed before the first try
     late: Spread = field(default_factory=Spread)  # nanoseconds since the moment, of the overruns with a known moment
     slack: Spread = field(default_factory=Spread)  # nanoseconds to the moment, of the others
+    periods: Spread = field(default_factory=Spread)  # from one issue behind it to the next, in cycles
     first_overrun: int | None = None  # its cycle
     is_carry: bool = False  # the moment's high word lags: a carry is missing
 
@@ -588,21 +589,36 @@ class WaitJudge:
 
 
 class WaitMeter:
-    """Looks at each DU and WU: whether it waited, and how late it was."""
+    """Looks at each DU and WU: whether it waited, how late it was, and when the thread went on."""
 
     def __init__(self, judge: WaitJudge) -> None:
         self.seen: dict[int, Wait] = {}
         self._judge = judge
+        self._went_on: dict[int, int] = {}  # the newest cycle in which a thread went on behind each wait
+        self._last: int | None = None  # the wait that is the last event so far
 
     def take(self, block: Block) -> None:
+        if self._last is not None:
+            self._go_on(self._last, block.cycle(0))
+            self._last = None
         for it in self._judge.judged(block):
             wait = self.seen.get(it.word.pc)
             if wait is None:
                 wait = self.seen[it.word.pc] = Wait(it.word.pc, it.word.funct3 == FUNCT3_DU)
             self._add(wait, it)
+            if it.index + 1 < len(block.lines):
+                self._go_on(it.word.pc, block.cycle(it.index + 1))
+            else:
+                self._last = it.word.pc
 
     def end(self, cycle: int) -> None:
         """Nothing is open at the end."""
+
+    def _go_on(self, pc: int, cycle: int) -> None:
+        before = self._went_on.get(pc)
+        if before is not None:
+            self.seen[pc].periods.add(cycle - before, before)
+        self._went_on[pc] = cycle
 
     def _add(self, wait: Wait, it: JudgedWait) -> None:
         period = self._judge.period

@@ -44,6 +44,7 @@ def test_executions_loops_and_waits(tool: Tool) -> None:
         "0x24 to 0x34 4 7 7.0 7 36 7",
         "waits number waited overruns latest, ns at cycle least slack, ns",
         "0x40 wu 4 4 0 - - 40",
+        "goes on: period: 200.0 cycles, 200 to 200, jitter 0 cycles = 0 ns",
     ]
 
 
@@ -161,7 +162,13 @@ loop:   addi a0, a0, {period}
 )
 def test_waits_and_overruns(tool: Tool, tmp_path: Path, wait: str, period: int, line: str) -> None:
     made = make(tmp_path, LATE.format(period=period, wait=wait), 1000)
-    assert shown(tool, made.trace, "--setup", made.setup)[-1] == line
+    assert shown(tool, made.trace, "--setup", made.setup)[-2] == line
+
+
+def test_when_a_thread_goes_on(tool: Tool, tmp_path: Path) -> None:
+    """A period of 95 cycles comes to a turn of each fourth cycle 92 or 96 cycles later."""
+    made = make(tmp_path, LATE.format(period=950, wait="wu"), 3000)
+    assert shown(tool, made.trace, "--setup", made.setup)[-1] == "goes on: period: 95.1 cycles, 92 to 96, jitter 4 cycles = 40 ns"
 
 
 def test_a_moment_whose_high_word_is_behind(tool: Tool, tmp_path: Path) -> None:
@@ -352,9 +359,9 @@ def test_a_permit_is_told_with_a_broken_bound(tool: Tool, tmp_path: Path) -> Non
 def test_delays_without_known_turns(tool: Tool, tmp_path: Path) -> None:
     """That a DU is late is said where it was by the lag of the issue before."""
     early = make(tmp_path, LATE.format(period=200, wait="du"), 1000)
-    assert shown(tool, early.trace)[-1] == "0xc du 49 49 0 - - 110"
+    assert shown(tool, early.trace)[-2] == "0xc du 49 49 0 - - 110"
     late = make(tmp_path, LATE.format(period=20, wait="du"), 1000)
-    assert shown(tool, late.trace)[-1].startswith("0xc du 82 0 82")
+    assert shown(tool, late.trace)[-2].startswith("0xc du 82 0 82")
 
 
 def test_what_was_seen_is_shown_where_it_is_stopped() -> None:
@@ -375,3 +382,20 @@ def test_what_was_seen_is_shown_where_it_is_stopped() -> None:
     assert ran.returncode == 3
     assert out.startswith("-: ") and " events, cycles 0 to " in out
     assert errors.startswith("fp_visits: standard input: stopped behind cycle ")
+
+
+def test_an_image_that_is_sought_elsewhere(tool: Tool, tmp_path: Path) -> None:
+    setup = tmp_path / "sum.toml"
+    setup.write_text((TOP / "examples/sum.toml").read_text().replace("examples/sum.fpx", "sum.fpx"))
+    text = f"sum.fpx, the image of {setup}, isn't there: it is sought from the folder of the call"
+    assert refused(tool, "examples/sum.trace", "--setup", setup) == text
+
+
+def test_a_terminal_is_no_trace() -> None:
+    ours, theirs = pty.openpty()
+    words = [sys.executable, str(TOOLS / "fp_visits")]
+    ran = subprocess.run(words, stdin=theirs, capture_output=True, text=True, check=False, timeout=60)
+    os.close(ours)
+    os.close(theirs)
+    text = "no trace: name a file, pipe one in, or run the setup by --cycles"
+    assert (ran.returncode, ran.stderr) == (2, f"fp_visits: {text}\n")
