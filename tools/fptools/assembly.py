@@ -1,7 +1,7 @@
 """Sources of the assembler: where each word of an image comes from, and the texts of words.
 
-The model of this repository reads the sources. Its tokens, mnemonics and faults are those of the program's assembler, as docs/FORMATS.md has
-them; tests compare the two."""
+The model of this repository reads the sources. Its tokens, mnemonics and faults are those of the
+program's assembler, as docs/FORMATS.md has them; tests compare the two."""
 from __future__ import annotations
 
 import os
@@ -30,7 +30,7 @@ TAKES_NUMBER = {op for funct3, op in CSR_OPS.items() if funct3 > 4}
 
 @dataclass(frozen=True)
 class Label:
-    """A label: its name, its address, and the line of the source where it stands."""
+    """A label: its name, its address, and its line of the source."""
 
     name: str
     address: int
@@ -82,8 +82,8 @@ def read_source(path: Path) -> Source:
 
 
 def listing(source: Source) -> Iterator[str]:
-    """The lines of a listing: line, address, word and text of the source; a line that places more words has more lines. The labels follow,
-    by their addresses."""
+    """The lines of a listing: line, address, word and text of the source; a line that places more words
+    has more lines. The labels follow, by their addresses."""
     of_line = {number: (at, words) for number, at, words in source.placed}
     at_label = {label.line: label.address for label in source.labels}
     for number, text in enumerate(source.texts, 1):
@@ -91,14 +91,20 @@ def listing(source: Source) -> Iterator[str]:
         address = "" if at is None else f"{at:08x}"
         first = f"{words[0]:08x}" if words else ""
         yield f"{number:>5} {address:<8} {first:<8}  {text}".rstrip()
-        yield from (f"{number:>5} {(at or 0) + 4 * index:08x} {word:08x}" for index, word in enumerate(words[1:], 1))
+        yield from (
+            f"{number:>5} {(at or 0) + 4 * index:08x} {word:08x}" for index, word in enumerate(words[1:], 1)
+        )
     if source.labels:
         yield ""
-        yield from (f"{label.address:08x} {label.name}" for label in sorted(source.labels, key=lambda it: (it.address, it.name)))
+        yield from (
+            f"{label.address:08x} {label.name}"
+            for label in sorted(source.labels, key=lambda it: (it.address, it.name))
+        )
 
 
 def map_lines(source: Source, folder: Path) -> Iterator[str]:
-    """The lines of a map in a folder: for each line of the source with labels or words its first address, its number and its labels."""
+    """The lines of a map in a folder: for each line of the source with labels or words its first
+    address, its number and its labels."""
     yield f"# map of {os.path.relpath(source.path, folder)}: address, line, labels"
     names: dict[tuple[int, int], list[str]] = {(at, number): [] for number, at, _ in source.placed}
     for label in source.labels:
@@ -122,7 +128,8 @@ def target_of(pc: int, bits: int) -> int | None:
 
 
 def text_of(pc: int, bits: int, names: Mapping[int, str] | None = None) -> str:
-    """The text of a word at its address, which the assembler reads back; targets by their names, where these have one."""
+    """The text of a word at its address, which the assembler reads back; targets by their names, where
+    these have one."""
     ins = decode(bits)
     to = target_of(pc, bits)
     if ins.kind in ("Jal", "Branch"):
@@ -168,7 +175,8 @@ def usable(names: Mapping[int, str]) -> dict[int, str]:
 
 
 def disassembled(words: Mapping[int, int], names: Mapping[int, str]) -> Iterator[str]:
-    """An image as a source: the assembler makes the same words of it. Targets without a name get one by their address."""
+    """An image as a source: the assembler makes the same words of it. Targets without a name get one by
+    their address."""
     code = {at: bits for at, bits in words.items() if at < CODE_BYTES}
     targets = {to for at, bits in code.items() if (to := target_of(at, bits)) is not None and to in words}
     own = usable(names)

@@ -1,7 +1,7 @@
 """Reads a trace of one thread in blocks of lines, with one character for each event.
 
-A trace may have 10^9 lines, so no line is taken apart unless something asks for it. Each event becomes one character by its pc, and
-sections, loops and calls are then found in these texts by regular expressions."""
+A trace may have 10^9 lines, so a line is parsed only if something needs it. Each event becomes one
+character, by its pc. Sections, loops and calls are found in these texts by regular expressions."""
 from __future__ import annotations
 
 import os
@@ -29,12 +29,14 @@ EVENT = re.compile(
 KEY = re.compile(rb" ([0-9a-f]{8}) ([0-9a-f]{8}) ")
 TRAP = b" trap "
 
-# The characters: one for each word of code, one for a trap at each, and one for all addresses where no code can be.
+# The characters: one for each word of code, one for a trap at each, and one for all addresses where no code
+# can be.
 TRAPPED, ELSEWHERE = CODE_END >> 2, CODE_END >> 1
 
 
 class BrokenTrace(Exception):
-    """A line is no event of a trace, or doesn't come after the one before it. All lines before it were given."""
+    """A line is no event of a trace, or doesn't come after the one before it. All lines before it were
+    given."""
 
 
 def character(pc: int) -> str:
@@ -54,7 +56,8 @@ def address(char: str) -> int | None:
 
 
 def span(start: int, end: int) -> str:
-    """The characters of the issues from an address up to below another, as a part of a class of a regular expression."""
+    """The characters of the issues from an address up to below another, as a part of a class of a
+    regular expression."""
     return f"\\u{start >> 2:04x}-\\u{(min(end, CODE_END) >> 2) - 1:04x}" if start < end else ""
 
 
@@ -71,7 +74,7 @@ class Source(Protocol):
 
 
 class Live:
-    """A pipe or file by its descriptor, of which a read gives what is there."""
+    """A pipe or file by its descriptor. A read returns what is there, and doesn't wait for more."""
 
     def __init__(self, descriptor: int) -> None:
         self._descriptor = descriptor
@@ -94,7 +97,7 @@ class Block:
         return int(self.lines[index][CYCLE])
 
     def line(self, index: int) -> bytes | None:
-        """A line by its index, of which -1 is the line before the block."""
+        """A line by its index; -1 is the line before the block."""
         return self.before if index < 0 else self.lines[index]
 
 
@@ -134,7 +137,11 @@ class Progress:
         self.shown = now
         part = f" ({100 * cycle // self.cycles} %)" if self.cycles else ""
         rate = events / max(now - self.begun, 0.001)
-        print(f"\r{self.name}: {events:,} events, cycle {cycle:,}{part}, {rate:,.0f} a second\x1b[K", end="", file=sys.stderr)
+        print(
+            f"\r{self.name}: {events:,} events, cycle {cycle:,}{part}, {rate:,.0f} a second\x1b[K",
+            end="",
+            file=sys.stderr,
+        )
 
     def end(self) -> None:
         if self.shown:
@@ -145,7 +152,12 @@ class TraceReader:
     """Gives the blocks of a trace, of the events from cycle `start` on and before cycle `end`."""
 
     def __init__(
-        self, source: Source, name: str, start: int = 0, end: int | None = None, progress: Progress | None = None
+        self,
+        source: Source,
+        name: str,
+        start: int = 0,
+        end: int | None = None,
+        progress: Progress | None = None,
     ) -> None:
         self.source, self.name, self.start, self.end = source, name, start, end
         self.progress = progress
@@ -173,7 +185,9 @@ class TraceReader:
         if self.progress:
             self.progress.end()
         if rest and not self._ends:
-            raise BrokenTrace(self._told(self.lines_read + 1, rest, "it has no line feed, so the trace was cut"))
+            raise BrokenTrace(
+                self._fault_text(self.lines_read + 1, rest, "it has no line feed, so the trace was cut")
+            )
 
     def _block(self, data: bytes) -> Iterator[Block]:
         lines = data.split(b"\n")
@@ -187,7 +201,7 @@ class TraceReader:
             fault = _first_fault(lines, self._before)
         broken = None
         if fault is not None:
-            broken = self._told(self.lines_read + fault.index + 1, lines[fault.index], fault.text)
+            broken = self._fault_text(self.lines_read + fault.index + 1, lines[fault.index], fault.text)
             lines = lines[: fault.index]
             chars = [self.places[line[PLACE]] for line in lines]
         yield from self._narrowed(lines, chars, data)
@@ -196,10 +210,13 @@ class TraceReader:
             raise BrokenTrace(broken)
 
     def _are_sound(self, lines: list[bytes]) -> bool:
-        """Whether lengths are those of events and cycles rise. These are right in ten columns, so that their texts compare as they do."""
+        """Whether lengths are those of events, and cycles rise. Cycles are right-aligned, so their texts
+        compare as the numbers do."""
         cycles = list(map(itemgetter(CYCLE), lines))
         is_after = self._before is None or self._before[CYCLE] < cycles[0]
-        return is_after and LENGTHS.issuperset(map(len, lines)) and all(map(lt, cycles, islice(cycles, 1, None)))
+        return (
+            is_after and LENGTHS.issuperset(map(len, lines)) and all(map(lt, cycles, islice(cycles, 1, None)))
+        )
 
     def _narrowed(self, lines: list[bytes], chars: list[str], data: bytes) -> Iterator[Block]:
         """The block of the lines that are asked for, if it isn't empty."""
@@ -238,7 +255,7 @@ class TraceReader:
         if self.progress:
             self.progress.end()
 
-    def _told(self, number: int, line: bytes, why: str) -> str:
+    def _fault_text(self, number: int, line: bytes, why: str) -> str:
         text = line[:80].decode("ascii", "backslashreplace")
         return f"{self.name}: line {number:,} is broken: {why}: {text!r}"
 

@@ -17,7 +17,9 @@ from fptools.words import Word
 BOUND = re.compile(r"bound (\d+)")
 
 
-def called_functions(code: Mapping[int, int], functions: Sequence[Function], start: int, end: int) -> list[Function]:
+def called_functions(
+    code: Mapping[int, int], functions: Sequence[Function], start: int, end: int
+) -> list[Function]:
     """The functions that a section reaches by calls that come back."""
     apart = {it.start: it for it in functions if it.end <= start or end <= it.start}
     reached: dict[int, Function] = {}
@@ -38,13 +40,25 @@ def _call_of(code: Mapping[int, int], functions: Sequence[Function], function: F
     return next((pc for pc in calls if not any(it.start <= pc < it.end for it in reached)), None)
 
 
-def _jump_into(code: Mapping[int, int], start: int, end: int, routines: Sequence[tuple[int, int]]) -> int | None:
-    """A word of a section that leads into a routine other than by a call of it, so that the bound ends where the execution seems to go on."""
+def _jump_into(
+    code: Mapping[int, int], start: int, end: int, routines: Sequence[tuple[int, int]]
+) -> int | None:
+    """A word of a section that leads into a routine other than by a call of it, so that the bound ends
+    where the execution seems to go on."""
     ways = walk(code, start, end, [head for head, _ in routines]).ways_out
-    return next((way.word.pc for way in ways if way.to is not None and any(head <= way.to < last for head, last in routines)), None)
+    return next(
+        (
+            way.word.pc
+            for way in ways
+            if way.to is not None and any(head <= way.to < last for head, last in routines)
+        ),
+        None,
+    )
 
 
-def _ask_calls(flexpret: Flexpret, setup: Path, thread: int, start: int, end: int, routines: Sequence[tuple[int, int]]) -> Answer:
+def _ask_calls(
+    flexpret: Flexpret, setup: Path, thread: int, start: int, end: int, routines: Sequence[tuple[int, int]]
+) -> Answer:
     with tempfile.TemporaryDirectory() as folder:
         listed = Path(folder) / "routines"
         listed.write_text("".join(f"{head:08x} {end - 4:08x}\n" for head, end in routines), encoding="ascii")
@@ -52,10 +66,15 @@ def _ask_calls(flexpret: Flexpret, setup: Path, thread: int, start: int, end: in
 
 
 def with_bound(
-    flexpret: Flexpret, setup: Path, thread: int, watched: Watched, code: Mapping[int, int], functions: Sequence[Function]
+    flexpret: Flexpret,
+    setup: Path,
+    thread: int,
+    watched: Watched,
+    code: Mapping[int, int],
+    functions: Sequence[Function],
 ) -> Watched:
-    """A section or function with its bound, or with the reason why it has none. That of a function is the bound of a call of it:
-    from the call's issue to that of the word after it."""
+    """A section or function with its bound, or with the reason why it has none. That of a function is
+    the bound of a call of it: from the call's issue to that of the word after it."""
     start, end, routines = watched.start, watched.end, list(watched.routines)
     if watched.is_function:
         own = next((it for it in functions if it.start == start), None)

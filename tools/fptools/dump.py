@@ -5,8 +5,8 @@
     state = read_dump(text)
     print(state.cycles, state.threads[0].registers[10], hex(state.data.get(0x2000_0000, 0)))
 
-docs/FORMATS.md says how old each part of a dump is: registers show the issues up to four cycles before, data and ports those up to three, the
-others those up to two."""
+docs/FORMATS.md says how old each part of a dump is: registers show the issues up to four cycles before,
+data and ports those up to three, the others those up to two."""
 from __future__ import annotations
 
 import re
@@ -18,7 +18,9 @@ STAGES = ("D", "E", "M", "W")
 LINES_OF_HEAD, LINES_OF_THREAD = 10, 7
 DATA = re.compile(r"\[([0-9a-f]{8})\]((?: [0-9a-f]{8}){8})")
 TURN = re.compile(r"(?:-|T(?P<thread>[0-7]) (?:flushed|(?P<pc>[0-9a-f]{8}) (?P<bits>[0-9a-f]{8})))")
-TIMES = re.compile(r"armed (?P<armed>-|[0-9a-f]{16}) sleep (?P<sleep>[0-9a-f]{16}) high (?P<high>[0-9a-f]{8})")
+TIMES = re.compile(
+    r"armed (?P<armed>-|[0-9a-f]{16}) sleep (?P<sleep>[0-9a-f]{16}) high (?P<high>[0-9a-f]{8})"
+)
 SETTING = re.compile(r" *(\d+) ([0-9a-f]{8}) ([0-9a-f]{8})")
 
 
@@ -28,7 +30,8 @@ class NoDump(Exception):
 
 @dataclass(frozen=True)
 class Turn:
-    """A turn in a stage: nobody's, one that its thread lost, or an issue with its pc and word (0 where none issues)."""
+    """A turn in a stage: nobody's, one that its thread lost, or an issue with its pc and word (0 where
+    none issues)."""
 
     thread: int | None = None
     pc: int | None = None
@@ -121,14 +124,21 @@ def read_dump(text: str) -> Dump:
     cycles = lines.matched("cycles", re.compile(r"\d+"))
     picked = lines.matched("F", re.compile(r"-|T([0-7])"))
     stages = {stage: _turn(lines.matched(stage, TURN)) for stage in STAGES}
-    slots, modes, dregions, iregions = (lines.words(name, 1)[0] for name in ("slots", "modes", "dregions", "iregions"))
+    slots, modes, dregions, iregions = (
+        lines.words(name, 1)[0] for name in ("slots", "modes", "dregions", "iregions")
+    )
     threads = tuple(_thread(lines, number) for number in range(THREADS))
     fetching = int(picked[1]) if picked[1] else None
-    return Dump(int(cycles[0]), fetching, stages, slots, modes, dregions, iregions, threads, _data(lines.rest()))
+    return Dump(
+        int(cycles[0]), fetching, stages, slots, modes, dregions, iregions, threads, _data(lines.rest())
+    )
 
 
 def _turn(found: re.Match[str]) -> Turn:
-    numbers = [None if found[name] is None else int(found[name], base) for name, base in (("thread", 10), ("pc", 16), ("bits", 16))]
+    numbers = [
+        None if found[name] is None else int(found[name], base)
+        for name, base in (("thread", 10), ("pc", 16), ("bits", 16))
+    ]
     if numbers[0] is None and found[0] != "-":
         numbers[0] = int(found[0][1])
     return Turn(*numbers)

@@ -18,6 +18,7 @@ from fptools.program import Flexpret
 from fptools.section import walk
 from fptools.setup import Setup
 from fptools.turns import Turns, turns_of
+
 from fptools.visits import (
     MOST_KEPT, CallMeter, Executions, LoopMeter, LoopTable, Meter, Rounds, SectionMeter, Trapped, TrapMeter, Wait, WaitJudge, WaitMeter, Watched, measure,
 )  # fmt: skip
@@ -76,7 +77,9 @@ class Observation:
     rounds: list[Rounds] = field(default_factory=list)
     waits: list[Wait] = field(default_factory=list)
     traps: list[Trapped] = field(default_factory=list)
-    broken: str | None = None  # which line of the trace is broken, or that it was stopped; all before it was looked at
+    broken: str | None = (
+        None  # which line of the trace is broken, or that it was stopped; all before it was looked at
+    )
     foreign: str | None = None  # why the trace isn't of this image, or of this thread
 
     @property
@@ -124,17 +127,24 @@ def tables_of(setup: Setup) -> list[LoopTable]:
     return [LoopTable(it["head"], it["last"], it["bound"]) for it in setup.values.get("loop", [])]
 
 
-def loops_without_table(watched: Collection[Watched], code: Mapping[int, int], stated: Collection[LoopTable]) -> list[LoopTable]:
+def loops_without_table(
+    watched: Collection[Watched], code: Mapping[int, int], stated: Collection[LoopTable]
+) -> list[LoopTable]:
     """The loops in the code of sections that no table states, by their heads."""
     parts = {part for it in watched if not it.is_function for part in ((it.start, it.end), *it.routines)}
     heads = {head for it in watched for head, _ in it.routines}
     found = chain.from_iterable(walk(code, start, end, heads).loops for start, end in sorted(parts))
     known = {it.head for it in stated}
-    return [LoopTable(head, last) for head, last in sorted({(it.head, it.last) for it in found}) if head not in known]
+    return [
+        LoopTable(head, last)
+        for head, last in sorted({(it.head, it.last) for it in found})
+        if head not in known
+    ]
 
 
 def question_of(setup: Setup, thread: int, watched: Sequence[Watched], code: Mapping[int, int]) -> Question:
-    """What to look at in a run of a setup: sections, and all loops that its tables or the sections' code have."""
+    """What to look at in a run of a setup: sections, and all loops that its tables or the sections' code
+    have."""
     stated = tables_of(setup)
     loops = [*stated, *loops_without_table(watched, code, stated)]
     is_quiet = not any(it.get("permit") for it in setup.values.get("thread", []))
@@ -229,12 +239,22 @@ def opened_run(flexpret: Flexpret, setup: Path, thread: int, cycles: int) -> Ite
         # A program that is left before its end can't write the rest, which isn't its fault.
         if ran.returncode > 0 and (source.is_at_end or ran.returncode != WRITE_FAILED):
             errors.seek(0)
-            text = (source.tail if source.tail.startswith(b"refused") else errors.read()).decode("utf-8", "replace")
-            raise RunFailed(f"run {setup} --thread {thread}: status {ran.returncode}: {text.strip().split(chr(10))[0]}")
+            text = (source.tail if source.tail.startswith(b"refused") else errors.read()).decode(
+                "utf-8", "replace"
+            )
+            raise RunFailed(
+                f"run {setup} --thread {thread}: status {ran.returncode}: {text.strip().split(chr(10))[0]}"
+            )
 
 
 def run_and_observe(
-    flexpret: Flexpret, setup: Setup, question: Question, cycles: int, start: int = 0, end: int | None = None, name: str = "fp_visits"
+    flexpret: Flexpret,
+    setup: Setup,
+    question: Question,
+    cycles: int,
+    start: int = 0,
+    end: int | None = None,
+    name: str = "fp_visits",
 ) -> Observation:
     """Runs a thread for some cycles and looks at its trace, from cycle `start` on and before `end`."""
     assert question.thread is not None

@@ -65,7 +65,11 @@ class Text:
 
     def _execution(self, it: Executions) -> str:
         whole, part = it.whole, ratio(it)
-        spread = f"{whole.least:>10}{whole.mean:>11.1f}{whole.most:>10}{whole.at:>12}" if whole.count else f"{NO_NUMBER:>10}{NO_NUMBER:>11}{NO_NUMBER:>10}{NO_NUMBER:>12}"
+        spread = (
+            f"{whole.least:>10}{whole.mean:>11.1f}{whole.most:>10}{whole.at:>12}"
+            if whole.count
+            else f"{NO_NUMBER:>10}{NO_NUMBER:>11}{NO_NUMBER:>10}{NO_NUMBER:>12}"
+        )
         share = NO_NUMBER if part is None else f"{part:.2f}"
         return f"{it.watched.name:<32}{whole.count:>9}{spread}{_number(it.watched.bound):>10}{share:>7}{_number(it.watched.budget):>10}"
 
@@ -75,7 +79,10 @@ class Text:
         if it.periods.count:
             yield _period(it.periods, period)
         trap, detour = "with a trap between begin and end", "that left the section and came back"
-        for spread, what, ends in ((it.interrupted, trap, "at the trap"), (it.detours, detour, "where it is left")):
+        for spread, what, ends in (
+            (it.interrupted, trap, "at the trap"),
+            (it.detours, detour, "where it is left"),
+        ):
             if spread.count:
                 most = f"{spread.least} to {spread.most} cycles, the longest at cycle {spread.at}"
                 yield f"{spread.count} more {what}: {most}; the bound ends {ends}"
@@ -97,7 +104,11 @@ class Text:
     def _loop(self, it: Rounds) -> str:
         backs = it.backs
         name = f"{spelled_loop(it.table)} {self._program.name_of(it.table.head)}".rstrip()
-        spread = f"{backs.least:>10}{backs.mean:>11.1f}{backs.most:>10}{backs.at:>12}" if backs.count else f"{NO_NUMBER:>10}{NO_NUMBER:>11}{NO_NUMBER:>10}{NO_NUMBER:>12}"
+        spread = (
+            f"{backs.least:>10}{backs.mean:>11.1f}{backs.most:>10}{backs.at:>12}"
+            if backs.count
+            else f"{NO_NUMBER:>10}{NO_NUMBER:>11}{NO_NUMBER:>10}{NO_NUMBER:>12}"
+        )
         return f"{name:<32}{backs.count:>9}{spread}{'none' if it.table.bound is None else it.table.bound:>10}"
 
     def _waits(self, seen: Observation) -> Iterator[str]:
@@ -109,7 +120,11 @@ class Text:
 
     def _wait(self, it: Wait) -> str:
         name = f"{self.at(it.pc)} {'du' if it.is_delay else 'wu'}"
-        late = f"{it.late.most:>12}{it.late.at:>12}" if it.late.count else f"{NO_NUMBER:>12}{_number(it.first_overrun):>12}"
+        late = (
+            f"{it.late.most:>12}{it.late.at:>12}"
+            if it.late.count
+            else f"{NO_NUMBER:>12}{_number(it.first_overrun):>12}"
+        )
         slack = it.slack.least if it.slack.count else None
         return f"{name:<32}{it.count:>9}{it.waited:>10}{it.overruns:>11}{late}{_number(slack):>17}{CARRY if it.is_carry else ''}"
 
@@ -133,7 +148,9 @@ class Text:
 
 
 NOT_QUIET = ": a thread has a permit, and a bound holds only while no slots, modes or regions are written"
-REPORT = ", though each loop kept its table: a fault of the analyser; please report it with setup, image and trace"
+REPORT = (
+    ", though each loop kept its table: a fault of the analyser; please report it with setup, image and trace"
+)
 
 
 def _period(spread: Spread, period: int) -> str:
@@ -144,7 +161,14 @@ def _period(spread: Spread, period: int) -> str:
 def _spread(spread: Spread, **more: Any) -> dict[str, Any]:
     if not spread.count:
         return {"number": 0}
-    return {"number": spread.count, "shortest": spread.least, "mean": spread.mean, "longest": spread.most, "longest_at": spread.at, **more}
+    return {
+        "number": spread.count,
+        "shortest": spread.least,
+        "mean": spread.mean,
+        "longest": spread.most,
+        "longest_at": spread.at,
+        **more,
+    }
 
 
 def as_data(seen: Observation, text: Text) -> dict[str, Any]:
@@ -158,9 +182,19 @@ def as_data(seen: Observation, text: Text) -> dict[str, Any]:
         "sections": [_section(it) for it in seen.executions],
         "loops": [_loop(it) for it in seen.rounds],
         "waits": [_wait(it) for it in seen.waits],
-        "traps": [{"pc": it.pc, "cause": it.cause, "number": it.count, "first_at": it.first} for it in seen.traps],
+        "traps": [
+            {"pc": it.pc, "cause": it.cause, "number": it.count, "first_at": it.first} for it in seen.traps
+        ],
         "breaks": [
-            {"kind": it.kind.value, "what": it.what, "seen": it.seen, "most": it.most, "cycle": it.cycle, "times": it.times, "text": text.broken(seen, it)}
+            {
+                "kind": it.kind.value,
+                "what": it.what,
+                "seen": it.seen,
+                "most": it.most,
+                "cycle": it.cycle,
+                "times": it.times,
+                "text": text.broken(seen, it),
+            }
             for it in seen.breaks
         ],
         "broken_trace": seen.broken,
@@ -211,7 +245,11 @@ def as_csv(seen: list[Observation]) -> str:
 def _row(seen: Observation, it: Executions) -> list[Any]:
     watched, whole, periods, part = it.watched, it.whole, it.periods, ratio(it)
     spread: list[Any] = [whole.least, round(whole.mean, 3), whole.most, whole.at] if whole.count else [""] * 4
-    period: list[Any] = [periods.least, round(periods.mean, 3), periods.most, periods.most - periods.least] if periods.count else [""] * 4
+    period: list[Any] = (
+        [periods.least, round(periods.mean, 3), periods.most, periods.most - periods.least]
+        if periods.count
+        else [""] * 4
+    )
     return [
         "" if seen.question.thread is None else seen.question.thread, watched.name, f"{watched.start:#x}", f"{watched.end:#x}",
         "function" if watched.is_function else "section", whole.count, *spread,

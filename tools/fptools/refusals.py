@@ -1,4 +1,5 @@
-"""Explains the refusal lines of the program: where, by symbol and line, and what to do. docs/FORMATS.md has the tables that stand behind it."""
+"""Explains the refusal lines of the program: where, by symbol and line, and what to do. docs/FORMATS.md
+has the tables."""
 from __future__ import annotations
 
 import re
@@ -36,7 +37,10 @@ SECTION_HINTS = {
     "NoSlot": ("slots", "no slot is the thread's: give it one"),
     "Order": (None, "--to isn't above --from: the section is the words from --from up to below --to"),
     "Misaligned": (None, "both addresses are multiples of 4"),
-    "Outside": (None, "the section ends past the instruction scratchpad; `version = 2` in the setup has 65,536 bytes"),
+    "Outside": (
+        None,
+        "the section ends past the instruction scratchpad; `version = 2` in the setup has 65,536 bytes",
+    ),
     "NotConfined": ("confined", "others may have a part in its trace: `confined = true`, or use `run`"),
 }
 IMAGE_HINTS = {
@@ -91,7 +95,9 @@ def explain(line: str, context: Context) -> list[str]:
     try:
         return list(explainers[parts["what"]](words, context))
     except (IndexError, KeyError, ValueError) as fault:
-        raise NoRefusal(f"this program has no such refusal, or the file has changed since: {line.strip()[:80]!r}") from fault
+        raise NoRefusal(
+            f"this program has no such refusal, or the file has changed since: {line.strip()[:80]!r}"
+        ) from fault
 
 
 def _source(words: list[str], context: Context) -> Iterator[str]:

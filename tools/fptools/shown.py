@@ -1,4 +1,5 @@
-"""Events of traces as they are shown: as columns, as JSON, as rows; with names, instructions and source lines."""
+"""Events of traces as they are shown: as columns, as JSON, as rows; with names, instructions and source
+lines."""
 from __future__ import annotations
 
 import csv
@@ -87,7 +88,8 @@ def _lines_with(data: bytes, text: bytes) -> Iterator[int]:
 
 
 class Columns:
-    """What is shown of an event beyond its own line. It is the same for each event of a word, so it is made once."""
+    """What is shown of an event beyond its own line. It is the same for each event of a word, so it is
+    made once."""
 
     def __init__(self, program: Program, disassembler: Disassembler, sources: Sources) -> None:
         self.program, self.disassembler, self.sources = program, disassembler, sources
@@ -133,7 +135,9 @@ class Form:
     def __init__(self, columns: Columns, period: int, kind: str = TEXT) -> None:
         self._columns, self._period, self._kind = columns, period, kind
         self.header = {TEXT: HEADER, JSON: "", CSV: ",".join(FIELDS)}[kind]
-        self._kept: dict[bytes, tuple[str, str]] = {}  # what is in the middle and at the end of a line, by its pc and word
+        self._kept: dict[
+            bytes, tuple[str, str]
+        ] = {}  # what is in the middle and at the end of a line, by its pc and word
 
     def lines(self, block: Block, indexes: Sequence[int], late: Mapping[int, int | None]) -> list[str]:
         """The lines of some events of a block; of late waits the nanoseconds, where they are known."""
@@ -142,7 +146,10 @@ class Form:
             return [line(event_of(block, index), late.get(index)) for index in indexes]
         special = {*block.traps, *late}
         return [
-            self._text(event_of(block, index), late.get(index)) if index in special else self._plain(block, index) for index in indexes
+            self._text(event_of(block, index), late.get(index))
+            if index in special
+            else self._plain(block, index)
+            for index in indexes
         ]
 
     def _plain(self, block: Block, index: int) -> str:

@@ -130,7 +130,9 @@ class _Line:
         self.number, self.text = number, text
         self.found = tokens(text)
         at = 0
-        while at + 1 < len(self.found) and self.found[at].kind == Kind.NAME and self.found[at + 1].is_mark(":"):
+        while (
+            at + 1 < len(self.found) and self.found[at].kind == Kind.NAME and self.found[at + 1].is_mark(":")
+        ):
             at += 2
         self.labels = [token for token in self.found[:at] if token.kind == Kind.NAME]
         self.rest = self.found[at:]
@@ -189,11 +191,17 @@ def explain_source(data: bytes, line: int, code: SourceNo) -> Explanation:
 
 def _explain_whole(data: bytes, code: SourceNo) -> Explanation:
     if code is SourceNo.TooLong:
-        return Explanation(0, f"the source has {len(data)} bytes, of {MOST_BYTES} at most", hints=("cut comments",))
+        return Explanation(
+            0, f"the source has {len(data)} bytes, of {MOST_BYTES} at most", hints=("cut comments",)
+        )
     placer, _ = placed(data)
     starts = [at for at in sorted(placer.placed) if at - 4 not in placer.placed]
     gap = f"the runs begin at {', '.join(f'{at:#x}' for at in starts[:MOST_SEGMENTS + 1])}"
-    return Explanation(0, f"{len(starts)} runs of words with a gap between them, of {MOST_SEGMENTS} at most", hints=(gap, "fill small gaps by .space"))
+    return Explanation(
+        0,
+        f"{len(starts)} runs of words with a gap between them, of {MOST_SEGMENTS} at most",
+        hints=(gap, "fill small gaps by .space"),
+    )
 
 
 def _explain_token(line: int, text: bytes) -> Explanation:
@@ -202,15 +210,32 @@ def _explain_token(line: int, text: bytes) -> Explanation:
     except LexFault as fault:
         column = fault.column
         if fault.code is LexNo.TooMany:
-            return Explanation(line, f"more than {MOST_TOKENS} tokens in a line", column, hints=("write it as more lines",))
+            return Explanation(
+                line, f"more than {MOST_TOKENS} tokens in a line", column, hints=("write it as more lines",)
+            )
         if fault.code is LexNo.BadNumber:
-            end = next((at for at in range(column, len(text)) if not (text[at : at + 1].isalnum() or text[at] in b"_.")), len(text))
+            end = next(
+                (
+                    at
+                    for at in range(column, len(text))
+                    if not (text[at : at + 1].isalnum() or text[at] in b"_.")
+                ),
+                len(text),
+            )
             hint = "a number is decimal, or 0x and hexadecimal digits, below 2^32"
-            return Explanation(line, f"{text[column:end].decode('ascii', 'replace')!r} is no number", column, end - column, (hint,))
+            return Explanation(
+                line,
+                f"{text[column:end].decode('ascii', 'replace')!r} is no number",
+                column,
+                end - column,
+                (hint,),
+            )
         char = chr(text[column])
         comment = "a comment begins with #" if char in ";/@!" else ""
         label = "a target is a label, or an address" if char in "%$" else ""
-        return Explanation(line, f"{char!r} begins no name, number or mark", column, hints=_hints(comment, label))
+        return Explanation(
+            line, f"{char!r} begins no name, number or mark", column, hints=_hints(comment, label)
+        )
     raise ValueError("the line has no such fault")
 
 
@@ -218,7 +243,12 @@ def _explain_name(line: _Line, _: bytes) -> Explanation:
     name = line.name
     if name.lower() in FORMS:
         return line.at(f"unknown mnemonic {name!r}", 0, f"mnemonics are in lower case: {usage(name.lower())}")
-    if len(line.rest) > 1 and line.rest[1].kind == Kind.NAME and len(line.rest) == 2 and line.rest[1].text.decode() in FORMS:
+    if (
+        len(line.rest) > 1
+        and line.rest[1].kind == Kind.NAME
+        and len(line.rest) == 2
+        and line.rest[1].text.decode() in FORMS
+    ):
         return line.at(f"unknown mnemonic {name!r}", 0, f"a label has a colon: {name}:")
     hint = ELSEWHERE.get(name.lower()) or near(name, list(FORMS))
     alone = f"a label has a colon: {name}:" if len(line.rest) == 1 and not hint else ""
@@ -234,8 +264,14 @@ def _explain_operands(line: _Line, _: bytes) -> Explanation:
         line.operands()
     except _Expected as fault:
         index = fault.at + 1
-        found = f"{line.rest[index].text.decode('ascii', 'replace')!r}" if index < len(line.rest) else "the end of the line"
-        return line.at(f"expected {fault.text}, found {found}", index, *fault.hints, f"the form is: {usage(line.name)}")
+        found = (
+            f"{line.rest[index].text.decode('ascii', 'replace')!r}"
+            if index < len(line.rest)
+            else "the end of the line"
+        )
+        return line.at(
+            f"expected {fault.text}, found {found}", index, *fault.hints, f"the form is: {usage(line.name)}"
+        )
     raise ValueError("the line has no such fault")
 
 
@@ -245,7 +281,13 @@ def _explain_double(line: _Line, data: bytes) -> Explanation:
         name = label.text.decode()
         if name in first or sum(it.text == label.text for it in line.labels) > 1:
             other = (first[name], "it is here first") if name in first else None
-            return Explanation(line.number, f"the label {name!r} is there a second time", label.start, label.end - label.start, other=other)
+            return Explanation(
+                line.number,
+                f"the label {name!r} is there a second time",
+                label.start,
+                label.end - label.start,
+                other=other,
+            )
     raise ValueError("the line has no such fault")
 
 
@@ -293,7 +335,9 @@ JUMP = _Range(-(1 << 20), (1 << 20) - 2, "la the address to a register, and jr")
 def _explain_number(line: _Line, data: bytes) -> Explanation:
     """A number, or a target, that is out of range or no multiple of 4."""
     places = line.operands()
-    reach = BRANCH if line.name in (*BRANCH_TYPE, "beqz", "bnez") else JUMP if line.name in ("j", "jal") else None
+    reach = (
+        BRANCH if line.name in (*BRANCH_TYPE, "beqz", "bnez") else JUMP if line.name in ("j", "jal") else None
+    )
     if reach is not None:
         return _explain_target(line, places[-1], reach, data)
     for place, kind in zip(places, _kinds(line.name, len(places))):
@@ -310,7 +354,13 @@ def _kinds(name: str, count: int) -> str:
 
 
 def _out_of_range(name: str, operand: Operand, kind: str) -> _Range | None:
-    limit = _Range(0, 4095) if kind == "c" else RANGES.get(name) if kind in "nvm" and operand.label is None else None
+    limit = (
+        _Range(0, 4095)
+        if kind == "c"
+        else RANGES.get(name)
+        if kind in "nvm" and operand.label is None
+        else None
+    )
     return None if limit is None or limit.low <= operand.number <= limit.high else limit
 
 
@@ -344,13 +394,20 @@ def _explain_outside(line: _Line, data: bytes) -> Explanation:
     addresses, _ = _addresses(line, data)
     outside = next(at for at in addresses if not (at < SMALL or DATA <= at < DATA + SMALL))
     places = f"words lie from 0 to {SMALL - 4:#x} and from {DATA:#x} to {DATA + SMALL - 4:#x}"
-    return line.at(f"the word at {outside:#x} is outside of the scratchpads", 0, f"{places}; a larger image comes from an ELF file", end=len(line.rest))
+    return line.at(
+        f"the word at {outside:#x} is outside of the scratchpads",
+        0,
+        f"{places}; a larger image comes from an ELF file",
+        end=len(line.rest),
+    )
 
 
 def _explain_overlap(line: _Line, data: bytes) -> Explanation:
     addresses, owners = _addresses(line, data)
     taken = next(at for at in addresses if at in owners)
-    found = line.at(f"a word lies at {taken:#x} already", 0, ".org sets the address of what follows", end=len(line.rest))
+    found = line.at(
+        f"a word lies at {taken:#x} already", 0, ".org sets the address of what follows", end=len(line.rest)
+    )
     return replace(found, other=(owners[taken], "it is placed here first"))
 
 

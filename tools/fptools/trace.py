@@ -6,8 +6,8 @@
         for event in read_trace(file):
             print(event.cycle, hex(event.pc), event.value)
 
-`read_trace` stops behind the last line that is an event, with `BrokenTrace`, where a line is none. For long traces of which few events
-are wanted, `fptools.blocks` and `fptools.visits` are ten times as fast."""
+At a line that is no event `read_trace` raises `BrokenTrace`; it has given all events before it. If few
+events of a long trace are wanted, `fptools.blocks` and `fptools.visits` are ten times as fast."""
 from __future__ import annotations
 
 import re
@@ -115,7 +115,10 @@ def event_of(block: Block, index: int) -> Event:
     return Event(cycle, gap, int(line[PC], 16), int(line[BITS], 16), line[EFFECT].decode("ascii"))
 
 
-def read_trace(source: Source, name: str = "trace", start: int = 0, end: int | None = None) -> Iterator[Event]:
-    """The events of a trace in order, from cycle `start` on and before cycle `end`. A broken line is a `BrokenTrace`."""
+def read_trace(
+    source: Source, name: str = "trace", start: int = 0, end: int | None = None
+) -> Iterator[Event]:
+    """The events of a trace in order, from cycle `start` on and before cycle `end`. A broken line is a
+    `BrokenTrace`."""
     for block in TraceReader(source, name, start, end).blocks():
         yield from (event_of(block, index) for index in range(len(block.lines)))

@@ -30,7 +30,8 @@ class Turns:
 
 
 def turns_of(setup: Setup, thread: int) -> Turns | None:
-    """The turns of a thread, where they are the same in each run: it starts hard and awake, and nobody has a permit."""
+    """The turns of a thread, where they are the same in each run: it starts hard and awake, and nobody
+    has a permit."""
     threads = setup.values.get("thread", [])
     own = next((it for it in threads if it["id"] == thread), None)
     if own is None or own["mode"] != "hard" or any(it.get("permit") for it in threads):
@@ -48,7 +49,9 @@ def lag(word: Word, to: int, traps: bool) -> int:
         return PLAIN_LAG if to == word.next else REDIRECT_LAG
     if word.opcode == OPCODE_SYSTEM or word.opcode == OPCODE_TIMING and word.funct3 not in FUNCT3_GET_TIME:
         return REDIRECT_LAG
-    is_late = word.opcode == OPCODE_LOAD or word.opcode == OPCODE_REGISTERS and word.field(25, 7) == FUNCT7_MULDIV
+    is_late = (
+        word.opcode == OPCODE_LOAD or word.opcode == OPCODE_REGISTERS and word.field(25, 7) == FUNCT7_MULDIV
+    )
     return LATE_LAG if is_late else PLAIN_LAG
 
 

@@ -1,7 +1,8 @@
 """Measures executions of sections and functions, rounds of loops, waits and traps in a trace.
 
-Each meter takes the blocks of a trace in order. Cycles are counted as the bound counts them: from an issue of a section's first word to
-the first issue outside of the section (docs/FORMATS.md, "What the number means")."""
+Each meter takes the blocks of a trace in order. Cycles are counted as the bound counts them: from an
+issue of a section's first word to the first issue outside of the section (docs/FORMATS.md, "What the
+number means")."""
 from __future__ import annotations
 
 import re
@@ -27,7 +28,8 @@ FUNCT3_DU = 2
 
 @dataclass
 class Spread:
-    """How many numbers there were, the least, the largest with the cycle of the first that large, and their sum."""
+    """How many numbers there were, the least, the largest with the cycle of the first that large, and
+    their sum."""
 
     count: int = 0
     least: int = 0
@@ -50,12 +52,15 @@ class Spread:
 
 @dataclass(frozen=True)
 class Watched:
-    """A section, by its first word and the address behind its last, with what is known of how long it may take."""
+    """A section, by its first word and the address behind its last, with what is known of how long it
+    may take."""
 
     name: str
     start: int
     end: int
-    routines: tuple[tuple[int, int], ...] = ()  # that it calls: the first address, and the one behind the last
+    routines: tuple[
+        tuple[int, int], ...
+    ] = ()  # that it calls: the first address, and the one behind the last
     exits: frozenset[int] = frozenset()  # other addresses at which it may end
     bound: int | None = None  # cycles
     budget: int | None = None  # cycles
@@ -111,7 +116,9 @@ class Rounds:
 
     table: LoopTable
     backs: Spread = field(default_factory=Spread)
-    breaks: list[tuple[int, int]] = field(default_factory=list)  # the cycle of the entry, and how often it went back
+    breaks: list[tuple[int, int]] = field(
+        default_factory=list
+    )  # the cycle of the entry, and how often it went back
     elsewhere: int = 0  # entries at another word than the head
 
 
@@ -124,7 +131,9 @@ class Wait:
     count: int = 0
     waited: int = 0  # that spun or slept
     overruns: int = 0  # whose moment had passed before the first try
-    late: Spread = field(default_factory=Spread)  # nanoseconds since the moment, of the overruns with a known moment
+    late: Spread = field(
+        default_factory=Spread
+    )  # nanoseconds since the moment, of the overruns with a known moment
     slack: Spread = field(default_factory=Spread)  # nanoseconds to the moment, of the others
     periods: Spread = field(default_factory=Spread)  # from one issue behind it to the next, in cycles
     first_overrun: int | None = None  # its cycle
@@ -165,7 +174,8 @@ def first_try(block: Block, index: int, turns: Turns | None) -> int:
 
 
 def earliest_issue(block: Block, index: int) -> int | None:
-    """The first cycle that the lag of the issue before allows to an event; None where that isn't known, or the thread slept."""
+    """The first cycle that the lag of the issue before allows to an event; None where that isn't known,
+    or the thread slept."""
     line, before = block.lines[index], block.line(index - 1)
     if before is None or before[EFFECT] == b"wait":
         return None
@@ -191,7 +201,7 @@ class SectionMeter:
         called = "".join(span(*routine) for routine in watched.routines)
         self._first = character(watched.start)
         ends, begins = class_of(*self._ends), class_of(watched.start) + _trap_class([watched.start])
-        # A whole execution, of which the group is the end; or an issue of the first word with which something else begins.
+        # A whole execution, with its end as the group; or an issue of the first word that begins another one.
         self._begin = re.compile(f"{class_of(watched.start)}[{own}{called}]*+([{ends}])|[{begins}]")
         self._inside = re.compile(f"[{own}{called}]*")
         self._back = own + ends + _trap_class(self._ends)
@@ -217,8 +227,8 @@ class SectionMeter:
             self.seen.met(self._started, so_far)
 
     def _seek(self, block: Block, position: int) -> int:
-        """Takes whole executions, up to one that something interrupts. A turn of the first word that an expiry or a refused fetch takes
-        is no begin."""
+        """Takes whole executions, up to one that something interrupts. A turn of the first word that an
+        expiry or a refused fetch takes is no begin."""
         for found in self._begin.finditer(block.events, position):
             index = found.start()
             if found.lastindex:
@@ -313,8 +323,8 @@ class SectionMeter:
 
 
 class LoopMeter:
-    """Counts how often a loop goes back to its head, each time that it is entered: its counter as bounds define it. Calls and traps
-    between don't end an entry where the thread comes back into the loop."""
+    """Counts how often a loop goes back to its head, each time that it is entered: its counter as bounds
+    define it. Calls and traps between don't end an entry where the thread comes back into the loop."""
 
     def __init__(self, table: LoopTable) -> None:
         self.seen = Rounds(table)
@@ -333,14 +343,17 @@ class LoopMeter:
             self._touches = self._run.match(events, len(events) - 1) is not None
 
     def end(self, cycle: int) -> None:
-        """An entry that the trace's end cuts counts where it went back more often than all others, or than its table says."""
+        """An entry that the trace's end cuts counts where it went back more often than all others, or
+        than its table says."""
         bound, most = self.seen.table.bound, self.seen.backs.most
-        if self._backs is not None and (not self._touches or self._backs > most or bound is not None and self._backs > bound):
+        if self._backs is not None and (
+            not self._touches or self._backs > most or bound is not None and self._backs > bound
+        ):
             self._close()
 
     def _take_alike(self, block: Block) -> bool:
-        """Counts equal runs of the loop's words together, where each is an entry, and none goes back more often than those before.
-        Otherwise nothing is counted, and the answer is False."""
+        """Counts equal runs of the loop's words together, where each is an entry, and none goes back
+        more often than those before. Otherwise nothing is counted, and the answer is False."""
         runs = self._run.findall(block.events)
         first = 1 if runs and self._touches and self._run.match(block.events) else 0
         middle = Counter(runs[first:-1])
@@ -439,7 +452,8 @@ def _is_wait(word: Word) -> bool:
 
 @dataclass(frozen=True)
 class _Open:
-    """A call that hasn't returned: the address after it, its cycle, how many traps there were before it, and whom it called."""
+    """A call that hasn't returned: the address after it, its cycle, how many traps there were before it,
+    and whom it called."""
 
     back: int
     cycle: int
@@ -448,7 +462,8 @@ class _Open:
 
 
 class CallMeter:
-    """Measures functions: from the issue of a call to the first issue after its return, with all that the function calls."""
+    """Measures functions: from the issue of a call to the first issue after its return, with all that
+    the function calls."""
 
     def __init__(self, watched: Iterable[Watched], turns: Turns | None, reader: TraceReader) -> None:
         self.seen = {it.start: Executions(it) for it in watched}
@@ -521,8 +536,9 @@ class CallMeter:
 
 @dataclass(frozen=True)
 class JudgedWait:
-    """A DU or WU: the index of its event in a block, the cycle of its first try, its moment where that is known, and whether it waited.
-    Where the turns aren't known, the first try of a DU is the earliest that the lag before it allows."""
+    """A DU or WU: the index of its event in a block, the cycle of its first try, its moment where that
+    is known, and whether it waited. Where the turns aren't known, the first try of a DU is the earliest
+    that the lag before it allows."""
 
     index: int
     word: Word
@@ -535,7 +551,8 @@ class JudgedWait:
         return None if self.moment is None else self.first * period - self.moment
 
     def is_overrun(self, period: int) -> bool:
-        """Whether the moment had passed at the first try. Where it isn't known, so it is of each that didn't wait."""
+        """Whether the moment had passed at the first try. Where it isn't known, so it is of each that
+        didn't wait."""
         late = self.late(period)
         return not self.did_wait and (late is None or late > 0)
 
@@ -548,20 +565,28 @@ class WaitJudge:
         self._reader, self._turns = reader, turns
         self._known = Known(reader, _is_wait)
         self._words: dict[int, Word] = {}  # the waits
-        self._registers: list[tuple[int, bytes]] = []  # that they name, with the begin of an effect that sets each
-        self._values: dict[int, int] = {0: 0}  # of the registers that waits name, as far as the trace shows them
+        self._registers: list[
+            tuple[int, bytes]
+        ] = []  # that they name, with the begin of an effect that sets each
+        self._values: dict[int, int] = {
+            0: 0
+        }  # of the registers that waits name, as far as the trace shows them
 
     def judged(self, block: Block) -> Iterator[JudgedWait]:
         """The waits of the next block."""
         if self._known.learn():
             self._words = {pc: Word(pc, bits) for pc, bits in self._reader.words.items() if pc in self._known}
-            registers = {register for word in self._words.values() for register in (word.rs1, word.rs2) if register}
+            registers = {
+                register for word in self._words.values() for register in (word.rs1, word.rs2) if register
+            }
             self._registers = [(register, b" x%02d=" % register) for register in sorted(registers)]
         begin, before = 0, 0
         if self._known.pattern is not None:
             for found in self._known.pattern.finditer(block.events):
                 index = found.start()
-                place = begin + sum(map(len, block.lines[before:index])) + index - before  # with the line feeds
+                place = (
+                    begin + sum(map(len, block.lines[before:index])) + index - before
+                )  # with the line feeds
                 self._learn(block.data, begin, place)
                 begin, before = place, index
                 yield self._judged(block, index)

@@ -58,7 +58,9 @@ def labels_of(source: str) -> dict[str, int]:
 
 def issues_of(setup: str, image: Image, cycles: int, thread: int = 0) -> list[Issue]:
     """The issues of a thread that have retired after some cycles, in order."""
-    machine = world.World(setups.read_setup(setup.encode()), image, [ports.HeldPort() for _ in range(setups.THREADS)])
+    machine = world.World(
+        setups.read_setup(setup.encode()), image, [ports.HeldPort() for _ in range(setups.THREADS)]
+    )
     machine.run_to(cycles)
     found = []
     for cycle, turn in enumerate(machine.turns[: max(cycles - world.RETIRES, 0)]):
@@ -73,7 +75,7 @@ def trace_of(issues: list[Issue]) -> bytes:
 
 @dataclass(frozen=True)
 class Made:
-    """A program that stands in a folder, with its setup."""
+    """A program in a folder, with its setup."""
 
     folder: Path
     labels: dict[str, int]
@@ -82,7 +84,14 @@ class Made:
     trace: Path
 
 
-def make(folder: Path, source: str, cycles: int, slots: str = "T0 S S S D D D D", more: str = "", inputs: str = "[[0, 1]]") -> Made:
+def make(
+    folder: Path,
+    source: str,
+    cycles: int,
+    slots: str = "T0 S S S D D D D",
+    more: str = "",
+    inputs: str = "[[0, 1]]",
+) -> Made:
     """Writes source, image, setup and trace of a program."""
     image, text = assembled(source), setup_text(str(folder / "it.fpx"), slots, more, inputs)
     (folder / "it.s").write_text(source)

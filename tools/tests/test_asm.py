@@ -27,7 +27,11 @@ data:   .word 1, there + 4, -1
 
 
 def words_of(image: Image) -> dict[int, int]:
-    return {at + k: int.from_bytes(data[k : k + 4], "little") for at, data in image.segments for k in range(0, len(data), 4)}
+    return {
+        at + k: int.from_bytes(data[k : k + 4], "little")
+        for at, data in image.segments
+        for k in range(0, len(data), 4)
+    }
 
 
 def test_a_listing(tool: Tool, tmp_path: Path) -> None:
@@ -64,7 +68,10 @@ def test_a_map_gives_labels_and_lines(tool: Tool, tmp_path: Path) -> None:
         "# map of ../it.s: address, line, labels", "00000000 2 here", "00000000 3 there", "00000008 4", "20000010 6 data",
     ]  # fmt: skip
     ran = tool("fp_addresses", "--map", names, "there+4", "data", "0x10", "12")
-    assert (ran.returncode, ran.stdout.split()) == (0, ["0x00000004", "0x20000010", "0x00000010", "0x0000000c"])
+    assert (ran.returncode, ran.stdout.split()) == (
+        0,
+        ["0x00000004", "0x20000010", "0x00000010", "0x0000000c"],
+    )
     ran = tool("fp_addresses", "--map", names, "nowhere")
     assert (ran.returncode, ran.stderr) == (2, f"fp_addresses: nowhere is no symbol of code in {names}\n")
 
@@ -85,11 +92,17 @@ def test_files_are_left_where_the_source_changed(tool: Tool, tmp_path: Path) -> 
 
 def test_what_no_map_and_no_image_is(tool: Tool, tmp_path: Path) -> None:
     ran = tool("fp_addresses", "--map", "README.md", "x")
-    assert (ran.returncode, ran.stderr) == (2, "fp_addresses: README.md is no map: fp_asm writes one by --map\n")
+    assert (ran.returncode, ran.stderr) == (
+        2,
+        "fp_addresses: README.md is no map: fp_asm writes one by --map\n",
+    )
     broken = tmp_path / "it.map"
     broken.write_text("# map of it.s: address, line, labels\n00000000 x y\n")
     ran = tool("fp_addresses", "--map", broken, "x")
-    assert (ran.returncode, ran.stderr) == (2, f"fp_addresses: {broken}:2: no address, line and labels: '00000000 x y'\n")
+    assert (ran.returncode, ran.stderr) == (
+        2,
+        f"fp_addresses: {broken}:2: no address, line and labels: '00000000 x y'\n",
+    )
     ran = tool("fp_disasm", "README.md")
     assert ran.returncode == 2 and "is no image" in ran.stderr
     ran = tool("fp_disasm", "none.fpx")
@@ -125,7 +138,9 @@ def drawn(seed: int) -> dict[int, int]:
             continue
         bits = draws.randrange(1 << 32)
         opcode = draws.choice((0x37, 0x17, 0x6F, 0x67, 0x63, 0x03, 0x23, 0x13, 0x33, 0x0F, 0x73, 0x0B))
-        words[at] = draws.choice((bits, bits & ~0x7F | opcode, bits & 0x01FFFF80 | opcode, 0, 0x0FF0000F, 0x0000100F))
+        words[at] = draws.choice(
+            (bits, bits & ~0x7F | opcode, bits & 0x01FFFF80 | opcode, 0, 0x0FF0000F, 0x0000100F)
+        )
     return words
 
 
@@ -155,14 +170,25 @@ def test_routines_of_a_section(tool: Tool, tmp_path: Path) -> None:
     assert ran.returncode == 0
     assert all(len(line) == 17 for line in listed.read_text().splitlines())
     ran = tool("fp_addresses", "--elf", elf, "--routines", listed, "0")
-    assert (ran.returncode, ran.stderr) == (2, "fp_addresses: --routines needs --elf, and the two addresses of a section\n")
+    assert (ran.returncode, ran.stderr) == (
+        2,
+        "fp_addresses: --routines needs --elf, and the two addresses of a section\n",
+    )
 
 
 def test_sections_by_labels_of_a_map(tool: Tool, tmp_path: Path) -> None:
     """fp_visits takes the labels of a map, and shows them."""
     names = tmp_path / "sum.map"
     assert tool("fp_asm", "examples/sum.s", "examples/sum.fpx", "--map", names).returncode == 0
-    words = ("examples/sum.trace", "--setup", "examples/sum.toml", "--map", names, "--section", "loop:sum+0x18")
+    words = (
+        "examples/sum.trace",
+        "--setup",
+        "examples/sum.toml",
+        "--map",
+        names,
+        "--section",
+        "loop:sum+0x18",
+    )
     ran = tool("fp_visits", *words, "--flexpret", program(tmp_path))
     assert ran.returncode == 0, ran.stderr
     assert "loop:sum+0x18" in ran.stdout and "0x24 to 0x34 sum" in ran.stdout

@@ -25,7 +25,9 @@ here:   j    here
 
 
 def written(folder: Path, *words: object) -> str:
-    ran = subprocess.run([program(folder), *map(str, words)], cwd=TOP, capture_output=True, text=True, check=True)
+    ran = subprocess.run(
+        [program(folder), *map(str, words)], cwd=TOP, capture_output=True, text=True, check=True
+    )
     return ran.stdout
 
 
@@ -36,7 +38,9 @@ def test_the_state_of_a_machine(tmp_path: Path) -> None:
     assert (state.cycles, len(state.threads)) == (60, 8)
     assert thread.registers[5:8] == (42, 0x2000_0000, 0x4000_0000)
     assert (thread.mscratch, thread.latch, state.data[0x2000_0008]) == (42, 42, 42)
-    start = next(it.cycle for it in issues_of(made.setup.read_text(), made.image, 60) if it.word & 0x707F == 0x0B)
+    start = next(
+        it.cycle for it in issues_of(made.setup.read_text(), made.image, 60) if it.word & 0x707F == 0x0B
+    )
     assert (thread.armed, thread.sleep) == (10 * start + 400, 10 * start + 400)
     assert state.threads[1].registers == (0,) * 32 and state.threads[1].armed is None
     assert state.slots & 0xF == 0 and state.modes & 3 == 0

@@ -38,7 +38,7 @@ class Seen:
 
 
 def executions(issues: list[Issue], watched: Watched) -> Seen:
-    """The executions by the definition of a visit, of which an execution with a trap or a detour is more than one."""
+    """The executions by the definition of a visit. An execution with a trap or a detour is more than one visit."""
     seen, ends = Seen(), {watched.end, *watched.exits}
     parts = [(watched.start, watched.end), *watched.routines]
     begun, is_clean, has_trap, is_away, resumes = None, True, False, False, tuple[int, ...]()
@@ -68,7 +68,9 @@ def executions(issues: list[Issue], watched: Watched) -> Seen:
             continue
         cycles = issue.cycle - begun
         if issue.pc in ends:
-            (seen.whole if is_clean else seen.interrupted if has_trap else seen.detours).append((begun, cycles))
+            (seen.whole if is_clean else seen.interrupted if has_trap else seen.detours).append(
+                (begun, cycles)
+            )
             begun = None
             continue
         if is_clean:
@@ -184,7 +186,12 @@ def test_loops_in_loops(tmp_path: Path, block_bytes: int, slots: str) -> None:
     made = make(tmp_path, NESTED, 0, slots, inputs=random_inputs(1))
     at = made.labels
     tables = [LoopTable(at["outer"], at["end"] - 8, 3), LoopTable(at["inner"], at["bgtz_"], 2)]
-    compared(made, 6000, [Watched("it", at["begin"], at["end"]), Watched("inner", at["inner"], at["bgtz_"] + 4)], tables)
+    compared(
+        made,
+        6000,
+        [Watched("it", at["begin"], at["end"]), Watched("inner", at["inner"], at["bgtz_"] + 4)],
+        tables,
+    )
 
 
 CALLS = """
@@ -234,14 +241,25 @@ def test_functions(tmp_path: Path, block_bytes: int) -> None:
             wanted[name].append(issue.cycle - begun)
         for name in wanted:
             offset = made.labels[name] - issue.pc
-            if issue.word == 0x6F | 1 << 7 | (offset >> 1 & 0x3FF) << 21 | (offset >> 11 & 1) << 20 | (offset >> 12 & 0xFF) << 12:
+            if (
+                issue.word
+                == 0x6F
+                | 1 << 7
+                | (offset >> 1 & 0x3FF) << 21
+                | (offset >> 11 & 1) << 20
+                | (offset >> 12 & 0xFF) << 12
+            ):
                 stack.append((name, issue.pc + 4, issue.cycle))
     watched = [Watched(name, made.labels[name], made.labels[name] + 4, is_function=True) for name in wanted]
     seen = observe(TraceReader(io.BytesIO(trace_of(issues)), "trace"), Question(0, watched))
     for found in seen.executions:
         lengths = wanted[found.watched.name]
         assert lengths
-        assert (found.whole.count, found.whole.total, found.whole.most) == (len(lengths), sum(lengths), max(lengths))
+        assert (found.whole.count, found.whole.total, found.whole.most) == (
+            len(lengths),
+            sum(lengths),
+            max(lengths),
+        )
 
 
 DELAYS = """
@@ -259,7 +277,9 @@ end:    du   a1, a0
 
 
 @pytest.mark.parametrize("slots", ["T0 S S S D D D D", "T0 D D D D D D D", "T0 S S T0 S T0 D D"])
-def test_a_delay_behind_a_section_ends_it_at_its_first_try(tmp_path: Path, block_bytes: int, slots: str) -> None:
+def test_a_delay_behind_a_section_ends_it_at_its_first_try(
+    tmp_path: Path, block_bytes: int, slots: str
+) -> None:
     made = make(tmp_path, DELAYS, 0, slots, inputs=random_inputs(3))
     at = made.labels
     compared(made, 8000, [Watched("it", at["begin"], at["end"])], [LoopTable(at["work"], at["work"] + 4, 31)])
@@ -353,4 +373,9 @@ def test_ways_out_of_a_section(tmp_path: Path, block_bytes: int) -> None:
     made = make(tmp_path, LEAVES, 0, inputs=random_inputs(5))
     at = made.labels
     exits = frozenset({at["gone"]})
-    compared(made, 8000, [Watched("it", at["begin"], at["end"]), Watched("both", at["begin"], at["end"], exits=exits)], [])
+    compared(
+        made,
+        8000,
+        [Watched("it", at["begin"], at["end"]), Watched("both", at["begin"], at["end"], exits=exits)],
+        [],
+    )

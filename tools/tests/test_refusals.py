@@ -29,7 +29,7 @@ def fault_of(data: bytes) -> SourceFault | None:
     return None
 
 
-def told(source: str) -> list[str]:
+def explanation(source: str) -> list[str]:
     data = source.encode()
     fault = fault_of(data)
     assert fault is not None
@@ -65,20 +65,23 @@ def told(source: str) -> list[str]:
     ],
 )  # fmt: skip
 def test_a_source(source: str, text: str, mark: str, hint: str) -> None:
-    lines = told(source)
+    lines = explanation(source)
     assert lines[0].startswith(text)
     assert mark in lines[2]
     assert hint in "\n".join(lines[3:])
 
 
 def test_a_second_line_that_plays_a_part() -> None:
-    assert told("a: nop\nb: nop\na: nop\n")[-2:] == ["x.s:1: it is here first", "    1 | a: nop"]
-    assert told(" nop\n.org 0\n nop")[-2:] == ["x.s:1: it is placed here first", "    1 |  nop"]
+    assert explanation("a: nop\nb: nop\na: nop\n")[-2:] == ["x.s:1: it is here first", "    1 | a: nop"]
+    assert explanation(" nop\n.org 0\n nop")[-2:] == ["x.s:1: it is placed here first", "    1 |  nop"]
 
 
 def test_faults_of_a_whole_source() -> None:
     many = "".join(f".org {8 * index}\nnop\n" for index in range(17)).encode()
-    assert list(shown("x.s", many, explain_source(many, 0, SourceNo.TooManySegments)))[0] == "x.s: error: 17 runs of words with a gap between them, of 16 at most"
+    assert (
+        list(shown("x.s", many, explain_source(many, 0, SourceNo.TooManySegments)))[0]
+        == "x.s: error: 17 runs of words with a gap between them, of 16 at most"
+    )
     long = b" " * 1_048_577
     assert "has 1048577 bytes" in explain_source(long, 0, SourceNo.TooLong).text
 
@@ -88,7 +91,23 @@ def test_each_fault_of_changed_sources_has_its_place(seed: int) -> None:
     """Whatever is wrong with a line, its fault is explained, at a column that the line has."""
     draws = Random(seed)
     texts = [path.read_bytes() for path in sorted(TOP.glob("examples/*.s")) if path.stem != "big"]
-    pieces = [b"", b"x", b"(", b"0x", b",", b" x3 ", b"99999", b"loop", b":", b"#", b"\t", b"-", b"mret ", b".word ", b".org "]
+    pieces = [
+        b"",
+        b"x",
+        b"(",
+        b"0x",
+        b",",
+        b" x3 ",
+        b"99999",
+        b"loop",
+        b":",
+        b"#",
+        b"\t",
+        b"-",
+        b"mret ",
+        b".word ",
+        b".org ",
+    ]
     explained = 0
     for _ in range(150):
         data = bytearray(draws.choice(texts))
@@ -122,7 +141,10 @@ def test_a_bound_by_a_map(tool: Tool, tmp_path: Path) -> None:
         "      = a wait takes as long as its moment says: end the section before it, and begin another behind it",
     ]
     lines = explained(tool, "refused", "bound", "4", "UnboundedBackEdge", "00000034", *words)
-    assert "      = [[loop]] head = 0x24, last = 0x34 or further, bound = how often it goes back at most" in lines
+    assert (
+        "      = [[loop]] head = 0x24, last = 0x34 or further, bound = how often it goes back at most"
+        in lines
+    )
     assert lines[-1] == "examples/sum.toml:29: loop[0] is 0x24 to 0x34, bound = 7"
 
 
@@ -146,7 +168,9 @@ def test_jumps_through_registers(tool: Tool, tmp_path: Path, word: str, hint: st
 
 
 def test_an_overflow_has_no_place(tool: Tool) -> None:
-    assert explained(tool, "refused bound 6 Overflow 18446744073709551616")[0].startswith("error: the bound is 18,446,744,073,709,551,616 cycles")
+    assert explained(tool, "refused bound 6 Overflow 18446744073709551616")[0].startswith(
+        "error: the bound is 18,446,744,073,709,551,616 cycles"
+    )
 
 
 def test_setups_and_sections(tool: Tool, tmp_path: Path) -> None:
@@ -154,12 +178,16 @@ def test_setups_and_sections(tool: Tool, tmp_path: Path) -> None:
     text = (TOP / "examples/sum.toml").read_text()
     setup.write_text(text.replace('"S", "S", "S"', '"T5", "S", "X"'))
     allowed = "['T0', 'T1', 'T2', 'T3', 'T4', 'T5', 'T6', 'T7', 'S', 'D']"
-    assert explained(tool, "refused setup 7 BadSlot slots[3]", "--setup", setup) == [f"{setup}:13: error: slots[3]: 'X' is not one of {allowed}"]
+    assert explained(tool, "refused setup 7 BadSlot slots[3]", "--setup", setup) == [
+        f"{setup}:13: error: slots[3]: 'X' is not one of {allowed}"
+    ]
     setup.write_text(text.replace('mode = "hard"', 'mode = "hard'))
     assert explained(tool, "refused setup 2 Toml -", "--setup", setup)[0].startswith(f"{setup}:22: error: ")
     setup.write_text(text.replace('mode = "hard"', 'mode = "soft"'))
     lines = explained(tool, "refused section 1 NotHard", "--setup", setup, "--thread", "0")
-    assert lines == [f'{setup}:22: error: T0: a bound and `solo` are of a thread that starts hard and awake: mode = "hard"']
+    assert lines == [
+        f'{setup}:22: error: T0: a bound and `solo` are of a thread that starts hard and awake: mode = "hard"'
+    ]
     assert explained(tool, "refused section 3 Order")[0].startswith("error: --to isn't above --from")
 
 
@@ -170,7 +198,10 @@ def test_images_and_routines(tool: Tool, tmp_path: Path) -> None:
     assert lines[0] == "x.elf: error: BadLoad at byte 52" and "flexpret.ld" in lines[1]
     listed = tmp_path / "routines"
     listed.write_text("00000100 00000104\n100 104\n")
-    assert explained(tool, "refused routines 2 2 BadLine", "--file", listed)[:2] == [f"{listed}:2: error: BadLine", "    2 | 100 104"]
+    assert explained(tool, "refused routines 2 2 BadLine", "--file", listed)[:2] == [
+        f"{listed}:2: error: BadLine",
+        "    2 | 100 104",
+    ]
 
 
 @pytest.mark.parametrize(
@@ -179,8 +210,14 @@ def test_images_and_routines(tool: Tool, tmp_path: Path) -> None:
         (("bound 12",), "no refusal line: 'bound 12'"),
         (("refused source 1 3 UnknownName",), "the source is needed: --file SOURCE"),
         (("refused setup 7 BadSlot slots[3]",), "the setup is needed: --setup SETUP"),
-        (("refused source 900 3 UnknownName", "--file", "examples/sum.s"), "this program has no such refusal, or the file has changed since"),
-        (("refused source 2 3 UnknownName", "--file", "none.s"), "[Errno 2] No such file or directory: 'none.s'"),
+        (
+            ("refused source 900 3 UnknownName", "--file", "examples/sum.s"),
+            "this program has no such refusal, or the file has changed since",
+        ),
+        (
+            ("refused source 2 3 UnknownName", "--file", "none.s"),
+            "[Errno 2] No such file or directory: 'none.s'",
+        ),
         (("refused image 99 What 0",), "this program has no such refusal"),
     ],
 )
@@ -208,4 +245,7 @@ def test_the_program_s_own_line_is_explained(tool: Tool, tmp_path: Path) -> None
     source.write_text("        nop\n        adi x1, x1, 1\n")
     ran = subprocess.run([program(tmp_path), "asm", source], capture_output=True, text=True, check=False)
     assert ran.returncode == 5
-    assert explained(tool, "--file", source, given=ran.stdout)[0] == f"{source}:2:9: error: unknown mnemonic 'adi'"
+    assert (
+        explained(tool, "--file", source, given=ran.stdout)[0]
+        == f"{source}:2:9: error: unknown mnemonic 'adi'"
+    )

@@ -100,7 +100,11 @@ def test_a_setup_that_is_refused_gives_no_period(tool: Tool, tmp_path: Path) -> 
     setup = tmp_path / "setup.toml"
     setup.write_text((TOP / "examples/c/pid.toml").read_text().replace("period = 10", 'period = "10"'))
     ran = tool("fp_trace", "examples/c/pid.trace", "--setup", setup)
-    assert (ran.returncode, ran.stdout, ran.stderr) == (2, "", f"fp_trace: {setup} is refused; fp_lint says why\n")
+    assert (ran.returncode, ran.stdout, ran.stderr) == (
+        2,
+        "",
+        f"fp_trace: {setup} is refused; fp_lint says why\n",
+    )
 
 
 @pytest.mark.parametrize("period", ["0", "-5", "1001"])
@@ -142,7 +146,10 @@ WHOLE = "         0 00000000 00000013 -\n         4 00000004 00000013 x05=000000
     ("broken", "text"),
     [
         ("20 0 0 -\n", "line 3 is broken: it is no event of a trace: '20 0 0 -'"),
-        ("         8 00000008 000", "line 3 is broken: it has no line feed, so the trace was cut: '         8 00000008 000'"),
+        (
+            "         8 00000008 000",
+            "line 3 is broken: it has no line feed, so the trace was cut: '         8 00000008 000'",
+        ),
         ("         4 00000008 00000013 -\n", "line 3 is broken: its cycle isn't above 4, the one before"),
     ],
 )
@@ -154,7 +161,9 @@ def test_events_before_a_broken_line_are_shown(tool: Tool, broken: str, text: st
 
 
 def test_nothing_is_read_behind_the_last_cycle(tool: Tool) -> None:
-    ran = tool("fp_trace", "--objdump", "", "--to", "5", given=WHOLE + "         8 00000008 00000013 -\nrubbish")
+    ran = tool(
+        "fp_trace", "--objdump", "", "--to", "5", given=WHOLE + "         8 00000008 00000013 -\nrubbish"
+    )
     assert (ran.returncode, ran.stderr) == (0, "")
     assert [line.split()[0] for line in ran.stdout.splitlines()] == ["cycle", "0", "4"]
 
@@ -209,15 +218,30 @@ def test_csv_a_row_an_event(tool: Tool) -> None:
 def test_labels_and_lines_of_a_map(tool: Tool, tmp_path: Path) -> None:
     names = tmp_path / "sum.map"
     assert tool("fp_asm", "examples/sum.s", "examples/sum.fpx", "--map", names).returncode == 0
-    lines = shown(tool, "examples/sum.trace", "--map", str(names), "--objdump", "", "--pc", "sum", "--to", "40")
-    assert lines == ["36 360 +4 00000024 sum 0x0001a383 x07=00000003 sum.s:11 sum: lw x7, 0(x3) # 0x24: eight rounds"]
+    lines = shown(
+        tool, "examples/sum.trace", "--map", str(names), "--objdump", "", "--pc", "sum", "--to", "40"
+    )
+    assert lines == [
+        "36 360 +4 00000024 sum 0x0001a383 x07=00000003 sum.s:11 sum: lw x7, 0(x3) # 0x24: eight rounds"
+    ]
 
 
 def test_events_by_the_library() -> None:
     with (TOP / "examples/traps.trace").open("rb") as file:
         events = list(read_trace(file, start=20, end=33))
-    assert [(event.cycle, event.gap, event.cause) for event in events] == [(20, 4, 11), (24, 4, None), (28, 4, None), (32, 4, None)]
-    assert (events[0].handler, events[0].issues, events[1].register, events[1].csr, events[1].stored) == (0x100, True, 5, None, None)
+    assert [(event.cycle, event.gap, event.cause) for event in events] == [
+        (20, 4, 11),
+        (24, 4, None),
+        (28, 4, None),
+        (32, 4, None),
+    ]
+    assert (events[0].handler, events[0].issues, events[1].register, events[1].csr, events[1].stored) == (
+        0x100,
+        True,
+        5,
+        None,
+        None,
+    )
 
 
 def test_a_live_pipe_is_shown_as_it_comes() -> None:

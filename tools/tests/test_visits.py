@@ -61,7 +61,9 @@ def test_why_there_is_no_bound(tool: Tool, tmp_path: Path) -> None:
 def test_a_run_of_the_program(tool: Tool, tmp_path: Path) -> None:
     words = ("--setup", "examples/sum.toml", "--cycles", "816", "--flexpret", program(tmp_path))
     assert shown(tool, *words, "--section", "visit=0x10:0x3c")[2] == "visit 4 184 184.0 184 16 184 1.00 -"
-    assert shown(tool, *words, "--to", "400", "--section", "0x10:0x3c")[0] == "T0: 100 events, cycles 0 to 396"
+    assert (
+        shown(tool, *words, "--to", "400", "--section", "0x10:0x3c")[0] == "T0: 100 events, cycles 0 to 396"
+    )
     assert shown(tool, *words[1:], "--section", "0x10:0x3c")[0] == "T0: 200 events, cycles 0 to 808"
 
 
@@ -136,7 +138,10 @@ def test_an_execution_with_a_trap_counts_for_its_budget(tool: Tool, tmp_path: Pa
     words = (made.trace, "--setup", made.setup, "--budgets", budgets, "--flexpret", program(tmp_path))
     lines = shown(tool, *words, status=1)
     assert "it 0 - - - - 12 - 20" in lines
-    assert "6 more with a trap between begin and end: 432 to 432 cycles, the longest at cycle 20; the bound ends at the trap" in lines
+    assert (
+        "6 more with a trap between begin and end: 432 to 432 cycles, the longest at cycle 20; the bound ends at the trap"
+        in lines
+    )
     assert lines[-1] == "OVER T0 it: 432 of 20 cycles, from cycle 20"
     assert f"{begin + 4:#x} 7 24 4 misaligned load" in lines
 
@@ -168,13 +173,18 @@ def test_waits_and_overruns(tool: Tool, tmp_path: Path, wait: str, period: int, 
 def test_when_a_thread_goes_on(tool: Tool, tmp_path: Path) -> None:
     """A period of 95 cycles comes to a turn of each fourth cycle 92 or 96 cycles later."""
     made = make(tmp_path, LATE.format(period=950, wait="wu"), 3000)
-    assert shown(tool, made.trace, "--setup", made.setup)[-1] == "goes on: period: 95.1 cycles, 92 to 96, jitter 4 cycles = 40 ns"
+    assert (
+        shown(tool, made.trace, "--setup", made.setup)[-1]
+        == "goes on: period: 95.1 cycles, 92 to 96, jitter 4 cycles = 40 ns"
+    )
 
 
 def test_a_moment_whose_high_word_is_behind(tool: Tool, tmp_path: Path) -> None:
     """The time is 2^32 + 104 nanoseconds, and the moment 400."""
     lines = "         0 00000000 00000013 x11=00000000\n 429496732 00000004 00000013 x10=00000190\n 429496740 00000008 00a5b00b -\n"
-    assert shown(tool, given=lines)[-1].endswith("1 0 1 4294967000 429496740 -; the moment's high word is behind: is its carry added?")
+    assert shown(tool, given=lines)[-1].endswith(
+        "1 0 1 4294967000 429496740 -; the moment's high word is behind: is its carry added?"
+    )
 
 
 @pytest.mark.parametrize(
@@ -191,7 +201,9 @@ def test_a_moment_whose_high_word_is_behind(tool: Tool, tmp_path: Path) -> None:
         (lambda text: text + text, "line 202 is broken: its cycle isn't above 812, the one before"),
     ],
 )  # fmt: skip
-def test_a_broken_line_is_named_and_those_before_it_count(tool: Tool, tmp_path: Path, change: object, fault: str) -> None:
+def test_a_broken_line_is_named_and_those_before_it_count(
+    tool: Tool, tmp_path: Path, change: object, fault: str
+) -> None:
     assert callable(change)
     trace = tmp_path / "it.trace"
     trace.write_text(change((TOP / "examples/sum.trace").read_text()))
@@ -221,9 +233,13 @@ def test_nothing_is_read_behind_the_end(tool: Tool) -> None:
         "for cycle in itertools.count():\n"
         "    sys.stdout.write('%10d 00000000 00000013 -\\n' % cycle)\n"
     )
-    with subprocess.Popen([sys.executable, "-c", endless], stdout=subprocess.PIPE, stderr=subprocess.DEVNULL) as source:
+    with subprocess.Popen(
+        [sys.executable, "-c", endless], stdout=subprocess.PIPE, stderr=subprocess.DEVNULL
+    ) as source:
         words = [sys.executable, str(TOOLS / "fp_visits"), "--to", "100000"]
-        ran = subprocess.run(words, stdin=source.stdout, capture_output=True, text=True, check=False, timeout=60, cwd=TOP)
+        ran = subprocess.run(
+            words, stdin=source.stdout, capture_output=True, text=True, check=False, timeout=60, cwd=TOP
+        )
         assert source.stdout is not None
         source.stdout.close()
         source.wait(20)
@@ -242,7 +258,10 @@ def test_a_trace_of_another_thread(tool: Tool, tmp_path: Path) -> None:
     trace = tmp_path / "it.trace"
     trace.write_text("         1 00000000 200000b7 x01=20000000\n")
     ran = tool("fp_visits", trace, "--setup", "examples/sum.toml")
-    assert (ran.returncode, ran.stderr) == (2, "fp_visits: cycle 1 is no turn of T0: the trace is of another thread or setup\n")
+    assert (ran.returncode, ran.stderr) == (
+        2,
+        "fp_visits: cycle 1 is no turn of T0: the trace is of another thread or setup\n",
+    )
 
 
 def test_json(tool: Tool, tmp_path: Path) -> None:
@@ -251,7 +270,13 @@ def test_json(tool: Tool, tmp_path: Path) -> None:
     (thread,) = found["threads"]
     (section,) = thread["sections"]
     assert (found["status"], thread["thread"], thread["events"], thread["breaks"]) == (0, 0, 201, [])
-    assert section["executions"] == {"number": 4, "shortest": 184, "mean": 184.0, "longest": 184, "longest_at": 16}
+    assert section["executions"] == {
+        "number": 4,
+        "shortest": 184,
+        "mean": 184.0,
+        "longest": 184,
+        "longest_at": 16,
+    }
     assert (section["bound"], section["ratio"], section["period"]["jitter"]) == (184, 1.0, 4)
     assert thread["loops"][0]["backs"]["longest"] == thread["loops"][0]["bound"] == 7
     assert thread["waits"][0]["overruns"] == 0
@@ -260,7 +285,13 @@ def test_json(tool: Tool, tmp_path: Path) -> None:
 def test_csv(tool: Tool, tmp_path: Path) -> None:
     ran = tool("fp_visits", *SUM, "--section", "visit=0x10:0x3c", "--csv", "--flexpret", program(tmp_path))
     (row,) = csv.DictReader(ran.stdout.splitlines())
-    assert (row["name"], row["executions"], row["longest"], row["bound"], row["ratio"]) == ("visit", "4", "184", "184", "1.0")
+    assert (row["name"], row["executions"], row["longest"], row["bound"], row["ratio"]) == (
+        "visit",
+        "4",
+        "184",
+        "184",
+        "1.0",
+    )
 
 
 def test_functions_of_an_executable(tool: Tool, tmp_path: Path) -> None:
@@ -268,10 +299,23 @@ def test_functions_of_an_executable(tool: Tool, tmp_path: Path) -> None:
     setup = tmp_path / "calls.toml"
     image = tmp_path / "calls.fpx"
     flexpret = program(tmp_path)
-    image.write_bytes(subprocess.run([flexpret, "elf", TOOLS / "tests/data/calls.elf"], capture_output=True, check=True).stdout)
+    image.write_bytes(
+        subprocess.run(
+            [flexpret, "elf", TOOLS / "tests/data/calls.elf"], capture_output=True, check=True
+        ).stdout
+    )
     text = (TOP / "examples/sum.toml").read_text()
     setup.write_text(text.replace("examples/sum.fpx", str(image)).split("[[loop]]")[0])
-    words = ("--setup", setup, "--elf", "tools/tests/data/calls.elf", "--cycles", "4000", "--flexpret", flexpret)
+    words = (
+        "--setup",
+        setup,
+        "--elf",
+        "tools/tests/data/calls.elf",
+        "--cycles",
+        "4000",
+        "--flexpret",
+        flexpret,
+    )
     lines = shown(tool, *words)
     assert "inner 111 12 12.0 12 8 12 1.00 -" in lines
     assert "outer 111 28 28.0 28 0 28 1.00 -" in lines
@@ -352,8 +396,21 @@ def test_a_permit_is_told_with_a_broken_bound(tool: Tool, tmp_path: Path) -> Non
     made.setup.write_text(text)
     made.trace.write_bytes(trace_of(issues_of(text, made.image, 1000)))
     section = f"it={made.labels['begin']}:{made.labels['end']}"
-    lines = shown(tool, made.trace, "--setup", made.setup, "--section", section, "--flexpret", answering(tmp_path, "bound 4"), status=1)
-    assert "a thread has a permit, and a bound holds only while no slots, modes or regions are written" in lines[-1]
+    lines = shown(
+        tool,
+        made.trace,
+        "--setup",
+        made.setup,
+        "--section",
+        section,
+        "--flexpret",
+        answering(tmp_path, "bound 4"),
+        status=1,
+    )
+    assert (
+        "a thread has a permit, and a bound holds only while no slots, modes or regions are written"
+        in lines[-1]
+    )
 
 
 def test_delays_without_known_turns(tool: Tool, tmp_path: Path) -> None:
@@ -370,9 +427,13 @@ def test_what_was_seen_is_shown_where_it_is_stopped() -> None:
         "for cycle in itertools.count():\n"
         "    sys.stdout.write('%10d 00000000 00000013 -\\n' % cycle)\n"
     )
-    with subprocess.Popen([sys.executable, "-c", endless], stdout=subprocess.PIPE, stderr=subprocess.DEVNULL) as source:
+    with subprocess.Popen(
+        [sys.executable, "-c", endless], stdout=subprocess.PIPE, stderr=subprocess.DEVNULL
+    ) as source:
         words = [sys.executable, str(TOOLS / "fp_visits")]
-        with subprocess.Popen(words, stdin=source.stdout, stdout=subprocess.PIPE, stderr=subprocess.PIPE, text=True) as ran:
+        with subprocess.Popen(
+            words, stdin=source.stdout, stdout=subprocess.PIPE, stderr=subprocess.PIPE, text=True
+        ) as ran:
             assert source.stdout is not None
             source.stdout.close()
             with pytest.raises(subprocess.TimeoutExpired):
