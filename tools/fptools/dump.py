@@ -153,9 +153,8 @@ def _thread(lines: _Lines, number: int) -> ThreadState:
     latch = lines.matched(f"T{number} latch", re.compile("open|[0-9a-f]{8}"))[0]
     armed = None if times["armed"] == "-" else int(times["armed"], 16)
     sleep, high = int(times["sleep"], 16), int(times["high"], 16)
-    return ThreadState(
-        tuple(registers), mtvec, mscratch, mepc, mcause, armed, sleep, high, None if latch == "open" else int(latch, 16)
-    )  # fmt: skip
+    kept = None if latch == "open" else int(latch, 16)
+    return ThreadState(tuple(registers), mtvec, mscratch, mepc, mcause, armed, sleep, high, kept)
 
 
 def _data(lines: Sequence[tuple[int, str]]) -> dict[int, int]:

@@ -20,7 +20,8 @@ from fptools.setup import Setup
 from fptools.turns import Turns, turns_of
 
 from fptools.visits import (
-    MOST_KEPT, CallMeter, Executions, LoopMeter, LoopTable, Meter, Rounds, SectionMeter, Trapped, TrapMeter, Wait, WaitJudge, WaitMeter, Watched, measure,
+    MOST_KEPT, CallMeter, Executions, LoopMeter, LoopTable, Meter, Rounds, SectionMeter, Trapped, TrapMeter,
+    Wait, WaitJudge, WaitMeter, Watched, measure,
 )  # fmt: skip
 
 PIPE_BYTES = 1 << 20
@@ -202,7 +203,8 @@ def _foreign(reader: TraceReader, question: Question, turns: TurnMeter) -> str |
                 text = f"the trace has the word {bits:08x}, the image {question.code.get(pc, 0):08x}"
                 return f"{pc:#x}: {text}: the trace is of another program"
     if turns.stranger is not None:
-        return f"cycle {turns.stranger} is no turn of T{question.thread}: the trace is of another thread or setup"
+        text = f"cycle {turns.stranger} is no turn of T{question.thread}"
+        return f"{text}: the trace is of another thread or setup"
     return None
 
 

@@ -3,7 +3,7 @@ from __future__ import annotations
 
 import csv
 import io
-from typing import Any, Callable, Iterator
+from typing import Any, Callable, Iterator, Sequence
 
 from fptools.elf import Program
 from fptools.observed import Break, Kind, Observation, spelled_loop
@@ -11,8 +11,10 @@ from fptools.trace import CAUSES
 from fptools.visits import Executions, Rounds, Spread, Wait
 
 NO_NUMBER = "-"
+NAME_WIDTH, EXECUTION_WIDTHS, WAIT_WIDTHS = 32, (9, 10, 11, 10, 12, 10, 7, 10), (9, 10, 11, 12, 12, 17)
 COLUMNS = (
-    "thread name from to kind executions shortest mean longest longest_at bound ratio budget interrupted interrupted_longest "
+    "thread name from to kind executions shortest mean longest longest_at bound ratio budget "
+    "interrupted interrupted_longest "
     "detours detours_longest traps left given_up period_shortest period_mean period_longest jitter"
 ).split()
 CARRY = "; the moment's high word is behind: is its carry added?"
@@ -26,6 +28,18 @@ def ratio(seen: Executions) -> float | None:
 
 def _number(value: int | None) -> str:
     return NO_NUMBER if value is None else str(value)
+
+
+def _cells(name: str, widths: Sequence[int], texts: Sequence[str]) -> str:
+    """A line of a table: a name, and texts that are right-aligned."""
+    return f"{name:<{NAME_WIDTH}}" + "".join(f"{text:>{width}}" for text, width in zip(texts, widths))
+
+
+def _spread_cells(spread: Spread) -> tuple[str, ...]:
+    """Number, least, mean, most and its cycle."""
+    if not spread.count:
+        return "0", *[NO_NUMBER] * 4
+    return str(spread.count), str(spread.least), f"{spread.mean:.1f}", str(spread.most), str(spread.at)
 
 
 class Text:
@@ -56,7 +70,8 @@ class Text:
                 yield from group(seen)
 
     def _executions(self, seen: Observation) -> Iterator[str]:
-        yield f"{'executions, cycles':<32}{'number':>9}{'shortest':>10}{'mean':>11}{'longest':>10}{'at cycle':>12}{'bound':>10}{'ratio':>7}{'budget':>10}"
+        head = "number", "shortest", "mean", "longest", "at cycle", "bound", "ratio", "budget"
+        yield _cells("executions, cycles", EXECUTION_WIDTHS, head)
         for it in seen.executions:
             if it.watched.is_function and not it.count and not it.unfinished:
                 continue  # of all functions of an executable a thread runs a few
@@ -64,14 +79,10 @@ class Text:
             yield from (f"    {line}" for line in self._remarks(it, seen.question.period))
 
     def _execution(self, it: Executions) -> str:
-        whole, part = it.whole, ratio(it)
-        spread = (
-            f"{whole.least:>10}{whole.mean:>11.1f}{whole.most:>10}{whole.at:>12}"
-            if whole.count
-            else f"{NO_NUMBER:>10}{NO_NUMBER:>11}{NO_NUMBER:>10}{NO_NUMBER:>12}"
-        )
+        part = ratio(it)
         share = NO_NUMBER if part is None else f"{part:.2f}"
-        return f"{it.watched.name:<32}{whole.count:>9}{spread}{_number(it.watched.bound):>10}{share:>7}{_number(it.watched.budget):>10}"
+        limits = _number(it.watched.bound), share, _number(it.watched.budget)
+        return _cells(it.watched.name, EXECUTION_WIDTHS, (*_spread_cells(it.whole), *limits))
 
     def _remarks(self, it: Executions, period: int) -> Iterator[str]:
         if it.watched.doubt:
@@ -95,43 +106,36 @@ class Text:
             yield f"one began in cycle {it.unfinished[0]} and hadn't ended {it.unfinished[1]} cycles later"
 
     def _rounds(self, seen: Observation) -> Iterator[str]:
-        yield f"{'loops, times back to the head':<32}{'entries':>9}{'least':>10}{'mean':>11}{'most':>10}{'at cycle':>12}{'table':>10}"
+        head = "entries", "least", "mean", "most", "at cycle", "table"
+        yield _cells("loops, times back to the head", EXECUTION_WIDTHS, head)
         for it in seen.rounds:
-            yield self._loop(it)
+            name = f"{spelled_loop(it.table)} {self._program.name_of(it.table.head)}".rstrip()
+            table = "none" if it.table.bound is None else str(it.table.bound)
+            yield _cells(name, EXECUTION_WIDTHS, (*_spread_cells(it.backs), table))
             if it.elsewhere:
                 yield f"    {it.elsewhere} entries at another word than the head"
 
-    def _loop(self, it: Rounds) -> str:
-        backs = it.backs
-        name = f"{spelled_loop(it.table)} {self._program.name_of(it.table.head)}".rstrip()
-        spread = (
-            f"{backs.least:>10}{backs.mean:>11.1f}{backs.most:>10}{backs.at:>12}"
-            if backs.count
-            else f"{NO_NUMBER:>10}{NO_NUMBER:>11}{NO_NUMBER:>10}{NO_NUMBER:>12}"
-        )
-        return f"{name:<32}{backs.count:>9}{spread}{'none' if it.table.bound is None else it.table.bound:>10}"
-
     def _waits(self, seen: Observation) -> Iterator[str]:
-        yield f"{'waits':<32}{'number':>9}{'waited':>10}{'overruns':>11}{'latest, ns':>12}{'at cycle':>12}{'least slack, ns':>17}"
+        head = "number", "waited", "overruns", "latest, ns", "at cycle", "least slack, ns"
+        yield _cells("waits", WAIT_WIDTHS, head)
         for it in seen.waits:
             yield self._wait(it)
             if it.periods.count:
                 yield f"    goes on: {_period(it.periods, seen.question.period)}"
 
     def _wait(self, it: Wait) -> str:
-        name = f"{self.at(it.pc)} {'du' if it.is_delay else 'wu'}"
-        late = (
-            f"{it.late.most:>12}{it.late.at:>12}"
-            if it.late.count
-            else f"{NO_NUMBER:>12}{_number(it.first_overrun):>12}"
-        )
-        slack = it.slack.least if it.slack.count else None
-        return f"{name:<32}{it.count:>9}{it.waited:>10}{it.overruns:>11}{late}{_number(slack):>17}{CARRY if it.is_carry else ''}"
+        latest = str(it.late.most) if it.late.count else NO_NUMBER
+        at = str(it.late.at) if it.late.count else _number(it.first_overrun)
+        slack = str(it.slack.least) if it.slack.count else NO_NUMBER
+        numbers = str(it.count), str(it.waited), str(it.overruns), latest, at, slack
+        line = _cells(f"{self.at(it.pc)} {'du' if it.is_delay else 'wu'}", WAIT_WIDTHS, numbers)
+        return line + CARRY if it.is_carry else line
 
     def _traps(self, seen: Observation) -> Iterator[str]:
         yield f"{'traps':<32}{'number':>9}{'first at':>12}  cause"
         for it in seen.traps:
-            yield f"{self.at(it.pc):<32}{it.count:>9}{it.first:>12}  {it.cause} {CAUSES.get(it.cause, 'unknown')}"
+            cause = f"{it.cause} {CAUSES.get(it.cause, 'unknown')}"
+            yield f"{self.at(it.pc):<32}{it.count:>9}{it.first:>12}  {cause}"
 
     def broken(self, seen: Observation, it: Break) -> str:
         """The line of a break."""
@@ -139,7 +143,8 @@ class Text:
         if it.kind is Kind.TABLE:
             head = int(it.what.split()[0], 16)
             name = f"{it.what} {self._program.name_of(head)}".rstrip()
-            text = f"went back {it.seen} times from cycle {it.cycle} on, its table says {it.most}; {it.times} entries broke it"
+            text = f"went back {it.seen} times from cycle {it.cycle} on, its table says {it.most}"
+            text += f"; {it.times} entries broke it"
             return f"TABLE   {thread}loop {name}: {text}"
         if it.kind is Kind.BUDGET:
             return f"OVER    {thread}{it.what}: {it.seen} of {it.most} cycles, from cycle {it.cycle}"
@@ -155,7 +160,8 @@ REPORT = (
 
 def _period(spread: Spread, period: int) -> str:
     jitter = spread.most - spread.least
-    return f"period: {spread.mean:.1f} cycles, {spread.least} to {spread.most}, jitter {jitter} cycles = {jitter * period} ns"
+    spans = f"period: {spread.mean:.1f} cycles, {spread.least} to {spread.most}"
+    return f"{spans}, jitter {jitter} cycles = {jitter * period} ns"
 
 
 def _spread(spread: Spread, **more: Any) -> dict[str, Any]:
@@ -203,33 +209,57 @@ def as_data(seen: Observation, text: Text) -> dict[str, Any]:
 
 
 def _section(it: Executions) -> dict[str, Any]:
-    watched = it.watched
-    jitter = {"jitter": it.periods.most - it.periods.least}
+    watched, jitter = it.watched, it.periods.most - it.periods.least
     unfinished = {"since": it.unfinished[0], "cycles": it.unfinished[1]} if it.unfinished else None
     return {
-        "name": watched.name, "from": watched.start, "to": watched.end, "kind": "function" if watched.is_function else "section",
-        "executions": _spread(it.whole), "interrupted": _spread(it.interrupted), "detours": _spread(it.detours),
-        "period": _spread(it.periods, **jitter), "traps": it.traps,
+        "name": watched.name,
+        "from": watched.start,
+        "to": watched.end,
+        "kind": _kind(it),
+        "executions": _spread(it.whole),
+        "interrupted": _spread(it.interrupted),
+        "detours": _spread(it.detours),
+        "period": _spread(it.periods, jitter=jitter),
+        "traps": it.traps,
         "left": [{"to": pc, "number": times} for pc, times in it.left.most_common()],
-        "given_up": it.given_up, "unfinished": unfinished,
-        "bound": watched.bound, "no_bound": watched.doubt or None, "ratio": ratio(it), "budget": watched.budget,
-    }  # fmt: skip
+        "given_up": it.given_up,
+        "unfinished": unfinished,
+        "bound": watched.bound,
+        "no_bound": watched.doubt or None,
+        "ratio": ratio(it),
+        "budget": watched.budget,
+    }
+
+
+def _kind(it: Executions) -> str:
+    return "function" if it.watched.is_function else "section"
 
 
 def _loop(it: Rounds) -> dict[str, Any]:
     table = it.table
     return {
-        "head": table.head, "last": table.last, "bound": table.bound, "backs": _spread(it.backs),
-        "breaks": len(it.breaks), "entries_elsewhere": it.elsewhere,
-    }  # fmt: skip
+        "head": table.head,
+        "last": table.last,
+        "bound": table.bound,
+        "backs": _spread(it.backs),
+        "breaks": len(it.breaks),
+        "entries_elsewhere": it.elsewhere,
+    }
 
 
 def _wait(it: Wait) -> dict[str, Any]:
     return {
-        "pc": it.pc, "kind": "du" if it.is_delay else "wu",
-        "number": it.count, "waited": it.waited, "overruns": it.overruns,
-        "period": _spread(it.periods, jitter=it.periods.most - it.periods.least), "late_ns": _spread(it.late), "slack_ns": _spread(it.slack), "first_overrun": it.first_overrun, "carry_missing": it.is_carry,
-    }  # fmt: skip
+        "pc": it.pc,
+        "kind": "du" if it.is_delay else "wu",
+        "number": it.count,
+        "waited": it.waited,
+        "overruns": it.overruns,
+        "period": _spread(it.periods, jitter=it.periods.most - it.periods.least),
+        "late_ns": _spread(it.late),
+        "slack_ns": _spread(it.slack),
+        "first_overrun": it.first_overrun,
+        "carry_missing": it.is_carry,
+    }
 
 
 def as_csv(seen: list[Observation]) -> str:
@@ -243,17 +273,24 @@ def as_csv(seen: list[Observation]) -> str:
 
 
 def _row(seen: Observation, it: Executions) -> list[Any]:
-    watched, whole, periods, part = it.watched, it.whole, it.periods, ratio(it)
-    spread: list[Any] = [whole.least, round(whole.mean, 3), whole.most, whole.at] if whole.count else [""] * 4
-    period: list[Any] = (
-        [periods.least, round(periods.mean, 3), periods.most, periods.most - periods.least]
-        if periods.count
-        else [""] * 4
-    )
-    return [
-        "" if seen.question.thread is None else seen.question.thread, watched.name, f"{watched.start:#x}", f"{watched.end:#x}",
-        "function" if watched.is_function else "section", whole.count, *spread,
-        "" if watched.bound is None else watched.bound, "" if part is None else round(part, 4),
-        "" if watched.budget is None else watched.budget,
-        it.interrupted.count, it.interrupted.most, it.detours.count, it.detours.most, it.traps, sum(it.left.values()), it.given_up, *period,
-    ]  # fmt: skip
+    watched, periods, part = it.watched, it.periods, ratio(it)
+    period: list[Any] = [""] * 4
+    if periods.count:
+        period = [periods.least, round(periods.mean, 3), periods.most, periods.most - periods.least]
+    row: list[Any] = [
+        seen.question.thread,
+        watched.name,
+        f"{watched.start:#x}",
+        f"{watched.end:#x}",
+        _kind(it),
+    ]
+    row += [it.whole.count, *_numbers(it.whole), it.whole.at if it.whole.count else None]
+    row += [watched.bound, None if part is None else round(part, 4), watched.budget]
+    row += [it.interrupted.count, it.interrupted.most, it.detours.count, it.detours.most]
+    row += [it.traps, sum(it.left.values()), it.given_up, *period]
+    return ["" if value is None else value for value in row]
+
+
+def _numbers(spread: Spread) -> list[Any]:
+    """The least, the mean and the largest number."""
+    return [spread.least, round(spread.mean, 3), spread.most] if spread.count else [None] * 3

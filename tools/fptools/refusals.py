@@ -24,13 +24,17 @@ RETURN = 0x0000_8067
 OVERFLOW = 6
 
 BOUND_HINTS = {
-    "Nesting": "its loops overlap without one inside the other, two tables have this head, it lies in four others, or a jump leads into it past its "
-    "head: correct `last`, or merge tables with one head; where the compiler placed the blocks so, fp_layout places them in order",
-    "TimedWait": "a wait takes as long as its moment says: end the section before it, and begin another behind it",
+    "Nesting": "its loops overlap without one inside the other, two tables have this head, it lies in four "
+    "others, or a jump leads into it past its head: correct `last`, or merge tables with one head; fp_layout "
+    "places the blocks of compiled code in order",
+    "TimedWait": "a wait takes as long as its moment says: end the section before it, and begin another "
+    "behind",
     "UnboundedBackEdge": "state how often this loop goes back by a table; fp_loops writes it",
-    "Overlap": "it has words in common with the section: leave the function that holds the section out of the list, or end the section before it",
+    "Overlap": "it has words in common with the section: take the section's own function out of the list, or "
+    "end the section before it",
     "Recursion": "calls lead from it back to it: rewrite it as a loop",
-    "Escape": "it leaves its function other than by a return: compile with -fno-optimize-sibling-calls, or correct the function's last word in the list",
+    "Escape": "it leaves its function other than by a return: compile with -fno-optimize-sibling-calls, or "
+    "correct the function's last word in the list",
 }
 SECTION_HINTS = {
     "NotHard": ("mode", 'a bound and `solo` are of a thread that starts hard and awake: mode = "hard"'),
@@ -45,9 +49,10 @@ SECTION_HINTS = {
 }
 IMAGE_HINTS = {
     "TooLong": "the file is longer than any image; for addresses past 16,380 the setup says `version = 2`",
-    "Magic": "it doesn't begin with FPX1: is it a source (`asm` makes an image of it), or an executable (`elf`)?",
+    "Magic": "it doesn't begin with FPX1: `asm` makes an image of a source, and `elf` of an executable",
     "Truncated": "the file was cut: make it again",
-    "BadSegment": "a segment isn't whole words inside one scratchpad; addresses past 16,380 need `version = 2` in the setup",
+    "BadSegment": "a segment isn't whole words inside one scratchpad; addresses past 16,380 need `version = 2` "
+    "in the setup",
     "Overlap": "two of its parts have an address in common: correct the linker script, or sort the segments",
     "Trailing": "bytes follow the last segment: make it again",
     "NotElf": "it isn't an ELF file: an archive, a source, or an image already?",
@@ -57,14 +62,14 @@ IMAGE_HINTS = {
     "Machine": "it isn't for RISC-V",
     "EntrySize": "its program headers don't have 32 bytes",
     "Dynamic": "it is to be linked when it is loaded: link with -static",
-    "BadLoad": "a part of it lies outside of the scratchpads: give the linker a script, as examples/c/flexpret.ld",
-    "TooManySegments": "more than 16 runs of words with gaps between: place sections that follow one another together",
+    "BadLoad": "a part of it is outside of the scratchpads: link by a script, as examples/c/flexpret.ld",
+    "TooManySegments": "more than 16 runs of words with gaps between: place sections next to each other",
 }
 ROUTINES_HINTS = {
     "TooMany": "at most 64 routines",
     "BadLine": "a line is the addresses of a first and a last word, as `00000100 00000104`, and a line feed",
     "BadPlace": "addresses are multiples of 4 in the instruction scratchpad, the first not above the last",
-    "Order": "each routine begins above the last word of the one before: sort the lines, and drop functions at one address",
+    "Order": "each routine begins above the last word of the one before: sort the lines, each function once",
 }
 
 
@@ -90,8 +95,13 @@ def explain(line: str, context: Context) -> list[str]:
         raise NoRefusal(f"no refusal line: {line.strip()[:80]!r}")
     words = parts["rest"].split()
     explainers = {
-        "source": _source, "bound": _bound, "setup": _setup, "section": _section, "image": _image, "routines": _routines,
-    }  # fmt: skip
+        "source": _source,
+        "bound": _bound,
+        "setup": _setup,
+        "section": _section,
+        "image": _image,
+        "routines": _routines,
+    }
     try:
         return list(explainers[parts["what"]](words, context))
     except (IndexError, KeyError, ValueError) as fault:
@@ -145,7 +155,8 @@ def _place(at: int, bits: int, name: str, context: Context) -> Iterator[str]:
     program = context.program
     symbol, line = program.name_of(at), program.line_of(at)
     where = f"{line}: " if line else ""
-    yield f"{where}error: {name} at {at:#x}{f' {symbol}' if symbol else ''}: {text_of(at, bits, dict(program.symbols))}"
+    text = text_of(at, bits, dict(program.symbols))
+    yield f"{where}error: {name} at {at:#x}{f' {symbol}' if symbol else ''}: {text}"
     if line:
         text = Sources(context.sources).text(line).rstrip()
         if text:
@@ -155,22 +166,23 @@ def _place(at: int, bits: int, name: str, context: Context) -> Iterator[str]:
 def _indirect(bits: int) -> str:
     word = Word(0, bits)
     if bits == RETURN:
-        return "a return: it ends the section, so end the section before it; the command calls goes through functions that return"
+        return "a return: end the section before it; the command calls goes through functions that return"
     if bits == MRET:
         return "a handler's return: end the section before it"
     if word.opcode == OPCODE_JALR and word.rd == RETURN_ADDRESS:
         return (
-            "a call through a register: call the function by its name; clang's calls need the linker's relaxation, or -S and an assembler that "
-            "makes `jal` of them"
+            "a call through a register: call the function by its name; assemble what clang -S writes by GNU "
+            "as, and link with relaxation"
         )
-    return "a jump through a register: a switch by a table (-fno-jump-tables), a tail call by pointer, or a far jump"
+    return "a jump through a register: a switch by a table (-fno-jump-tables), a tail call by pointer"
 
 
 def _table_for(at: int, bits: int) -> Iterator[str]:
     """The table that states the loop of a back edge."""
     head = Word(at, bits).target
     if head is not None and head <= at:
-        yield f"      = [[loop]] head = {head:#x}, last = {at:#x} or further, bound = how often it goes back at most"
+        bound = "bound = how often it goes back at most"
+        yield f"      = [[loop]] head = {head:#x}, last = {at:#x} or further, {bound}"
 
 
 def _tables(path: Path, at: int, head: int | None) -> Iterator[str]:
@@ -182,7 +194,8 @@ def _tables(path: Path, at: int, head: int | None) -> Iterator[str]:
     for index, it in enumerate(setup.values.get("loop", [])):
         if it.get("head") == head or it.get("head", 0) <= at <= it.get("last", -1):
             line = setup.line(("loop", index))
-            yield f"{path}:{line}: loop[{index}] is {it.get('head'):#x} to {it.get('last'):#x}, bound = {it.get('bound')}"
+            words = f"{it.get('head'):#x} to {it.get('last'):#x}, bound = {it.get('bound')}"
+            yield f"{path}:{line}: loop[{index}] is {words}"
 
 
 # ---------------------------------------------------------------- setups, sections, images, routines

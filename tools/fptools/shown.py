@@ -176,8 +176,9 @@ class Form:
     def _values(self, event: Event, late: int | None) -> list[object]:
         at, instruction, source = self._columns.of(event)
         word = f"{event.bits:08x}" if event.issues else None
-        return [event.cycle, event.cycle * self._period, event.gap, f"{event.pc:08x}", word, at or None, instruction,
-                event.effect, late, source or None]  # fmt: skip
+        ns = event.cycle * self._period
+        place = [event.cycle, ns, event.gap, f"{event.pc:08x}", word, at or None]
+        return [*place, instruction, event.effect, late, source or None]
 
     def _json(self, event: Event, late: int | None) -> str:
         more: dict[str, object] = {}

@@ -8,8 +8,8 @@ from typing import Callable, Iterator, Sequence
 from fptools.assembly import distance, placed
 
 from model.assembler import (
-    BRANCH_TYPE, CSR_TYPE, FORMS, I_TYPE, LOAD_TYPE, MOST_BYTES, READERS, REGISTERS, SHIFT_TYPE, STORE_TYPE, Cursor, Line,
-    Operand, Placer, lines_of,
+    BRANCH_TYPE, CSR_TYPE, FORMS, I_TYPE, LOAD_TYPE, MOST_BYTES, READERS, REGISTERS, SHIFT_TYPE, STORE_TYPE,
+    Cursor, Line, Operand, Placer, lines_of,
 )  # fmt: skip
 from model.bits import word
 from model.images import DATA, MOST_SEGMENTS
@@ -18,7 +18,9 @@ from model.setups import SMALL
 from model.tokens import MOST_TOKENS, Kind, LexFault, LexNo, Token, tokens
 
 MOST_NEAR = 3
-# What other assemblers have, and what it is here.
+NO_SECTIONS = "a source has no sections and no options: leave the line out"
+WORDS_ALONE = "data is words: .word takes numbers of 32 bits"
+NO_ATOMICS = "the core has no atomic instructions"
 ELSEWHERE = {
     "bgt": "bgt a, b, to is blt b, a, to", "ble": "ble a, b, to is bge b, a, to",
     "bgtu": "bgtu a, b, to is bltu b, a, to", "bleu": "bleu a, b, to is bgeu b, a, to",
@@ -26,29 +28,39 @@ ELSEWHERE = {
     "bgtz": "bgtz a, to is blt x0, a, to", "blez": "blez a, to is bge x0, a, to",
     "seqz": "seqz d, a is sltiu d, a, 1", "snez": "snez d, a is sltu d, x0, a",
     "sltz": "sltz d, a is slt d, a, x0", "sgtz": "sgtz d, a is slt d, x0, a",
-    "call": "call f is jal ra, f", "tail": "tail f is j f", "csrs": "csrs csr, a is csrrs x0, csr, a",
-    "csrc": "csrc csr, a is csrrc x0, csr, a", "csrwi": "csrwi csr, n is csrrwi x0, csr, n",
-    "csrsi": "csrsi csr, n is csrrsi x0, csr, n", "csrci": "csrci csr, n is csrrci x0, csr, n",
-    "unimp": "unimp is .word 0", "wfi": "there is no wfi: wu sleeps until a moment",
-    "rdcycle": "there is no rdcycle: gt and gth give the time", ".zero": ".zero n is .space n", ".skip": ".skip n is .space n",
+    "call": "call f is jal ra, f", "tail": "tail f is j f",
+    "csrs": "csrs csr, a is csrrs x0, csr, a", "csrc": "csrc csr, a is csrrc x0, csr, a",
+    "csrwi": "csrwi csr, n is csrrwi x0, csr, n", "csrsi": "csrsi csr, n is csrrsi x0, csr, n",
+    "csrci": "csrci csr, n is csrrci x0, csr, n", "unimp": "unimp is .word 0",
+    "wfi": "there is no wfi: wu sleeps until a moment",
+    "rdcycle": "there is no rdcycle: gt and gth give the time",
+    ".zero": ".zero n is .space n", ".skip": ".skip n is .space n",
     ".long": ".long v is .word v", ".int": ".int v is .word v",
-    **{name: "a source has no sections and no options: leave the line out" for name in (
-        ".text", ".data", ".section", ".globl", ".global", ".align", ".balign", ".p2align", ".option", ".type", ".size", ".file")},
-    **{name: "data is words: .word takes numbers of 32 bits" for name in (".byte", ".half", ".2byte", ".ascii", ".asciz", ".string")},
-    **{name: "the core has no atomic instructions" for name in ("lr.w", "sc.w", "amoadd.w", "amoswap.w")},
+    **dict.fromkeys((".text", ".data", ".section", ".globl", ".global", ".align", ".balign"), NO_SECTIONS),
+    **dict.fromkeys((".p2align", ".option", ".type", ".size", ".file"), NO_SECTIONS),
+    **dict.fromkeys((".byte", ".half", ".2byte", ".ascii", ".asciz", ".string"), WORDS_ALONE),
+    **dict.fromkeys(("lr.w", "sc.w", "amoadd.w", "amoswap.w"), NO_ATOMICS),
 }  # fmt: skip
+"""What other assemblers have, and what it is here."""
+
 NAMES_OF_OPERANDS = {
-    "rrr": "rd, rs1, rs2", "rrn": "rd, rs1, number", "rrv": "rs1, rs2, target", "rn": "rd, number", "rv": "rd, target", "v": "target",
-    "rr": "rd, rs", "r": "rd", "rc": "rd, csr", "cr": "csr, rs", "rcr": "rd, csr, rs", "rcn": "rd, csr, number", "n": "number", "": "",
+    "rrr": "rd, rs1, rs2", "rrn": "rd, rs1, number", "rrv": "rs1, rs2, target", "rn": "rd, number",
+    "rv": "rd, target", "v": "target", "rr": "rd, rs", "r": "rd", "rc": "rd, csr", "cr": "csr, rs",
+    "rcr": "rd, csr, rs", "rcn": "rd, csr, number", "n": "number", "": "",
 }  # fmt: skip
 OWN_OPERANDS = {
-    **dict.fromkeys(("du", "wu", "ee"), "high, low"), **dict.fromkeys(("beqz", "bnez"), "rs, target"), "jr": "rs", "la": "rd, address",
-    ".word": "value, ..", **dict.fromkeys(STORE_TYPE, "rs, offset(base)"), **dict.fromkeys([*LOAD_TYPE, "jalr"], "rd, offset(base)"),
+    **dict.fromkeys(("du", "wu", "ee"), "high, low"), **dict.fromkeys(("beqz", "bnez"), "rs, target"),
+    **dict.fromkeys(STORE_TYPE, "rs, offset(base)"),
+    **dict.fromkeys([*LOAD_TYPE, "jalr"], "rd, offset(base)"),
+    "jr": "rs", "la": "rd, address", ".word": "value, ..",
 }  # fmt: skip
 KINDS = {
-    "r": "a register (x0 to x31, or a name as a0)", "n": "a number", "v": "a number, a label, or a label + or - a number",
-    "c": "a CSR (a name as mtvec, or a number)", "m": "an offset and a base register, as 4(sp)",
-}  # fmt: skip
+    "r": "a register (x0 to x31, or a name as a0)",
+    "n": "a number",
+    "v": "a number, a label, or a label + or - a number",
+    "c": "a CSR (a name as mtvec, or a number)",
+    "m": "an offset and a base register, as 4(sp)",
+}
 MARK_NAMES = {",": "a comma", "(": "'(' and a base register", ")": "')'"}
 
 
@@ -182,10 +194,15 @@ def explain_source(data: bytes, line: int, code: SourceNo) -> Explanation:
     if code is SourceNo.Lex:
         return _explain_token(line, text)
     explain: dict[SourceNo, Callable[[_Line, bytes], Explanation]] = {
-        SourceNo.UnknownName: _explain_name, SourceNo.Operands: _explain_operands, SourceNo.DoubleLabel: _explain_double,
-        SourceNo.NoLabel: _explain_no_label, SourceNo.OutOfRange: _explain_number, SourceNo.Misaligned: _explain_number,
-        SourceNo.OutsideMemory: _explain_outside, SourceNo.Overlap: _explain_overlap,
-    }  # fmt: skip
+        SourceNo.UnknownName: _explain_name,
+        SourceNo.Operands: _explain_operands,
+        SourceNo.DoubleLabel: _explain_double,
+        SourceNo.NoLabel: _explain_no_label,
+        SourceNo.OutOfRange: _explain_number,
+        SourceNo.Misaligned: _explain_number,
+        SourceNo.OutsideMemory: _explain_outside,
+        SourceNo.Overlap: _explain_overlap,
+    }
     return explain[code](_Line(line, text), data)
 
 
@@ -321,10 +338,11 @@ class _Range:
 WORDS = _Range(-(1 << 31), (1 << 32) - 1)
 IMMEDIATE = _Range(-2048, 2047, "li sets a register to any number; add the registers then")
 OFFSET = _Range(-2048, 2047, "la or li gives the address to a register; an offset goes from there")
+UPPER = _Range(0, (1 << 20) - 1, "its number is the upper 20 bits; li takes the whole number")
 RANGES: dict[str, _Range] = {
     **dict.fromkeys(I_TYPE, IMMEDIATE), **dict.fromkeys(SHIFT_TYPE, _Range(0, 31)),
     **dict.fromkeys([*LOAD_TYPE, *STORE_TYPE, "jalr"], OFFSET),
-    **dict.fromkeys(("lui", "auipc"), _Range(0, (1 << 20) - 1, "its number is the upper 20 bits; li takes the whole number")),
+    **dict.fromkeys(("lui", "auipc"), UPPER),
     **dict.fromkeys((name for name in CSR_TYPE if name.endswith("i")), _Range(0, 31)),
     "li": WORDS, "la": WORDS, ".word": WORDS, ".org": _Range(0, (1 << 32) - 4), ".space": _Range(0, SMALL),
 }  # fmt: skip

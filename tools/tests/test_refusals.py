@@ -138,7 +138,7 @@ def test_a_bound_by_a_map(tool: Tool, tmp_path: Path) -> None:
     assert explained(tool, "refused bound 3 TimedWait 00000040", *words) == [
         "sum.s:18: error: TimedWait at 0x40 sum+0x1c: wu x11, x10",
         "   18 |         wu   x11, x10",
-        "      = a wait takes as long as its moment says: end the section before it, and begin another behind it",
+        "      = a wait takes as long as its moment says: end the section before it, and begin another behind",
     ]
     lines = explained(tool, "refused", "bound", "4", "UnboundedBackEdge", "00000034", *words)
     assert (
@@ -157,7 +157,7 @@ def test_a_bound_by_an_executable(tool: Tool) -> None:
 
 @pytest.mark.parametrize(
     ("word", "hint"),
-    [("ret", "a return: it ends the section"), ("mret", "a handler's return"), ("jalr ra, 0(a0)", "a call through a register"),
+    [("ret", "a return: end the section before it"), ("mret", "a handler's return"), ("jalr ra, 0(a0)", "a call through a register"),
      ("jr a0", "a switch by a table (-fno-jump-tables)")],
 )  # fmt: skip
 def test_jumps_through_registers(tool: Tool, tmp_path: Path, word: str, hint: str) -> None:
