@@ -13,20 +13,21 @@ from itertools import chain
 from pathlib import Path
 from typing import IO, Collection, Iterator, Mapping, Sequence
 
-from fptools.blocks import Block, BrokenTrace, Progress, Source, TraceReader
+from fptools.blocks import Block, BrokenTrace, Progress, Source, TraceReader, address
 from fptools.program import Flexpret
 from fptools.section import walk
 from fptools.setup import Setup
-from fptools.turns import Turns, turns_of
+from fptools.turns import Turns, is_delay, turns_of
 
 from fptools.visits import (
     MOST_KEPT, CallMeter, Executions, LoopMeter, LoopTable, Meter, Rounds, SectionMeter, Trapped, TrapMeter,
-    Wait, WaitJudge, WaitMeter, Watched, measure,
+    Wait, WaitJudge, WaitMeter, Watched, earliest_issue, measure,
 )  # fmt: skip
 
 PIPE_BYTES = 1 << 20
 WRITE_FAILED = 8  # the status of the program
 DEFAULT_PERIOD = 10  # nanoseconds
+LOOKED_AT = 32  # events of a block that are compared with the turns
 
 
 class RunFailed(Exception):
@@ -153,17 +154,25 @@ def question_of(setup: Setup, thread: int, watched: Sequence[Watched], code: Map
 
 
 class TurnMeter:
-    """Looks whether a thread's events are in its turns, at both ends of each block."""
+    """Looks at some events of each block: whether they are in the turns that the setup gives the thread."""
 
-    def __init__(self, turns: Turns | None) -> None:
-        self._turns = turns
-        self.stranger: int | None = None  # the first cycle that is no turn of the thread
+    def __init__(self, turns: Turns | None, code: Mapping[int, int]) -> None:
+        self._turns, self._code = turns, code
+        self.stranger: str | None = None  # the first event that isn't, and why
 
     def take(self, block: Block) -> None:
-        for index in (0, -1):
+        if self._turns is None or self.stranger is not None:
+            return
+        for index in range(min(LOOKED_AT, len(block.lines))):
             cycle = block.cycle(index)
-            if self._turns is not None and self.stranger is None and not self._turns.owns(cycle):
-                self.stranger = cycle
+            if not self._turns.owns(cycle):
+                self.stranger = f"cycle {cycle} is no turn of the thread"
+                return
+            earliest = earliest_issue(block, index)
+            is_spinning = is_delay(self._code.get(address(block.events[index]) or 0, 0))
+            if earliest is not None and not is_spinning and cycle != self._turns.next(earliest):
+                self.stranger = f"the event of cycle {cycle} would be in cycle {self._turns.next(earliest)}"
+                return
 
     def end(self, cycle: int) -> None:
         """Nothing is open at the end."""
@@ -177,7 +186,7 @@ def observe(reader: TraceReader, question: Question) -> Observation:
     calls = CallMeter(functions, question.turns, reader)
     loops = [LoopMeter(table) for table in question.loops]
     waits, traps = WaitMeter(WaitJudge(reader, question.turns, question.period)), TrapMeter()
-    turns = TurnMeter(question.turns)
+    turns = TurnMeter(question.turns, code)
     meters: list[Meter] = [*sections, *loops, waits, traps, turns, *([calls] if functions else [])]
     seen = Observation(question)
     try:
@@ -203,8 +212,7 @@ def _foreign(reader: TraceReader, question: Question, turns: TurnMeter) -> str |
                 text = f"the trace has the word {bits:08x}, the image {question.code.get(pc, 0):08x}"
                 return f"{pc:#x}: {text}: the trace is of another program"
     if turns.stranger is not None:
-        text = f"cycle {turns.stranger} is no turn of T{question.thread}"
-        return f"{text}: the trace is of another thread or setup"
+        return f"{turns.stranger}, by the setup's slots: the trace is of another thread or setup"
     return None
 
 

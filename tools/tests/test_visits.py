@@ -258,10 +258,24 @@ def test_a_trace_of_another_thread(tool: Tool, tmp_path: Path) -> None:
     trace = tmp_path / "it.trace"
     trace.write_text("         1 00000000 200000b7 x01=20000000\n")
     ran = tool("fp_visits", trace, "--setup", "examples/sum.toml")
-    assert (ran.returncode, ran.stderr) == (
-        2,
-        "fp_visits: cycle 1 is no turn of T0: the trace is of another thread or setup\n",
+    text = "cycle 1 is no turn of the thread, by the setup's slots: the trace is of another thread or setup"
+    assert (ran.returncode, ran.stderr) == (2, f"fp_visits: {text}\n")
+
+
+@pytest.mark.parametrize("slots", ["T0 S S S S S S S", "T0 D D D D D D D", "T0 S D D D D D D"])
+def test_a_trace_with_other_slots_breaks_no_bound(tool: Tool, tmp_path: Path, slots: str) -> None:
+    """The executions are longer than the bound, but that is no fault of the analyser."""
+    made = make(tmp_path, (TOP / "examples/sum.s").read_text(), 2000, slots, more=loop_table(0x24, 0x34, 7))
+    made.setup.write_text(
+        made.setup.read_text().replace(
+            ", ".join(f'"{it}"' for it in slots.split()), '"T0", "S", "S", "S", "D", "D", "D", "D"'
+        )
     )
+    words = (made.trace, "--setup", made.setup, "--section", "0x10:0x3c", "--flexpret", program(tmp_path))
+    ran = tool("fp_visits", *words)
+    assert ran.returncode == 2
+    assert "by the setup's slots: the trace is of another thread or setup" in ran.stderr
+    assert "FAULT" not in ran.stdout
 
 
 def test_json(tool: Tool, tmp_path: Path) -> None:
