@@ -74,6 +74,8 @@ class Result:
     notes: tuple[str, ...] = ()
     loops: tuple[LoopFact, ...] = ()
     functions: tuple[str, ...] = ()
+    executions: int | None = None  # how many a run had; None without a run
+    longest: int | None = None  # the cycles of the longest of them
 
     @property
     def note(self) -> str | None:

@@ -40,6 +40,7 @@ def _case(suite: ElementTree.Element, group: str, name: str, kind: str | None, t
 def _add_numbers(case: ElementTree.Element, result: Result) -> None:
     """Adds the bound, the budget and what it leaves, in cycles, and what is taken for granted."""
     numbers = {"bound": result.bound, "budget": result.budget.cycles, "slack": result.slack, "ns": result.ns}
+    numbers |= {"executions": result.executions, "longest": result.longest}
     known = {name: str(number) for name, number in numbers.items() if number is not None}
     known |= {f"note {at}": _xml(note) for at, note in enumerate(result.notes, 1)}
     if not known:
@@ -68,6 +69,8 @@ def _fields(result: Result) -> dict[str, Any]:
         "budget": budget.cycles,
         "slack": result.slack,
         "ns": result.ns,
+        "executions": result.executions,
+        "longest": result.longest,
         "text": result.text,
         "notes": list(result.notes),
         "assumes": sorted(it.value for it in budget.assume),

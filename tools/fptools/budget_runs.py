@@ -1,0 +1,102 @@
+"""Compares budgets with runs. What a run shows is stronger than what was found without one."""
+from __future__ import annotations
+
+from dataclasses import dataclass, replace
+from typing import Mapping, Sequence
+
+from fptools.budget_files import Result, Verdict
+from fptools.elf import Program, ProgramError
+from fptools.observed import Kind, Observation, question_of, run_and_observe
+from fptools.observed_text import Text
+from fptools.program import Flexpret
+from fptools.section import walk_all
+from fptools.setup import Setup
+from fptools.visits import Executions, LoopTable, Watched
+
+NAME = "fp_budget"
+
+
+@dataclass(frozen=True)
+class Runs:
+    """Runs of a setup's threads for some cycles."""
+
+    flexpret: Flexpret
+    setup: Setup
+    image: Mapping[int, int]
+    program: Program
+    cycles: int
+    is_of_names: bool = False  # whether the results have loops of their own, and not the setup's
+    is_of_functions: bool = False  # whether the budgets are named by functions
+
+    def compared(self, results: Sequence[Result]) -> list[Result]:
+        """The results, each with what a run of its thread showed."""
+        watched = [self._watched(it) for it in results]
+        found = list(results)
+        for thread in sorted({it.budget.thread for it in results}):
+            own = [
+                at for at, it in enumerate(results) if it.budget.thread == thread and watched[at] is not None
+            ]
+            if own:
+                observation = self._observed(thread, [it for at in own if (it := watched[at])], results)
+                # Functions come last in an observation, and here all are of one kind.
+                for at, seen in zip(own, observation.executions):
+                    found[at] = self._with_run(results[at], observation, seen)
+        return found
+
+    def _observed(self, thread: int, watched: Sequence[Watched], results: Sequence[Result]) -> Observation:
+        question = question_of(self.setup, thread, watched, self.image)
+        if self.is_of_names:
+            facts = {(it.head, it.last): it.bound for result in results for it in result.loops}
+            question = replace(
+                question, loops=[LoopTable(*place, bound) for place, bound in sorted(facts.items())]
+            )
+        return run_and_observe(self.flexpret, self.setup, question, self.cycles, name=NAME)
+
+    def _watched(self, result: Result) -> Watched | None:
+        """The section or function of a budget; None where an address isn't known."""
+        budget = result.budget
+        try:
+            if self.is_of_functions:
+                start = self.program.address(budget.name)
+                function = Watched(budget.name, start, start + 4, bound=result.bound, budget=budget.cycles)
+                return replace(function, is_function=True)
+            start, end, *exits = map(self._address, (budget.start, budget.end, *budget.exits))
+        except ProgramError:
+            return None
+        if end <= start:
+            return None
+        functions = self.program.functions if budget.calls else []
+        parts = walk_all(self.image, start, end, functions)
+        routines = tuple((it.start, it.end) for it in parts[1:])
+        return Watched(budget.name, start, end, routines, frozenset(exits), result.bound, budget.cycles)
+
+    def _address(self, value: int | str) -> int:
+        return value if isinstance(value, int) else self.program.address(value)
+
+    def _with_run(self, result: Result, observation: Observation, seen: Executions) -> Result:
+        longest, most = seen.longest, result.budget.cycles
+        if longest is None:
+            return replace(result, text=f"{result.text}; no execution in {self.cycles} cycles", executions=0)
+        result = replace(result, executions=seen.count, longest=longest.most)
+        if most is not None and longest.most > most:
+            kinds = {id(seen.interrupted): " with a trap", id(seen.detours): " that leaves the section"}
+            text = f"an execution{kinds.get(id(longest), '')} takes {longest.most} of {most} cycles"
+            text += f", from cycle {longest.at} of a run; {result.text}"
+            return replace(result, verdict=Verdict.OVER, text=text)
+        broken = self._broken(observation, seen)
+        if broken is not None:
+            return replace(result, verdict=Verdict.UNKNOWN, text=f"{broken}; {result.text}")
+        return replace(
+            result, text=f"{result.text}; the longest of {seen.count} executions takes {longest.most}"
+        )
+
+    def _broken(self, observation: Observation, seen: Executions) -> str | None:
+        """Which table of the section's loops a run broke, or that it broke the bound."""
+        text, watched = Text(self.program), seen.watched
+        parts = ((watched.start, watched.end), *watched.routines)
+        for it in observation.breaks:
+            head = int(it.what.split()[0], 16) if it.kind is Kind.TABLE else 0
+            is_own = self.is_of_functions or any(start <= head < end for start, end in parts)
+            if it.kind is Kind.TABLE and is_own or it.kind is Kind.BOUND and it.what == watched.name:
+                return text.broken(observation, it).split(maxsplit=1)[1]
+        return None

@@ -1,0 +1,183 @@
+"""`fp_budget --runs`: what a run shows stands over what was said without one. The executables are those of test_holds."""
+from __future__ import annotations
+
+import json
+import subprocess
+from pathlib import Path
+
+import pytest
+from conftest import TOOLS, TOP, Tool
+from modelled import program
+
+HOLDS = TOOLS / "tests/data/holds"
+OWNERS = ["T0", "T1", "T2", "T3", "T4", "T5", "T6"]
+ODD_THEN_EVEN = "[[0, 1], [400, 0], [1500, 1], [2600, 0]]"
+LOOP = "[[loop]]\nhead = {}\nlast = {}\nbound = {}\n"
+
+
+class Case:
+    """An executable with a setup, in which T0 has each fourth cycle, and one budget."""
+
+    def __init__(
+        self, tool: Tool, folder: Path, name: str, inputs: str = "[[0, 15]]", loops: str = ""
+    ) -> None:
+        self.tool, self.folder, self.elf = tool, folder, HOLDS / f"{name}.elf"
+        self.flexpret = program(folder)
+        image = folder / "own.fpx"
+        image.write_bytes(
+            subprocess.run([self.flexpret, "elf", self.elf], capture_output=True, check=True).stdout
+        )
+        self.setup = folder / "own.toml"
+        self.setup.write_text(
+            f"period = 10\nimage = {str(image)!r}\nslots = {['T0', 'S', 'S', 'S'] + ['D'] * 4}\n"
+            f"i_regions = {[*OWNERS, 'readonly']}\nd_regions = {[*OWNERS, 'shared']}\n"
+            f"[[thread]]\nid = 0\nmode = 'hard'\nentry = 0\nconfined = true\ninputs = {inputs}\n{loops}"
+        )
+
+    def judged(self, most: int, cycles: int, more: str = "", start: str = "work_begin") -> tuple[int, str]:
+        budgets = self.folder / "budgets.toml"
+        budgets.write_text(
+            f'[[budget]]\nname = "it"\nthread = 0\nfrom = "{start}"\nto = "work_end"\ncycles = {most}\ncalls = true\n{more}'
+        )
+        words = ("--elf", self.elf, "--src", HOLDS, "--flexpret", self.flexpret, "--runs", cycles)
+        ran = self.tool("fp_budget", self.setup, budgets, *words)
+        return ran.returncode, ran.stdout
+
+
+@pytest.fixture
+def folder(tmp_path: Path) -> Path:
+    return tmp_path
+
+
+def test_a_budget_that_holds_in_a_run(tool: Tool, folder: Path) -> None:
+    status, text = Case(tool, folder, "kept").judged(1000, 2000)
+    assert (status, text) == (
+        0,
+        "holds    T0 it: 48 of 1000 cycles (480 ns); the longest of 2 executions takes 48\n",
+    )
+
+
+@pytest.mark.parametrize(("name", "most"), [("emulates", 20), ("expires", 500)])
+def test_traps_that_come_back(tool: Tool, folder: Path, name: str, most: int) -> None:
+    """What an assumption leaves out is over in a run."""
+    status, text = Case(tool, folder, name).judged(most, 9000, 'assume = ["no traps"]\n')
+    assert status == 1
+    assert text.startswith("OVER     T0 it: an execution with a trap takes ")
+    assert f" of {most} cycles, from cycle " in text
+
+
+def test_two_loops_with_one_head(tool: Tool, folder: Path) -> None:
+    found = subprocess.run(
+        [TOOLS / "fp_loops", HOLDS / "one_head.elf", "--from", "work_begin", "--to", "work_end", "--src", HOLDS],
+        capture_output=True, text=True, check=False,
+    ).stdout  # fmt: skip
+    loops = (
+        found.split("\n\n")[0].split("#")[0]
+        + "\n"
+        + "\n".join(found.split("\n")[1:4]).replace("?", "7")
+        + "\n"
+    )
+    case = Case(tool, folder, "one_head", ODD_THEN_EVEN, loops)
+    status, text = case.judged(500, 9000, 'assume = ["loop tables"]\n')
+    assert status == 1
+    assert text.startswith("OVER     T0 it: an execution takes ")
+    status, text = case.judged(5000, 9000, 'assume = ["loop tables"]\n')
+    assert status == 2
+    assert "its table says 7" in text
+
+
+def test_a_section_that_never_runs(tool: Tool, folder: Path) -> None:
+    status, text = Case(tool, folder, "kept").judged(1000, 4)
+    assert (status, text) == (0, "holds    T0 it: 48 of 1000 cycles (480 ns); no execution in 4 cycles\n")
+
+
+def test_what_is_unknown_stays_so_in_a_run(tool: Tool, folder: Path) -> None:
+    status, text = Case(tool, folder, "emulates").judged(1000, 3000)
+    assert status == 2
+    assert text.startswith("UNKNOWN  T0 it: ") and "executions takes 436" in text
+    status, text = Case(tool, folder, "kept").judged(1000, 300, start="nowhere")
+    assert (status, "nowhere is no symbol" in text) == (2, True)
+
+
+def test_a_run_that_breaks_a_bound(tool: Tool, folder: Path) -> None:
+    case = Case(tool, folder, "kept")
+    low = folder / "low"
+    low.write_text(f'#!/bin/sh\ncase $1 in calls) echo bound 40 ;; *) exec {case.flexpret} "$@" ;; esac\n')
+    low.chmod(0o755)
+    case.flexpret = low
+    status, text = case.judged(1000, 2000)
+    assert status == 2
+    assert "above its bound of 40, though each loop kept its table: a fault of the analyser" in text
+
+
+def from_names(case: Case, *words: str) -> tuple[int, str]:
+    """The status and the text of a bound from names alone, with a run."""
+    asked = (
+        case.elf,
+        "--setup",
+        case.setup,
+        "--thread",
+        0,
+        *words,
+        "--src",
+        HOLDS,
+        "--flexpret",
+        case.flexpret,
+    )
+    ran = case.tool("fp_budget", *asked, "--runs", 3000)
+    return ran.returncode, ran.stdout
+
+
+def test_a_function_and_a_section_from_names(tool: Tool, folder: Path) -> None:
+    """The loops have the tables that the tool made; the setup has none."""
+    case = Case(tool, folder, "callee")
+    status, text = from_names(case, "--function", "sum_of")
+    first = "bound    T0 sum_of: 436 cycles (4360 ns); the longest of 6 executions takes 412"
+    assert (status, text.splitlines()[0]) == (0, first)
+    status, text = from_names(case, "--function", "sum_of", "--cycles", "400")
+    assert (
+        status,
+        text.startswith("OVER     T0 sum_of: an execution takes 412 of 400 cycles, from cycle "),
+    ) == (1, True)
+    status, text = from_names(case, "--from-label", "work_begin", "--to-label", "work_end", "--json")
+    (result,) = json.loads(text)["results"]
+    assert (status, result["bound"], result["longest"], result["executions"]) == (0, 440, 416, 6)
+
+
+def test_a_run_needs_the_image(tool: Tool, folder: Path) -> None:
+    case = Case(tool, folder, "callee")
+    (folder / "own.fpx").unlink()
+    words = (
+        "--setup",
+        case.setup,
+        "--thread",
+        0,
+        "--function",
+        "sum_of",
+        "--flexpret",
+        case.flexpret,
+        "--runs",
+        9,
+    )
+    ran = tool("fp_budget", case.elf, *words)
+    assert ran.returncode == 2
+    assert ran.stderr.endswith("own.fpx isn't there, and --runs needs the setup's image\n")
+
+
+@pytest.mark.parametrize("cycles", ["x", "-1", "5000000000"])
+def test_usage(tool: Tool, cycles: str) -> None:
+    ran = tool("fp_budget", "examples/c/pid.toml", "examples/c/budgets.toml", f"--runs={cycles}")
+    assert ran.returncode == 2
+    assert "argument --runs: invalid" in ran.stderr
+
+
+def test_a_run_that_fails(tool: Tool, folder: Path) -> None:
+    script = folder / "fails"
+    script.write_text(
+        "#!/bin/sh\necho bound 4\n[ $1 != run ] || { echo flexpret: out of memory >&2; exit 9; }\n"
+    )
+    script.chmod(0o755)
+    words = ("--elf", "examples/c/pid.elf", "--flexpret", script, "--runs", "100")
+    ran = tool("fp_budget", "examples/c/pid.toml", "examples/c/budgets.toml", *words)
+    assert ran.returncode == 2
+    assert TOP and ran.stderr.endswith("status 9: flexpret: out of memory\n")
