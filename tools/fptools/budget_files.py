@@ -1,7 +1,7 @@
 """Budgets of sections, the files that state them, and what is found of them."""
 from __future__ import annotations
 
-from dataclasses import dataclass, field
+from dataclasses import dataclass
 from enum import Enum, IntEnum
 from pathlib import Path
 from typing import Any, Mapping
