@@ -181,3 +181,43 @@ def test_a_run_that_fails(tool: Tool, folder: Path) -> None:
     ran = tool("fp_budget", "examples/c/pid.toml", "examples/c/budgets.toml", *words)
     assert ran.returncode == 2
     assert TOP and ran.stderr.endswith("status 9: flexpret: out of memory\n")
+
+
+@pytest.mark.parametrize(
+    ("name", "inputs", "table", "most", "kind"),
+    [
+        (
+            "head_test",
+            "[[0, 15]]",
+            14,
+            1000,
+            "TABLE",
+        ),  # a loop that tests at its head, with a table one too small
+        ("one_head", ODD_THEN_EVEN, 7, 5000, "TABLE"),  # two loops with one head, and the table of one
+        ("taps32", "[[0, 15]]", 15, 5000, "TABLE"),  # a table that the code has outgrown
+        ("emulates", "[[0, 15]]", None, 20, "OVER"),  # a trap handler that comes back
+        ("expires", "[[0, 15]]", None, 500, "OVER"),  # an expiry that was armed before the section
+    ],
+)
+def test_what_a_run_shows_by_itself(
+    tool: Tool, folder: Path, name: str, inputs: str, table: int | None, most: int, kind: str
+) -> None:
+    """fp_visits shows what a budget could leave out, without looking at the code's ways."""
+    loops = ""
+    if table is not None:
+        section = ("--from", "work_begin", "--to", "work_end", "--calls", "--src", HOLDS)
+        found = tool("fp_loops", HOLDS / f"{name}.elf", *section).stdout
+        head = next(line for line in found.splitlines() if line.startswith("head"))
+        last = next(line for line in found.splitlines() if line.startswith("last"))
+        loops = f"[[loop]]\n{head}\n{last}\nbound = {table}\n"
+    case = Case(tool, folder, name, inputs, loops)
+    budgets = folder / "budgets.toml"
+    budgets.write_text(
+        f'[[budget]]\nname = "it"\nthread = 0\nfrom = "work_begin"\nto = "work_end"\ncycles = {most}\ncalls = true\n'
+    )
+    words = ("--setup", case.setup, "--elf", case.elf, "--budgets", budgets, "--cycles", 9000)
+    ran = tool("fp_visits", *words, "--flexpret", case.flexpret)
+    assert ran.returncode == 1, ran.stderr
+    assert [
+        line.split()[0] for line in ran.stdout.splitlines() if line[:5] in ("TABLE", "OVER ", "FAULT")
+    ] == [kind]
