@@ -249,12 +249,9 @@ def opened_run(flexpret: Flexpret, setup: Path, thread: int, cycles: int) -> Ite
         # A program that is left before its end can't write the rest, which isn't its fault.
         if ran.returncode > 0 and (source.is_at_end or ran.returncode != WRITE_FAILED):
             errors.seek(0)
-            text = (source.tail if source.tail.startswith(b"refused") else errors.read()).decode(
-                "utf-8", "replace"
-            )
-            raise RunFailed(
-                f"run {setup} --thread {thread}: status {ran.returncode}: {text.strip().split(chr(10))[0]}"
-            )
+            text = source.tail if source.tail.startswith(b"refused") else errors.read()
+            reason = "; ".join(line for line in text.decode("utf-8", "replace").splitlines() if line)
+            raise RunFailed(f"run {setup} --thread {thread}: status {ran.returncode}: {reason}")
 
 
 def run_and_observe(
