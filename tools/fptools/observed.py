@@ -13,7 +13,7 @@ from itertools import chain
 from pathlib import Path
 from typing import IO, Collection, Iterator, Mapping, Sequence
 
-from fptools.blocks import Block, BrokenTrace, Progress, Source, TraceReader, address
+from fptools.trace_blocks import Block, BrokenTrace, Progress, Source, TraceReader, address
 from fptools.program import Flexpret
 from fptools.section import walk
 from fptools.setup import Setup

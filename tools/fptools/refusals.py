@@ -7,7 +7,7 @@ from dataclasses import dataclass, field
 from pathlib import Path
 from typing import Iterator, Mapping
 
-from fptools.assembly import text_of
+from fptools.asm_words import text_of
 from fptools.elf import Program, ProgramError
 from fptools.image import ImageError, read_image
 from fptools.lint import Level, lint

@@ -8,7 +8,7 @@ import re
 from dataclasses import dataclass
 from typing import Iterator, Mapping, Sequence
 
-from fptools.blocks import CYCLE, EFFECT, PC, PLACE, Block, class_of, span, trap_character
+from fptools.trace_blocks import CYCLE, EFFECT, PC, PLACE, Block, class_of, span, trap_character
 from fptools.disassembly import Disassembler
 from fptools.elf import CODE_END, Function, Program, ProgramError
 from fptools.sources import Sources

@@ -5,7 +5,7 @@ import difflib
 from dataclasses import dataclass, replace
 from typing import Callable, Iterator, Sequence
 
-from fptools.assembly import distance, placed
+from fptools.asm_words import distance, placed
 
 from model.assembler import (
     BRANCH_TYPE, CSR_TYPE, FORMS, I_TYPE, LOAD_TYPE, MOST_BYTES, READERS, REGISTERS, SHIFT_TYPE, STORE_TYPE,

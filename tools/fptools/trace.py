@@ -7,14 +7,14 @@
             print(event.cycle, hex(event.pc), event.value)
 
 At a line that is no event `read_trace` raises `BrokenTrace`; it has given all events before it. If few
-events of a long trace are wanted, `fptools.blocks` and `fptools.visits` are ten times as fast."""
+events of a long trace are wanted, `fptools.trace_blocks` and `fptools.visits` are ten times as fast."""
 from __future__ import annotations
 
 import re
 from dataclasses import dataclass
 from typing import Iterator
 
-from fptools.blocks import BITS, CYCLE, EFFECT, PC, Block, Source, TraceReader
+from fptools.trace_blocks import BITS, CYCLE, EFFECT, PC, Block, Source, TraceReader
 
 STORE = re.compile(r"\[([0-9a-f]{8})\]/([124])=([0-9a-f]{8})")
 TRAP = re.compile(r"trap (\d+) -> ([0-9a-f]{8})")

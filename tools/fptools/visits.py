@@ -13,7 +13,7 @@ from enum import Enum, auto
 from functools import lru_cache
 from typing import Callable, Collection, Iterable, Iterator, Mapping, Protocol
 
-from fptools.blocks import (
+from fptools.trace_blocks import (
     BITS, EFFECT, PC, Block, TraceReader, address, character, class_of, span, trap_character,
 )  # fmt: skip
 from fptools.turns import Turns, is_delay, lag

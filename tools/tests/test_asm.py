@@ -7,7 +7,7 @@ from random import Random
 
 import pytest
 from conftest import TOP, Tool
-from fptools.assembly import disassembled, read_source, text_of
+from fptools.asm_words import disassembled, read_source, text_of
 from modelled import assembled, program
 
 from model.images import Image

@@ -8,8 +8,8 @@ from pathlib import Path
 from random import Random
 
 import pytest
-from fptools import blocks
-from fptools.blocks import TraceReader
+from fptools import trace_blocks
+from fptools.trace_blocks import TraceReader
 from fptools.observed import Question, observe
 from fptools.setup import read_setup
 from fptools.turns import turns_of
@@ -148,7 +148,7 @@ def compared(made: Made, cycles: int, watched: list[Watched], tables: list[LoopT
 def block_bytes(request: pytest.FixtureRequest, monkeypatch: pytest.MonkeyPatch) -> int:
     """Blocks of one line and of a few, so that each thing is met at their ends."""
     size = int(request.param)
-    monkeypatch.setattr(blocks, "BLOCK_BYTES", size)
+    monkeypatch.setattr(trace_blocks, "BLOCK_BYTES", size)
     return size
 
 

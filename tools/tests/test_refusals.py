@@ -6,7 +6,7 @@ from random import Random
 
 import pytest
 from conftest import TOP, Tool
-from fptools.assembly import placed
+from fptools.asm_words import placed
 from fptools.source_faults import explain_source, shown
 from modelled import program
 
