@@ -341,6 +341,9 @@ class Judge:
         names = asked.budget.start, asked.budget.end
         if not isinstance(names[0], str) or not isinstance(names[1], str):
             return
+        if not self.program.all_lines:
+            asked.notes.append("without line tables (-g) nothing tells whether work was moved out of the section")
+            return
         moved = moved_word(asked.section, self._code, self.program, self.sources, (names[0], names[1]))
         if moved is None:
             return
