@@ -139,9 +139,14 @@ class ThreadCode:
     entry: int
 
     @cached_property
+    def without_traps(self) -> Reach:
+        """From the entry alone."""
+        return reach(self.code, [self.entry])
+
+    @cached_property
     def whole(self) -> Reach:
         """From the entry, and from each address that a reached word writes into mtvec."""
-        starts, found = {self.entry}, reach(self.code, [self.entry])
+        starts, found = {self.entry}, self.without_traps
         while True:
             handlers = {at for word in found.words.values() if (at := self._handler(word)) is not None}
             if handlers <= starts:
@@ -160,9 +165,7 @@ class ThreadCode:
     def jumps_anywhere(self) -> bool:
         """Whether it may jump to an address that isn't known: by a register, by MRET outside of a trap handler, or by a
         handler that goes on elsewhere than where the trap was or at the word behind it."""
-        if self.whole.pointers:
-            return True
-        if any(word.bits == MRET for word in reach(self.code, [self.entry]).words.values()):
+        if self.whole.pointers or any(word.bits == MRET for word in self.without_traps.words.values()):
             return True
         return any(word.writes_mepc and not self.code.skips_a_word(word) for word in self.whole.words.values())
 
