@@ -103,7 +103,9 @@ class Names:
         start = self.program.address(name)
         function = self.program.function_at(start)
         if function is None or function.start != start:
-            raise ProgramError(f"{name} is no function with a size in {self.program.path}: in assembler, .type and .size")
+            raise ProgramError(
+                f"{name} is no function with a size in {self.program.path}: in assembler, .type and .size"
+            )
         return function
 
     def _call_of(self, function: Function, thread: int) -> int | None:
@@ -121,7 +123,9 @@ class Names:
         free = (
             pc
             for pc in range(self.setup.size - 8, -4, -4)
-            if pc not in self.image and pc + 4 not in self.image and self.setup.region("i_regions", pc) in owners
+            if pc not in self.image
+            and pc + 4 not in self.image
+            and self.setup.region("i_regions", pc) in owners
         )
         return next(free, None)
 
@@ -147,5 +151,3 @@ def toml_of(values: Mapping[str, Any]) -> str:
 
 def _is_tables(value: object) -> bool:
     return isinstance(value, list) and bool(value) and isinstance(value[0], dict)
-
-

@@ -167,7 +167,9 @@ class ThreadCode:
         handler that goes on elsewhere than where the trap was or at the word behind it."""
         if self.whole.pointers or any(word.bits == MRET for word in self.without_traps.words.values()):
             return True
-        return any(word.writes_mepc and not self.code.skips_a_word(word) for word in self.whole.words.values())
+        return any(
+            word.writes_mepc and not self.code.skips_a_word(word) for word in self.whole.words.values()
+        )
 
     def _words(self) -> list[Word]:
         """What it may issue, by address: each word of the image, where a jump may lead anywhere."""
@@ -219,7 +221,9 @@ class WayBack:
     is_meant: bool = True
 
 
-def _ways_back(handler: int, own: Reach, called: Reach, section: Section, is_meant: bool) -> Iterator[WayBack]:
+def _ways_back(
+    handler: int, own: Reach, called: Reach, section: Section, is_meant: bool
+) -> Iterator[WayBack]:
     """How a handler goes on with the code that trapped, by its own words and those of what it calls."""
     for word in called.words.values():
         if word.bits == MRET:
