@@ -12,9 +12,18 @@ NEEDED = {
 _missing = [packages for module, packages in NEEDED.items() if importlib.util.find_spec(module) is None]
 if _missing or sys.version_info < (3, 11):
     version = ".".join(map(str, sys.version_info[:3]))
-    print(f"the tools run by {sys.executable}, which is Python {version}; they need 3.11 or later", file=sys.stderr)
+    print(
+        f"the tools run by {sys.executable}, which is Python {version}; they need 3.11 or later",
+        file=sys.stderr,
+    )
     for pip, debian in _missing:
-        print(f"  its package {pip} is missing: {sys.executable} -m pip install {pip}, or, for Debian's own", file=sys.stderr)
-        print(f"  /usr/bin/python3, apt-get install {debian} and call /usr/bin/python3 {sys.argv[0]} ..", file=sys.stderr)
+        print(
+            f"  its package {pip} is missing: {sys.executable} -m pip install {pip}, or, for Debian's own",
+            file=sys.stderr,
+        )
+        print(
+            f"  /usr/bin/python3, apt-get install {debian} and call /usr/bin/python3 {sys.argv[0]} ..",
+            file=sys.stderr,
+        )
     # Status 2 says of every tool that it couldn't do its work.
     sys.exit(2)

@@ -40,7 +40,9 @@ HELP = {
     "NoSlot": "no slot is the thread's own",
 }
 REFUSAL = re.compile(r"refused \w+ \d+ (\w+)(?: ([0-9a-f]{8}))?")
-LONG_CALL = "a call by AUIPC and JALR, which the linker didn't shorten, as of clang: compile by -S, or with gcc"
+LONG_CALL = (
+    "a call by AUIPC and JALR, which the linker didn't shorten, as of clang: compile by -S, or with gcc"
+)
 # What helps against a way out of a section, and out of a function.
 EXIT_HELP = {
     Exit.CALL: "calls = true goes through functions that are called by x1",
@@ -121,7 +123,9 @@ class Judge:
     def asked(self, budget: Budget) -> Asked:
         """A budget with the code that it is of."""
         if self._other_word:
-            raise Unknown(f"{self._other_word}: the image isn't made of {self.program.path}: make it again by `elf`")
+            raise Unknown(
+                f"{self._other_word}: the image isn't made of {self.program.path}: make it again by `elf`"
+            )
         start, end = self._address(budget.start), self._address(budget.end)
         functions = self.program.functions if budget.calls else []
         parts = walk_all(self.image, start, end, functions)
@@ -204,7 +208,9 @@ class Judge:
                 raise Unknown(f"{self.where(routine.start)}: a function that is called never returns")
             wrong = wrong_return(routine, self._clobbered, self.image)
             if wrong is not None:
-                raise Unknown(f"{self.where(wrong.pc)}: it isn't certain that this goes back to the call: x1 and x2 change")
+                raise Unknown(
+                    f"{self.where(wrong.pc)}: it isn't certain that this goes back to the call: x1 and x2 change"
+                )
 
     def _clobbered(self, function: int) -> frozenset[int]:
         if function not in self._changes:
@@ -242,7 +248,9 @@ class Judge:
         for pc in (pc for part in asked.parts for pc in part.reached):
             owner = self.setup.region("i_regions", pc)
             if owner not in (name, "readonly"):
-                raise Unknown(f"{self.where(pc)}: {name} is confined and can't fetch here: the region is {owner}'s")
+                raise Unknown(
+                    f"{self.where(pc)}: {name} is confined and can't fetch here: the region is {owner}'s"
+                )
 
     def _look_at_reach(self, asked: Asked, thread: ThreadCode) -> None:
         start, name = asked.begin, f"T{asked.budget.thread}"
@@ -252,7 +260,9 @@ class Judge:
             return
         text = f"{self.where(start)}: {name} doesn't get here from its entry {self.where(thread.entry)}"
         if thread.jumps_anywhere:
-            text += f" by direct jumps and calls; if it does by others: assume = [{Assumption.REACHED.value!r}]"
+            text += (
+                f" by direct jumps and calls; if it does by others: assume = [{Assumption.REACHED.value!r}]"
+            )
         raise Unknown(text + ": is it the right thread?")
 
     def _look_at_writes(self, asked: Asked) -> None:
@@ -284,7 +294,9 @@ class Judge:
     def table_of(self, part: Section, loop: Loop) -> int | None:
         """The bound of the setup's table of a loop."""
         tables = self.setup.values.get("loop", [])
-        bounds = (it["bound"] for it in tables if it["head"] == loop.head and loop.last <= it["last"] < part.end)
+        bounds = (
+            it["bound"] for it in tables if it["head"] == loop.head and loop.last <= it["last"] < part.end
+        )
         return next(bounds, None)
 
     def _look_at_loops(self, asked: Asked) -> None:
@@ -341,10 +353,17 @@ class Judge:
         names = asked.budget.start, asked.budget.end
         if not isinstance(names[0], str) or not isinstance(names[1], str):
             return
+        if not self.program.all_lines:
+            asked.notes.append(
+                "without line tables (-g) nothing tells whether work was moved out of the section"
+            )
+            return
         moved = moved_word(asked.section, self._code, self.program, self.sources, (names[0], names[1]))
         if moved is None:
             return
-        note = f"{self.where(moved)}: it comes of a line between the marks, and is done outside of the section"
+        note = (
+            f"{self.where(moved)}: it comes of a line between the marks, and is done outside of the section"
+        )
         if not asked.assumes(Assumption.MOVED_WORK, note):
             helps = "FP_KEEP(value) before the mark at the end keeps it in"
             raise Unknown(f"{note}: {helps}; if it isn't meant: assume = [{Assumption.MOVED_WORK.value!r}]")

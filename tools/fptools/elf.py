@@ -16,7 +16,9 @@ from elftools.elf.sections import SymbolTableSection
 from fptools.image import words_of
 
 CODE_END = 0x1_0000
-ADDRESS = re.compile(r"(?P<name>[A-Za-z_.$][\w.$]*)?(?P<plus>\+)?(?P<number>0x[0-9a-fA-F]{1,16}|[0-9]{1,20})?")
+ADDRESS = re.compile(
+    r"(?P<name>[A-Za-z_.$][\w.$]*)?(?P<plus>\+)?(?P<number>0x[0-9a-fA-F]{1,16}|[0-9]{1,20})?"
+)
 
 
 # What pyelftools raises beyond its own errors where a file has been cut, or a table of it leads astray.
@@ -149,7 +151,9 @@ class Program:
     @property
     def all_lines(self) -> list[Line]:
         """The source lines that some address was compiled from."""
-        return sorted({line for _, line in self._lines if line is not None}, key=lambda it: (it.file, it.number))
+        return sorted(
+            {line for _, line in self._lines if line is not None}, key=lambda it: (it.file, it.number)
+        )
 
     def call_line_of(self, address: int) -> Line | None:
         """The line of an address in the function that was compiled: for the code of an inlined one, where it is called."""
@@ -237,7 +241,9 @@ def _inlined_of(dwarf: Any, unit: Any) -> Iterator[Inlined]:
         known = entry.attributes
         if entry.tag != "DW_TAG_inlined_subroutine" or "DW_AT_call_line" not in known:
             continue
-        line = Line(_file_of(table.header, known["DW_AT_call_file"].value, base), known["DW_AT_call_line"].value)
+        line = Line(
+            _file_of(table.header, known["DW_AT_call_file"].value, base), known["DW_AT_call_line"].value
+        )
         for start, end in _ranges_of(dwarf, unit, entry):
             yield Inlined(start, end, line)
 
@@ -258,7 +264,10 @@ def _ranges_of(dwarf: Any, unit: Any, entry: Any) -> Iterator[tuple[int, int]]:
             base = piece.base_address
             continue
         is_absolute = getattr(piece, "is_absolute", False)
-        yield (piece.begin_offset, piece.end_offset) if is_absolute else (base + piece.begin_offset, base + piece.end_offset)
+        yield (piece.begin_offset, piece.end_offset) if is_absolute else (
+            base + piece.begin_offset,
+            base + piece.end_offset,
+        )
 
 
 def _file_of(table: Any, number: int, base: Path) -> Path:

@@ -115,7 +115,9 @@ class Comments:
         elsewhere = next((pc for pc in loop.backs if not self._is_of(pc, comment)), None)
         if elsewhere is not None and len(loop.backs) > 1:
             where = self._where(elsewhere)
-            return f"of its {len(loop.backs)} back edges {where} states no rounds: two loops may have one head"
+            return (
+                f"of its {len(loop.backs)} back edges {where} states no rounds: two loops may have one head"
+            )
         if elsewhere is not None:
             return f"{self._where(elsewhere)} may go back in another loop than that of `@rounds`"
         if self.sources.hides_loops(comment.file, comment.of_line) > self._words_of_one(comment):
@@ -139,7 +141,11 @@ class Comments:
         text, line = self._text_of(comment), self.program.line_of(pc)
         if text is None:
             return len(self.sources.loops_from(comment.file, comment.of_line)) == 0 and not is_c(comment.file)
-        return line is not None and line.file == comment.file and self.sources.innermost(line.file, line.number) == text
+        return (
+            line is not None
+            and line.file == comment.file
+            and self.sources.innermost(line.file, line.number) == text
+        )
 
     def _words_of_one(self, comment: Comment) -> int:
         """How many words of its line a single loop has: two where a `do` has its `while` beside it."""
@@ -156,10 +162,16 @@ class Comments:
             # What decides about a loop is a branch; other words may come of lines before it.
             for pc in (pc for pc in own if self.section.reached[pc].flow is Flow.BRANCH):
                 is_known = self.program.line_of(pc) is not None
-                if is_known and not any(_is_in(line, comment.file, text) for line in self.program.lines_of(pc)):
+                if is_known and not any(
+                    _is_in(line, comment.file, text) for line in self.program.lines_of(pc)
+                ):
                     return f"{self._where(pc, 'the branch')} is of no line of the loop with `@rounds`"
         seen = {loop for it in inside for pc in it.body for loop in self._texts_at(pc)}
-        missing = set(self.sources.loops_in(comment.file, text)) - {it for file, it in seen if file == comment.file} if text else set()
+        missing = (
+            set(self.sources.loops_in(comment.file, text)) - {it for file, it in seen if file == comment.file}
+            if text
+            else set()
+        )
         if missing:
             return f"the loop in {comment.file.name}:{min(it.first for it in missing)} has no head of its own in the code"
         return self._hidden(own, seen, comment)
@@ -172,7 +184,11 @@ class Comments:
                 continue
             loops = {(line.file, it) for it in self.sources.loops_from(line.file, line.number)}
             is_known = loops and loops <= {*seen, (comment.file, self._text_of(comment))}
-            if self.sources.hides_loops(line.file, line.number) and not is_known and not self._is_line_of(line, comment):
+            if (
+                self.sources.hides_loops(line.file, line.number)
+                and not is_known
+                and not self._is_line_of(line, comment)
+            ):
                 return f"the loop in {line} has no head of its own in the code"
         return ""
 
@@ -183,7 +199,9 @@ class Comments:
 
     def _texts_at(self, pc: int) -> list[tuple[Path, LoopText]]:
         """The innermost loops of the sources around the lines of an address."""
-        found = [(line.file, self.sources.innermost(line.file, line.number)) for line in self.program.lines_of(pc)]
+        found = [
+            (line.file, self.sources.innermost(line.file, line.number)) for line in self.program.lines_of(pc)
+        ]
         return [(file, text) for file, text in found if text is not None]
 
     def _where(self, pc: int, what: str = "that") -> str:
@@ -208,9 +226,7 @@ class Comments:
             texts.append((line.number - 1, above))
         found = ((number, ROUNDS.findall(text)) for number, text in texts)
         number, stated = next(((number, all_of) for number, all_of in found if all_of), (0, []))
-        return [
-            Comment(line.file, number, int(rounds) if rounds else None, line.number) for rounds in stated
-        ]
+        return [Comment(line.file, number, int(rounds) if rounds else None, line.number) for rounds in stated]
 
 
 def _is_in(line: Line, file: Path, text: LoopText) -> bool:

@@ -10,7 +10,9 @@ from fptools.thread import Code, reach
 from fptools.words import OPCODE_AUIPC, OPCODE_IMMEDIATE, OPCODE_LUI, Flow, Word
 
 
-def moved_word(section: Section, code: Code, program: Program, sources: Sources, names: tuple[str, str]) -> int | None:
+def moved_word(
+    section: Section, code: Code, program: Program, sources: Sources, names: tuple[str, str]
+) -> int | None:
     """The first word between the section's end and its next execution that was compiled from a line between its marks,
     which are known by names. None where there is no such word, or no line tables or sources to know it by. A word that
     gives a register a number is no work."""
@@ -37,5 +39,3 @@ def _line_of_mark(program: Program, sources: Sources, name: str) -> Line | None:
     mark = re.compile(rf"\bFP_MARK\w*\s*\(\s*{re.escape(name)}\s*[,)]")
     found = [line for line in program.all_lines if mark.search(sources.text(line))]
     return found[0] if len(set(found)) == 1 else None
-
-

@@ -8,11 +8,13 @@ from dataclasses import dataclass, replace
 from pathlib import Path
 from typing import Any, Mapping
 
-from fptools.budget_files import Budget, Result, Verdict
-from fptools.budgets import Judge, Unknown
+from fptools.budget_files import Assumption, Budget, Result, Verdict
+from fptools.budgets import Asked, Judge, Unknown
 from fptools.elf import Function, Program, ProgramError
 from fptools.image import write_image
+from fptools.loops import StatedLoop
 from fptools.program import Flexpret
+from fptools.section import Section
 from fptools.setup import Setup
 from fptools.sources import Sources
 from fptools.words import Flow, Word
@@ -69,32 +71,47 @@ class Names:
         takes it for granted."""
         asked = judge.asked(budget)
         judge.look_at_code(asked)
-        tables = []
+        tables, missing = [], []
         for part, stated in judge.stated_loops(asked):
-            bound = stated.least
-            if not stated.loop.is_interval:
-                raise Unknown(f"{judge.where(stated.loop.head)}: {stated.doubt}: lay the code out by fp_layout")
-            if bound is None:
-                judge.assume_table(asked, stated)
-                bound = judge.table_of(part, stated.loop)
-            if bound is None:
-                raise Unknown(f"{judge.where(stated.loop.head)}: the setup has no table of this loop")
-            tables.append({"head": stated.loop.head, "last": stated.loop.last, "bound": bound})
+            try:
+                bound = self._bound_of(judge, asked, part, stated)
+                tables.append({"head": stated.loop.head, "last": stated.loop.last, "bound": bound})
+            except Unknown as why:
+                missing.append(str(why))
+        if missing:
+            raise Unknown("; ".join(missing))
         if len(tables) > MOST_LOOPS:
             raise Unknown(f"{len(tables)} loops, of {MOST_LOOPS} at most that a setup may have")
         return tables
+
+    def _bound_of(self, judge: Judge, asked: Asked, part: Section, stated: StatedLoop) -> int:
+        where = judge.where(stated.loop.head)
+        if not stated.loop.is_interval:
+            raise Unknown(f"{where}: {stated.doubt}: lay the code out by fp_layout")
+        if stated.least is not None:
+            return stated.least
+        table = judge.table_of(part, stated.loop)
+        if table is None and Assumption.LOOP_TABLES in asked.budget.assume:
+            raise Unknown(f"{where}: neither the sources nor the setup bound this loop ({stated.doubt})")
+        if table is None:
+            helps = "state `@rounds N` in the line of its branch and compile with -g"
+            raise Unknown(f"{where}: nothing bounds this loop ({stated.doubt}): {helps}")
+        judge.assume_table(asked, stated)
+        return table
 
     def _named(self, name: str) -> Function:
         start = self.program.address(name)
         function = self.program.function_at(start)
         if function is None or function.start != start:
-            raise ProgramError(f"{name} is no function with a size in {self.program.path}: in assembler, .type and .size")
+            raise ProgramError(
+                f"{name} is no function with a size in {self.program.path}: in assembler, .type and .size"
+            )
         return function
 
     def _call_of(self, function: Function, thread: int) -> int | None:
-        """The first call of a function that the thread reaches."""
+        """The first call of a function that the thread reaches from its entry, and not in a trap handler alone."""
         judge = Judge(self.flexpret, self.setup, self.image, self.program, self.sources)
-        for pc, word in sorted(judge.thread(thread).whole.words.items()):
+        for pc, word in sorted(judge.thread(thread).without_traps.words.items()):
             is_apart = not function.start <= pc < function.end
             if word.comes_back and word.target == function.start and is_apart:
                 return pc
@@ -106,7 +123,9 @@ class Names:
         free = (
             pc
             for pc in range(self.setup.size - 8, -4, -4)
-            if pc not in self.image and pc + 4 not in self.image and self.setup.region("i_regions", pc) in owners
+            if pc not in self.image
+            and pc + 4 not in self.image
+            and self.setup.region("i_regions", pc) in owners
         )
         return next(free, None)
 
@@ -132,5 +151,3 @@ def toml_of(values: Mapping[str, Any]) -> str:
 
 def _is_tables(value: object) -> bool:
     return isinstance(value, list) and bool(value) and isinstance(value[0], dict)
-
-

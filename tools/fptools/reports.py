@@ -29,7 +29,9 @@ def junit(results: list[Result], name: str, fault: str | None = None) -> bytes:
     return bytes(ElementTree.tostring(suite, encoding="utf-8", xml_declaration=True)) + b"\n"
 
 
-def _case(suite: ElementTree.Element, group: str, name: str, kind: str | None, text: str) -> ElementTree.Element:
+def _case(
+    suite: ElementTree.Element, group: str, name: str, kind: str | None, text: str
+) -> ElementTree.Element:
     """Adds a case, with a fault of a kind, if it has one."""
     case = ElementTree.SubElement(suite, "testcase", {"classname": group, "name": _xml(name)})
     if kind:

@@ -70,7 +70,8 @@ def rounds_in(
     section: Section, loop: Loop, values: Values, jumps: Mapping[int, set[int]], entries: Collection[int] = ()
 ) -> int | None:
     """The most rounds of a loop of any form that ends in a comparison of a counter with a limit, if one word of each
-    round adds to the counter, and numbers set before the loop give both. Code is also entered at `entries`."""
+    round adds to the counter, and numbers set before the loop give both. Code is also entered at `entries`.
+    """
     head, (last, *more) = loop.head, loop.backs
     if more or not loop.is_interval or jumps.get(head) != {last} or head in entries:
         return None
@@ -91,9 +92,7 @@ def rounds_in(
     return _counted(state, head, body, always, back)
 
 
-def _counted(
-    state: State, head: int, body: list[Word], always: Collection[Word], back: Word
-) -> int | None:
+def _counted(state: State, head: int, body: list[Word], always: Collection[Word], back: Word) -> int | None:
     """The rounds of a loop by what registers hold where it is entered, its words, those that each round issues once, and
     the branch that goes back."""
     if back.flow is not Flow.BRANCH or back.funct3 not in (BNE, BLT, BLTU) or back.target != head:

@@ -163,7 +163,9 @@ def _loops(section: Section) -> list[Loop]:
         every = backs[head] | natural[head]
         body = _body(graph, head, natural[head])
         exits = {word for word in body if word in leaves or not set(graph[word]) <= body}
-        loops.append(Loop(head, tuple(sorted(every)), frozenset(body), frozenset(exits), every == natural[head]))
+        loops.append(
+            Loop(head, tuple(sorted(every)), frozenset(body), frozenset(exits), every == natural[head])
+        )
     return _with_inner(loops)
 
 

@@ -139,9 +139,14 @@ class ThreadCode:
     entry: int
 
     @cached_property
+    def without_traps(self) -> Reach:
+        """From the entry alone."""
+        return reach(self.code, [self.entry])
+
+    @cached_property
     def whole(self) -> Reach:
         """From the entry, and from each address that a reached word writes into mtvec."""
-        starts, found = {self.entry}, reach(self.code, [self.entry])
+        starts, found = {self.entry}, self.without_traps
         while True:
             handlers = {at for word in found.words.values() if (at := self._handler(word)) is not None}
             if handlers <= starts:
@@ -160,11 +165,11 @@ class ThreadCode:
     def jumps_anywhere(self) -> bool:
         """Whether it may jump to an address that isn't known: by a register, by MRET outside of a trap handler, or by a
         handler that goes on elsewhere than where the trap was or at the word behind it."""
-        if self.whole.pointers:
+        if self.whole.pointers or any(word.bits == MRET for word in self.without_traps.words.values()):
             return True
-        if any(word.bits == MRET for word in reach(self.code, [self.entry]).words.values()):
-            return True
-        return any(word.writes_mepc and not self.code.skips_a_word(word) for word in self.whole.words.values())
+        return any(
+            word.writes_mepc and not self.code.skips_a_word(word) for word in self.whole.words.values()
+        )
 
     def _words(self) -> list[Word]:
         """What it may issue, by address: each word of the image, where a jump may lead anywhere."""
@@ -216,7 +221,9 @@ class WayBack:
     is_meant: bool = True
 
 
-def _ways_back(handler: int, own: Reach, called: Reach, section: Section, is_meant: bool) -> Iterator[WayBack]:
+def _ways_back(
+    handler: int, own: Reach, called: Reach, section: Section, is_meant: bool
+) -> Iterator[WayBack]:
     """How a handler goes on with the code that trapped, by its own words and those of what it calls."""
     for word in called.words.values():
         if word.bits == MRET:

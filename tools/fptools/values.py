@@ -103,7 +103,11 @@ class Values:
     """The values of a function's registers. It is entered at its first word, and wherever other code leads into it."""
 
     def __init__(
-        self, words: Mapping[int, int], start: int, jumps: Mapping[int, set[int]], entries: Collection[int] = ()
+        self,
+        words: Mapping[int, int],
+        start: int,
+        jumps: Mapping[int, set[int]],
+        entries: Collection[int] = (),
     ) -> None:
         self.words = words
         self.jumps = jumps
@@ -177,7 +181,9 @@ class Values:
                 for register, value in enumerate(state)
             )
         elif word.flow is Flow.INDIRECT:
-            state = tuple(Value((pc + 1, register), 0) if register else value for register, value in enumerate(state))
+            state = tuple(
+                Value((pc + 1, register), 0) if register else value for register, value in enumerate(state)
+            )
         else:
             state = after(word, state)
         for to in self._next(word):

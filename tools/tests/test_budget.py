@@ -16,7 +16,10 @@ from fptools.setup import read_setup
 
 PID = ("examples/c/pid.toml", "--elf", "examples/c/pid.elf")
 COMES_BACK = "0x50 on_trap+0x34: MRET goes on where a trap was; 0xc0 step_begin+0xc: an EE"
-STEP_NOTE = f"fp_budget: T0 step: assumes no traps: it is of executions without a trap ({COMES_BACK})"
+NO_LINES = "without line tables (-g) nothing tells whether work was moved out of the section"
+STEP_NOTE = (
+    f"fp_budget: T0 step: assumes no traps: it is of executions without a trap ({COMES_BACK}); {NO_LINES}"
+)
 PLAIN_STEP = 'name = "step"\nthread = 0\nfrom = "step_begin"\nto = "step_end"\n'
 STEP = f'{PLAIN_STEP}assume = ["no traps"]\n'
 CALLS = "calls = true goes through functions that are called by x1"
@@ -53,11 +56,21 @@ def test_a_budget_that_holds_and_one_that_is_over(asking: Tool, tmp_path: Path) 
     [
         ("stack", "0x10", "0x14", f"0x10 to 0x100: a call leaves the section: a bound ends here; {CALLS}"),
         ("nest", "0x10", "0x18", f"0x14 to 0xc: leaves for another address: a bound ends here; {ELSEWHERE}"),
-        ("nest", "0x24", "0x30", f"status 6: refused bound 4 UnboundedBackEdge 00000024: {HELP['UnboundedBackEdge']}"),
+        (
+            "nest",
+            "0x24",
+            "0x30",
+            f"status 6: refused bound 4 UnboundedBackEdge 00000024: {HELP['UnboundedBackEdge']}",
+        ),
         ("nest", "0x40", "0x50", "0x40: no code is here: a bound ends here; is the address right?"),
         ("traps", "0x14", "0x18", "0x14: traps: a bound ends here"),
         ("traps", "0x1c", "0x20", "0x1c: no code is here: a bound ends here; is the address right?"),
-        ("traps", "0x100", "0x130", f"status 6: refused bound 2 IndirectJump 00000124: {HELP['IndirectJump']}"),
+        (
+            "traps",
+            "0x100",
+            "0x130",
+            f"status 6: refused bound 2 IndirectJump 00000124: {HELP['IndirectJump']}",
+        ),
         ("drive", "0x10", "0x2c", f"status 6: refused bound 3 TimedWait 00000028: {HELP['TimedWait']}"),
         ("drive", "0x40", "0x20", "status 3: refused section 3 Order"),
     ],
@@ -112,7 +125,7 @@ def test_calls_of_functions(asking: Tool, tmp_path: Path, calling: tuple[str, ..
     # Three cycles for each call and return, one for each of three other words.
     assert judged(asking, tmp_path, calling, f"{table}calls = true\n") == (
         0,
-        ["holds    T0 it: 15 of 1000 cycles (150 ns)"],
+        ["holds    T0 it: 15 of 1000 cycles (150 ns)", f"fp_budget: T0 it: {NO_LINES}"],
     )
 
 
@@ -333,7 +346,9 @@ def test_a_permit_is_told_beside_the_results(asking: Tool, tmp_path: Path) -> No
     table += 'assume = ["no configuration writes"]\n'
     status, lines = judged(asking, tmp_path, ("examples/slots.toml",), table)
     assert status == 0
-    assert lines[1] == "fp_budget: T0: a permit; bounds hold while no instruction writes slots, modes or regions"
+    assert (
+        lines[1] == "fp_budget: T0: a permit; bounds hold while no instruction writes slots, modes or regions"
+    )
     assert lines[2].startswith("fp_budget: T0 it: assumes no configuration writes: ")
 
 

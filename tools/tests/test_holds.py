@@ -38,7 +38,9 @@ class Case:
         ran = self.asking("fp_loops", self.elf, "--from", start, "--to", end, *SRC, *options)
         return ran.returncode, ran.stdout
 
-    def judged(self, cycles: int, more: str = "", start: str = "work_begin", end: str = "work_end") -> tuple[int, str]:
+    def judged(
+        self, cycles: int, more: str = "", start: str = "work_begin", end: str = "work_end"
+    ) -> tuple[int, str]:
         """The status of fp_budget for a section with calls, and what it writes of it."""
         budgets = self.folder / "budgets.toml"
         budgets.write_text(

@@ -25,7 +25,9 @@ class Named:
         self.asking, self.folder = asking, folder
         text = (TOP / "examples/c/pid.toml").read_text()
         self.setup = folder / "own.toml"
-        self.setup.write_text(text[: text.index("# The sum of eight")].replace("examples/c/pid", f"{folder}/own"))
+        self.setup.write_text(
+            text[: text.index("# The sum of eight")].replace("examples/c/pid", f"{folder}/own")
+        )
 
     def __call__(self, name: str, *words: str) -> subprocess.CompletedProcess[str]:
         elf = HOLDS / f"{name}.elf"
@@ -71,11 +73,11 @@ def test_a_function_with_its_loop(named: Named) -> None:
 def test_a_function_whose_loop_states_nothing(named: Named) -> None:
     status, text = named.text("one_head", "--from-label", "work_begin", "--to-label", "work_end")
     assert status == 2
-    assert "only the setup's table bounds this loop (of its 2 back edges that at " in text
+    assert "nothing bounds this loop (of its 2 back edges that at " in text
     status, text = named.text(
         "one_head", "--from-label", "work_begin", "--to-label", "work_end", "--assume", "loop tables"
     )
-    assert (status, text.endswith(": the setup has no table of this loop\n")) == (2, True)
+    assert (status, "neither the sources nor the setup bound this loop" in text) == (2, True)
 
 
 def test_a_tail_call(named: Named) -> None:
@@ -136,8 +138,14 @@ def test_the_json_document_and_the_junit_file(named: Named) -> None:
         (("x.elf", "--setup", "x.toml", "--thread", "8", "--function", "f"), "invalid choice: 8"),
         (("x.elf", "--setup", "x.toml", "--thread", "0"), "--setup needs --function, or --from-label"),
         (("x.elf", "--setup", "x.toml", "--thread", "0", "--from-label", "a"), "go together"),
-        (("x.elf", "y.toml", "--setup", "x.toml", "--thread", "0", "--function", "f"), "there are no BUDGETS"),
-        (("x.elf", "--setup", "x.toml", "--thread", "0", "--function", "f", "--cycles", "0"), "is less than 1"),
+        (
+            ("x.elf", "y.toml", "--setup", "x.toml", "--thread", "0", "--function", "f"),
+            "there are no BUDGETS",
+        ),
+        (
+            ("x.elf", "--setup", "x.toml", "--thread", "0", "--function", "f", "--cycles", "0"),
+            "is less than 1",
+        ),
     ],
 )
 def test_words_that_do_not_go_together(tool: Tool, words: tuple[str, ...], why: str) -> None:
