@@ -1,0 +1,359 @@
+"""A function of assembly as blocks of straight code, with the lines, frames and labels that a debugger needs."""
+from __future__ import annotations
+
+import re
+from dataclasses import dataclass, field, replace
+from enum import Enum, auto
+from typing import Iterable
+
+from fptools.assembly import WORD, Flow, Kind, Stays, Statement, instruction
+
+
+class Part(Enum):
+    """What an item of a block is."""
+
+    CODE = auto()  # an instruction that goes straight on
+    NOTE = auto()  # a directive or a label that nothing leads to
+    LINE = auto()  # a `.loc`
+    FRAME = auto()  # a change of the call frame
+
+
+@dataclass(frozen=True)
+class SourceLine:
+    """What a `.loc` states: file, line and column; further words; and whether a statement begins there."""
+
+    place: str
+    more: str = ""
+    is_statement: bool = True
+
+    def directive(self) -> str:
+        return f"\t.loc {self.place}{self.more} is_stmt {int(self.is_statement)}"
+
+    @property
+    def again(self) -> SourceLine:
+        """The same line for code that follows later."""
+        return replace(self, more="")
+
+
+@dataclass(frozen=True)
+class Frame:
+    """The rules by which a debugger finds the caller's registers: the frame's address, and where each register is."""
+
+    base: str = "2"
+    offset: int = 0
+    saved: tuple[tuple[str, str], ...] = ()
+
+    def changed_from(self, before: Frame) -> list[str]:
+        """The directives that lead from other rules to these."""
+        lines = []
+        if self.base != before.base:
+            lines.append(f"\t.cfi_def_cfa {self.base}, {self.offset}")
+        elif self.offset != before.offset:
+            lines.append(f"\t.cfi_def_cfa_offset {self.offset}")
+        mine, others = dict(self.saved), dict(before.saved)
+        lines += [f"\t.cfi_restore {register}" for register in others if register not in mine]
+        return lines + [f"\t.cfi_offset {it}, {at}" for it, at in mine.items() if others.get(it) != at]
+
+
+@dataclass(frozen=True)
+class Item:
+    """A piece of a block, with the line of the assembly where it is."""
+
+    part: Part
+    text: str
+    line: int
+    by_hand: bool = False
+    size: int = 0
+    source: SourceLine | None = None
+    frame: Frame | None = None
+
+
+@dataclass(frozen=True)
+class Branch:
+    """A conditional branch to a block: its mnemonic, and its operands before the label, with their comma."""
+
+    name: str
+    compared: str
+    to: int
+
+
+@dataclass
+class Block:
+    """Straight code, with what is true where it begins: source line and frame."""
+
+    line: int = 0
+    labels: list[str] = field(default_factory=list)
+    marks: set[str] = field(default_factory=set)  # those of the labels that are the source's own
+    declared: list[Item] = field(default_factory=list)  # what the source states of these
+    items: list[Item] = field(default_factory=list)
+    branch: Branch | None = None
+    onward: int | None = None  # the block that follows, unless the branch is taken
+    stop: Item | None = None  # a return or a trap
+    ends: list[Item] = field(default_factory=list)  # labels of a debugger behind the last instruction
+    has_jump: bool = False  # the block goes on by a jump
+    source: SourceLine | None = None
+    frame: Frame | None = None
+
+    @property
+    def is_open(self) -> bool:
+        """Whether control would run out of the function here: a call that doesn't come back, for the most part."""
+        return self.onward is None and self.stop is None
+
+    @property
+    def size(self) -> int:
+        """The most bytes of its straight code."""
+        return sum(item.size for item in self.items)
+
+    @property
+    def code(self) -> list[Item]:
+        return [item for item in self.items if item.part is Part.CODE]
+
+    @property
+    def next_blocks(self) -> list[int]:
+        """Where control goes on: the branch's target, and the block that follows."""
+        branch = [self.branch.to] if self.branch else []
+        return branch + ([self.onward] if self.onward is not None and self.onward not in branch else [])
+
+    def lead_to(self, changed: dict[int, int]) -> None:
+        """Goes on at other blocks."""
+        if self.branch:
+            self.branch = replace(self.branch, to=changed.get(self.branch.to, self.branch.to))
+        if self.onward is not None:
+            self.onward = changed.get(self.onward, self.onward)
+
+    def copied(self) -> Block:
+        """The same code once more, without labels, and without a debugger's."""
+        items = [replace(it, source=it.source and _bare(it.source)) for it in self.items if it.part is not Part.NOTE]
+        return replace(self, labels=[], marks=set(), declared=[], items=items, ends=[])
+
+
+def _bare(source: SourceLine) -> SourceLine:
+    return replace(source, more=re.sub(r"\s*\bview\s+\S+", "", source.more))
+
+
+KEPT_IN_ASM = (".globl", ".global")
+HARMLESS = (".loc", ".file", ".cfi_", ".align", ".p2align", ".balign", ".globl", ".global", ".local", ".weak", ".hidden")
+SECTION = (".section", ".text", ".data", ".bss", ".pushsection", ".popsection", ".previous", ".subsection")
+RANGE_END = re.compile(r"\.L(BE|FE|BBE)\d*$")
+"""Labels that a debugger takes as the end of what is before them."""
+
+SWITCH = "; -fno-jump-tables compiles a switch without a table"
+PARTS = "its code is in two sections: -fno-reorder-blocks-and-partition keeps it in one"
+SIBLING = "another function returns for it: -fno-optimize-sibling-calls keeps a last call a call"
+
+
+class Reader:
+    """Makes blocks of a function's statements; raises Stays where control can't be known."""
+
+    def __init__(self, statements: Iterable[Statement], is_statement: bool) -> None:
+        self.statements = list(statements)
+        self.is_statement = is_statement
+        self.targets = {target for it in self.statements for target in _leads_to(it)}
+        self.blocks = [Block(self.statements[0].line if self.statements else 0)]
+        self.pending: list[Item] = []
+        self.jumps: dict[int, tuple[int, str]] = {}  # of a block: the line and label of its jump
+        self.branches: dict[int, tuple[int, str]] = {}
+        self.is_ended = False
+        self.source: SourceLine | None = None
+        self.frame = Frame()
+        self.frames: list[Frame] = []  # that are remembered
+        self.lost_frame = ""  # a directive of a frame that isn't known
+        for statement in self.statements:
+            self._take(statement)
+
+    @property
+    def block(self) -> Block:
+        return self.blocks[-1]
+
+    def _take(self, it: Statement) -> None:
+        if it.kind is Kind.LABEL:
+            self._label(it)
+        elif it.kind is Kind.DIRECTIVE:
+            self._directive(it)
+        elif it.by_hand:
+            self._asm(it)
+        else:
+            self._code(it)
+
+    def _begin(self, line: int) -> None:
+        """Begins a block, which gets what is pending."""
+        self.blocks.append(Block(line, source=self.source, frame=self.frame))
+        self.is_ended = False
+
+    def _settle(self, line: int) -> None:
+        """Gives the block what is pending, before an instruction."""
+        if self.is_ended:
+            self._begin(line)
+        if not self.block.code:
+            self.block.source, self.block.frame = self.source, self.frame
+            self.block.line = line
+        is_first = not self.block.code
+        self.block.items += [it for it in self.pending if not (is_first and it.part is Part.FRAME)]
+        self.pending = []
+
+    def _label(self, it: Statement) -> None:
+        is_mark = not it.name.startswith(".L")
+        if it.by_hand and (not is_mark or it.name.isdigit()):
+            raise Stays(it.line, f"an asm has the label `{it.name}`, to which it may jump")
+        if it.name in self.targets or is_mark:
+            has_code = bool(self.block.code) or self.is_ended
+            if has_code or self.block.marks and not is_mark:
+                self._begin(it.line)
+            self.block.labels.append(it.name)
+            if is_mark:
+                self.block.marks.add(it.name)
+                self.block.declared += [note for note in self.pending if note.by_hand]
+                self.pending = [note for note in self.pending if not note.by_hand]
+            return
+        note = Item(Part.NOTE, it.text, it.line, it.by_hand)
+        if RANGE_END.match(it.name) and self.is_ended:
+            self.block.ends.append(note)
+        elif RANGE_END.match(it.name) or self._is_behind_call:
+            self.block.items += [*self.pending, note]
+            self.pending = []
+        else:
+            self.pending.append(note)
+
+    @property
+    def _is_behind_call(self) -> bool:
+        """Whether the last that was taken is a call: then a label is where it returns to."""
+        last = self.block.items[-1:]
+        return bool(last) and not self.pending and not self.is_ended and last[0].text.split()[0] in ("call", "jal", "jalr")
+
+    def _directive(self, it: Statement) -> None:
+        if it.by_hand and not it.name.startswith(KEPT_IN_ASM):
+            raise Stays(it.line, f"an asm has `{it.name} {it.rest}`")
+        if it.name == ".loc":
+            self._line(it)
+        elif it.name.startswith(".cfi_"):
+            self._frame(it)
+        elif it.name in SECTION:
+            raise Stays(it.line, PARTS)
+        elif not it.name.startswith(HARMLESS):
+            raise Stays(it.line, f"`{it.text.strip()}` is among its code")
+        elif "align" not in it.name:
+            self.pending.append(Item(Part.NOTE, it.text, it.line, it.by_hand))
+
+    def _line(self, it: Statement) -> None:
+        words = it.rest.split()
+        numbers = [word for word in words[:3] if word.isdigit()]
+        more = words[len(numbers) :]
+        if "is_stmt" in more:
+            at = more.index("is_stmt")
+            self.is_statement = more[at + 1 : at + 2] == ["1"]
+            del more[at : at + 2]
+        if "view" in more and not more[more.index("view") + 1].startswith("."):
+            at = more.index("view")
+            del more[at : at + 2]
+        here = SourceLine(" ".join(numbers), "".join(f" {word}" for word in more), self.is_statement)
+        self.source = here.again
+        self.pending.append(Item(Part.LINE, "", it.line, source=here))
+
+    def _frame(self, it: Statement) -> None:
+        words = [word.strip() for word in it.rest.split(",")]
+        saved = dict(self.frame.saved)
+        if it.name == ".cfi_def_cfa":
+            self.frame = replace(self.frame, base=words[0], offset=int(words[1], 0))
+        elif it.name == ".cfi_def_cfa_offset":
+            self.frame = replace(self.frame, offset=int(words[0], 0))
+        elif it.name == ".cfi_adjust_cfa_offset":
+            self.frame = replace(self.frame, offset=self.frame.offset + int(words[0], 0))
+        elif it.name == ".cfi_def_cfa_register":
+            self.frame = replace(self.frame, base=words[0])
+        elif it.name in (".cfi_offset", ".cfi_restore"):
+            saved.pop(words[0], "")
+            self.frame = replace(self.frame, saved=(*saved.items(), *([(words[0], words[1])] if words[1:] else [])))
+        elif it.name == ".cfi_remember_state":
+            self.frames.append(self.frame)
+        elif it.name == ".cfi_restore_state" and self.frames:
+            self.frame = self.frames.pop()
+        else:
+            if it.name not in (".cfi_startproc", ".cfi_endproc", ".cfi_sections"):
+                self.lost_frame = self.lost_frame or f"{it.name} {it.rest}".strip()
+            self.pending.append(Item(Part.NOTE, it.text, it.line))
+            return
+        self.pending.append(Item(Part.FRAME, "", it.line, frame=self.frame))
+
+    def _asm(self, it: Statement) -> None:
+        made = instruction(it.line, it.name, it.rest)
+        if made.flow not in (Flow.ON, Flow.CALL) and it.name != "ebreak" or ".L" in it.rest:
+            raise Stays(it.line, f"an asm has a jump: `{it.name} {it.rest}`".rstrip())
+        self._settle(it.line)
+        self.block.items.append(Item(Part.CODE, it.text, it.line, True, made.size))
+
+    def _code(self, it: Statement) -> None:
+        made = instruction(it.line, it.name, it.rest)
+        if made.flow is Flow.INDIRECT:
+            raise Stays(it.line, f"`{it.name} {it.rest}` jumps to an address in a register{SWITCH}")
+        if made.flow is Flow.TAIL:
+            raise Stays(it.line, f"`{it.name} {it.rest}`: {SIBLING}")
+        self._settle(it.line)
+        block = self.block
+        if made.flow in (Flow.ON, Flow.CALL):
+            text = f"\tjal\t{made.target.removesuffix('@plt')}" if made.target and it.name == "call" else it.text
+            block.items.append(Item(Part.CODE, text, it.line, size=WORD if made.target else made.size))
+            return
+        self.is_ended = True
+        if made.flow is Flow.BRANCH:
+            block.branch = Branch(it.name, made.compared, -1)
+            self.branches[len(self.blocks) - 1] = it.line, made.target
+        elif made.flow is Flow.JUMP:
+            self.jumps[len(self.blocks) - 1] = it.line, made.target
+            block.has_jump = True
+        else:
+            block.stop = Item(Part.CODE, it.text, it.line, size=made.size)
+
+
+def _leads_to(it: Statement) -> list[str]:
+    """The label that a branch or jump leads to."""
+    if it.kind is not Kind.CODE or it.by_hand:
+        return []
+    try:
+        made = instruction(it.line, it.name, it.rest)
+    except Stays:
+        return []
+    return [made.target] if made.flow in (Flow.BRANCH, Flow.JUMP) else []
+
+
+@dataclass
+class Body:
+    """The blocks of a function, of which the first is where it begins, and what stands behind the last."""
+
+    blocks: list[Block]
+    behind: list[Item]
+    source: SourceLine | None  # at the end
+    lost_frame: str
+
+
+def body_of(statements: Iterable[Statement], is_statement: bool = True) -> Body:
+    """The blocks of a function's statements, before which a flag of the line table was; raises Stays."""
+    reader = Reader(statements, is_statement)
+    blocks = reader.blocks
+    at = {label: index for index, block in enumerate(blocks) for label in block.labels}
+    for index, (line, label) in [*reader.branches.items(), *reader.jumps.items()]:
+        if label not in at:
+            raise Stays(line, f"a jump to `{label}`, which isn't in it" + ("" if label.startswith(".L") else f": {SIBLING}"))
+    for index, (_, label) in reader.branches.items():
+        branch = blocks[index].branch
+        assert branch
+        blocks[index].branch = replace(branch, to=at[label])
+    for index, block in enumerate(blocks):
+        if index in reader.jumps:
+            block.onward = at[reader.jumps[index][1]]
+        elif block.stop is None and index + 1 < len(blocks):
+            block.onward = index + 1
+    behind = [it for it in reader.pending if it.part is not Part.FRAME]
+    return Body(_with_entry(blocks), behind, reader.source, reader.lost_frame)
+
+
+def _with_entry(blocks: list[Block]) -> list[Block]:
+    """The blocks, with an empty one before the first where something leads back to that."""
+    if not any(0 in block.next_blocks for block in blocks):
+        return blocks
+    for block in blocks:
+        block.lead_to({k: k + 1 for k in range(len(blocks))})
+    first = blocks[0]
+    code = next((k for k, it in enumerate(first.items) if it.part is Part.CODE), len(first.items))
+    entry = Block(first.line, items=first.items[:code], onward=1, frame=Frame())
+    first.items = first.items[code:]
+    return [entry, *blocks]

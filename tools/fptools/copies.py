@@ -1,0 +1,153 @@
+"""Copies of blocks: of those by which a loop is entered at a second place, and of a loop's test at its end."""
+from __future__ import annotations
+
+from collections.abc import Iterable, Iterator
+from dataclasses import dataclass
+
+import networkx
+
+from fptools.assembly import Stays
+from fptools.blocks import Block, Item, Part
+from fptools.regions import Flows, Loop, Nest
+
+MOST_BACK_EDGES = 2
+"""A loop's test is copied to so many ends of it at most."""
+
+
+def split_entries(blocks: list[Block], most: int) -> bool:
+    """Copies blocks until each loop is entered at one block, with at most so many instructions in the copies; raises
+    Stays. Whether any were copied."""
+    left, is_changed = most, False
+    while found := _second_entry(Flows(blocks)):
+        entry, inside, behind = found
+        is_changed = True
+        left -= sum(_length(blocks[index]) for index in behind)
+        line = blocks[entry].line
+        if any(blocks[index].marks for index in behind):
+            raise Stays(line, "a loop is entered at two places, and a mark is behind one of them")
+        if left < 0:
+            raise Stays(line, f"a loop is entered at two places, and copies of {most} instructions don't end that")
+        _copy(blocks, entry, inside, behind)
+    return is_changed
+
+
+def _length(block: Block) -> int:
+    """Its instructions, with those that lead on."""
+    return len(block.code) + 2
+
+
+def _second_entry(flows: Flows) -> tuple[int, set[int], list[int]] | None:
+    """A block by which a loop is entered beside its head, the loop's blocks, and those to which it leads before the
+    head; None where each loop has one entry."""
+    graph = networkx.DiGraph(flows.edges())
+    ahead = [graph]
+    while ahead:
+        part = ahead.pop()
+        for inside in sorted(networkx.strongly_connected_components(part), key=min):
+            if len(inside) > 1:
+                entries = [it for it in sorted(inside) if not set(flows.before[it]) <= inside]
+                head, *others = _by_cost(part, inside, entries)
+                if others:
+                    return others[0], inside, sorted(_before_head(part, inside, others[0], head))
+                ahead.append(part.subgraph(inside - {head}))
+    return None
+
+
+def _by_cost(part: networkx.DiGraph, inside: set[int], entries: list[int]) -> list[int]:
+    """The entries of a loop, first the one as whose head the least is copied."""
+    if len(entries) == 1:
+        return entries
+
+    def cost(head: int) -> int:
+        return sum(len(_before_head(part, inside, it, head)) for it in entries if it != head)
+
+    head = min(entries, key=cost)
+    return [head, *(it for it in entries if it != head)]
+
+
+def _before_head(part: networkx.DiGraph, inside: set[int], entry: int, head: int) -> set[int]:
+    """The blocks of a loop to which an entry leads before a head."""
+    return {entry, *networkx.descendants(part.subgraph(inside - {head}), entry)}
+
+
+def _copy(blocks: list[Block], entry: int, inside: set[int], behind: list[int]) -> None:
+    """Copies blocks for what enters a loop at one of them from outside."""
+    flows = Flows(blocks)
+    copies = {index: len(blocks) + k for k, index in enumerate(behind)}
+    blocks += [blocks[index].copied() for index in behind]
+    for index in copies.values():
+        blocks[index].lead_to(copies)
+    for index in flows.before[entry]:
+        if index not in inside:
+            blocks[index].lead_to({entry: copies[entry]})
+
+
+@dataclass(frozen=True)
+class Test:
+    """A loop's test at its head: the blocks that go back to it, the block inside that follows it, and the one outside."""
+
+    head: int
+    ends: tuple[int, ...]
+    inside: int
+    outside: int
+
+    @property
+    def touched(self) -> set[int]:
+        return {self.head, *self.ends, self.inside, self.outside}
+
+
+def rotate(blocks: list[Block], most: int) -> bool:
+    """Puts copies of a loop's test where the loop goes back by a jump, if the test has at most so many instructions
+    before its branch. Whether it did."""
+    is_changed = False
+    while tests := _apart(_tests(blocks, most)):
+        is_changed = True
+        for test in tests:
+            for index in test.ends:
+                _append_test(blocks[index], blocks[test.head])
+    return is_changed
+
+
+def _apart(tests: Iterable[Test]) -> list[Test]:
+    """Those of which none changes what another looks at."""
+    found: list[Test] = []
+    touched: set[int] = set()
+    for test in tests:
+        if not touched & test.touched:
+            found.append(test)
+            touched |= test.touched
+    return found
+
+
+def _tests(blocks: list[Block], most: int) -> Iterator[Test]:
+    flows = Flows(blocks)
+    nest = Nest(flows)
+    for loop in nest.loops.values():
+        head, (inside, outside) = blocks[loop.head], _sides(flows, loop)
+        ends = [index for index in flows.before[loop.head] if index in loop.blocks]
+        is_short = len(head.code) <= most and not head.marks
+        goes_back_by_jump = len(ends) <= MOST_BACK_EDGES and not any(blocks[it].branch for it in ends)
+        if inside is not None and outside is not None and is_short and goes_back_by_jump:
+            if flows.before[inside] == [loop.head]:
+                yield Test(loop.head, tuple(ends), inside, outside)
+
+
+def _sides(flows: Flows, loop: Loop) -> tuple[int | None, int | None]:
+    """The blocks inside and outside of a loop that its head leads to, if it is one each."""
+    onward = flows.next_blocks[loop.head]
+    inside = [it for it in onward if it in loop.blocks]
+    outside = [it for it in onward if it not in loop.blocks]
+    if len(inside) == len(outside) == 1 and inside[0] != loop.head:
+        return inside[0], outside[0]
+    return None, None
+
+
+def _append_test(end: Block, head: Block) -> None:
+    """Goes on with a copy of a loop's test where a block goes back to it."""
+    copy = head.copied()
+    if copy.source:
+        end.items.append(Item(Part.LINE, "", head.line, source=copy.source))
+    if copy.frame:
+        end.items.append(Item(Part.FRAME, "", head.line, frame=copy.frame))
+    end.items += copy.items
+    end.branch, end.onward, end.has_jump = copy.branch, copy.onward, False

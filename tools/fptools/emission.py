@@ -1,0 +1,188 @@
+"""Writes blocks in an order as assembly: branches inverted, jumps added and left out, and what a debugger needs."""
+from __future__ import annotations
+
+from collections.abc import Iterator, Sequence
+from dataclasses import dataclass, field
+
+from fptools.assembly import APP, INVERSE, NO_APP, WORD
+from fptools.blocks import Block, Body, Branch, Frame, Item, Part, SourceLine
+
+BRANCH_REACH = 4094
+"""A branch leads at most so many bytes onward, and two more back."""
+
+
+@dataclass
+class Names:
+    """The labels of a file, and new ones for blocks that need one."""
+
+    taken: set[str]
+    count: int = 0
+
+    def of(self, block: Block) -> str:
+        if not block.labels:
+            block.labels.append(self.new())
+        return block.labels[0]
+
+    def new(self) -> str:
+        while True:
+            self.count += 1
+            name = f".Lfp{self.count}"
+            if name not in self.taken:
+                self.taken.add(name)
+                return name
+
+
+@dataclass
+class End:
+    """How a block ends: a branch to a block, which may be far, a jump to one, and a trap where control would run out."""
+
+    branch: Branch | None = None
+    jump: int | None = None
+    is_far: bool = False
+    traps: bool = False
+
+    @property
+    def size(self) -> int:
+        branch = (2 if self.is_far else 1) if self.branch else 0
+        return WORD * (branch + (self.jump is not None) + self.traps)
+
+
+def end_of(block: Block, following: int | None) -> End:
+    """How a block ends before another one."""
+    branch, onward = block.branch, block.onward
+    if branch and onward is not None and branch.to == following != onward:
+        return End(Branch(INVERSE[branch.name], branch.compared, onward))
+    return End(branch, None if onward == following else onward, traps=block.is_open)
+
+
+def as_compiled(blocks: Sequence[Block]) -> list[End]:
+    """How blocks end as they are."""
+    return [End(it.branch, it.onward if it.has_jump else None) for it in blocks]
+
+
+def mark_far(blocks: Sequence[Block], order: Sequence[int], ends: Sequence[End]) -> bool:
+    """Notes which branches of an order may lead further than a branch can. Whether there are any."""
+    is_changed = True
+    while is_changed:
+        is_changed = False
+        starts, places, at = {}, [], 0
+        for index, end in zip(order, ends):
+            block = blocks[index]
+            starts[index] = at
+            at += block.size + (block.stop.size if block.stop else 0)
+            places.append(at)
+            at += end.size
+        for place, end in zip(places, ends):
+            if end.branch and not end.is_far and abs(starts[end.branch.to] - place) > BRANCH_REACH - WORD:
+                end.is_far = is_changed = True
+    return any(end.is_far for end in ends)
+
+
+@dataclass
+class Writer:
+    """The lines of a function's body."""
+
+    body: Body
+    names: Names
+    is_statement: bool  # the flag of the line table before the function
+    lines: list[str] = field(default_factory=list)
+    source: SourceLine | None = None
+    frame: Frame = Frame()
+    by_hand: bool = False
+
+    def write(self, order: Sequence[int], ends: Sequence[End]) -> list[str]:
+        blocks = self.body.blocks
+        labels = {index: self.names.of(blocks[index]) for end in ends for index in self._named(end)}
+        for index, end in zip(order, ends):
+            self._block(blocks[index])
+            self._end(end, labels)
+            for item in blocks[index].ends:
+                self._put(item.text, item.by_hand)
+        for item in self.body.behind:
+            if item.part is Part.NOTE:
+                self._put(item.text, item.by_hand)
+        self._put_line_flag()
+        self._asm(False)
+        return self.lines
+
+    @staticmethod
+    def _named(end: End) -> list[int]:
+        """The blocks whose label an end needs."""
+        return ([end.branch.to] if end.branch else []) + ([end.jump] if end.jump is not None else [])
+
+    def _put(self, text: str, by_hand: bool = False) -> None:
+        self._asm(by_hand)
+        self.lines.append(text)
+
+    def _asm(self, by_hand: bool) -> None:
+        """Begins or ends what is of an asm of the source."""
+        if by_hand != self.by_hand:
+            self.lines.append(APP if by_hand else NO_APP)
+            self.by_hand = by_hand
+
+    def _block(self, block: Block) -> None:
+        for item in block.declared:
+            self._put(item.text, item.by_hand)
+        for label in block.labels:
+            self._put(f"{label}:", label in block.marks)
+        if block.frame:
+            self._to_frame(block.frame)
+        is_stated = self._states_line(block)
+        if block.source and not is_stated and self.source != block.source:
+            self._to_line(block.source)
+        for item in block.items:
+            self._item(item)
+        if block.stop:
+            self._put(block.stop.text)
+
+    @staticmethod
+    def _states_line(block: Block) -> bool:
+        """Whether it states the line of its first instruction itself."""
+        for item in block.items:
+            if item.part in (Part.CODE, Part.LINE):
+                return item.part is Part.LINE
+        return False
+
+    def _item(self, item: Item) -> None:
+        if item.part is Part.LINE and item.source:
+            self._to_line(item.source)
+        elif item.part is Part.FRAME and item.frame:
+            self._to_frame(item.frame)
+        else:
+            self._put(item.text, item.by_hand)
+
+    def _to_line(self, source: SourceLine) -> None:
+        self._put(source.directive())
+        self.source = source.again
+        self.is_statement = source.is_statement
+
+    def _to_frame(self, frame: Frame) -> None:
+        if not self.body.lost_frame:
+            for line in frame.changed_from(self.frame):
+                self._put(line)
+        self.frame = frame
+
+    def _put_line_flag(self) -> None:
+        """Leaves the flag of the line table as the compiler does, which what follows goes on from."""
+        source = self.body.source
+        if source and source.is_statement != self.is_statement:
+            self._to_line(source)
+
+    def _end(self, end: End, labels: dict[int, str]) -> None:
+        branch = end.branch
+        if branch and end.is_far:
+            over = self.names.new()
+            self._put(f"\t{INVERSE[branch.name]}\t{branch.compared}{over}")
+            self._put(f"\tj\t{labels[branch.to]}")
+            self._put(f"{over}:")
+        elif branch:
+            self._put(f"\t{branch.name}\t{branch.compared}{labels[branch.to]}")
+        if end.jump is not None:
+            self._put(f"\tj\t{labels[end.jump]}")
+        if end.traps:
+            self._put("\tebreak")
+
+
+def instructions(blocks: Sequence[Block]) -> Iterator[Item]:
+    """The straight code of blocks."""
+    return (item for block in blocks for item in block.code)

@@ -1,0 +1,303 @@
+"""Puts the blocks of compiled functions into an order in which each loop is an interval that begins with its head, and
+each section between two marks holds all that is reached from the one before the other."""
+from __future__ import annotations
+
+import re
+from collections.abc import Sequence
+from dataclasses import dataclass, field
+
+from fptools.assembly import Assembly, Fault, Function, Kind, Statement, Stays, statements
+from fptools.blocks import Body, body_of
+from fptools.copies import rotate, split_entries
+from fptools.emission import Names, Writer, as_compiled, end_of, mark_far
+from fptools.regions import MOST_AROUND, Flows, Irreducible, Loop, Nest, NoOrder, Order, Section
+from fptools.same_flow import do_the_same
+
+MOST_COPIES = 400
+"""Copies for a loop that is entered at several places have so many instructions at most, if nothing else is asked."""
+
+MOST_BYTES = 1 << 20
+"""A jump doesn't reach further."""
+
+PARTNERS = (("begin", "end"), ("start", "end"), ("start", "stop"), ("from", "to"), ("first", "last"), ("enter", "leave"))
+"""Words in the names of two marks, by which they are those of one section."""
+
+
+@dataclass(frozen=True)
+class Message:
+    """What is to be said of a line of the assembly; of line 0 where it is of the whole file."""
+
+    line: int
+    text: str
+
+
+@dataclass(frozen=True)
+class Marks:
+    """The marks of a section, by their names; those that are only guessed are let go where they don't fit."""
+
+    first: str
+    end: str
+    is_guess: bool = False
+
+    def __str__(self) -> str:
+        return f"{self.first}:{self.end}"
+
+
+@dataclass(frozen=True)
+class Options:
+    """What is asked of the layout."""
+
+    sections: tuple[Marks, ...] = ()
+    rotate: int = 0  # the most instructions of a test that is copied to its loop's end
+    most_copies: int = MOST_COPIES
+
+
+@dataclass
+class Laid:
+    """The assembly in the new order, the functions that stay as they are, and what else is worth to be known."""
+
+    text: str = ""
+    kept: list[Message] = field(default_factory=list)
+    notes: list[Message] = field(default_factory=list)
+
+
+def lay_out(assembly: Assembly, options: Options = Options()) -> Laid:
+    """Lays out all functions; raises Fault."""
+    return _Layout(assembly, options).run()
+
+
+def partner(mark: str, marks: Sequence[str]) -> str | None:
+    """The mark of the end for one of a beginning, by their names."""
+    for begin, end in PARTNERS:
+        for name in _with_word(mark, begin, end):
+            if name in marks:
+                return name
+    return None
+
+
+def _with_word(mark: str, begin: str, end: str) -> list[str]:
+    """A mark's name with one word in the place of another."""
+    words = re.split(r"(_)", mark)
+    return ["".join([*words[:k], end, *words[k + 1 :]]) for k, word in enumerate(words) if word == begin]
+
+
+@dataclass
+class _Layout:
+    assembly: Assembly
+    options: Options
+    laid: Laid = field(default_factory=Laid)
+
+    def __post_init__(self) -> None:
+        self.names = Names(self.assembly.labels)
+        self.of_function = {
+            it.name: list(statements(self.assembly.body(it), it.first + 2)) for it in self.assembly.functions
+        }
+        self.places = {
+            it.name: (function, it.line) for function, own in self.of_function.items() for it in own if _is_mark(it)
+        }
+        self.flags = self._line_flags()
+
+    def _line_flags(self) -> dict[str, bool]:
+        """For each function the flag `is_stmt` of the line table before it."""
+        flags, first, flag = {}, 0, True
+        for function in self.assembly.functions:
+            for line in self.assembly.lines[first : function.first]:
+                if "is_stmt" in line and (found := re.match(r"\s*\.loc\b.*\bis_stmt\s+([01])", line)):
+                    flag = found[1] == "1"
+            flags[function.name], first = flag, function.first
+        return flags
+
+    def run(self) -> Laid:
+        sections = self._sections()
+        out, done = [], 0
+        for function in self.assembly.functions:
+            out += self.assembly.lines[done : function.first + 1]
+            done = function.end
+            try:
+                out += self._function(function, sections.get(function.name, []))
+            except Stays as why:
+                self.laid.kept.append(Message(why.line, f"{function.name} stays as it is: {why.why}"))
+                out += self.assembly.body(function)
+        self.laid.text = "\n".join(out + self.assembly.lines[done:])
+        return self.laid
+
+    # ------------------------------------------------------------ sections
+
+    def _sections(self) -> dict[str, list[Marks]]:
+        """The sections of each function, by their marks; raises Fault for marks that are none, or of two functions."""
+        found = list(self.options.sections)
+        for mark in sorted(self.places):
+            end = partner(mark, list(self.places))
+            if end and mark not in {it.first for it in found}:
+                found.append(Marks(mark, end))
+        by_function: dict[str, list[Marks]] = {}
+        for marks in found:
+            for mark in (marks.first, marks.end):
+                if mark not in self.places:
+                    raise Fault(0, f"section {marks}: no asm of a function has the label `{mark}`")
+            (first, line), (end, _) = self.places[marks.first], self.places[marks.end]
+            if first != end:
+                raise Fault(line, f"section {marks} begins in {first} and ends in {end}")
+            by_function.setdefault(first, []).append(marks)
+        return by_function
+
+    def _with_guesses(self, body: Body, flows: Flows, marks: list[Marks]) -> list[Marks]:
+        """The sections, with one from each mark that has no partner to the one that every path from it meets next."""
+        at = {label: index for index, block in enumerate(body.blocks) for label in block.marks}
+        paired = {it.first for it in marks} | {it.end for it in marks}
+        guesses = []
+        for mark in sorted(at.keys() - paired):
+            others = {at[it] for it in at if it != mark} - {at[mark]}
+            blocks = flows.reach(at[mark], others)
+            met = {to for index in blocks for to in flows.next_blocks[index] if to in others}
+            if len(met) == 1:
+                guesses.append(Marks(mark, sorted(body.blocks[met.pop()].marks)[0], True))
+        return marks + guesses
+
+    def _section(self, nest: Nest, body: Body, marks: Marks) -> Section | None:
+        """The blocks of a section; raises Fault where its marks cross a loop, None for a guess that does."""
+        at = {label: index for index, block in enumerate(body.blocks) for label in block.marks}
+        first, end = at[marks.first], at[marks.end]
+        if not {first, end} <= nest.flows.reached or first == end:
+            return None
+        section = nest.flows.section(first, end)
+        why = self._crossing(nest, body, section)
+        if why and not marks.is_guess:
+            raise Fault(self.places[marks.first][1], f"section {marks} {why}")
+        return None if why else section
+
+    def _crossing(self, nest: Nest, body: Body, section: Section) -> str:
+        """Why no order of blocks has a section between its marks; empty where one may have."""
+        if not any(section.end in nest.flows.next_blocks[index] for index in section.blocks):
+            return "never reaches its end"
+        begins_in, ends_in = nest.around(section.first), nest.around(section.end)
+        for loop in begins_in:
+            if loop not in ends_in:
+                return f"crosses a loop: it begins inside and ends outside of {self._place(body, loop)}"
+            if section.end == loop.head:
+                return f"crosses a loop: it ends at the head of {self._place(body, loop)}, inside which it begins"
+            if any(loop.head in nest.flows.next_blocks[index] for index in section.blocks):
+                return f"crosses a loop: {self._place(body, loop)} goes round without passing its end"
+        for loop in ends_in:
+            if loop not in begins_in and section.end != loop.head:
+                return f"crosses a loop: it begins outside and ends inside of {self._place(body, loop)}"
+        return ""
+
+    def _place(self, body: Body, loop: Loop) -> str:
+        """Where a loop is, by the line of the assembly and of the source."""
+        line = body.blocks[loop.head].line
+        source = self.assembly.source_of(line)
+        return f"the loop at line {line}" + (f" ({source})" if source else "")
+
+    # ------------------------------------------------------------ functions
+
+    def _function(self, function: Function, marks: list[Marks]) -> list[str]:
+        """The lines of a function's body in the new order."""
+        own = self.of_function[function.name]
+        flag = self.flags[function.name]
+        compiled, body = body_of(own, flag), body_of(own, flag)
+        if not any(block.code or block.stop for block in body.blocks):
+            return self.assembly.body(function)
+        is_copied = split_entries(body.blocks, self.options.most_copies)
+        if self.options.rotate:
+            is_copied = rotate(body.blocks, self.options.rotate) or is_copied
+        nest = self._nest(body)
+        self._note_depth(function, body, nest)
+        found = [(it, self._section(nest, body, it)) for it in self._with_guesses(body, nest.flows, marks)]
+        sections = [(it, section) for it, section in found if section]
+        if not is_copied and self._is_done(body, nest, [section for _, section in sections]):
+            return self._with_direct_calls(function, body)
+        order = self._order(function, body, nest, sections)
+        return self._written(function, compiled, body, order)
+
+    @staticmethod
+    def _nest(body: Body) -> Nest:
+        try:
+            return Nest(Flows(body.blocks))
+        except Irreducible:
+            raise AssertionError("a loop is entered at two places, after copies") from None
+
+    def _note_depth(self, function: Function, body: Body, nest: Nest) -> None:
+        for loop in nest.loops.values():
+            if loop.depth == MOST_AROUND + 1:
+                text = f"{self._place(body, loop)} lies in {loop.depth} others, and a bound takes {MOST_AROUND}"
+                self.laid.notes.append(Message(body.blocks[loop.head].line, f"{function.name}: {text}"))
+
+    @staticmethod
+    def _is_done(body: Body, nest: Nest, sections: list[Section]) -> bool:
+        """Whether the compiler's order is right, each branch is near, and control never runs out."""
+        blocks = body.blocks
+        runs_out = any(blocks[index].is_open for index in nest.flows.reached)
+        far = mark_far(blocks, range(len(blocks)), as_compiled(blocks))
+        return nest.is_in_order(sections) and not runs_out and not far
+
+    def _with_direct_calls(self, function: Function, body: Body) -> list[str]:
+        """The function as it was compiled, with calls that are a single word."""
+        lines = self.assembly.body(function)
+        for block in body.blocks:
+            for item in block.code:
+                if not item.by_hand and item.text.startswith("\tjal\t"):
+                    lines[item.line - function.first - 2] = item.text
+        return lines
+
+    def _order(
+        self, function: Function, body: Body, nest: Nest, sections: list[tuple[Marks, Section]]
+    ) -> list[int]:
+        """The order of the blocks; raises Fault. Guessed sections are let go, and then paths that never reach the end of
+        their section, where there is no other order."""
+        sure = [(marks, section) for marks, section in sections if not marks.is_guess]
+        inside = [(marks, _that_end(nest, section)) for marks, section in sure]
+        for wanted in (sections, sure, inside):
+            try:
+                order = Order(nest, [section for _, section in wanted]).made()
+            except NoOrder:
+                continue
+            if wanted is inside and inside != sure:
+                self._say_left(function, sure, inside)
+            return order + [index for index in range(len(body.blocks)) if index not in nest.flows.reached]
+        names = " and ".join(str(marks) for marks, _ in sure)
+        raise Fault(self.places[sure[0][0].first][1], f"no order of blocks has the code of {names} between the marks")
+
+    def _say_left(
+        self, function: Function, sure: list[tuple[Marks, Section]], inside: list[tuple[Marks, Section]]
+    ) -> None:
+        for (marks, section), (_, other) in zip(sure, inside):
+            if section != other:
+                text = f"{function.name}: section {marks} is left by paths that don't reach its end"
+                self.laid.kept.append(Message(self.places[marks.first][1], text))
+
+    def _written(self, function: Function, compiled: Body, body: Body, order: list[int]) -> list[str]:
+        """The lines of blocks in an order, which are read again and compared with what was compiled."""
+        followings: list[int | None] = [*order[1:], None]
+        ends = [end_of(body.blocks[index], following) for index, following in zip(order, followings)]
+        mark_far(body.blocks, order, ends)
+        size = sum(body.blocks[index].size + end.size for index, end in zip(order, ends))
+        if size >= MOST_BYTES:
+            raise Stays(function.first + 1, f"it takes {size} bytes, and a jump reaches {MOST_BYTES}")
+        if body.lost_frame:
+            text = f"{function.name}: its call frames are lost for a debugger: `{body.lost_frame}` isn't known"
+            self.laid.notes.append(Message(function.first + 1, text))
+        flag = self.flags[function.name]
+        lines = Writer(body, self.names, flag).write(order, ends)
+        again = body_of(statements(lines, 1), flag)
+        same = do_the_same(compiled.blocks, again.blocks)
+        if not same or not Nest(Flows(again.blocks)).is_in_order([]):
+            raise AssertionError(f"{function.name} would not do the same: a fault of fp_layout")
+        return lines
+
+
+def _that_end(nest: Nest, section: Section) -> Section:
+    """A section without the blocks from which its end isn't reached."""
+    found: set[int] = set()
+    ahead = [index for index in nest.flows.before[section.end] if index in section.blocks]
+    while ahead:
+        index = ahead.pop()
+        if index not in found:
+            found.add(index)
+            ahead += [it for it in nest.flows.before[index] if it in section.blocks]
+    return Section(section.first, section.end, frozenset(found))
+
+
+def _is_mark(it: Statement) -> bool:
+    """Whether it is a label that the source has itself."""
+    return it.kind is Kind.LABEL and not it.name.startswith(".L") and not it.name.isdigit()
