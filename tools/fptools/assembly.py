@@ -144,6 +144,9 @@ class Statement:
     text: str  # as it is written
     by_hand: bool  # in an asm of the source
 
+    def __str__(self) -> str:
+        return f"{self.name} {self.rest}".rstrip()
+
 
 IDENTIFIER = r"[A-Za-z_.$][\w.$]*"
 LABEL = re.compile(rf"\s*({IDENTIFIER}|\d+)\s*:")
@@ -246,7 +249,6 @@ class Assembly:
         for number, line in enumerate(self.lines, 1):
             if (arch := ARCH.match(line)) and not EXTENSION.fullmatch(arch[1]):
                 raise Fault(number, f"it is for {arch[1]}: compile with -march=rv32im_zicsr (clang: rv32im)")
-        self.files = {it[1]: it[2] for line in self.lines if (it := FILE.match(line))}
         self.labels = {it[1] for line in self.lines if (it := LABEL.match(line))}
 
     def _find(self) -> Iterator[Function]:
@@ -267,15 +269,17 @@ class Assembly:
         """The lines between a function's label and its `.size`."""
         return self.lines[function.first + 1 : function.end]
 
-    def source_of(self, line: int) -> str:
-        """The place in the C source that a line of the assembly was compiled from, as `name:line`; else empty."""
-        is_behind = False
-        for text in reversed(self.lines[:line]):
-            is_behind = (is_behind or text.strip() == NO_APP) and text.strip() != APP
-            if (by_hand := SOURCE_LINE.match(text)) and not is_behind:
-                return f"{by_hand[2]}:{by_hand[1]}"
-            if found := LOC.match(text):
-                return f"{self.files[found[1]]}:{found[2]}" if found[1] in self.files else ""
-            if FUNCTION.match(text):
-                return ""
-        return ""
+
+def source_of(lines: list[str], line: int) -> str:
+    """The place in the C source that a line of assembly was compiled from, as `name:line`; else empty."""
+    is_behind = False
+    for text in reversed(lines[:line]):
+        is_behind = (is_behind or text.strip() == NO_APP) and text.strip() != APP
+        if (by_hand := SOURCE_LINE.match(text)) and not is_behind:
+            return f"{by_hand[2]}:{by_hand[1]}"
+        if found := LOC.match(text):
+            files = {it[1]: it[2] for text in lines if (it := FILE.match(text))}
+            return f"{files[found[1]]}:{found[2]}" if found[1] in files else ""
+        if FUNCTION.match(text):
+            return ""
+    return ""

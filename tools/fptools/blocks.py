@@ -222,7 +222,7 @@ class Reader:
 
     def _directive(self, it: Statement) -> None:
         if it.by_hand and not it.name.startswith(KEPT_IN_ASM):
-            raise Stays(it.line, f"an asm has `{it.name} {it.rest}`")
+            raise Stays(it.line, f"an asm has `{it}`")
         if it.name == ".loc":
             self._line(it)
         elif it.name.startswith(".cfi_"):
@@ -230,7 +230,7 @@ class Reader:
         elif it.name in SECTION:
             raise Stays(it.line, PARTS)
         elif not it.name.startswith(HARMLESS):
-            raise Stays(it.line, f"`{it.text.strip()}` is among its code")
+            raise Stays(it.line, f"`{it}` is among its code")
         elif "align" not in it.name:
             self.pending.append(Item(Part.NOTE, it.text, it.line, it.by_hand))
 
@@ -269,7 +269,7 @@ class Reader:
             self.frame = self.frames.pop()
         else:
             if it.name not in (".cfi_startproc", ".cfi_endproc", ".cfi_sections"):
-                self.lost_frame = self.lost_frame or f"{it.name} {it.rest}".strip()
+                self.lost_frame = self.lost_frame or str(it)
             self.pending.append(Item(Part.NOTE, it.text, it.line))
             return
         self.pending.append(Item(Part.FRAME, "", it.line, frame=self.frame))
@@ -277,16 +277,16 @@ class Reader:
     def _asm(self, it: Statement) -> None:
         made = instruction(it.line, it.name, it.rest)
         if made.flow not in (Flow.ON, Flow.CALL) and it.name != "ebreak" or ".L" in it.rest:
-            raise Stays(it.line, f"an asm has a jump: `{it.name} {it.rest}`".rstrip())
+            raise Stays(it.line, f"an asm has a jump: `{it}`")
         self._settle(it.line)
         self.block.items.append(Item(Part.CODE, it.text, it.line, True, made.size))
 
     def _code(self, it: Statement) -> None:
         made = instruction(it.line, it.name, it.rest)
         if made.flow is Flow.INDIRECT:
-            raise Stays(it.line, f"`{it.name} {it.rest}` jumps to an address in a register{SWITCH}")
+            raise Stays(it.line, f"`{it}` jumps to an address in a register{SWITCH}")
         if made.flow is Flow.TAIL:
-            raise Stays(it.line, f"`{it.name} {it.rest}`: {SIBLING}")
+            raise Stays(it.line, f"`{it}`: {SIBLING}")
         self._settle(it.line)
         block = self.block
         if made.flow in (Flow.ON, Flow.CALL):

@@ -1,11 +1,14 @@
 """Writes blocks in an order as assembly: branches inverted, jumps added and left out, and what a debugger needs."""
 from __future__ import annotations
 
-from collections.abc import Iterator, Sequence
+from collections.abc import Sequence
 from dataclasses import dataclass, field
 
 from fptools.assembly import APP, INVERSE, NO_APP, WORD
 from fptools.blocks import Block, Body, Branch, Frame, Item, Part, SourceLine
+
+KEPT_OF_LOST = (".cfi_startproc", ".cfi_endproc", ".cfi_sections")
+"""The directives that a function without rules of its frame keeps."""
 
 BRANCH_REACH = 4094
 """A branch leads at most so many bytes onward, and two more back."""
@@ -121,10 +124,14 @@ class Writer:
             self.by_hand = by_hand
 
     def _block(self, block: Block) -> None:
+        for label in block.labels:
+            if label not in block.marks:
+                self._put(f"{label}:")
         for item in block.declared:
             self._put(item.text, item.by_hand)
         for label in block.labels:
-            self._put(f"{label}:", label in block.marks)
+            if label in block.marks:
+                self._put(f"{label}:", True)
         if block.frame:
             self._to_frame(block.frame)
         is_stated = self._states_line(block)
@@ -148,7 +155,7 @@ class Writer:
             self._to_line(item.source)
         elif item.part is Part.FRAME and item.frame:
             self._to_frame(item.frame)
-        else:
+        elif not (self.body.lost_frame and item.text.split()[0] not in KEPT_OF_LOST and ".cfi" in item.text):
             self._put(item.text, item.by_hand)
 
     def _to_line(self, source: SourceLine) -> None:
@@ -181,8 +188,3 @@ class Writer:
             self._put(f"\tj\t{labels[end.jump]}")
         if end.traps:
             self._put("\tebreak")
-
-
-def instructions(blocks: Sequence[Block]) -> Iterator[Item]:
-    """The straight code of blocks."""
-    return (item for block in blocks for item in block.code)

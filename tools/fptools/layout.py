@@ -6,7 +6,7 @@ import re
 from collections.abc import Sequence
 from dataclasses import dataclass, field
 
-from fptools.assembly import Assembly, Fault, Function, Kind, Statement, Stays, statements
+from fptools.assembly import Assembly, Fault, Function, Kind, Statement, Stays, source_of, statements
 from fptools.blocks import Body, body_of
 from fptools.copies import rotate, split_entries
 from fptools.emission import Names, Writer, as_compiled, end_of, mark_far
@@ -186,7 +186,7 @@ class _Layout:
     def _place(self, body: Body, loop: Loop) -> str:
         """Where a loop is, by the line of the assembly and of the source."""
         line = body.blocks[loop.head].line
-        source = self.assembly.source_of(line)
+        source = source_of(self.assembly.lines, line)
         return f"the loop at line {line}" + (f" ({source})" if source else "")
 
     # ------------------------------------------------------------ functions

@@ -1,0 +1,212 @@
+"""Shapes of C, laid out: each is accepted, nothing leaves it, it does what gcc's own order does, and no execution takes
+longer than its bound. bench/layout_shapes.py tries each at all levels, both ways."""
+from __future__ import annotations
+
+import shutil
+import subprocess
+from collections import Counter
+from collections.abc import Iterator
+from dataclasses import dataclass, replace
+from pathlib import Path
+from typing import TypeVar
+
+import pytest
+from elftools.dwarf.callframe import FDE
+from elftools.elf.elffile import ELFFile
+from fptools.assembly import Assembly
+from fptools.elf import Program
+from fptools.layout import Options, lay_out
+from layout_check import Executable, flow
+from layout_shapes import (
+    BATCHES, DATA, FOURTH, GCC, LINK, SETUP, SHAPES, Ran, Shape, Way, build, counted_hashes, quick_runner, run, shapes,
+)  # fmt: skip
+
+NEEDED = ("riscv64-unknown-elf-gcc", "riscv64-unknown-elf-ld", "cc")
+Row = TypeVar("Row")
+WAYS = (Way("-O2", True), Way("-Os", False), Way("-O3", True), Way("-O1", False))
+
+
+@dataclass(frozen=True)
+class Tried:
+    """A shape as gcc has it and laid out, with what both do."""
+
+    compiled: Shape
+    laid: Shape
+    compiled_ran: Ran
+    laid_ran: Ran
+
+
+def needs(*programs: str) -> None:
+    for program in programs:
+        if shutil.which(program) is None:
+            pytest.skip(f"{program} isn't installed")
+
+
+def tried(folder: Path, way: Way) -> Iterator[tuple[str, Tried]]:
+    """All shapes, in batches."""
+    runner = quick_runner(folder)
+    for number, names in enumerate(BATCHES):
+        found = []
+        for kind in (replace(way, is_laid=False), way):
+            executable = build(folder / f"{kind}{number}".replace(" ", "_"), kind, names)
+            image = executable.with_suffix(".image")
+            image.write_bytes(Executable(executable).flat)
+            found.append((shapes(executable, names), image))
+        (compiled, one), (laid, other) = found
+        for name in names:
+            ran, laid_ran = compiled[name].ran(runner, one), laid[name].ran(runner, other)
+            yield name, Tried(compiled[name], laid[name], ran, laid_ran)
+
+
+@pytest.fixture(scope="module", params=WAYS, ids=str)
+def of_way(request: pytest.FixtureRequest, tmp_path_factory: pytest.TempPathFactory) -> dict[str, Tried]:
+    needs(*NEEDED)
+    return dict(tried(tmp_path_factory.mktemp("shapes"), request.param))
+
+
+@pytest.mark.parametrize("name", SHAPES)
+def test_a_shape_is_accepted_and_does_the_same(of_way: dict[str, Tried], name: str) -> None:
+    it = of_way[name]
+    assert it.laid.faults == [] and it.laid.refusal() == ""
+    assert it.laid.loops_by_tool and it.laid.loops or not it.laid.loops
+    assert it.laid_ran.digest == it.compiled_ran.digest
+    fourth, each = it.laid.bounds(it.laid_ran)
+    assert fourth >= it.laid_ran.at_fourth and each >= it.laid_ran.at_each
+
+
+def test_what_the_new_order_costs(of_way: dict[str, Tried]) -> None:
+    before = sum(it.compiled_ran.at_fourth for it in of_way.values())
+    after = sum(it.laid_ran.at_fourth for it in of_way.values())
+    assert after <= before * 1.01
+    assert max(it.laid_ran.at_fourth / it.compiled_ran.at_fourth for it in of_way.values()) < 1.1
+
+
+@pytest.mark.parametrize("way", [Way("-O2", False), Way("-O1", True)], ids=str)
+def test_another_machine_makes_the_same_of_both_orders(tmp_path: Path, way: Way) -> None:
+    needs(*NEEDED, "qemu-riscv32")
+    both = [
+        counted_hashes(build(tmp_path / str(kind.is_laid), kind, is_counted=True)) for kind in (replace(way, is_laid=False), way)
+    ]
+    assert both[0] == both[1] and sorted(both[0]) == SHAPES
+    runner = quick_runner(tmp_path)
+    executable = build(tmp_path / "image", way, BATCHES[0])
+    image = executable.with_suffix(".image")
+    image.write_bytes(Executable(executable).flat)
+    for name, shape in shapes(executable, BATCHES[0]).items():
+        assert shape.ran(runner, image).digest == both[0][name], name
+
+
+# ---------------------------------------------------------------- clang
+
+
+@pytest.mark.parametrize("way", [Way("-O2", True, is_clang=True), Way("-Os", False, is_clang=True)], ids=str)
+def test_clang_by_its_assembly(tmp_path: Path, way: Way) -> None:
+    """Its calls are single words, which the analyser goes through."""
+    needs(*NEEDED, "clang")
+    found = dict(tried(tmp_path, way))
+    assert sorted(found) == SHAPES
+    for name, it in found.items():
+        assert it.laid.faults == [] and it.laid.refusal() == "", name
+        assert it.laid_ran.digest == it.compiled_ran.digest, name
+        assert it.laid.bounds(it.laid_ran)[0] >= it.laid_ran.at_fourth, name
+    assert any(it.laid.has_calls and it.compiled.faults for it in found.values())
+
+
+# ---------------------------------------------------------------- a debugger's tables
+
+
+def debugged(folder: Path, way: Way, name: str) -> tuple[Path, Path]:
+    """A shape compiled with -g, as the compiler has it and laid out, each linked."""
+    folder.mkdir(exist_ok=True)
+    assembly = folder / f"{name}.s"
+    run([*way.compiler(), "-gdwarf-4", "-S", "-o", assembly, DATA / f"{name}.c"])
+    compiled = assembly.read_text()
+    laid = lay_out(Assembly(compiled), Options())
+    assert not laid.kept and not laid.notes
+    linked = []
+    for kind, text in (("compiled", compiled), ("laid", laid.text)):
+        # As single words before they are compared.
+        assembly.write_text(text.replace("\tcall\t", "\tjal\t"))
+        built, out = folder / f"{kind}.o", folder / f"{kind}.elf"
+        run([*way.assembler(), "-c", "-o", built, assembly])
+        run([*LINK, "-n", "-T", DATA / "image.ld", "--defsym", f"main_bits=main_{name}", "-o", out, built])
+        linked.append(out)
+    return linked[0], linked[1]
+
+
+def straight(executable: Path) -> dict[int, int]:
+    """The words that mean the same wherever they are: no branch, no jump."""
+    words = Executable(executable).words
+    return {at: word for at, word in words.items() if flow(word, at)[0] in ("next", "return")}
+
+
+def lines_of(executable: Path) -> Counter[tuple[int, str]]:
+    program = Program(executable)
+    return Counter((word, str(program.line_of(at))) for at, word in straight(executable).items())
+
+
+def frames_of(executable: Path) -> Counter[tuple[int, str, str]]:
+    """Each word with the rules of the frame where it is."""
+    words = straight(executable)
+    found: Counter[tuple[int, str, str]] = Counter()
+    with executable.open("rb") as file:
+        for entry in ELFFile(file).get_dwarf_info().CFI_entries():
+            if not isinstance(entry, FDE):
+                continue
+            rows = entry.get_decoded().table
+            first = entry["initial_location"]
+            for at in range(first, first + entry["address_range"], 4):
+                row = [it for it in rows if it["pc"] <= at][-1]
+                rules = {key: str(rule) for key, rule in row.items() if key not in ("pc", "cfa") and rule.type != "SAME_VALUE"}
+                if at in words:
+                    found[words[at], str(row["cfa"]), str(sorted(rules.items()))] += 1
+    return found
+
+
+@pytest.mark.parametrize("name", ["early", "triple", "sw_loop", "isort", "calls_in_loop"])
+@pytest.mark.parametrize("way", [Way("-O2", False), Way("-O3", True), Way("-O2", False, is_clang=True)], ids=str)
+def test_each_instruction_keeps_its_line_and_its_frame(tmp_path: Path, name: str, way: Way) -> None:
+    needs(*NEEDED, *["clang"] * way.is_clang)
+    compiled, laid = debugged(tmp_path / "x", way, name)
+    keeps(lines_of(compiled), lines_of(laid))
+    if not way.is_clang:
+        # pyelftools can't read the rules that clang's assembler writes.
+        keeps(frames_of(compiled), frames_of(laid))
+
+
+def keeps(compiled: Counter[Row], laid: Counter[Row]) -> None:
+    """Whether all is there, and what is there twice is a copy."""
+    assert sum(compiled.values()) > 40 and compiled <= laid and compiled.keys() == laid.keys()
+
+
+# ---------------------------------------------------------------- the program
+
+
+SETUP_LOOP = "[[loop]]\nhead = {}\nlast = {}\nbound = {}\n"
+
+
+def test_the_programs_bounds_are_the_models(of_way: dict[str, Tried], flexpret: str, tmp_path: Path) -> None:
+    """Of each shape, by `bound` and by `calls`, of the image that the program makes of the executable."""
+    images: dict[Path, str] = {}
+    for name, it in of_way.items():
+        shape = it.laid
+        path = shape.executable.path
+        if path not in images:
+            images[path] = f"{len(images)}.fpx"
+            (tmp_path / images[path]).write_bytes(converted(flexpret, path))
+        loops = "".join(SETUP_LOOP.format(*loop, count) for loop, count in zip(shape.loops, it.laid_ran.rounds))
+        setup = SETUP.format(slots=FOURTH).replace("image.fpx", images[path]) + loops
+        (tmp_path / "setup.toml").write_text(setup)
+        routines = sorted(seen.first for seen in shape.parts.values() if seen.first != shape.begin)
+        listed = "".join(f"{first:08x} {shape.parts[first].end - 4:08x}\n" for first in routines)
+        (tmp_path / "routines").write_text(listed)
+        section = ["--thread", "0", "--from", hex(shape.begin), "--to", hex(shape.end)]
+        more = ["--routines", "routines"] if routines else []
+        command = ["calls" if routines else "bound", "setup.toml", *section, *more]
+        said = run([flexpret, *command], tmp_path).strip()
+        assert said == f"bound {shape.bounds(it.laid_ran)[0]}", name
+
+
+def converted(flexpret: str, executable: Path) -> bytes:
+    """The image that the program makes of an executable."""
+    return subprocess.run([flexpret, "elf", str(executable)], capture_output=True, check=True).stdout
