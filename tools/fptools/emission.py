@@ -1,7 +1,7 @@
 """Writes blocks in an order as assembly: branches inverted, jumps added and left out, and what a debugger needs."""
 from __future__ import annotations
 
-from collections.abc import Sequence
+from collections.abc import Mapping, Sequence
 from dataclasses import dataclass, field
 
 from fptools.assembly import APP, INVERSE, NO_APP, WORD
@@ -50,12 +50,24 @@ class End:
         return WORD * (branch + (self.jump is not None) + self.traps)
 
 
-def end_of(block: Block, following: int | None) -> End:
-    """How a block ends before another one."""
+def ends_of(blocks: Sequence[Block], order: Sequence[int]) -> list[End]:
+    """How the blocks end in an order. Where a branch and a jump are needed, the branch goes round the innermost loop, and
+    the jump, which is one instruction more, leaves it."""
+    rank = {index: k for k, index in enumerate(order)}
+    followings: list[int | None] = [*order[1:], None]
+    return [_end_of(blocks[index], following, rank) for index, following in zip(order, followings)]
+
+
+def _end_of(block: Block, following: int | None, rank: Mapping[int, int]) -> End:
     branch, onward = block.branch, block.onward
-    if branch and onward is not None and branch.to == following != onward:
-        return End(Branch(INVERSE[branch.name], branch.compared, onward))
-    return End(branch, None if onward == following else onward, traps=block.is_open)
+    if branch is None or onward is None or onward == following or onward == branch.to:
+        return End(branch, None if onward == following else onward, traps=block.is_open)
+    here = rank[following] - 1 if following is not None else len(rank) - 1
+    goes_round = rank[onward] <= here and not rank[onward] < rank[branch.to] <= here
+    if branch.to == following or goes_round:
+        turned = Branch(INVERSE[branch.name], branch.compared, onward)
+        return End(turned, None if branch.to == following else branch.to)
+    return End(branch, onward)
 
 
 def as_compiled(blocks: Sequence[Block]) -> list[End]:

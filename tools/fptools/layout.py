@@ -9,12 +9,15 @@ from dataclasses import dataclass, field
 from fptools.assembly import Assembly, Fault, Function, Kind, Statement, Stays, source_of, statements
 from fptools.blocks import Body, body_of
 from fptools.copies import rotate, split_entries
-from fptools.emission import Names, Writer, as_compiled, end_of, mark_far
+from fptools.emission import Names, Writer, as_compiled, ends_of, mark_far
 from fptools.regions import MOST_AROUND, Flows, Irreducible, Loop, Nest, NoOrder, Order, Section
 from fptools.same_flow import do_the_same
 
 MOST_COPIES = 400
 """Copies for a loop that is entered at several places have so many instructions at most, if nothing else is asked."""
+
+MOST_PASSES = 20
+"""A function with copied tests is laid out so often at most."""
 
 MOST_BYTES = 1 << 20
 """A jump doesn't reach further."""
@@ -192,12 +195,23 @@ class _Layout:
     # ------------------------------------------------------------ functions
 
     def _function(self, function: Function, marks: list[Marks]) -> list[str]:
-        """The lines of a function's body in the new order."""
-        own = self.of_function[function.name]
-        flag = self.flags[function.name]
+        """The lines of a function's body in the new order. Copies of tests may leave others to be copied, so they are laid
+        out until nothing changes."""
+        lines = self._once(function, self.assembly.body(function), marks)
+        for _ in range(MOST_PASSES if self.options.rotate else 0):
+            notes = list(self.laid.notes)
+            again = self._once(function, lines, marks)
+            self.laid.notes = notes
+            if again == lines:
+                break
+            lines = again
+        return lines
+
+    def _once(self, function: Function, lines: list[str], marks: list[Marks]) -> list[str]:
+        own, flag = list(statements(lines, function.first + 2)), self.flags[function.name]
         compiled, body = body_of(own, flag), body_of(own, flag)
         if not any(block.code or block.stop for block in body.blocks):
-            return self.assembly.body(function)
+            return lines
         is_copied = split_entries(body.blocks, self.options.most_copies)
         if self.options.rotate:
             is_copied = rotate(body.blocks, self.options.rotate) or is_copied
@@ -206,7 +220,7 @@ class _Layout:
         found = [(it, self._section(nest, body, it)) for it in self._with_guesses(body, nest.flows, marks)]
         sections = [(it, section) for it, section in found if section]
         if not is_copied and self._is_done(body, nest, [section for _, section in sections]):
-            return self._with_direct_calls(function, body)
+            return self._with_direct_calls(function, body, lines)
         order = self._order(function, body, nest, sections)
         return self._written(function, compiled, body, order)
 
@@ -231,9 +245,10 @@ class _Layout:
         far = mark_far(blocks, range(len(blocks)), as_compiled(blocks))
         return nest.is_in_order(sections) and not runs_out and not far
 
-    def _with_direct_calls(self, function: Function, body: Body) -> list[str]:
-        """The function as it was compiled, with calls that are a single word."""
-        lines = self.assembly.body(function)
+    @staticmethod
+    def _with_direct_calls(function: Function, body: Body, compiled: list[str]) -> list[str]:
+        """The lines of a function, with calls that are a single word."""
+        lines = list(compiled)
         for block in body.blocks:
             for item in block.code:
                 if not item.by_hand and item.text.startswith("\tjal\t"):
@@ -268,8 +283,7 @@ class _Layout:
 
     def _written(self, function: Function, compiled: Body, body: Body, order: list[int]) -> list[str]:
         """The lines of blocks in an order, which are read again and compared with what was compiled."""
-        followings: list[int | None] = [*order[1:], None]
-        ends = [end_of(body.blocks[index], following) for index, following in zip(order, followings)]
+        ends = ends_of(body.blocks, order)
         mark_far(body.blocks, order, ends)
         size = sum(body.blocks[index].size + end.size for index, end in zip(order, ends))
         if size >= MOST_BYTES:

@@ -32,6 +32,7 @@ class Executable:
         self.words: dict[int, int] = {}
         self.symbols: dict[str, int] = {}
         self.functions: dict[str, Place] = {}
+        self.ends: dict[int, int] = {}  # of all functions, also of several with one name
         self.memory = {0: bytearray(SIZE), DATA: bytearray(SIZE)}
         with path.open("rb") as file:
             elf = ELFFile(file)
@@ -43,6 +44,7 @@ class Executable:
                 self.symbols[symbol.name] = at
                 if symbol["st_info"]["type"] == "STT_FUNC" and symbol["st_size"]:
                     self.functions[symbol.name] = at, at + symbol["st_size"]
+                    self.ends[at] = at + symbol["st_size"]
 
     def _load(self, address: int, data: bytes) -> None:
         base = address & DATA

@@ -174,7 +174,7 @@ class Shape:
         symbols, functions = self.executable.symbols, self.executable.functions
         self.begin, self.end = symbols[f"{self.name}_begin"], symbols[f"{self.name}_end"]
         self.entry = functions[f"main_{self.name}"][0]
-        ends = {first: end for first, end in functions.values() if not first <= self.begin < end}
+        ends = {first: end for first, end in self.executable.ends.items() if not first <= self.begin < end}
         ahead = [(self.begin, self.end, False)]
         while ahead:
             first, end, is_function = ahead.pop()
