@@ -1,5 +1,5 @@
 """Shapes of C, laid out: each is accepted, nothing leaves it, it does what gcc's own order does, and no execution takes
-longer than its bound. bench/layout_shapes.py tries each at all levels, both ways."""
+longer than its bound. bench/layout_levels.py tries each at all levels, both ways."""
 from __future__ import annotations
 
 import shutil

@@ -1,6 +1,8 @@
 /* Each visit makes its inputs of a counter and goes through the section once. With COUNTED, for a run on another
    machine, the port is memory, and what it got in so many visits is returned as a hash, which quick_run.c computes too. */
 #ifdef COUNTED
+#undef MARK
+#define MARK(x) __asm__ volatile("" ::: "memory") /* gcc may double a place, which no symbol can be at */
 #define FOLD(hash) ((hash) = ((hash) ^ FP_PORT) * 1099511628211u)
 uint64_t MAIN(NAME)(u32 visits)
 #else

@@ -6,8 +6,8 @@ by a path, how many do the same in quick_run.c and in qemu-riscv32, whether any 
 bound, and what the longest executions and the code amount to. It needs gcc for RISC-V, qemu-riscv32, and a C compiler;
 with --clang also clang. Status 1: not all are accepted, or one does another thing.
 
-    bench/layout_shapes.py                    # about eight minutes of a processor
-    bench/layout_shapes.py --rotate 4 -O2     # these levels alone"""
+    bench/layout_levels.py                    # about eight minutes of a processor
+    bench/layout_levels.py --rotate 4 -O2     # these levels alone"""
 from __future__ import annotations
 
 import argparse
