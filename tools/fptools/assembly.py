@@ -2,9 +2,9 @@
 from __future__ import annotations
 
 import re
-from dataclasses import dataclass
+from collections.abc import Iterator, Sequence
+from dataclasses import dataclass, replace
 from enum import Enum, auto
-from typing import Iterator
 
 WORD = 4
 """The bytes of an instruction."""
@@ -151,8 +151,8 @@ class Statement:
 IDENTIFIER = r"[A-Za-z_.$][\w.$]*"
 LABEL = re.compile(rf"\s*({IDENTIFIER}|\d+)\s*:")
 PIECE = re.compile(r'(?:"(?:\\.|[^"\\])*"|[^"#;])*')
-FAR_BRANCH = re.compile(r"\s*(b\w+)\s+([^;#]*),\s*1f;\s*jump\s+([\w.$]+),\s*\w+;\s*1:\s*$")
-"""A branch to a distant label as gcc 13 and later write it."""
+NUMBERED = re.compile(r"\b(\d+)([fb])$")
+"""The end of a jump's operands that names a label by its number: the next one onward, or back."""
 
 SOURCE_LINE = re.compile(r'# (\d+) "([^"]+)" 1$')
 SOURCE_END = '# 0 "" 2'
@@ -171,13 +171,33 @@ def statements(lines: list[str], first: int) -> Iterator[Statement]:
             by_hand = is_app = mark == APP
         elif mark == SOURCE_END or is_app and SOURCE_LINE.match(mark):
             by_hand = mark != SOURCE_END
-        elif far := None if by_hand else FAR_BRANCH.match(line):
-            if far[1] in INVERSE:
-                rest = f"{far[2]},{far[3]}"
-                name = INVERSE[far[1]]
-                yield Statement(number, Kind.CODE, name, rest, f"\t{name}\t{rest}", False)
         elif mark and not mark.startswith("#"):
             yield from _of_line(number, line, by_hand)
+
+
+def with_names(given: Sequence[Statement]) -> list[Statement]:
+    """The statements with names for the labels that are numbers, which gcc uses for single branches."""
+    places: dict[str, list[int]] = {}
+    for index, it in enumerate(given):
+        if it.kind is Kind.LABEL and it.name.isdigit() and not it.by_hand:
+            places.setdefault(it.name, []).append(index)
+    if not places:
+        return list(given)
+
+    def name(index: int) -> str:
+        return f".L{given[index].name}of{given[index].line}"
+
+    found = []
+    for index, it in enumerate(given):
+        if it.kind is Kind.LABEL and index in places.get(it.name, ()):
+            it = replace(it, name=name(index), text=f"{name(index)}:")
+        elif it.kind is Kind.CODE and not it.by_hand and (number := NUMBERED.search(it.rest)):
+            onward = [at for at in places.get(number[1], ()) if (at > index) == (number[2] == "f")]
+            if onward:
+                rest = it.rest[: number.start()] + name(onward[0] if number[2] == "f" else onward[-1])
+                it = replace(it, rest=rest, text=f"\t{it.name}\t{rest}")
+        found.append(it)
+    return found
 
 
 def _of_line(number: int, line: str, by_hand: bool) -> Iterator[Statement]:

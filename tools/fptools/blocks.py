@@ -6,7 +6,7 @@ from dataclasses import dataclass, field, replace
 from enum import Enum, auto
 from typing import Iterable
 
-from fptools.assembly import WORD, Flow, Kind, Stays, Statement, instruction
+from fptools.assembly import WORD, Flow, Kind, Stays, Statement, instruction, with_names
 
 
 class Part(Enum):
@@ -109,6 +109,11 @@ class Block:
         return [item for item in self.items if item.part is Part.CODE]
 
     @property
+    def is_jump(self) -> bool:
+        """Whether it only leads on."""
+        return self.onward is not None and not (self.branch or self.marks or self.code)
+
+    @property
     def next_blocks(self) -> list[int]:
         """Where control goes on: the branch's target, and the block that follows."""
         branch = [self.branch.to] if self.branch else []
@@ -138,7 +143,7 @@ RANGE_END = re.compile(r"\.L(BE|FE|BBE)\d*$")
 """Labels that a debugger takes as the end of what is before them."""
 
 SWITCH = "; -fno-jump-tables compiles a switch without a table"
-PARTS = "its code is in two sections: -fno-reorder-blocks-and-partition keeps it in one"
+PARTS = "-fno-reorder-blocks-and-partition keeps it in one section"
 SIBLING = "another function returns for it: -fno-optimize-sibling-calls keeps a last call a call"
 
 
@@ -146,7 +151,7 @@ class Reader:
     """Makes blocks of a function's statements; raises Stays where control can't be known."""
 
     def __init__(self, statements: Iterable[Statement], is_statement: bool) -> None:
-        self.statements = list(statements)
+        self.statements = with_names(list(statements))
         self.is_statement = is_statement
         self.targets = {target for it in self.statements for target in _leads_to(it)}
         self.blocks = [Block(self.statements[0].line if self.statements else 0)]
@@ -228,7 +233,8 @@ class Reader:
         elif it.name.startswith(".cfi_"):
             self._frame(it)
         elif it.name in SECTION:
-            raise Stays(it.line, PARTS)
+            is_rare = "unlikely" in it.rest or "cold" in it.rest
+            raise Stays(it.line, f"`{it}` is among its code" + (f": {PARTS}" if is_rare else ""))
         elif not it.name.startswith(HARMLESS):
             raise Stays(it.line, f"`{it}` is among its code")
         elif "align" not in it.name:
@@ -357,3 +363,22 @@ def _with_entry(blocks: list[Block]) -> list[Block]:
     entry = Block(first.line, items=first.items[:code], onward=1, frame=Frame())
     first.items = first.items[code:]
     return [entry, *blocks]
+
+
+def skip_jumps(blocks: list[Block]) -> set[int]:
+    """Leads past blocks that only jump on, and gives their labels to those where they end. The blocks that are left out."""
+    changed = {}
+    for index in range(len(blocks)):
+        to, seen = index, {index}
+        while (onward := blocks[to].onward) is not None and blocks[to].is_jump and onward not in seen:
+            to = onward
+            seen.add(to)
+        changed[index] = to
+    for block in blocks:
+        block.lead_to(changed)
+    left_out = {index for index, to in changed.items() if index not in (0, to)}
+    for index in sorted(left_out):
+        block, target = blocks[index], blocks[changed[index]]
+        target.labels += block.labels
+        target.items[:0] = [it for it in [*block.items, *block.ends] if it.part is Part.NOTE]
+    return left_out

@@ -1,14 +1,15 @@
-"""Copies of blocks: of those by which a loop is entered at a second place, and of a loop's test at its end."""
+"""Copies of blocks: of those by which a loop is entered at a second place, of those in which a section ends otherwise than at
+its mark, and of a loop's test at its end."""
 from __future__ import annotations
 
-from collections.abc import Iterable, Iterator
+from collections.abc import Iterable, Iterator, Sequence
 from dataclasses import dataclass
 
 import networkx
 
 from fptools.assembly import Stays
 from fptools.blocks import Block, Item, Part
-from fptools.regions import Flows, Loop, Nest
+from fptools.regions import Flows, Loop, Nest, Section
 
 MOST_BACK_EDGES = 2
 """A loop's test is copied to so many ends of it at most."""
@@ -46,20 +47,21 @@ def _second_entry(flows: Flows) -> tuple[int, set[int], list[int]] | None:
         for inside in sorted(networkx.strongly_connected_components(part), key=min):
             if len(inside) > 1:
                 entries = [it for it in sorted(inside) if not set(flows.before[it]) <= inside]
-                head, *others = _by_cost(part, inside, entries)
+                head, *others = _by_cost(part, flows.blocks, inside, entries)
                 if others:
                     return others[0], inside, sorted(_before_head(part, inside, others[0], head))
                 ahead.append(part.subgraph(inside - {head}))
     return None
 
 
-def _by_cost(part: networkx.DiGraph, inside: set[int], entries: list[int]) -> list[int]:
+def _by_cost(part: networkx.DiGraph, blocks: Sequence[Block], inside: set[int], entries: list[int]) -> list[int]:
     """The entries of a loop, first the one as whose head the least is copied."""
     if len(entries) == 1:
         return entries
 
     def cost(head: int) -> int:
-        return sum(len(_before_head(part, inside, it, head)) for it in entries if it != head)
+        copied = [_before_head(part, inside, it, head) for it in entries if it != head]
+        return sum(_length(blocks[index]) for it in copied for index in it)
 
     head = min(entries, key=cost)
     return [head, *(it for it in entries if it != head)]
@@ -80,6 +82,22 @@ def _copy(blocks: list[Block], entry: int, inside: set[int], behind: list[int]) 
     for index in flows.before[entry]:
         if index not in inside:
             blocks[index].lead_to({entry: copies[entry]})
+
+
+def split_ends(blocks: list[Block], section: Section, most: int) -> bool:
+    """Gives a section copies of the blocks that it reaches but from which it doesn't come to its end, as a trap that it
+    shares with other code. Whether it did."""
+    flows = Flows(blocks)
+    passing = flows.passing(section)
+    ends = sorted(section.blocks - passing)
+    is_shared = any(not set(flows.before[it]) <= section.blocks for it in ends)
+    if not is_shared or any(blocks[it].marks for it in ends) or sum(_length(blocks[it]) for it in ends) > most:
+        return False
+    copies = {index: len(blocks) + k for k, index in enumerate(ends)}
+    blocks += [blocks[index].copied() for index in ends]
+    for index in [*copies.values(), *passing]:
+        blocks[index].lead_to(copies)
+    return True
 
 
 @dataclass(frozen=True)

@@ -6,15 +6,15 @@ import re
 from collections.abc import Sequence
 from dataclasses import dataclass, field
 
-from fptools.assembly import Assembly, Fault, Function, Kind, Statement, Stays, source_of, statements
-from fptools.blocks import Body, body_of
-from fptools.copies import rotate, split_entries
+from fptools.assembly import TRAPS, Assembly, Fault, Function, Kind, Statement, Stays, source_of, statements
+from fptools.blocks import Body, body_of, skip_jumps
+from fptools.copies import rotate, split_ends, split_entries
 from fptools.emission import Names, Writer, as_compiled, ends_of, mark_far
 from fptools.regions import MOST_AROUND, Flows, Irreducible, Loop, Nest, NoOrder, Order, Section
 from fptools.same_flow import do_the_same
 
-MOST_COPIES = 400
-"""Copies for a loop that is entered at several places have so many instructions at most, if nothing else is asked."""
+MOST_COPIES = 2000
+"""A function gets copies of so many instructions at most, if nothing else is asked."""
 
 MOST_PASSES = 20
 """A function with copied tests is laid out so often at most."""
@@ -216,13 +216,17 @@ class _Layout:
         if self.options.rotate:
             is_copied = rotate(body.blocks, self.options.rotate) or is_copied
         nest = self._nest(body)
-        self._note_depth(function, body, nest)
-        found = [(it, self._section(nest, body, it)) for it in self._with_guesses(body, nest.flows, marks)]
-        sections = [(it, section) for it, section in found if section]
+        sections = self._found_sections(body, nest, marks)
+        self._note(function, body, nest, sections)
         if not is_copied and self._is_done(body, nest, [section for _, section in sections]):
             return self._with_direct_calls(function, body, lines)
-        order = self._order(function, body, nest, sections)
+        left_out = skip_jumps(body.blocks)
+        order = [index for index in self._order(body, marks) if index not in left_out]
         return self._written(function, compiled, body, order)
+
+    def _found_sections(self, body: Body, nest: Nest, marks: list[Marks]) -> list[tuple[Marks, Section]]:
+        found = [(it, self._section(nest, body, it)) for it in self._with_guesses(body, nest.flows, marks)]
+        return [(it, section) for it, section in found if section]
 
     @staticmethod
     def _nest(body: Body) -> Nest:
@@ -231,11 +235,20 @@ class _Layout:
         except Irreducible:
             raise AssertionError("a loop is entered at two places, after copies") from None
 
-    def _note_depth(self, function: Function, body: Body, nest: Nest) -> None:
+    def _note(self, function: Function, body: Body, nest: Nest, sections: list[tuple[Marks, Section]]) -> None:
+        """Notes what no order helps against: loops that lie too deep, and returns in a section."""
         for loop in nest.loops.values():
-            if loop.depth == MOST_AROUND + 1:
-                text = f"{self._place(body, loop)} lies in {loop.depth} others, and a bound takes {MOST_AROUND}"
+            inside = [section.blocks for _, section in sections if loop.blocks <= section.blocks]
+            depth = min((sum(it.blocks <= blocks for it in nest.around(loop.head)) - 1 for blocks in inside), default=loop.depth)
+            if depth == MOST_AROUND + 1:
+                text = f"{self._place(body, loop)} lies in {depth} others, and a bound takes {MOST_AROUND}"
                 self.laid.notes.append(Message(body.blocks[loop.head].line, f"{function.name}: {text}"))
+        for marks, section in sections:
+            stops = [stop for index in section.blocks if (stop := body.blocks[index].stop)]
+            for stop in stops if not marks.is_guess else []:
+                if stop.text.split()[0] not in TRAPS:
+                    text = f"{function.name}: section {marks} has a return before its end, which no bound goes through"
+                    self.laid.notes.append(Message(stop.line, text))
 
     @staticmethod
     def _is_done(body: Body, nest: Nest, sections: list[Section]) -> bool:
@@ -255,31 +268,25 @@ class _Layout:
                     lines[item.line - function.first - 2] = item.text
         return lines
 
-    def _order(
-        self, function: Function, body: Body, nest: Nest, sections: list[tuple[Marks, Section]]
-    ) -> list[int]:
-        """The order of the blocks; raises Fault. Guessed sections are let go, and then paths that never reach the end of
-        their section, where there is no other order."""
-        sure = [(marks, section) for marks, section in sections if not marks.is_guess]
-        inside = [(marks, _that_end(nest, section)) for marks, section in sure]
-        for wanted in (sections, sure, inside):
-            try:
-                order = Order(nest, [section for _, section in wanted]).made()
-            except NoOrder:
-                continue
-            if wanted is inside and inside != sure:
-                self._say_left(function, sure, inside)
-            return order + [index for index in range(len(body.blocks)) if index not in nest.flows.reached]
-        names = " and ".join(str(marks) for marks, _ in sure)
-        raise Fault(self.places[sure[0][0].first][1], f"no order of blocks has the code of {names} between the marks")
-
-    def _say_left(
-        self, function: Function, sure: list[tuple[Marks, Section]], inside: list[tuple[Marks, Section]]
-    ) -> None:
-        for (marks, section), (_, other) in zip(sure, inside):
-            if section != other:
-                text = f"{function.name}: section {marks} is left by paths that don't reach its end"
-                self.laid.kept.append(Message(self.places[marks.first][1], text))
+    def _order(self, body: Body, marks: list[Marks]) -> list[int]:
+        """The order of the blocks; raises Fault. Where there is none, sections get copies of the blocks that lead elsewhere
+        than to their end, and then sections that are only guessed are let go."""
+        for is_sure in (False, True):
+            nest = self._nest(body)
+            sections = [it for it in self._found_sections(body, nest, marks) if not (is_sure and it[0].is_guess)]
+            for _ in range(len(sections) + 1):
+                try:
+                    order = Order(nest, [section for _, section in sections]).made()
+                    return order + [index for index in range(len(body.blocks)) if index not in nest.flows.reached]
+                except NoOrder:
+                    if not any(split_ends(body.blocks, it, self.options.most_copies) for _, it in sections):
+                        break
+                    nest = self._nest(body)
+                    wanted = {str(it) for it, _ in sections}
+                    sections = [it for it in self._found_sections(body, nest, marks) if str(it[0]) in wanted]
+        names = " and ".join(str(it) for it, _ in sections)
+        line = self.places[sections[0][0].first][1]
+        raise Fault(line, f"no order of blocks has the code of {names} between the marks")
 
     def _written(self, function: Function, compiled: Body, body: Body, order: list[int]) -> list[str]:
         """The lines of blocks in an order, which are read again and compared with what was compiled."""
@@ -298,18 +305,6 @@ class _Layout:
         if not same or not Nest(Flows(again.blocks)).is_in_order([]):
             raise AssertionError(f"{function.name} would not do the same: a fault of fp_layout")
         return lines
-
-
-def _that_end(nest: Nest, section: Section) -> Section:
-    """A section without the blocks from which its end isn't reached."""
-    found: set[int] = set()
-    ahead = [index for index in nest.flows.before[section.end] if index in section.blocks]
-    while ahead:
-        index = ahead.pop()
-        if index not in found:
-            found.add(index)
-            ahead += [it for it in nest.flows.before[index] if it in section.blocks]
-    return Section(section.first, section.end, frozenset(found))
 
 
 def _is_mark(it: Statement) -> bool:

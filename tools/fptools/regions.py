@@ -79,6 +79,17 @@ class Flows:
     def section(self, first: int, end: int) -> Section:
         return Section(first, end, frozenset(self.reach(first, [end])))
 
+    def passing(self, section: Section) -> set[int]:
+        """The blocks of a section from which its end is reached."""
+        found: set[int] = set()
+        ahead = [index for index in self.before[section.end] if index in section.blocks]
+        while ahead:
+            index = ahead.pop()
+            if index not in found:
+                found.add(index)
+                ahead += [it for it in self.before[index] if it in section.blocks]
+        return found
+
 
 class Dominators:
     """Which blocks every path to a block goes through."""
@@ -159,6 +170,20 @@ class Nest:
             loop = loop.around
         return found
 
+    def adopt(self, section: Section) -> None:
+        """Gives the loop around a section the blocks in which the section ends otherwise than at its mark, as by a trap.
+        They don't go round, but nothing else leads to them, so they may stand among the loop's blocks."""
+        inner = self.innermost.get(section.first)
+        ends = section.blocks - self.flows.passing(section)
+        if inner is None or any(not set(self.flows.before[it]) <= section.blocks for it in ends):
+            return
+        for index in ends:
+            loops = self.around(index)
+            if not loops:
+                self.innermost[index] = inner
+            elif loops[-1].around is None and loops[-1] not in self.around(section.first):
+                loops[-1].around = inner
+
     def is_in_order(self, sections: Iterable[Section]) -> bool:
         """Whether the analyser takes the blocks as they are numbered: whatever isn't a loop's way back leads onward, each
         loop is an interval that only its head is entered by, and sections lie between their marks."""
@@ -213,6 +238,9 @@ class Order:
 
     def __init__(self, nest: Nest, sections: Iterable[Section]) -> None:
         self.nest, self.flows = nest, nest.flows
+        sections = list(sections)
+        for section in sections:
+            nest.adopt(section)
         self.members: dict[int | None, list[int]] = defaultdict(list)  # of a loop, by head: blocks and loops inside
         self.onward: dict[int, list[int]] = defaultdict(list)
         self.waits: dict[int, int] = defaultdict(int)

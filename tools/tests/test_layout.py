@@ -165,9 +165,23 @@ def test_a_branch_back_that_is_too_far() -> None:
     assert made[-5:] == ["addi a0,a0,-1", "beq a0,zero,.Lfp1", "j .L2", ".Lfp1:", "ret"]
 
 
+def test_labels_that_are_numbers() -> None:
+    code = "\tj\t.L2\n.L3:\n\tbeq\ta0,a1,1f; mv\ta2,a3; 1: # movcc\n\tnop\n.L2:\n\tbne\ta2,a1,.L3\n\tret\n"
+    assert body(code) == [
+        ".L2:", "beq a2,a1,.Lfp1", ".L3:", "beq a0,a1,.L1of11", "mv a2,a3", ".L1of11:", "nop", "j .L2", ".Lfp1:", "ret",
+    ]  # fmt: skip
+
+
+def test_a_block_that_only_jumps_is_passed() -> None:
+    code = "\tj\t.L2\n.L3:\n\tbeq\ta0,a1,.L4\n\taddi\ta2,a2,1\n.L2:\n\tbne\ta2,a1,.L3\n\tret\n.L4:\n.LVL3:\n\tj\t.L2\n"
+    made = body(code)
+    assert "beq a0,a1,.L2" in made and {".L4:", ".LVL3:"} <= set(made) and made.count("j .L2") == 1
+
+
 def test_branches_to_distant_labels_as_gcc_13_writes_them() -> None:
     code = "\tj\t.L2\n.L3:\n\taddi\ta0,a0,-1\n.L2:\n\tbne\ta0,zero,1f; jump\t.L4,ra; 1:\n\tj\t.L3\n.L4:\n\tret\n"
-    assert body(code) == [".L2:", "beq a0,zero,.L4", ".L3:", "addi a0,a0,-1", "j .L2", ".L4:", "ret"]
+    made = [it for it in body(code) if not it.startswith(".L")]
+    assert made == ["beq a0,zero,.L4", "addi a0,a0,-1", "j .L2", "ret"]
 
 
 # ---------------------------------------------------------------- what stays
@@ -191,7 +205,7 @@ def test_branches_to_distant_labels_as_gcc_13_writes_them() -> None:
         (
             "\tbeq\ta0,zero,.L3\n\tret\n\t.section\t.text.unlikely\n\t.type\tf.cold, @function\nf.cold:\n.L3:\n\tcall\tg\n\t.text\n",
             11,
-            "its code is in two sections: -fno-reorder-blocks-and-partition keeps it in one",
+            "`.section .text.unlikely` is among its code: -fno-reorder-blocks-and-partition keeps it in one section",
         ),
         ("\tnop\n\t.word\t0x13\n\tret\n", 10, "`.word 0x13` is among its code"),
         ("\t.insn r 0x2b, 0, 0, a0, x0, x0\n\tret\n", 9, "`.insn` is no instruction that fp_layout knows"),
@@ -304,7 +318,27 @@ def test_marks_in_two_functions_and_marks_that_are_none() -> None:
 def test_a_return_in_a_section_that_other_code_shares() -> None:
     code = mark("a_begin") + "\tbeq\ta0,zero,.L9\n\tnop\n" + mark("a_end") + "\tsw\ta0,0(a1)\n.L9:\n\taddi\tsp,sp,16\n\tret\n"
     made = lay_out(Assembly(HEAD + function(code)))
-    assert [it.text for it in made.kept] == ["f: section a_begin:a_end is left by paths that don't reach its end"]
+    assert [it.text for it in made.notes] == ["f: section a_begin:a_end has a return before its end, which no bound goes through"]
+    lines = code_of(made.text)
+    assert lines.count("ret") == 2 and lines.index("ret") < lines.index("a_end:")
+
+
+def test_a_trap_in_a_section_that_other_code_shares() -> None:
+    code = mark("a_begin") + "\tbeq\ta0,zero,.L9\n\tnop\n" + mark("a_end") + "\tbeq\ta1,zero,.L9\n\tret\n.L9:\n\tebreak\n"
+    made = laid(code)
+    assert not made.notes and code_of(made.text).count("ebreak") == 2
+
+
+def test_a_trap_in_a_section_inside_a_loop() -> None:
+    code = ".L2:\n" + mark("a_begin") + "\tbeq\ta0,zero,.L9\n\tnop\n" + mark("a_end") + "\tbeq\ta1,zero,.L9\n\tj\t.L2\n.L9:\n\tebreak\n"
+    made = code_of(laid(code).text)
+    assert made.index("a_begin:") < made.index("ebreak") < made.index("a_end:") and made.count("ebreak") == 2
+
+
+def test_a_spin_in_a_section_inside_a_loop() -> None:
+    code = ".L2:\n" + mark("a_begin") + "\tbeq\ta0,zero,.L9\n\tnop\n" + mark("a_end") + "\tlw\ta0,0(a1)\n\tj\t.L2\n"
+    made = code_of(laid(code + ".L9:\n\tlw\ta2,0(a1)\n\tj\t.L9\n").text)
+    assert made.index("a_begin:") < made.index("lw a2,0(a1)") < made.index("a_end:")
 
 
 def test_a_loop_in_four_others_is_told() -> None:
