@@ -330,6 +330,10 @@ class Body:
     source: SourceLine | None  # at the end
     lost_frame: str
 
+    def kept(self) -> list[Block]:
+        """The blocks as they are now, whatever is changed later."""
+        return [replace(it, labels=list(it.labels), items=list(it.items)) for it in self.blocks]
+
 
 def body_of(statements: Iterable[Statement], is_statement: bool = True) -> Body:
     """The blocks of a function's statements, before which a flag of the line table was; raises Stays."""
@@ -356,8 +360,9 @@ def _with_entry(blocks: list[Block]) -> list[Block]:
     """The blocks, with an empty one before the first where something leads back to that."""
     if not any(0 in block.next_blocks for block in blocks):
         return blocks
+    shifted = {k: k + 1 for k in range(len(blocks))}
     for block in blocks:
-        block.lead_to({k: k + 1 for k in range(len(blocks))})
+        block.lead_to(shifted)
     first = blocks[0]
     code = next((k for k, it in enumerate(first.items) if it.part is Part.CODE), len(first.items))
     entry = Block(first.line, items=first.items[:code], onward=1, frame=Frame())

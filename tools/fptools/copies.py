@@ -2,7 +2,7 @@
 its mark, and of a loop's test at its end."""
 from __future__ import annotations
 
-from collections.abc import Iterable, Iterator, Sequence
+from collections.abc import Iterable, Iterator
 from dataclasses import dataclass
 
 import networkx
@@ -11,24 +11,36 @@ from fptools.assembly import Stays
 from fptools.blocks import Block, Item, Part
 from fptools.regions import Flows, Loop, Nest, Section
 
+MOST_CANDIDATES = 16
+"""So many entries of a loop are tried as its head."""
+
 MOST_BACK_EDGES = 2
 """A loop's test is copied to so many ends of it at most."""
+
+
+@dataclass(frozen=True)
+class Entry:
+    """A block by which a loop is entered beside its head, the loop's blocks, and those to which it leads before the head."""
+
+    block: int
+    inside: set[int]
+    behind: list[int]
 
 
 def split_entries(blocks: list[Block], most: int) -> bool:
     """Copies blocks until each loop is entered at one block, with at most so many instructions in the copies; raises
     Stays. Whether any were copied."""
     left, is_changed = most, False
-    while found := _second_entry(Flows(blocks)):
-        entry, inside, behind = found
+    while found := list(_second_entries(flows := Flows(blocks))):
         is_changed = True
-        left -= sum(_length(blocks[index]) for index in behind)
-        line = blocks[entry].line
-        if any(blocks[index].marks for index in behind):
-            raise Stays(line, "a loop is entered at two places, and a mark is behind one of them")
-        if left < 0:
-            raise Stays(line, f"a loop is entered at two places, and copies of {most} instructions don't end that")
-        _copy(blocks, entry, inside, behind)
+        for it in found:
+            left -= sum(_length(blocks[index]) for index in it.behind)
+            line = blocks[it.block].line
+            if any(blocks[index].marks for index in it.behind):
+                raise Stays(line, "a loop is entered at two places, and a mark is behind one of them")
+            if left < 0:
+                raise Stays(line, f"a loop is entered at two places, and copies of {most} instructions don't end that")
+            _copy(blocks, flows, it)
     return is_changed
 
 
@@ -37,51 +49,55 @@ def _length(block: Block) -> int:
     return len(block.code) + 2
 
 
-def _second_entry(flows: Flows) -> tuple[int, set[int], list[int]] | None:
-    """A block by which a loop is entered beside its head, the loop's blocks, and those to which it leads before the
-    head; None where each loop has one entry."""
-    graph = networkx.DiGraph(flows.edges())
-    ahead = [graph]
+def _second_entries(flows: Flows) -> Iterator[Entry]:
+    """A second entry of each loop that has several, but none of loops inside that one."""
+    ahead = [networkx.DiGraph(flows.edges())]
     while ahead:
         part = ahead.pop()
         for inside in sorted(networkx.strongly_connected_components(part), key=min):
             if len(inside) > 1:
                 entries = [it for it in sorted(inside) if not set(flows.before[it]) <= inside]
-                head, *others = _by_cost(part, flows.blocks, inside, entries)
+                head = _best_head(flows, inside, entries)
+                others = [it for it in entries if it != head]
                 if others:
-                    return others[0], inside, sorted(_before_head(part, inside, others[0], head))
-                ahead.append(part.subgraph(inside - {head}))
-    return None
+                    yield Entry(others[0], inside, sorted(_before_head(flows, inside, others[:1], head)))
+                else:
+                    ahead.append(part.subgraph(inside - {head}).copy())
 
 
-def _by_cost(part: networkx.DiGraph, blocks: Sequence[Block], inside: set[int], entries: list[int]) -> list[int]:
-    """The entries of a loop, first the one as whose head the least is copied."""
-    if len(entries) == 1:
-        return entries
+def _best_head(flows: Flows, inside: set[int], entries: list[int]) -> int:
+    """The entry of a loop as whose head the least is copied, of those to which the most blocks of the loop lead."""
 
     def cost(head: int) -> int:
-        copied = [_before_head(part, inside, it, head) for it in entries if it != head]
-        return sum(_length(blocks[index]) for it in copied for index in it)
+        others = [it for it in entries if it != head]
+        return sum(_length(flows.blocks[it]) for it in _before_head(flows, inside, others, head))
 
-    head = min(entries, key=cost)
-    return [head, *(it for it in entries if it != head)]
+    def uses(entry: int) -> int:
+        return sum(it in inside for it in flows.before[entry])
 
-
-def _before_head(part: networkx.DiGraph, inside: set[int], entry: int, head: int) -> set[int]:
-    """The blocks of a loop to which an entry leads before a head."""
-    return {entry, *networkx.descendants(part.subgraph(inside - {head}), entry)}
+    likely = sorted(entries, key=uses, reverse=True)[:MOST_CANDIDATES]
+    return min(sorted(likely), key=cost) if len(entries) > 1 else entries[0]
 
 
-def _copy(blocks: list[Block], entry: int, inside: set[int], behind: list[int]) -> None:
+def _before_head(flows: Flows, inside: set[int], entries: list[int], head: int) -> set[int]:
+    """The blocks of a loop to which entries lead before a head."""
+    seen, ahead = set(entries), list(entries)
+    while ahead:
+        new = {it for it in flows.next_blocks[ahead.pop()] if it in inside and it != head and it not in seen}
+        seen |= new
+        ahead += sorted(new)
+    return seen
+
+
+def _copy(blocks: list[Block], flows: Flows, entry: Entry) -> None:
     """Copies blocks for what enters a loop at one of them from outside."""
-    flows = Flows(blocks)
-    copies = {index: len(blocks) + k for k, index in enumerate(behind)}
-    blocks += [blocks[index].copied() for index in behind]
+    copies = {index: len(blocks) + k for k, index in enumerate(entry.behind)}
+    blocks += [blocks[index].copied() for index in entry.behind]
     for index in copies.values():
         blocks[index].lead_to(copies)
-    for index in flows.before[entry]:
-        if index not in inside:
-            blocks[index].lead_to({entry: copies[entry]})
+    for index in flows.before[entry.block]:
+        if index not in entry.inside:
+            blocks[index].lead_to({entry.block: copies[entry.block]})
 
 
 def split_ends(blocks: list[Block], section: Section, most: int) -> bool:

@@ -7,7 +7,7 @@ from collections.abc import Sequence
 from dataclasses import dataclass, field
 
 from fptools.assembly import TRAPS, Assembly, Fault, Function, Kind, Statement, Stays, source_of, statements
-from fptools.blocks import Body, body_of, skip_jumps
+from fptools.blocks import Block, Body, body_of, skip_jumps
 from fptools.copies import rotate, split_ends, split_entries
 from fptools.emission import Names, Writer, as_compiled, ends_of, mark_far
 from fptools.regions import MOST_AROUND, Flows, Irreducible, Loop, Nest, NoOrder, Order, Section
@@ -197,19 +197,19 @@ class _Layout:
     def _function(self, function: Function, marks: list[Marks]) -> list[str]:
         """The lines of a function's body in the new order. Copies of tests may leave others to be copied, so they are laid
         out until nothing changes."""
-        lines = self._once(function, self.assembly.body(function), marks)
+        lines = self._once(function, self.of_function[function.name], self.assembly.body(function), marks)
         for _ in range(MOST_PASSES if self.options.rotate else 0):
             notes = list(self.laid.notes)
-            again = self._once(function, lines, marks)
+            again = self._once(function, list(statements(lines, function.first + 2)), lines, marks)
             self.laid.notes = notes
             if again == lines:
                 break
             lines = again
         return lines
 
-    def _once(self, function: Function, lines: list[str], marks: list[Marks]) -> list[str]:
-        own, flag = list(statements(lines, function.first + 2)), self.flags[function.name]
-        compiled, body = body_of(own, flag), body_of(own, flag)
+    def _once(self, function: Function, own: list[Statement], lines: list[str], marks: list[Marks]) -> list[str]:
+        body = body_of(own, self.flags[function.name])
+        compiled = body.kept()
         if not any(block.code or block.stop for block in body.blocks):
             return lines
         is_copied = split_entries(body.blocks, self.options.most_copies)
@@ -288,7 +288,7 @@ class _Layout:
         line = self.places[sections[0][0].first][1]
         raise Fault(line, f"no order of blocks has the code of {names} between the marks")
 
-    def _written(self, function: Function, compiled: Body, body: Body, order: list[int]) -> list[str]:
+    def _written(self, function: Function, compiled: list[Block], body: Body, order: list[int]) -> list[str]:
         """The lines of blocks in an order, which are read again and compared with what was compiled."""
         ends = ends_of(body.blocks, order)
         mark_far(body.blocks, order, ends)
@@ -301,7 +301,7 @@ class _Layout:
         flag = self.flags[function.name]
         lines = Writer(body, self.names, flag).write(order, ends)
         again = body_of(statements(lines, 1), flag)
-        same = do_the_same(compiled.blocks, again.blocks)
+        same = do_the_same(compiled, again.blocks)
         if not same or not Nest(Flows(again.blocks)).is_in_order([]):
             raise AssertionError(f"{function.name} would not do the same: a fault of fp_layout")
         return lines
