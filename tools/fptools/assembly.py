@@ -1,4 +1,4 @@
-"""The text that gcc and clang write with -S for RV32IM: its functions, their statements, and how control goes on."""
+"""Reads the assembly that gcc and clang write for RV32IM with -S: functions, statements, and the flow of control."""
 from __future__ import annotations
 
 import re
@@ -11,7 +11,7 @@ WORD = 4
 
 
 class Stays(Exception):
-    """Why a function stays as it is, and the line of the assembly that is the reason."""
+    """A function can't be laid out. Has the line of the assembly that prevents it, and why."""
 
     def __init__(self, line: int, why: str) -> None:
         super().__init__(why)
@@ -19,7 +19,7 @@ class Stays(Exception):
 
 
 class Fault(Exception):
-    """Why nothing is written, and the line of the assembly that is the reason; 0 for the whole file."""
+    """The file is refused. Has the line of the assembly (0: the whole file), and why."""
 
     def __init__(self, line: int, why: str) -> None:
         super().__init__(why)
@@ -43,7 +43,7 @@ OPPOSITES = (
     ("bgt", "ble"), ("bgtu", "bleu"),
 )  # fmt: skip
 INVERSE = {one: other for pair in OPPOSITES for one, other in (pair, pair[::-1])}
-"""For each conditional branch the one that is taken exactly where it isn't."""
+"""For each conditional branch the one with the opposite condition."""
 
 STRAIGHT = frozenset(
     """
@@ -54,35 +54,35 @@ STRAIGHT = frozenset(
     nop mv not neg seqz snez sltz sgtz sgt sgtu csrr csrw csrs csrc csrwi csrsi csrci
     """.split()
 )
-"""Instructions of one word, pseudo-instructions among them, after which the next one follows."""
+"""Instructions and pseudo-instructions of one word that don't change the flow of control."""
 
 LARGER = {name: 2 * WORD for name in "li la lla sext.b sext.h zext.b zext.h".split()}
-"""Pseudo-instructions that go straight on, and the most bytes that they take."""
+"""Pseudo-instructions of up to two words that don't change the flow of control, with their largest size in bytes."""
 
 RETURNS = ("ret", "mret")
 TRAPS = ("ebreak", "unimp")
 RETURN_ADDRESS = ("ra", "x1")
 ZERO = ("zero", "x0")
 TIMING = re.compile(r"r\s+(0x0b|11|CUSTOM_0)\s*,\s*(0x)?[0-5]\s*,\s*(0x)?0\s*,", re.IGNORECASE)
-"""The operands of `.insn` for GT, GTH, DU, WU, EE and DE."""
+"""The operands of `.insn` for the timing instructions GT, GTH, DU, WU, EE and DE."""
 
 NUMBER = re.compile(r"-?(0[xX][0-9a-fA-F]+|\d+)")
 SYMBOL_ACCESS = re.compile(r"[^,]+,\s*[A-Za-z_.$][^()]*$")
-"""The operands of a load or store by a symbol's name, which takes two words."""
+"""The operands of a load or store that names a symbol. It takes two words."""
 
 
 @dataclass(frozen=True)
 class Instruction:
-    """An instruction as control goes through it."""
+    """The flow of control of an instruction."""
 
     flow: Flow
-    size: int  # the most bytes that it takes
+    size: int  # in bytes, at most
     target: str = ""  # the label of a branch, jump or call
-    compared: str = ""  # the operands of a branch before its label, with the last comma
+    compared: str = ""  # the operands of a branch before its label, with the comma
 
 
 def instruction(line: int, name: str, rest: str) -> Instruction:
-    """The instruction of a line of assembly; raises Stays for one that isn't known."""
+    """Decodes a mnemonic and its operands. Raises Stays for an unknown one."""
     if name in STRAIGHT:
         is_symbol = name[0] in "ls" and name[1:] in ("b", "h", "w", "bu", "hu") and SYMBOL_ACCESS.match(rest)
         return Instruction(Flow.ON, 2 * WORD if is_symbol else WORD)
@@ -101,14 +101,14 @@ def instruction(line: int, name: str, rest: str) -> Instruction:
 
 
 def _size_of_li(rest: str) -> int:
-    """The most bytes of a constant's load."""
+    """The largest size of `li`, in bytes."""
     number = NUMBER.fullmatch(rest.rpartition(",")[2].strip())
     value = int(number[0], 0) if number else 1 << 30 | 1
     return WORD if -0x800 <= value < 0x800 or value % 0x1000 == 0 else 2 * WORD
 
 
 def _jump(line: int, name: str, operands: list[str]) -> Instruction:
-    """A jump or call by its mnemonic and operands."""
+    """Decodes a jump or a call."""
     first, last = operands[0], operands[-1]
     if name == "jr" or name == "jalr" and len(operands) > 1 and first in ZERO:
         address = last if name == "jr" or len(operands) == 2 else f"{last}({operands[1]})"
@@ -135,7 +135,7 @@ class Kind(Enum):
 
 @dataclass(frozen=True)
 class Statement:
-    """A statement of the assembly, with the line where it is, from 1 on."""
+    """A statement of the assembly. Lines count from 1."""
 
     line: int
     kind: Kind
@@ -152,18 +152,18 @@ IDENTIFIER = r"[A-Za-z_.$][\w.$]*"
 LABEL = re.compile(rf"\s*({IDENTIFIER}|\d+)\s*:")
 PIECE = re.compile(r'(?:"(?:\\.|[^"\\])*"|[^"#;])*')
 NUMBERED = re.compile(r"\b(\d+)([fb])$")
-"""The end of a jump's operands that names a label by its number: the next one onward, or back."""
+"""A numbered label as the last operand of a jump: the next one, or the last one before."""
 
 SOURCE_LINE = re.compile(r'# (\d+) "([^"]+)" 1$')
 SOURCE_END = '# 0 "" 2'
-"""The notes of gcc where an asm of the source begins and ends."""
+"""Where an asm of the source begins and ends, by gcc's comments."""
 
 APP, NO_APP = "#APP", "#NO_APP"
-"""What is before and behind one asm of the source, or several."""
+"""Markers around one or several asms of the source."""
 
 
 def statements(lines: list[str], first: int) -> Iterator[Statement]:
-    """The statements of lines, of which the first has a number."""
+    """The statements of some lines. The first line has the number `first`."""
     by_hand = is_app = False
     for number, line in enumerate(lines, first):
         mark = line.strip()
@@ -176,7 +176,7 @@ def statements(lines: list[str], first: int) -> Iterator[Statement]:
 
 
 def with_names(given: Sequence[Statement]) -> list[Statement]:
-    """The statements with names for the labels that are numbers, which gcc uses for single branches."""
+    """Gives names to numbered labels, which gcc uses for branches over a single instruction."""
     places: dict[str, list[int]] = {}
     for index, it in enumerate(given):
         if it.kind is Kind.LABEL and it.name.isdigit() and not it.by_hand:
@@ -216,7 +216,7 @@ def _of_line(number: int, line: str, by_hand: bool) -> Iterator[Statement]:
 
 
 def _pieces(line: str) -> list[str]:
-    """What `;` separates in a line, without its comment."""
+    """Splits a line at each `;`, without its comment."""
     found, at = [], 0
     while True:
         piece = PIECE.match(line, at)
@@ -230,7 +230,7 @@ def _pieces(line: str) -> list[str]:
 
 
 def _split_labels(piece: str) -> list[str]:
-    """The labels before an instruction, and it."""
+    """Splits labels from the instruction that follows them."""
     found = []
     while label := LABEL.match(piece):
         found.append(label[1] + ":")
@@ -240,7 +240,7 @@ def _split_labels(piece: str) -> list[str]:
 
 @dataclass(frozen=True)
 class Function:
-    """A function by the indices of the lines of its label and of its `.size`."""
+    """A function, with the indices of the lines of its label and of its `.size`."""
 
     name: str
     first: int
@@ -256,7 +256,7 @@ EXTENSION = re.compile(r"rv32i[\dp]*((_?(m|zicsr|zifencei|zmmul))[\dp]*)*")
 
 
 class Assembly:
-    """A file of assembly that gcc or clang wrote; raises Fault for another one."""
+    """A file of assembly that gcc or clang wrote. Raises Fault for any other."""
 
     def __init__(self, text: str) -> None:
         self.text = text
@@ -291,7 +291,7 @@ class Assembly:
 
 
 def source_of(lines: list[str], line: int) -> str:
-    """The place in the C source that a line of assembly was compiled from, as `name:line`; else empty."""
+    """The place in the C source of a line of assembly, as `name:line`. Empty where it isn't known."""
     is_behind = False
     for text in reversed(lines[:line]):
         is_behind = (is_behind or text.strip() == NO_APP) and text.strip() != APP

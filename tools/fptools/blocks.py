@@ -1,4 +1,4 @@
-"""A function of assembly as blocks of straight code, with the lines, frames and labels that a debugger needs."""
+"""Basic blocks of a compiled function, with their source lines, call frames and debugger's labels."""
 from __future__ import annotations
 
 import re
@@ -10,17 +10,17 @@ from fptools.assembly import WORD, Flow, Kind, Stays, Statement, instruction, wi
 
 
 class Part(Enum):
-    """What an item of a block is."""
+    """The kind of an item in a block."""
 
-    CODE = auto()  # an instruction that goes straight on
-    NOTE = auto()  # a directive or a label that nothing leads to
+    CODE = auto()  # an instruction after which the next one follows
+    NOTE = auto()  # a directive, or a label that is no jump's target
     LINE = auto()  # a `.loc`
     FRAME = auto()  # a change of the call frame
 
 
 @dataclass(frozen=True)
 class SourceLine:
-    """What a `.loc` states: file, line and column; further words; and whether a statement begins there."""
+    """A `.loc`: file, line and column; further operands; and the flag is_stmt."""
 
     place: str
     more: str = ""
@@ -31,20 +31,20 @@ class SourceLine:
 
     @property
     def again(self) -> SourceLine:
-        """The same line for code that follows later."""
+        """The same line without the operands that hold for one instruction."""
         return replace(self, more="")
 
 
 @dataclass(frozen=True)
 class Frame:
-    """The rules by which a debugger finds the caller's registers: the frame's address, and where each register is."""
+    """The call frame at an instruction: the register and offset of its address, and where registers are saved."""
 
     base: str = "2"
     offset: int = 0
     saved: tuple[tuple[str, str], ...] = ()
 
     def changed_from(self, before: Frame) -> list[str]:
-        """The directives that lead from other rules to these."""
+        """The directives that change another frame into this one."""
         lines = []
         if self.base != before.base:
             lines.append(f"\t.cfi_def_cfa {self.base}, {self.offset}")
@@ -57,7 +57,7 @@ class Frame:
 
 @dataclass(frozen=True)
 class Item:
-    """A piece of a block, with the line of the assembly where it is."""
+    """An instruction, directive or label in a block, with its line in the assembly."""
 
     part: Part
     text: str
@@ -70,7 +70,7 @@ class Item:
 
 @dataclass(frozen=True)
 class Branch:
-    """A conditional branch to a block: its mnemonic, and its operands before the label, with their comma."""
+    """A conditional branch to a block: its mnemonic, and its operands before the label, with the comma."""
 
     name: str
     compared: str
@@ -79,29 +79,29 @@ class Branch:
 
 @dataclass
 class Block:
-    """Straight code, with what is true where it begins: source line and frame."""
+    """A basic block, with the source line and the frame at its first instruction."""
 
     line: int = 0
     labels: list[str] = field(default_factory=list)
-    marks: set[str] = field(default_factory=set)  # those of the labels that are the source's own
-    declared: list[Item] = field(default_factory=list)  # what the source states of these
+    marks: set[str] = field(default_factory=set)  # the labels that the source defines
+    declared: list[Item] = field(default_factory=list)  # their `.globl`
     items: list[Item] = field(default_factory=list)
     branch: Branch | None = None
-    onward: int | None = None  # the block that follows, unless the branch is taken
+    onward: int | None = None  # the successor, unless the branch is taken
     stop: Item | None = None  # a return or a trap
-    ends: list[Item] = field(default_factory=list)  # labels of a debugger behind the last instruction
-    has_jump: bool = False  # the block goes on by a jump
+    ends: list[Item] = field(default_factory=list)  # debugger's labels after the last instruction
+    has_jump: bool = False  # a jump leads to the successor
     source: SourceLine | None = None
     frame: Frame | None = None
 
     @property
     def is_open(self) -> bool:
-        """Whether control would run out of the function here: a call that doesn't come back, for the most part."""
+        """Whether control would run past the function's end, as after a call that never returns."""
         return self.onward is None and self.stop is None
 
     @property
     def size(self) -> int:
-        """The most bytes of its straight code."""
+        """The largest size of its items, in bytes. The branch, jump or return isn't counted."""
         return sum(item.size for item in self.items)
 
     @property
@@ -110,25 +110,29 @@ class Block:
 
     @property
     def is_jump(self) -> bool:
-        """Whether it only leads on."""
+        """Whether it only jumps."""
         return self.onward is not None and not (self.branch or self.marks or self.code)
 
     @property
     def next_blocks(self) -> list[int]:
-        """Where control goes on: the branch's target, and the block that follows."""
+        """The successors: the branch's target first."""
         branch = [self.branch.to] if self.branch else []
         return branch + ([self.onward] if self.onward is not None and self.onward not in branch else [])
 
     def lead_to(self, changed: dict[int, int]) -> None:
-        """Goes on at other blocks."""
+        """Replaces successors."""
         if self.branch:
             self.branch = replace(self.branch, to=changed.get(self.branch.to, self.branch.to))
         if self.onward is not None:
             self.onward = changed.get(self.onward, self.onward)
 
     def copied(self) -> Block:
-        """The same code once more, without labels, and without a debugger's."""
-        items = [replace(it, source=it.source and _bare(it.source)) for it in self.items if it.part is not Part.NOTE]
+        """A copy without labels."""
+        items = [
+            replace(it, source=it.source and _bare(it.source))
+            for it in self.items
+            if it.part is not Part.NOTE
+        ]
         return replace(self, labels=[], marks=set(), declared=[], items=items, ends=[])
 
 
@@ -137,10 +141,22 @@ def _bare(source: SourceLine) -> SourceLine:
 
 
 KEPT_IN_ASM = (".globl", ".global")
-HARMLESS = (".loc", ".file", ".cfi_", ".align", ".p2align", ".balign", ".globl", ".global", ".local", ".weak", ".hidden")
+HARMLESS = (
+    ".loc",
+    ".file",
+    ".cfi_",
+    ".align",
+    ".p2align",
+    ".balign",
+    ".globl",
+    ".global",
+    ".local",
+    ".weak",
+    ".hidden",
+)
 SECTION = (".section", ".text", ".data", ".bss", ".pushsection", ".popsection", ".previous", ".subsection")
 RANGE_END = re.compile(r"\.L(BE|FE|BBE)\d*$")
-"""Labels that a debugger takes as the end of what is before them."""
+"""Labels at the end of a range of instructions."""
 
 SWITCH = "; -fno-jump-tables compiles a switch without a table"
 PARTS = "-fno-reorder-blocks-and-partition keeps it in one section"
@@ -148,7 +164,7 @@ SIBLING = "another function returns for it: -fno-optimize-sibling-calls keeps a 
 
 
 class Reader:
-    """Makes blocks of a function's statements; raises Stays where control can't be known."""
+    """Builds blocks from statements. Raises Stays where the flow of control isn't known."""
 
     def __init__(self, statements: Iterable[Statement], is_statement: bool) -> None:
         self.statements = with_names(list(statements))
@@ -161,8 +177,8 @@ class Reader:
         self.is_ended = False
         self.source: SourceLine | None = None
         self.frame = Frame()
-        self.frames: list[Frame] = []  # that are remembered
-        self.lost_frame = ""  # a directive of a frame that isn't known
+        self.frames: list[Frame] = []  # of `.cfi_remember_state`
+        self.lost_frame = ""  # the first unknown directive of a frame
         for statement in self.statements:
             self._take(statement)
 
@@ -181,12 +197,12 @@ class Reader:
             self._code(it)
 
     def _begin(self, line: int) -> None:
-        """Begins a block, which gets what is pending."""
+        """Begins a block. It gets the pending items."""
         self.blocks.append(Block(line, source=self.source, frame=self.frame))
         self.is_ended = False
 
     def _settle(self, line: int) -> None:
-        """Gives the block what is pending, before an instruction."""
+        """Adds the pending items to the block, before an instruction."""
         if self.is_ended:
             self._begin(line)
         if not self.block.code:
@@ -221,9 +237,14 @@ class Reader:
 
     @property
     def _is_behind_call(self) -> bool:
-        """Whether the last that was taken is a call: then a label is where it returns to."""
+        """Whether the last item is a call. A label after it is the return address."""
         last = self.block.items[-1:]
-        return bool(last) and not self.pending and not self.is_ended and last[0].text.split()[0] in ("call", "jal", "jalr")
+        return (
+            bool(last)
+            and not self.pending
+            and not self.is_ended
+            and last[0].text.split()[0] in ("call", "jal", "jalr")
+        )
 
     def _directive(self, it: Statement) -> None:
         if it.by_hand and not it.name.startswith(KEPT_IN_ASM):
@@ -268,7 +289,9 @@ class Reader:
             self.frame = replace(self.frame, base=words[0])
         elif it.name in (".cfi_offset", ".cfi_restore"):
             saved.pop(words[0], "")
-            self.frame = replace(self.frame, saved=(*saved.items(), *([(words[0], words[1])] if words[1:] else [])))
+            self.frame = replace(
+                self.frame, saved=(*saved.items(), *([(words[0], words[1])] if words[1:] else []))
+            )
         elif it.name == ".cfi_remember_state":
             self.frames.append(self.frame)
         elif it.name == ".cfi_restore_state" and self.frames:
@@ -296,7 +319,9 @@ class Reader:
         self._settle(it.line)
         block = self.block
         if made.flow in (Flow.ON, Flow.CALL):
-            text = f"\tjal\t{made.target.removesuffix('@plt')}" if made.target and it.name == "call" else it.text
+            text = (
+                f"\tjal\t{made.target.removesuffix('@plt')}" if made.target and it.name == "call" else it.text
+            )
             block.items.append(Item(Part.CODE, text, it.line, size=WORD if made.target else made.size))
             return
         self.is_ended = True
@@ -311,7 +336,7 @@ class Reader:
 
 
 def _leads_to(it: Statement) -> list[str]:
-    """The label that a branch or jump leads to."""
+    """The target of a branch or jump."""
     if it.kind is not Kind.CODE or it.by_hand:
         return []
     try:
@@ -323,26 +348,30 @@ def _leads_to(it: Statement) -> list[str]:
 
 @dataclass
 class Body:
-    """The blocks of a function, of which the first is where it begins, and what stands behind the last."""
+    """The blocks of a function, the entry first."""
 
     blocks: list[Block]
-    behind: list[Item]
+    behind: list[Item]  # after the last block
     source: SourceLine | None  # at the end
     lost_frame: str
 
     def kept(self) -> list[Block]:
-        """The blocks as they are now, whatever is changed later."""
+        """A copy of the blocks, which later changes don't reach."""
         return [replace(it, labels=list(it.labels), items=list(it.items)) for it in self.blocks]
 
 
 def body_of(statements: Iterable[Statement], is_statement: bool = True) -> Body:
-    """The blocks of a function's statements, before which a flag of the line table was; raises Stays."""
+    """The blocks of a function. `is_statement` is the line table's flag before it. Raises Stays."""
     reader = Reader(statements, is_statement)
     blocks = reader.blocks
     at = {label: index for index, block in enumerate(blocks) for label in block.labels}
     for index, (line, label) in [*reader.branches.items(), *reader.jumps.items()]:
         if label not in at:
-            raise Stays(line, f"a jump to `{label}`, which isn't in it" + ("" if label.startswith(".L") else f": {SIBLING}"))
+            raise Stays(
+                line,
+                f"a jump to `{label}`, which isn't in it"
+                + ("" if label.startswith(".L") else f": {SIBLING}"),
+            )
     for index, (_, label) in reader.branches.items():
         branch = blocks[index].branch
         assert branch
@@ -357,7 +386,7 @@ def body_of(statements: Iterable[Statement], is_statement: bool = True) -> Body:
 
 
 def _with_entry(blocks: list[Block]) -> list[Block]:
-    """The blocks, with an empty one before the first where something leads back to that."""
+    """Puts an empty block before the first where that one has predecessors."""
     if not any(0 in block.next_blocks for block in blocks):
         return blocks
     shifted = {k: k + 1 for k in range(len(blocks))}
@@ -371,7 +400,7 @@ def _with_entry(blocks: list[Block]) -> list[Block]:
 
 
 def skip_jumps(blocks: list[Block]) -> set[int]:
-    """Leads past blocks that only jump on, and gives their labels to those where they end. The blocks that are left out."""
+    """Removes blocks that only jump from all paths, and moves their labels to the targets. Returns these blocks."""
     changed = {}
     for index in range(len(blocks)):
         to, seen = index, {index}

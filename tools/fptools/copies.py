@@ -1,5 +1,4 @@
-"""Copies of blocks: of those by which a loop is entered at a second place, of those in which a section ends otherwise than at
-its mark, and of a loop's test at its end."""
+"""Copies of blocks: for loops with several entries, for sections that share a trap with other code, and of loops' tests."""
 from __future__ import annotations
 
 from collections.abc import Iterable, Iterator
@@ -20,7 +19,7 @@ MOST_BACK_EDGES = 2
 
 @dataclass(frozen=True)
 class Entry:
-    """A block by which a loop is entered beside its head, the loop's blocks, and those to which it leads before the head."""
+    """A second entry of a loop, the loop's blocks, and those that the entry reaches before the head."""
 
     block: int
     inside: set[int]
@@ -28,8 +27,9 @@ class Entry:
 
 
 def split_entries(blocks: list[Block], most: int) -> bool:
-    """Copies blocks until each loop is entered at one block, with at most so many instructions in the copies; raises
-    Stays. Whether any were copied."""
+    """Copies blocks until each loop has one entry. Returns whether it did.
+
+    Raises Stays where the copies would have more than `most` instructions."""
     left, is_changed = most, False
     while found := list(_second_entries(flows := Flows(blocks))):
         is_changed = True
@@ -39,18 +39,20 @@ def split_entries(blocks: list[Block], most: int) -> bool:
             if any(blocks[index].marks for index in it.behind):
                 raise Stays(line, "a loop is entered at two places, and a mark is behind one of them")
             if left < 0:
-                raise Stays(line, f"a loop is entered at two places, and copies of {most} instructions don't end that")
+                raise Stays(
+                    line, f"a loop is entered at two places, and copies of {most} instructions don't end that"
+                )
             _copy(blocks, flows, it)
     return is_changed
 
 
 def _length(block: Block) -> int:
-    """Its instructions, with those that lead on."""
+    """The number of its instructions, with a branch and a jump."""
     return len(block.code) + 2
 
 
 def _second_entries(flows: Flows) -> Iterator[Entry]:
-    """A second entry of each loop that has several, but none of loops inside that one."""
+    """A second entry of each outermost loop that has several."""
     ahead = [networkx.DiGraph(flows.edges())]
     while ahead:
         part = ahead.pop()
@@ -66,7 +68,7 @@ def _second_entries(flows: Flows) -> Iterator[Entry]:
 
 
 def _best_head(flows: Flows, inside: set[int], entries: list[int]) -> int:
-    """The entry of a loop as whose head the least is copied, of those to which the most blocks of the loop lead."""
+    """The entry that makes the cheapest head, among those with the most predecessors in the loop."""
 
     def cost(head: int) -> int:
         others = [it for it in entries if it != head]
@@ -80,7 +82,7 @@ def _best_head(flows: Flows, inside: set[int], entries: list[int]) -> int:
 
 
 def _before_head(flows: Flows, inside: set[int], entries: list[int], head: int) -> set[int]:
-    """The blocks of a loop to which entries lead before a head."""
+    """The blocks of a loop that entries reach before a head."""
     seen, ahead = set(entries), list(entries)
     while ahead:
         new = {it for it in flows.next_blocks[ahead.pop()] if it in inside and it != head and it not in seen}
@@ -90,7 +92,7 @@ def _before_head(flows: Flows, inside: set[int], entries: list[int], head: int) 
 
 
 def _copy(blocks: list[Block], flows: Flows, entry: Entry) -> None:
-    """Copies blocks for what enters a loop at one of them from outside."""
+    """Copies the blocks behind an entry, for the edges that enter there from outside."""
     copies = {index: len(blocks) + k for k, index in enumerate(entry.behind)}
     blocks += [blocks[index].copied() for index in entry.behind]
     for index in copies.values():
@@ -101,13 +103,18 @@ def _copy(blocks: list[Block], flows: Flows, entry: Entry) -> None:
 
 
 def split_ends(blocks: list[Block], section: Section, most: int) -> bool:
-    """Gives a section copies of the blocks that it reaches but from which it doesn't come to its end, as a trap that it
-    shares with other code. Whether it did."""
+    """Copies the blocks of a section that don't reach its end, where other code shares them, as a trap.
+
+    Returns whether it did. It doesn't where the copies would have more than `most` instructions."""
     flows = Flows(blocks)
     passing = flows.passing(section)
     ends = sorted(section.blocks - passing)
     is_shared = any(not set(flows.before[it]) <= section.blocks for it in ends)
-    if not is_shared or any(blocks[it].marks for it in ends) or sum(_length(blocks[it]) for it in ends) > most:
+    if (
+        not is_shared
+        or any(blocks[it].marks for it in ends)
+        or sum(_length(blocks[it]) for it in ends) > most
+    ):
         return False
     copies = {index: len(blocks) + k for k, index in enumerate(ends)}
     blocks += [blocks[index].copied() for index in ends]
@@ -118,7 +125,7 @@ def split_ends(blocks: list[Block], section: Section, most: int) -> bool:
 
 @dataclass(frozen=True)
 class Test:
-    """A loop's test at its head: the blocks that go back to it, the block inside that follows it, and the one outside."""
+    """A loop's test at its head: the ends of the back edges, and its successors inside and outside of the loop."""
 
     head: int
     ends: tuple[int, ...]
@@ -131,8 +138,9 @@ class Test:
 
 
 def rotate(blocks: list[Block], most: int) -> bool:
-    """Puts copies of a loop's test where the loop goes back by a jump, if the test has at most so many instructions
-    before its branch. Whether it did."""
+    """Copies a loop's test to its ends, in place of jumps to it. Returns whether it did.
+
+    The test has at most `most` instructions before its branch."""
     is_changed = False
     while tests := _apart(_tests(blocks, most)):
         is_changed = True
@@ -143,7 +151,7 @@ def rotate(blocks: list[Block], most: int) -> bool:
 
 
 def _apart(tests: Iterable[Test]) -> list[Test]:
-    """Those of which none changes what another looks at."""
+    """Those with no block in common."""
     found: list[Test] = []
     touched: set[int] = set()
     for test in tests:
@@ -161,14 +169,16 @@ def _tests(blocks: list[Block], most: int) -> Iterator[Test]:
         ends = [index for index in flows.before[loop.head] if index in loop.blocks]
         is_short = len(head.code) <= most and not head.marks
         # A jump alone may be what is left of a branch that was too far.
-        goes_back_by_jump = len(ends) <= MOST_BACK_EDGES and all(blocks[it].code and not blocks[it].branch for it in ends)
+        goes_back_by_jump = len(ends) <= MOST_BACK_EDGES and all(
+            blocks[it].code and not blocks[it].branch for it in ends
+        )
         if inside is not None and outside is not None and is_short and goes_back_by_jump:
             if flows.before[inside] == [loop.head]:
                 yield Test(loop.head, tuple(ends), inside, outside)
 
 
 def _sides(flows: Flows, loop: Loop) -> tuple[int | None, int | None]:
-    """The blocks inside and outside of a loop that its head leads to, if it is one each."""
+    """The head's successors inside and outside of a loop, if there is one each."""
     onward = flows.next_blocks[loop.head]
     inside = [it for it in onward if it in loop.blocks]
     outside = [it for it in onward if it not in loop.blocks]
@@ -178,7 +188,7 @@ def _sides(flows: Flows, loop: Loop) -> tuple[int | None, int | None]:
 
 
 def _append_test(end: Block, head: Block) -> None:
-    """Goes on with a copy of a loop's test where a block goes back to it."""
+    """Adds a copy of a loop's test to a block that jumps to it."""
     copy = head.copied()
     if copy.source:
         end.items.append(Item(Part.LINE, "", head.line, source=copy.source))

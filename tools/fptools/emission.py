@@ -1,4 +1,4 @@
-"""Writes blocks in an order as assembly: branches inverted, jumps added and left out, and what a debugger needs."""
+"""Writes blocks as assembly in a given order: inverts branches, adds and omits jumps, restates lines and frames."""
 from __future__ import annotations
 
 from collections.abc import Mapping, Sequence
@@ -8,10 +8,10 @@ from fptools.assembly import APP, INVERSE, NO_APP, WORD
 from fptools.blocks import Block, Body, Branch, Frame, Item, Part, SourceLine
 
 KEPT_OF_LOST = (".cfi_startproc", ".cfi_endproc", ".cfi_sections")
-"""The directives that a function without rules of its frame keeps."""
+"""The frame directives that remain where the others are lost."""
 
 BRANCH_REACH = 4094
-"""A branch leads at most so many bytes onward, and two more back."""
+"""A branch reaches so many bytes onward, and two more back."""
 
 
 @dataclass
@@ -37,7 +37,7 @@ class Names:
 
 @dataclass
 class End:
-    """How a block ends: a branch to a block, which may be far, a jump to one, and a trap where control would run out."""
+    """The end of a block: a branch, which may be far; a jump; a trap where control would run past the function."""
 
     branch: Branch | None = None
     jump: int | None = None
@@ -51,8 +51,10 @@ class End:
 
 
 def ends_of(blocks: Sequence[Block], order: Sequence[int]) -> list[End]:
-    """How the blocks end in an order. Where a branch and a jump are needed, the branch goes round the innermost loop, and
-    the jump, which is one instruction more, leaves it."""
+    """The ends of blocks in an order.
+
+    Where a block needs a branch and a jump, the branch goes to the head of the innermost loop: the jump costs one
+    instruction more."""
     rank = {index: k for k, index in enumerate(order)}
     followings: list[int | None] = [*order[1:], None]
     return [_end_of(blocks[index], following, rank) for index, following in zip(order, followings)]
@@ -71,12 +73,12 @@ def _end_of(block: Block, following: int | None, rank: Mapping[int, int]) -> End
 
 
 def as_compiled(blocks: Sequence[Block]) -> list[End]:
-    """How blocks end as they are."""
+    """The ends of blocks in the compiler's order."""
     return [End(it.branch, it.onward if it.has_jump else None) for it in blocks]
 
 
 def mark_far(blocks: Sequence[Block], order: Sequence[int], ends: Sequence[End]) -> bool:
-    """Notes which branches of an order may lead further than a branch can. Whether there are any."""
+    """Marks the branches whose target may be out of reach. Returns whether there are any."""
     is_changed = True
     while is_changed:
         is_changed = False
@@ -130,7 +132,7 @@ class Writer:
         self.lines.append(text)
 
     def _asm(self, by_hand: bool) -> None:
-        """Begins or ends what is of an asm of the source."""
+        """Begins or ends an asm of the source."""
         if by_hand != self.by_hand:
             self.lines.append(APP if by_hand else NO_APP)
             self.by_hand = by_hand
@@ -156,7 +158,7 @@ class Writer:
 
     @staticmethod
     def _states_line(block: Block) -> bool:
-        """Whether it states the line of its first instruction itself."""
+        """Whether a `.loc` comes before its first instruction."""
         for item in block.items:
             if item.part in (Part.CODE, Part.LINE):
                 return item.part is Part.LINE
@@ -182,7 +184,7 @@ class Writer:
         self.frame = frame
 
     def _put_line_flag(self) -> None:
-        """Leaves the flag of the line table as the compiler does, which what follows goes on from."""
+        """Leaves the line table's flag as the compiler does, for the functions that follow."""
         source = self.body.source
         if source and source.is_statement != self.is_statement:
             self._to_line(source)

@@ -1,5 +1,4 @@
-"""Puts the blocks of compiled functions into an order in which each loop is an interval that begins with its head, and
-each section between two marks holds all that is reached from the one before the other."""
+"""Orders the blocks of compiled functions so that the analyser takes each loop, and nothing leaves a section."""
 from __future__ import annotations
 
 import re
@@ -17,18 +16,25 @@ MOST_COPIES = 2000
 """A function gets copies of so many instructions at most, if nothing else is asked."""
 
 MOST_PASSES = 20
-"""A function with copied tests is laid out so often at most."""
+"""With copies of tests, a function is laid out so often at most."""
 
 MOST_BYTES = 1 << 20
-"""A jump doesn't reach further."""
+"""The reach of a jump."""
 
-PARTNERS = (("begin", "end"), ("start", "end"), ("start", "stop"), ("from", "to"), ("first", "last"), ("enter", "leave"))
-"""Words in the names of two marks, by which they are those of one section."""
+PARTNERS = (
+    ("begin", "end"),
+    ("start", "end"),
+    ("start", "stop"),
+    ("from", "to"),
+    ("first", "last"),
+    ("enter", "leave"),
+)
+"""Words by which the names of two marks make a section."""
 
 
 @dataclass(frozen=True)
 class Message:
-    """What is to be said of a line of the assembly; of line 0 where it is of the whole file."""
+    """A message about a line of the assembly (0: the whole file)."""
 
     line: int
     text: str
@@ -36,7 +42,7 @@ class Message:
 
 @dataclass(frozen=True)
 class Marks:
-    """The marks of a section, by their names; those that are only guessed are let go where they don't fit."""
+    """The names of a section's marks. A guess is dropped where no order satisfies it."""
 
     first: str
     end: str
@@ -48,16 +54,16 @@ class Marks:
 
 @dataclass(frozen=True)
 class Options:
-    """What is asked of the layout."""
+    """Options of the layout."""
 
     sections: tuple[Marks, ...] = ()
-    rotate: int = 0  # the most instructions of a test that is copied to its loop's end
+    rotate: int = 0  # the most instructions of a loop's test that is copied; 0: none is
     most_copies: int = MOST_COPIES
 
 
 @dataclass
 class Laid:
-    """The assembly in the new order, the functions that stay as they are, and what else is worth to be known."""
+    """The assembly in the new order, messages about functions that stay as they are, and further notes."""
 
     text: str = ""
     kept: list[Message] = field(default_factory=list)
@@ -65,12 +71,12 @@ class Laid:
 
 
 def lay_out(assembly: Assembly, options: Options = Options()) -> Laid:
-    """Lays out all functions; raises Fault."""
+    """Lays out all functions. Raises Fault."""
     return _Layout(assembly, options).run()
 
 
 def partner(mark: str, marks: Sequence[str]) -> str | None:
-    """The mark of the end for one of a beginning, by their names."""
+    """The end mark for a begin mark, by their names."""
     for begin, end in PARTNERS:
         for name in _with_word(mark, begin, end):
             if name in marks:
@@ -79,7 +85,7 @@ def partner(mark: str, marks: Sequence[str]) -> str | None:
 
 
 def _with_word(mark: str, begin: str, end: str) -> list[str]:
-    """A mark's name with one word in the place of another."""
+    """A mark's name with one word replaced."""
     words = re.split(r"(_)", mark)
     return ["".join([*words[:k], end, *words[k + 1 :]]) for k, word in enumerate(words) if word == begin]
 
@@ -96,12 +102,15 @@ class _Layout:
             it.name: list(statements(self.assembly.body(it), it.first + 2)) for it in self.assembly.functions
         }
         self.places = {
-            it.name: (function, it.line) for function, own in self.of_function.items() for it in own if _is_mark(it)
+            it.name: (function, it.line)
+            for function, own in self.of_function.items()
+            for it in own
+            if _is_mark(it)
         }
         self.flags = self._line_flags()
 
     def _line_flags(self) -> dict[str, bool]:
-        """For each function the flag `is_stmt` of the line table before it."""
+        """The line table's flag `is_stmt` before each function."""
         flags, first, flag = {}, 0, True
         for function in self.assembly.functions:
             for line in self.assembly.lines[first : function.first]:
@@ -127,7 +136,7 @@ class _Layout:
     # ------------------------------------------------------------ sections
 
     def _sections(self) -> dict[str, list[Marks]]:
-        """The sections of each function, by their marks; raises Fault for marks that are none, or of two functions."""
+        """The sections of each function. Raises Fault for unknown marks, and for marks in two functions."""
         found = list(self.options.sections)
         for mark in sorted(self.places):
             end = partner(mark, list(self.places))
@@ -145,7 +154,7 @@ class _Layout:
         return by_function
 
     def _with_guesses(self, body: Body, flows: Flows, marks: list[Marks]) -> list[Marks]:
-        """The sections, with one from each mark that has no partner to the one that every path from it meets next."""
+        """Adds a section from each mark without a partner to the next mark, if all paths meet the same one."""
         at = {label: index for index, block in enumerate(body.blocks) for label in block.marks}
         paired = {it.first for it in marks} | {it.end for it in marks}
         guesses = []
@@ -158,7 +167,7 @@ class _Layout:
         return marks + guesses
 
     def _section(self, nest: Nest, body: Body, marks: Marks) -> Section | None:
-        """The blocks of a section; raises Fault where its marks cross a loop, None for a guess that does."""
+        """The blocks of a section. Raises Fault where its marks cross a loop; returns None for such a guess."""
         at = {label: index for index, block in enumerate(body.blocks) for label in block.marks}
         first, end = at[marks.first], at[marks.end]
         if not {first, end} <= nest.flows.reached or first == end:
@@ -170,7 +179,7 @@ class _Layout:
         return None if why else section
 
     def _crossing(self, nest: Nest, body: Body, section: Section) -> str:
-        """Why no order of blocks has a section between its marks; empty where one may have."""
+        """Why a section can't be between its marks. Empty where it may be."""
         if not any(section.end in nest.flows.next_blocks[index] for index in section.blocks):
             return "never reaches its end"
         begins_in, ends_in = nest.around(section.first), nest.around(section.end)
@@ -187,7 +196,7 @@ class _Layout:
         return ""
 
     def _place(self, body: Body, loop: Loop) -> str:
-        """Where a loop is, by the line of the assembly and of the source."""
+        """A loop's place in the assembly, and in the source where it is known."""
         line = body.blocks[loop.head].line
         source = source_of(self.assembly.lines, line)
         return f"the loop at line {line}" + (f" ({source})" if source else "")
@@ -195,8 +204,9 @@ class _Layout:
     # ------------------------------------------------------------ functions
 
     def _function(self, function: Function, marks: list[Marks]) -> list[str]:
-        """The lines of a function's body in the new order. Copies of tests may leave others to be copied, so they are laid
-        out until nothing changes."""
+        """The lines of a function's body in the new order.
+
+        Copies of tests may make others possible, so this repeats until nothing changes."""
         lines = self._once(function, self.of_function[function.name], self.assembly.body(function), marks)
         for _ in range(MOST_PASSES if self.options.rotate else 0):
             notes = list(self.laid.notes)
@@ -207,7 +217,9 @@ class _Layout:
             lines = again
         return lines
 
-    def _once(self, function: Function, own: list[Statement], lines: list[str], marks: list[Marks]) -> list[str]:
+    def _once(
+        self, function: Function, own: list[Statement], lines: list[str], marks: list[Marks]
+    ) -> list[str]:
         body = body_of(own, self.flags[function.name])
         compiled = body.kept()
         if not any(block.code or block.stop for block in body.blocks):
@@ -235,11 +247,16 @@ class _Layout:
         except Irreducible:
             raise AssertionError("a loop is entered at two places, after copies") from None
 
-    def _note(self, function: Function, body: Body, nest: Nest, sections: list[tuple[Marks, Section]]) -> None:
-        """Notes what no order helps against: loops that lie too deep, and returns in a section."""
+    def _note(
+        self, function: Function, body: Body, nest: Nest, sections: list[tuple[Marks, Section]]
+    ) -> None:
+        """Notes loops that lie too deep, and returns in a section: no order helps against these."""
         for loop in nest.loops.values():
             inside = [section.blocks for _, section in sections if loop.blocks <= section.blocks]
-            depth = min((sum(it.blocks <= blocks for it in nest.around(loop.head)) - 1 for blocks in inside), default=loop.depth)
+            depth = min(
+                (sum(it.blocks <= blocks for it in nest.around(loop.head)) - 1 for blocks in inside),
+                default=loop.depth,
+            )
             if depth == MOST_AROUND + 1:
                 text = f"{self._place(body, loop)} lies in {depth} others, and a bound takes {MOST_AROUND}"
                 self.laid.notes.append(Message(body.blocks[loop.head].line, f"{function.name}: {text}"))
@@ -252,7 +269,7 @@ class _Layout:
 
     @staticmethod
     def _is_done(body: Body, nest: Nest, sections: list[Section]) -> bool:
-        """Whether the compiler's order is right, each branch is near, and control never runs out."""
+        """Whether the analyser takes the compiler's order, all targets are in reach, and control stays in the function."""
         blocks = body.blocks
         runs_out = any(blocks[index].is_open for index in nest.flows.reached)
         far = mark_far(blocks, range(len(blocks)), as_compiled(blocks))
@@ -260,7 +277,7 @@ class _Layout:
 
     @staticmethod
     def _with_direct_calls(function: Function, body: Body, compiled: list[str]) -> list[str]:
-        """The lines of a function, with calls that are a single word."""
+        """The lines of a function, with calls of one word."""
         lines = list(compiled)
         for block in body.blocks:
             for item in block.code:
@@ -269,15 +286,20 @@ class _Layout:
         return lines
 
     def _order(self, body: Body, marks: list[Marks]) -> list[int]:
-        """The order of the blocks; raises Fault. Where there is none, sections get copies of the blocks that lead elsewhere
-        than to their end, and then sections that are only guessed are let go."""
+        """The order of the blocks. Raises Fault where there is none.
+
+        Sections may get copies of the blocks that don't reach their end. Then guesses are dropped."""
         for is_sure in (False, True):
             nest = self._nest(body)
-            sections = [it for it in self._found_sections(body, nest, marks) if not (is_sure and it[0].is_guess)]
+            sections = [
+                it for it in self._found_sections(body, nest, marks) if not (is_sure and it[0].is_guess)
+            ]
             for _ in range(len(sections) + 1):
                 try:
                     order = Order(nest, [section for _, section in sections]).made()
-                    return order + [index for index in range(len(body.blocks)) if index not in nest.flows.reached]
+                    return order + [
+                        index for index in range(len(body.blocks)) if index not in nest.flows.reached
+                    ]
                 except NoOrder:
                     if not any(split_ends(body.blocks, it, self.options.most_copies) for _, it in sections):
                         break
@@ -289,14 +311,16 @@ class _Layout:
         raise Fault(line, f"no order of blocks has the code of {names} between the marks")
 
     def _written(self, function: Function, compiled: list[Block], body: Body, order: list[int]) -> list[str]:
-        """The lines of blocks in an order, which are read again and compared with what was compiled."""
+        """Writes the blocks in an order, reads the lines again, and compares them with the compiler's."""
         ends = ends_of(body.blocks, order)
         mark_far(body.blocks, order, ends)
         size = sum(body.blocks[index].size + end.size for index, end in zip(order, ends))
         if size >= MOST_BYTES:
             raise Stays(function.first + 1, f"it takes {size} bytes, and a jump reaches {MOST_BYTES}")
         if body.lost_frame:
-            text = f"{function.name}: its call frames are lost for a debugger: `{body.lost_frame}` isn't known"
+            text = (
+                f"{function.name}: its call frames are lost for a debugger: `{body.lost_frame}` isn't known"
+            )
             self.laid.notes.append(Message(function.first + 1, text))
         flag = self.flags[function.name]
         lines = Writer(body, self.names, flag).write(order, ends)
@@ -308,5 +332,5 @@ class _Layout:
 
 
 def _is_mark(it: Statement) -> bool:
-    """Whether it is a label that the source has itself."""
+    """Whether the source defines it: a label that the compiler wouldn't."""
     return it.kind is Kind.LABEL and not it.name.startswith(".L") and not it.name.isdigit()

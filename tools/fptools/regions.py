@@ -1,4 +1,4 @@
-"""The loops of a function's blocks, and an order in which each loop is an interval that begins with its head."""
+"""Natural loops of a function's blocks, and an order in which each loop is an interval with its head first."""
 from __future__ import annotations
 
 import heapq
@@ -16,16 +16,16 @@ MOST_AROUND = 3
 
 
 class NoOrder(Exception):
-    """No order has all that is wanted: the sections cross loops, or one another."""
+    """No order keeps the loops together and the sections between their marks."""
 
 
 class Irreducible(Exception):
-    """A loop is entered at several blocks."""
+    """A loop has several entries."""
 
 
 @dataclass
 class Loop:
-    """A natural loop: its head, by which alone it is entered, its blocks, and the loop around it."""
+    """A natural loop: its head, which is its only entry, its blocks, and the loop around it."""
 
     head: int
     blocks: set[int]
@@ -39,7 +39,7 @@ class Loop:
 
 @dataclass(frozen=True)
 class Section:
-    """The blocks that are reached from a block before another: they belong between the two."""
+    """The blocks that `first` reaches without going through `end`. They belong between the two."""
 
     first: int
     end: int
@@ -48,7 +48,7 @@ class Section:
 
 @dataclass
 class Flows:
-    """What leads where among the blocks that the first reaches."""
+    """The control-flow graph of the blocks that the first one reaches."""
 
     blocks: Sequence[Block]
     next_blocks: list[list[int]] = field(init=False)
@@ -64,7 +64,7 @@ class Flows:
                 self.before[to].append(index)
 
     def reach(self, first: int, without: Iterable[int] = ()) -> set[int]:
-        """The blocks to which one leads, and itself, not going through some."""
+        """The blocks that one reaches, itself included, without going through some others."""
         seen, ahead, closed = {first}, [first], set(without)
         while ahead:
             for to in self.next_blocks[ahead.pop()]:
@@ -80,7 +80,7 @@ class Flows:
         return Section(first, end, frozenset(self.reach(first, [end])))
 
     def passing(self, section: Section) -> set[int]:
-        """The blocks of a section from which its end is reached."""
+        """The blocks of a section that reach its end."""
         found: set[int] = set()
         ahead = [index for index in self.before[section.end] if index in section.blocks]
         while ahead:
@@ -92,7 +92,7 @@ class Flows:
 
 
 class Dominators:
-    """Which blocks every path to a block goes through."""
+    """The dominator tree, with the times at which a walk opens and closes each node."""
 
     def __init__(self, flows: Flows) -> None:
         graph = networkx.DiGraph(flows.edges())
@@ -117,7 +117,7 @@ class Dominators:
 
 @dataclass
 class Nest:
-    """The loops of a function, by their heads, and the innermost of each block; raises Irreducible."""
+    """The loops of a function by their heads, and the innermost loop of each block. Raises Irreducible."""
 
     flows: Flows
     loops: dict[int, Loop] = field(init=False)
@@ -154,7 +154,7 @@ class Nest:
             raise Irreducible
 
     def _grow(self, body: set[int], last: int) -> None:
-        """Adds the blocks from which the end of a back edge is reached without the head."""
+        """Adds the blocks that reach the end of a back edge without going through the head."""
         ahead = [last]
         while ahead:
             index = ahead.pop()
@@ -163,7 +163,7 @@ class Nest:
                 ahead += self.flows.before[index]
 
     def around(self, index: int) -> list[Loop]:
-        """The loops that a block lies in, the innermost first."""
+        """The loops around a block, the innermost first."""
         found, loop = [], self.innermost.get(index)
         while loop:
             found.append(loop)
@@ -171,8 +171,10 @@ class Nest:
         return found
 
     def adopt(self, section: Section) -> None:
-        """Gives the loop around a section the blocks in which the section ends otherwise than at its mark, as by a trap.
-        They don't go round, but nothing else leads to them, so they may stand among the loop's blocks."""
+        """Adds the blocks of a section that don't reach its end, as a trap, to the loop around it.
+
+        They aren't part of the natural loop. Only the section reaches them, so they may be in the loop's interval.
+        """
         inner = self.innermost.get(section.first)
         ends = section.blocks - self.flows.passing(section)
         if inner is None or any(not set(self.flows.before[it]) <= section.blocks for it in ends):
@@ -185,8 +187,10 @@ class Nest:
                 loops[-1].around = inner
 
     def is_in_order(self, sections: Iterable[Section]) -> bool:
-        """Whether the analyser takes the blocks as they are numbered: whatever isn't a loop's way back leads onward, each
-        loop is an interval that only its head is entered by, and sections lie between their marks."""
+        """Whether the analyser takes the blocks in the order of their numbers.
+
+        All edges but back edges lead onward, each loop is an interval that is entered only at its head, and sections
+        are between their marks."""
         rank = {index: k for k, index in enumerate(sorted(self.flows.reached))}
         if any(to <= index and (index, to) not in self.back_edges for index, to in self.flows.edges()):
             return False
@@ -201,7 +205,7 @@ class Nest:
 
 @dataclass
 class Span:
-    """The ranks from a loop's head up to its last block, and how many loops it lies in."""
+    """A loop's interval of ranks, and how many loops it lies in."""
 
     head: int
     last: int
@@ -210,7 +214,7 @@ class Span:
 
 
 def _spans_around(spans: Iterable[Span], count: int) -> list[Span | None] | None:
-    """The innermost of the spans that hold a rank, for each; None where two cross, or one lies in too many."""
+    """The innermost span around each rank. None where two spans cross, or one lies too deep."""
     found: list[Span | None] = [None] * count
     for span in sorted(spans, key=lambda it: (it.head, -it.last)):
         span.around = found[span.head]
@@ -225,23 +229,26 @@ def _depth(span: Span) -> int:
 
 
 def _enters(span: Span | None, index: int, to: int) -> bool:
-    """Whether a step enters a span, or one around it, elsewhere than at its head."""
+    """Whether an edge enters a span, or one around it, not at its head."""
     while span and span.head == to:
         span = span.around
     return span is not None and not span.head <= index <= span.last
 
 
 class Order:
-    """Makes an order of the blocks that a function reaches. All edges but those back to a head lead onward in it, the
-    blocks of a loop follow one another, its head first, and those of a section stand between its two marks; the block
-    that follows another in the compiler's order does so here where it can."""
+    """Orders the blocks of a function.
+
+    All edges but back edges lead onward. The blocks of a loop are together, its head first. Those of a section are
+    between its marks. Within these rules a block keeps its successor of the compiler's order where it can."""
 
     def __init__(self, nest: Nest, sections: Iterable[Section]) -> None:
         self.nest, self.flows = nest, nest.flows
         sections = list(sections)
         for section in sections:
             nest.adopt(section)
-        self.members: dict[int | None, list[int]] = defaultdict(list)  # of a loop, by head: blocks and loops inside
+        self.members: dict[int | None, list[int]] = defaultdict(
+            list
+        )  # of a loop, by head: blocks and loops inside
         self.onward: dict[int, list[int]] = defaultdict(list)
         self.waits: dict[int, int] = defaultdict(int)
         self.key: dict[int, int] = {}
@@ -263,11 +270,11 @@ class Order:
 
     @staticmethod
     def _of_loop(loop: Loop) -> int:
-        """The name of a loop among the members of another."""
+        """The number of a loop among the members of another one."""
         return -1 - loop.head
 
     def _first_then(self, one: int, other: int) -> None:
-        """Puts a block before another, each with the loops around it that the other isn't in."""
+        """Requires one block before another. Loops around only one of them move with it."""
         ones, others = self.nest.around(one), self.nest.around(other)
         while ones and others and ones[-1] is others[-1]:
             ones.pop()
@@ -283,8 +290,7 @@ class Order:
         return self._members_of(None, 0)
 
     def _members_of(self, head: int | None, first: int) -> list[int]:
-        """The order of a loop's blocks, or of all: of what is ready the block that the last one falls into comes first,
-        else one to which it leads, else the first of the compiler's order."""
+        """The order of a loop's blocks, or of all (`head` None): topological, by _pick."""
         done: list[int] = []
         members = self.members[head]
         ready = {it for it in members if not self.waits[it]}
@@ -308,7 +314,7 @@ class Order:
         return done
 
     def _pick(self, ready: set[int], queue: list[tuple[int, int]], head: int | None, last: int) -> int:
-        """The next of what is ready, behind a block."""
+        """The next member: a successor of the last block, the one that follows it first; else the compiler's first."""
         for to in reversed(self.flows.next_blocks[last]):
             if (member := self._member(to, head)) in ready:
                 return member
@@ -317,7 +323,7 @@ class Order:
         return queue[0][1]
 
     def _member(self, index: int, head: int | None) -> int:
-        """Which member of a loop, or of all, a block is in; the block itself where it is in none."""
+        """The member of a loop, or of all, that holds a block: a loop inside, or the block itself."""
         for loop in self.nest.around(index):
             if (loop.around.head if loop.around else None) == head:
                 return self._of_loop(loop)

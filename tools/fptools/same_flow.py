@@ -1,4 +1,4 @@
-"""Whether two arrangements of a function's blocks do the same: a walk through both at once."""
+"""Compares two arrangements of a function's blocks by a walk through both at once."""
 from __future__ import annotations
 
 from collections.abc import Sequence
@@ -10,18 +10,18 @@ from fptools.blocks import Block, Branch
 
 @dataclass(frozen=True)
 class Place:
-    """A place in straight code: the block, and how many of its instructions are before it."""
+    """A place in a block: after so many of its instructions."""
 
     block: int
     done: int
 
 
 SPINS, ENDS = Place(-1, 0), Place(-2, 0)
-"""Jumps that lead round for ever; and where control would run out of the function."""
+"""An endless loop of jumps; and the end of the function, past which control would run."""
 
 
 class Code:
-    """Blocks by the instructions that are met on the way through them. Jumps are none."""
+    """Blocks as sequences of instructions. Jumps don't count."""
 
     def __init__(self, blocks: Sequence[Block]) -> None:
         self.blocks = blocks
@@ -29,7 +29,7 @@ class Code:
         self.at = {label: index for index, block in enumerate(blocks) for label in block.labels}
 
     def settled(self, block: int | None, done: int = 0) -> Place:
-        """The next place with an instruction, from one on."""
+        """The first place with an instruction, from a place on."""
         seen: set[int] = set()
         while block is not None:
             here = self.blocks[block]
@@ -42,7 +42,7 @@ class Code:
         return ENDS
 
     def text(self, place: Place) -> str | None:
-        """The instruction at a place that goes straight on, if it is one."""
+        """The plain instruction at a place; None for a branch, return or trap."""
         texts = self.texts[place.block] if place.block >= 0 else []
         return texts[place.done] if place.done < len(texts) else None
 
@@ -50,7 +50,7 @@ class Code:
         return self.blocks[place.block].branch if place.block >= 0 else None
 
     def stop(self, place: Place) -> str:
-        """The return or trap at a place; running out is the trap that is put there."""
+        """The return or trap at a place. The function's end is the trap that fp_layout puts there."""
         block = self.blocks[place.block] if place.block >= 0 else None
         if block and block.stop:
             return " ".join(block.stop.text.split())
@@ -58,8 +58,9 @@ class Code:
 
 
 def do_the_same(before: Sequence[Block], after: Sequence[Block]) -> bool:
-    """Whether from the first block on, from each mark, and from each label that something leads to in both, they meet the
-    same instructions, whatever the branches decide."""
+    """Whether both execute the same instructions, whatever the branches decide.
+
+    Compared are all paths from the first block, from each mark, and from each label that both have."""
     one, other = Code(before), Code(after)
     if any(not block.marks <= other.at.keys() for block in before):
         return False
@@ -78,7 +79,7 @@ def do_the_same(before: Sequence[Block], after: Sequence[Block]) -> bool:
 
 
 def _onward(one: Code, other: Code, a: Place, b: Place) -> list[tuple[Place, Place]] | None:
-    """The places behind two, or None where they differ."""
+    """The pairs of places after two places. None where these differ."""
     text, other_text = one.text(a), other.text(b)
     if text is not None or other_text is not None:
         same = text == other_text

@@ -1,7 +1,7 @@
-"""What leaves a section or a function of an executable, and whether its loops can be stated: an independent check.
+"""An independent check of sections and functions: their exits, and whether their loops can be stated.
 
-Shares no code with the tools and the model. Its loops are those of graph theory (edges back to a dominator), not those
-of addresses."""
+It shares no code with the tools and the model. Its loops are natural loops (edges back to a dominator), which the tools
+and the model don't use."""
 from __future__ import annotations
 
 from collections.abc import Collection, Mapping
@@ -60,7 +60,7 @@ class Executable:
 
 
 def flow(word: int, pc: int) -> tuple[str, list[int]]:
-    """How control goes on after a word, and where to: next, branch, jump, call, return, indirect, wait or stop."""
+    """The kind of a word (next, branch, jump, call, return, indirect, wait or stop), and its successors."""
     opcode, rd, funct3 = word & 0x7F, word >> 7 & 31, word >> 12 & 7
     if opcode == 0x63 and funct3 not in (2, 3):
         offset = (word >> 8 & 15) << 1 | (word >> 25 & 63) << 5 | (word >> 7 & 1) << 11
@@ -119,7 +119,9 @@ class Seen:
         return "loop %x lies too deep" % head if deep else ""
 
 
-def look(words: Mapping[int, int], first: int, end: int, callable: Collection[int], is_function: bool) -> Seen:
+def look(
+    words: Mapping[int, int], first: int, end: int, callable: Collection[int], is_function: bool
+) -> Seen:
     """Goes through a section, or a function; calls of addresses that are callable come back."""
     seen = Seen(first, end)
     seen.graph.add_node(first)

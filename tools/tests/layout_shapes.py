@@ -1,5 +1,6 @@
-"""Compiles the shapes in data/layout at a level, as gcc has them and laid out, and finds what they do and what is said of
-them: the independent check, the model's bound, and the longest of many executions."""
+"""Compiles the shapes in data/layout, in the compiler's order and laid out, and measures them.
+
+For each there are the independent check, the model's refusal and bound, and the longest of many executions."""
 from __future__ import annotations
 
 import subprocess
@@ -62,7 +63,9 @@ class Way:
 
     def __str__(self) -> str:
         kind = "section" if self.is_section else "calls"
-        return " ".join(["clang" * self.is_clang, self.level, kind, "" if self.is_laid else "as compiled"]).strip()
+        return " ".join(
+            ["clang" * self.is_clang, self.level, kind, "" if self.is_laid else "as compiled"]
+        ).strip()
 
     def compiler(self) -> list[str]:
         flags = [self.level, "-ffreestanding", "-fno-jump-tables", "-fno-optimize-sibling-calls", *self.more]
@@ -153,8 +156,8 @@ def quick_runner(folder: Path) -> Path:
 
 @dataclass(frozen=True)
 class Ran:
-    """The longest executions of many, where each fourth cycle is the thread's and where each is, the hash of what the
-    port got, and how often each loop goes back at most."""
+    """A run: the cycles of its longest execution, where each fourth cycle is the thread's and where each is; the hash of
+    its port stores; and how often each loop goes back, at most."""
 
     at_fourth: int
     at_each: int
@@ -225,7 +228,7 @@ class Shape:
         return "%s at %x" % (refused[0].name, refused[1]) if refused else ""
 
     def bounds(self, ran: Ran) -> tuple[int, int]:
-        """The model's bounds where each fourth cycle is the thread's and where each is, for the rounds of a run."""
+        """The model's bounds with a run's loop counts, where each fourth cycle is the thread's and where each is."""
         fourth, each = (Bounds(self.graph(ran.rounds), slots, 0).largest_cost() for slots in SLOTS)
         return fourth, each
 

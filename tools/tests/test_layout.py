@@ -108,7 +108,9 @@ def test_copies_have_a_limit() -> None:
 
 
 def test_a_mark_is_never_copied() -> None:
-    code = "\tbne\ta0,zero,.L3\n.L2:\n\taddi\ta1,a1,1\n" + mark("a") + "\tadd\ta1,a1,a2\n.L3:\n\taddi\ta2,a2,1\n"
+    code = (
+        "\tbne\ta0,zero,.L3\n.L2:\n\taddi\ta1,a1,1\n" + mark("a") + "\tadd\ta1,a1,a2\n.L3:\n\taddi\ta2,a2,1\n"
+    )
     code += mark("b") + "\tbne\ta2,a1,.L2\n\tret\n"
     assert [it.text for it in laid(code).kept] == [
         "f stays as it is: a loop is entered at two places, and a mark is behind one of them"
@@ -148,7 +150,11 @@ def test_a_jump_to_itself_and_an_empty_function_stay() -> None:
 
 def far_loop(words: int) -> str:
     """A loop whose end is so many words behind its head, and which is left at the head."""
-    return ".L2:\n\tbeq\ta0,zero,.L4\n" + "\tadd\ta1,a1,a0\n" * words + "\taddi\ta0,a0,-1\n\tj\t.L2\n.L4:\n\tret\n"
+    return (
+        ".L2:\n\tbeq\ta0,zero,.L4\n"
+        + "\tadd\ta1,a1,a0\n" * words
+        + "\taddi\ta0,a0,-1\n\tj\t.L2\n.L4:\n\tret\n"
+    )
 
 
 def test_a_branch_reaches_as_far_as_it_can() -> None:
@@ -179,7 +185,9 @@ def test_a_block_that_only_jumps_is_passed() -> None:
 
 
 def test_branches_to_distant_labels_as_gcc_13_writes_them() -> None:
-    code = "\tj\t.L2\n.L3:\n\taddi\ta0,a0,-1\n.L2:\n\tbne\ta0,zero,1f; jump\t.L4,ra; 1:\n\tj\t.L3\n.L4:\n\tret\n"
+    code = (
+        "\tj\t.L2\n.L3:\n\taddi\ta0,a0,-1\n.L2:\n\tbne\ta0,zero,1f; jump\t.L4,ra; 1:\n\tj\t.L3\n.L4:\n\tret\n"
+    )
     made = [it for it in body(code) if not it.startswith(".L")]
     assert made == ["beq a0,zero,.L4", "addi a0,a0,-1", "j .L2", "ret"]
 
@@ -201,7 +209,11 @@ def test_branches_to_distant_labels_as_gcc_13_writes_them() -> None:
         ("\ttail\tg\n", 9, "`tail g`: another function returns for it: -fno-optimize-sibling-calls"),
         ("\tbne\ta0,a1,g\n\tret\n", 9, "a jump to `g`, which isn't in it: another function returns for it"),
         ("\tj\t.L77\n", 9, "a jump to `.L77`, which isn't in it"),
-        ("\tcall\tt0,__riscv_save_0\n\tret\n", 9, "`call t0, __riscv_save_0` is a call whose return address isn't in ra; -mno"),
+        (
+            "\tcall\tt0,__riscv_save_0\n\tret\n",
+            9,
+            "`call t0, __riscv_save_0` is a call whose return address isn't in ra; -mno",
+        ),
         (
             "\tbeq\ta0,zero,.L3\n\tret\n\t.section\t.text.unlikely\n\t.type\tf.cold, @function\nf.cold:\n.L3:\n\tcall\tg\n\t.text\n",
             11,
@@ -229,7 +241,9 @@ def test_a_function_that_stays_and_why(tool: Tool, tmp_path: Path, code: str, li
 
 
 def test_instructions_of_the_source_that_go_straight_on() -> None:
-    code = "#APP\n# 3 \"code.c\" 1\n\t.insn r 0x0b, 0, 0, a4, x0, x0\n\t.insn r 0x0b, 1, 0, a5, x0, x0\n# 0 \"\" 2\n"
+    code = (
+        '#APP\n# 3 "code.c" 1\n\t.insn r 0x0b, 0, 0, a4, x0, x0\n\t.insn r 0x0b, 1, 0, a5, x0, x0\n# 0 "" 2\n'
+    )
     code += '# 5 "code.c" 1\n\tcsrr a3, mcause # why; not\n# 0 "" 2\n#NO_APP\n'
     made = body(code + LOOP_AT_END.replace("a5", "a3"))
     assert made[:2] == ["csrr a3, mcause # why; not", ".L2:"]
@@ -244,7 +258,12 @@ def test_a_call_is_a_single_word_and_jumps_of_other_kinds_are_known() -> None:
 
 
 def test_what_a_section_reaches_comes_between_its_marks() -> None:
-    code = mark("work_begin") + "\tbne\ta0,zero,.L5\n.L3:\n\tnop\n" + mark("work_end") + "\tsw\ta0,0(a1)\n\tret\n"
+    code = (
+        mark("work_begin")
+        + "\tbne\ta0,zero,.L5\n.L3:\n\tnop\n"
+        + mark("work_end")
+        + "\tsw\ta0,0(a1)\n\tret\n"
+    )
     made = body(code + ".L5:\n\taddi\ta0,a0,1\n\tj\t.L3\n")
     assert made == [
         "work_begin:", "beq a0,zero,.L3", ".L5:", "addi a0,a0,1", ".L3:", "nop", "work_end:", "sw a0,0(a1)", "ret",
@@ -252,7 +271,12 @@ def test_what_a_section_reaches_comes_between_its_marks() -> None:
 
 
 def test_marks_keep_what_makes_them_symbols() -> None:
-    code = mark("work_begin") + "\tbne\ta0,zero,.L5\n.L3:\n" + mark("work_end") + "\tret\n.L5:\n\tnop\n\tj\t.L3\n"
+    code = (
+        mark("work_begin")
+        + "\tbne\ta0,zero,.L5\n.L3:\n"
+        + mark("work_end")
+        + "\tret\n.L5:\n\tnop\n\tj\t.L3\n"
+    )
     text = laid(code).text
     for name in ("work_begin", "work_end"):
         assert f"#APP\n\t.globl {name}\n{name}:\n#NO_APP\n" in text
@@ -268,7 +292,12 @@ def test_names_of_two_marks(one: str, other: str) -> None:
 
 
 def test_marks_without_partners_are_sections_if_they_can_be() -> None:
-    code = mark("red") + "\tbne\ta0,zero,.L5\n.L3:\n\tnop\n" + mark("blue") + "\tret\n.L5:\n\taddi\ta0,a0,1\n\tj\t.L3\n"
+    code = (
+        mark("red")
+        + "\tbne\ta0,zero,.L5\n.L3:\n\tnop\n"
+        + mark("blue")
+        + "\tret\n.L5:\n\taddi\ta0,a0,1\n\tj\t.L3\n"
+    )
     made = body(code)
     assert made.index("red:") < made.index("addi a0,a0,1") < made.index("blue:")
     named = laid(code, Options((Marks("red", "blue"),)))
@@ -276,14 +305,36 @@ def test_marks_without_partners_are_sections_if_they_can_be() -> None:
 
 
 def test_sections_one_behind_the_other_and_around_both() -> None:
-    code = mark("t_begin") + "\tbeq\ta0,zero,.L7\n.L1:\n\tnop\n" + mark("m") + "\tbeq\ta1,zero,.L8\n.L2:\n" + mark("t_end")
-    made = body(code + "\tret\n.L7:\n\tli\ta0,7\n\tj\t.L1\n.L8:\n\tli\ta1,8\n\tj\t.L2\n", Options((Marks("t_begin", "m"),)))
+    code = (
+        mark("t_begin")
+        + "\tbeq\ta0,zero,.L7\n.L1:\n\tnop\n"
+        + mark("m")
+        + "\tbeq\ta1,zero,.L8\n.L2:\n"
+        + mark("t_end")
+    )
+    made = body(
+        code + "\tret\n.L7:\n\tli\ta0,7\n\tj\t.L1\n.L8:\n\tli\ta1,8\n\tj\t.L2\n",
+        Options((Marks("t_begin", "m"),)),
+    )
     assert made.index("li a0,7") < made.index("m:") < made.index("li a1,8") < made.index("t_end:")
 
 
-BEGIN_INSIDE = ".L2:\n\tlw\ta4,0(a1)\n" + mark("a_begin") + "\taddi\ta1,a1,4\n\tbne\ta1,a2,.L2\n" + mark("a_end") + RET
-END_INSIDE = mark("a_begin") + "\tnop\n.L2:\n\tlw\ta4,0(a1)\n" + mark("a_end") + "\taddi\ta1,a1,4\n\tbne\ta1,a2,.L2\n\tret\n"
-ROUND = ".L2:\n" + mark("a_begin") + "\tlw\ta4,0(a1)\n\tbeq\ta4,zero,.L2\n" + mark("a_end") + "\tbne\ta1,a2,.L2\n\tret\n"
+BEGIN_INSIDE = (
+    ".L2:\n\tlw\ta4,0(a1)\n" + mark("a_begin") + "\taddi\ta1,a1,4\n\tbne\ta1,a2,.L2\n" + mark("a_end") + RET
+)
+END_INSIDE = (
+    mark("a_begin")
+    + "\tnop\n.L2:\n\tlw\ta4,0(a1)\n"
+    + mark("a_end")
+    + "\taddi\ta1,a1,4\n\tbne\ta1,a2,.L2\n\tret\n"
+)
+ROUND = (
+    ".L2:\n"
+    + mark("a_begin")
+    + "\tlw\ta4,0(a1)\n\tbeq\ta4,zero,.L2\n"
+    + mark("a_end")
+    + "\tbne\ta1,a2,.L2\n\tret\n"
+)
 AT_HEAD = ".L2:\n" + mark("a_end") + "\tlw\ta4,0(a1)\n" + mark("a_begin") + "\tnop\n\tbne\ta1,a2,.L2\n\tret\n"
 NEVER = mark("a_begin") + "\tbeq\ta0,zero,.L2\n\tret\n" + ".L2:\n\tret\n" + mark("a_end") + "\tret\n"
 
@@ -316,27 +367,51 @@ def test_marks_in_two_functions_and_marks_that_are_none() -> None:
 
 
 def test_a_return_in_a_section_that_other_code_shares() -> None:
-    code = mark("a_begin") + "\tbeq\ta0,zero,.L9\n\tnop\n" + mark("a_end") + "\tsw\ta0,0(a1)\n.L9:\n\taddi\tsp,sp,16\n\tret\n"
+    code = (
+        mark("a_begin")
+        + "\tbeq\ta0,zero,.L9\n\tnop\n"
+        + mark("a_end")
+        + "\tsw\ta0,0(a1)\n.L9:\n\taddi\tsp,sp,16\n\tret\n"
+    )
     made = lay_out(Assembly(HEAD + function(code)))
-    assert [it.text for it in made.notes] == ["f: section a_begin:a_end has a return before its end, which no bound goes through"]
+    assert [it.text for it in made.notes] == [
+        "f: section a_begin:a_end has a return before its end, which no bound goes through"
+    ]
     lines = code_of(made.text)
     assert lines.count("ret") == 2 and lines.index("ret") < lines.index("a_end:")
 
 
 def test_a_trap_in_a_section_that_other_code_shares() -> None:
-    code = mark("a_begin") + "\tbeq\ta0,zero,.L9\n\tnop\n" + mark("a_end") + "\tbeq\ta1,zero,.L9\n\tret\n.L9:\n\tebreak\n"
+    code = (
+        mark("a_begin")
+        + "\tbeq\ta0,zero,.L9\n\tnop\n"
+        + mark("a_end")
+        + "\tbeq\ta1,zero,.L9\n\tret\n.L9:\n\tebreak\n"
+    )
     made = laid(code)
     assert not made.notes and code_of(made.text).count("ebreak") == 2
 
 
 def test_a_trap_in_a_section_inside_a_loop() -> None:
-    code = ".L2:\n" + mark("a_begin") + "\tbeq\ta0,zero,.L9\n\tnop\n" + mark("a_end") + "\tbeq\ta1,zero,.L9\n\tj\t.L2\n.L9:\n\tebreak\n"
+    code = (
+        ".L2:\n"
+        + mark("a_begin")
+        + "\tbeq\ta0,zero,.L9\n\tnop\n"
+        + mark("a_end")
+        + "\tbeq\ta1,zero,.L9\n\tj\t.L2\n.L9:\n\tebreak\n"
+    )
     made = code_of(laid(code).text)
     assert made.index("a_begin:") < made.index("ebreak") < made.index("a_end:") and made.count("ebreak") == 2
 
 
 def test_a_spin_in_a_section_inside_a_loop() -> None:
-    code = ".L2:\n" + mark("a_begin") + "\tbeq\ta0,zero,.L9\n\tnop\n" + mark("a_end") + "\tlw\ta0,0(a1)\n\tj\t.L2\n"
+    code = (
+        ".L2:\n"
+        + mark("a_begin")
+        + "\tbeq\ta0,zero,.L9\n\tnop\n"
+        + mark("a_end")
+        + "\tlw\ta0,0(a1)\n\tj\t.L2\n"
+    )
     made = code_of(laid(code + ".L9:\n\tlw\ta2,0(a1)\n\tj\t.L9\n").text)
     assert made.index("a_begin:") < made.index("lw a2,0(a1)") < made.index("a_end:")
 
@@ -412,14 +487,21 @@ def test_frames_of_moved_blocks_are_restated() -> None:
 """
     made = [" ".join(line.split()) for line in laid(code).text.splitlines()]
     at = made.index("jal g")
-    assert made[made.index("addi sp,sp,-16") + 1 : at] == [".cfi_def_cfa_offset 16", "sw ra,12(sp)", ".cfi_offset 1, -4", ".L2:"]
+    assert made[made.index("addi sp,sp,-16") + 1 : at] == [
+        ".cfi_def_cfa_offset 16",
+        "sw ra,12(sp)",
+        ".cfi_offset 1, -4",
+        ".L2:",
+    ]
     assert made[-3:] == ["ret", ".cfi_endproc", ".size f, .-f"]
 
 
 def test_an_unknown_frame_is_lost_and_told() -> None:
     code = "\t.cfi_startproc\n\t.cfi_escape 0x16\n" + LOOP_AT_END + "\t.cfi_endproc\n"
     made = laid(code)
-    assert [it.text for it in made.notes] == ["f: its call frames are lost for a debugger: `.cfi_escape 0x16` isn't known"]
+    assert [it.text for it in made.notes] == [
+        "f: its call frames are lost for a debugger: `.cfi_escape 0x16` isn't known"
+    ]
     assert ".cfi_escape" not in made.text and ".cfi_endproc" in made.text
 
 
@@ -440,9 +522,18 @@ def test_labels_of_a_debugger_stay() -> None:
         ("", "there is no function: is it what gcc or clang writes with -S?"),
         (HEAD + "start:\n\tj start\n", "there is no function"),
         (function("\tret\n"), "it isn't assembly for RISC-V that gcc or clang wrote"),
-        (HEAD.replace("zicsr", "c") + function("\tret\n"), "it is for rv32i2p1_m2p0_c2p0: compile with -march=rv32im_zicsr"),
-        (HEAD.replace("rv32", "rv64") + function("\tret\n"), "it is for rv64i2p1_m2p0_zicsr2p0: compile with"),
-        (HEAD + function("\tret\n").replace("\t.size", "# "), "function f has no `.size`: is the file whole?"),
+        (
+            HEAD.replace("zicsr", "c") + function("\tret\n"),
+            "it is for rv32i2p1_m2p0_c2p0: compile with -march=rv32im_zicsr",
+        ),
+        (
+            HEAD.replace("rv32", "rv64") + function("\tret\n"),
+            "it is for rv64i2p1_m2p0_zicsr2p0: compile with",
+        ),
+        (
+            HEAD + function("\tret\n").replace("\t.size", "# "),
+            "function f has no `.size`: is the file whole?",
+        ),
         ("\x7fELF\0\0", "it is no text: fp_layout reads what gcc or clang writes with -S"),
     ],
 )
@@ -470,7 +561,11 @@ def test_files_that_are_not_there_or_take_nothing(tool: Tool, tmp_path: Path) ->
     ran = tool("fp_layout", tmp_path / "x.s", "-o", tmp_path / "no" / "y.s")
     assert ran.returncode == 2 and f"{tmp_path}/no" in ran.stderr and len(ran.stderr.splitlines()) == 1
     ran = subprocess.run(
-        f"{TOOLS}/fp_layout {tmp_path}/x.s > /dev/full", shell=True, capture_output=True, text=True, check=False
+        f"{TOOLS}/fp_layout {tmp_path}/x.s > /dev/full",
+        shell=True,
+        capture_output=True,
+        text=True,
+        check=False,
     )
     assert ran.returncode == 2 and "No space left" in ran.stderr and "Traceback" not in ran.stderr
 
@@ -482,7 +577,11 @@ def test_a_file_is_written_at_once_and_keeps_its_mode(tool: Tool, tmp_path: Path
     out.chmod(0o640)
     (tmp_path / "link.s").symlink_to(out)
     assert tool("fp_layout", source, "-o", tmp_path / "link.s").returncode == 0
-    assert out.stat().st_mode & 0o777 == 0o640 and ".Lfp1" in out.read_text() and (tmp_path / "link.s").is_symlink()
+    assert (
+        out.stat().st_mode & 0o777 == 0o640
+        and ".Lfp1" in out.read_text()
+        and (tmp_path / "link.s").is_symlink()
+    )
     assert tool("fp_layout", out, "-o", out).returncode == 0
     assert sorted(it.name for it in tmp_path.iterdir()) == ["link.s", "x.s", "y.s"]
 

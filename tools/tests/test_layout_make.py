@@ -121,19 +121,27 @@ def test_a_program_of_its_own_has_a_bound(folder: Path, words: tuple[str, ...]) 
     assert "indirect" not in {flow(executable.words[at], at)[0] for at in words_between}
     assert (folder / "t0_own.laid.s").exists() and not (folder / "start.laid.s").exists()
     assert built(folder, "clean", *words).returncode == 0
-    assert sorted(it.name for it in folder.iterdir()) == sorted([*SHARED, "own.elf", "t0_own.c", "t1_count.c"])
+    assert sorted(it.name for it in folder.iterdir()) == sorted(
+        [*SHARED, "own.elf", "t0_own.c", "t1_count.c"]
+    )
 
 
 def test_a_function_that_stays_stops_the_build(folder: Path) -> None:
     (folder / "t0_own.c").write_text(OWN.replace("alarms++;", '__asm__ volatile("wfi");'))
     ran = built(folder)
-    assert ran.returncode != 0 and "t0_own.compiled.s:" in ran.stderr and "`wfi` is no instruction" in ran.stderr
+    assert (
+        ran.returncode != 0 and "t0_own.compiled.s:" in ran.stderr and "`wfi` is no instruction" in ran.stderr
+    )
     assert not (folder / "own.elf").exists()
 
 
 def test_marks_that_cross_a_loop_stop_the_build(folder: Path) -> None:
-    text = OWN.replace("            if (apart > most)", "            FP_MARK(inner_end);\n            if (apart > most)")
-    (folder / "t0_own.c").write_text(text.replace("    uint32_t most = 0;", "    uint32_t most = 0;\n    FP_MARK(inner_begin);"))
+    text = OWN.replace(
+        "            if (apart > most)", "            FP_MARK(inner_end);\n            if (apart > most)"
+    )
+    (folder / "t0_own.c").write_text(
+        text.replace("    uint32_t most = 0;", "    uint32_t most = 0;\n    FP_MARK(inner_begin);")
+    )
     ran = built(folder)
     assert ran.returncode != 0 and "section inner_begin:inner_end crosses a loop" in ran.stderr
     assert "t0_own.c:20: section" in ran.stderr and not (folder / "t0_own.laid.s").exists()
@@ -148,7 +156,9 @@ def test_the_example_is_what_the_repository_has(tmp_path: Path) -> None:
     shutil.copytree(TOP / "examples/c", tmp_path / "c")
     assert make(tmp_path / "c", "clean").returncode == 0
     assert make(tmp_path / "c").returncode == 0
-    version = subprocess.run(["riscv64-unknown-elf-gcc", "-dumpversion"], capture_output=True, text=True, check=True)
+    version = subprocess.run(
+        ["riscv64-unknown-elf-gcc", "-dumpversion"], capture_output=True, text=True, check=True
+    )
     if version.stdout.strip() == "12.2.0":
         assert (tmp_path / "c/pid.elf").read_bytes() == (TOP / "examples/c/pid.elf").read_bytes()
     assert not list((tmp_path / "c").glob("*.laid.s"))

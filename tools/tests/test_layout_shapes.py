@@ -1,5 +1,5 @@
-"""Shapes of C, laid out: each is accepted, nothing leaves it, it does what gcc's own order does, and no execution takes
-longer than its bound. bench/layout_levels.py tries each at all levels, both ways."""
+"""Shapes of C, laid out: each is accepted and left by nothing, has the port stores of gcc's own order, and no execution
+takes longer than its bound. bench/layout_levels.py tries each at all levels, as a section and as a function."""
 from __future__ import annotations
 
 import shutil
@@ -17,6 +17,7 @@ from fptools.assembly import Assembly
 from fptools.elf import Program
 from fptools.layout import Options, lay_out
 from layout_check import Executable, flow
+
 from layout_shapes import (
     BATCHES, DATA, FOURTH, GCC, LINK, SETUP, SHAPES, Ran, Shape, Way, build, counted_hashes, quick_runner, run, shapes,
 )  # fmt: skip
@@ -85,7 +86,8 @@ def test_what_the_new_order_costs(of_way: dict[str, Tried]) -> None:
 def test_another_machine_makes_the_same_of_both_orders(tmp_path: Path, way: Way) -> None:
     needs(*NEEDED, "qemu-riscv32")
     both = [
-        counted_hashes(build(tmp_path / str(kind.is_laid), kind, is_counted=True)) for kind in (replace(way, is_laid=False), way)
+        counted_hashes(build(tmp_path / str(kind.is_laid), kind, is_counted=True))
+        for kind in (replace(way, is_laid=False), way)
     ]
     assert both[0] == both[1] and sorted(both[0]) == SHAPES
     runner = quick_runner(tmp_path)
@@ -157,14 +159,20 @@ def frames_of(executable: Path) -> Counter[tuple[int, str, str]]:
             first = entry["initial_location"]
             for at in range(first, first + entry["address_range"], 4):
                 row = [it for it in rows if it["pc"] <= at][-1]
-                rules = {key: str(rule) for key, rule in row.items() if key not in ("pc", "cfa") and rule.type != "SAME_VALUE"}
+                rules = {
+                    key: str(rule)
+                    for key, rule in row.items()
+                    if key not in ("pc", "cfa") and rule.type != "SAME_VALUE"
+                }
                 if at in words:
                     found[words[at], str(row["cfa"]), str(sorted(rules.items()))] += 1
     return found
 
 
 @pytest.mark.parametrize("name", ["early", "triple", "sw_loop", "isort", "calls_in_loop"])
-@pytest.mark.parametrize("way", [Way("-O2", False), Way("-O3", True), Way("-O2", False, is_clang=True)], ids=str)
+@pytest.mark.parametrize(
+    "way", [Way("-O2", False), Way("-O3", True), Way("-O2", False, is_clang=True)], ids=str
+)
 def test_each_instruction_keeps_its_line_and_its_frame(tmp_path: Path, name: str, way: Way) -> None:
     needs(*NEEDED, *["clang"] * way.is_clang)
     compiled, laid = debugged(tmp_path / "x", way, name)
@@ -194,7 +202,9 @@ def test_the_programs_bounds_are_the_models(of_way: dict[str, Tried], flexpret: 
         if path not in images:
             images[path] = f"{len(images)}.fpx"
             (tmp_path / images[path]).write_bytes(converted(flexpret, path))
-        loops = "".join(SETUP_LOOP.format(*loop, count) for loop, count in zip(shape.loops, it.laid_ran.rounds))
+        loops = "".join(
+            SETUP_LOOP.format(*loop, count) for loop, count in zip(shape.loops, it.laid_ran.rounds)
+        )
         setup = SETUP.format(slots=FOURTH).replace("image.fpx", images[path]) + loops
         (tmp_path / "setup.toml").write_text(setup)
         routines = sorted(seen.first for seen in shape.parts.values() if seen.first != shape.begin)
