@@ -111,7 +111,7 @@ class Writer:
         blocks = self.body.blocks
         labels = {index: self.names.of(blocks[index]) for end in ends for index in self._named(end)}
         for index, end in zip(order, ends):
-            self._block(blocks[index])
+            self._block(blocks[index], bool(end.size))
             self._end(end, labels)
             for item in blocks[index].ends:
                 self._put(item.text, item.by_hand)
@@ -137,7 +137,8 @@ class Writer:
             self.lines.append(APP if by_hand else NO_APP)
             self.by_hand = by_hand
 
-    def _block(self, block: Block) -> None:
+    def _block(self, block: Block, has_end: bool) -> None:
+        """Writes a block up to its branch or jump, if it has one."""
         for label in block.labels:
             if label not in block.marks:
                 self._put(f"{label}:")
@@ -151,8 +152,11 @@ class Writer:
         is_stated = self._states_line(block)
         if block.source and not is_stated and self.source != block.source:
             self._to_line(block.source)
-        for item in block.items:
-            self._item(item)
+        last = max((k for k, item in enumerate(block.items) if item.part is Part.CODE), default=-1)
+        for k, item in enumerate(block.items):
+            # A line without an instruction would be that of another block's first one.
+            if item.part is not Part.LINE or k < last or has_end or block.stop:
+                self._item(item)
         if block.stop:
             self._put(block.stop.text)
 

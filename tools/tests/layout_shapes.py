@@ -101,10 +101,19 @@ def build(folder: Path, way: Way, names: Iterable[str] = SHAPES, is_counted: boo
             assembly.write_text(laid.text)
         run([*way.assembler(), "-c", "-o", built, assembly])
         objects.append(built)
+    if not is_counted:
+        starts, built = folder / "starts.s", folder / "starts.o"
+        starts.write_text("".join(START.format(name=it) for it in names))
+        run([*GCC, "-c", "-o", built, starts])
+        objects.append(built)
     out = folder / ("counted.elf" if is_counted else "all.elf")
     script = DATA / ("counted.ld" if is_counted else "image.ld")
     run([*LINK, *["-n"] * (not is_counted), "-T", script, "-o", out, *objects])
     return out
+
+
+START = "        .globl start_{name}\nstart_{name}:\n        lui sp, 0x20010\n        j main_{name}\n"
+"""Where the machine begins with a shape: quick_run sets the stack itself."""
 
 
 def counted_main(names: Iterable[str]) -> str:
@@ -177,6 +186,7 @@ class Shape:
         symbols, functions = self.executable.symbols, self.executable.functions
         self.begin, self.end = symbols[f"{self.name}_begin"], symbols[f"{self.name}_end"]
         self.entry = functions[f"main_{self.name}"][0]
+        self.start = symbols.get(f"start_{self.name}", self.entry)
         ends = {first: end for first, end in self.executable.ends.items() if not first <= self.begin < end}
         ahead = [(self.begin, self.end, False)]
         while ahead:
@@ -186,8 +196,9 @@ class Shape:
                 ahead += [(callee, ends[callee], True) for callee in sorted(seen.callees)]
 
     @property
-    def has_calls(self) -> bool:
-        return len(self.parts) > 1
+    def routines(self) -> list[Place]:
+        """The first and last words of the functions that it calls."""
+        return sorted((it.first, it.end - 4) for it in self.parts.values() if it.first != self.begin)
 
     @property
     def faults(self) -> list[str]:
@@ -217,8 +228,8 @@ class Shape:
 
     def graph(self, rounds: Sequence[int]) -> Graph:
         """The model's control graph, with loops that go back so often."""
-        words, functions = self.executable.words, [it for it in self.parts.values() if it.first != self.begin]
-        routines = [Part(it.first, it.end, True) for it in sorted(functions, key=lambda it: it.first)]
+        words = self.executable.words
+        routines = [Part(first, last + 4, True) for first, last in self.routines]
         loops = [Loop(*loop, count) for loop, count in zip(self.loops, rounds)]
         return Graph(lambda at: words.get(at, 0), Part(self.begin, self.end), routines, loops)
 

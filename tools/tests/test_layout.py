@@ -442,7 +442,7 @@ def test_lines_move_with_their_blocks() -> None:
 """
     made = code_of(laid(code).text.replace("\t.loc", "\tloc"))[1:]
     assert made == [
-        "loc 1 3 1 is_stmt 1", ".L2:", "loc 1 4 20 is_stmt 0", "beq a1,a2,.Lfp1", ".L3:", "loc 1 5 9 is_stmt 1", "lw a4,0(a1)",
+        ".L2:", "loc 1 4 20 is_stmt 0", "beq a1,a2,.Lfp1", ".L3:", "loc 1 5 9 is_stmt 1", "lw a4,0(a1)",
         "loc 1 4 20 discriminator 3 is_stmt 0", "addi a1,a1,4", "j .L2", ".Lfp1:", "loc 1 7 1 is_stmt 1", "ret",
     ]  # fmt: skip
 

@@ -116,7 +116,7 @@ def test_a_program_of_its_own_has_a_bound(folder: Path, words: tuple[str, ...]) 
     executable.symbols["main_work"] = 0
     executable.functions["main_work"] = executable.functions["main0"]
     shape = Shape(executable, "work")
-    assert shape.faults == [] and shape.refusal() == "" and shape.has_calls
+    assert shape.faults == [] and shape.refusal() == "" and shape.routines
     words_between = range(shape.begin, shape.end, 4)
     assert "indirect" not in {flow(executable.words[at], at)[0] for at in words_between}
     assert (folder / "t0_own.laid.s").exists() and not (folder / "start.laid.s").exists()

@@ -2,15 +2,19 @@
 takes longer than its bound. bench/layout_levels.py tries each at all levels, as a section and as a function."""
 from __future__ import annotations
 
+import os
+import re
 import shutil
 import subprocess
+import sys
 from collections import Counter
-from collections.abc import Iterator
+from collections.abc import Iterator, Sequence
 from dataclasses import dataclass, replace
 from pathlib import Path
 from typing import TypeVar
 
 import pytest
+from conftest import BUILT, TOP
 from elftools.dwarf.callframe import FDE
 from elftools.elf.elffile import ELFFile
 from fptools.assembly import Assembly
@@ -111,7 +115,7 @@ def test_clang_by_its_assembly(tmp_path: Path, way: Way) -> None:
         assert it.laid.faults == [] and it.laid.refusal() == "", name
         assert it.laid_ran.digest == it.compiled_ran.digest, name
         assert it.laid.bounds(it.laid_ran)[0] >= it.laid_ran.at_fourth, name
-    assert any(it.laid.has_calls and it.compiled.faults for it in found.values())
+    assert any(it.laid.routines and it.compiled.faults for it in found.values())
 
 
 # ---------------------------------------------------------------- a debugger's tables
@@ -182,6 +186,22 @@ def test_each_instruction_keeps_its_line_and_its_frame(tmp_path: Path, name: str
         keeps(frames_of(compiled), frames_of(laid))
 
 
+def lines_of_gdb(executable: Path) -> Counter[tuple[int, str]]:
+    words = straight(executable)
+    places = sorted(words)
+    asked = [word for at in places for word in ("-ex", f"info line *{at:#x}")]
+    said = run(["gdb-multiarch", "-batch", "-nx", *asked, executable]).splitlines()
+    shown = [re.match(r'Line (\d+) of "(?:.*/)?([^"]*)"', line) for line in said]
+    return Counter((words[at], f"{it[2]}:{it[1]}") for at, it in zip(places, shown) if it)
+
+
+@pytest.mark.parametrize("name", ["early", "triple", "sw_loop"])
+def test_gdb_shows_the_same_lines(tmp_path: Path, name: str) -> None:
+    needs(*NEEDED, "gdb-multiarch")
+    compiled, laid = debugged(tmp_path / "x", Way("-O2", False), name)
+    keeps(lines_of_gdb(compiled), lines_of_gdb(laid))
+
+
 def keeps(compiled: Counter[Row], laid: Counter[Row]) -> None:
     """Whether all is there, and what is there twice is a copy."""
     assert sum(compiled.values()) > 40 and compiled <= laid and compiled.keys() == laid.keys()
@@ -193,30 +213,68 @@ def keeps(compiled: Counter[Row], laid: Counter[Row]) -> None:
 SETUP_LOOP = "[[loop]]\nhead = {}\nlast = {}\nbound = {}\n"
 
 
-def test_the_programs_bounds_are_the_models(of_way: dict[str, Tried], flexpret: str, tmp_path: Path) -> None:
-    """Of each shape, by `bound` and by `calls`, of the image that the program makes of the executable."""
-    images: dict[Path, str] = {}
-    for name, it in of_way.items():
-        shape = it.laid
-        path = shape.executable.path
-        if path not in images:
-            images[path] = f"{len(images)}.fpx"
-            (tmp_path / images[path]).write_bytes(converted(flexpret, path))
-        loops = "".join(
-            SETUP_LOOP.format(*loop, count) for loop, count in zip(shape.loops, it.laid_ran.rounds)
+@dataclass(frozen=True)
+class Machine:
+    """The program, or the model where none is built, in a folder."""
+
+    command: tuple[str, ...]
+    folder: Path
+
+    def __call__(self, *words: object) -> bytes:
+        environment = {**os.environ, "PYTHONPATH": str(TOP)}
+        ran = subprocess.run(
+            [*self.command, *map(str, words)],
+            cwd=self.folder,
+            env=environment,
+            capture_output=True,
+            check=False,
         )
-        setup = SETUP.format(slots=FOURTH).replace("image.fpx", images[path]) + loops
-        (tmp_path / "setup.toml").write_text(setup)
-        routines = sorted(seen.first for seen in shape.parts.values() if seen.first != shape.begin)
-        listed = "".join(f"{first:08x} {shape.parts[first].end - 4:08x}\n" for first in routines)
-        (tmp_path / "routines").write_text(listed)
-        section = ["--thread", "0", "--from", hex(shape.begin), "--to", hex(shape.end)]
-        more = ["--routines", "routines"] if routines else []
-        command = ["calls" if routines else "bound", "setup.toml", *section, *more]
-        said = run([flexpret, *command], tmp_path).strip()
-        assert said == f"bound {shape.bounds(it.laid_ran)[0]}", name
+        assert ran.returncode == 0, ran.stdout[-200:] + ran.stderr
+        return ran.stdout
+
+    def load(self, shape: Shape, rounds: Sequence[int]) -> None:
+        """Writes the image, the setup and the routines of a shape."""
+        (self.folder / "image.fpx").write_bytes(self("elf", shape.executable.path))
+        loops = "".join(SETUP_LOOP.format(*loop, count) for loop, count in zip(shape.loops, rounds))
+        setup = SETUP.format(slots=FOURTH).replace("entry = 0", f"entry = {shape.start}")
+        (self.folder / "setup.toml").write_text(setup + loops)
+        (self.folder / "routines").write_text("".join("%08x %08x\n" % it for it in shape.routines))
+
+    def bound(self, shape: Shape) -> str:
+        section = ("--thread", 0, "--from", hex(shape.begin), "--to", hex(shape.end))
+        if shape.routines:
+            return self("calls", "setup.toml", *section, "--routines", "routines").decode().strip()
+        return self("bound", "setup.toml", *section).decode().strip()
+
+    def port_stores(self, cycles: int) -> list[bytes]:
+        trace = self("run", "setup.toml", "--thread", 0, "--cycles", cycles)
+        return re.findall(rb"\[40000000\]/4=([0-9a-f]{8})", trace)
 
 
-def converted(flexpret: str, executable: Path) -> bytes:
-    """The image that the program makes of an executable."""
-    return subprocess.run([flexpret, "elf", str(executable)], capture_output=True, check=True).stdout
+@pytest.fixture
+def machine(tmp_path: Path) -> Machine:
+    program = os.environ.get("FLEXPRET") or str(BUILT)
+    is_built = os.access(program, os.X_OK)
+    return Machine((str(Path(program).resolve()),) if is_built else (sys.executable, "-m", "model"), tmp_path)
+
+
+@pytest.mark.parametrize("name", ["early", "two_ways_in", "sw_loop", "calls_in_loop", "isort"])
+def test_the_machine_makes_the_same_of_both_orders(
+    of_way: dict[str, Tried], machine: Machine, name: str
+) -> None:
+    it = of_way[name]
+    stores = []
+    for shape in (it.compiled, it.laid):
+        machine.load(Shape(shape.executable, name), ())
+        stores.append(machine.port_stores(12000))
+    count = min(map(len, stores))
+    assert count >= 4 and stores[0][:count] == stores[1][:count]
+
+
+def test_the_machines_bounds(of_way: dict[str, Tried], machine: Machine) -> None:
+    """By `bound` and `calls` of the image that the machine makes of the executable: those of the tests above."""
+    names = SHAPES if "-m" not in machine.command else SHAPES[::12]
+    for name in names:
+        it = of_way[name]
+        machine.load(it.laid, it.laid_ran.rounds)
+        assert machine.bound(it.laid) == f"bound {it.laid.bounds(it.laid_ran)[0]}", name
