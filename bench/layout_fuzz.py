@@ -200,7 +200,7 @@ def compiled(it: Trial, kind: str) -> Path:
 
 def linked(folder: Path, kind: str, objects: list[Path], name: str) -> Executable:
     out = folder / f'{kind}.elf'
-    run([*LINK, '-n', '-T', DATA / 'image.ld', '--defsym', f'main_bits=main_{name}', '-o', out, *objects])
+    run([*LINK, '-n', '-T', DATA / 'image.ld', '-e', f'main_{name}', '-o', out, *objects])
     out.with_suffix('.image').write_bytes(Executable(out).flat)
     return Executable(out)
 

@@ -249,7 +249,7 @@ class Function:
 
 FUNCTION = re.compile(rf"\s*\.type\s+({IDENTIFIER})\s*,\s*[@%]function")
 ARCH = re.compile(r'\s*\.attribute\s+(?:arch|5)\s*,\s*"([^"]*)"')
-COMPILED = re.compile(r"\s*\.(attribute|option\s+(no)?pic|ident\s)", re.MULTILINE)
+COMPILED = re.compile(r"\s*\.(attribute\s|option\s+(no)?pic)", re.MULTILINE)
 FILE = re.compile(r'\s*\.file\s+(\d+)\s+(?:"[^"]*"\s+)?"([^"]*)"')
 LOC = re.compile(r"\s*\.loc\s+(\d+)\s+(\d+)")
 EXTENSION = re.compile(r"rv32i[\dp]*((_?(m|zicsr|zifencei|zmmul))[\dp]*)*")

@@ -84,10 +84,12 @@ def run(command: Sequence[object], folder: Path | None = None) -> str:
     return ran.stdout
 
 
-def build(folder: Path, way: Way, names: Iterable[str] = SHAPES, is_counted: bool = False) -> Path:
+def build(
+    folder: Path, way: Way, names: Iterable[str] = SHAPES, is_counted: bool = False, home: Path = DATA
+) -> Path:
     """An executable of shapes: an image of the machine, or with counted visits for qemu-riscv32."""
     folder.mkdir(parents=True, exist_ok=True)
-    sources = {it: DATA / f"{it}.c" for it in names} | {"runtime": DATA / "runtime.inc"}
+    sources = {it: home / f"{it}.c" for it in names} | {"runtime": DATA / "runtime.inc"}
     if is_counted:
         sources["counted"] = folder / "counted.c"
         sources["counted"].write_text(counted_main(names))
@@ -108,7 +110,8 @@ def build(folder: Path, way: Way, names: Iterable[str] = SHAPES, is_counted: boo
         objects.append(built)
     out = folder / ("counted.elf" if is_counted else "all.elf")
     script = DATA / ("counted.ld" if is_counted else "image.ld")
-    run([*LINK, *["-n"] * (not is_counted), "-T", script, "-o", out, *objects])
+    first = "_start" if is_counted else f"main_{next(iter(names))}"
+    run([*LINK, *["-n"] * (not is_counted), "-T", script, "-e", first, "-o", out, *objects])
     return out
 
 

@@ -522,6 +522,7 @@ def test_labels_of_a_debugger_stay() -> None:
         ("", "there is no function: is it what gcc or clang writes with -S?"),
         (HEAD + "start:\n\tj start\n", "there is no function"),
         (function("\tret\n"), "it isn't assembly for RISC-V that gcc or clang wrote"),
+        (function("\tret\n") + '\t.ident\t"GCC: 12"\n', "it isn't assembly for RISC-V that gcc or clang wrote"),
         (
             HEAD.replace("zicsr", "c") + function("\tret\n"),
             "it is for rv32i2p1_m2p0_c2p0: compile with -march=rv32im_zicsr",

@@ -23,7 +23,7 @@ from fptools.layout import Options, lay_out
 from layout_check import Executable, flow
 
 from layout_shapes import (
-    BATCHES, DATA, FOURTH, GCC, LINK, SETUP, SHAPES, Ran, Shape, Way, build, counted_hashes, quick_runner, run, shapes,
+    BATCHES, DATA, FOURTH, GCC, LINK, SETUP, SHAPES, VISITS, Ran, Shape, Way, build, counted_hashes, quick_runner, run, shapes,
 )  # fmt: skip
 
 NEEDED = ("riscv64-unknown-elf-gcc", "riscv64-unknown-elf-ld", "cc")
@@ -47,19 +47,25 @@ def needs(*programs: str) -> None:
             pytest.skip(f"{program} isn't installed")
 
 
-def tried(folder: Path, way: Way) -> Iterator[tuple[str, Tried]]:
+def tried(
+    folder: Path,
+    way: Way,
+    batches: Sequence[Sequence[str]] = BATCHES,
+    home: Path = DATA,
+    visits: int = VISITS,
+) -> Iterator[tuple[str, Tried]]:
     """All shapes, in batches."""
     runner = quick_runner(folder)
-    for number, names in enumerate(BATCHES):
+    for number, names in enumerate(batches):
         found = []
         for kind in (replace(way, is_laid=False), way):
-            executable = build(folder / f"{kind}{number}".replace(" ", "_"), kind, names)
+            executable = build(folder / f"{kind}{number}".replace(" ", "_"), kind, names, home=home)
             image = executable.with_suffix(".image")
             image.write_bytes(Executable(executable).flat)
             found.append((shapes(executable, names), image))
         (compiled, one), (laid, other) = found
         for name in names:
-            ran, laid_ran = compiled[name].ran(runner, one), laid[name].ran(runner, other)
+            ran, laid_ran = compiled[name].ran(runner, one, visits), laid[name].ran(runner, other, visits)
             yield name, Tried(compiled[name], laid[name], ran, laid_ran)
 
 
@@ -71,9 +77,12 @@ def of_way(request: pytest.FixtureRequest, tmp_path_factory: pytest.TempPathFact
 
 @pytest.mark.parametrize("name", SHAPES)
 def test_a_shape_is_accepted_and_does_the_same(of_way: dict[str, Tried], name: str) -> None:
-    it = of_way[name]
+    accepted(of_way[name])
+
+
+def accepted(it: Tried) -> None:
     assert it.laid.faults == [] and it.laid.refusal() == ""
-    assert it.laid.loops_by_tool and it.laid.loops or not it.laid.loops
+    assert [head for head, _ in it.laid.loops_by_tool] == sorted(head for head, _ in it.laid.loops)
     assert it.laid_ran.digest == it.compiled_ran.digest
     fourth, each = it.laid.bounds(it.laid_ran)
     assert fourth >= it.laid_ran.at_fourth and each >= it.laid_ran.at_each
@@ -102,6 +111,42 @@ def test_another_machine_makes_the_same_of_both_orders(tmp_path: Path, way: Way)
         assert shape.ran(runner, image).digest == both[0][name], name
 
 
+# ---------------------------------------------------------------- distance
+
+
+def far_shape() -> str:
+    """A function of more than 4 KiB, whose loops begin and end further apart than a branch reaches."""
+    steps = "".join(
+        f"s = s * {2 * k + 3}u + (a[(s + {k}u) & 15] ^ {k * 37}u);"
+        + (f" if ((s & 63) == {k % 64}) continue;" if k % 41 == 0 else "")
+        + (f" if (s == {k}u) break; b[{k % 16}] ^= s;" if k % 59 == 0 else "")
+        for k in range(110)
+    )
+    return f"""\
+#define NAME far
+#include "shape.h"
+SHAPE(u32 x) {{ u32 s = x; for (u32 i = 0; i < (x & 3); i++) {{
+        {steps}
+        for (u32 j = i; a[j & 15] & 1; j++) {{ if (j == 20) return s; {steps} }}
+    }}
+    return s; }}
+#include "frame.h"
+"""
+
+
+@pytest.mark.parametrize(
+    "way",
+    [Way("-O2", True), Way("-Os", False), Way("-O1", False, rotate=4), Way("-O2", True, is_clang=True)],
+    ids=str,
+)
+def test_branches_that_are_too_far(tmp_path: Path, way: Way) -> None:
+    needs(*NEEDED, *["clang"] * way.is_clang)
+    (tmp_path / "far.c").write_text(far_shape())
+    ((_, it),) = tried(tmp_path, way, [["far"]], tmp_path, 50)
+    accepted(it)
+    assert sum(len(seen.graph) for seen in it.laid.parts.values()) > 1300
+
+
 # ---------------------------------------------------------------- clang
 
 
@@ -111,10 +156,8 @@ def test_clang_by_its_assembly(tmp_path: Path, way: Way) -> None:
     needs(*NEEDED, "clang")
     found = dict(tried(tmp_path, way))
     assert sorted(found) == SHAPES
-    for name, it in found.items():
-        assert it.laid.faults == [] and it.laid.refusal() == "", name
-        assert it.laid_ran.digest == it.compiled_ran.digest, name
-        assert it.laid.bounds(it.laid_ran)[0] >= it.laid_ran.at_fourth, name
+    for it in found.values():
+        accepted(it)
     assert any(it.laid.routines and it.compiled.faults for it in found.values())
 
 
@@ -135,7 +178,7 @@ def debugged(folder: Path, way: Way, name: str) -> tuple[Path, Path]:
         assembly.write_text(text.replace("\tcall\t", "\tjal\t"))
         built, out = folder / f"{kind}.o", folder / f"{kind}.elf"
         run([*way.assembler(), "-c", "-o", built, assembly])
-        run([*LINK, "-n", "-T", DATA / "image.ld", "--defsym", f"main_bits=main_{name}", "-o", out, built])
+        run([*LINK, "-n", "-T", DATA / "image.ld", "-e", f"main_{name}", "-o", out, built])
         linked.append(out)
     return linked[0], linked[1]
 

@@ -1,6 +1,5 @@
 /* The shapes for qemu-riscv32, with memory where the port is. */
 OUTPUT_ARCH(riscv)
-ENTRY(_start)
 SECTIONS {
   . = 0x10000;
   .text : { *(.text .text.* .rodata .rodata.* .srodata .srodata.*) }

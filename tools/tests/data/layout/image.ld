@@ -1,6 +1,5 @@
 /* All shapes in one image for scratchpads of 65,536 bytes (`version = 2`). */
 OUTPUT_ARCH(riscv)
-ENTRY(main_bits)
 MEMORY { code (rx) : ORIGIN = 0, LENGTH = 64K  data (rw) : ORIGIN = 0x20000000, LENGTH = 64K }
 SECTIONS {
   .code : { *(.text .text.* .rodata .rodata.* .srodata .srodata.*) } > code
