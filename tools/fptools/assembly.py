@@ -218,6 +218,7 @@ def _of_line(number: int, line: str, by_hand: bool) -> Iterator[Statement]:
 def _pieces(line: str) -> list[str]:
     """Splits a line at each `;`, without its comment."""
     found, at = [], 0
+    line = re.sub(r"/\*.*?\*/", " ", line) if "/*" in line else line
     while True:
         piece = PIECE.match(line, at)
         assert piece

@@ -158,7 +158,7 @@ SECTION = (".section", ".text", ".data", ".bss", ".pushsection", ".popsection", 
 RANGE_END = re.compile(r"\.L(BE|FE|BBE)\d*$")
 """Labels at the end of a range of instructions."""
 
-SWITCH = "; -fno-jump-tables compiles a switch without a table"
+SWITCH = ": -fno-jump-tables avoids it for a switch; a computed goto has no bound"
 PARTS = "-fno-reorder-blocks-and-partition keeps it in one section"
 SIBLING = "another function returns for it: -fno-optimize-sibling-calls keeps a last call a call"
 

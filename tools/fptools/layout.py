@@ -101,12 +101,13 @@ class _Layout:
         self.of_function = {
             it.name: list(statements(self.assembly.body(it), it.first + 2)) for it in self.assembly.functions
         }
-        self.places = {
-            it.name: (function, it.line)
-            for function, own in self.of_function.items()
-            for it in own
-            if _is_mark(it)
-        }
+        self.places: dict[str, tuple[str, int]] = {}
+        for name, own in self.of_function.items():
+            for it in filter(_is_mark, own):
+                if it.name in self.places:
+                    why = "the compiler doubled its place, by inlining or unrolling"
+                    raise Fault(it.line, f"mark {it.name} is also at line {self.places[it.name][1]}: {why}")
+                self.places[it.name] = name, it.line
         self.flags = self._line_flags()
 
     def _line_flags(self) -> dict[str, bool]:

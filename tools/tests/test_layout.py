@@ -203,9 +203,9 @@ def test_branches_to_distant_labels_as_gcc_13_writes_them() -> None:
         (
             "\tnop\n\tjr\ta5\n\t.section\t.rodata\n.L4:\n\t.word\t.L8\n\t.text\n.L8:\n\tret\n",
             10,
-            "`jr a5` jumps to an address in a register; -fno-jump-tables compiles a switch without a table",
+            "`jr a5` jumps to an address in a register: -fno-jump-tables avoids it for a switch; a computed goto has no",
         ),
-        ("\tjalr\tx0, 0(a5)\n", 9, "`jalr x0, 0(a5)` jumps to an address in a register; -fno-jump-tables"),
+        ("\tjalr\tx0, 0(a5)\n", 9, "`jalr x0, 0(a5)` jumps to an address in a register: -fno-jump-tables"),
         ("\ttail\tg\n", 9, "`tail g`: another function returns for it: -fno-optimize-sibling-calls"),
         ("\tbne\ta0,a1,g\n\tret\n", 9, "a jump to `g`, which isn't in it: another function returns for it"),
         ("\tj\t.L77\n", 9, "a jump to `.L77`, which isn't in it"),
@@ -244,9 +244,9 @@ def test_instructions_of_the_source_that_go_straight_on() -> None:
     code = (
         '#APP\n# 3 "code.c" 1\n\t.insn r 0x0b, 0, 0, a4, x0, x0\n\t.insn r 0x0b, 1, 0, a5, x0, x0\n# 0 "" 2\n'
     )
-    code += '# 5 "code.c" 1\n\tcsrr a3, mcause # why; not\n# 0 "" 2\n#NO_APP\n'
+    code += '# 4 "code.c" 1\n\t/* a; b */ fence\n# 0 "" 2\n# 5 "code.c" 1\n\tcsrr a3, mcause # why; not\n# 0 "" 2\n#NO_APP\n'
     made = body(code + LOOP_AT_END.replace("a5", "a3"))
-    assert made[:2] == ["csrr a3, mcause # why; not", ".L2:"]
+    assert made[:3] == ["/* a; b */ fence", "csrr a3, mcause # why; not", ".L2:"]
 
 
 def test_a_call_is_a_single_word_and_jumps_of_other_kinds_are_known() -> None:
@@ -362,6 +362,8 @@ def test_marks_in_two_functions_and_marks_that_are_none() -> None:
     text = HEAD + function(mark("a_begin") + "\tret\n") + function(mark("a_end") + "\tret\n", "g")
     with pytest.raises(Fault, match="section a_begin:a_end begins in f and ends in g"):
         lay_out(Assembly(text))
+    with pytest.raises(Fault, match="mark a is also at line 12: the compiler doubled its place"):
+        lay_out(Assembly(HEAD + function(mark("a") + mark("a") + "\tret\n")))
     with pytest.raises(Fault, match="section p:q: no asm of a function has the label `p`"):
         lay_out(Assembly(text), Options((Marks("p", "q"),)))
 
@@ -522,7 +524,10 @@ def test_labels_of_a_debugger_stay() -> None:
         ("", "there is no function: is it what gcc or clang writes with -S?"),
         (HEAD + "start:\n\tj start\n", "there is no function"),
         (function("\tret\n"), "it isn't assembly for RISC-V that gcc or clang wrote"),
-        (function("\tret\n") + '\t.ident\t"GCC: 12"\n', "it isn't assembly for RISC-V that gcc or clang wrote"),
+        (
+            function("\tret\n") + '\t.ident\t"GCC: 12"\n',
+            "it isn't assembly for RISC-V that gcc or clang wrote",
+        ),
         (
             HEAD.replace("zicsr", "c") + function("\tret\n"),
             "it is for rv32i2p1_m2p0_c2p0: compile with -march=rv32im_zicsr",
