@@ -252,7 +252,10 @@ class Reader:
         if it.name == ".loc":
             self._line(it)
         elif it.name.startswith(".cfi_"):
-            self._frame(it)
+            try:
+                self._frame(it)
+            except (ValueError, IndexError):
+                self._lose_frame(it)
         elif it.name in SECTION:
             is_rare = "unlikely" in it.rest or "cold" in it.rest
             raise Stays(it.line, f"`{it}` is among its code" + (f": {PARTS}" if is_rare else ""))
@@ -269,7 +272,7 @@ class Reader:
             at = more.index("is_stmt")
             self.is_statement = more[at + 1 : at + 2] == ["1"]
             del more[at : at + 2]
-        if "view" in more and not more[more.index("view") + 1].startswith("."):
+        if "view" in more[:-1] and not more[more.index("view") + 1].startswith("."):
             at = more.index("view")
             del more[at : at + 2]
         here = SourceLine(" ".join(numbers), "".join(f" {word}" for word in more), self.is_statement)
@@ -297,11 +300,15 @@ class Reader:
         elif it.name == ".cfi_restore_state" and self.frames:
             self.frame = self.frames.pop()
         else:
-            if it.name not in (".cfi_startproc", ".cfi_endproc", ".cfi_sections"):
-                self.lost_frame = self.lost_frame or str(it)
-            self.pending.append(Item(Part.NOTE, it.text, it.line))
+            self._lose_frame(it)
             return
         self.pending.append(Item(Part.FRAME, "", it.line, frame=self.frame))
+
+    def _lose_frame(self, it: Statement) -> None:
+        """Keeps a directive that isn't known. The others are no longer right then."""
+        if it.name not in (".cfi_startproc", ".cfi_endproc", ".cfi_sections"):
+            self.lost_frame = self.lost_frame or str(it)
+        self.pending.append(Item(Part.NOTE, it.text, it.line))
 
     def _asm(self, it: Statement) -> None:
         made = instruction(it.line, it.name, it.rest)
@@ -364,7 +371,12 @@ def body_of(statements: Iterable[Statement], is_statement: bool = True) -> Body:
     """The blocks of a function. `is_statement` is the line table's flag before it. Raises Stays."""
     reader = Reader(statements, is_statement)
     blocks = reader.blocks
-    at = {label: index for index, block in enumerate(blocks) for label in block.labels}
+    at: dict[str, int] = {}
+    for index, block in enumerate(blocks):
+        for label in block.labels:
+            if label in at:
+                raise Stays(block.line, f"label `{label}` is in it twice")
+            at[label] = index
     for index, (line, label) in [*reader.branches.items(), *reader.jumps.items()]:
         if label not in at:
             raise Stays(

@@ -15,6 +15,8 @@ from fptools.same_flow import do_the_same
 MOST_COPIES = 2000
 """A function gets copies of so many instructions at most, if nothing else is asked."""
 
+OWN_FAULT = "this is a fault of fp_layout, please report it"
+
 MOST_PASSES = 20
 """With copies of tests, a function is laid out so often at most."""
 
@@ -246,7 +248,7 @@ class _Layout:
         try:
             return Nest(Flows(body.blocks))
         except Irreducible:
-            raise AssertionError("a loop is entered at two places, after copies") from None
+            raise Fault(body.blocks[0].line, f"a loop has two entries after copies: {OWN_FAULT}") from None
 
     def _note(
         self, function: Function, body: Body, nest: Nest, sections: list[tuple[Marks, Section]]
@@ -328,7 +330,7 @@ class _Layout:
         again = body_of(statements(lines, 1), flag)
         same = do_the_same(compiled, again.blocks)
         if not same or not Nest(Flows(again.blocks)).is_in_order([]):
-            raise AssertionError(f"{function.name} would not do the same: a fault of fp_layout")
+            raise Fault(function.first + 1, f"{function.name} would do another thing: {OWN_FAULT}")
         return lines
 
 

@@ -605,6 +605,55 @@ def test_usage(tool: Tool) -> None:
         assert tool("fp_layout", *words).returncode == 2
 
 
+def garbled(text: str, chance: random.Random) -> str:
+    """A text with lines that are cut, moved, doubled, dropped or misspelt."""
+    lines = text.split("\n")
+    for _ in range(chance.randint(1, 5)):
+        at, other = chance.randrange(len(lines)), chance.randrange(len(lines))
+        cut = chance.randrange(len(lines[at]) + 1)
+        kind = chance.randrange(5)
+        if kind == 0:
+            lines[at] = lines[at][:cut]
+        elif kind == 1:
+            lines[at], lines[other] = lines[other], lines[at]
+        elif kind == 2:
+            lines.insert(at, lines[other])
+        elif kind == 3:
+            del lines[at : at + (1 if len(lines) > 1 else 0)]
+        else:
+            lines[at] = (
+                lines[at][:cut]
+                + chance.choice([",", ";", "#", ":", '"', "(", "1f", "x0", "/*", "view"])
+                + lines[at][cut:]
+            )
+    return "\n".join(lines)
+
+
+def test_what_is_garbled_is_laid_out_or_refused() -> None:
+    frame = "\t.cfi_startproc\n\t.loc 1 3 1 is_stmt 0\n\t.cfi_def_cfa_offset 16\n\t.cfi_offset 1, -4\n"
+    code = (
+        frame
+        + mark("a_begin")
+        + LOOP_AT_END.replace("\tret\n", "")
+        + mark("a_end")
+        + "\tret\n\t.cfi_endproc\n"
+    )
+    outcomes = set()
+    for seed in range(400):
+        text = garbled(
+            HEAD + function(code) + function(LOOP_AT_END, "g").replace(".L", ".L9"), random.Random(seed)
+        )
+        try:
+            once = lay_out(Assembly(text), Options(rotate=seed % 2 * 4))
+            outcomes.add("stays" if once.kept else "laid out")
+            if not once.kept:
+                assert lay_out(Assembly(once.text), Options(rotate=seed % 2 * 4)).text == once.text
+        except Fault as fault:
+            assert "fault of fp_layout" not in fault.why
+            outcomes.add("refused")
+    assert outcomes == {"laid out", "stays", "refused"}
+
+
 # ---------------------------------------------------------------- the comparison
 
 
