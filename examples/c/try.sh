@@ -19,6 +19,7 @@ work=$(mktemp -d)
 trap 'rm -rf "$work"' EXIT
 mkdir "$work/examples"
 cp -R "$here" "$work/examples/c"
+ln -s "$top/tools" "$work/tools"
 ln -s "$program" "$work/flexpret"
 ln -s "$view" "$work/flexpret-view"
 cd "$work" || exit 1

@@ -11,7 +11,7 @@ import pytest
 from conftest import TOOLS, TOP
 
 PARTS = {
-    "tools": ["fp_budget", "fp_lint", "fp_loops", "fp_trace", "fptools", "tests"],
+    "tools": ["fp_budget", "fp_layout", "fp_lint", "fp_loops", "fp_trace", "fptools", "tests"],
     "bench": [str(it) for it in sorted((TOP / "bench").glob("*.py"))],
     "examples": [str(it) for it in sorted((TOP / "examples").glob("*/*.py"))],
 }

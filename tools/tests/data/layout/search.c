@@ -1,0 +1,9 @@
+/* halves an interval */
+#define NAME search
+#include "shape.h"
+SHAPE(u32 x) { u32 low = 0, high = N; while (low < high) { /* @rounds 6 */
+        u32 m = (low + high) / 2;
+        if (a[m] == x) return m;
+        if (a[m] < x) low = m + 1; else high = m; }
+    return low + 32; }
+#include "frame.h"

@@ -1,0 +1,15 @@
+/* two states that lead to each other, entered at either */
+#define NAME two_ways_in
+#include "shape.h"
+SHAPE(u32 x) { u32 i = 0, s = 0; if (x & 2) goto even; else goto odd;
+even:
+    s += a[i]; b[i] = s;
+    if (++i == N) return s;
+    if (s & 1) goto odd;
+    goto even;
+odd:
+    s = s * 3 + b[i];
+    if (++i >= N) return s ^ 5;
+    if (s & 2) goto even;
+    goto odd; }
+#include "frame.h"
