@@ -567,7 +567,7 @@ def test_files_that_are_not_there_or_take_nothing(tool: Tool, tmp_path: Path) ->
     ran = tool("fp_layout", tmp_path / "x.s", "-o", tmp_path / "no" / "y.s")
     assert ran.returncode == 2 and f"{tmp_path}/no" in ran.stderr and len(ran.stderr.splitlines()) == 1
     ran = subprocess.run(
-        f"{TOOLS}/fp_layout {tmp_path}/x.s > /dev/full",
+        f"{sys.executable} {TOOLS}/fp_layout {tmp_path}/x.s > /dev/full",
         shell=True,
         capture_output=True,
         text=True,
