@@ -150,8 +150,8 @@ run_stops grows s n thread first m after rows new before between now line within
       left = λ i below. left_more (row_at first i) (row_at rows i) (row_at new i) (run.left i below) (left i below);
     }
 
--- a run that has done its last cycle
-pub run_ends : {s : Start} {k n thread : ℕ} {first : List (Option Row)} {m : Machine} {rows : List (Option Row)} {before now : Option (List ℕ)} → k ≡ n → HasRun s k n thread first m rows before now → HasRun s n n thread first m rows before now
-run_ends {s} {k} {n} {thread} {first} {m} {rows} {before} {now} all run =
-    let Run : ℕ → Type 0 = λ c. HasRun s c n thread first m rows before now in
-    subst Run all run
+-- a run, by an equal number of cycles
+pub run_comes_to : {s : Start} {k c n thread : ℕ} {first : List (Option Row)} {m : Machine} {rows : List (Option Row)} {before now : Option (List ℕ)} → k ≡ c → HasRun s k n thread first m rows before now → HasRun s c n thread first m rows before now
+run_comes_to {s} {k} {c} {n} {thread} {first} {m} {rows} {before} {now} same run =
+    let Run : ℕ → Type 0 = λ a. HasRun s a n thread first m rows before now in
+    subst Run same run

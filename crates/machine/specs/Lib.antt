@@ -13,5 +13,6 @@ pub use Rattle.fp_ports.specs.Rows
 pub use Rattle.pipe_model.specs.Stages
 pub use Rattle.pipeline_core.specs.StageFacts
 pub use Rattle.run_laws.specs.TraceLaws
+pub use Rattle.timer_unit.specs.Time
 pub use Rattle.trace_print.specs.Text
 pub use Rattle.world_model.specs.World

@@ -1,6 +1,6 @@
 //! The dump of a machine.
 
-ghost use Rattle.std.specs.Prelude.{◌≡◌, ℕ, ◌+◌, ◌/◌, ◌<◌, ◌≤◌, vec_len, OnOk, OnErr};
+ghost use Rattle.std.specs.Prelude.{◌≡◌, ℕ, ◌+◌, ◌/◌, ◌<◌, ◌≤◌, [], vec_len, OnOk, OnErr};
 ghost use Rattle.std.specs.Io.KnownBytes.{Appends};
 ghost use Rattle.fp_io.specs.Causes.{Rose};
 ghost use Rattle.fp_io.specs.Content.{AppendsFront};
@@ -72,6 +72,9 @@ impl Machine {
             number)) }
         ensures failed { OnErr result (Rose (K.faults out.old) (K.faults out.new)) }
         ensures counted { K.faults out.old ≤ K.faults out.new }
+        ensures nothing { dump_line (stage_registers_as_defined self.now.pipe)
+            (state_as_defined self.now.units (rows_of latched word_at ports.now.items)) self.now.at
+            number ≡ [] → out.new ≡ out.old }
     {
         let line = self.line(ports, number);
         if line.is_empty() {

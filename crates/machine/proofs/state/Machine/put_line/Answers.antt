@@ -1,4 +1,4 @@
-use Rattle.std.proofs.Common.{◌≡◌, ◌∙◌, ℕ, List, [], ◌∷◌, length, true, arith, refl, subst, sym}
+use Rattle.std.proofs.Common.{◌≡◌, ◌∙◌, ℕ, List, [], ◌∷◌, length, true, false, arith, refl, subst, sym}
 use Rattle.std.proofs.Math.Nat.{le_refl}
 use Rattle.std.proofs.lemmas.Grind.{common_steps}
 use Rattle.std.specs.Prelude.{◌==◌, OnOk, OnErr}
@@ -11,6 +11,10 @@ none : (bytes : List ℕ) → (length bytes == 0) ≡ true → bytes ≡ []
 none [] h = refl
 none (b ∷ bytes) h = grind (arith, common_steps)
 
+some : (bytes : List ℕ) → (length bytes == 0) ≡ false → bytes ≡ [] → ⊥
+some [] h empty = cc
+some (b ∷ bytes) h empty = cc
+
 pub returns-then-is_empty : goal.returns-then-is_empty
 returns-then-is_empty g c =
     let taken = g.K.Sink.taken c.args.out.now in
@@ -20,6 +24,7 @@ returns-then-is_empty g c =
       err = tt;
       failed = tt;
       counted = le_refl _;
+      nothing = λ empty. refl;
     }
 
 pub returns : goal.returns
@@ -32,4 +37,5 @@ returns g c =
       err = subst (λ (line : List ℕ). OnErr c.put.result (AppendsFront before after line)) shown c.put.ensures.err;
       failed = c.put.ensures.failed;
       counted = c.put.ensures.counted;
+      nothing = λ empty. absurd (some c.line-line.result.bytes (sym c.is_empty.ensures ∙ c.if-is_empty.false) (c.line-line.ensures ∙ empty));
     }

@@ -1,48 +1,22 @@
--- A run goes on from line to line.
-use Rattle.std.proofs.Common.{◌≡◌, ℕ, ◌≤◌, arith, ap, sym, ◌∙◌}
-use Rattle.std.proofs.Math.Nat.{le_refl, le_trans}
-use Rattle.std.proofs.lemmas.Result.{err_from_is_err_and}
-use Rattle.std.specs.Prelude.{is_some}
-use Rattle.std.specs.List.{list_any}
-use Rattle.machine.proofs.RunLemmas.{left_all, run_ends}
+-- A run is one that continues from cycle 0.
+use Rattle.std.proofs.Common.{◌≡◌, ℕ, Result, Ok, Err, OnOk, OnErr, List, Option, arith}
+use Rattle.std.proofs.Math.Nat.{le_refl}
+use Rattle.world_model.specs.World.{Start}
 use Rattle.machine.proofs.SleepLemmas.{run_begins_at}
-use Rattle.machine.proofs.WordLemmas.{words_on}
 use Rattle.machine.proofs.state.Machine.run.Goals as goal
 
--- no cycle is left
-ended : (at n : ℕ) → at ≤ n → n ≤ at → at ≡ n
-ended at n low high = omega arith
+map-ok : {T E : Type 0} → (r : Result T E) (P Q : Type 0) → OnOk r P → (P → Q) → OnOk r Q
+map-ok (Ok x) P Q h f = f h
+map-ok (Err e) P Q h f = h
 
-pub loop-self-init : goal.loop-self-init
-loop-self-init g c = record {
-  within = omega (arith, c.requires.start);
-  eight = c.requires.eight;
-  counted = le_refl _;
-  words = left_all _;
-  known = c.loses_ports-loses_ports.ensures;
-  runs = λ s st. run_begins_at s c.args.n c.args.thread c.args.self.now _ (g.K.Sink.taken c.args.out.now) c.requires.start st;
-}
-
-pub loop-self-preserved : goal.loop-self-preserved
-loop-self-preserved g c =
-    let inv = c.loop-self.invariant in
-    let ahead = c.run_to_line.ensures in
-    record {
-      within = ahead.end;
-      eight = ahead.eight;
-      counted = le_trans inv.counted ahead.counted;
-      words = words_on _ _ _ inv.words ahead.words;
-      known = inv.known ∙ ap (list_any is_some) (sym ahead.unplugs);
-      runs = λ s st. c.in_ok-run_to_line.ensures.ok s _ _ (inv.runs s st);
-    }
-
-pub returns-in_err-run_to_line-clause-err : goal.returns-in_err-run_to_line-clause-err
-returns-in_err-run_to_line-clause-err g c =
-    let inv = c.loop-self.invariant in
-    let p = err_from_is_err_and c.from_residual.result c.from_residual.ensures.1 in
-    rw p.1 (λ s st. c.in_err-run_to_line.ensures.err s _ _ (inv.runs s st))
+map-err : {T E : Type 0} → (r : Result T E) (P Q : Type 0) → OnErr r P → (P → Q) → OnErr r Q
+map-err (Ok x) P Q h f = h
+map-err (Err e) P Q h f = f h
 
 pub returns-clause-ok : goal.returns-clause-ok
-returns-clause-ok g c =
-    let inv = c.loop-self.invariant in
-    λ s st. run_ends (ended c.loop-self.self.at c.args.n inv.within c.loop-self-test.false) (inv.runs s st)
+returns-clause-ok g c = map-ok c.run_on.result _ _ c.run_on.ensures.ok
+    (λ more s st. more s c.args.n _ (g.K.Sink.taken c.args.out.now) (le_refl c.args.n) (run_begins_at s c.args.n c.args.thread c.args.self.now _ (g.K.Sink.taken c.args.out.now) c.requires.start st))
+
+pub returns-clause-err : goal.returns-clause-err
+returns-clause-err g c = map-err c.run_on.result _ _ c.run_on.ensures.err
+    (λ more s st. more s c.args.n _ (g.K.Sink.taken c.args.out.now) (le_refl c.args.n) (run_begins_at s c.args.n c.args.thread c.args.self.now _ (g.K.Sink.taken c.args.out.now) c.requires.start st))

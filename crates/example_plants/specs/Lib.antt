@@ -1,0 +1,4 @@
+pub mod Lag
+pub mod Heating
+pub mod Motion
+pub mod Tables

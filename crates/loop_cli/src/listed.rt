@@ -1,0 +1,110 @@
+//! The list of plants: a line for each, with its thread, its kind and its numbers.
+
+ghost use Rattle.std.specs.Prelude.{◌≡◌, ◌<◌, IfOk, OnOk, vec_len};
+
+use crate::fault::Fault;
+use fp_io::Files;
+use fp_setup::Name;
+use program_files::fetch;
+use std::alloc::Global;
+use std::str::SplitWhitespace;
+
+/// How many threads there are.
+const THREADS: u8 = 8;
+
+/// The most bytes of a list.
+const MOST_BYTES: usize = 1_048_576;
+
+/// A plant of the list.
+#[derive(Drop)]
+pub enum Listed {
+    /// A heated body, whose load comes in this step.
+    Body(u32),
+    /// A motor, whose load comes in this step.
+    Motor(u32),
+    /// A table.
+    Table(Vec<u32>),
+}
+
+/// Reads the plants of the eight threads that a file lists. Empty lines, and lines that begin with
+/// `#` and a blank, are left out. The last plant of a thread counts.
+///
+/// # Errors
+///
+/// `Plants` for a line that names no plant, or a file that isn't text; `Read`; `NoMemory`.
+pub fn read_plants<F: Files>(
+    alloc: Global,
+    name: &Name,
+    files: &mut F,
+) -> Result<Vec<Option<Listed>>, Fault>
+    ensures { IfOk result (λ plants. vec_len plants ≡ 8) }
+{
+    let bytes = fetch(alloc, name, MOST_BYTES, files)?;
+    let Ok(text) = std::str::from_utf8(&bytes) else {
+        return Err(Fault::Plants);
+    };
+    let mut plants = Vec::new(alloc);
+    for _thread in 0..THREADS {
+        plants.push(None)?;
+    }
+    add_lines(alloc, text, &mut plants)?;
+    Ok(plants)
+}
+
+/// Puts the plant of each line to its thread.
+fn add_lines(alloc: Global, text: &str, plants: &mut Vec<Option<Listed>>) -> Result<(), Fault>
+    requires { vec_len plants.old ≡ 8 }
+    ensures { OnOk result (vec_len plants.new ≡ 8) }
+{
+    for line in text.lines() {
+        let mut words = line.split_whitespace();
+        match words.next() {
+            None | Some("#") => {}
+            Some(thread) => {
+                let thread = thread_of(thread)?;
+                plants[thread as usize] = Some(plant_of(alloc, words)?);
+            }
+        }
+    }
+    Ok(())
+}
+
+/// The plant of a line, by the words after its thread.
+fn plant_of(alloc: Global, mut words: SplitWhitespace<'_>) -> Result<Listed, Fault> {
+    match words.next() {
+        Some("body") => Ok(Listed::Body(number(words.next())?)),
+        Some("motor") => Ok(Listed::Motor(number(words.next())?)),
+        Some("table") => Ok(Listed::Table(table_of(alloc, words)?)),
+        _ => Err(Fault::Plants),
+    }
+}
+
+/// The words of a table.
+fn table_of(alloc: Global, words: SplitWhitespace<'_>) -> Result<Vec<u32>, Fault> {
+    let mut table = Vec::new(alloc);
+    for word in words {
+        table.push(number(Some(word))?)?;
+    }
+    Ok(table)
+}
+
+/// A thread's number.
+fn thread_of(text: &str) -> Result<u8, Fault>
+    ensures { IfOk result (λ thread. thread < 8) }
+{
+    match text.parse::<u8>() {
+        Ok(thread) if thread < THREADS => Ok(thread),
+        _ => Err(Fault::Plants),
+    }
+}
+
+/// A decimal number.
+fn number(text: Option<&str>) -> Result<u32, Fault> {
+    match text {
+        Some(text) => match text.parse::<u32>() {
+            Ok(number) => Ok(number),
+            Err(_) => Err(Fault::Plants),
+        },
+        None => Err(Fault::Plants),
+    }
+}

@@ -1,0 +1,7 @@
+pub mod Worlds
+pub mod FedPorts
+pub mod Sampling
+pub mod Steps
+pub mod Runs
+mod Alone
+mod PlantLemmas

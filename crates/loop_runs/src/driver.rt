@@ -1,0 +1,334 @@
+//! The machine in loops with its plants. Each `every` cycles the driver samples the latches of the
+//! ports, steps the plants, and feeds their words to the ports.
+
+ghost use Rattle.std.specs.Prelude.{◌≡◌, ℕ, suc, ◌+◌, ◌*◌, ◌^◌, ◌<◌, ◌≤◌, true, false, Err, List, Option, OnOk, OnErr, slice_index_or, vec_len};
+ghost use Rattle.std.specs.List.{list_all};
+ghost use Rattle.std.specs.Io.KnownBytes.{Appends};
+ghost use Rattle.fp_io.specs.Causes.{Rose};
+ghost use Rattle.fp_io.specs.Content.{AppendsFront};
+ghost use Rattle.timer_unit.specs.Time.{most_cycles};
+ghost use Rattle.fp_ports.specs.Rows.{rows_of};
+ghost use Rattle.trace_print.specs.Text.{text};
+ghost use Rattle.world_model.specs.World.{Start, events, is_quiet};
+ghost use Rattle.phase_model.specs.Phases.{phases, keeps_regions, is_never_soft};
+ghost use Rattle.run_laws.specs.Isolation.{IsApart, IsConfined};
+ghost use Rattle.machine.specs.WorldRelation.{StandsFor};
+ghost use Rattle.loop_laws.specs.Loop.{phased_in_loop, solo_in_loop};
+ghost use Rattle.loop_laws.specs.Answered.{loop_view};
+ghost use Rattle.loop_runs.specs.Plants.{Response, loop_start, responses_of};
+ghost use Rattle.loop_runs.specs.Looping.{HasLooped, Looping};
+ghost use Rattle.loop_runs.specs.SampledLaws.{plant_at};
+
+use crate::feeding::feed_now;
+use crate::plants::{Plants, step_plant, word_of};
+use fp_io::{PutFailed, Sink};
+use fp_ports::{Ports, latch_of};
+use machine::Machine;
+use pipe_model::events_grow;
+use std::alloc::AllocError;
+use thiserror::Error;
+
+/// Why a run in closed loops stopped.
+#[derive(Clone, Copy, Debug, PartialEq, Eq, Error)]
+pub enum LoopStop {
+    /// Out of memory: a port could not be fed.
+    #[error("out of memory")]
+    NoMemory,
+    /// The sink did not take a line.
+    #[error("not all bytes were taken")]
+    PutFailed,
+}
+
+impl From<AllocError> for LoopStop {
+    ghost use Rattle.std.specs.Prelude.{◌≡◌};
+    ghost use Rattle.loop_runs.specs.declared.driver.LoopStop.TheVariants.{NoMemory};
+
+    ghost from_gives = { λ _ stop. stop ≡ NoMemory };
+
+    fn from(_error: AllocError) -> LoopStop {
+        LoopStop::NoMemory
+    }
+}
+
+impl From<PutFailed> for LoopStop {
+    ghost use Rattle.std.specs.Prelude.{◌≡◌};
+    ghost use Rattle.loop_runs.specs.declared.driver.LoopStop.TheVariants.{PutFailed};
+
+    ghost from_gives = { λ _ stop. stop ≡ PutFailed };
+
+    fn from(_error: PutFailed) -> LoopStop {
+        LoopStop::PutFailed
+    }
+}
+
+/// Feeds the first word of a thread's plant to its port, if the thread has a plant.
+fn begin_thread(
+    machine: &Machine,
+    ports: &mut Ports,
+    plants: &Plants,
+    thread: u8,
+) -> Result<(), AllocError>
+    requires eight { vec_len ports.old ≡ 8 }
+    requires plants { vec_len plants.now ≡ 8 }
+    requires thread { thread < 8 }
+    requires start { machine.now.at ≡ 0 }
+    ensures looping { (every : ℕ) (s : Start) (n : ℕ) → 0 < every → n ≤ 2 ^ 64
+        → Looping (responses_of response plants.now.items)
+        (responses_of response plants.now.items) every s n 0 thread machine.now.at
+        machine.now (rows_of latched word_at ports.old.items)
+        → OnOk result (Looping (responses_of response plants.now.items)
+        (responses_of response plants.now.items) every s n 0 (suc thread)
+        machine.now.at machine.now (rows_of latched word_at ports.new.items)) }
+    ensures eight { vec_len ports.new ≡ 8 }
+{
+    match word_of(plants, thread) {
+        Some(word) => feed_now(machine, ports, thread, word),
+        None => Ok(()),
+    }
+}
+
+/// Samples the latch of a thread's port, steps the thread's plant and feeds its word to the port.
+/// Nothing changes where the thread has no plant, or no port.
+fn sample_thread(
+    machine: &Machine,
+    ports: &mut Ports,
+    plants: &mut Plants,
+    thread: u8,
+) -> Result<(), AllocError>
+    requires eight { vec_len ports.old ≡ 8 }
+    requires plants { vec_len plants.old ≡ 8 }
+    requires thread { thread < 8 }
+    ensures looping { (first : List (Option Response)) (every : ℕ) (s : Start) (n k : ℕ)
+        → 0 < every → n ≤ 2 ^ 64 → machine.now.at ≤ n → machine.now.at ≡ suc k * every
+        → Looping first (responses_of response plants.old.items) every s n (suc k) thread
+        machine.now.at machine.now (rows_of latched word_at ports.old.items)
+        → OnOk result (Looping first (responses_of response plants.new.items) every s n (suc k)
+        (suc thread) machine.now.at machine.now (rows_of latched word_at ports.new.items)) }
+    ensures eight { vec_len ports.new ≡ 8 }
+    ensures plants { vec_len plants.new ≡ 8 }
+{
+    let Some(drive) = latch_of(ports, thread) else {
+        return Ok(());
+    };
+    match step_plant(plants, thread, drive) {
+        Some(word) => feed_now(machine, ports, thread, word),
+        None => Ok(()),
+    }
+}
+
+/// Feeds the first words of all plants to their ports.
+fn begin_all(machine: &Machine, ports: &mut Ports, plants: &Plants) -> Result<(), AllocError>
+    requires eight { vec_len ports.old ≡ 8 }
+    requires plants { vec_len plants.now ≡ 8 }
+    requires start { machine.now.at ≡ 0 }
+    ensures looping { (every : ℕ) (s : Start) (n : ℕ) → 0 < every → n ≤ 2 ^ 64
+        → StandsFor s 0 n machine.now (rows_of latched word_at ports.old.items)
+        → OnOk result (Looping (responses_of response plants.now.items)
+        (responses_of response plants.now.items) every s n 0 8 machine.now.at machine.now
+        (rows_of latched word_at ports.new.items)) }
+    ensures eight { vec_len ports.new ≡ 8 }
+{
+    for thread in 0..8u8 {
+        begin_thread(machine, ports, plants, thread)?;
+    }
+    Ok(())
+}
+
+/// Does a step of all plants.
+fn sample_all(machine: &Machine, ports: &mut Ports, plants: &mut Plants) -> Result<(), AllocError>
+    requires eight { vec_len ports.old ≡ 8 }
+    requires plants { vec_len plants.old ≡ 8 }
+    ensures looping { (first : List (Option Response)) (every : ℕ) (s : Start) (n k : ℕ)
+        → 0 < every → n ≤ 2 ^ 64 → machine.now.at ≤ n → machine.now.at ≡ suc k * every
+        → Looping first (responses_of response plants.old.items) every s n k 8
+        machine.now.at machine.now (rows_of latched word_at ports.old.items)
+        → OnOk result (Looping first (responses_of response plants.new.items) every s n (suc k)
+        8 machine.now.at machine.now (rows_of latched word_at ports.new.items)) }
+    ensures eight { vec_len ports.new ≡ 8 }
+    ensures plants { vec_len plants.new ≡ 8 }
+{
+    for thread in 0..8u8 {
+        sample_thread(machine, ports, plants, thread)?;
+    }
+    Ok(())
+}
+
+/// Runs the machine for `every` cycles, and puts the lines of a thread. Then does a step of all
+/// plants.
+fn loop_step<K: Sink>(
+    machine: &mut Machine,
+    ports: &mut Ports,
+    plants: &mut Plants,
+    thread: u8,
+    every: u64,
+    out: &mut K,
+) -> Result<(), LoopStop>
+    requires some { 0 < every }
+    requires limit { machine.old.at + every ≤ most_cycles }
+    requires eight { vec_len ports.old ≡ 8 }
+    requires plants { vec_len plants.old ≡ 8 }
+    ensures looped { (first : List (Option Response)) (s : Start) (n k : ℕ)
+        (told : Option (List ℕ)) → n ≤ 2 ^ 64 → machine.old.at + every ≤ n
+        → machine.old.at ≡ k * every
+        → HasLooped first (responses_of response plants.old.items) every s n k 8 machine.old.at
+        thread machine.old (rows_of latched word_at ports.old.items) told (K.taken out.old)
+        → OnOk result (HasLooped first (responses_of response plants.new.items) every s n (suc k) 8
+        machine.new.at thread machine.new (rows_of latched word_at ports.new.items) told
+        (K.taken out.new)) }
+    ensures stopped { (first : List (Option Response)) (s : Start) (n k : ℕ)
+        (told : Option (List ℕ)) → n ≤ 2 ^ 64 → machine.old.at + every ≤ n
+        → machine.old.at ≡ k * every
+        → HasLooped first (responses_of response plants.old.items) every s n k 8 machine.old.at
+        thread machine.old (rows_of latched word_at ports.old.items) told (K.taken out.old)
+        → OnErr result (AppendsFront told (K.taken out.new)
+        (text (events (loop_start first every s n) thread n))) }
+    ensures failed { result ≡ Err LoopStop.PutFailed
+        → Rose (K.faults out.old) (K.faults out.new) }
+    ensures counted { K.faults out.old ≤ K.faults out.new }
+    ensures at { OnOk result (machine.new.at ≡ machine.old.at + every) }
+    ensures eight { vec_len ports.new ≡ 8 }
+    ensures plants { vec_len plants.new ≡ 8 }
+{
+    events_grow();
+    let end = machine.cycle() + every;
+    machine.run_on(end, thread, ports, out)?;
+    sample_all(machine, ports, plants)?;
+    Ok(())
+}
+
+/// Feeds the first words of all plants to their ports: a machine at cycle 0 begins its loops.
+///
+/// # Errors
+///
+/// Out of memory.
+pub fn begin_loops(machine: &Machine, ports: &mut Ports, plants: &Plants) -> Result<(), AllocError>
+    requires eight { vec_len ports.old ≡ 8 }
+    requires plants { vec_len plants.now ≡ 8 }
+    requires start { machine.now.at ≡ 0 }
+    ensures looped { (every : ℕ) (s : Start) (n thread : ℕ) (told : Option (List ℕ))
+        → 0 < every → n ≤ 2 ^ 64
+        → StandsFor s 0 n machine.now (rows_of latched word_at ports.old.items)
+        → OnOk result (HasLooped (responses_of response plants.now.items)
+        (responses_of response plants.now.items) every s n 0 8 machine.now.at thread machine.now
+        (rows_of latched word_at ports.new.items) told told) }
+    ensures eight { vec_len ports.new ≡ 8 }
+{
+    begin_all(machine, ports, plants)
+}
+
+/// Continues closed loops for some steps of the plants, one each `every` cycles, and puts the lines
+/// of a thread. Machine, ports and text are then those of the run in which each plant answers its
+/// thread.
+///
+/// # Errors
+///
+/// Out of memory, or a fault of the sink was counted in this call. A prefix of the text was put.
+pub fn continue_loops<K: Sink>(
+    machine: &mut Machine,
+    ports: &mut Ports,
+    plants: &mut Plants,
+    thread: u8,
+    every: u64,
+    steps: u64,
+    out: &mut K,
+) -> Result<(), LoopStop>
+    requires some { 0 < every }
+    requires limit { machine.old.at + steps * every ≤ most_cycles }
+    requires eight { vec_len ports.old ≡ 8 }
+    requires plants { vec_len plants.old ≡ 8 }
+    ensures looped { (first : List (Option Response)) (s : Start) (n k : ℕ)
+        (told : Option (List ℕ)) → n ≤ 2 ^ 64 → machine.old.at + steps * every ≤ n
+        → machine.old.at ≡ k * every
+        → HasLooped first (responses_of response plants.old.items) every s n k 8 machine.old.at
+        thread machine.old (rows_of latched word_at ports.old.items) told (K.taken out.old)
+        → OnOk result (HasLooped first (responses_of response plants.new.items) every s n
+        (k + steps) 8 machine.new.at thread machine.new (rows_of latched word_at ports.new.items)
+        told (K.taken out.new)) }
+    ensures stopped { (first : List (Option Response)) (s : Start) (n k : ℕ)
+        (told : Option (List ℕ)) → n ≤ 2 ^ 64 → machine.old.at + steps * every ≤ n
+        → machine.old.at ≡ k * every
+        → HasLooped first (responses_of response plants.old.items) every s n k 8 machine.old.at
+        thread machine.old (rows_of latched word_at ports.old.items) told (K.taken out.old)
+        → OnErr result (AppendsFront told (K.taken out.new)
+        (text (events (loop_start first every s n) thread n))) }
+    ensures failed { result ≡ Err LoopStop.PutFailed
+        → Rose (K.faults out.old) (K.faults out.new) }
+    ensures counted { K.faults out.old ≤ K.faults out.new }
+    ensures at { OnOk result (machine.new.at ≡ machine.old.at + steps * every) }
+    ensures eight { vec_len ports.new ≡ 8 }
+    ensures plants { vec_len plants.new ≡ 8 }
+{
+    for _step in 0..steps {
+        loop_step(machine, ports, plants, thread, every, out)?;
+    }
+    Ok(())
+}
+
+/// Runs a machine from cycle 0 on in closed loops with its plants, which do a step each `every`
+/// cycles, and puts the lines of a thread. They are the text of the run in which each plant answers
+/// its thread; and so, whatever the other threads run, the text of the thread alone in the loop
+/// with its plant.
+///
+/// # Errors
+///
+/// Out of memory, or a fault of the sink was counted in this call. A prefix of the text was put.
+pub fn run_loops<K: Sink>(
+    machine: &mut Machine,
+    ports: &mut Ports,
+    plants: &mut Plants,
+    thread: u8,
+    every: u64,
+    cycles: u64,
+    out: &mut K,
+) -> Result<(), LoopStop>
+    requires start { machine.old.at ≡ 0 }
+    requires some { 0 < every }
+    requires limit { cycles ≤ most_cycles }
+    requires eight { vec_len ports.old ≡ 8 }
+    requires plants { vec_len plants.old ≡ 8 }
+    ensures text { (s : Start) → StandsFor s 0 cycles machine.old
+        (rows_of latched word_at ports.old.items)
+        → OnOk result (Appends (K.taken out.old) (K.taken out.new) (text (events
+        (loop_start (responses_of response plants.old.items) every s cycles) thread cycles))) }
+    ensures alone { (s : Start) → StandsFor s 0 cycles machine.old
+        (rows_of latched word_at ports.old.items)
+        → IsConfined s thread
+        → is_quiet (loop_start (responses_of response plants.old.items) every s cycles) cycles
+        ≡ true → OnOk result (Appends (K.taken out.old) (K.taken out.new)
+        (text (solo_in_loop (loop_view s thread)
+        (plant_at (responses_of response plants.old.items) every s thread) cycles))) }
+    ensures unpermitted { (s : Start) → StandsFor s 0 cycles machine.old
+        (rows_of latched word_at ports.old.items)
+        → IsConfined s thread → ((k : ℕ) → slice_index_or s.permit k false ≡ false)
+        → OnOk result (Appends (K.taken out.old) (K.taken out.new)
+        (text (solo_in_loop (loop_view s thread)
+        (plant_at (responses_of response plants.old.items) every s thread) cycles))) }
+    ensures phased { (s : Start) → StandsFor s 0 cycles machine.old
+        (rows_of latched word_at ports.old.items)
+        → IsApart s thread
+        → (let t = loop_start (responses_of response plants.old.items) every s cycles in
+        list_all (is_never_soft thread) (phases t cycles) ≡ true → keeps_regions t cycles ≡ true
+        → OnOk result (Appends (K.taken out.old) (K.taken out.new)
+        (text (phased_in_loop (loop_view s thread)
+        (plant_at (responses_of response plants.old.items) every s thread) (phases t cycles)
+        cycles)))) }
+    ensures stopped { (s : Start) → StandsFor s 0 cycles machine.old
+        (rows_of latched word_at ports.old.items)
+        → OnErr result (AppendsFront (K.taken out.old) (K.taken out.new) (text (events
+        (loop_start (responses_of response plants.old.items) every s cycles) thread cycles))) }
+    ensures failed { result ≡ Err LoopStop.PutFailed
+        → Rose (K.faults out.old) (K.faults out.new) }
+    ensures counted { K.faults out.old ≤ K.faults out.new }
+    ensures at { OnOk result (machine.new.at ≡ cycles) }
+    ensures eight { vec_len ports.new ≡ 8 }
+    ensures plants { vec_len plants.new ≡ 8 }
+{
+    events_grow();
+    crate::laws::runs_alone_in_loops();
+    crate::laws::runs_alone_without_permits();
+    crate::laws::runs_by_phases_in_loops();
+    begin_loops(machine, ports, plants)?;
+    continue_loops(machine, ports, plants, thread, every, cycles / every, out)?;
+    machine.run_on(cycles, thread, ports, out)?;
+    Ok(())
+}

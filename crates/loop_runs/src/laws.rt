@@ -1,0 +1,29 @@
+//! Theorems on loops with sampled plants. Each is the contract of a function that does nothing. The
+//! statements are in specs/DriverLaws.antt.
+
+ghost use Rattle.loop_runs.specs.SampledLaws.{SampledAlone, SampledPhased, SampledUnpermitted};
+
+/// In a quiet run a confined hard thread does what it does alone in the loop with its plant,
+/// whatever the other threads run.
+pub fn runs_alone_in_loops()
+    ensures { SampledAlone }
+{
+    loop_laws::runs_alone_in_loop();
+    loop_laws::has_closed_loops();
+}
+
+/// The same without permits, where each run is quiet.
+pub fn runs_alone_without_permits()
+    ensures { SampledUnpermitted }
+{
+    runs_alone_in_loops();
+    run_laws::isolation::stays_quiet();
+}
+
+/// The same while slots and modes change, for a confined thread that is never soft active.
+pub fn runs_by_phases_in_loops()
+    ensures { SampledPhased }
+{
+    loop_laws::runs_by_phases_in_loop();
+    loop_laws::has_closed_loops();
+}
