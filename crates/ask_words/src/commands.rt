@@ -1,6 +1,6 @@
 //! The commands.
 
-ghost use Rattle.std.specs.Prelude.{◌≡◌, ◌≤◌, map, string_bytes, IfOk, IfErr, IfSome, Some, option_map, find, true};
+ghost use Rattle.std.specs.Prelude.{◌≡◌, ◌≤◌, length, map, string_bytes, IfOk, IfErr, IfSome, Err, Some, option_map, find, true};
 ghost use Rattle.std.specs.Str.{bytes_eq};
 ghost use Rattle.timer_unit.specs.Time.{most_cycles};
 ghost use Rattle.ask_words.specs.Limits.{most_checked_cycles};
@@ -9,6 +9,7 @@ ghost use Rattle.ask_words.specs.Commands.{ask, asked, commands, run_asks, dump_
 ghost use Rattle.ask_words.specs.Code.{row_of};
 ghost use Rattle.ask_words.specs.Rules.{is_fit};
 ghost use Rattle.ask_words.specs.Causes.{IsCauseOf};
+ghost use Rattle.ask_words.specs.declared.asked.WordsNo.TheVariants.{Usage};
 ghost use Rattle.ask_words.specs.Limits.{IsWithinLimits};
 
 use crate::asked::{Ask, WordsNo};
@@ -324,6 +325,7 @@ pub fn read_words(alloc: Global, words: &[String]) -> Result<Ask, WordsNo>
     ensures asked { IfOk result (λ a. ask (map string_bytes words.now) ≡ Some a) }
     ensures refused { IfErr result (IsCauseOf (ask (map string_bytes words.now))) }
     ensures limits { IfOk result IsWithinLimits }
+    ensures nothing { length words.now ≡ 0 → result ≡ Err Usage }
 {
     let Some((name, words)) = words.split_first() else {
         return Err(WordsNo::Usage);

@@ -14,3 +14,4 @@ pub use Rattle.region_tree.specs.Search
 pub use Rattle.region_tree.specs.Tree
 pub use Rattle.region_tree.specs.Walk
 pub use Rattle.slot_table.specs.Frame
+pub use Rattle.rv_decode.specs.Lag

@@ -125,8 +125,9 @@ impl Code {
         loops: &Loops,
     ) -> Result<Code, AllocError>
         requires { IsSection section }
-        ensures { IfOk result
+        ensures value { IfOk result
             (λ code. code ≡ listing_of (word image.now) section routines.now loops.now) }
+        ensures rules { IfOk result (λ code. IsListing (calls code)) }
     {
         let words = words(alloc, image, SCRATCHPAD)?;
         let routines = copied_routines(alloc, routines)?;

@@ -179,6 +179,8 @@ impl CallTree {
         requires { IsSection section }
         ensures tree { IfOk result
             (λ tree. tree ≡ listing_of (word image.now) section routines.now loops.now) }
+        ensures listing { OnOk result
+            (IsListing (calls_of (word image.now) section routines.now loops.now)) }
         ensures allowed { OnOk result
             (IsCallable (calls_of (word image.now) section routines.now loops.now)) }
         ensures refused { IfErr result

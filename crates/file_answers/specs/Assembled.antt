@@ -1,9 +1,9 @@
 -- The image that a source defines.
 use Rattle.std.specs.Prelude.{ℕ, List, [], Result, Ok, Err}
-use Rattle.fp_io.specs.Content.{FileMap}
+use Rattle.fp_io.specs.Content.{FileMap, Request}
 use Rattle.fp_image.specs.Format.{written}
 use Rattle.fp_image.specs.declared.parts.Segment.{Segment}
-use Rattle.fp_asm.specs.Source.{assembled}
+use Rattle.fp_asm.specs.Source.{assembled, most_source_bytes}
 use Rattle.fp_asm.specs.declared.refusal.AsmRefused.{AsmRefused}
 use Rattle.fp_asm.specs.declared.refusal.AsmRefused.TheVariants.{Fault, NoMemory}
 use Rattle.trace_print.specs.declared.refusals.Refusal.TheVariants.{Source}
@@ -16,6 +16,10 @@ abbrev pub of_assembled : Result (List Segment) AsmRefused → Result (List Segm
 of_assembled (Ok segments) = Ok segments
 of_assembled (Err (Fault line code)) = Err (refused (Source line (source_code code)))
 of_assembled (Err NoMemory) = Err (Says 9 [])
+
+-- what is asked of the files for a source
+abbrev pub source_request : List ℕ → Request
+source_request name = (name, most_source_bytes)
 
 -- the image of a source's bytes
 unfoldable pub source_in : List ℕ → Result (List Segment) Answer

@@ -1,5 +1,6 @@
 -- The answer to `calls`: why there is none, or the bound of a section of a program through the routines that a file lists.
 use Rattle.std.specs.Prelude.{◌≡◌, ◌⊎◌, ◌<◌, ◌≤◌, ◌^◌, ℕ, List, [], Option, Some, None, Result, Ok, Err, option_map}
+use Rattle.fp_io.specs.Content.{Request}
 use Rattle.fp_setup.specs.Settings.{size_of}
 use Rattle.fp_image.specs.Rules.{word}
 use Rattle.region_tree.specs.declared.section.Section.{Section}
@@ -25,6 +26,10 @@ abbrev pub of_routines : Result (List Routine) RoutinesRefused → Result (List 
 of_routines (Ok routines) = Ok routines
 of_routines (Err (Fault line code)) = Err (refused (refusal.Routines line (routines_code code)))
 of_routines (Err NoMemory) = Err (Says 9 [])
+
+-- what is asked of the files for a list of routines: 64 lines of 18 bytes
+abbrev pub routines_request : List ℕ → Request
+routines_request name = (name, 1152)
 
 -- the routines of a file's bytes, for scratchpads of a size
 unfoldable pub routines_in : ℕ → List ℕ → Result (List Routine) Answer

@@ -1,10 +1,11 @@
 //! The image of a source.
 
-ghost use Rattle.std.specs.Prelude.{◌≡◌, ◌≤◌, Ok, IfOk, IfErr, IfSome};
+ghost use Rattle.std.specs.Prelude.{◌≡◌, ◌≤◌, [], ◌∷◌, Ok, IfOk, IfErr, IfSome};
+ghost use Rattle.fp_io.specs.Content.{Asks};
 ghost use Rattle.fp_image.specs.Format.{written};
 ghost use Rattle.program_files.specs.Answer.{on_file};
 ghost use Rattle.program_files.specs.Answer.Answer.{Says};
-ghost use Rattle.file_answers.specs.Assembled.{asm_answer, source_in};
+ghost use Rattle.file_answers.specs.Assembled.{asm_answer, source_in, source_request};
 ghost use Rattle.file_answers.specs.Codes.{source_code};
 ghost use Rattle.program_files.specs.Stops.{IsStop, IsStopIn, IsStopOf, Makes};
 
@@ -43,6 +44,8 @@ fn source_in(alloc: Global, bytes: &[u8]) -> Result<Image, Stop>
 fn fetch_source<F: Files>(alloc: Global, name: &Name, files: &mut F) -> Result<Image, Stop>
     ensures told { F.told files.new ≡ F.told files.old }
     ensures counted { F.faults files.old ≤ F.faults files.new }
+    ensures request { Asks (F.requests files.old) (F.requests files.new)
+        (source_request name.now ∷ []) }
     ensures ok { IfOk result (Makes (F.told files.old) (on_file source_in name.now)) }
     ensures stop { IfErr result (IsStopIn (F.told files.old) (on_file source_in name.now)
         (F.faults files.old) (F.faults files.new)) }
@@ -59,6 +62,8 @@ fn fetch_source<F: Files>(alloc: Global, name: &Name, files: &mut F) -> Result<I
 pub fn image_bytes<F: Files>(alloc: Global, name: &Name, files: &mut F) -> Result<Vec<u8>, Stop>
     ensures told { F.told files.new ≡ F.told files.old }
     ensures counted { F.faults files.old ≤ F.faults files.new }
+    ensures request { Asks (F.requests files.old) (F.requests files.new)
+        (source_request name.now ∷ []) }
     ensures ok { IfOk result (λ bytes. IfSome (F.told files.old) (λ told.
         Says 0 bytes.items ≡ asm_answer told name.now)) }
     ensures stop { IfErr result

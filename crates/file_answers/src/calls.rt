@@ -1,6 +1,7 @@
 //! The bound of a section of a program through the routines that a file lists.
 
-ghost use Rattle.std.specs.Prelude.{◌≡◌, ◌<◌, ◌≤◌, None, Ok, IfOk, IfErr, OnOk, IfSome};
+ghost use Rattle.std.specs.Prelude.{◌≡◌, ◌≢◌, ◌<◌, ◌≤◌, [], ◌∷◌, None, Ok, IfOk, IfErr, OnOk, IfSome};
+ghost use Rattle.fp_io.specs.Content.{Asks};
 ghost use Rattle.region_guard.specs.Regions.{IsSize};
 ghost use Rattle.region_tree.specs.Tree.{IsSection};
 ghost use Rattle.call_bounds.specs.CallRefusals.{IsCallable};
@@ -9,7 +10,7 @@ ghost use Rattle.trace_print.specs.Bounds.{bound_text};
 ghost use Rattle.program_files.specs.Answer.{on_file};
 ghost use Rattle.program_files.specs.Answer.Answer.{Says};
 ghost use Rattle.file_answers.specs.BoundAnswer.{section_fault};
-ghost use Rattle.file_answers.specs.CallsAnswer.{IsCallsAnswer, IsListingAnswer, IsListingRefused, routines_in, section_listing};
+ghost use Rattle.file_answers.specs.CallsAnswer.{IsCallsAnswer, IsListingAnswer, IsListingRefused, routines_in, routines_request, section_listing};
 ghost use Rattle.file_answers.specs.Codes.{routines_code};
 ghost use Rattle.program_files.specs.Stops.{IsAnswerStop, IsStop, IsStopIn, IsStopOf, Makes};
 ghost use Rattle.file_answers.specs.BoundStops.{stop_of_calls};
@@ -63,6 +64,8 @@ fn fetch_routines<F: Files>(
     requires { IsSize size }
     ensures told { F.told files.new ≡ F.told files.old }
     ensures counted { F.faults files.old ≤ F.faults files.new }
+    ensures request { Asks (F.requests files.old) (F.requests files.new)
+        (routines_request name.now ∷ []) }
     ensures ok { IfOk result (Makes (F.told files.old) (on_file (routines_in size) name.now)) }
     ensures stop { IfErr result (IsStopIn (F.told files.old) (on_file (routines_in size) name.now)
         (F.faults files.old) (F.faults files.new)) }
@@ -160,6 +163,10 @@ pub fn calls_bound<F: Files>(
     requires { thread < 8 }
     ensures told { F.told files.new ≡ F.told files.old }
     ensures counted { F.faults files.old ≤ F.faults files.new }
+    ensures refused { section_fault program.now.setup thread section ≢ None →
+        files.new ≡ files.old }
+    ensures request { section_fault program.now.setup thread section ≡ None →
+        Asks (F.requests files.old) (F.requests files.new) (routines_request routines.now ∷ []) }
     ensures ok { IfOk result (λ cycles. IfSome (F.told files.old) (λ told.
         IsCallsAnswer (Ok program.now) thread section (told routines.now)
         (Says 0 (bound_text cycles)))) }

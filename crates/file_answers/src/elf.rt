@@ -1,10 +1,11 @@
 //! The image of an executable.
 
-ghost use Rattle.std.specs.Prelude.{◌≡◌, ◌≤◌, Ok, IfOk, IfErr, IfSome};
+ghost use Rattle.std.specs.Prelude.{◌≡◌, ◌≤◌, [], ◌∷◌, Ok, IfOk, IfErr, IfSome};
+ghost use Rattle.fp_io.specs.Content.{Asks};
 ghost use Rattle.program_files.specs.Answer.{on_file};
 ghost use Rattle.program_files.specs.Answer.Answer.{Says};
 ghost use Rattle.file_answers.specs.Codes.{elf_code};
-ghost use Rattle.file_answers.specs.Elf.{elf_answer, elf_in};
+ghost use Rattle.file_answers.specs.Elf.{elf_answer, elf_in, executable_request};
 ghost use Rattle.program_files.specs.Stops.{IsStop, IsStopIn, IsStopOf, Makes};
 
 use fp_elf::{ElfNo, ElfRefused, MOST_ELF_BYTES, read_elf};
@@ -42,6 +43,8 @@ fn elf_in(alloc: Global, bytes: &[u8]) -> Result<Image, Stop>
 fn fetch_executable<F: Files>(alloc: Global, name: &Name, files: &mut F) -> Result<Image, Stop>
     ensures told { F.told files.new ≡ F.told files.old }
     ensures counted { F.faults files.old ≤ F.faults files.new }
+    ensures request { Asks (F.requests files.old) (F.requests files.new)
+        (executable_request name.now ∷ []) }
     ensures ok { IfOk result (Makes (F.told files.old) (on_file elf_in name.now)) }
     ensures stop { IfErr result (IsStopIn (F.told files.old) (on_file elf_in name.now)
         (F.faults files.old) (F.faults files.new)) }
@@ -59,6 +62,8 @@ fn fetch_executable<F: Files>(alloc: Global, name: &Name, files: &mut F) -> Resu
 pub fn imported_bytes<F: Files>(alloc: Global, name: &Name, files: &mut F) -> Result<Vec<u8>, Stop>
     ensures told { F.told files.new ≡ F.told files.old }
     ensures counted { F.faults files.old ≤ F.faults files.new }
+    ensures request { Asks (F.requests files.old) (F.requests files.new)
+        (executable_request name.now ∷ []) }
     ensures ok { IfOk result (λ bytes. IfSome (F.told files.old) (λ told.
         Says 0 bytes.items ≡ elf_answer told name.now)) }
     ensures stop { IfErr result

@@ -91,6 +91,7 @@ solo-answers files name i n a ports small is = record {
   delivers = refl;
   is = ap (Says 0) (told-text is.made i n a ports small is.alone) ∙ sym (ap (λ (q : Result Program Answer). ends (then_by q (alone_of ports i n))) is.is);
   leaves = λ last leaves. leaves;
+  leaves_part = λ last leaves. leaves;
 }
 
 pub solo-prepares : (told : Option FileMap) (name : List ℕ) (i n : ℕ) (a : Alone) → i < 8 → IfSome told (λ files. IsAlone files name i n a) →
@@ -137,4 +138,4 @@ check-differs told told' name i n trace a ports kept small b b' a' stop first is
 pub same-prepares : (told : Option FileMap) (name : List ℕ) (i n : ℕ) (trace : List ℕ) (before after : List (Option Row)) → after ≡ before → IfSome told (λ files. Says 0 same_text ≡ check_answer files before name i n trace) →
     IfSome told (λ files. Prepares (Check name i n trace) files before after prepared.Same)
 same-prepares None name i n trace before after kept is = tt
-same-prepares (Some files) name i n trace before after kept is = record { written = same_text; delivers = refl; is = is; leaves = λ last leaves. leaves ∙ kept }
+same-prepares (Some files) name i n trace before after kept is = record { written = same_text; delivers = refl; is = is; leaves = λ last leaves. leaves ∙ kept; leaves_part = λ last leaves. leaves ∙ kept }

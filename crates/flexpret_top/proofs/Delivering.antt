@@ -14,7 +14,7 @@ use Rattle.flexpret_top.specs.declared.ready.Ready.{Ready}
 use Rattle.phase_log.specs.LoggedRuns.{HasLogged, LogStopped, StartsAs}
 use Rattle.phase_log.specs.Text.{phases_text}
 use Rattle.phase_model.specs.Phases.{phases}
-use Rattle.flexpret_top.specs.Prepared.{Gone, LeavesRun, Runs}
+use Rattle.flexpret_top.specs.Prepared.{Gone, LeavesPartOfRun, LeavesRun, Runs}
 
 abbrev pub Passes : Ready → List (Option Row) → Machine → List (Option Row) → Type 0
 Passes r first m rows = (s : Start) → StandsFor s 0 r.cycles r.machine first → Gone s r.cycles first m rows
@@ -84,6 +84,19 @@ pub phases-left : {A E : Type 0} → (r : Ready) (first rows : List (Option Row)
     OnOk put (HasLoggedAll r first m rows before after) → OnOk put (LeavesRun r first rows)
 phases-left r first rows m before after (Ok x) words logs = λ s st starts. ports_after s r.cycles r.cycles m first rows (logs s starts st).stands words
 phases-left r first rows m before after (Err e) words logs = tt
+
+-- and where the sink failed
+pub trace-part : {A E : Type 0} → (r : Ready) (thread : ℕ) (first rows : List (Option Row)) (m : Machine) (before after : Option (List ℕ)) (put : Result A E) →
+    OnErr put ((s : Start) → StandsFor s 0 r.cycles r.machine first → Stopped s r.cycles thread first m rows before after) → OnErr put (LeavesPartOfRun r first rows)
+trace-part r thread first rows m before after (Ok x) run = tt
+trace-part r thread first rows m before after (Err e) run =
+    λ s st starts. (let stopped = run s st in record { cycles = m.at; within = stopped.within; ports = ports_after s m.at r.cycles m first rows stopped.stands stopped.left })
+
+pub phases-part : {A E : Type 0} → (r : Ready) (first rows : List (Option Row)) (m : Machine) (before after : Option (List ℕ)) (put : Result A E) →
+    OnErr put ((s : Start) → StartsAs s r.setup → StandsFor s 0 r.cycles r.machine first → LogStopped s r.cycles first m rows before after) → OnErr put (LeavesPartOfRun r first rows)
+phases-part r first rows m before after (Ok x) logs = tt
+phases-part r first rows m before after (Err e) logs =
+    λ s st starts. (let stopped = logs s starts st in record { cycles = m.at; within = stopped.within; ports = ports_after s m.at r.cycles m first rows stopped.stands stopped.left })
 
 pub left-by : {A E : Type 0} → (put : Result A E) (r : Ready) (first rows : List (Option Row)) → LeavesRun r first rows → OnOk put (LeavesRun r first rows)
 left-by (Ok x) r first rows left = left

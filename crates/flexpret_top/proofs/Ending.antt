@@ -3,17 +3,20 @@ use Rattle.std.proofs.Common.{◌≡◌, ◌⊎◌, ℕ, ◌<◌, ◌==◌, if�
 use Rattle.std.specs.Prelude.{IfSome, IsSomeAnd}
 use Rattle.std.specs.Io.KnownBytes.{Appends}
 use Rattle.fp_io.specs.Causes.{Rose}
-use Rattle.fp_io.specs.Content.{FileMap, AppendsFront}
+use Rattle.fp_io.specs.Content.{FileMap, AppendsFront, Request}
 use Rattle.fp_ports.specs.Rows.{Row}
 use Rattle.ask_words.specs.Commands.{ask}
 use Rattle.ask_words.specs.declared.asked.Ask.{Ask}
+use Rattle.ask_words.specs.declared.asked.Ask.TheVariants as asks
+use Rattle.ask_words.specs.declared.asked.Ask.TheVariants.{Run, Dump, Asm, Selfrun, Phases, Solo, Check, Elf, Calls}
+use Rattle.flexpret_top.specs.Requests.{IsAsked, IsAskedBy}
 use Rattle.flexpret_top.specs.declared.ready.Prepared.{Prepared}
 use Rattle.flexpret_top.specs.declared.status.Status.{Status}
 use Rattle.flexpret_top.specs.declared.status.Status.TheVariants.{Ok, Differs, Usage, Setup, Image, Source, Bound, Read, Write, NoMemory, Routines}
 use Rattle.program_files.specs.Answer.{IsAnswered}
 use Rattle.program_files.specs.Answer.Answer.{Says, Missing}
-use Rattle.flexpret_top.specs.Command.{IsAnswer, IsAnswerIn, IsAnswerTo, IsApart, IsApartBy, OnlyReads, OnlyReadsBy, Leaves, LeavesBy, Said, Began, Answered}
-use Rattle.flexpret_top.specs.Prepared.{Delivers, LeavesPorts, Prepares}
+use Rattle.flexpret_top.specs.Command.{IsAnswer, IsAnswerIn, IsAnswerTo, IsApart, IsApartBy, OnlyReads, OnlyReadsBy, Leaves, LeavesBy, LeavesCutShort, LeavesUnrun, Said, Began, Answered}
+use Rattle.flexpret_top.specs.Prepared.{Delivers, LeavesPorts, LeavesPortsInPart, Prepares}
 use Rattle.flexpret_top.specs.Status.{IsStatus, number_of}
 
 -- where the sink failed, a front of the answer was put
@@ -37,6 +40,16 @@ pub left-of : (told : Option FileMap) (asked : Ask) (ports fed last : List (Opti
     IfSome told (λ files. Leaves asked files ports last)
 left-of None asked ports fed last p prepares left = tt
 left-of (Some files) asked ports fed last p prepares left = prepares.leaves last left
+
+-- and as far as it came where the sink failed
+pub part-of : (told : Option FileMap) (asked : Ask) (ports fed last : List (Option Row)) (p : Prepared) → IfSome told (λ files. Prepares asked files ports fed p) → LeavesPortsInPart p fed last →
+    IfSome told (λ files. LeavesCutShort (Some asked) files ports last)
+part-of None asked ports fed last p prepares left = tt
+part-of (Some files) asked ports fed last p prepares left = inr (prepares.leaves_part last left)
+
+pub same-cut-short : (told : Option FileMap) (asked : Ask) (ports last : List (Option Row)) → last ≡ ports → IfSome told (λ files. LeavesCutShort (Some asked) files ports last)
+same-cut-short None asked ports last same = tt
+same-cut-short (Some files) asked ports last same = inl same
 
 -- a status by its number
 status_by : ℕ → Status
@@ -136,6 +149,41 @@ pub leaves-by : (told : Option FileMap) (words : List (List ℕ)) (asked : Ask) 
     (s ≡ Ok → IfSome told (λ files. Leaves asked files before after)) → IfSome told (λ files. LeavesBy (ask words) files before after)
 leaves-by told words asked before after s n is number zero leaves =
     let By : Option Ask → Type 0 = λ o. IfSome told (λ files. LeavesBy o files before after) in subst By (sym is) (leaves (status-of s Ok (sym number ∙ zero)))
+
+pub asked-by : (told : Option FileMap) (words : List (List ℕ)) (asked : Ask) (before after : Option (List Request)) → ask words ≡ Some asked → IsAsked asked told before after → IsAskedBy (ask words) told before after
+asked-by told words asked before after is asks = let By : Option Ask → Type 0 = λ o. IsAskedBy o told before after in subst By (sym is) (inr asks)
+
+-- nothing was asked, and the ports are as they were
+pub unasked : (o : Option Ask) (told : Option FileMap) (before : Option (List Request)) → IsAskedBy o told before before
+unasked None told before = refl
+unasked (Some asked) told before = inl refl
+
+unrun-same : (o : Option Ask) (files : FileMap) (ports : List (Option Row)) → LeavesUnrun o files ports ports
+unrun-same None files ports = refl
+unrun-same (Some (Run setup thread cycles)) files ports = inl refl
+unrun-same (Some (Dump setup cycles)) files ports = inl refl
+unrun-same (Some (Asm source)) files ports = refl
+unrun-same (Some (asks.Bound setup thread section)) files ports = refl
+unrun-same (Some (Selfrun number)) files ports = refl
+unrun-same (Some (Phases setup cycles)) files ports = inl refl
+unrun-same (Some (Solo setup thread cycles)) files ports = refl
+unrun-same (Some (Check setup thread cycles trace)) files ports = refl
+unrun-same (Some (Elf file)) files ports = refl
+unrun-same (Some (Calls setup thread section routines)) files ports = refl
+
+pub unrun : (told : Option FileMap) (o : Option Ask) (ports : List (Option Row)) → IfSome told (λ files. LeavesUnrun o files ports ports)
+unrun None o ports = tt
+unrun (Some files) o ports = unrun-same o files ports
+
+pub cut-short-by : (told : Option FileMap) (words : List (List ℕ)) (asked : Ask) (before after : List (Option Row)) (s : Status) (n : ℕ) → ask words ≡ Some asked → n ≡ number_of s → n ≡ 8 →
+    (s ≡ Write → IfSome told (λ files. LeavesCutShort (Some asked) files before after)) → IfSome told (λ files. LeavesCutShort (ask words) files before after)
+cut-short-by told words asked before after s n is number eight leaves =
+    let By : Option Ask → Type 0 = λ o. IfSome told (λ files. LeavesCutShort o files before after) in subst By (sym is) (leaves (status-of s Write (sym number ∙ eight)))
+
+pub unrun-by : (told : Option FileMap) (words : List (List ℕ)) (asked : Ask) (before after : List (Option Row)) (s : Status) (n : ℕ) → ask words ≡ Some asked → n ≡ number_of s → n ≡ 9 →
+    (s ≡ NoMemory → IfSome told (λ files. LeavesUnrun (Some asked) files before after)) → IfSome told (λ files. LeavesUnrun (ask words) files before after)
+unrun-by told words asked before after s n is number nine leaves =
+    let By : Option Ask → Type 0 = λ o. IfSome told (λ files. LeavesUnrun o files before after) in subst By (sym is) (leaves (status-of s NoMemory (sym number ∙ nine)))
 
 pub apart-by : (words : List (List ℕ)) (asked : Ask) → ask words ≡ Some asked → IsApartBy (ask words) → IsApart asked
 apart-by words asked is apart = let By : Option Ask → Type 0 = IsApartBy in subst By is apart

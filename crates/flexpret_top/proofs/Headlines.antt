@@ -23,6 +23,7 @@ use Rattle.region_tree.specs.Tree.{Tree}
 use Rattle.region_tree.specs.declared.section.Section.{Section}
 use Rattle.region_tree.specs.declared.tree.TreeNo.{TreeNo}
 use Rattle.region_tree.specs.declared.tree.TreeNo.TheVariants as in_tree
+use Rattle.run_laws.specs.RetiredTraces.{RetiredTraceAlone, RetiredTraceByPhases}
 use Rattle.run_laws.specs.TraceLaws.{IsConfinedHard, TraceAlone, TraceByPhases}
 use Rattle.fp_setup.specs.AcceptedSetups.{AcceptedKeepRules}
 use Rattle.fp_setup.specs.Rules.{KeepsRules}
@@ -32,6 +33,7 @@ use Rattle.fp_setup.specs.declared.refusal.Fault.{Fault}
 use Rattle.setup_model.specs.Start.{thread_of}
 use Rattle.slot_scheduler.specs.ModeWord.{mode_of}
 use Rattle.section_visits.specs.SetupCallVisitBound.{CallVisitsStayBounded}
+use Rattle.section_visits.specs.SetupInSettings.{CallVisitsStayBoundedInSettings, CallVisitsStayBoundedWhileScheduled, VisitsStayBoundedInSettings, VisitsStayBoundedWhileScheduled}
 use Rattle.section_visits.specs.SetupVisitBound.{VisitsStayBounded}
 use Rattle.trace_print.specs.declared.refusals.Refusal.TheVariants as refusal
 use Rattle.file_answers.specs.BoundAnswer.{IsBoundAnswer, IsSectionAnswer, section_fault, section_tree}
@@ -46,7 +48,7 @@ use Rattle.flexpret_top.specs.declared.status.Status.{Status}
 use Rattle.flexpret_top.specs.declared.status.Status.TheVariants.{Read, Write, NoMemory as OutOfMemory}
 use Rattle.flexpret_top.specs.Status.{number_of}
 use Rattle.flexpret_top.specs.Command.{IsAnswerIn, IsAnswerTo, Said}
-use Rattle.flexpret_top.specs.Headline.{BoundsCallVisits, BoundsVisits, IsImported, IsLongest, IsLongestByCalls, WritesAlone, WritesAsRun, WritesByPhases, WritesImage, machine_of}
+use Rattle.flexpret_top.specs.Headline.{BoundsCallVisits, BoundsVisits, IsImported, IsLongest, IsLongestByCalls, WritesAlone, WritesAsRun, WritesByPhases, WritesImage, WritesRetired, machine_of}
 use Rattle.program_files.specs.Program.{image_in, of_setup, program, setup_in, with_image}
 use Rattle.flexpret_top.specs.Run.{trace_of}
 
@@ -97,6 +99,34 @@ pub alone-of : TraceAlone → AcceptedKeepRules → (told : Option FileMap) (ask
     IfSome told (λ files. Said (IsAnswerTo asked files ports) 0 before after) → IfSome told (λ files. WritesAlone asked files ports before after)
 alone-of law keep None asked ports before after said = tt
 alone-of law keep (Some files) asked ports before after said = alone-over law keep asked files ports before after said
+
+retired-over : RetiredTraceAlone → RetiredTraceByPhases → AcceptedKeepRules → (asked : Option Ask) (files : FileMap) (ports : List (Option Row)) (before after : Option (List ℕ)) → Said (IsAnswerTo asked files ports) 0 before after →
+    WritesRetired asked files ports before after
+retired-over law phased keep None files ports before after said = tt
+retired-over law phased keep (Some (Run setup i n)) files ports before after said =
+    λ p is. (
+    let answers = ap (λ (q : Result Program Answer). ends (then_by q (trace_of ports i n))) is in
+    let Tells : Answer → Type 0 = IsSaid 0 before after in
+    let told = subst Tells (said.is ∙ answers) said.said in
+    let Told : List ℕ → Type 0 = Appends before after in
+    record {
+      alone = λ hard quiet. subst Told (law (machine_of p ports) i n (program-keeps keep files setup p is) hard quiet) told.1;
+      phased = λ confined kept. subst Told (phased (machine_of p ports) i n (program-keeps keep files setup p is) confined kept) told.1;
+    })
+retired-over law phased keep (Some (Dump setup n)) files ports before after said = tt
+retired-over law phased keep (Some (Asm source)) files ports before after said = tt
+retired-over law phased keep (Some (Bound setup i section)) files ports before after said = tt
+retired-over law phased keep (Some (Selfrun number)) files ports before after said = tt
+retired-over law phased keep (Some (Phases setup n)) files ports before after said = tt
+retired-over law phased keep (Some (Solo setup i n)) files ports before after said = tt
+retired-over law phased keep (Some (Check setup i n trace)) files ports before after said = tt
+retired-over law phased keep (Some (Elf file)) files ports before after said = tt
+retired-over law phased keep (Some (Calls setup i section routines)) files ports before after said = tt
+
+pub retired-of : RetiredTraceAlone → RetiredTraceByPhases → AcceptedKeepRules → (told : Option FileMap) (asked : Option Ask) (ports : List (Option Row)) (before after : Option (List ℕ)) →
+    IfSome told (λ files. Said (IsAnswerTo asked files ports) 0 before after) → IfSome told (λ files. WritesRetired asked files ports before after)
+retired-of law phased keep None asked ports before after said = tt
+retired-of law phased keep (Some files) asked ports before after said = retired-over law phased keep asked files ports before after said
 
 -- what `solo` says with status 0 is the text of a hard and confined thread
 record IsSolo (p : Program) (i n : ℕ) (ports : List (Option Row)) (before after : Option (List ℕ)) : Type 0 where
@@ -207,7 +237,19 @@ tree-refused t (in_tree.TimedWait a) x before after line said = refused-said x 3
 tree-refused t (in_tree.UnboundedBackEdge a) x before after line said = refused-said x 4 a before after line said
 tree-refused t in_tree.NoMemory x before after line said = cc
 
-section-longest : VisitsStayBounded → (p : Program) (i : ℕ) (section : Section) (before after : Option (List ℕ)) (fault : Option ℕ) (x : Answer) → IsSectionAnswer p i section fault x → IsSaid 0 before after x →
+-- the theorems on visits
+pub record OnVisits : Type 0 where
+  pub quiet : VisitsStayBounded
+  pub scheduled : VisitsStayBoundedWhileScheduled
+  pub set : VisitsStayBoundedInSettings
+
+-- the theorems on call visits
+pub record OnCallVisits : Type 0 where
+  pub quiet : CallVisitsStayBounded
+  pub scheduled : CallVisitsStayBoundedWhileScheduled
+  pub set : CallVisitsStayBoundedInSettings
+
+section-longest : OnVisits → (p : Program) (i : ℕ) (section : Section) (before after : Option (List ℕ)) (fault : Option ℕ) (x : Answer) → IsSectionAnswer p i section fault x → IsSaid 0 before after x →
     IsLongest p i section before after
 section-longest law p i section before after (Some code) x is said =
     let Tells : Answer → Type 0 = IsSaid 0 before after in absurd (no-zero 3 (subst Tells is said).0 refl)
@@ -221,10 +263,14 @@ section-longest law p i section before after None x (inr (inr bounded)) said =
       wrote = (subst Tells bounded.line said).1;
       met = bounded.is;
       longest = λ m n rules alike quiet last earlier visit keeps.
-          law p.setup p.image section i bounded.cycles m n bounded.accepted bounded.is.kept rules alike quiet last earlier visit keeps;
+          law.quiet p.setup p.image section i bounded.cycles m n bounded.accepted bounded.is.kept rules alike quiet last earlier visit keeps;
+      while_scheduled = λ m n rules starts words kept last earlier visit keeps.
+          law.scheduled p.setup p.image section p.setup.slots i bounded.cycles m n bounded.accepted bounded.is.kept rules starts words kept last earlier visit keeps;
+      in_settings = λ m n rules words last earlier here visit keeps.
+          law.set p.setup p.image section p.setup.slots i bounded.cycles m n bounded.accepted bounded.is.kept rules words last earlier here visit keeps;
     }
 
-visits-over : VisitsStayBounded → (asked : Option Ask) (files : FileMap) (ports : List (Option Row)) (before after : Option (List ℕ)) → Said (IsAnswerTo asked files ports) 0 before after → BoundsVisits asked files before after
+visits-over : OnVisits → (asked : Option Ask) (files : FileMap) (ports : List (Option Row)) (before after : Option (List ℕ)) → Said (IsAnswerTo asked files ports) 0 before after → BoundsVisits asked files before after
 visits-over law None files ports before after said = tt
 visits-over law (Some (Run setup i n)) files ports before after said = tt
 visits-over law (Some (Dump setup n)) files ports before after said = tt
@@ -240,7 +286,7 @@ visits-over law (Some (Bound setup i section)) files ports before after said =
     let Answers : Result Program Answer → Type 0 = λ q. IsBoundAnswer q i section said.answer in
     section-longest law p i section before after (section_fault p.setup i section) said.answer (subst Answers is said.is) said.said)
 
-pub visits-of : VisitsStayBounded → (told : Option FileMap) (asked : Option Ask) (ports : List (Option Row)) (before after : Option (List ℕ)) →
+pub visits-of : OnVisits → (told : Option FileMap) (asked : Option Ask) (ports : List (Option Row)) (before after : Option (List ℕ)) →
     IfSome told (λ files. Said (IsAnswerTo asked files ports) 0 before after) → IfSome told (λ files. BoundsVisits asked files before after)
 visits-of law None asked ports before after said = tt
 visits-of law (Some files) asked ports before after said = visits-over law asked files ports before after said
@@ -256,7 +302,7 @@ call-refused (in_calls.Escape a) x before after line said = refused-said x 10 a 
 call-refused in_calls.NoMemory x before after line said = cc
 
 -- over the routines of a file
-listed-longest : CallVisitsStayBounded → (p : Program) (i : ℕ) (section : Section) (file : List ℕ) (before after : Option (List ℕ)) (x : Answer) (r : Result (List Routine) RoutinesRefused) →
+listed-longest : OnCallVisits → (p : Program) (i : ℕ) (section : Section) (file : List ℕ) (before after : Option (List ℕ)) (x : Answer) (r : Result (List Routine) RoutinesRefused) →
     routines_of (size_of p.setup.version) file ≡ r → IsRoutinesAnswer p i section (of_routines r) x → IsSaid 0 before after x → IsLongestByCalls p i section file before after
 listed-longest law p i section file before after x (Ok routines) listed (inl bad) said = absurd (call-refused bad.no x before after bad.line said)
 listed-longest law p i section file before after x (Ok routines) listed (inr (inl large)) said =
@@ -270,25 +316,29 @@ listed-longest law p i section file before after x (Ok routines) listed (inr (in
       wrote = (subst Tells bounded.line said).1;
       met = bounded.is;
       longest = λ m n rules alike quiet last earlier visit returns keeps.
-          law (calls (section_listing p section routines)) p.setup.slots i bounded.cycles m n bounded.listing bounded.accepted bounded.is.kept rules alike quiet last earlier visit returns keeps;
+          law.quiet (calls (section_listing p section routines)) p.setup.slots i bounded.cycles m n bounded.listing bounded.accepted bounded.is.kept rules alike quiet last earlier visit returns keeps;
+      while_scheduled = λ m n rules starts words kept last earlier visit returns keeps.
+          law.scheduled (calls (section_listing p section routines)) p.setup.slots i bounded.cycles m n bounded.listing bounded.accepted bounded.is.kept rules starts words kept last earlier visit returns keeps;
+      in_settings = λ m n rules words last earlier here visit returns keeps.
+          law.set (calls (section_listing p section routines)) p.setup.slots i bounded.cycles m n bounded.listing bounded.accepted bounded.is.kept rules words last earlier here visit returns keeps;
     }
 listed-longest law p i section file before after x (Err (in_list.Fault line code)) listed same said =
     let Tells : Answer → Type 0 = IsSaid 0 before after in absurd (no-zero 10 (subst Tells same said).0 refl)
 listed-longest law p i section file before after x (Err in_list.NoMemory) listed same said =
     let Tells : Answer → Type 0 = IsSaid 0 before after in absurd (no-zero 9 (subst Tells same said).0 refl)
 
-routines-longest : CallVisitsStayBounded → (p : Program) (i : ℕ) (section : Section) (file : List ℕ) (before after : Option (List ℕ)) (x : Answer) →
+routines-longest : OnCallVisits → (p : Program) (i : ℕ) (section : Section) (file : List ℕ) (before after : Option (List ℕ)) (x : Answer) →
     IsRoutinesAnswer p i section (routines_in (size_of p.setup.version) file) x → IsSaid 0 before after x → IsLongestByCalls p i section file before after
 unfolding routines_in
 routines-longest law p i section file before after x is said = listed-longest law p i section file before after x (routines_of (size_of p.setup.version) file) refl is said
 
-calls-longest : CallVisitsStayBounded → (p : Program) (i : ℕ) (section : Section) (file : List ℕ) (before after : Option (List ℕ)) (fault : Option ℕ) (x : Answer) →
+calls-longest : OnCallVisits → (p : Program) (i : ℕ) (section : Section) (file : List ℕ) (before after : Option (List ℕ)) (fault : Option ℕ) (x : Answer) →
     IsSectionCallsAnswer p i section (Some file) fault x → IsSaid 0 before after x → IsLongestByCalls p i section file before after
 calls-longest law p i section file before after (Some code) x is said =
     let Tells : Answer → Type 0 = IsSaid 0 before after in absurd (no-zero 3 (subst Tells is said).0 refl)
 calls-longest law p i section file before after None x is said = routines-longest law p i section file before after x is said
 
-call-visits-over : CallVisitsStayBounded → (asked : Option Ask) (files : FileMap) (ports : List (Option Row)) (before after : Option (List ℕ)) → Said (IsAnswerTo asked files ports) 0 before after → BoundsCallVisits asked files before after
+call-visits-over : OnCallVisits → (asked : Option Ask) (files : FileMap) (ports : List (Option Row)) (before after : Option (List ℕ)) → Said (IsAnswerTo asked files ports) 0 before after → BoundsCallVisits asked files before after
 call-visits-over law None files ports before after said = tt
 call-visits-over law (Some (Run setup i n)) files ports before after said = tt
 call-visits-over law (Some (Dump setup n)) files ports before after said = tt
@@ -305,7 +355,7 @@ call-visits-over law (Some (Calls setup i section routines)) files ports before 
     let In : Option (List ℕ) → Type 0 = λ o. IsCallsAnswer (Ok p) i section o said.answer in
     calls-longest law p i section file before after (section_fault p.setup i section) said.answer (subst In there (subst Answers is said.is)) said.said)
 
-pub call-visits-of : CallVisitsStayBounded → (told : Option FileMap) (asked : Option Ask) (ports : List (Option Row)) (before after : Option (List ℕ)) →
+pub call-visits-of : OnCallVisits → (told : Option FileMap) (asked : Option Ask) (ports : List (Option Row)) (before after : Option (List ℕ)) →
     IfSome told (λ files. Said (IsAnswerTo asked files ports) 0 before after) → IfSome told (λ files. BoundsCallVisits asked files before after)
 call-visits-of law None asked ports before after said = tt
 call-visits-of law (Some files) asked ports before after said = call-visits-over law asked files ports before after said

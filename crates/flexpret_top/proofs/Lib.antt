@@ -6,3 +6,4 @@ mod OneThread
 mod Preparing
 mod Stopping
 mod Usage
+mod Requesting

@@ -1,13 +1,14 @@
 -- What was prepared answers the command.
-use Rattle.std.proofs.Common.{refl, ◌≡◌, ℕ, ◌≤◌, List, length, Option, Some, None, Result, Ok, arith, ap, sym, subst, ◌∙◌}
+use Rattle.std.proofs.Common.{inl, inr, refl, ◌≡◌, ℕ, ◌≤◌, List, length, Option, Some, None, Result, Ok, arith, ap, sym, subst, ◌∙◌}
 use Rattle.std.specs.Prelude.{IfSome}
 use Rattle.timer_unit.specs.Time.{most_cycles}
-use Rattle.flexpret_top.specs.Command.{LeavesMachine}
+use Rattle.flexpret_top.specs.Command.{IsUnrun, LeavesMachine}
+use Rattle.flexpret_top.specs.Command as command
 use Rattle.fp_io.specs.Content.{FileMap}
 use Rattle.fp_ports.specs.Rows.{Row, row_of, rows_of}
 use Rattle.std.proofs.lemmas.List.{length-map}
 use Rattle.ask_words.specs.declared.asked.Ask.TheVariants.{Run, Dump, Phases}
-use Rattle.machine.specs.Feeding.{fed_all}
+use Rattle.machine.specs.Feeding.{IsFedFront, fed_all}
 use Rattle.machine.proofs.FedLemmas.{feeds}
 use Rattle.machine.specs.WorldRelation.{StandsFor, PortsAfter, start_beside}
 use Rattle.machine.specs.DumpedState.{seen}
@@ -22,7 +23,7 @@ use Rattle.program_files.specs.declared.program.Program.{Program}
 use Rattle.flexpret_top.specs.declared.ready.Ready.{Ready}
 use Rattle.flexpret_top.specs.declared.ready.Prepared.TheVariants as prepared
 use Rattle.program_files.specs.Answer.{Answer, then_by, ends}
-use Rattle.flexpret_top.specs.Prepared.{IsReady, LeavesRun, Prepares, Runs}
+use Rattle.flexpret_top.specs.Prepared.{IsReady, LeavesPartOfRun, LeavesRun, Prepares, Runs}
 use Rattle.program_files.specs.Program.{program}
 use Rattle.flexpret_top.specs.Run.{start_of, trace_of, dump_of, phases_of}
 
@@ -49,6 +50,14 @@ ready-leaves files name before after last r ready leaves =
     let After : List (Option Row) → Type 0 = λ ports. PortsAfter s r.cycles ports last in
     record { made = ready.made; is = ready.is; ports = subst After ready.fed (leaves s ready.stands ready.starts) }
 
+-- and what a run that was cut short leaves
+ready-leaves-part : (files : FileMap) (name : List ℕ) (before after last : List (Option Row)) (r : Ready) → IsReady files name before after r → LeavesPartOfRun r after last → command.LeavesPartOfRun files name r.cycles before last
+ready-leaves-part files name before after last r ready leaves =
+    let s : Start = start_of ready.made before r.cycles in
+    let some = leaves s ready.stands ready.starts in
+    let After : List (Option Row) → Type 0 = λ ports. PortsAfter s some.cycles ports last in
+    record { made = ready.made; is = ready.is; cycles = some.cycles; within = some.within; ports = subst After ready.fed some.ports }
+
 -- a text of its world
 ready-runs : (files : FileMap) (name : List ℕ) (before after : List (Option Row)) (r : Ready) (told : Start → List ℕ) → (ready : IsReady files name before after r) → Runs r after told (told (start_of ready.made before r.cycles))
 ready-runs files name before after r told ready = record { start = start_of ready.made before r.cycles; stands = ready.stands; starts = ready.starts; text_is = refl }
@@ -63,6 +72,7 @@ trace-prepares (Some files) name i n before after r same ready =
       delivers = ready-runs files name before after r (λ s. text (events s i r.cycles)) ready;
       is = sym (ap (λ (q : Result Program Answer). ends (then_by q (trace_of before i r.cycles))) ready.is);
       leaves = λ last. ready-leaves files name before after last r ready;
+      leaves_part = λ last. ready-leaves-part files name before after last r ready;
     })
 
 pub dump-prepares : (told : Option FileMap) (name : List ℕ) (n : ℕ) (before after : List (Option Row)) (r : Ready) → r.cycles ≡ n →
@@ -75,6 +85,7 @@ dump-prepares (Some files) name n before after r same ready =
       delivers = ready-runs files name before after r (λ s. seen s r.cycles) ready;
       is = sym (ap (λ (q : Result Program Answer). ends (then_by q (dump_of before r.cycles))) ready.is);
       leaves = λ last. ready-leaves files name before after last r ready;
+      leaves_part = λ last. ready-leaves files name before after last r ready;
     })
 
 pub phases-prepares : (told : Option FileMap) (name : List ℕ) (n : ℕ) (before after : List (Option Row)) (r : Ready) → r.cycles ≡ n →
@@ -87,6 +98,7 @@ phases-prepares (Some files) name n before after r same ready =
       delivers = ready-runs files name before after r (λ s. phases_text (phases s r.cycles)) ready;
       is = sym (ap (λ (q : Result Program Answer). ends (then_by q (phases_of before r.cycles))) ready.is);
       leaves = λ last. ready-leaves files name before after last r ready;
+      leaves_part = λ last. ready-leaves-part files name before after last r ready;
     })
 
 pub ready-beside : {B : Type 0} → (latched : B → ℕ) (word_at : B → ℕ → ℕ) (told : Option FileMap) (name : List ℕ) (before after : List (Option B)) (p : Program) (r : Ready) →
@@ -96,3 +108,13 @@ pub ready-beside : {B : Type 0} → (latched : B → ℕ) (word_at : B → ℕ �
 ready-beside latched word_at told name before after p r is fed same eight eight' few stands =
     ready-is told name (rows_of latched word_at before) (rows_of latched word_at after) p r is fed same
     (length-map before (row_of latched word_at) ∙ eight) (length-map after (row_of latched word_at) ∙ eight') few stands
+
+-- a machine that isn't run leaves the ports with some of the inputs of its setup
+pub fed-part : (told : Option FileMap) (name : List ℕ) (before after : List (Option Row)) (p : Program) → IfSome told (λ files. program files name ≡ Ok p) → IsFedFront p.setup before after →
+    IfSome told (λ files. IsUnrun files name before after)
+fed-part None name before after p is fed = tt
+fed-part (Some files) name before after p is fed = inr (record { made = p; is = is; fed = fed })
+
+pub same-fed : (told : Option FileMap) (name : List ℕ) (before after : List (Option Row)) → after ≡ before → IfSome told (λ files. IsUnrun files name before after)
+same-fed None name before after same = tt
+same-fed (Some files) name before after same = inl same

@@ -127,3 +127,8 @@ pub difference-no_memory : (stop : Stop) (s : Status) (b' a' : ℕ) (before afte
 difference-no_memory stop s b' a' before after ends differs memory =
     let Stops : Stop → Type 0 = λ stop. Ends stop b' a' before after s in
     let none : s ≡ NoMemory = subst Stops memory ends in cc
+
+pub write-no_memory : (stop : Stop) (s : Status) (b' a' : ℕ) (before after : Option (List ℕ)) → Ends stop b' a' before after s → s ≡ Write → stop ≡ why.NoMemory → ⊥
+write-no_memory stop s b' a' before after ends write memory =
+    let Stops : Stop → Type 0 = λ stop. Ends stop b' a' before after s in
+    let none : s ≡ NoMemory = subst Stops memory ends in cc

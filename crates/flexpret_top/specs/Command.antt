@@ -1,6 +1,6 @@
 -- What a command line answers over the files that there are.
-use Rattle.std.specs.Prelude.{◌≡◌, ℕ, List, [], Option, Some, None, Ok}
-use Rattle.machine.specs.Feeding.{fed_all}
+use Rattle.std.specs.Prelude.{◌≡◌, ◌⊎◌, ◌≤◌, ℕ, List, [], Option, Some, None, Ok}
+use Rattle.machine.specs.Feeding.{IsFedFront, fed_all}
 use Rattle.machine.specs.WorldRelation.{PortsAfter}
 use Rattle.program_files.specs.declared.program.Program.{Program}
 use Rattle.fp_io.specs.Content.{FileMap}
@@ -64,6 +64,48 @@ Leaves (Solo setup thread cycles) files before after = after ≡ before
 Leaves (Check setup thread cycles trace) files before after = after ≡ before
 Leaves (Elf file) files before after = after ≡ before
 Leaves (Calls setup thread section routines) files before after = after ≡ before
+
+-- The same where the sink failed within the text: the ports are those after some of the cycles.
+pub record LeavesPartOfRun (files : FileMap) (name : List ℕ) (n : ℕ) (before after : List (Option Row)) : Type 0 where
+  pub made : Program
+  pub is : program files name ≡ Ok made
+  pub cycles : ℕ
+  pub within : cycles ≤ n
+  pub ports : PortsAfter (start_of made before n) cycles (fed_all made.setup before) after
+
+-- what stands in the ports after a text that was cut short
+abbrev pub LeavesInPart : Ask → FileMap → List (Option Row) → List (Option Row) → Type 0
+LeavesInPart (Run setup thread cycles) files before after = LeavesPartOfRun files setup cycles before after
+LeavesInPart (Dump setup cycles) files before after = LeavesMachine files setup cycles before after
+LeavesInPart (Phases setup cycles) files before after = LeavesPartOfRun files setup cycles before after
+LeavesInPart _ files before after = after ≡ before
+
+-- after status 8: a refusal's line leaves the ports as they were
+abbrev pub LeavesCutShort : Option Ask → FileMap → List (Option Row) → List (Option Row) → Type 0
+LeavesCutShort None files before after = after ≡ before
+LeavesCutShort (Some asked) files before after = (after ≡ before) ⊎ LeavesInPart asked files before after
+
+-- Some of the inputs of a setup were fed.
+pub record IsFedInPart (files : FileMap) (name : List ℕ) (before after : List (Option Row)) : Type 0 where
+  pub made : Program
+  pub is : program files name ≡ Ok made
+  pub fed : IsFedFront made.setup before after
+
+-- what stands in the ports of a machine that wasn't run
+abbrev pub IsUnrun : FileMap → List ℕ → List (Option Row) → List (Option Row) → Type 0
+IsUnrun files name before after = (after ≡ before) ⊎ IsFedInPart files name before after
+
+-- what stands in the ports where memory was refused, or a device refused to be fed
+abbrev pub LeavesFedInPart : Ask → FileMap → List (Option Row) → List (Option Row) → Type 0
+LeavesFedInPart (Run setup thread cycles) files before after = IsUnrun files setup before after
+LeavesFedInPart (Dump setup cycles) files before after = IsUnrun files setup before after
+LeavesFedInPart (Phases setup cycles) files before after = IsUnrun files setup before after
+LeavesFedInPart _ files before after = after ≡ before
+
+-- after status 9
+abbrev pub LeavesUnrun : Option Ask → FileMap → List (Option Row) → List (Option Row) → Type 0
+LeavesUnrun None files before after = after ≡ before
+LeavesUnrun (Some asked) files before after = LeavesFedInPart asked files before after
 
 abbrev pub LeavesBy : Option Ask → FileMap → List (Option Row) → List (Option Row) → Type 0
 LeavesBy None files before after = after ≡ before

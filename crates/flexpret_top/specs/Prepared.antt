@@ -1,6 +1,6 @@
 -- What was prepared, as the text that it will write.
 use Rattle.std.specs.Io.KnownBytes.{Appends}
-use Rattle.std.specs.Prelude.{◌≡◌, ◌<◌, ℕ, List, Option, IfSome}
+use Rattle.std.specs.Prelude.{◌≡◌, ◌<◌, ◌≤◌, ℕ, List, Option, IfSome}
 use Rattle.fp_io.specs.Content.{AppendsFront, FileMap}
 use Rattle.fp_ports.specs.Rows.{Row}
 use Rattle.ask_words.specs.declared.asked.Ask.{Ask}
@@ -21,7 +21,7 @@ use Rattle.flexpret_top.specs.declared.ready.Prepared.TheVariants.{Trace, Dump, 
 use Rattle.selfrun.specs.Text.{tallies_text}
 use Rattle.flexpret_top.specs.SoloAndCheck.{same_text, told_alone}
 use Rattle.program_files.specs.Answer.Answer.{Says}
-use Rattle.flexpret_top.specs.Command.{IsAnswerOf, Leaves}
+use Rattle.flexpret_top.specs.Command.{IsAnswerOf, Leaves, LeavesInPart}
 use Rattle.program_files.specs.Program.{program}
 use Rattle.flexpret_top.specs.Run.{start_of}
 use Rattle.std.specs.Prelude.{Ok}
@@ -72,6 +72,22 @@ LeavesPorts (Image bytes) before after = after ≡ before
 LeavesPorts (Bound cycles) before after = after ≡ before
 LeavesPorts (Selfrun run) before after = after ≡ before
 
+-- what a run of a machine that the sink cut short leaves in the ports: those after some of its cycles
+pub record LeavesSome (s : Start) (n : ℕ) (before after : List (Option Row)) : Type 0 where
+  pub cycles : ℕ
+  pub within : cycles ≤ n
+  pub ports : PortsAfter s cycles before after
+
+abbrev pub LeavesPartOfRun : Ready → List (Option Row) → List (Option Row) → Type 0
+LeavesPartOfRun r before after = (s : Start) → StandsFor s 0 r.cycles r.machine before → StartsAs s r.setup → LeavesSome s r.cycles before after
+
+-- what stands in the ports where the sink failed
+abbrev pub LeavesPortsInPart : Prepared → List (Option Row) → List (Option Row) → Type 0
+LeavesPortsInPart (Trace r thread) before after = LeavesPartOfRun r before after
+LeavesPortsInPart (Dump r) before after = LeavesRun r before after
+LeavesPortsInPart (Phases r) before after = LeavesPartOfRun r before after
+LeavesPortsInPart _ before after = after ≡ before
+
 -- no port plays a part in it
 abbrev pub IsApartFrom : Prepared → Type 0
 IsApartFrom (Trace r thread) = ⊥
@@ -92,6 +108,7 @@ pub record Prepares (asked : Ask) (files : FileMap) (before after : List (Option
   pub delivers : Delivers p after written
   pub is : IsAnswerOf asked files before (Says 0 written)
   pub leaves : (last : List (Option Row)) → LeavesPorts p after last → Leaves asked files before last
+  pub leaves_part : (last : List (Option Row)) → LeavesPortsInPart p after last → LeavesInPart asked files before last
 
 -- the same where the files tell what they hold
 abbrev pub IsPrepared : Ask → Option FileMap → List (Option Row) → List (Option Row) → Prepared → Type 0

@@ -1,15 +1,17 @@
 //! One thread of a program from its view alone.
 
-ghost use Rattle.std.specs.Prelude.{◌≡◌, ◌*◌, ◌<◌, ◌≤◌, nat_eq, false, true, Ok, Err, OnOk, OnErr, IfOk, IfErr, IfSome, vec_len};
+ghost use Rattle.std.specs.Prelude.{◌≡◌, ◌*◌, ◌<◌, ◌≤◌, [], ◌∷◌, nat_eq, false, true, Ok, Err, OnOk, OnErr, IfOk, IfErr, IfSome, vec_len};
 ghost use Rattle.std.specs.Io.KnownBytes.{Appends};
 ghost use Rattle.std.specs.List.{common_prefix_len};
 ghost use Rattle.fp_io.specs.Causes.{Rose};
-ghost use Rattle.fp_io.specs.Content.{AppendsFront};
+ghost use Rattle.fp_io.specs.Content.{AppendsFront, Asks};
 ghost use Rattle.timer_unit.specs.Time.{most_cycles};
 ghost use Rattle.fp_ports.specs.Rows.{rows_of};
 ghost use Rattle.solo_run.specs.FirstDifference.{IsChecked};
 ghost use Rattle.flexpret_top.specs.SoloAndCheck.{IsAlone, IsAloneOf, alone_fault, alone_in, alone_program, compared, said_by, same_text, told_alone};
+ghost use Rattle.flexpret_top.specs.Requests.{trace_request};
 ghost use Rattle.program_files.specs.Answer.{on_file};
+ghost use Rattle.program_files.specs.Program.{IsProgramAsked, program_requests};
 ghost use Rattle.program_files.specs.Stops.{IsAnswerStop, IsStopIn, IsStopOf, Makes, is_difference};
 
 use crate::ready::Alone;
@@ -73,6 +75,10 @@ pub fn load_alone<F: Files>(
     requires limit { cycles ≤ most_cycles }
     ensures told { F.told files.new ≡ F.told files.old }
     ensures counted { F.faults files.old ≤ F.faults files.new }
+    ensures asked { IsProgramAsked (F.told files.old) name.now
+        (F.requests files.old) (F.requests files.new) }
+    ensures requests { IfOk result (λ a. Asks (F.requests files.old) (F.requests files.new)
+        (program_requests name.now a.setup)) }
     ensures ok { IfOk result (λ a. IfSome (F.told files.old) (λ told.
         IsAlone told name.now thread cycles a)) }
     ensures cycles { IfOk result (λ a. a.cycles ≡ cycles) }
@@ -167,6 +173,8 @@ pub fn compare_alone<F: Files>(
     requires { vec_len ports.old ≡ 8 }
     ensures told { F.told files.new ≡ F.told files.old }
     ensures counted { F.faults files.old ≤ F.faults files.new }
+    ensures request { Asks (F.requests files.old) (F.requests files.new)
+        (trace_request trace.now alone.cycles ∷ []) }
     ensures ok { OnOk result (Makes (F.told files.old)
         (on_file (compared (told_alone alone (rows_of latched word_at ports.old.items))) trace.now)
         same_text) }

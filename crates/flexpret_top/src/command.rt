@@ -5,14 +5,17 @@ ghost use Rattle.fp_io.specs.Causes.{Rose};
 ghost use Rattle.fp_ports.specs.Rows.{rows_of};
 ghost use Rattle.fp_elf.specs.Law.{ReadsBack};
 ghost use Rattle.fp_setup.specs.AcceptedSetups.{AcceptedKeepRules};
+ghost use Rattle.run_laws.specs.RetiredTraces.{RetiredTraceAlone, RetiredTraceByPhases};
 ghost use Rattle.run_laws.specs.TraceLaws.{TraceAlone, TraceByPhases};
 ghost use Rattle.section_visits.specs.SetupCallVisitBound.{CallVisitsStayBounded};
+ghost use Rattle.section_visits.specs.SetupInSettings.{CallVisitsStayBoundedInSettings, CallVisitsStayBoundedWhileScheduled, VisitsStayBoundedInSettings, VisitsStayBoundedWhileScheduled};
 ghost use Rattle.section_visits.specs.SetupVisitBound.{VisitsStayBounded};
 ghost use Rattle.ask_words.specs.Commands.{ask};
 ghost use Rattle.ask_words.specs.Limits.{IsWithinLimits};
 ghost use Rattle.program_files.specs.Answer.Answer.{Missing};
-ghost use Rattle.flexpret_top.specs.Command.{IsAnswer, IsAnswerIn, IsApart, IsApartBy, Leaves, LeavesBy, OnlyReads, OnlyReadsBy, Said, Began, Answered};
-ghost use Rattle.flexpret_top.specs.Headline.{BoundsCallVisits, BoundsVisits, WritesAlone, WritesAsRun, WritesByPhases, WritesImage};
+ghost use Rattle.flexpret_top.specs.Command.{IsAnswer, IsAnswerIn, IsApart, IsApartBy, Leaves, LeavesBy, LeavesCutShort, LeavesUnrun, OnlyReads, OnlyReadsBy, Said, Began, Answered};
+ghost use Rattle.flexpret_top.specs.Headline.{BoundsCallVisits, BoundsVisits, WritesAlone, WritesAsRun, WritesByPhases, WritesImage, WritesRetired};
+ghost use Rattle.flexpret_top.specs.Requests.{IsAsked, IsAskedBy};
 ghost use Rattle.flexpret_top.specs.Status.{IsStatus, number_of};
 ghost use Rattle.program_files.specs.declared.stop.Stop.{Stop};
 ghost use Rattle.program_files.specs.Answer.{status_of};
@@ -28,8 +31,12 @@ use fp_io::{Files, PutFailed, Sink};
 use fp_ports::Ports;
 use fp_setup::accepted_keep_rules;
 use program_files::Stop;
+use run_laws::retired_traces;
 use run_laws::setup_traces::{traces_alone, traces_by_phases};
-use section_visits::setups::{calls_stay_bounded, stays_bounded};
+use section_visits::setups::{
+    calls_stay_bounded, calls_stay_bounded_in_settings, calls_stay_bounded_while_scheduled,
+    stays_bounded, stays_bounded_in_settings, stays_bounded_while_scheduled,
+};
 use std::alloc::Global;
 use trace_print::{Refusal, refusal_line};
 
@@ -86,6 +93,8 @@ fn answer<F: Files, K: Sink>(
     requires limits { IsWithinLimits ask.now }
     requires eight { vec_len ports.old ≡ 8 }
     ensures told { F.told files.new ≡ F.told files.old }
+    ensures requests { IsAsked ask.now (F.told files.old)
+        (F.requests files.old) (F.requests files.new) }
     ensures counted_files { F.faults files.old ≤ F.faults files.new }
     ensures counted_out { K.faults out.old ≤ K.faults out.new }
     ensures said { result ≢ Status.Read → result ≢ Status.Write
@@ -108,6 +117,12 @@ fn answer<F: Files, K: Sink>(
     ensures nothing { (result ≡ Status.Read) ⊎ (result ≡ Status.NoMemory)
         → out.new ≡ out.old }
     ensures ports { result ≡ Status.Ok → IfSome (F.told files.old) (λ told. Leaves ask.now told
+        (rows_of latched word_at ports.old.items) (rows_of latched word_at ports.new.items)) }
+    ensures part { result ≡ Status.Write → IfSome (F.told files.old) (λ told.
+        LeavesCutShort (Some ask.now) told
+        (rows_of latched word_at ports.old.items) (rows_of latched word_at ports.new.items)) }
+    ensures unrun { result ≡ Status.NoMemory → IfSome (F.told files.old) (λ told.
+        LeavesUnrun (Some ask.now) told
         (rows_of latched word_at ports.old.items) (rows_of latched word_at ports.new.items)) }
     ensures kept { result ≢ Status.Ok → result ≢ Status.Differs
         → result ≢ Status.Write → result ≢ Status.NoMemory → ports.new ≡ ports.old }
@@ -133,15 +148,27 @@ fn laws()
     ensures rules { AcceptedKeepRules }
     ensures alone { TraceAlone }
     ensures phased { TraceByPhases }
+    ensures retired { RetiredTraceAlone }
+    ensures retired_phased { RetiredTraceByPhases }
     ensures visits { VisitsStayBounded }
+    ensures visits_scheduled { VisitsStayBoundedWhileScheduled }
+    ensures visits_in_settings { VisitsStayBoundedInSettings }
     ensures call_visits { CallVisitsStayBounded }
+    ensures call_visits_scheduled { CallVisitsStayBoundedWhileScheduled }
+    ensures call_visits_in_settings { CallVisitsStayBoundedInSettings }
     ensures imported { ReadsBack }
 {
     accepted_keep_rules();
     traces_alone();
     traces_by_phases();
+    retired_traces::traces_alone();
+    retired_traces::traces_by_phases();
     stays_bounded();
+    stays_bounded_while_scheduled();
+    stays_bounded_in_settings();
     calls_stay_bounded();
+    calls_stay_bounded_while_scheduled();
+    calls_stay_bounded_in_settings();
     reads_back();
 }
 
@@ -191,6 +218,8 @@ pub fn flexpret<F: Files, K: Sink>(
     ensures usage { result ≡ 2 → ask (map string_bytes words.now) ≡ None }
     ensures asks { ask (map string_bytes words.now) ≡ None → (result ≡ 2) ⊎ (result ≡ 9) }
     ensures untouched { ask (map string_bytes words.now) ≡ None → files.new ≡ files.old }
+    ensures requests { IsAskedBy (ask (map string_bytes words.now)) (F.told files.old)
+        (F.requests files.old) (F.requests files.new) }
     ensures said { result ≢ 7 → result ≢ 8 → result ≢ 9
         → IfSome (F.told files.old) (λ told.
         Said (IsAnswer (map string_bytes words.now) told (rows_of latched word_at ports.old.items))
@@ -220,6 +249,9 @@ pub fn flexpret<F: Files, K: Sink>(
     ensures phased { result ≡ 0 → IfSome (F.told files.old) (λ told.
         WritesByPhases (ask (map string_bytes words.now)) told
         (rows_of latched word_at ports.old.items) (K.taken out.old) (K.taken out.new)) }
+    ensures retired { result ≡ 0 → IfSome (F.told files.old) (λ told.
+        WritesRetired (ask (map string_bytes words.now)) told
+        (rows_of latched word_at ports.old.items) (K.taken out.old) (K.taken out.new)) }
     ensures visits { result ≡ 0 → IfSome (F.told files.old) (λ told.
         BoundsVisits (ask (map string_bytes words.now)) told (K.taken out.old) (K.taken out.new)) }
     ensures call_visits { result ≡ 0 → IfSome (F.told files.old) (λ told.
@@ -231,6 +263,12 @@ pub fn flexpret<F: Files, K: Sink>(
         LeavesBy (ask (map string_bytes words.now)) told
         (rows_of latched word_at ports.old.items) (rows_of latched word_at ports.new.items)) }
     ensures kept { 2 ≤ result → result ≢ 8 → result ≢ 9 → ports.new ≡ ports.old }
+    ensures part { result ≡ 8 → IfSome (F.told files.old) (λ told.
+        LeavesCutShort (ask (map string_bytes words.now)) told
+        (rows_of latched word_at ports.old.items) (rows_of latched word_at ports.new.items)) }
+    ensures unrun { result ≡ 9 → IfSome (F.told files.old) (λ told.
+        LeavesUnrun (ask (map string_bytes words.now)) told
+        (rows_of latched word_at ports.old.items) (rows_of latched word_at ports.new.items)) }
     ensures reads { OnlyReadsBy (ask (map string_bytes words.now)) →
         rows_of latched word_at ports.new.items ≡ rows_of latched word_at ports.old.items }
     ensures differs { result ≡ 1 →

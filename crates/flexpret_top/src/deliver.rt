@@ -11,6 +11,7 @@ ghost use Rattle.flexpret_top.specs.Prepared.{
   IsApartFrom,
   IsThread,
   LeavesPorts,
+  LeavesPortsInPart,
   OnlyReadsFor,
   WritesAll,
   WritesPart,
@@ -59,6 +60,8 @@ fn put_trace<K: Sink>(
     ensures counted { K.faults out.old ≤ K.faults out.new }
     ensures left { OnOk result (LeavesPorts (Prepared.Trace ready thread)
         (rows_of latched word_at ports.old.items) (rows_of latched word_at ports.new.items)) }
+    ensures part { OnErr result (LeavesPortsInPart (Prepared.Trace ready thread)
+        (rows_of latched word_at ports.old.items) (rows_of latched word_at ports.new.items)) }
     ensures eight { vec_len ports.new ≡ 8 }
 {
     let mut machine = ready.machine;
@@ -94,6 +97,8 @@ fn put_phases<K: Sink>(ready: Ready, ports: &mut Ports, out: &mut K) -> Result<(
     ensures counted { K.faults out.old ≤ K.faults out.new }
     ensures left { OnOk result (LeavesPorts (Prepared.Phases ready)
         (rows_of latched word_at ports.old.items) (rows_of latched word_at ports.new.items)) }
+    ensures part { OnErr result (LeavesPortsInPart (Prepared.Phases ready)
+        (rows_of latched word_at ports.old.items) (rows_of latched word_at ports.new.items)) }
     ensures eight { vec_len ports.new ≡ 8 }
 {
     let mut machine = ready.machine;
@@ -111,6 +116,8 @@ pub fn deliver<K: Sink>(prepared: Prepared, ports: &mut Ports, out: &mut K) -> R
     ensures failed { OnErr result (Rose (K.faults out.old) (K.faults out.new)) }
     ensures counted { K.faults out.old ≤ K.faults out.new }
     ensures left { OnOk result (LeavesPorts prepared
+        (rows_of latched word_at ports.old.items) (rows_of latched word_at ports.new.items)) }
+    ensures part { OnErr result (LeavesPortsInPart prepared
         (rows_of latched word_at ports.old.items) (rows_of latched word_at ports.new.items)) }
     ensures apart { IsApartFrom prepared → ports.new ≡ ports.old }
     ensures reads { OnlyReadsFor prepared →

@@ -1,4 +1,8 @@
 //! The program as one call, over files, a sink, the words of the command line and eight ports.
+//!
+//! It hands on what a caller of [`flexpret`] needs: the files, the sinks and the ports, and the
+//! theorems that its contract is used with, on traces, settings and visits. Each theorem is the
+//! contract of a call that does nothing.
 #![tactic(auto)]
 
 mod alone;
@@ -11,3 +15,12 @@ mod status;
 
 pub use ask_words::{Ask, WordsNo, read_words};
 pub use command::flexpret;
+pub use fp_io::{
+    FetchFault, Files, Gathered, MemFiles, MemSink, OutSink, PutFailed, RealFiles, Sink,
+};
+pub use fp_ports::{HeldPort, Port, Ports, WavePort};
+pub use fp_setup::accepted_keep_rules;
+pub use phase_model::{has_own_turns, tells_picks, unretired_is_unseen};
+pub use run_laws as isolation_theorems;
+pub use section_visits as visit_theorems;
+pub use solo_run::setup_views_are_views;

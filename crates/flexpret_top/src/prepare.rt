@@ -1,21 +1,22 @@
 //! What a command will write, before the first byte of it is written.
 
-ghost use Rattle.std.specs.Prelude.{◌≡◌, ◌≢◌, ◌⊎◌, ◌≤◌, ◌<◌, ℕ, false, IfOk, IfErr, OnOk, IfSome, List, Option, length, vec_len};
-ghost use Rattle.fp_io.specs.Content.{FileMap};
+ghost use Rattle.std.specs.Prelude.{◌≡◌, ◌≢◌, ◌⊎◌, ◌≤◌, ◌<◌, ℕ, false, [], ◌∷◌, IfOk, IfErr, OnOk, OnErr, IfSome, List, Option, length, vec_len};
+ghost use Rattle.fp_io.specs.Content.{Asks, FileMap};
 ghost use Rattle.timer_unit.specs.Time.{most_cycles};
 ghost use Rattle.fp_ports.specs.Rows.{Row, rows_of};
 ghost use Rattle.ask_words.specs.Limits.{IsWithinLimits};
 ghost use Rattle.ask_words.specs.declared.asked.Ask.{Ask};
-ghost use Rattle.machine.specs.Feeding.{fed_all};
+ghost use Rattle.machine.specs.Feeding.{IsFedFront, fed_all};
 ghost use Rattle.machine.specs.WorldRelation.{StandsFor, start_beside};
 ghost use Rattle.flexpret_top.specs.SoloAndCheck.{alone_program};
 ghost use Rattle.flexpret_top.specs.declared.ready.Prepared.{Prepared};
-ghost use Rattle.file_answers.specs.Assembled.{asm_answer};
+ghost use Rattle.file_answers.specs.Assembled.{asm_answer, source_request};
 ghost use Rattle.file_answers.specs.BoundAnswer.{IsBoundAnswer};
 ghost use Rattle.file_answers.specs.CallsAnswer.{IsCallsAnswer};
-ghost use Rattle.flexpret_top.specs.Command.{IsAnswerIn, IsApart, OnlyReads};
-ghost use Rattle.file_answers.specs.Elf.{elf_answer};
-ghost use Rattle.program_files.specs.Program.{program};
+ghost use Rattle.flexpret_top.specs.Command.{IsAnswerIn, IsApart, IsUnrun, LeavesFedInPart, OnlyReads};
+ghost use Rattle.flexpret_top.specs.Requests.{IsAsked};
+ghost use Rattle.file_answers.specs.Elf.{elf_answer, executable_request};
+ghost use Rattle.program_files.specs.Program.{IsProgramAsked, program};
 ghost use Rattle.flexpret_top.specs.Prepared.{
   IsApartFrom,
   IsPrepared,
@@ -54,6 +55,8 @@ fn machine_beside(
     ensures start { IfOk result (λ m. m.at ≡ 0) }
     ensures fed { OnOk result (rows_of latched word_at ports.new.items ≡
         fed_all program.now.setup (rows_of latched word_at ports.old.items)) }
+    ensures part { OnErr result (IsFedFront program.now.setup
+        (rows_of latched word_at ports.old.items) (rows_of latched word_at ports.new.items)) }
     ensures eight { vec_len ports.new ≡ 8 }
 {
     match Machine::load(alloc, &program.setup, &program.image) {
@@ -76,6 +79,8 @@ fn ready<F: Files>(
     requires limit { cycles ≤ most_cycles }
     requires eight { vec_len ports.old ≡ 8 }
     ensures told { F.told files.new ≡ F.told files.old }
+    ensures asked { IsProgramAsked (F.told files.old) setup.now
+        (F.requests files.old) (F.requests files.new) }
     ensures counted { F.faults files.old ≤ F.faults files.new }
     ensures ok { IfOk result (λ r. IfSome (F.told files.old) (λ told. IsReady told setup.now
         (rows_of latched word_at ports.old.items) (rows_of latched word_at ports.new.items) r)) }
@@ -83,6 +88,8 @@ fn ready<F: Files>(
     ensures stop { IfErr result (IsStopIn (F.told files.old) (λ told. program told setup.now)
         (F.faults files.old) (F.faults files.new)) }
     ensures kept { IfErr result (λ stop. stop ≢ NoMemory → ports.new ≡ ports.old) }
+    ensures part { OnErr result (IfSome (F.told files.old) (λ told. IsUnrun told setup.now
+        (rows_of latched word_at ports.old.items) (rows_of latched word_at ports.new.items))) }
     ensures eight { vec_len ports.new ≡ 8 }
 {
     match load(alloc, setup, files) {
@@ -111,6 +118,8 @@ fn trace<F: Files>(
     requires thread { thread < 8 }
     requires eight { vec_len ports.old ≡ 8 }
     ensures told { F.told files.new ≡ F.told files.old }
+    ensures asked { IsProgramAsked (F.told files.old) setup.now
+        (F.requests files.old) (F.requests files.new) }
     ensures counted { F.faults files.old ≤ F.faults files.new }
     ensures ok { IfOk result (IsPrepared (Ask.Run setup.now thread cycles) (F.told files.old)
         (rows_of latched word_at ports.old.items) (rows_of latched word_at ports.new.items)) }
@@ -119,6 +128,8 @@ fn trace<F: Files>(
         (IsAnswerIn (Ask.Run setup.now thread cycles) (rows_of latched word_at ports.old.items))
         (F.faults files.old) (F.faults files.new)) }
     ensures kept { IfErr result (λ stop. stop ≢ NoMemory → ports.new ≡ ports.old) }
+    ensures part { OnErr result (IfSome (F.told files.old) (λ told. IsUnrun told setup.now
+        (rows_of latched word_at ports.old.items) (rows_of latched word_at ports.new.items))) }
     ensures eight { vec_len ports.new ≡ 8 }
 {
     let ready = ready(alloc, setup, cycles, files, ports)?;
@@ -136,6 +147,8 @@ fn dump<F: Files>(
     requires limit { cycles ≤ most_cycles }
     requires eight { vec_len ports.old ≡ 8 }
     ensures told { F.told files.new ≡ F.told files.old }
+    ensures asked { IsProgramAsked (F.told files.old) setup.now
+        (F.requests files.old) (F.requests files.new) }
     ensures counted { F.faults files.old ≤ F.faults files.new }
     ensures ok { IfOk result (IsPrepared (Ask.Dump setup.now cycles) (F.told files.old)
         (rows_of latched word_at ports.old.items) (rows_of latched word_at ports.new.items)) }
@@ -144,6 +157,8 @@ fn dump<F: Files>(
         (IsAnswerIn (Ask.Dump setup.now cycles) (rows_of latched word_at ports.old.items))
         (F.faults files.old) (F.faults files.new)) }
     ensures kept { IfErr result (λ stop. stop ≢ NoMemory → ports.new ≡ ports.old) }
+    ensures part { OnErr result (IfSome (F.told files.old) (λ told. IsUnrun told setup.now
+        (rows_of latched word_at ports.old.items) (rows_of latched word_at ports.new.items))) }
     ensures eight { vec_len ports.new ≡ 8 }
 {
     Ok(Prepared::Dump(ready(alloc, setup, cycles, files, ports)?))
@@ -160,6 +175,8 @@ fn phases<F: Files>(
     requires limit { cycles ≤ most_cycles }
     requires eight { vec_len ports.old ≡ 8 }
     ensures told { F.told files.new ≡ F.told files.old }
+    ensures asked { IsProgramAsked (F.told files.old) setup.now
+        (F.requests files.old) (F.requests files.new) }
     ensures counted { F.faults files.old ≤ F.faults files.new }
     ensures ok { IfOk result (IsPrepared (Ask.Phases setup.now cycles) (F.told files.old)
         (rows_of latched word_at ports.old.items) (rows_of latched word_at ports.new.items)) }
@@ -168,6 +185,8 @@ fn phases<F: Files>(
         (IsAnswerIn (Ask.Phases setup.now cycles) (rows_of latched word_at ports.old.items))
         (F.faults files.old) (F.faults files.new)) }
     ensures kept { IfErr result (λ stop. stop ≢ NoMemory → ports.new ≡ ports.old) }
+    ensures part { OnErr result (IfSome (F.told files.old) (λ told. IsUnrun told setup.now
+        (rows_of latched word_at ports.old.items) (rows_of latched word_at ports.new.items))) }
     ensures eight { vec_len ports.new ≡ 8 }
 {
     Ok(Prepared::Phases(ready(alloc, setup, cycles, files, ports)?))
@@ -176,6 +195,8 @@ fn phases<F: Files>(
 /// `asm SOURCE`
 fn image<F: Files>(alloc: Global, source: &Name, files: &mut F) -> Result<Prepared, Stop>
     ensures told { F.told files.new ≡ F.told files.old }
+    ensures asked { Asks (F.requests files.old) (F.requests files.new)
+        (source_request source.now ∷ []) }
     ensures counted { F.faults files.old ≤ F.faults files.new }
     ensures ok { IfOk result (IsPreparedApart (Ask.Asm source.now) (F.told files.old)) }
     ensures thread { IfOk result IsThread }
@@ -190,6 +211,8 @@ fn image<F: Files>(alloc: Global, source: &Name, files: &mut F) -> Result<Prepar
 /// `elf FILE`
 fn imported<F: Files>(alloc: Global, file: &Name, files: &mut F) -> Result<Prepared, Stop>
     ensures told { F.told files.new ≡ F.told files.old }
+    ensures asked { Asks (F.requests files.old) (F.requests files.new)
+        (executable_request file.now ∷ []) }
     ensures counted { F.faults files.old ≤ F.faults files.new }
     ensures ok { IfOk result (IsPreparedApart (Ask.Elf file.now) (F.told files.old)) }
     ensures thread { IfOk result IsThread }
@@ -212,6 +235,8 @@ fn solo<F: Files>(
     requires limit { cycles ≤ most_cycles }
     requires thread { thread < 8 }
     ensures told { F.told files.new ≡ F.told files.old }
+    ensures asked { IsProgramAsked (F.told files.old) setup.now
+        (F.requests files.old) (F.requests files.new) }
     ensures counted { F.faults files.old ≤ F.faults files.new }
     ensures ok { IfOk result
         (IsPreparedApart (Ask.Solo setup.now thread cycles) (F.told files.old)) }
@@ -240,6 +265,8 @@ fn check<F: Files>(
     requires thread { thread < 8 }
     requires eight { vec_len ports.old ≡ 8 }
     ensures told { F.told files.new ≡ F.told files.old }
+    ensures asked { IsAsked (Ask.Check setup.now thread cycles trace.now) (F.told files.old)
+        (F.requests files.old) (F.requests files.new) }
     ensures counted { F.faults files.old ≤ F.faults files.new }
     ensures ok { IfOk result
         (IsPrepared (Ask.Check setup.now thread cycles trace.now) (F.told files.old)
@@ -275,6 +302,8 @@ fn bound<F: Files>(
 ) -> Result<Prepared, Stop>
     requires thread { thread < 8 }
     ensures told { F.told files.new ≡ F.told files.old }
+    ensures asked { IsProgramAsked (F.told files.old) setup.now
+        (F.requests files.old) (F.requests files.new) }
     ensures counted { F.faults files.old ≤ F.faults files.new }
     ensures ok { IfOk result
         (IsPreparedApart (Ask.Bound setup.now thread section) (F.told files.old)) }
@@ -304,6 +333,8 @@ fn calls<F: Files>(
 ) -> Result<Prepared, Stop>
     requires thread { thread < 8 }
     ensures told { F.told files.new ≡ F.told files.old }
+    ensures asked { IsAsked (Ask.Calls setup.now thread section routines.now) (F.told files.old)
+        (F.requests files.old) (F.requests files.new) }
     ensures counted { F.faults files.old ≤ F.faults files.new }
     ensures ok { IfOk result
         (IsPreparedApart (Ask.Calls setup.now thread section routines.now) (F.told files.old)) }
@@ -343,6 +374,8 @@ pub fn prepare<F: Files>(
     requires limits { IsWithinLimits ask.now }
     requires eight { vec_len ports.old ≡ 8 }
     ensures told { F.told files.new ≡ F.told files.old }
+    ensures asked { IsAsked ask.now (F.told files.old)
+        (F.requests files.old) (F.requests files.new) }
     ensures counted { F.faults files.old ≤ F.faults files.new }
     ensures ok { IfOk result (IsPrepared ask.now (F.told files.old)
         (rows_of latched word_at ports.old.items) (rows_of latched word_at ports.new.items)) }
@@ -354,6 +387,8 @@ pub fn prepare<F: Files>(
         stop ≢ NoMemory → is_difference stop ≡ false → ports.new ≡ ports.old) }
     ensures others { IfErr result (λ stop.
         stop ≢ NoMemory → OnlyReads ask.now ⊎ (ports.new ≡ ports.old)) }
+    ensures part { OnErr result (IfSome (F.told files.old) (λ told. LeavesFedInPart ask.now told
+        (rows_of latched word_at ports.old.items) (rows_of latched word_at ports.new.items))) }
     ensures reads { OnlyReads ask.now →
         rows_of latched word_at ports.new.items ≡ rows_of latched word_at ports.old.items }
     ensures reads_for { IfOk result (λ p. OnlyReads ask.now → OnlyReadsFor p) }

@@ -21,3 +21,13 @@ abbrev pub AppendsFront : Option (List ℕ) → Option (List ℕ) → List ℕ �
 AppendsFront None after bytes = ⊤
 AppendsFront (Some xs) None bytes = ⊥
 AppendsFront (Some xs) (Some ys) bytes = (n : ℕ) × (n ≤ length bytes) × (ys ≡ xs ++ take n bytes)
+
+-- what is asked of files: a name, and the most bytes that a file of it may have
+abbrev pub Request : Type 0
+Request = List ℕ × ℕ
+
+-- where the requests before are told, so are those after: the ones before, and then these
+abbrev pub Asks : Option (List Request) → Option (List Request) → List Request → Type 0
+Asks None after requests = ⊤
+Asks (Some xs) None requests = ⊥
+Asks (Some xs) (Some ys) requests = ys ≡ xs ++ requests

@@ -1,8 +1,8 @@
 //! Files that are read whole, by name.
 
-ghost use Rattle.std.specs.Prelude.{◌≡◌, ℕ, ◌+◌, ◌-◌, ◌^◌, ◌<◌, ◌≤◌, Option, IfOk, vec_len};
+ghost use Rattle.std.specs.Prelude.{◌≡◌, ℕ, ◌+◌, ◌-◌, ◌^◌, ◌<◌, ◌≤◌, List, [], ◌∷◌, Option, IfOk, vec_len};
 ghost use Rattle.fp_io.specs.Causes.{Rose};
-ghost use Rattle.fp_io.specs.Content.{FileMap, Fetched, Lacks};
+ghost use Rattle.fp_io.specs.Content.{Asks, FileMap, Fetched, Lacks, Request};
 
 use std::alloc::Global;
 use thiserror::Error;
@@ -26,6 +26,9 @@ pub trait Files {
     // The map, where the object tells it.
     ghost told: { Self → Option FileMap };
 
+    // The calls of `fetch` so far, in order, where the object tells them.
+    ghost requests: { Self → Option (List Request) };
+
     // How many faults of reading there were: it never falls, and stays at 2^64 - 1.
     ghost faults: { Self → ℕ };
 
@@ -40,6 +43,7 @@ pub trait Files {
     /// was counted in this call, `NoMemory` where memory was refused.
     fn fetch(&mut self, alloc: Global, name: &str, most: usize) -> Result<Vec<u8>, FetchFault>
         requires { most < 2 ^ 64 - 1 }
+        ensures request { Asks (requests self.old) (requests self.new) ((name.now, most) ∷ []) }
         ensures stays { told self.new ≡ told self.old }
         ensures counted { faults self.old ≤ faults self.new }
         ensures within { IfOk result (λ bytes. vec_len bytes ≤ most + 1) }

@@ -1,6 +1,6 @@
 //! Files in memory.
 
-ghost use Rattle.std.specs.Prelude.{◌≡◌, ℕ, ◌+◌, ◌-◌, ◌^◌, ◌<◌, ◌≤◌, ◌↔◌, [], ◌∷◌, ◌++◌, take, Some, IsTrue, IfOk, IsSomeAnd, is_ok, option_map, if◌then◌else◌, vec_len};
+ghost use Rattle.std.specs.Prelude.{◌≡◌, ℕ, ◌+◌, ◌-◌, ◌^◌, ◌<◌, ◌≤◌, ◌↔◌, [], ◌∷◌, ◌++◌, take, Some, None, IsTrue, IfOk, IsSomeAnd, is_ok, option_map, if◌then◌else◌, vec_len};
 ghost use Rattle.std.specs.FinMap as map;
 ghost use Rattle.fp_io.specs.Memory.{no_files, next_fails, fetched_from, FaultsAreListed};
 
@@ -114,6 +114,8 @@ impl MemFiles {
 
 impl Files for MemFiles {
     ghost told = { λ m. Some (λ name. map.get m.named name) };
+
+    ghost requests = { λ _. None };
 
     ghost faults = { λ m. m.faults };
 

@@ -48,6 +48,8 @@ impl<R: rt::Files + Drop> RealFiles<R> {
 impl<R: rt::Files + Drop> Files for RealFiles<R> {
     ghost told = { λ _. None };
 
+    ghost requests = { λ _. None };
+
     ghost faults = { λ files. files.1 };
 
     fn fetch(&mut self, alloc: Global, name: &str, most: usize) -> Result<Vec<u8>, FetchFault>

@@ -6,7 +6,7 @@ use Rattle.toml.specs.Data.{Data, Members, get_member}
 use Rattle.fp_setup.specs.declared.refusal.Fault.{Fault}
 use Rattle.fp_setup.specs.declared.refusal.SetupNo.TheVariants as no
 use Rattle.fp_setup.specs.declared.vocabulary.Words.TheVariants.{Slots, Owners}
-use Rattle.fp_setup.specs.Faults.{fault_at, key_of, no_path, top}
+use Rattle.fp_setup.specs.Faults.{fault_at, key_of, no_place, top}
 use Rattle.fp_setup.specs.Keys.{names, top_keys}
 use Rattle.fp_setup.specs.AcceptedSetups.{AcceptedKeepRules}
 use Rattle.fp_setup.specs.Rules.{KeepsRules}
@@ -105,13 +105,13 @@ of-table ms s (Some f) bad is = absurd (refuses f s is)
 
 in-document : (o : Option Members) (s : Settings) → setup_in o ≡ Ok s → KeepsRules s
 unfolding setup_of
-in-document None s is = absurd (refuses (fault_at no.Toml no_path) s is)
+in-document None s is = absurd (refuses (fault_at no.Toml no_place) s is)
 in-document (Some ms) s is = of-table ms s (top_fault (size_of (version_at ms)) ms) refl is
 
 pub accepted-keep : AcceptedKeepRules
 unfolding setup
 accepted-keep bytes s is = go (nat_lt 262144 (length bytes)) is
   where
-    go : (b : Bool) → (if b then Err (fault_at no.TooLong no_path) else setup_in (document bytes)) ≡ Ok s → KeepsRules s
-    go true e = absurd (refuses (fault_at no.TooLong no_path) s e)
+    go : (b : Bool) → (if b then Err (fault_at no.TooLong no_place) else setup_in (document bytes)) ≡ Ok s → KeepsRules s
+    go true e = absurd (refuses (fault_at no.TooLong no_place) s e)
     go false e = in-document (document bytes) s e

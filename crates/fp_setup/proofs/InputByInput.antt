@@ -8,7 +8,7 @@ use Rattle.std.proofs.lemmas.List.{take_more, drop_more, take_all, drop_all, len
 use Rattle.fp_setup.specs.declared.refusal.Fault.{Fault}
 use Rattle.toml.specs.declared.value.Value.{Value}
 use Rattle.toml.specs.View.{view}
-use Rattle.fp_setup.specs.declared.refusal.KeyPath.{KeyPath}
+use Rattle.fp_setup.specs.declared.refusal.Place.{Place}
 use Rattle.fp_setup.specs.declared.input_list.Input.{Input}
 use Rattle.fp_setup.specs.Faults.{element_of}
 use Rattle.fp_setup.specs.Values.{input_of}
@@ -16,15 +16,15 @@ use Rattle.fp_setup.specs.Checks.{input_check, inputs_from, is_after}
 use Rattle.fp_setup.proofs.Lists.{IsReached}
 
 -- a fault of an input is the first of those that are left
-pub found-here : (items : List Value) (i : ℕ) (x : Value) → i < length items → x ≡ get_or items i x → (path : KeyPath) (before : Option ℕ) (f : Fault)
-    → input_check before (element_of path i) (view x) ≡ Some f → inputs_from path i before (map view (drop i items)) ≡ Some f
-found-here items i x inside is path before f bad =
+pub found-here : (items : List Value) (i : ℕ) (x : Value) → i < length items → x ≡ get_or items i x → (place : Place) (before : Option ℕ) (f : Fault)
+    → input_check before (element_of place i) (view x) ≡ Some f → inputs_from place i before (map view (drop i items)) ≡ Some f
+found-here items i x inside is place before f bad =
     let rest : drop i items ≡ x ∷ drop (i + 1) items = drop_more items i x inside ∙ ap (λ y. y ∷ drop (i + 1) items) (sym is) in
     rw (rest, bad) refl
 
 -- after the last input no fault is left, and each was read
-pub found-none : (items : List Value) (i : ℕ) → length items ≤ i → (path : KeyPath) (before : Option ℕ) → inputs_from path i before (map view (drop i items)) ≡ None
-found-none items i past path before = rw (drop_all i items past) refl
+pub found-none : (items : List Value) (i : ℕ) → length items ≤ i → (place : Place) (before : Option ℕ) → inputs_from place i before (map view (drop i items)) ≡ None
+found-none items i past place before = rw (drop_all i items past) refl
 
 pub read-all : (items : List Value) (i : ℕ) → length items ≤ i → (read : List Input) → read ≡ map input_of (map view (take i items)) → read ≡ map input_of (map view items)
 read-all items i past read so_far = rw (take_all i items past) at so_far
@@ -34,9 +34,9 @@ read-few items i read few so_far = rw so_far (simp (length-map, length-take) (om
 
 module _ (items : List Value) (i : ℕ) (x : Value) (new : Input) (inside : i < length items) (is : x ≡ get_or items i x) (same : new ≡ input_of (view x)) where
   -- the faults that are left, after one more input
-  pub found-more : (path : KeyPath) (before : Option ℕ) → input_check before (element_of path i) (view x) ≡ None
-      → inputs_from path i before (map view (drop i items)) ≡ inputs_from path (i + 1) (Some new.at) (map view (drop (i + 1) items))
-  found-more path before good =
+  pub found-more : (place : Place) (before : Option ℕ) → input_check before (element_of place i) (view x) ≡ None
+      → inputs_from place i before (map view (drop i items)) ≡ inputs_from place (i + 1) (Some new.at) (map view (drop (i + 1) items))
+  found-more place before good =
       let rest : drop i items ≡ x ∷ drop (i + 1) items = drop_more items i x inside ∙ ap (λ y. y ∷ drop (i + 1) items) (sym is) in
       rw (rest, good, same) refl
 

@@ -3,7 +3,7 @@ pub mod Lists
 pub mod RowPut
 pub mod TopTable
 pub mod PlainThreads
-pub mod KeyPathLaws
+pub mod PlaceLaws
 pub mod InputByInput
 pub mod TwoChecks
 pub mod ThreadTable

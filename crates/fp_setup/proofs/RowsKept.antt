@@ -7,7 +7,7 @@ use Rattle.std.proofs.lemmas.List.Elements.{All-nil, All-cons, All-head, All-tai
 use Rattle.std.proofs.lemmas.List.Sums.{list_all-from_AllPass}
 use Rattle.toml.specs.Data.{Data, Members, no_members, as_table, get_member}
 use Rattle.timer_unit.specs.Time.{most_cycles}
-use Rattle.fp_setup.specs.declared.refusal.KeyPath.{KeyPath}
+use Rattle.fp_setup.specs.declared.refusal.Place.{Place}
 use Rattle.fp_setup.specs.declared.refusal.SetupNo.TheVariants as no
 use Rattle.fp_setup.specs.declared.loop_list.LoopSetup.{LoopSetup}
 use Rattle.fp_setup.specs.declared.thread_list.ThreadSetup.{ThreadSetup}
@@ -34,7 +34,7 @@ record IsRow (size : ℕ) (ms : Members) : Type 0 where
   thread : IsThread (thread_of ms)
   inside : (thread_of ms).entry < size
 
-thread-table : (size : ℕ) (ids : List ℕ) (row : KeyPath) (ms : Members) → 4 ≤ size → size ≤ 65536 → thread_table_fault size ids row ms ≡ None → IsRow size ms
+thread-table : (size : ℕ) (ids : List ℕ) (row : Place) (ms : Members) → 4 ≤ size → size ≤ 65536 → thread_table_fault size ids row ms ≡ None → IsRow size ms
 unfolding thread_table_fault thread_of
 thread-table size ids row ms low high h =
     let around : Around = record { size = size; table = ms; ids = ids } in
@@ -63,7 +63,7 @@ thread-table size ids row ms low high h =
       inside = entry_inside size (number_at (codes "entry") ms) low starts;
     }
 
-thread-in : (size : ℕ) (ids : List ℕ) (row : KeyPath) (o : Option Members) → 4 ≤ size → size ≤ 65536 → thread_fault size ids row o ≡ None → IsRow size (unwrap_or o no_members)
+thread-in : (size : ℕ) (ids : List ℕ) (row : Place) (o : Option Members) → 4 ≤ size → size ≤ 65536 → thread_fault size ids row o ≡ None → IsRow size (unwrap_or o no_members)
 thread-in size ids row None low high h = absurd (some-fault (fault_at no.WrongType row) h)
 thread-in size ids row (Some ms) low high h = thread-table size ids row ms low high h
 
@@ -113,7 +113,7 @@ record IsLoopIn (size : ℕ) (l : LoopSetup) : Type 0 where
   is : IsLoop l
   inside : l.last < size
 
-loop-table : (size : ℕ) (row : KeyPath) (ms : Members) → 4 ≤ size → loop_table_fault size row ms ≡ None → IsLoopIn size (loop_of ms)
+loop-table : (size : ℕ) (row : Place) (ms : Members) → 4 ≤ size → loop_table_fault size row ms ≡ None → IsLoopIn size (loop_of ms)
 unfolding loop_table_fault loop_of
 loop-table size row ms low h =
     let around : Around = record { size = size; table = ms; ids = [] } in
@@ -136,7 +136,7 @@ loop-table size row ms low h =
       inside = last_inside size first (number_at (codes "last") ms) low ends;
     }
 
-loop-in : (size : ℕ) (row : KeyPath) (o : Option Members) → 4 ≤ size → loop_fault size row o ≡ None → IsLoopIn size (loop_of (unwrap_or o no_members))
+loop-in : (size : ℕ) (row : Place) (o : Option Members) → 4 ≤ size → loop_fault size row o ≡ None → IsLoopIn size (loop_of (unwrap_or o no_members))
 loop-in size row None low h = absurd (some-fault (fault_at no.WrongType row) h)
 loop-in size row (Some ms) low h = loop-table size row ms low h
 

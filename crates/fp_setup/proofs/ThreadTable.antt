@@ -2,7 +2,7 @@
 use Rattle.std.proofs.Common.{◌≡◌, ℕ, ◌+◌, ◌<◌, ◌≤◌, ◌&&◌, Bool, true, false, List, map, drop, Option, IfSome, option_map, codes, refl, rules}
 use Rattle.toml.specs.Data.{Members, get_member}
 use Rattle.timer_unit.specs.Time.{most_cycles}
-use Rattle.fp_setup.specs.declared.refusal.KeyPath.{KeyPath}
+use Rattle.fp_setup.specs.declared.refusal.Place.{Place}
 use Rattle.fp_setup.specs.declared.refusal.Fault.{Fault}
 use Rattle.fp_setup.specs.declared.bounds.Range.{Range}
 use Rattle.fp_setup.specs.declared.input_list.Input.{Input}
@@ -20,7 +20,7 @@ use Rattle.fp_setup.specs.Rows.{row_of}
 use Rattle.fp_setup.specs.Inputs.{AreInputs}
 use Rattle.fp_setup.specs.Threads.{IsThread}
 
-module _ (size : ℕ) (ids : List ℕ) (row : KeyPath) (ms : Members) where
+module _ (size : ℕ) (ids : List ℕ) (row : Place) (ms : Members) where
   -- what the keys find from that one on, which counts from 0
   abbrev pub keys_from : ℕ → Option Fault
   keys_from n = keys_fault (value_check (record { size = size; table = ms; ids = ids })) row (n + 1) (drop n thread_keys) ms

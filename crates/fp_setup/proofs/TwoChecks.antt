@@ -15,5 +15,5 @@ pub found : {all here : Option Fault} (later : Option Fault) {f : Fault} → all
 found later e h = rw h at e
 
 pub found_in_memory : (e : SetupRefused) (all here later : Option Fault) → all ≡ first here later → IsFound e here → IsFound e all
-found_in_memory (refused.Fault code path) all here later e h = found later e h
+found_in_memory (refused.Fault code place) all here later e h = found later e h
 found_in_memory refused.NoMemory all here later e h = tt

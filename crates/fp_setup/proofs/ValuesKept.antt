@@ -9,7 +9,7 @@ use Rattle.std.proofs.lemmas.List.Elements.{All-nil, All-cons, All-weaker}
 use Rattle.std.proofs.lemmas.List.Kept.{AllPairs-cons}
 use Rattle.toml.specs.Data.{Data, as_integer, as_str, as_bool}
 use Rattle.timer_unit.specs.Time.{most_cycles}
-use Rattle.fp_setup.specs.declared.refusal.KeyPath.{KeyPath}
+use Rattle.fp_setup.specs.declared.refusal.Place.{Place}
 use Rattle.fp_setup.specs.declared.refusal.Fault.{Fault}
 use Rattle.fp_setup.specs.declared.refusal.SetupNo.TheVariants as no
 use Rattle.fp_setup.specs.declared.bounds.Range.{Range}
@@ -42,37 +42,37 @@ failed : (b : Bool) (f : Fault) → (if b then Some f else None) ≡ None → b 
 failed true f h = absurd (some-fault f h)
 failed false f h = refl
 
-integer-in : (range : Range) (path : KeyPath) (o : Option ℤ) → typed path o (integer_fault range path) ≡ None → is_in range (option_map_or natural o 0) ≡ true
-integer-in range path None h = absurd (some-fault (fault_at no.WrongType path) h)
-integer-in range path (Some (pos n)) h = passed (is_in range n) (fault_at no.OutOfRange path) h
-integer-in range path (Some (negsuc n)) h = absurd (some-fault (fault_at no.OutOfRange path) h)
+integer-in : (range : Range) (place : Place) (o : Option ℤ) → typed place o (integer_fault range place) ≡ None → is_in range (option_map_or natural o 0) ≡ true
+integer-in range place None h = absurd (some-fault (fault_at no.WrongType place) h)
+integer-in range place (Some (pos n)) h = passed (is_in range n) (fault_at no.OutOfRange place) h
+integer-in range place (Some (negsuc n)) h = absurd (some-fault (fault_at no.OutOfRange place) h)
 
-pub integer-kept : (range : Range) (path : KeyPath) (d : Data) → integer_check range path d ≡ None → is_in range (number d) ≡ true
+pub integer-kept : (range : Range) (place : Place) (d : Data) → integer_check range place d ≡ None → is_in range (number d) ≡ true
 unfolding integer_check
-integer-kept range path d h = integer-in range path (as_integer d) h
+integer-kept range place d h = integer-in range place (as_integer d) h
 
-permit-in : (confined : Bool) (path : KeyPath) (o : Option Bool) →
-    typed path o (λ (b : Bool). if confined && b then fault no.ConfinedPermit path else None) ≡ None → (confined && unwrap_or o false) ≡ false
-permit-in confined path None h = absurd (some-fault (fault_at no.WrongType path) h)
-permit-in confined path (Some b) h = failed (confined && b) (fault_at no.ConfinedPermit path) h
+permit-in : (confined : Bool) (place : Place) (o : Option Bool) →
+    typed place o (λ (b : Bool). if confined && b then fault no.ConfinedPermit place else None) ≡ None → (confined && unwrap_or o false) ≡ false
+permit-in confined place None h = absurd (some-fault (fault_at no.WrongType place) h)
+permit-in confined place (Some b) h = failed (confined && b) (fault_at no.ConfinedPermit place) h
 
-pub permit-kept : (confined : Bool) (path : KeyPath) (d : Data) → permit_check confined path d ≡ None → (confined && truth d) ≡ false
+pub permit-kept : (confined : Bool) (place : Place) (d : Data) → permit_check confined place d ≡ None → (confined && truth d) ≡ false
 unfolding permit_check
-permit-kept confined path d h = permit-in confined path (as_bool d) h
+permit-kept confined place d h = permit-in confined place (as_bool d) h
 
 -- a text has so many bytes
 abbrev pub IsLong : ℕ → ℕ → Text → Type 0
 IsLong low high t = (low ≤ length t) × (length t ≤ high)
 
-bytes-in : (low high : ℕ) (path : KeyPath) (o : Option Text) → typed path o (bytes_fault low high path) ≡ None → IsLong low high (unwrap_or o [])
-bytes-in low high path None h = absurd (some-fault (fault_at no.WrongType path) h)
-bytes-in low high path (Some t) h =
-    let (least, most) = and_parts (nat_le low (length t)) (nat_le (length t) high) (passed (nat_le low (length t) && nat_le (length t) high) (fault_at no.OutOfRange path) h) in
+bytes-in : (low high : ℕ) (place : Place) (o : Option Text) → typed place o (bytes_fault low high place) ≡ None → IsLong low high (unwrap_or o [])
+bytes-in low high place None h = absurd (some-fault (fault_at no.WrongType place) h)
+bytes-in low high place (Some t) h =
+    let (least, most) = and_parts (nat_le low (length t)) (nat_le (length t) high) (passed (nat_le low (length t) && nat_le (length t) high) (fault_at no.OutOfRange place) h) in
     (leb-true low (length t) least, leb-true (length t) high most)
 
-pub bytes-kept : (low high : ℕ) (path : KeyPath) (d : Data) → bytes_check low high path d ≡ None → IsLong low high (text d)
+pub bytes-kept : (low high : ℕ) (place : Place) (d : Data) → bytes_check low high place d ≡ None → IsLong low high (text d)
 unfolding bytes_check
-bytes-kept low high path d h = bytes-in low high path (as_str d) h
+bytes-kept low high place d h = bytes-in low high place (as_str d) h
 
 -- a text that a list has stands for one of its numbers
 listed : (p : ℕ → Bool) (es : List (Text × ℕ)) (t : Text) → list_all (λ (e : Text × ℕ). p e.1) es ≡ true → is_some (number_in es t) ≡ true → p (unwrap_or (number_in es t) 0) ≡ true
@@ -92,39 +92,39 @@ numbers Slots = refl
 numbers Owners = refl
 numbers Modes = refl
 
-word-in : (words : Words) (path : KeyPath) (o : Option Text) → typed path o (word_fault words path) ≡ None → is_value words (named words (unwrap_or o [])) ≡ true
+word-in : (words : Words) (place : Place) (o : Option Text) → typed place o (word_fault words place) ≡ None → is_value words (named words (unwrap_or o [])) ≡ true
 unfolding named number_of
-word-in words path None h = absurd (some-fault (fault_at no.WrongType path) h)
-word-in words path (Some t) h = listed (is_value words) (entries words) t (numbers words) (passed (is_some (number_in (entries words) t)) (fault_at (refusal words) path) h)
+word-in words place None h = absurd (some-fault (fault_at no.WrongType place) h)
+word-in words place (Some t) h = listed (is_value words) (entries words) t (numbers words) (passed (is_some (number_in (entries words) t)) (fault_at (refusal words) place) h)
 
-pub word-kept : (words : Words) (path : KeyPath) (d : Data) → word_check words path d ≡ None → is_value words (named words (text d)) ≡ true
+pub word-kept : (words : Words) (place : Place) (d : Data) → word_check words place d ≡ None → is_value words (named words (text d)) ≡ true
 unfolding word_check
-word-kept words path d h = word-in words path (as_str d) h
+word-kept words place d h = word-in words place (as_str d) h
 
-each-kept : (words : Words) (path : KeyPath) (index : ℕ) (ds : List Data) → each_fault (word_check words) path index ds ≡ None → list_all (is_value words) (map (λ d. named words (text d)) ds) ≡ true
-each-kept words path index [] h = refl
-each-kept words path index (d ∷ ds) h =
-    let (here, more) = parts (word_check words (element_of path index) d) (each_fault (word_check words) path (index + 1) ds) h in
-    rw (word-kept words (element_of path index) d here, each-kept words path (index + 1) ds more) refl
+each-kept : (words : Words) (place : Place) (index : ℕ) (ds : List Data) → each_fault (word_check words) place index ds ≡ None → list_all (is_value words) (map (λ d. named words (text d)) ds) ≡ true
+each-kept words place index [] h = refl
+each-kept words place index (d ∷ ds) h =
+    let (here, more) = parts (word_check words (element_of place index) d) (each_fault (word_check words) place (index + 1) ds) h in
+    rw (word-kept words (element_of place index) d here, each-kept words place (index + 1) ds more) refl
 
-eight-in : (words : Words) (path : KeyPath) (o : Option (List Data)) → typed path o (eight_fault words path) ≡ None → IsTrue (is_word words (nibble_word words (unwrap_or o [])))
+eight-in : (words : Words) (place : Place) (o : Option (List Data)) → typed place o (eight_fault words place) ≡ None → IsTrue (is_word words (nibble_word words (unwrap_or o [])))
 unfolding nibble_word
-eight-in words path None h = absurd (some-fault (fault_at no.WrongType path) h)
-eight-in words path (Some ds) h = go (length ds == 8) refl h
+eight-in words place None h = absurd (some-fault (fault_at no.WrongType place) h)
+eight-in words place (Some ds) h = go (length ds == 8) refl h
   where
     ns : List ℕ
     ns = map (λ d. named words (text d)) ds
 
-    go : (b : Bool) → (length ds == 8) ≡ b → (if b then each_fault (word_check words) path 0 ds else fault no.OutOfRange path) ≡ None → IsTrue (is_word words (word_of 16 ns))
+    go : (b : Bool) → (length ds == 8) ≡ b → (if b then each_fault (word_check words) place 0 ds else fault no.OutOfRange place) ≡ None → IsTrue (is_word words (word_of 16 ns))
     go true e good =
-        let values : list_all (is_value words) ns ≡ true = each-kept words path 0 ds good in
+        let values : list_all (is_value words) ns ≡ true = each-kept words place 0 ds good in
         let eight : length ns ≡ 8 = length-map ds (λ d. named words (text d)) ∙ eqb-true (length ds) 8 e in
         accepted words ns (word_of 16 ns) (nibbles-word_of ns (small_values words ns values) eight) values
-    go false e bad = absurd (some-fault (fault_at no.OutOfRange path) bad)
+    go false e bad = absurd (some-fault (fault_at no.OutOfRange place) bad)
 
-pub eight-kept : (words : Words) (path : KeyPath) (d : Data) → eight_check words path d ≡ None → IsTrue (is_word words (nibble_word words (elements d)))
+pub eight-kept : (words : Words) (place : Place) (d : Data) → eight_check words place d ≡ None → IsTrue (is_word words (nibble_word words (elements d)))
 unfolding eight_check
-eight-kept words path d h = eight-in words path (as_list d) h
+eight-kept words place d h = eight-in words place (as_list d) h
 
 -- an input is not too late, and comes after the one before
 abbrev IsNext : Option ℕ → Input → Type 0
@@ -138,14 +138,14 @@ next-in before (pos at) (pos word) h =
 next-in before (pos at) (negsuc word) h = cc
 next-in before (negsuc at) word h = cc
 
-input-in : (before : Option ℕ) (path : KeyPath) (o : Option (ℤ × ℤ)) →
-    typed path o (λ (p : ℤ × ℤ). if is_input before p.0 p.1 then None else fault no.OutOfRange path) ≡ None → IsNext before (input_in o)
-input-in before path None h = absurd (some-fault (fault_at no.WrongType path) h)
-input-in before path (Some p) h = next-in before p.0 p.1 (passed (is_input before p.0 p.1) (fault_at no.OutOfRange path) h)
+input-in : (before : Option ℕ) (place : Place) (o : Option (ℤ × ℤ)) →
+    typed place o (λ (p : ℤ × ℤ). if is_input before p.0 p.1 then None else fault no.OutOfRange place) ≡ None → IsNext before (input_in o)
+input-in before place None h = absurd (some-fault (fault_at no.WrongType place) h)
+input-in before place (Some p) h = next-in before p.0 p.1 (passed (is_input before p.0 p.1) (fault_at no.OutOfRange place) h)
 
-input-kept : (before : Option ℕ) (path : KeyPath) (d : Data) → input_check before path d ≡ None → IsNext before (input_of d)
+input-kept : (before : Option ℕ) (place : Place) (d : Data) → input_check before place d ≡ None → IsNext before (input_of d)
 unfolding input_check input_of
-input-kept before path d h = input-in before path (pair d) h
+input-kept before place d h = input-in before place (pair d) h
 
 -- inputs that come after one with that cycle
 record Follow (before : Option ℕ) (inputs : List Input) : Type 0 where
@@ -157,13 +157,13 @@ still-after : (before : Option ℕ) (at later : ℕ) → is_after before at ≡ 
 still-after None at later h g = refl
 still-after (Some first) at later h g = lt-ltb first later (omega (arith, ltb-true first at h, ltb-true at later g))
 
-inputs-follow : (path : KeyPath) (index : ℕ) (before : Option ℕ) (ds : List Data) → inputs_from path index before ds ≡ None → Follow before (map input_of ds)
-inputs-follow path index before [] h = record { within = All-nil _; after = All-nil _; rising = λ i j d below inside. absurd (omega arith) }
-inputs-follow path index before (d ∷ ds) h =
+inputs-follow : (place : Place) (index : ℕ) (before : Option ℕ) (ds : List Data) → inputs_from place index before ds ≡ None → Follow before (map input_of ds)
+inputs-follow place index before [] h = record { within = All-nil _; after = All-nil _; rising = λ i j d below inside. absurd (omega arith) }
+inputs-follow place index before (d ∷ ds) h =
     let i : Input = input_of d in
-    let (here, more) = parts (input_check before (element_of path index) d) (inputs_from path (index + 1) (Some i.at) ds) h in
-    let next : IsNext before i = input-kept before (element_of path index) d here in
-    let rest : Follow (Some i.at) (map input_of ds) = inputs-follow path (index + 1) (Some i.at) ds more in
+    let (here, more) = parts (input_check before (element_of place index) d) (inputs_from place (index + 1) (Some i.at) ds) h in
+    let next : IsNext before i = input-kept before (element_of place index) d here in
+    let rest : Follow (Some i.at) (map input_of ds) = inputs-follow place (index + 1) (Some i.at) ds more in
     let After : Input → Type 0 = λ j. is_after before j.at ≡ true in
     let Later : Input → Type 0 = λ j. nat_lt i.at j.at ≡ true in
     let Rises : Input → Input → Type 0 = λ k j. k.at < j.at in
@@ -174,41 +174,41 @@ inputs-follow path index before (d ∷ ds) h =
     }
 
 -- a list has at most so many elements, and their check finds nothing
-list-in : (most : ℕ) (check : KeyPath → List Data → Option Fault) (path : KeyPath) (o : Option (List Data)) → typed path o (few_fault most check path) ≡ None →
-    (length (unwrap_or o []) ≤ most) × (check path (unwrap_or o []) ≡ None)
-list-in most check path None h = absurd (some-fault (fault_at no.WrongType path) h)
-list-in most check path (Some ds) h = go (nat_lt most (length ds)) refl h
+list-in : (most : ℕ) (check : Place → List Data → Option Fault) (place : Place) (o : Option (List Data)) → typed place o (few_fault most check place) ≡ None →
+    (length (unwrap_or o []) ≤ most) × (check place (unwrap_or o []) ≡ None)
+list-in most check place None h = absurd (some-fault (fault_at no.WrongType place) h)
+list-in most check place (Some ds) h = go (nat_lt most (length ds)) refl h
   where
-    go : (b : Bool) → nat_lt most (length ds) ≡ b → (if b then fault no.TooMany path else check path ds) ≡ None → (length ds ≤ most) × (check path ds ≡ None)
-    go true e bad = absurd (some-fault (fault_at no.TooMany path) bad)
+    go : (b : Bool) → nat_lt most (length ds) ≡ b → (if b then fault no.TooMany place else check place ds) ≡ None → (length ds ≤ most) × (check place ds ≡ None)
+    go true e bad = absurd (some-fault (fault_at no.TooMany place) bad)
     go false e good = (ltb-false most (length ds) e, good)
 
-pub list-kept : (most : ℕ) (check : KeyPath → List Data → Option Fault) (path : KeyPath) (d : Data) → list_check most check path d ≡ None →
-    (length (elements d) ≤ most) × (check path (elements d) ≡ None)
+pub list-kept : (most : ℕ) (check : Place → List Data → Option Fault) (place : Place) (d : Data) → list_check most check place d ≡ None →
+    (length (elements d) ≤ most) × (check place (elements d) ≡ None)
 unfolding list_check
-list-kept most check path d h = list-in most check path (as_list d) h
+list-kept most check place d h = list-in most check place (as_list d) h
 
-pub inputs-kept : (path : KeyPath) (d : Data) → list_check 4096 inputs_fault path d ≡ None → AreInputs (map input_of (elements d))
-inputs-kept path d h =
-    let (few, good) = list-kept 4096 inputs_fault path d h in
-    let follow : Follow None (map input_of (elements d)) = inputs-follow path 0 None (elements d) good in
+pub inputs-kept : (place : Place) (d : Data) → list_check 4096 inputs_fault place d ≡ None → AreInputs (map input_of (elements d))
+inputs-kept place d h =
+    let (few, good) = list-kept 4096 inputs_fault place d h in
+    let follow : Follow None (map input_of (elements d)) = inputs-follow place 0 None (elements d) good in
     let count : length (map input_of (elements d)) ≡ length (elements d) = length-map (elements d) input_of in
     record { few = omega (arith, few, count); within = follow.within; rising = follow.rising }
 
 -- what holds of each value that the check lets pass holds of what stands under a key
-pub needed-kept : {X : Type 0} (Q : X → Type 0) (say : Data → X) (other : X) (check : Check) (path : KeyPath) (o : Option Data) → key_fault check true path o ≡ None →
-    ((d : Data) → check path d ≡ None → Q (say d)) → Q (option_map_or say o other)
+pub needed-kept : {X : Type 0} (Q : X → Type 0) (say : Data → X) (other : X) (check : Check) (place : Place) (o : Option Data) → key_fault check true place o ≡ None →
+    ((d : Data) → check place d ≡ None → Q (say d)) → Q (option_map_or say o other)
 unfolding key_fault
-needed-kept Q say other check path None h each = absurd (some-fault (fault_at no.MissingKey path) h)
-needed-kept Q say other check path (Some d) h each = each d h
+needed-kept Q say other check place None h each = absurd (some-fault (fault_at no.MissingKey place) h)
+needed-kept Q say other check place (Some d) h each = each d h
 
-pub optional-kept : {X : Type 0} (Q : X → Type 0) (say : Data → X) (other : X) (check : Check) (path : KeyPath) (o : Option Data) → key_fault check false path o ≡ None →
-    Q other → ((d : Data) → check path d ≡ None → Q (say d)) → Q (option_map_or say o other)
+pub optional-kept : {X : Type 0} (Q : X → Type 0) (say : Data → X) (other : X) (check : Check) (place : Place) (o : Option Data) → key_fault check false place o ≡ None →
+    Q other → ((d : Data) → check place d ≡ None → Q (say d)) → Q (option_map_or say o other)
 unfolding key_fault
-optional-kept Q say other check path None h rest each = rest
-optional-kept Q say other check path (Some d) h rest each = each d h
+optional-kept Q say other check place None h rest each = rest
+optional-kept Q say other check place (Some d) h rest each = each d h
 
-pub moment-kept : (range : Range) (path : KeyPath) (o : Option Data) → key_fault (integer_check range) false path o ≡ None → IfSome (option_map number o) (λ at. is_in range at ≡ true)
+pub moment-kept : (range : Range) (place : Place) (o : Option Data) → key_fault (integer_check range) false place o ≡ None → IfSome (option_map number o) (λ at. is_in range at ≡ true)
 unfolding key_fault
-moment-kept range path None h = tt
-moment-kept range path (Some d) h = integer-kept range path d h
+moment-kept range place None h = tt
+moment-kept range place (Some d) h = integer-kept range place d h

@@ -3,7 +3,7 @@ use Rattle.std.specs.Prelude.{ℕ, ◌+◌, ◌-◌, Bool, true, false, not, ◌
 use Rattle.std.specs.List.{list_any}
 use Rattle.std.specs.Str.{bytes_eq}
 use Rattle.toml.specs.Data.{Data, Members, no_members, member, as_table, get_member}
-use Rattle.fp_setup.specs.declared.refusal.KeyPath.{KeyPath}
+use Rattle.fp_setup.specs.declared.refusal.Place.{Place}
 use Rattle.fp_setup.specs.declared.refusal.Fault.{Fault}
 use Rattle.fp_setup.specs.declared.refusal.SetupNo.TheVariants as no
 use Rattle.fp_setup.specs.declared.bounds.Range.{Range}
@@ -41,13 +41,13 @@ value_check around (Threads most) = λ _. λ _. None
 value_check around (Loops most) = λ _. λ _. None
 
 -- a key's value, or its absence
-unfoldable pub key_fault : Check → Bool → KeyPath → Option Data → Option Fault
-key_fault check is_needed path (Some d) = check path d
-key_fault check true path None = fault no.MissingKey path
-key_fault check false path None = None
+unfoldable pub key_fault : Check → Bool → Place → Option Data → Option Fault
+key_fault check is_needed place (Some d) = check place d
+key_fault check true place None = fault no.MissingKey place
+key_fault check false place None = None
 
 -- the keys of a table in their order, the first of them with that number
-abbrev pub keys_fault : (Kind → Check) → KeyPath → ℕ → List Key → Members → Option Fault
+abbrev pub keys_fault : (Kind → Check) → Place → ℕ → List Key → Members → Option Fault
 keys_fault check table n [] ms = None
 keys_fault check table n (key ∷ keys) ms =
     first (key_fault (check key.kind) key.is_needed (key_of table n) (get_member key.name ms)) (keys_fault check table (n + 1) keys ms)
@@ -57,26 +57,26 @@ abbrev pub has_other_key : List Text → Members → Bool
 has_other_key known no_members = false
 has_other_key known (member k d ms) = not (list_any (λ name. bytes_eq name k) known) || has_other_key known ms
 
-unfoldable pub unknown_fault : List Text → KeyPath → Members → Option Fault
+unfoldable pub unknown_fault : List Text → Place → Members → Option Fault
 unknown_fault known table ms = if has_other_key known ms then fault no.UnknownKey table else None
 
 -- a table: keys that it doesn't know first, and then its keys
-abbrev pub table_fault : (Kind → Check) → List Key → KeyPath → Members → Option Fault
+abbrev pub table_fault : (Kind → Check) → List Key → Place → Members → Option Fault
 table_fault check keys table ms = first (unknown_fault (names keys) table ms) (keys_fault check table 1 keys ms)
 
 -- the table of a thread, after those with these ids
-unfoldable pub thread_table_fault : ℕ → List ℕ → KeyPath → Members → Option Fault
+unfoldable pub thread_table_fault : ℕ → List ℕ → Place → Members → Option Fault
 thread_table_fault size ids row ms = table_fault (value_check (record { size = size; table = ms; ids = ids })) thread_keys row ms
 
-abbrev pub thread_fault : ℕ → List ℕ → KeyPath → Option Members → Option Fault
+abbrev pub thread_fault : ℕ → List ℕ → Place → Option Members → Option Fault
 thread_fault size ids row None = fault no.WrongType row
 thread_fault size ids row (Some ms) = thread_table_fault size ids row ms
 
 -- the table of a loop
-unfoldable pub loop_table_fault : ℕ → KeyPath → Members → Option Fault
+unfoldable pub loop_table_fault : ℕ → Place → Members → Option Fault
 loop_table_fault size row ms = table_fault (value_check (record { size = size; table = ms; ids = [] })) loop_keys row ms
 
-abbrev pub loop_fault : ℕ → KeyPath → Option Members → Option Fault
+abbrev pub loop_fault : ℕ → Place → Option Members → Option Fault
 loop_fault size row None = fault no.WrongType row
 loop_fault size row (Some ms) = loop_table_fault size row ms
 
@@ -94,11 +94,11 @@ abbrev pub loops_from : ℕ → ℕ → List Data → Option Fault
 loops_from size index [] = None
 loops_from size index (d ∷ ds) = first (loop_fault size (loop_row index) (as_table d)) (loops_from size (index + 1) ds)
 
-unfoldable pub threads_fault : ℕ → KeyPath → List Data → Option Fault
-threads_fault size path ds = threads_from size 0 [] ds
+unfoldable pub threads_fault : ℕ → Place → List Data → Option Fault
+threads_fault size place ds = threads_from size 0 [] ds
 
-unfoldable pub loops_fault : ℕ → KeyPath → List Data → Option Fault
-loops_fault size path ds = loops_from size 0 ds
+unfoldable pub loops_fault : ℕ → Place → List Data → Option Fault
+loops_fault size place ds = loops_from size 0 ds
 
 -- the check of a value of the top table
 abbrev pub top_check : Around → Kind → Check

@@ -14,7 +14,7 @@ pub mod Setup
 pub mod Reading
 pub mod Rows
 pub mod Plain
-pub mod KeyPaths
+pub mod Places
 pub mod AcceptedSetups
 pub use Rattle.nibble_word.specs.Nibbles
 pub use Rattle.region_guard.specs.Regions

@@ -11,7 +11,7 @@ IsRead (Err e) found value = found ≡ Some e
 
 -- a refusal for another cause than memory is the fault that was found
 abbrev pub IsFound : SetupRefused → Option Fault → Type 0
-IsFound (refused.Fault code path) found = found ≡ Some (fault_at code path)
+IsFound (refused.Fault code place) found = found ≡ Some (fault_at code place)
 IsFound refused.NoMemory found = Unit {0}
 
 -- the same where memory may be refused

@@ -8,7 +8,7 @@ use Rattle.fp_setup.specs.declared.refusal.SetupNo.TheVariants as no
 use Rattle.fp_setup.specs.declared.refusal.SetupRefused.{SetupRefused}
 use Rattle.fp_setup.specs.declared.refusal.SetupRefused.TheVariants as refused
 use Rattle.fp_setup.specs.Settings.{Settings, size_of}
-use Rattle.fp_setup.specs.Faults.{fault_at, no_path}
+use Rattle.fp_setup.specs.Faults.{fault_at, no_place}
 use Rattle.fp_setup.specs.FaultOrder.{top_fault}
 use Rattle.fp_setup.specs.SetupOfTables.{settings, version_at}
 
@@ -26,7 +26,7 @@ unfoldable pub setup_of : Members → Result Settings Fault
 setup_of ms = unless (top_fault (size_of (version_at ms)) ms) (settings ms)
 
 abbrev pub setup_in : Option Members → Result Settings Fault
-setup_in None = Err (fault_at no.Toml no_path)
+setup_in None = Err (fault_at no.Toml no_place)
 setup_in (Some ms) = setup_of ms
 
 -- the most bytes of a setup
@@ -35,9 +35,9 @@ most_setup_bytes = 262144
 
 -- the setup that the bytes mean, or its first fault
 unfoldable pub setup : List ℕ → Result Settings Fault
-setup bytes = if nat_lt most_setup_bytes (length bytes) then Err (fault_at no.TooLong no_path) else setup_in (document bytes)
+setup bytes = if nat_lt most_setup_bytes (length bytes) then Err (fault_at no.TooLong no_place) else setup_in (document bytes)
 
 -- a refusal for another cause than memory is that fault
 abbrev pub IsFaultOf : {A : Type 0} → Result A Fault → SetupRefused → Type 0
-IsFaultOf defined (refused.Fault code path) = defined ≡ Err (fault_at code path)
+IsFaultOf defined (refused.Fault code place) = defined ≡ Err (fault_at code place)
 IsFaultOf defined refused.NoMemory = Unit {0}

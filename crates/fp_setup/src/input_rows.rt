@@ -12,7 +12,7 @@ ghost use Rattle.fp_setup.specs.Reading.{IsRead, IsReadInMemory};
 
 use crate::input_list::{Input, Inputs};
 use crate::keys::member;
-use crate::refusal::{Fault, KeyPath, SetupNo, SetupRefused};
+use crate::refusal::{Fault, Place, SetupNo, SetupRefused};
 use crate::values::list;
 use std::alloc::Global;
 use timer_unit::MOST_CYCLES;
@@ -44,36 +44,36 @@ fn comes_after(before: Option<u64>, at: u64) -> bool
 
 /// An input, which comes after the one with a cycle.
 #[tactic(auto, unfolding(crate::specs::Checks::input_check, crate::specs::Values::input_of))]
-fn input(value: &Value, before: Option<u64>, path: KeyPath) -> Result<Input, Fault>
+fn input(value: &Value, before: Option<u64>, place: Place) -> Result<Input, Fault>
     ensures read { IsRead result
-        (input_check before path (view value.now))
+        (input_check before place (view value.now))
         (input_of (view value.now)) }
     ensures within { IfOk result (λ i. i.at ≤ most_cycles) }
     ensures after { IfOk result (λ i. is_after before i.at ≡ true) }
 {
     let Some((at, word)) = two_integers(value) else {
-        return Err(Fault::new(SetupNo::WrongType, path));
+        return Err(Fault::new(SetupNo::WrongType, place));
     };
     match (u64::try_from(at), u32::try_from(word)) {
         (Ok(at), Ok(word)) if at <= MOST_CYCLES && comes_after(before, at) => {
             Ok(Input { at, word })
         }
-        _ => Err(Fault::new(SetupNo::OutOfRange, path)),
+        _ => Err(Fault::new(SetupNo::OutOfRange, place)),
     }
 }
 
 /// The inputs of a list.
-fn inputs_of(alloc: Global, items: &[Value], path: KeyPath) -> Result<Inputs, SetupRefused>
+fn inputs_of(alloc: Global, items: &[Value], place: Place) -> Result<Inputs, SetupRefused>
     requires { length items.now ≤ most_inputs }
     ensures read { IsReadInMemory result
-        (inputs_fault path (map view items.now))
+        (inputs_fault place (map view items.now))
         (map input_of (map view items.now)) }
     ensures rules { IfOk result AreInputs }
 {
     let mut read = Vec::new(alloc);
     let mut before = None;
     for (index, value) in items.iter().enumerate() {
-        let input = input(value, before, path.element(index as u32))?;
+        let input = input(value, before, place.element(index as u32))?;
         before = Some(input.at);
         read.push(input)?;
     }
@@ -82,25 +82,25 @@ fn inputs_of(alloc: Global, items: &[Value], path: KeyPath) -> Result<Inputs, Se
 
 /// The inputs that a value lists.
 #[tactic(auto, unfolding(crate::specs::Checks::list_check))]
-fn inputs(alloc: Global, value: &Value, path: KeyPath) -> Result<Inputs, SetupRefused>
+fn inputs(alloc: Global, value: &Value, place: Place) -> Result<Inputs, SetupRefused>
     ensures read { IsReadInMemory result
-        (list_check most_inputs inputs_fault path (view value.now))
+        (list_check most_inputs inputs_fault place (view value.now))
         (map input_of (elements (view value.now))) }
     ensures rules { IfOk result AreInputs }
 {
     let Some(items) = list(value) else {
         return Err(SetupRefused::Fault {
             code: SetupNo::WrongType,
-            path,
+            place,
         });
     };
     if items.len() > MOST_INPUTS {
         return Err(SetupRefused::Fault {
             code: SetupNo::TooMany,
-            path,
+            place,
         });
     }
-    inputs_of(alloc, items, path)
+    inputs_of(alloc, items, place)
 }
 
 /// The inputs under a key of a table, none where it is absent.
@@ -109,16 +109,16 @@ pub(crate) fn inputs_or_none(
     alloc: Global,
     table: &Table,
     key: &str,
-    path: KeyPath,
+    place: Place,
 ) -> Result<Inputs, SetupRefused>
     ensures read { IsReadInMemory result
-        (key_fault (list_check most_inputs inputs_fault) false path
+        (key_fault (list_check most_inputs inputs_fault) false place
         (get_member key.now (table_view table.now)))
         (map input_of (elements_at key.now (table_view table.now))) }
     ensures rules { IfOk result AreInputs }
 {
     match member(table, key) {
-        Some(value) => inputs(alloc, value, path),
+        Some(value) => inputs(alloc, value, place),
         None => Ok(Inputs::from_vec(Vec::new(alloc))),
     }
 }

@@ -1,4 +1,4 @@
-//! The values of a table's keys, each checked at its path.
+//! The values of a table's keys, each checked at its place.
 
 ghost use Rattle.std.specs.Prelude.{◌≡◌, ◌<◌, ◌≤◌, ◌==◌, ◌&&◌, ℕ, List, true, false, map, option_map, unwrap_or, Option, Some, None, IfOk, IfSome, IsTrue, length};
 ghost use Rattle.std.specs.Option.{option_map_or};
@@ -17,7 +17,7 @@ ghost use Rattle.fp_setup.specs.Reading.{IsRead, IsReadInMemory};
 use crate::bounds::Range;
 use crate::file_name::Name;
 use crate::nibble_list::eight;
-use crate::refusal::{Fault, KeyPath, SetupNo, SetupRefused};
+use crate::refusal::{Fault, Place, SetupNo, SetupRefused};
 use crate::values::{fresh, integer, name, permit, truth_value, word};
 use crate::vocabulary::Words;
 use std::alloc::Global;
@@ -44,13 +44,13 @@ fn has_other(table: &Table, keys: &[&str]) -> bool
 
 /// Refuses a table with a key outside a list.
 #[tactic(auto, unfolding(crate::specs::FaultOrder::unknown_fault))]
-pub(crate) fn no_other_key(table: &Table, keys: &[&str], path: KeyPath) -> Result<(), Fault>
+pub(crate) fn no_other_key(table: &Table, keys: &[&str], place: Place) -> Result<(), Fault>
     ensures { IsRead result
-        (unknown_fault (map (λ k. k.now) keys.now) path (table_view table.now))
+        (unknown_fault (map (λ k. k.now) keys.now) place (table_view table.now))
         tt }
 {
     if has_other(table, keys) {
-        return Err(Fault::new(SetupNo::UnknownKey, path));
+        return Err(Fault::new(SetupNo::UnknownKey, place));
     }
     Ok(())
 }
@@ -68,17 +68,17 @@ pub(crate) fn needed_integer(
     table: &Table,
     key: &str,
     range: Range,
-    path: KeyPath,
+    place: Place,
 ) -> Result<u32, Fault>
     requires { 0 < range.step }
     ensures read { IsRead result
-        (key_fault (integer_check range) true path (get_member key.now (table_view table.now)))
+        (key_fault (integer_check range) true place (get_member key.now (table_view table.now)))
         (number_at key.now (table_view table.now)) }
     ensures within { IfOk result (λ n. is_in range n ≡ true) }
 {
     match member(table, key) {
-        Some(value) => integer(value, range, path),
-        None => Err(Fault::new(SetupNo::MissingKey, path)),
+        Some(value) => integer(value, range, place),
+        None => Err(Fault::new(SetupNo::MissingKey, place)),
     }
 }
 
@@ -88,16 +88,16 @@ pub(crate) fn optional_integer(
     table: &Table,
     key: &str,
     range: Range,
-    path: KeyPath,
+    place: Place,
 ) -> Result<Option<u32>, Fault>
     requires { 0 < range.step }
     ensures read { IsRead result
-        (key_fault (integer_check range) false path (get_member key.now (table_view table.now)))
+        (key_fault (integer_check range) false place (get_member key.now (table_view table.now)))
         (option_map number (get_member key.now (table_view table.now))) }
     ensures within { IfOk result (λ o. IfSome o (λ n. is_in range n ≡ true)) }
 {
     match member(table, key) {
-        Some(value) => Ok(Some(integer(value, range, path)?)),
+        Some(value) => Ok(Some(integer(value, range, place)?)),
         None => Ok(None),
     }
 }
@@ -108,47 +108,42 @@ pub(crate) fn needed_eight(
     table: &Table,
     key: &str,
     words: Words,
-    path: KeyPath,
+    place: Place,
 ) -> Result<u32, Fault>
     ensures read { IsRead result
-        (key_fault (eight_check words) true path (get_member key.now (table_view table.now)))
+        (key_fault (eight_check words) true place (get_member key.now (table_view table.now)))
         (nibble_word words (elements_at key.now (table_view table.now))) }
     ensures values { IfOk result (λ word. IsTrue (is_word words word)) }
 {
     match member(table, key) {
-        Some(value) => eight(value, words, path),
-        None => Err(Fault::new(SetupNo::MissingKey, path)),
+        Some(value) => eight(value, words, place),
+        None => Err(Fault::new(SetupNo::MissingKey, place)),
     }
 }
 
 /// The number of a text of a list, which is needed.
 #[tactic(auto, unfolding(crate::specs::FaultOrder::key_fault))]
-pub(crate) fn needed_word(
-    table: &Table,
-    key: &str,
-    words: Words,
-    path: KeyPath,
-) -> Result<u8, Fault>
+pub(crate) fn needed_word(table: &Table, key: &str, words: Words, place: Place) -> Result<u8, Fault>
     ensures read { IsRead result
-        (key_fault (word_check words) true path (get_member key.now (table_view table.now)))
+        (key_fault (word_check words) true place (get_member key.now (table_view table.now)))
         (named words (text_at key.now (table_view table.now))) }
     ensures value { IfOk result (λ n. is_value words n ≡ true) }
 {
     match member(table, key) {
-        Some(value) => word(value, words, path),
-        None => Err(Fault::new(SetupNo::MissingKey, path)),
+        Some(value) => word(value, words, place),
+        None => Err(Fault::new(SetupNo::MissingKey, place)),
     }
 }
 
 /// A truth value, false where it is absent.
 #[tactic(auto, unfolding(crate::specs::FaultOrder::key_fault))]
-pub(crate) fn truth_or_false(table: &Table, key: &str, path: KeyPath) -> Result<bool, Fault>
+pub(crate) fn truth_or_false(table: &Table, key: &str, place: Place) -> Result<bool, Fault>
     ensures { IsRead result
-        (key_fault truth_check false path (get_member key.now (table_view table.now)))
+        (key_fault truth_check false place (get_member key.now (table_view table.now)))
         (truth_at key.now (table_view table.now)) }
 {
     match member(table, key) {
-        Some(value) => truth_value(value, path),
+        Some(value) => truth_value(value, place),
         None => Ok(false),
     }
 }
@@ -159,15 +154,15 @@ pub(crate) fn permit_or_false(
     table: &Table,
     key: &str,
     confined: bool,
-    path: KeyPath,
+    place: Place,
 ) -> Result<bool, Fault>
     ensures read { IsRead result
-        (key_fault (permit_check confined) false path (get_member key.now (table_view table.now)))
+        (key_fault (permit_check confined) false place (get_member key.now (table_view table.now)))
         (truth_at key.now (table_view table.now)) }
     ensures one_of_both { IfOk result (λ permit. (confined && permit) ≡ false) }
 {
     match member(table, key) {
-        Some(value) => permit(value, confined, path),
+        Some(value) => permit(value, confined, place),
         None => Ok(false),
     }
 }
@@ -180,18 +175,18 @@ pub(crate) fn needed_name(
     key: &str,
     low: usize,
     high: usize,
-    path: KeyPath,
+    place: Place,
 ) -> Result<Name, SetupRefused>
     ensures read { IsReadInMemory result
-        (key_fault (bytes_check low high) true path (get_member key.now (table_view table.now)))
+        (key_fault (bytes_check low high) true place (get_member key.now (table_view table.now)))
         (text_at key.now (table_view table.now)) }
     ensures lengths { IfOk result (λ n. (low ≤ length n) × (length n ≤ high)) }
 {
     match member(table, key) {
-        Some(value) => name(alloc, value, low, high, path),
+        Some(value) => name(alloc, value, low, high, place),
         None => Err(SetupRefused::Fault {
             code: SetupNo::MissingKey,
-            path,
+            place,
         }),
     }
 }
@@ -203,19 +198,19 @@ pub(crate) fn needed_fresh(
     key: &str,
     range: Range,
     taken: &[u8],
-    path: KeyPath,
+    place: Place,
 ) -> Result<u8, Fault>
     requires step { 0 < range.step }
     requires small { range.high < 256 }
     ensures read { IsRead result
-        (key_fault (fresh_check range taken.now) true path
+        (key_fault (fresh_check range taken.now) true place
         (get_member key.now (table_view table.now)))
         (number_at key.now (table_view table.now)) }
     ensures within { IfOk result (λ n. is_in range n ≡ true) }
     ensures fresh { IfOk result (λ n. list_any (λ k. k == n) taken.now ≡ false) }
 {
     match member(table, key) {
-        Some(value) => fresh(value, range, taken, path),
-        None => Err(Fault::new(SetupNo::MissingKey, path)),
+        Some(value) => fresh(value, range, taken, place),
+        None => Err(Fault::new(SetupNo::MissingKey, place)),
     }
 }

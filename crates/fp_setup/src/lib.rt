@@ -2,7 +2,7 @@
 //! bounds.
 //!
 //! A setup is a TOML document. [`read_setup`] answers the setup that it means, or its first fault
-//! with the fault's path, in the order of checks of `docs/FORMATS.md`.
+//! with the fault's place, in the order of checks of `docs/FORMATS.md`.
 #![tactic(auto)]
 
 mod bounds;
@@ -25,6 +25,6 @@ pub use file_name::Name;
 pub use input_list::{Input, Inputs};
 pub use loop_list::{LoopSetup, Loops};
 pub use reader::{MOST_SETUP_BYTES, accepted_keep_rules, read_setup};
-pub use refusal::{Fault, KeyPath, SetupNo, SetupRefused};
+pub use refusal::{Fault, Place, SetupNo, SetupRefused};
 pub use setup::Setup;
 pub use thread_list::{ThreadSetup, Threads};

@@ -16,7 +16,7 @@ ghost use Rattle.fp_setup.specs.Reading.{IsRead, IsReadInMemory};
 use crate::bounds::Range;
 use crate::keys::{member, needed_integer, no_other_key};
 use crate::loop_list::{LoopSetup, Loops};
-use crate::refusal::{Fault, KeyPath, SetupNo, SetupRefused};
+use crate::refusal::{Fault, Place, SetupNo, SetupRefused};
 use crate::values::list;
 use std::alloc::Global;
 use toml::{Table, Value};
@@ -32,7 +32,7 @@ const KEYS: [&str; 3] = ["head", "last", "bound"];
 
 /// The loop of a table, for scratchpads of a size in bytes.
 #[tactic(auto, unfolding(crate::specs::FaultOrder::loop_table_fault, crate::specs::SetupOfTables::loop_of))]
-fn loop_table(table: &Table, size: u32, row: KeyPath) -> Result<LoopSetup, Fault>
+fn loop_table(table: &Table, size: u32, row: Place) -> Result<LoopSetup, Fault>
     requires low { 4 ≤ size }
     ensures read { IsRead result
         (loop_table_fault size row (table_view table.now))
@@ -48,7 +48,7 @@ fn loop_table(table: &Table, size: u32, row: KeyPath) -> Result<LoopSetup, Fault
 }
 
 /// The loop of a row.
-fn loop_in(value: &Value, size: u32, row: KeyPath) -> Result<LoopSetup, Fault>
+fn loop_in(value: &Value, size: u32, row: Place) -> Result<LoopSetup, Fault>
     requires low { 4 ≤ size }
     ensures read { IsRead result
         (loop_fault size row (as_table (view value.now)))
@@ -74,17 +74,17 @@ fn loops_of(alloc: Global, items: &[Value], size: u32) -> Result<Loops, SetupRef
 {
     let mut read = Vec::new(alloc);
     for (row, value) in items.iter().enumerate() {
-        read.push(loop_in(value, size, KeyPath::of_loop(row as u32))?)?;
+        read.push(loop_in(value, size, Place::of_loop(row as u32))?)?;
     }
     Ok(Loops::from_vec(read))
 }
 
 /// The loops that a value lists.
 #[tactic(auto, unfolding(crate::specs::Checks::list_check, crate::specs::FaultOrder::loops_fault))]
-fn loops(alloc: Global, value: &Value, size: u32, path: KeyPath) -> Result<Loops, SetupRefused>
+fn loops(alloc: Global, value: &Value, size: u32, place: Place) -> Result<Loops, SetupRefused>
     requires low { 4 ≤ size }
     ensures read { IsReadInMemory result
-        (list_check 256 (loops_fault size) path (view value.now))
+        (list_check 256 (loops_fault size) place (view value.now))
         (map loop_of (map members (elements (view value.now)))) }
     ensures rules { IfOk result AreLoops }
     ensures inside { IfOk result (All (λ (l : LoopSetup). l.last < size)) }
@@ -92,13 +92,13 @@ fn loops(alloc: Global, value: &Value, size: u32, path: KeyPath) -> Result<Loops
     let Some(items) = list(value) else {
         return Err(SetupRefused::Fault {
             code: SetupNo::WrongType,
-            path,
+            place,
         });
     };
     if items.len() > MOST_LOOPS {
         return Err(SetupRefused::Fault {
             code: SetupNo::TooMany,
-            path,
+            place,
         });
     }
     loops_of(alloc, items, size)
@@ -111,18 +111,18 @@ pub(crate) fn loops_or_none(
     table: &Table,
     key: &str,
     size: u32,
-    path: KeyPath,
+    place: Place,
 ) -> Result<Loops, SetupRefused>
     requires low { 4 ≤ size }
     ensures read { IsReadInMemory result
-        (key_fault (list_check 256 (loops_fault size)) false path
+        (key_fault (list_check 256 (loops_fault size)) false place
         (get_member key.now (table_view table.now)))
         (map loop_of (map members (elements_at key.now (table_view table.now)))) }
     ensures rules { IfOk result AreLoops }
     ensures inside { IfOk result (All (λ (l : LoopSetup). l.last < size)) }
 {
     match member(table, key) {
-        Some(value) => loops(alloc, value, size, path),
+        Some(value) => loops(alloc, value, size, place),
         None => Ok(Loops::from_vec(Vec::new(alloc))),
     }
 }

@@ -10,22 +10,22 @@ ghost use Rattle.fp_setup.specs.SetupOfTables.{named, nibble_word, word_of};
 ghost use Rattle.fp_setup.specs.Vocabulary.{is_value, is_word};
 ghost use Rattle.fp_setup.specs.Reading.{IsRead};
 
-use crate::refusal::{Fault, KeyPath, SetupNo};
+use crate::refusal::{Fault, Place, SetupNo};
 use crate::values::{list, word};
 use crate::vocabulary::Words;
 use toml::Value;
 
 /// The numbers of eight texts of a list.
-fn eight_numbers(items: &[Value], words: Words, path: KeyPath) -> Result<[u8; 8], Fault>
+fn eight_numbers(items: &[Value], words: Words, place: Place) -> Result<[u8; 8], Fault>
     requires { length items.now ≡ 8 }
     ensures read { IsRead result
-        (each_fault (word_check words) path 0 (map view items.now))
+        (each_fault (word_check words) place 0 (map view items.now))
         (map (λ d. named words (text d)) (map view items.now)) }
     ensures values { IfOk result (λ ns. list_all (is_value words) ns ≡ true) }
 {
     let mut numbers = [0; 8];
     for i in 0..8 {
-        numbers[i] = word(&items[i], words, path.element(i as u32))?;
+        numbers[i] = word(&items[i], words, place.element(i as u32))?;
     }
     Ok(numbers)
 }
@@ -65,18 +65,18 @@ pub(crate) fn word_of_modes(modes: &[u8; 8]) -> u32
 
 /// The word that eight texts of a list stand for.
 #[tactic(auto, using(crate::proofs::Digits::small_values, crate::proofs::Digits::accepted), unfolding(crate::specs::Checks::eight_check, crate::specs::SetupOfTables::nibble_word))]
-pub(crate) fn eight(value: &Value, words: Words, path: KeyPath) -> Result<u32, Fault>
+pub(crate) fn eight(value: &Value, words: Words, place: Place) -> Result<u32, Fault>
     ensures read { IsRead result
-        (eight_check words path (view value.now))
+        (eight_check words place (view value.now))
         (nibble_word words (elements (view value.now))) }
     ensures values { IfOk result (λ word. IsTrue (is_word words word)) }
 {
     let Some(items) = list(value) else {
-        return Err(Fault::new(SetupNo::WrongType, path));
+        return Err(Fault::new(SetupNo::WrongType, place));
     };
     if items.len() != 8 {
-        return Err(Fault::new(SetupNo::OutOfRange, path));
+        return Err(Fault::new(SetupNo::OutOfRange, place));
     }
-    let numbers = eight_numbers(items, words, path)?;
+    let numbers = eight_numbers(items, words, place)?;
     Ok(word_of_nibbles(&numbers))
 }

@@ -34,7 +34,7 @@ pub enum SetupNo {
 
 /// Where a fault stands in a setup.
 #[derive(Clone, Copy, Debug, PartialEq, Eq)]
-pub struct KeyPath {
+pub struct Place {
     /// 0 for the file as a whole, 1 for the top table, 2 for a `thread` table, 3 for a `loop`
     /// table.
     pub table: u8,
@@ -46,49 +46,49 @@ pub struct KeyPath {
     pub item: u32,
 }
 
-impl KeyPath {
+impl Place {
     ghost use Rattle.std.specs.Prelude.{◌≡◌, ◌+◌, ◌<◌, ◌^◌};
-    ghost use Rattle.fp_setup.specs.Faults.{no_path, top, thread_row, loop_row, key_of, element_of};
+    ghost use Rattle.fp_setup.specs.Faults.{no_place, top, thread_row, loop_row, key_of, element_of};
 
     /// The file as a whole.
-    pub(crate) fn none() -> KeyPath
-        ensures { result ≡ no_path }
+    pub(crate) fn none() -> Place
+        ensures { result ≡ no_place }
     {
-        KeyPath::table(0, 0)
+        Place::table(0, 0)
     }
 
     /// The top table.
-    pub(crate) fn top() -> KeyPath
+    pub(crate) fn top() -> Place
         ensures { result ≡ top }
     {
-        KeyPath::table(1, 0)
+        Place::table(1, 0)
     }
 
     /// The value of a key of the top table, by the key's number.
-    pub(crate) fn top_key(key: u8) -> KeyPath
+    pub(crate) fn top_key(key: u8) -> Place
         ensures { result ≡ key_of top key }
     {
-        KeyPath::top().key(key)
+        Place::top().key(key)
     }
 
     /// A table of a thread.
-    pub(crate) fn thread(row: u32) -> KeyPath
+    pub(crate) fn thread(row: u32) -> Place
         ensures { result ≡ thread_row row }
     {
-        KeyPath::table(2, row)
+        Place::table(2, row)
     }
 
     /// A table of a loop.
-    pub(crate) fn of_loop(row: u32) -> KeyPath
+    pub(crate) fn of_loop(row: u32) -> Place
         ensures { result ≡ loop_row row }
     {
-        KeyPath::table(3, row)
+        Place::table(3, row)
     }
 
-    fn table(table: u8, row: u32) -> KeyPath
+    fn table(table: u8, row: u32) -> Place
         ensures { result ≡ record { table = table; row = row; key = 0; item = 0 } }
     {
-        KeyPath {
+        Place {
             table,
             row,
             key: 0,
@@ -97,10 +97,10 @@ impl KeyPath {
     }
 
     /// The value of a key of this table, by the key's number.
-    pub(crate) fn key(self, key: u8) -> KeyPath
+    pub(crate) fn key(self, key: u8) -> Place
         ensures { result ≡ key_of self key }
     {
-        KeyPath {
+        Place {
             table: self.table,
             row: self.row,
             key,
@@ -109,11 +109,11 @@ impl KeyPath {
     }
 
     /// An element of the list that stands here.
-    pub(crate) fn element(self, index: u32) -> KeyPath
+    pub(crate) fn element(self, index: u32) -> Place
         requires { index + 1 < 2 ^ 32 }
         ensures { result ≡ element_of self index }
     {
-        KeyPath {
+        Place {
             table: self.table,
             row: self.row,
             key: self.key,
@@ -122,33 +122,33 @@ impl KeyPath {
     }
 }
 
-/// A fault of a setup with its path.
+/// A fault of a setup with its place.
 #[derive(Clone, Copy, Debug, PartialEq, Eq)]
 pub struct Fault {
     /// What is wrong.
     pub code: SetupNo,
     /// Where it stands.
-    pub path: KeyPath,
+    pub place: Place,
 }
 
 impl Fault {
     ghost use Rattle.std.specs.Prelude.{◌≡◌};
     ghost use Rattle.fp_setup.specs.Faults.{fault_at};
 
-    /// A fault at a path.
-    pub(crate) fn new(code: SetupNo, path: KeyPath) -> Fault
-        ensures { result ≡ fault_at code path }
+    /// A fault at a place.
+    pub(crate) fn new(code: SetupNo, place: Place) -> Fault
+        ensures { result ≡ fault_at code place }
     {
-        Fault { code, path }
+        Fault { code, place }
     }
 }
 
 /// Why no setup was read.
 #[derive(Clone, Copy, Debug, PartialEq, Eq, Error)]
 pub enum SetupRefused {
-    /// The setup's first fault and its path.
-    #[error("setup fault {code:?} at {path:?}")]
-    Fault { code: SetupNo, path: KeyPath },
+    /// The setup's first fault and its place.
+    #[error("setup fault {code:?} at {place:?}")]
+    Fault { code: SetupNo, place: Place },
     /// Memory was refused.
     #[error("out of memory")]
     NoMemory,
@@ -158,12 +158,12 @@ impl From<Fault> for SetupRefused {
     ghost use Rattle.std.specs.Prelude.{◌≡◌};
     ghost use Rattle.fp_setup.specs.declared.refusal.SetupRefused.{SetupRefused};
 
-    ghost from_gives = { λ f r. r ≡ SetupRefused.Fault f.code f.path };
+    ghost from_gives = { λ f r. r ≡ SetupRefused.Fault f.code f.place };
 
     fn from(fault: Fault) -> SetupRefused {
         SetupRefused::Fault {
             code: fault.code,
-            path: fault.path,
+            place: fault.place,
         }
     }
 }

@@ -5,7 +5,7 @@ ghost use Rattle.std.specs.List.{All, list_all, list_any};
 ghost use Rattle.toml.specs.Data.{Data, as_table, get_member};
 ghost use Rattle.toml.specs.View.{table_view, view};
 ghost use Rattle.region_guard.specs.MemoryMap.{large_size};
-ghost use Rattle.fp_setup.specs.declared.refusal.KeyPath.{KeyPath};
+ghost use Rattle.fp_setup.specs.declared.refusal.Place.{Place};
 ghost use Rattle.fp_setup.specs.declared.thread_list.ThreadSetup.{ThreadSetup};
 ghost use Rattle.fp_setup.specs.Threads.{AreThreads, IsThread};
 ghost use Rattle.fp_setup.specs.Values.{as_list, elements, elements_at, members};
@@ -21,7 +21,7 @@ use crate::keys::{
     member, needed_fresh, needed_integer, needed_word, no_other_key, optional_integer,
     permit_or_false, truth_or_false,
 };
-use crate::refusal::{KeyPath, SetupNo, SetupRefused};
+use crate::refusal::{Place, SetupNo, SetupRefused};
 use crate::thread_list::{ThreadSetup, Threads};
 use crate::values::list;
 use crate::vocabulary::Words;
@@ -97,7 +97,7 @@ fn thread_table(
     table: &Table,
     size: u32,
     ids: &[u8],
-    row: KeyPath,
+    row: Place,
 ) -> Result<ThreadRow, SetupRefused>
     requires low { 4 ≤ size }
     requires high { size ≤ large_size }
@@ -142,7 +142,7 @@ fn thread_in(
     value: &Value,
     size: u32,
     ids: &[u8],
-    row: KeyPath,
+    row: Place,
 ) -> Result<ThreadRow, SetupRefused>
     requires low { 4 ≤ size }
     requires high { size ≤ large_size }
@@ -159,7 +159,7 @@ fn thread_in(
         Some(table) => thread_table(alloc, table, size, ids, row),
         None => Err(SetupRefused::Fault {
             code: SetupNo::WrongType,
-            path: row,
+            place: row,
         }),
     }
 }
@@ -184,7 +184,7 @@ fn threads_in(alloc: Global, items: &[Value], size: u32) -> Result<ThreadRows, S
             value,
             size,
             &ids[..index],
-            KeyPath::thread(index as u32),
+            Place::thread(index as u32),
         )?;
         ids[index] = row.id;
         rows.put(row);
@@ -198,12 +198,12 @@ fn threads(
     alloc: Global,
     value: &Value,
     size: u32,
-    path: KeyPath,
+    place: Place,
 ) -> Result<ThreadRows, SetupRefused>
     requires low { 4 ≤ size }
     requires high { size ≤ large_size }
     ensures read { IsReadInMemory result
-        (list_check 8 (threads_fault size) path (view value.now))
+        (list_check 8 (threads_fault size) place (view value.now))
         (rows_of (map members (elements (view value.now)))) }
     ensures modes { IfOk result (λ r. list_all (λ n. nat_lt n 4) r.modes ≡ true) }
     ensures rules { IfOk result (λ r. AreThreads r.threads) }
@@ -212,13 +212,13 @@ fn threads(
     let Some(items) = list(value) else {
         return Err(SetupRefused::Fault {
             code: SetupNo::WrongType,
-            path,
+            place,
         });
     };
     if items.len() > MOST_ROWS {
         return Err(SetupRefused::Fault {
             code: SetupNo::TooMany,
-            path,
+            place,
         });
     }
     threads_in(alloc, items, size)
@@ -242,12 +242,12 @@ pub(crate) fn threads_or_none(
     table: &Table,
     key: &str,
     size: u32,
-    path: KeyPath,
+    place: Place,
 ) -> Result<ThreadRows, SetupRefused>
     requires low { 4 ≤ size }
     requires high { size ≤ large_size }
     ensures read { IsReadInMemory result
-        (key_fault (list_check 8 (threads_fault size)) false path
+        (key_fault (list_check 8 (threads_fault size)) false place
         (get_member key.now (table_view table.now)))
         (rows_of (map members (elements_at key.now (table_view table.now)))) }
     ensures modes { IfOk result (λ r. list_all (λ n. nat_lt n 4) r.modes ≡ true) }
@@ -255,7 +255,7 @@ pub(crate) fn threads_or_none(
     ensures inside { IfOk result (λ r. All (λ (t : ThreadSetup). t.entry < size) r.threads) }
 {
     match member(table, key) {
-        Some(value) => threads(alloc, value, size, path),
+        Some(value) => threads(alloc, value, size, place),
         None => Ok(no_threads(alloc)),
     }
 }

@@ -1,4 +1,4 @@
-//! One value of a document, checked at its path.
+//! One value of a document, checked at its place.
 
 ghost use Rattle.std.specs.Prelude.{◌≡◌, ◌<◌, ◌≤◌, ◌==◌, length, ◌&&◌, false, IfOk, true, map, option_map};
 ghost use Rattle.std.specs.List.{list_any};
@@ -11,7 +11,7 @@ ghost use Rattle.fp_setup.specs.Reading.{IsRead, IsReadInMemory};
 
 use crate::bounds::Range;
 use crate::file_name::Name;
-use crate::refusal::{Fault, KeyPath, SetupNo, SetupRefused};
+use crate::refusal::{Fault, Place, SetupNo, SetupRefused};
 use crate::vocabulary::Words;
 use std::alloc::Global;
 use toml::Value;
@@ -29,80 +29,80 @@ pub(crate) fn list(value: &Value) -> Option<&[Value]>
 
 /// An integer of a range.
 #[tactic(auto, unfolding(crate::specs::Checks::integer_check))]
-pub(crate) fn integer(value: &Value, range: Range, path: KeyPath) -> Result<u32, Fault>
+pub(crate) fn integer(value: &Value, range: Range, place: Place) -> Result<u32, Fault>
     requires { 0 < range.step }
     ensures read { IsRead result
-        (integer_check range path (view value.now))
+        (integer_check range place (view value.now))
         (number (view value.now)) }
     ensures within { IfOk result (λ n. is_in range n ≡ true) }
 {
     let Some(n) = value.as_integer() else {
-        return Err(Fault::new(SetupNo::WrongType, path));
+        return Err(Fault::new(SetupNo::WrongType, place));
     };
     match u32::try_from(n) {
         Ok(n) if range.contains(n) => Ok(n),
-        _ => Err(Fault::new(SetupNo::OutOfRange, path)),
+        _ => Err(Fault::new(SetupNo::OutOfRange, place)),
     }
 }
 
 /// An integer of a range that isn't among those that are taken.
 #[tactic(auto, unfolding(crate::specs::Checks::fresh_check))]
-pub(crate) fn fresh(value: &Value, range: Range, taken: &[u8], path: KeyPath) -> Result<u8, Fault>
+pub(crate) fn fresh(value: &Value, range: Range, taken: &[u8], place: Place) -> Result<u8, Fault>
     requires step { 0 < range.step }
     requires small { range.high < 256 }
     ensures read { IsRead result
-        (fresh_check range taken.now path (view value.now))
+        (fresh_check range taken.now place (view value.now))
         (number (view value.now)) }
     ensures within { IfOk result (λ n. is_in range n ≡ true) }
     ensures fresh { IfOk result (λ n. list_any (λ k. k == n) taken.now ≡ false) }
 {
-    let number = integer(value, range, path)? as u8;
+    let number = integer(value, range, place)? as u8;
     if taken.contains(&number) {
-        return Err(Fault::new(SetupNo::DoubleThread, path));
+        return Err(Fault::new(SetupNo::DoubleThread, place));
     }
     Ok(number)
 }
 
 /// The number of a text of a list.
 #[tactic(auto, unfolding(crate::specs::Checks::word_check, crate::specs::SetupOfTables::named))]
-pub(crate) fn word(value: &Value, words: Words, path: KeyPath) -> Result<u8, Fault>
+pub(crate) fn word(value: &Value, words: Words, place: Place) -> Result<u8, Fault>
     ensures read { IsRead result
-        (word_check words path (view value.now))
+        (word_check words place (view value.now))
         (named words (text (view value.now))) }
     ensures value { IfOk result (λ n. is_value words n ≡ true) }
 {
     let Some(text) = value.as_str() else {
-        return Err(Fault::new(SetupNo::WrongType, path));
+        return Err(Fault::new(SetupNo::WrongType, place));
     };
     match words.number(text) {
         Some(n) => Ok(n),
-        None => Err(Fault::new(words.refusal(), path)),
+        None => Err(Fault::new(words.refusal(), place)),
     }
 }
 
 /// A truth value.
 #[tactic(auto, unfolding(crate::specs::Checks::truth_check))]
-pub(crate) fn truth_value(value: &Value, path: KeyPath) -> Result<bool, Fault>
-    ensures { IsRead result (truth_check path (view value.now)) (truth (view value.now)) }
+pub(crate) fn truth_value(value: &Value, place: Place) -> Result<bool, Fault>
+    ensures { IsRead result (truth_check place (view value.now)) (truth (view value.now)) }
 {
     match value.as_bool() {
         Some(flag) => Ok(flag),
-        None => Err(Fault::new(SetupNo::WrongType, path)),
+        None => Err(Fault::new(SetupNo::WrongType, place)),
     }
 }
 
 /// A truth value that isn't true beside another.
 #[tactic(auto, unfolding(crate::specs::Checks::permit_check))]
-pub(crate) fn permit(value: &Value, confined: bool, path: KeyPath) -> Result<bool, Fault>
+pub(crate) fn permit(value: &Value, confined: bool, place: Place) -> Result<bool, Fault>
     ensures read { IsRead result
-        (permit_check confined path (view value.now))
+        (permit_check confined place (view value.now))
         (truth (view value.now)) }
     ensures one_of_both { IfOk result (λ permit. (confined && permit) ≡ false) }
 {
     match value.as_bool() {
-        Some(true) if confined => Err(Fault::new(SetupNo::ConfinedPermit, path)),
+        Some(true) if confined => Err(Fault::new(SetupNo::ConfinedPermit, place)),
         Some(flag) => Ok(flag),
-        None => Err(Fault::new(SetupNo::WrongType, path)),
+        None => Err(Fault::new(SetupNo::WrongType, place)),
     }
 }
 
@@ -113,23 +113,23 @@ pub(crate) fn name(
     value: &Value,
     low: usize,
     high: usize,
-    path: KeyPath,
+    place: Place,
 ) -> Result<Name, SetupRefused>
     ensures read { IsReadInMemory result
-        (bytes_check low high path (view value.now))
+        (bytes_check low high place (view value.now))
         (text (view value.now)) }
     ensures lengths { IfOk result (λ n. (low ≤ length n) × (length n ≤ high)) }
 {
     let Some(text) = value.as_str() else {
         return Err(SetupRefused::Fault {
             code: SetupNo::WrongType,
-            path,
+            place,
         });
     };
     if text.len() < low || high < text.len() {
         return Err(SetupRefused::Fault {
             code: SetupNo::OutOfRange,
-            path,
+            place,
         });
     }
     Ok(Name::from_str(alloc, text)?)

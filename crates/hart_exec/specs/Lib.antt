@@ -9,3 +9,4 @@ pub use Rattle.rv_decode.specs.Range
 pub use Rattle.rv_decode.specs.Table
 pub use Rattle.rv_exec.specs.Access
 pub use Rattle.rv_exec.specs.Line
+pub use Rattle.rv_decode.specs.Lag

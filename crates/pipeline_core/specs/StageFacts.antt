@@ -1,5 +1,5 @@
 -- What holds of everything that stands in a stage register.
-use Rattle.std.specs.Prelude.{◌≡◌, ℕ, ◌<◌, ◌%◌, Option, Some, None, IsTrue}
+use Rattle.std.specs.Prelude.{◌≡◌, ℕ, ◌<◌, ◌%◌, ◌==◌, Bool, false, not, ◌&&◌, ◌||◌, Option, Some, None, IsTrue}
 use Rattle.std.proofs.Common.{inl, inr, ap, arith}
 use Rattle.std.proofs.Math.Nat.{ℕ_set}
 use Rattle.std.proofs.Math.Bridge.{le_prop}
@@ -11,7 +11,10 @@ use Rattle.rv_exec.specs.Line.{IsWidth, IsPrintable}
 use Rattle.rv_exec.specs.declared.outcome.Effect.{Effect}
 use Rattle.rv_exec.specs.declared.outcome.Event.{Event}
 use Rattle.rv_exec.specs.declared.outcome.Effect.TheVariants as effect
+use Rattle.region_guard.specs.MemoryMap.{port_address}
+use Rattle.region_guard.specs.Regions.{is_code, is_data}
 use Rattle.core_model.specs.Csr.{may_hold}
+use Rattle.core_model.specs.Issue.{is_load}
 use Rattle.hart_exec.specs.AsDefined.{IsShowable, IsAlignedStore}
 use Rattle.pipe_model.specs.declared.stage_registers.Held.{Held}
 use Rattle.pipe_model.specs.declared.stage_registers.Held.TheVariants.{Bubble, Flushed, Issue}
@@ -56,6 +59,24 @@ abbrev pub WrittenFits : Held Written → Type 0
 WrittenFits Bubble = Unit {0}
 WrittenFits (Flushed k) = k < 8
 WrittenFits (Issue k x) = k < 8
+
+-- whether a load goes to the port
+abbrev pub loads_port : ℕ → Executed → Bool
+loads_port size x = is_load (ins x.word) && not (is_code size x.address || is_data size x.address)
+
+-- whether an effect is a store to the port
+abbrev pub at_port : Option Effect → Bool
+at_port (Some (effect.Store address width value)) = address == port_address
+at_port _ = false
+
+abbrev pub effect_uses_port : ℕ → Executed → Option Effect → Bool
+effect_uses_port size x (Some effect.Nothing) = loads_port size x
+effect_uses_port size x e = at_port e
+
+-- whether a turn that goes to M reads or writes the port of its thread
+abbrev pub uses_port : ℕ → Held Executed → Bool
+uses_port size (Issue k x) = effect_uses_port size x x.effect
+uses_port size _ = false
 
 -- an event can be shown in a line of a trace
 abbrev pub IsEventShowable : Option Event → Type 0

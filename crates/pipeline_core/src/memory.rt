@@ -1,6 +1,6 @@
 //! The words of the two scratchpads, as fetches, loads and stores reach them.
 
-ghost use Rattle.std.specs.Prelude.{◌≡◌, ◌-◌, ◌<◌, ◌/◌, ◌%◌, IsTrue, length, vec_len};
+ghost use Rattle.std.specs.Prelude.{◌≡◌, ◌-◌, ◌<◌, ◌/◌, ◌%◌, ◌||◌, true, IsTrue, length, vec_len};
 ghost use Rattle.region_guard.specs.Regions.{IsSize, is_code, is_data, index_of};
 ghost use Rattle.rv_exec.specs.Access.{lanes_at};
 ghost use Rattle.rv_exec.specs.Line.{IsWidth};
@@ -82,6 +82,8 @@ pub fn data_word(
         (word_seen (row_at (rows_of latched word_at ports.old.items) thread) (cycle - 3)) address }
     ensures rows { rows_of latched word_at ports.new.items ≡
         rows_of latched word_at ports.old.items }
+    ensures untouched { (is_code guard.now.size address || is_data guard.now.size address) ≡ true →
+        ports.new ≡ ports.old }
     ensures eight { vec_len ports.new ≡ 8 }
 {
     if is_code(guard, address) {

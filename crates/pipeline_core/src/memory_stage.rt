@@ -1,6 +1,6 @@
 //! M: loads and stores reach the scratchpads and the ports.
 
-ghost use Rattle.std.specs.Prelude.{◌≡◌, ◌-◌, ◌<◌, ◌/◌, Some, length, vec_len};
+ghost use Rattle.std.specs.Prelude.{◌≡◌, ◌-◌, ◌<◌, ◌/◌, Some, false, length, vec_len};
 ghost use Rattle.rv_decode.specs.Table.{ins};
 ghost use Rattle.rv_exec.specs.Access.{IsAligned};
 ghost use Rattle.core_model.specs.Thread.{filled};
@@ -10,7 +10,7 @@ ghost use Rattle.fp_ports.specs.Rows.{rows_of, row_at, word_seen};
 ghost use Rattle.pipe_model.specs.declared.stage_registers.Held.TheVariants.{Issue};
 ghost use Rattle.rv_exec.specs.declared.outcome.Effect.TheVariants.{Nothing, Reg};
 ghost use Rattle.pipe_model.specs.Stages.{memory_stage, words_stored, ports_stored, put_at_port};
-ghost use Rattle.pipeline_core.specs.StageFacts.{EffectFits, ExecutedFits, StoredFits};
+ghost use Rattle.pipeline_core.specs.StageFacts.{EffectFits, ExecutedFits, StoredFits, at_port, loads_port, uses_port};
 
 use crate::memory::{data_word, store_word};
 use fp_ports::{Port, Ports, write_port};
@@ -46,6 +46,7 @@ fn late_effect(
     ensures fits { EffectFits result }
     ensures rows { rows_of latched word_at ports.new.items ≡
         rows_of latched word_at ports.old.items }
+    ensures idle { loads_port guard.now.size x.now ≡ false → ports.new ≡ ports.old }
     ensures eight { vec_len ports.new ≡ 8 }
 {
     let i = decode(x.word);
@@ -111,6 +112,7 @@ fn put_word(ports: &mut Ports, thread: u8, effect: &Option<Effect>)
     requires thread { thread < 8 }
     ensures rows { rows_of latched word_at ports.new.items ≡
         put_at_port thread effect.now (rows_of latched word_at ports.old.items) }
+    ensures idle { at_port effect.now ≡ false → ports.new ≡ ports.old }
     ensures eight { vec_len ports.new ≡ 8 }
 {
     if let Some(Effect::Store { address, value, .. }) = effect
@@ -144,6 +146,7 @@ fn access_issue(
     ensures length { length dmem.new ≡ length dmem.old }
     ensures rows { rows_of latched word_at ports.new.items ≡
         ports_stored m.new (rows_of latched word_at ports.old.items) }
+    ensures idle { uses_port guard.now.size (Issue thread x.now) ≡ false → ports.new ≡ ports.old }
     ensures eight { vec_len ports.new ≡ 8 }
 {
     // The most frequent effect stores nothing, and no more than its own fields is moved.
@@ -186,6 +189,7 @@ pub fn memory_stage(
     ensures length { length dmem.new ≡ length dmem.old }
     ensures rows { rows_of latched word_at ports.new.items ≡
         ports_stored m.new (rows_of latched word_at ports.old.items) }
+    ensures idle { uses_port guard.now.size held.now ≡ false → ports.new ≡ ports.old }
     ensures eight { vec_len ports.new ≡ 8 }
 {
     match held {

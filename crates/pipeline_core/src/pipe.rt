@@ -47,7 +47,7 @@ pub struct Pipe {
 }
 
 impl Pipe {
-    ghost use Rattle.std.specs.Prelude.{◌<◌, ◌-◌, if◌then◌else◌, List, Option, Some, None, map, vec_len};
+    ghost use Rattle.std.specs.Prelude.{◌<◌, ◌-◌, if◌then◌else◌, false, List, Option, Some, None, map, vec_len};
     ghost use Rattle.fp_ports.specs.Rows.{Row, rows_of};
     ghost use Rattle.world_model.specs.World.{Start, start_world};
     ghost use Rattle.slot_scheduler.specs.Picking.{IsPick};
@@ -55,7 +55,7 @@ impl Pipe {
     ghost use Rattle.pipe_model.specs.Stages.{advanced, bank_after, decode_stage, fetch_stage, memory_stage, ports_stored, redirected, retired, step, words_stored, writeback_stage};
     ghost use Rattle.pipe_model.specs.Relation.{Begins, Shows, Stands, Kept, HasLatches};
     ghost use Rattle.pipe_model.specs.PipelineLaws.{empty, first_units};
-    ghost use Rattle.pipeline_core.specs.StageFacts.{IsEventShowable};
+    ghost use Rattle.pipeline_core.specs.StageFacts.{IsEventShowable, uses_port};
     ghost use Rattle.pipeline_core.specs.AsDefined.{executed_by, stage_registers_as_defined, state_as_defined, ticked_as_defined};
 
     /// A pipeline with nothing in it, whose threads start at these entries. It stands for cycle 0
@@ -97,6 +97,7 @@ impl Pipe {
             (rows_of latched word_at ports.new.items)
             result ≡ step (stage_registers_as_defined self.old)
             (state_as_defined units.old (rows_of latched word_at ports.old.items)) cycle }
+        ensures idle { uses_port units.old.guard.size self.old.e ≡ false → ports.new ≡ ports.old }
         ensures eight { vec_len ports.new ≡ 8 }
         ensures retires { result ≡ retired (cycle - 4) self.old.m }
         ensures showable { IsEventShowable result }
@@ -124,6 +125,7 @@ impl Pipe {
             (rows_of latched word_at ports.new.items) (retired (cycle - 4) self.old.m) ≡
             step (stage_registers_as_defined self.old) (state_as_defined units.old
             (rows_of latched word_at ports.old.items)) cycle }
+        ensures idle { uses_port units.old.guard.size self.old.e ≡ false → ports.new ≡ ports.old }
         ensures eight { vec_len ports.new ≡ 8 }
     {
         self.older_stages(units, ports, cycle);
@@ -153,6 +155,7 @@ impl Pipe {
               d_words = words_stored units.old.guard.size self.new.m units.old.dmem;
               ports = ports_stored self.new.m rows;
             } }
+        ensures idle { uses_port units.old.guard.size self.old.e ≡ false → ports.new ≡ ports.old }
         ensures eight { vec_len ports.new ≡ 8 }
         ensures next { self.new.next ≡ self.old.next }
         ensures f { self.new.f ≡ self.old.f }

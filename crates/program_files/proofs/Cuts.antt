@@ -6,7 +6,7 @@ use Rattle.std.proofs.lemmas.Bool.Decides.{nat_tests}
 use Rattle.std.proofs.lemmas.List.{length-take, take_all}
 use Rattle.fp_io.specs.Content.{FileMap, Fetched}
 use Rattle.fp_setup.specs.Setup.{setup}
-use Rattle.fp_setup.specs.Faults.{no_path}
+use Rattle.fp_setup.specs.Faults.{no_place}
 use Rattle.fp_image.specs.Format.{longest, image_of, count_of}
 use Rattle.trace_print.specs.declared.refusals.Refusal.TheVariants.{Setup, Image}
 use Rattle.program_files.specs.declared.stop.Stop.{Stop}
@@ -32,12 +32,12 @@ cut-by over most long same whole =
           ap over (take_all (most + 1) whole all)
     ]
 
-setup-long : (bytes : List ℕ) → 262144 < length bytes → setup_in bytes ≡ Err (refused (Setup 1 no_path))
+setup-long : (bytes : List ℕ) → 262144 < length bytes → setup_in bytes ≡ Err (refused (Setup 1 no_place))
 unfolding setup_in setup
 setup-long bytes past = let is : nat_lt 262144 (length bytes) ≡ true = grind (arith, nat_tests) in rw is refl
 
 pub setup-cut : IsCut setup_in 262144
-setup-cut = cut-by setup_in 262144 (Err (refused (Setup 1 no_path))) setup-long
+setup-cut = cut-by setup_in 262144 (Err (refused (Setup 1 no_place))) setup-long
 
 image-long : (size : ℕ) (bytes : List ℕ) → longest size < length bytes → image_in size bytes ≡ Err (refused (Image 1 0))
 unfolding image_in image_of count_of

@@ -12,7 +12,7 @@ pub data Answer : Type 0 where
 
 -- the status of a refusal
 abbrev pub status_of : Refusal → ℕ
-status_of (Setup code path) = 3
+status_of (Setup code place) = 3
 status_of (Section code) = 3
 status_of (Image code offset) = 4
 status_of (Source line code) = 5

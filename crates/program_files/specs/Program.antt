@@ -1,10 +1,10 @@
 -- The setup and the image that a command reads.
-use Rattle.std.specs.Prelude.{ℕ, List, [], Result, Ok, Err}
-use Rattle.fp_io.specs.Content.{FileMap}
+use Rattle.std.specs.Prelude.{◌≡◌, ◌⊎◌, ℕ, List, [], ◌∷◌, Option, IfSome, Result, Ok, Err}
+use Rattle.fp_io.specs.Content.{Asks, FileMap, Request}
 use Rattle.fp_setup.specs.Settings.{Settings, size_of}
-use Rattle.fp_setup.specs.Setup.{setup}
+use Rattle.fp_setup.specs.Setup.{most_setup_bytes, setup}
 use Rattle.fp_setup.specs.declared.refusal.Fault.{Fault}
-use Rattle.fp_image.specs.Format.{image_of}
+use Rattle.fp_image.specs.Format.{image_of, longest}
 use Rattle.fp_image.specs.declared.parts.Segment.{Segment}
 use Rattle.fp_image.specs.declared.refusals.ImageRefused.{ImageRefused}
 use Rattle.fp_image.specs.declared.refusals.ImageRefused.TheVariants as image_no
@@ -16,7 +16,14 @@ use Rattle.program_files.specs.Answer.Answer.{Says}
 
 abbrev pub of_setup : Result Settings Fault → Result Settings Answer
 of_setup (Ok s) = Ok s
-of_setup (Err fault) = Err (refused (Setup (setup_code fault.code) fault.path))
+of_setup (Err fault) = Err (refused (Setup (setup_code fault.code) fault.place))
+
+-- what is asked of the files for a setup, and for the image that it names
+abbrev pub setup_request : List ℕ → Request
+setup_request name = (name, most_setup_bytes)
+
+abbrev pub image_request : Settings → Request
+image_request s = (s.image, longest (size_of s.version))
 
 -- the setup of a file's bytes
 unfoldable pub setup_in : List ℕ → Result Settings Answer
@@ -39,3 +46,13 @@ with_image s segments = Ok (record { setup = s; image = segments })
 abbrev pub program : FileMap → List ℕ → Result Program Answer
 program files name =
     then_by (over_file setup_in (files name)) (λ s. then_by (over_file (image_in (size_of s.version)) (files s.image)) (with_image s))
+
+-- the requests for both
+abbrev pub program_requests : List ℕ → Settings → List Request
+program_requests name s = setup_request name ∷ image_request s ∷ []
+
+-- what is asked for a program, or for as much of it as came: the setup, and then, where that is accepted, its image
+abbrev pub IsProgramAsked : Option FileMap → List ℕ → Option (List Request) → Option (List Request) → Type 0
+IsProgramAsked told name before after =
+    Asks before after (setup_request name ∷ [])
+    ⊎ ((s : Settings) × IfSome told (λ files. over_file setup_in (files name) ≡ Ok s) × Asks before after (program_requests name s))

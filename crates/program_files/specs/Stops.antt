@@ -2,6 +2,8 @@
 use Rattle.std.specs.Prelude.{◌≡◌, ◌⊎◌, ℕ, Bool, true, false, List, Option, Result, Ok, Err, IfSome, IsSomeAnd}
 use Rattle.fp_io.specs.Causes.{Rose}
 use Rattle.fp_io.specs.Content.{FileMap, Lacks}
+use Rattle.fp_io.specs.declared.files.FetchFault.{FetchFault}
+use Rattle.fp_io.specs.declared.files.FetchFault.TheVariants as fault
 use Rattle.program_files.specs.declared.stop.Stop.{Stop}
 use Rattle.program_files.specs.declared.stop.Stop.TheVariants.{Refused, Differs, Read, NoMemory}
 use Rattle.program_files.specs.Answer.{Answer, differs_text, refused}
@@ -37,6 +39,12 @@ IsStopIn told step before after stop = IsStop told (λ files x. step files ≡ E
 -- why a file isn't fetched: want of memory is free, and a read fault comes where a fault was counted or the file isn't there
 abbrev pub IsFetchStop : Option FileMap → List ℕ → ℕ → ℕ → Stop → Type 0
 IsFetchStop told name before after stop = (stop ≡ NoMemory) ⊎ ((stop ≡ Read) × (Rose before after ⊎ Lacks told name))
+
+-- why a file that isn't fetched stops a command
+abbrev pub stop_of_fetch : FetchFault → Stop
+stop_of_fetch fault.Missing = Read
+stop_of_fetch fault.Failed = Read
+stop_of_fetch fault.NoMemory = NoMemory
 
 -- whether a recorded trace differs; the port of its thread may have been read by then
 abbrev pub is_difference : Stop → Bool

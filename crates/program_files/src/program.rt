@@ -1,19 +1,19 @@
 //! The setup and the image that a command reads.
 
-ghost use Rattle.std.specs.Prelude.{◌≡◌, ◌≤◌, ◌<◌, ◌^◌, ◌-◌, Ok, IfOk, IfErr};
-ghost use Rattle.fp_io.specs.Content.{Fetched};
+ghost use Rattle.std.specs.Prelude.{◌≡◌, ◌≤◌, ◌<◌, ◌^◌, ◌-◌, [], ◌∷◌, Ok, IfOk, IfErr};
+ghost use Rattle.fp_io.specs.Content.{Asks, Fetched};
 ghost use Rattle.fp_setup.specs.Settings.{size_of};
 ghost use Rattle.region_guard.specs.Regions.{IsSize};
 ghost use Rattle.fp_image.specs.Format.{longest};
 ghost use Rattle.program_files.specs.Answer.{on_file};
 ghost use Rattle.program_files.specs.Codes.{setup_code, image_code};
-ghost use Rattle.program_files.specs.Program.{setup_in, image_in, program};
-ghost use Rattle.program_files.specs.Stops.{IsFetchStop, IsStopIn, IsStopOf, Makes};
+ghost use Rattle.program_files.specs.Program.{IsProgramAsked, image_in, program, program_requests, setup_in, setup_request};
+ghost use Rattle.program_files.specs.Stops.{IsFetchStop, IsStopIn, IsStopOf, Makes, stop_of_fetch};
 
 use crate::stop::Stop;
 use fp_image::{Image, ImageNo, ImageRefused, longest, read_image};
 use fp_io::{FetchFault, Files};
-use fp_setup::{KeyPath, MOST_SETUP_BYTES, Name, Setup, SetupNo, SetupRefused, read_setup};
+use fp_setup::{MOST_SETUP_BYTES, Name, Place, Setup, SetupNo, SetupRefused, read_setup};
 use std::alloc::Global;
 use trace_print::Refusal;
 
@@ -24,6 +24,16 @@ pub struct Program {
     pub setup: Setup,
     /// The image of the file that the setup names.
     pub image: Image,
+}
+
+/// Why a file that isn't fetched stops a command.
+fn stop_of_fetch(fault: FetchFault) -> Stop
+    ensures { result ≡ stop_of_fetch fault }
+{
+    match fault {
+        FetchFault::Missing | FetchFault::Failed => Stop::Read,
+        FetchFault::NoMemory => Stop::NoMemory,
+    }
 }
 
 /// Fetches a file: its first `most + 1` bytes, or all where it has fewer.
@@ -41,24 +51,24 @@ pub fn fetch<F: Files>(
     requires { most < 2 ^ 64 - 1 }
     ensures told { F.told files.new ≡ F.told files.old }
     ensures counted { F.faults files.old ≤ F.faults files.new }
+    ensures request { Asks (F.requests files.old) (F.requests files.new) ((name.now, most) ∷ []) }
     ensures bytes { IfOk result (λ bytes. Fetched (F.told files.old) name.now most bytes.items) }
     ensures stop { IfErr result (IsFetchStop (F.told files.old) name.now
         (F.faults files.old) (F.faults files.new)) }
 {
     match files.fetch(alloc, name.as_str(), most) {
         Ok(bytes) => Ok(bytes),
-        Err(FetchFault::NoMemory) => Err(Stop::NoMemory),
-        Err(FetchFault::Missing | FetchFault::Failed) => Err(Stop::Read),
+        Err(fault) => Err(stop_of_fetch(fault)),
     }
 }
 
 /// The refusal of a setup.
-fn setup_refusal(code: SetupNo, path: KeyPath) -> Refusal
-    ensures { result ≡ Refusal.Setup (setup_code code) path }
+fn setup_refusal(code: SetupNo, place: Place) -> Refusal
+    ensures { result ≡ Refusal.Setup (setup_code code) place }
 {
     Refusal::Setup {
         code: code as u8,
-        path,
+        place,
     }
 }
 
@@ -70,7 +80,9 @@ fn setup_in(alloc: Global, bytes: &[u8]) -> Result<Setup, Stop>
 {
     match read_setup(alloc, bytes) {
         Ok(setup) => Ok(setup),
-        Err(SetupRefused::Fault { code, path }) => { Err(Stop::Refused(setup_refusal(code, path))) }
+        Err(SetupRefused::Fault { code, place }) => {
+            Err(Stop::Refused(setup_refusal(code, place)))
+        }
         Err(SetupRefused::NoMemory) => Err(Stop::NoMemory),
     }
 }
@@ -105,6 +117,8 @@ fn image_in(alloc: Global, bytes: &[u8], size: u32) -> Result<Image, Stop>
 fn fetch_setup<F: Files>(alloc: Global, name: &Name, files: &mut F) -> Result<Setup, Stop>
     ensures told { F.told files.new ≡ F.told files.old }
     ensures counted { F.faults files.old ≤ F.faults files.new }
+    ensures request { Asks (F.requests files.old) (F.requests files.new)
+        (setup_request name.now ∷ []) }
     ensures ok { IfOk result (Makes (F.told files.old) (on_file setup_in name.now)) }
     ensures stop { IfErr result (IsStopIn (F.told files.old) (on_file setup_in name.now)
         (F.faults files.old) (F.faults files.new)) }
@@ -123,6 +137,8 @@ fn fetch_image<F: Files>(
     requires { IsSize size }
     ensures told { F.told files.new ≡ F.told files.old }
     ensures counted { F.faults files.old ≤ F.faults files.new }
+    ensures request { Asks (F.requests files.old) (F.requests files.new)
+        ((name.now, longest size) ∷ []) }
     ensures ok { IfOk result (Makes (F.told files.old) (on_file (image_in size) name.now)) }
     ensures stop { IfErr result (IsStopIn (F.told files.old) (on_file (image_in size) name.now)
         (F.faults files.old) (F.faults files.new)) }
@@ -141,6 +157,10 @@ fn fetch_image<F: Files>(
 pub fn load<F: Files>(alloc: Global, name: &Name, files: &mut F) -> Result<Program, Stop>
     ensures told { F.told files.new ≡ F.told files.old }
     ensures counted { F.faults files.old ≤ F.faults files.new }
+    ensures requests { IfOk result (λ p. Asks (F.requests files.old) (F.requests files.new)
+        (program_requests name.now p.setup)) }
+    ensures asked { IsProgramAsked (F.told files.old) name.now
+        (F.requests files.old) (F.requests files.new) }
     ensures ok { IfOk result (Makes (F.told files.old) (λ told. program told name.now)) }
     ensures stop { IfErr result (IsStopIn (F.told files.old) (λ told. program told name.now)
         (F.faults files.old) (F.faults files.new)) }

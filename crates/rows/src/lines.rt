@@ -3,7 +3,7 @@
 ghost use Rattle.rv_exec.specs.Line.{IsPrintable};
 
 use crate::numbers::{head, low_byte, low_word, numbers};
-use fp_setup::KeyPath;
+use fp_setup::Place;
 use rv_exec::{Effect, Event};
 use std::alloc::AllocError;
 use trace_print::{Refusal, line, refusal_line};
@@ -70,7 +70,7 @@ fn refusal_of(name: &str, n: &[u64; 8], value: u128) -> Refusal {
     match name {
         "setup" => Refusal::Setup {
             code,
-            path: KeyPath {
+            place: Place {
                 table: low_byte(n[1]),
                 row: low_word(n[2]),
                 key: low_byte(n[3]),

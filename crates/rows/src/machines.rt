@@ -93,8 +93,9 @@ fn push_run(alloc: Global, text: &mut String, machine: &mut Machine) -> Result<(
     push_run_beside(alloc, text, machine, &mut ports)
 }
 
-/// Appends what the machine of these fields does.
-pub fn push_trace(alloc: Global, text: &mut String) -> Result<(), AllocError> {
+/// Appends what a machine does that is built from the listed fields of `Machine`, `Pipe` and
+/// `Units`: with a further field this does not compile.
+pub fn state_of_fields(alloc: Global, text: &mut String) -> Result<(), AllocError> {
     let (Some(sched), Some(guard)) = (sched(0xffff_fff0, 0xfffc), guard(0xcccc_c810)) else {
         return text.push_str("no registers");
     };

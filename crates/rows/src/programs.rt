@@ -8,7 +8,7 @@ use std::alloc::{AllocError, Global};
 /// Appends the events of a program.
 pub fn push_answer(text: &mut String, alloc: Global, program: &str) -> Result<(), AllocError> {
     match program {
-        "machine" => machines::push_trace(alloc, text),
+        "state_of_fields" => machines::state_of_fields(alloc, text),
         _ => pipelines::push_program(alloc, text, program),
     }
 }

@@ -5,7 +5,7 @@ use crate::escapes::unescaped;
 use crate::numbers::{low_word, number};
 use fp_io::{Files, RealFiles};
 use fp_setup::{
-    Input, Inputs, KeyPath, LoopSetup, Loops, Name, Setup, SetupNo, SetupRefused, ThreadSetup,
+    Input, Inputs, LoopSetup, Loops, Name, Place, Setup, SetupNo, SetupRefused, ThreadSetup,
     read_setup,
 };
 use std::alloc::{AllocError, Global};
@@ -47,24 +47,24 @@ fn push_file(text: &mut String, rt: HostRuntime, name: &str) -> Result<(), Alloc
 fn push_setup(text: &mut String, alloc: Global, bytes: &[u8]) -> Result<(), AllocError> {
     match read_setup(alloc, bytes) {
         Ok(setup) => push_accepted(text, &setup),
-        Err(SetupRefused::Fault { code, path }) => push_fault(text, code, path),
+        Err(SetupRefused::Fault { code, place }) => push_fault(text, code, place),
         Err(SetupRefused::NoMemory) => Err(AllocError),
     }
 }
 
-fn push_fault(text: &mut String, code: SetupNo, path: KeyPath) -> Result<(), AllocError> {
+fn push_fault(text: &mut String, code: SetupNo, place: Place) -> Result<(), AllocError> {
     write!(text, "refused {} {code:?} ", code as u8)?;
-    push_path(text, path)?;
+    push_place(text, place)?;
     text.push('\n')
 }
 
-fn push_path(text: &mut String, path: KeyPath) -> Result<(), AllocError> {
-    let KeyPath {
+fn push_place(text: &mut String, place: Place) -> Result<(), AllocError> {
+    let Place {
         table,
         row,
         key,
         item,
-    } = path;
+    } = place;
     let name = key_name(table, key);
     match table {
         0 | 1 => text.push_str(name)?,

@@ -86,7 +86,7 @@ fn push_timers(
         "disarm" => timers.disarm(thread),
         "low" => return push_hexadecimal(text, u64::from(timers.get_low(thread, n[1]))),
         "high" => return push_hexadecimal(text, u64::from(timers.get_high(thread))),
-        "due" => return push_value(text, timers.is_due(thread, n[1])),
+        "due" => return push_value(text, timers.due(thread, n[1])),
         _ => return push_value(text, timers.armed(thread)),
     }
     Ok(())

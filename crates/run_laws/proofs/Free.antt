@@ -6,7 +6,8 @@ use Rattle.std.proofs.Math.ListN.{get_or-map}
 use Rattle.std.proofs.lemmas.Bool.Decides.{nat_tests}
 use Rattle.core_model.specs.Solo.{past_and, has_position, may_go, oldest_first, solo_turn}
 use Rattle.core_model.specs.Thread.{Done, Thread, fresh}
-use Rattle.run_laws.specs.Isolation.{IsHard, WideIsolation}
+use Rattle.run_laws.specs.Isolation.{IsHard}
+use Rattle.run_laws.specs.RetiredIsolation.{RetiredWideIsolation}
 use Rattle.run_laws.specs.Wide.{executed, found_at, Wide, found_from, found_in, wide_at, wide_turn, wide_view}
 use Rattle.slot_scheduler.specs.ModeWord.{mode_of}
 use Rattle.slot_scheduler.specs.Picking.{pick}
@@ -19,7 +20,7 @@ use Rattle.world_model.specs.World.{port_word, Registers, Start, World, after_tu
 use Rattle.world_model.specs.World.Took.{Idle, Lost, Ran}
 use Rattle.run_laws.proofs.Picks.{is_this, IsThread, picks, both}
 use Rattle.run_laws.proofs.Steps.{Tied, Wakes, takes-wakes, takes-registers, rest-tied, passed-rests, bubble-rests, other-rests, early, not_going, going, equals, unequal, itself}
-use Rattle.run_laws.proofs.Induction.{sync_of, below, one_of, two_of, quiet_before, oldest_first-own_turns, quiet_earlier}
+use Rattle.run_laws.proofs.Induction.{sync_of, below, one_of, two_of, quiet_before, oldest_first-own_turns}
 use Rattle.run_laws.proofs.Outside.{quiet-regions}
 use Rattle.run_laws.proofs.Found.{narrow, own-wide}
 
@@ -135,8 +136,8 @@ always : (s : Start) (i n c : ℕ) → c ≤ n → IsHard s i → list_all leave
 always s i n zero l p q = begins s i n p
 always s i n (suc c) l p q = goes_on s i n c l p (always s i n c (omega arith) p (quiet_before s c q)) q
 
-pub wide-isolation : WideIsolation
+pub retired-wide-isolation : RetiredWideIsolation
 unfolding world
-wide-isolation s i n p quiet =
-    let g : Going s i n (n - 4) = always s i n (n - 4) (omega arith) p (quiet_earlier s n quiet) in
+retired-wide-isolation s i n p quiet =
+    let g : Going s i n (n - 4) = always s i n (n - 4) (omega arith) p quiet in
     sym (ap oldest_first g.tied.events ∙ oldest_first-own_turns i (recent s (n - 4)).now.turns)

@@ -15,7 +15,7 @@ use Rattle.timer_unit.specs.Time.{time}
 use Rattle.world_model.specs.World.{is_quiet, Start, Took, World, after_turn, events_of, leaves_registers, recent, sched_of, takes, thread_of, world}
 use Rattle.world_model.specs.World.Took.{Idle, Lost, Ran}
 use Rattle.phase_model.specs.declared.phase.Phase.{Phase}
-use Rattle.phase_model.specs.Phases.{phases, phases_of, first_phase, leaves_regions, is_never_soft}
+use Rattle.phase_model.specs.Phases.{keeps_regions, phases, phases_of, first_phase, leaves_regions, is_never_soft}
 use Rattle.phase_model.specs.Phased.{positions, setting_in, phase_at, no_phase, phased_at}
 use Rattle.phase_model.proofs.Settings.{setting-matches, latest-keeps}
 use Rattle.phase_model.specs.SettingLaws.{Matches}
@@ -25,8 +25,8 @@ use Rattle.world_model.proofs.Picks.{pick-below}
 use Rattle.run_laws.proofs.Steps.{own_turns, Tied, Wakes, takes-tied, takes-wakes, takes-all}
 
 -- before cycle c, by the settings of the run: the worlds that picking still looks at
-record Going (s : Start) (i c : ℕ) (phases : List Phase) : Type 0 where
-  tied : Tied s i c (recent s c).now (phased_at (view s i) phases c)
+pub record Going (s : Start) (i c : ℕ) (phases : List Phase) : Type 0 where
+  pub tied : Tied s i c (recent s c).now (phased_at (view s i) phases c)
   one : ((thread_of (recent s c).before i).own.sleep ≡ (thread_of (recent s c).now i).own.sleep) ⊎ (c + 2 ≤ (thread_of (recent s c).now i).ready)
   two : ((thread_of (recent s c).earlier i).own.sleep ≡ (thread_of (recent s c).now i).own.sleep) ⊎ (c + 1 ≤ (thread_of (recent s c).now i).ready)
 
@@ -98,7 +98,7 @@ all_before test s c q =
 pub quiet_before : (s : Start) (c : ℕ) → list_all leaves_registers (recent s (suc c)).now.turns ≡ true → list_all leaves_registers (recent s c).now.turns ≡ true
 quiet_before s c q = all_before leaves_registers s c q
 
-all_longer : (test : Took → Bool) (s : Start) (n m : ℕ) → list_all test (world s (n + m)).turns ≡ true → list_all test (world s n).turns ≡ true
+pub all_longer : (test : Took → Bool) (s : Start) (n m : ℕ) → list_all test (world s (n + m)).turns ≡ true → list_all test (world s n).turns ≡ true
 unfolding world
 all_longer test s n zero q = rw add-zero at q
 all_longer test s n (suc m) q = all_longer test s n m (all_before test s (n + m) (rw add-suc at q))
@@ -113,7 +113,7 @@ pub quiet_earlier : (s : Start) (n : ℕ) → is_quiet s n ≡ true → is_quiet
 quiet_earlier s n q = all_earlier leaves_registers s n q
 
 -- the world that picking in cycle c goes by
-earlier_is : (s : Start) (c : ℕ) → (recent s c).earlier ≡ world s (c - 2)
+pub earlier_is : (s : Start) (c : ℕ) → (recent s c).earlier ≡ world s (c - 2)
 unfolding recent world
 earlier_is s zero = refl
 earlier_is s (suc zero) = refl
@@ -129,7 +129,7 @@ matches-earlier s n c l = subst (λ (w : World). Matches (phase_at (Before s n) 
 nobody-soft : (i : ℕ) → is_never_soft i no_phase ≡ true
 nobody-soft i = rw (zero-div (4 ^ i)) refl
 
-always : (s : Start) (i n c : ℕ) → c ≤ n → IsApart s i → list_all (is_never_soft i) (Before s n) ≡ true → list_all leaves_regions (recent s c).now.turns ≡ true → Going s i c (Before s n)
+pub always : (s : Start) (i n c : ℕ) → c ≤ n → IsApart s i → list_all (is_never_soft i) (Before s n) ≡ true → list_all leaves_regions (recent s c).now.turns ≡ true → Going s i c (Before s n)
 always s i n zero l p never q = begins s i (Before s n) p
 always s i n (suc c) l p never q =
     let less : c ≤ n = omega arith in
@@ -152,9 +152,14 @@ oldest_first-own_turns i (Ran k pc word (Some e) ∷ turns) = go (k == i) (oldes
     go true h = ap (λ es. es ++ event ∷ []) h
     go false h = h ∙ sym (append-nil (events_of i turns))
 
-pub phased-isolation : PhasedIsolation
+-- its events before a cycle that has retired
+pub phased-before : (s : Start) (i n c : ℕ) → c ≤ n - 4 → IsApart s i → list_all (is_never_soft i) (phases s n) ≡ true → keeps_regions s n ≡ true → oldest_first (phased_at (view s i) (phases s n) c).events ≡ events_of i (world s c).turns
 unfolding world
-phased-isolation s i n p never kept =
-    let same : n - 4 ≤ n - 4 = omega arith in
-    let g : Going s i (n - 4) (phases s n) = always s i (n - 4) (n - 4) same p never (all_earlier leaves_regions s n kept) in
-    sym (ap oldest_first g.tied.events ∙ oldest_first-own_turns i (recent s (n - 4)).now.turns)
+phased-before s i n c l p never kept =
+    let e : c + (n - c) ≡ n = omega arith in
+    let q : list_all leaves_regions (world s c).turns ≡ true = all_longer leaves_regions s c (n - c) (subst (λ (m : ℕ). list_all leaves_regions (world s m).turns ≡ true) (sym e) kept) in
+    let g : Going s i c (phases s n) = always s i (n - 4) c l p never q in
+    ap oldest_first g.tied.events ∙ oldest_first-own_turns i (recent s c).now.turns
+
+pub phased-isolation : PhasedIsolation
+phased-isolation s i n p never kept = sym (phased-before s i n (n - 4) (omega arith) p never kept)

@@ -13,4 +13,5 @@ mod Equal
 mod Found
 mod Free
 mod Starts
+mod Retired
 mod Traces

@@ -1,5 +1,5 @@
 -- A quiet run has one setting, and over it the thread goes as alone.
-use Rattle.std.proofs.Common.{◌≡◌, ℕ, zero, suc, ◌-◌, true, false, List, [], ◌∷◌, ◌++◌, length, Some, None, refl, ap, ap₂, ◌∙◌, arith}
+use Rattle.std.proofs.Common.{◌≡◌, ℕ, zero, suc, ◌-◌, ◌≤◌, true, false, List, [], ◌∷◌, ◌++◌, length, Some, None, refl, ap, ap₂, sym, ◌∙◌, arith}
 use Rattle.std.specs.Prelude.{◌==◌, nat_le}
 use Rattle.std.specs.List.{list_all}
 use Rattle.std.proofs.lemmas.Bool.Decides.{nat_tests}
@@ -8,15 +8,16 @@ use Rattle.slot_scheduler.specs.ModeWord.{mode_of}
 use Rattle.core_model.specs.Solo.{oldest_first, past_and, port_at, solo_at, solo_turn, Past}
 use Rattle.core_model.specs.View.{Setting}
 use Rattle.world_model.specs.Viewed.{setting_of, view}
-use Rattle.world_model.specs.World.{Start, Took, leaves_registers, world}
+use Rattle.world_model.specs.World.{Start, Took, leaves_registers, recent, world}
 use Rattle.world_model.specs.World.Took.{Idle, Lost, Ran}
 use Rattle.phase_model.specs.declared.phase.Phase.{Phase}
 use Rattle.phase_model.specs.Phases.{first_phase, is_never_soft, last_phase, leaves_regions, phase_after, phases, phases_of}
 use Rattle.phase_model.specs.Phased.{phase_at, phased, phased_at, setting_in}
-use Rattle.run_laws.specs.Isolation.{IsApart, IsConfined, Isolation}
+use Rattle.run_laws.specs.Isolation.{IsApart, IsConfined}
+use Rattle.run_laws.specs.RetiredIsolation.{RetiredIsolation, RetiredPhasedIsolation}
 use Rattle.run_laws.proofs.Outside.{quiet-regions}
 use Rattle.run_laws.proofs.Picks.{both}
-use Rattle.run_laws.proofs.Induction.{phased-isolation, quiet_earlier}
+use Rattle.run_laws.proofs.Induction.{Going, always, oldest_first-own_turns}
 
 quiet-after : (c : ℕ) (took : Took) (p : Phase) → leaves_registers took ≡ true → phase_after c took p ≡ []
 quiet-after c Idle p h = refl
@@ -58,10 +59,17 @@ alone s i (suc c) hard =
 apart : (s : Start) (i : ℕ) → IsConfined s i → IsApart s i
 apart s i p = record { size = p.size; thread = p.thread; eight = p.eight; confined = p.confined; permit = p.permit }
 
-pub isolation : Isolation
-isolation s i n p quiet =
-    let one : phases s n ≡ first_phase s ∷ [] = one-phase (first_phase s) (world s (n - 4)).turns (quiet_earlier s n quiet) in
+pub retired-phased-isolation : RetiredPhasedIsolation
+unfolding world
+retired-phased-isolation s i n p never kept =
+    let same : n - 4 ≤ n - 4 = omega arith in
+    let g : Going s i (n - 4) (phases s n) = always s i (n - 4) (n - 4) same p never kept in
+    sym (ap oldest_first g.tied.events ∙ oldest_first-own_turns i (recent s (n - 4)).now.turns)
+
+pub retired-isolation : RetiredIsolation
+retired-isolation s i n p quiet =
+    let one : phases s n ≡ first_phase s ∷ [] = one-phase (first_phase s) (world s (n - 4)).turns quiet in
     let never : list_all (is_never_soft i) (phases s n) ≡ true = rw (one, p.hard) refl in
-    phased-isolation s i n (apart s i p) never (all-kept (world s n).turns quiet)
+    retired-phased-isolation s i n (apart s i p) never (all-kept (world s (n - 4)).turns quiet)
     ∙ ap (λ (ps : List Phase). phased (view s i) ps n) one
     ∙ ap (λ (a : Past). oldest_first a.events) (alone s i (n - 4) p.hard)

@@ -7,19 +7,25 @@ ghost use Rattle.run_laws.specs.Isolation.{EqualViews, Isolation, PhasedIsolatio
 /// those of the definition of one thread, over its view.
 pub fn runs_alone()
     ensures { Isolation }
-{}
+{
+    crate::retired_isolation::runs_alone();
+}
 
 /// A confined thread without a permit that is never soft active runs as if it were alone over the
 /// settings of the scheduling: while no region register is written, its events are those of the
 /// definition of one thread, over its view and the settings of the run.
 pub fn runs_by_phases()
     ensures { PhasedIsolation }
-{}
+{
+    crate::retired_isolation::runs_by_phases();
+}
 
 /// In quiet runs two machines that agree in a confined hard thread's view show equal events of it.
 pub fn shows_equal_events()
     ensures { EqualViews }
-{}
+{
+    crate::retired_isolation::shows_equal_events();
+}
 
 /// Without a permit, no run of any length writes one of the machine's own registers.
 pub fn stays_quiet()
@@ -31,4 +37,6 @@ pub fn stays_quiet()
 /// write, and with a permit the machine's own registers.
 pub fn runs_by_wide_view()
     ensures { WideIsolation }
-{}
+{
+    crate::retired_isolation::runs_by_wide_view();
+}

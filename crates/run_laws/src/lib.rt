@@ -6,4 +6,6 @@
 
 pub mod isolation;
 pub mod lag_table;
+pub mod retired_isolation;
+pub mod retired_traces;
 pub mod setup_traces;

@@ -9,7 +9,7 @@ ghost use Rattle.run_laws.specs.TraceLaws.{EqualTraces, QuietSetup, TraceAlone, 
 pub fn traces_alone()
     ensures { TraceAlone }
 {
-    crate::isolation::runs_alone();
+    crate::retired_traces::traces_alone();
 }
 
 /// While no region register is written, and no setting of the scheduling makes it soft active, the
@@ -18,14 +18,14 @@ pub fn traces_alone()
 pub fn traces_by_phases()
     ensures { TraceByPhases }
 {
-    crate::isolation::runs_by_phases();
+    crate::retired_traces::traces_by_phases();
 }
 
 /// In quiet runs machines that agree in a confined hard thread's view write equal traces of it.
 pub fn writes_equal_traces()
     ensures { EqualTraces }
 {
-    crate::isolation::runs_alone();
+    crate::retired_traces::writes_equal_traces();
 }
 
 /// A setup without a permit has quiet runs alone.
@@ -39,5 +39,5 @@ pub fn stays_quiet()
 pub fn traces_by_wide_view()
     ensures { TraceByWideView }
 {
-    crate::isolation::runs_by_wide_view();
+    crate::retired_traces::traces_by_wide_view();
 }

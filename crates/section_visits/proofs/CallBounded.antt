@@ -10,14 +10,16 @@ use Rattle.region_tree.specs.Graph.{Edge, Graph, Lies, Reachable, edge_list}
 use Rattle.region_tree.specs.Graph.Reachable.{first, next}
 use Rattle.region_tree.specs.Walk.{IsNextTurn}
 use Rattle.region_tree.specs.declared.edges.Stop.TheVariants.{No}
-use Rattle.bound_calc.specs.Bound.{positions}
-use Rattle.world_model.specs.World.{Start, contents, issue_of, recent, surroundings, thread_of, world}
+use Rattle.world_model.specs.World.{Start, contents, issue_of, recent, surroundings, thread_of}
 use Rattle.fp_routines.specs.declared.routines.Routine.{Routine}
 use Rattle.section_visits.proofs.Instructions.{Gone, issue-fetches, issue-goes}
-use Rattle.section_visits.proofs.Linking.{Went, linked-after, linked-own, linked_all}
+use Rattle.section_visits.proofs.Linking.{AreBelow, Went, all-below, below-at, linked-after, linked-own, linked_all}
+use Rattle.section_visits.proofs.Scheduled.{always-set, quiet-keeps}
 use Rattle.section_visits.proofs.Links.{fetch-inside, stop-no}
-use Rattle.section_visits.specs.VisitBound.{Along, AreLinked}
-use Rattle.section_visits.specs.Visits.{Issued, first_of, issues_of}
+use Rattle.section_visits.specs.CallsInSettings.{CallVisitsAreBoundedInSettings, HasWordsOfParts}
+use Rattle.section_visits.specs.InSettings.{AreLinkedIn, IsSet, Throughout}
+use Rattle.section_visits.specs.VisitBound.{Along}
+use Rattle.section_visits.specs.Visits.{Issued, first_of}
 use Rattle.call_bounds.specs.Calls.{Calls, IsReached, Part, callee, is_back, onward, part, returns, stop_unless}
 use Rattle.call_bounds.specs.CallRefusals.{IsCallable, IsListing}
 use Rattle.call_bounds.specs.CallWalk.{CallWalk, CostsOf, Route, part_in, route}
@@ -32,8 +34,8 @@ use Rattle.section_visits.proofs.CallVisited.{Way, ends, goes}
 abbrev at : Route → Issued → ℕ
 at x i = i.cycle % length x.positions.frame
 
-abbrev Links : Route → List Issued → Type 0
-Links x l = AreLinked (IsMet x.calls) (Way x.calls) x.positions l
+abbrev Links : (ℕ → Type 0) → Route → List Issued → Type 0
+Links set x l = AreLinkedIn set (IsMet x.calls) (Way x.calls) x.positions l
 
 -- issues up to one in its part, as a walk
 record Walked (x : Route) (i : Issued) (before : List Issued) : Type 0 where
@@ -54,20 +56,27 @@ met x i before is w = go (top x w.counters (at x (first_of i before)) (open_at x
 turn-of : (x : Route) (h i : Issued) (a : Along (Way x.calls) x.positions h i) → IsNextTurn x.positions a.edge.lag (at x h) (i.cycle - h.cycle) (at x i)
 turn-of x h i a = a.turn
 
-walked : (x : Route) (i : Issued) (before earlier : List Issued) → AreParts x.calls → IsCallable x.calls → Links x (i ∷ (before ++ earlier)) → (first_of i before).pc ≡ x.calls.section.from → GoOn x.calls before → Lies (part x.calls (part_in x.calls (open_at x.calls before))) i.pc →
+-- the cycles up to the issue before the last one, and those from it on
+until-last : (set : ℕ → Type 0) (x : Route) (i h : Issued) (before earlier : List Issued) → Links set x (i ∷ (h ∷ (before ++ earlier))) → Throughout set (first_of h before).cycle i.cycle → Throughout set (first_of h before).cycle h.cycle
+until-last set x i h before earlier l here c low high = let order = l.1 in here c low (let up : c ≤ i.cycle = omega arith in up)
+
+from-last : (set : ℕ → Type 0) (x : Route) (i h : Issued) (before : List Issued) → Throughout set (first_of h before).cycle i.cycle → Walked x h before → Throughout set h.cycle i.cycle
+from-last set x i h before here w c low high = let order = w.order in here c (let from : (first_of h before).cycle ≤ c = omega arith in from) high
+
+walked : (set : ℕ → Type 0) (x : Route) (i : Issued) (before earlier : List Issued) → AreParts x.calls → IsCallable x.calls → Links set x (i ∷ (before ++ earlier)) → Throughout set (first_of i before).cycle i.cycle → (first_of i before).pc ≡ x.calls.section.from → GoOn x.calls before → Lies (part x.calls (part_in x.calls (open_at x.calls before))) i.pc →
     KeepsReturns x.calls i before → KeepsBounds x.calls i before → Walked x i before
-walked x i [] earlier is ok l starts on lies comes keeps = record {
+walked set x i [] earlier is ok l here starts on lies comes keeps = record {
   cost = 0;
   counters = λ _. 0;
-  walk = subst (λ u. CallWalk x (at x i) u (at x i) [] 0 (λ _. 0)) (sym starts) (CallWalk.start (linked-own (IsMet x.calls) (Way x.calls) x.positions i earlier l));
+  walk = subst (λ u. CallWalk x (at x i) u (at x i) [] 0 (λ _. 0)) (sym starts) (CallWalk.start (linked-own set (IsMet x.calls) (Way x.calls) x.positions i earlier l (let same : i.cycle ≤ i.cycle = omega arith in here i.cycle same same)));
   order = omega arith;
   long = omega arith;
   same = λ j. refl;
 }
-walked x i (h ∷ before) earlier is ok l starts on lies comes keeps = go (walked x h before earlier is ok l.0 starts on.0 on.1 comes.0 keeps.0)
+walked set x i (h ∷ before) earlier is ok l here starts on lies comes keeps = go (walked set x h before earlier is ok l.0 (until-last set x i h before earlier l here) starts on.0 on.1 comes.0 keeps.0)
   where
     go : Walked x h before → Walked x i (h ∷ before)
-    go w = onto (l.2 (met x h before is w) on.2)
+    go w = onto (l.3 (from-last set x i h before here w) (met x h before is w) on.2)
       where
         onto : Along (Way x.calls) x.positions h i → Walked x i (h ∷ before)
         onto a = record {
@@ -94,17 +103,18 @@ lies-or g u = go (let z : (g.from ≤ u) ⊎ (u < g.from) = grind arith in z) (l
     go (inl a) (inr b) = inr (λ l. omega (arith, l.high))
     go (inr a) b = inr (λ l. omega (arith, l.low))
 
-bounded : (x : Route) (b : ℕ) → ((c : ℕ) → CostsOf x c → c ≤ b) → AreParts x.calls → IsCallable x.calls → (last : Issued) (before earlier : List Issued) → Links x (last ∷ (before ++ earlier)) → (first_of last before).pc ≡ x.calls.section.from → GoOn x.calls before →
+bounded : (set : ℕ → Type 0) (x : Route) (b : ℕ) → ((c : ℕ) → CostsOf x c → c ≤ b) → AreParts x.calls → IsCallable x.calls → (last : Issued) (before earlier : List Issued) → Links set x (last ∷ (before ++ earlier)) →
+    Throughout set (first_of last before).cycle last.cycle → (first_of last before).pc ≡ x.calls.section.from → GoOn x.calls before →
     KeepsReturns x.calls last before → KeepsBounds x.calls last before → Lies (part x.calls (part_in x.calls (open_at x.calls before))) last.pc ⊎ (Lies (part x.calls (part_in x.calls (open_at x.calls before))) last.pc → ⊥) →
     last.cycle - (first_of last before).cycle ≤ b
-bounded x b most is ok last before earlier l starts on comes keeps (inl lies) =
-    let w = walked x last before earlier is ok l starts on lies comes keeps in
+bounded set x b most is ok last before earlier l here starts on comes keeps (inl lies) =
+    let w = walked set x last before earlier is ok l here starts on lies comes keeps in
     subst (λ c. c ≤ b) w.long (most w.cost (CostsOf.ends w.walk))
-bounded x b most is ok last [] earlier l starts on comes keeps (inr out) = omega arith
-bounded x b most is ok last (h ∷ before) earlier l starts on comes keeps (inr out) = go (walked x h before earlier is ok l.0 starts on.0 on.1 comes.0 keeps.0)
+bounded set x b most is ok last [] earlier l here starts on comes keeps (inr out) = omega arith
+bounded set x b most is ok last (h ∷ before) earlier l here starts on comes keeps (inr out) = go (walked set x h before earlier is ok l.0 (until-last set x last h before earlier l here) starts on.0 on.1 comes.0 keeps.0)
   where
     go : Walked x h before → last.cycle - (first_of h before).cycle ≤ b
-    go w = onto (l.2 (met x h before is w) on.2)
+    go w = onto (l.3 (from-last set x last h before here w) (met x h before is w) on.2)
       where
         onto : Along (Way x.calls) x.positions h last → last.cycle - (first_of h before).cycle ≤ b
         onto a =
@@ -122,7 +132,7 @@ onward-aligned (Some t) w u e h c =
     let to : u + 4 ≡ e.to = ap (λ (y : Edge). y.to) same in
     omega arith
 
-part-aligned : (x : Calls) (a : Part) (u : ℕ) → IsListing x → IsReached x a → Reachable (part x a) u → u % 4 ≡ 0
+pub part-aligned : (x : Calls) (a : Part) (u : ℕ) → IsListing x → IsReached x a → Reachable (part x a) u → u % 4 ≡ 0
 part-aligned x None u is r first = is.section.from_aligned
 part-aligned x (Some t) u is r first = (is.routines.each t (reached-listed x t r)).head_aligned
 part-aligned x a u is r (next {u = v} e word edge lies) = onward-aligned (callee x v) (x.word v) v e (part-aligned x a v is r word) edge
@@ -141,14 +151,14 @@ stops x u ok m = go (returns x m.within u) refl
         (λ z. ok.indirect u (record { within = m.within; reached = m.reached; holds = (m.word, ap (λ b. stop_unless b (edges_of (x.word u) u).stop) e ∙ z) }))
         (λ z. ok.timed u (record { within = m.within; reached = m.reached; holds = (m.word, ap (λ b. stop_unless b (edges_of (x.word u) u).stop) e ∙ z) })))
 
-went : (s : Start) (x : Calls) (slots i : ℕ) → IsListing x → IsCallable x → IsHost s x slots i → Went (IsMet x) (Way x) s i
-went s x slots i is ok host c m calm = go (stops x th.pc ok m)
+went : (s : Start) (x : Calls) (i : ℕ) → IsCallable x → HasWordsOfParts s x → Went (IsMet x) (Way x) s i
+went s x i ok host c m calm = go (stops x th.pc ok m)
   where
     th : Thread
     th = thread_of (recent s c).now i
 
     same : code_at s.size s.i_words th.pc ≡ x.word th.pc
-    same = host.same_words th.pc (part-aligned x m.within th.pc is m.reached m.word) m (fetch-inside s c (recent s c).now i th.pc (issue-fetches (surroundings s c (recent s c).now i) (contents s c (recent s c).now i) c th calm))
+    same = host.same_words th.pc m (fetch-inside s c (recent s c).now i th.pc (issue-fetches (surroundings s c (recent s c).now i) (contents s c (recent s c).now i) c th calm))
 
     go : ((edges_of (x.word th.pc) th.pc).stop ≡ No) ⊎ (is_back (x.word th.pc) ≡ true) → Gone (Way x th.pc) c th.own.sleep (issue_of s c (recent s c).now i).thread
     go (inl stop) =
@@ -158,10 +168,19 @@ went s x slots i is ok host c m calm = go (stops x th.pc ok m)
         let y = issue-returns (surroundings s c (recent s c).now i) (contents s c (recent s c).now i) c th (ap is_back same ∙ back) calm in
         record { edge = record { to = (issue_of s c (recent s c).now i).thread.pc; lag = 3 }; known = inr (back, refl); to = refl; ready = y.ready; sleeps = y.sleeps; later = omega arith }
 
-pub call_visits_are_bounded : CallVisitsAreBounded
-call_visits_are_bounded x slots thread b s n is ok most host quiet last before v comes keeps =
+pub call_visits_in_settings : CallVisitsAreBoundedInSettings
+call_visits_in_settings x slots thread b s n is ok most host last before here v comes keeps =
     let r : Route = route x slots thread in
-    let all = linked_all (IsMet x) (Way x) s thread n (went s x slots thread is ok host) host.eight host.hard quiet in
-    let here = subst (λ z. AreLinked (IsMet x) (Way x) (positions z thread) (issues_of thread (world s n).turns)) host.same_slots all in
-    let links = subst (λ l. AreLinked (IsMet x) (Way x) r.positions l) v.among here in
-    bounded r b most (parts x is ok) ok last before v.earlier (linked-after (IsMet x) (Way x) r.positions v.later (last ∷ (before ++ v.earlier)) links) v.starts v.goes_on comes keeps (lies-or (part x (part_in x (open_at x before))) last.pc)
+    let all = linked_all (IsMet x) (Way x) s slots thread n (went s x thread ok host) host.eight in
+    let links = subst (λ l. AreLinkedIn (IsSet s slots thread) (IsMet x) (Way x) r.positions l) v.among all in
+    bounded (IsSet s slots thread) r b most (parts x is ok) ok last before v.earlier (linked-after (IsSet s slots thread) (IsMet x) (Way x) r.positions v.later (last ∷ (before ++ v.earlier)) links) here v.starts v.goes_on comes keeps
+    (lies-or (part x (part_in x (open_at x before))) last.pc)
+
+words-of : (s : Start) (x : Calls) (slots thread : ℕ) → IsListing x → IsHost s x slots thread → HasWordsOfParts s x
+words-of s x slots thread is h = record { eight = h.eight; same_words = λ u m lt. h.same_words u (part-aligned x m.within u is m.reached m.word) m lt }
+
+pub call-visits-from : CallVisitsAreBoundedInSettings → CallVisitsAreBounded
+call-visits-from law x slots thread b s n is ok most host quiet last before v comes keeps =
+    let end : last.cycle < n = below-at n v.later last (before ++ v.earlier) (subst (λ l. AreBelow n l) v.among (all-below s thread n)) in
+    law x slots thread b s n is ok most (words-of s x slots thread is host) last before
+    (λ c low high. always-set s slots thread n host.same_slots host.hard (quiet-keeps s n quiet) c (let below : c < n = omega arith in below)) v comes keeps

@@ -1,26 +1,24 @@
--- What a cycle of a quiet run does to one hard thread.
+-- What a cycle does to one thread, by slots by which it is hard and active.
 use Rattle.std.proofs.Common.{◌≡◌, ℕ, zero, suc, ◌+◌, ◌%◌, ◌<◌, ◌≤◌, inl, inr, ◌⊎◌, Bool, true, false, ◌&&◌, List, [], ◌∷◌, map, get_or, length, length-set, refl, ap, ap₂, sym, ◌∙◌, subst, arith, get_or-set_other, get_or-set_same}
 use Rattle.std.specs.Prelude.{if◌then◌else◌, ◌==◌, nat_le, nat_lt}
-use Rattle.std.specs.List.{list_all}
 use Rattle.std.proofs.Math.ListN.{get_or-map}
 use Rattle.std.proofs.lemmas.List.{length-map}
 use Rattle.std.proofs.lemmas.Bool.Decides.{nat_tests}
 use Rattle.core_model.specs.Thread.{Thread, Done, fresh}
 use Rattle.core_model.specs.Solo.{has_position}
-use Rattle.slot_scheduler.specs.ModeWord.{mode_of}
 use Rattle.slot_scheduler.specs.Picking.{Picked, pick}
 use Rattle.slot_scheduler.specs.declared.picking.Pick.{Pick}
 use Rattle.slot_scheduler.specs.declared.picking.Pick.TheVariants.{Bubble, Issue}
 use Rattle.slot_table.specs.Frame.{frame}
 use Rattle.timer_unit.specs.Time.{time}
-use Rattle.world_model.specs.World.{Start, World, Registers, leaves_registers, thread_of, sched_of, takes, after_turn, Recent, recent, issue_of, issued, passed}
-use Rattle.world_model.specs.World.Took.{Lost, Ran}
+use Rattle.world_model.specs.World.{Start, World, thread_of, sched_of, takes, after_turn, Recent, recent, issue_of, issued, passed}
+use Rattle.world_model.specs.World.Took.{Lost}
 use Rattle.run_laws.proofs.Picks.{is_this, picks, both}
 use Rattle.run_laws.proofs.Steps.{Wakes, takes-wakes, equals, unequal, itself}
 use Rattle.run_laws.proofs.Induction.{one_of, two_of, sync_of}
-use Rattle.run_laws.proofs.Outside.{quiet_registers}
 use Rattle.region_tree.specs.Walk.{IsOwn}
 use Rattle.bound_calc.specs.Bound.{positions}
+use Rattle.section_visits.specs.InSettings.{IsHardBy}
 use Rattle.section_visits.specs.Visits.{is_trap, issues_of}
 
 -- the thread issues in the cycle
@@ -38,7 +36,6 @@ pub record Rests (i c : ℕ) (w after : World) (o : Pick) : Type 0 where
 
 -- what is the same for all threads
 pub record Keeps (w after : World) : Type 0 where
-  pub registers : after.registers ≡ w.registers
   pub count : length after.threads ≡ length w.threads
   pub age : length after.turns ≡ suc (length w.turns)
 
@@ -75,20 +72,16 @@ takes-issues s i c w last (Issue k) h n = go (nat_lt c (thread_of w k).ready) re
         let Goal : ℕ → Type 0 = λ j. Issues s i c w (issued s c w last j (issue_of s c w j)) (Issue j) in
         inl (subst Goal (sym same) (own-issues s i c w last h n (subst Late same e)))
 
-pub takes-keeps : (s : Start) (c : ℕ) (w : World) (last : ℕ) (o : Pick) → list_all leaves_registers (takes s c w last o).turns ≡ true → Keeps w (takes s c w last o)
-takes-keeps s c w last Bubble q = record { registers = refl; count = refl; age = refl }
-takes-keeps s c w last (Issue k) q = go (nat_lt c (thread_of w k).ready) q
+pub takes-keeps : (s : Start) (c : ℕ) (w : World) (last : ℕ) (o : Pick) → Keeps w (takes s c w last o)
+takes-keeps s c w last Bubble = record { count = refl; age = refl }
+takes-keeps s c w last (Issue k) = go (nat_lt c (thread_of w k).ready)
   where
     d : Done
     d = issue_of s c w k
 
-    go : (b : Bool) → list_all leaves_registers (let x : World = if b then passed w last (Lost k) else issued s c w last k d in x).turns ≡ true → Keeps w (if b then passed w last (Lost k) else issued s c w last k d)
-    go true h = record { registers = refl; count = refl; age = refl }
-    go false h = record {
-      registers = quiet_registers k (thread_of w k).pc d.word d.effect w.registers (both (leaves_registers (Ran k (thread_of w k).pc d.word d.effect)) (list_all leaves_registers w.turns) h).0;
-      count = length-set w.threads k d.thread;
-      age = refl;
-    }
+    go : (b : Bool) → Keeps w (if b then passed w last (Lost k) else issued s c w last k d)
+    go true = record { count = refl; age = refl }
+    go false = record { count = length-set w.threads k d.thread; age = refl }
 
 -- a position of the thread's own
 own-there : (f : List ℕ) (c i : ℕ) → has_position (map (λ slot. slot == i) f) c ≡ true → IsOwn (record { frame = f; thread = i }) (c % length f)
@@ -113,11 +106,8 @@ there-own f c i o = ap (λ n. get_or (map (λ slot. slot == i) f) (c % n) false)
     at (x ∷ xs) zero o = let e : x ≡ i = o.own in rw e (itself i)
     at (x ∷ xs) (suc k) o = at xs k (record { within = omega (arith, o.within); own = o.own })
 
--- before cycle c: the registers of the three worlds that picking still looks at, and the thread's sleep in them
+-- before cycle c: the thread's sleep in the three worlds that picking still looks at
 pub record Going (s : Start) (i c : ℕ) : Type 0 where
-  pub registers : (recent s c).now.registers ≡ s.registers
-  pub before : (recent s c).before.registers ≡ s.registers
-  pub earlier : (recent s c).earlier.registers ≡ s.registers
   pub eight : length (recent s c).now.threads ≡ 8
   pub age : length (recent s c).now.turns ≡ c
   pub one : ((thread_of (recent s c).before i).own.sleep ≡ (thread_of (recent s c).now i).own.sleep) ⊎ (c + 2 ≤ (thread_of (recent s c).now i).ready)
@@ -125,32 +115,36 @@ pub record Going (s : Start) (i c : ℕ) : Type 0 where
 
 pub begins : (s : Start) (i : ℕ) → length s.threads ≡ 8 → Going s i zero
 unfolding recent
-begins s i n = record { registers = refl; before = refl; earlier = refl; eight = n; age = refl; one = inl refl; two = inl refl }
+begins s i n = record { eight = n; age = refl; one = inl refl; two = inl refl }
+
+-- the registers that picking in cycle c uses
+abbrev pub IsHardAt : Start → ℕ → ℕ → ℕ → Type 0
+IsHardAt s slots i c = IsHardBy slots i (recent s c).earlier.registers
 
 -- whether the thread is picked: at its own positions, while it is awake
-is-picked : (s : Start) (i c : ℕ) → i < 8 → mode_of s.registers.modes i ≡ 0 → (w : World) → w.registers ≡ s.registers → (last : ℕ) →
-    is_this i (pick (sched_of w) c (time s.period c) last).pick ≡ (has_position (map (λ slot. slot == i) (frame s.registers.slots)) c && nat_le (thread_of w i).own.sleep (time s.period c))
-is-picked s i c h hard w same last =
-    picks (sched_of w) c (time s.period c) last i h (ap (λ (r : Registers). mode_of r.modes i) same ∙ hard)
-    ∙ ap₂ (λ (r : Registers) (m : ℕ). has_position (map (λ slot. slot == i) (frame r.slots)) c && nat_le m (time s.period c)) same (get_or-map (λ (t : Thread). t.own.sleep) w.threads i (fresh 0))
+is-picked : (s : Start) (slots i c : ℕ) → i < 8 → (w : World) → IsHardBy slots i w.registers → (last : ℕ) →
+    is_this i (pick (sched_of w) c (time s.period c) last).pick ≡ (has_position (map (λ slot. slot == i) (frame slots)) c && nat_le (thread_of w i).own.sleep (time s.period c))
+is-picked s slots i c h w set last =
+    picks (sched_of w) c (time s.period c) last i h set.hard
+    ∙ ap₂ (λ (z m : ℕ). has_position (map (λ slot. slot == i) (frame z)) c && nat_le m (time s.period c)) set.same_slots (get_or-map (λ (t : Thread). t.own.sleep) w.threads i (fresh 0))
 
 -- an issue of the thread
-pub record Goes (s : Start) (i c : ℕ) : Type 0 where
-  pub own : IsOwn (positions s.registers.slots i) (c % length (frame s.registers.slots))
+pub record Goes (s : Start) (slots i c : ℕ) : Type 0 where
+  pub own : IsHardAt s slots i c → IsOwn (positions slots i) (c % length (frame slots))
   pub ready : (thread_of (recent s c).now i).ready ≤ c
-  pub awake : (thread_of (recent s c).now i).own.sleep ≤ time s.period c
+  pub awake : IsHardAt s slots i c → (thread_of (recent s c).now i).own.sleep ≤ time s.period c
   pub thread : thread_of (recent s (suc c)).now i ≡ (issue_of s c (recent s c).now i).thread
   pub issues : issues_of i (recent s (suc c)).now.turns ≡ record { cycle = c; pc = (thread_of (recent s c).now i).pc; traps = is_trap (issue_of s c (recent s c).now i).effect } ∷ issues_of i (recent s c).now.turns
 
 -- no issue of the thread: the cycle isn't its turn, or it isn't ready, or it sleeps
-pub record Stays (s : Start) (i c : ℕ) : Type 0 where
+pub record Stays (s : Start) (slots i c : ℕ) : Type 0 where
   pub thread : thread_of (recent s (suc c)).now i ≡ thread_of (recent s c).now i
   pub issues : issues_of i (recent s (suc c)).now.turns ≡ issues_of i (recent s c).now.turns
-  pub idle : IsOwn (positions s.registers.slots i) (c % length (frame s.registers.slots)) → (thread_of (recent s c).now i).ready ≤ c → (thread_of (recent s c).now i).own.sleep ≤ time s.period c → ⊥
+  pub idle : IsHardAt s slots i c → IsOwn (positions slots i) (c % length (frame slots)) → (thread_of (recent s c).now i).ready ≤ c → (thread_of (recent s c).now i).own.sleep ≤ time s.period c → ⊥
 
-pub cycles : (s : Start) (i c : ℕ) → i < 8 → mode_of s.registers.modes i ≡ 0 → Going s i c → Goes s i c ⊎ Stays s i c
+pub cycles : (s : Start) (slots i c : ℕ) → i < 8 → Going s i c → Goes s slots i c ⊎ Stays s slots i c
 unfolding recent after_turn
-cycles s i c h hard g = go (takes-issues s i c r.now k.last k.pick h g.eight)
+cycles s slots i c h g = go (takes-issues s i c r.now k.last k.pick h g.eight)
   where
     r : Recent
     r = recent s c
@@ -158,8 +152,8 @@ cycles s i c h hard g = go (takes-issues s i c r.now k.last k.pick h g.eight)
     k : Picked
     k = pick (sched_of r.earlier) c (time s.period c) r.now.last
 
-    is : is_this i k.pick ≡ (has_position (map (λ slot. slot == i) (frame s.registers.slots)) c && nat_le (thread_of r.earlier i).own.sleep (time s.period c))
-    is = is-picked s i c h hard r.earlier g.earlier r.now.last
+    is : IsHardBy slots i r.earlier.registers → is_this i k.pick ≡ (has_position (map (λ slot. slot == i) (frame slots)) c && nat_le (thread_of r.earlier i).own.sleep (time s.period c))
+    is set = is-picked s slots i c h r.earlier set r.now.last
 
     sync : ((thread_of r.earlier i).own.sleep ≡ (thread_of r.now i).own.sleep) ⊎ (c < (thread_of r.now i).ready)
     sync = sync_of (thread_of r.earlier i).own.sleep (thread_of r.now i).own.sleep c (thread_of r.now i).ready g.two
@@ -168,42 +162,40 @@ cycles s i c h hard g = go (takes-issues s i c r.now k.last k.pick h g.eight)
     awake e l (inl same) = let le : (thread_of r.earlier i).own.sleep ≤ time s.period c = grind (arith, nat_tests) in subst (λ m. m ≤ time s.period c) same le
     awake e l (inr late) = absurd (omega arith)
 
-    asleep : IsOwn (positions s.registers.slots i) (c % length (frame s.registers.slots)) → (thread_of r.now i).ready ≤ c → (thread_of r.now i).own.sleep ≤ time s.period c →
+    asleep : IsHardBy slots i r.earlier.registers → IsOwn (positions slots i) (c % length (frame slots)) → (thread_of r.now i).ready ≤ c → (thread_of r.now i).own.sleep ≤ time s.period c →
         ((thread_of r.earlier i).own.sleep ≡ (thread_of r.now i).own.sleep) ⊎ (c < (thread_of r.now i).ready) → is_this i k.pick ≡ true
-    asleep o l a (inl same) =
-        let at : has_position (map (λ slot. slot == i) (frame s.registers.slots)) c ≡ true = there-own (frame s.registers.slots) c i o in
+    asleep set o l a (inl same) =
+        let at : has_position (map (λ slot. slot == i) (frame slots)) c ≡ true = there-own (frame slots) c i o in
         let le : (thread_of r.earlier i).own.sleep ≤ time s.period c = subst (λ m. m ≤ time s.period c) (sym same) a in
         let test : nat_le (thread_of r.earlier i).own.sleep (time s.period c) ≡ true = grind (arith, nat_tests) in
-        is ∙ rw at test
-    asleep o l a (inr late) = absurd (omega arith)
+        is set ∙ rw at test
+    asleep set o l a (inr late) = absurd (omega arith)
 
-    go : Issues s i c r.now (takes s c r.now k.last k.pick) k.pick ⊎ Rests i c r.now (takes s c r.now k.last k.pick) k.pick → Goes s i c ⊎ Stays s i c
-    go (inl y) =
-        let parts = both (has_position (map (λ slot. slot == i) (frame s.registers.slots)) c) (nat_le (thread_of r.earlier i).own.sleep (time s.period c)) (sym is ∙ y.picked) in
-        inl (record {
-          own = own-there (frame s.registers.slots) c i parts.0;
-          ready = y.ready;
-          awake = awake parts.1 y.ready sync;
-          thread = y.thread;
-          issues = y.issues ∙ ap (λ n. record { cycle = n; pc = (thread_of r.now i).pc; traps = is_trap (issue_of s c r.now i).effect } ∷ issues_of i r.now.turns) g.age;
-        })
+    parts : IsHardBy slots i r.earlier.registers → is_this i k.pick ≡ true → (has_position (map (λ slot. slot == i) (frame slots)) c ≡ true) × (nat_le (thread_of r.earlier i).own.sleep (time s.period c) ≡ true)
+    parts set picked = both (has_position (map (λ slot. slot == i) (frame slots)) c) (nat_le (thread_of r.earlier i).own.sleep (time s.period c)) (sym (is set) ∙ picked)
+
+    go : Issues s i c r.now (takes s c r.now k.last k.pick) k.pick ⊎ Rests i c r.now (takes s c r.now k.last k.pick) k.pick → Goes s slots i c ⊎ Stays s slots i c
+    go (inl y) = inl (record {
+      own = λ set. own-there (frame slots) c i (parts set y.picked).0;
+      ready = y.ready;
+      awake = λ set. awake (parts set y.picked).1 y.ready sync;
+      thread = y.thread;
+      issues = y.issues ∙ ap (λ n. record { cycle = n; pc = (thread_of r.now i).pc; traps = is_trap (issue_of s c r.now i).effect } ∷ issues_of i r.now.turns) g.age;
+    })
     go (inr y) = inr (record {
       thread = y.thread;
       issues = y.issues;
-      idle = λ o l a. let late = y.early (asleep o l a sync) in omega arith;
+      idle = λ set o l a. let late = y.early (asleep set o l a sync) in omega arith;
     })
 
-pub goes_on : (s : Start) (i c : ℕ) → i < 8 → Going s i c → list_all leaves_registers (recent s (suc c)).now.turns ≡ true → Going s i (suc c)
+pub goes_on : (s : Start) (i c : ℕ) → i < 8 → Going s i c → Going s i (suc c)
 unfolding recent after_turn
-goes_on s i c h g quiet =
+goes_on s i c h g =
     let r = recent s c in
     let k = pick (sched_of r.earlier) c (time s.period c) r.now.last in
-    let y : Keeps r.now (takes s c r.now k.last k.pick) = takes-keeps s c r.now k.last k.pick quiet in
+    let y : Keeps r.now (takes s c r.now k.last k.pick) = takes-keeps s c r.now k.last k.pick in
     let wakes : Wakes c (thread_of r.now i) (thread_of (takes s c r.now k.last k.pick) i) = takes-wakes s i c r.now k.last k.pick h g.eight in
     record {
-      registers = y.registers ∙ g.registers;
-      before = g.registers;
-      earlier = g.before;
       eight = y.count ∙ g.eight;
       age = y.age ∙ ap suc g.age;
       one = one_of c (thread_of r.now i) (thread_of (takes s c r.now k.last k.pick) i) wakes;

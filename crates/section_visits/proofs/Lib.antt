@@ -1,6 +1,7 @@
 mod Instructions
 mod Cycles
 mod Linking
+mod Scheduled
 mod Links
 mod Visited
 mod Rows

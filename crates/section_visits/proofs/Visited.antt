@@ -7,14 +7,20 @@ use Rattle.region_tree.specs.Tree.{graph}
 use Rattle.region_tree.specs.Walk.{CostsOf, Course, IsStep, IsWalk, Step, cost, counted, counter}
 use Rattle.region_tree.specs.Walk.CostsOf.{ends, leaves}
 use Rattle.bound_calc.specs.Bound.{course}
-use Rattle.section_visits.proofs.Links.{issues_follow_edges}
-use Rattle.section_visits.proofs.Linking.{linked-after, linked-own}
-use Rattle.section_visits.specs.VisitBound.{Along, EdgeOf, FollowEdges, VisitsAreBounded}
+use Rattle.section_visits.proofs.Links.{words-of}
+use Rattle.section_visits.proofs.Linking.{AreBelow, all-below, below-at, linked-after, linked-own}
+use Rattle.section_visits.proofs.Scheduled.{always-set, quiet-keeps}
+use Rattle.section_visits.specs.InSettings.{AreLinkedIn, IsSet, IssuesFollowEdgesInSettings, Throughout, VisitsAreBoundedInSettings}
+use Rattle.section_visits.specs.VisitBound.{Along, EdgeOf, VisitsAreBounded}
 use Rattle.section_visits.specs.Visits.{GoOn, Issued, KeepsBounds, counter_at, first_of}
 
 -- ways along the edges of a course
 abbrev Follows : Course → Issued → Issued → Type 0
 Follows x h i = Along (EdgeOf x.graph) x.positions h i
+
+-- issues that follow the edges while the cycles are set
+abbrev FollowIn : (ℕ → Type 0) → Course → List Issued → Type 0
+FollowIn set x l = AreLinkedIn set (Reachable x.graph) (EdgeOf x.graph) x.positions l
 
 -- the step from an issue to the one that follows it
 step_of : (x : Course) (h i : Issued) → Follows x h i → Step
@@ -32,21 +38,28 @@ record Walked (x : Course) (i : Issued) (before : List Issued) : Type 0 where
   counters : (j : LoopSetup) → counter j 0 steps ≡ counter_at j i before
   reached : Reachable x.graph i.pc
 
-walked : (x : Course) (i : Issued) (before earlier : List Issued) → FollowEdges x (i ∷ (before ++ earlier)) → (first_of i before).pc ≡ x.graph.from → GoOn x.graph before → Lies x.graph i.pc →
-    KeepsBounds x.graph.loops i before → Walked x i before
-walked x i [] earlier l starts on lies keeps = record {
+-- the cycles up to the issue before the last one, and those from it on
+until-last : (set : ℕ → Type 0) (x : Course) (i h : Issued) (before earlier : List Issued) → FollowIn set x (i ∷ (h ∷ (before ++ earlier))) → Throughout set (first_of h before).cycle i.cycle → Throughout set (first_of h before).cycle h.cycle
+until-last set x i h before earlier l here c low high = let order = l.1 in here c low (let up : c ≤ i.cycle = omega arith in up)
+
+from-last : (set : ℕ → Type 0) (x : Course) (i h : Issued) (before : List Issued) → Throughout set (first_of h before).cycle i.cycle → Walked x h before → Throughout set h.cycle i.cycle
+from-last set x i h before here w c low high = let order = w.order in here c (let from : (first_of h before).cycle ≤ c = omega arith in from) high
+
+walked : (set : ℕ → Type 0) (x : Course) (i : Issued) (before earlier : List Issued) → FollowIn set x (i ∷ (before ++ earlier)) → Throughout set (first_of i before).cycle i.cycle → (first_of i before).pc ≡ x.graph.from → GoOn x.graph before →
+    Lies x.graph i.pc → KeepsBounds x.graph.loops i before → Walked x i before
+walked set x i [] earlier l here starts on lies keeps = record {
   steps = [];
-  walk = record { own = linked-own (Reachable x.graph) (EdgeOf x.graph) x.positions i earlier l; leads = (starts, refl); keeps = tt };
+  walk = record { own = linked-own set (Reachable x.graph) (EdgeOf x.graph) x.positions i earlier l (let at : i.cycle ≤ i.cycle = omega arith in here i.cycle at at); leads = (starts, refl); keeps = tt };
   order = omega arith;
   long = omega arith;
   counters = λ j. refl;
   reached = subst (λ u. Reachable x.graph u) (sym starts) first;
 }
-walked x i (h ∷ before) earlier l starts on lies keeps = go (walked x h before earlier l.0 starts on.0 on.1 keeps.0)
+walked set x i (h ∷ before) earlier l here starts on lies keeps = go (walked set x h before earlier l.0 (until-last set x i h before earlier l here) starts on.0 on.1 keeps.0)
   where
     go : Walked x h before → Walked x i (h ∷ before)
     go w =
-        let f : Follows x h i = l.2 w.reached on.2 in
+        let f : Follows x h i = l.3 (from-last set x i h before here w) w.reached on.2 in
         let is = is-step x h i f in
         record {
           steps = record { from = h.pc; at = h.cycle % length x.positions.frame; lag = f.edge.lag; cost = i.cycle - h.cycle; to = i.pc; position = i.cycle % length x.positions.frame } ∷ w.steps;
@@ -69,21 +82,27 @@ lies-or g u = go (let z : (g.from ≤ u) ⊎ (u < g.from) = grind arith in z) (l
     go (inl a) (inr b) = inr (λ l. omega (arith, l.high))
     go (inr a) b = inr (λ l. omega (arith, l.low))
 
-bounded : (x : Course) (b : ℕ) → ((c : ℕ) → CostsOf x c → c ≤ b) → (last : Issued) (before earlier : List Issued) → FollowEdges x (last ∷ (before ++ earlier)) → (first_of last before).pc ≡ x.graph.from →
-    GoOn x.graph before → KeepsBounds x.graph.loops last before → Lies x.graph last.pc ⊎ (Lies x.graph last.pc → ⊥) → last.cycle - (first_of last before).cycle ≤ b
-bounded x b most last before earlier l starts on keeps (inl lies) =
-    let w = walked x last before earlier l starts on lies keeps in
+bounded : (set : ℕ → Type 0) (x : Course) (b : ℕ) → ((c : ℕ) → CostsOf x c → c ≤ b) → (last : Issued) (before earlier : List Issued) → FollowIn set x (last ∷ (before ++ earlier)) →
+    Throughout set (first_of last before).cycle last.cycle → (first_of last before).pc ≡ x.graph.from → GoOn x.graph before → KeepsBounds x.graph.loops last before → Lies x.graph last.pc ⊎ (Lies x.graph last.pc → ⊥) → last.cycle - (first_of last before).cycle ≤ b
+bounded set x b most last before earlier l here starts on keeps (inl lies) =
+    let w = walked set x last before earlier l here starts on lies keeps in
     subst (λ c. c ≤ b) w.long (most (cost w.steps) (ends w.steps w.walk))
-bounded x b most last [] earlier l starts on keeps (inr out) = omega arith
-bounded x b most last (h ∷ before) earlier l starts on keeps (inr out) =
-    let w = walked x h before earlier l.0 starts on.0 on.1 keeps.0 in
-    let f : Follows x h last = l.2 w.reached on.2 in
+bounded set x b most last [] earlier l here starts on keeps (inr out) = omega arith
+bounded set x b most last (h ∷ before) earlier l here starts on keeps (inr out) =
+    let w = walked set x h before earlier l.0 (until-last set x last h before earlier l here) starts on.0 on.1 keeps.0 in
+    let f : Follows x h last = l.3 (from-last set x last h before here w) w.reached on.2 in
     let s : Step = record { from = h.pc; at = h.cycle % length x.positions.frame; lag = f.edge.lag; cost = last.cycle - h.cycle; to = last.pc; position = last.cycle % length x.positions.frame } in
     let le : cost w.steps + (last.cycle - h.cycle) ≤ b = most (cost w.steps + (last.cycle - h.cycle)) (leaves w.steps s w.walk (is-step x h last f) out) in
     omega (arith, w.order, f.order, w.long, le)
 
-pub visits_are_bounded : VisitsAreBounded
-visits_are_bounded t slots thread b s n is most host quiet last before v keeps =
+pub visits_in_settings : IssuesFollowEdgesInSettings → VisitsAreBoundedInSettings
+visits_in_settings law t slots thread b s n is most words last before here v keeps =
     let x : Course = course t slots thread in
-    let links = subst (λ l. FollowEdges x l) v.among (issues_follow_edges t slots thread s n is host quiet) in
-    bounded x b most last before v.earlier (linked-after (Reachable x.graph) (EdgeOf x.graph) x.positions v.later (last ∷ (before ++ v.earlier)) links) v.starts v.goes_on keeps (lies-or (graph t) last.pc)
+    let links = subst (λ l. FollowIn (IsSet s slots thread) x l) v.among (law t slots thread s n is words) in
+    bounded (IsSet s slots thread) x b most last before v.earlier (linked-after (IsSet s slots thread) (Reachable x.graph) (EdgeOf x.graph) x.positions v.later (last ∷ (before ++ v.earlier)) links) here v.starts v.goes_on keeps (lies-or (graph t) last.pc)
+
+pub visits-from : VisitsAreBoundedInSettings → VisitsAreBounded
+visits-from law t slots thread b s n is most host quiet last before v keeps =
+    let end : last.cycle < n = below-at n v.later last (before ++ v.earlier) (subst (λ l. AreBelow n l) v.among (all-below s thread n)) in
+    law t slots thread b s n is most (words-of t slots thread s is host) last before
+    (λ c low high. always-set s slots thread n host.same_slots host.hard (quiet-keeps s n quiet) c (let below : c < n = omega arith in below)) v keeps

@@ -4,3 +4,6 @@ pub mod CallVisits
 pub mod CallVisitBound
 pub mod SetupVisitBound
 pub mod SetupCallVisitBound
+pub mod InSettings
+pub mod CallsInSettings
+pub mod SetupInSettings

@@ -1,5 +1,5 @@
 -- What the bound of a section with routines says of the machines of setups, images and ports.
-use Rattle.std.specs.Prelude.{◌≡◌, ℕ, ◌-◌, ◌%◌, ◌<◌, ◌≤◌, List}
+use Rattle.std.specs.Prelude.{◌≡◌, ℕ, ◌-◌, ◌%◌, ◌≤◌, List}
 use Rattle.fp_image.specs.Rules.{word}
 use Rattle.fp_setup.specs.Rules.{KeepsRules}
 use Rattle.slot_scheduler.specs.ModeWord.{mode_of}

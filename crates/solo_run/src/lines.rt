@@ -1,6 +1,6 @@
 //! The lines of a run's events.
 
-ghost use Rattle.std.specs.Prelude.{◌≡◌, ◌≤◌, ◌<◌, ◌^◌, IfSome, OnOk, OnErr};
+ghost use Rattle.std.specs.Prelude.{◌≡◌, ◌≤◌, ◌<◌, ◌^◌, IfSome, IfNone, OnOk, OnErr};
 ghost use Rattle.std.specs.Io.KnownBytes.{Appends};
 ghost use Rattle.fp_io.specs.Causes.{Rose};
 ghost use Rattle.fp_io.specs.Content.{AppendsFront};
@@ -36,6 +36,7 @@ pub(crate) fn put_event<K: Sink>(
     ensures err { OnErr result (AppendsFront (K.taken out.old) (K.taken out.new)
         (event_text event)) }
     ensures failed { OnErr result (Rose (K.faults out.old) (K.faults out.new)) }
+    ensures nothing { IfNone event (out.new ≡ out.old) }
 {
     match event {
         Some(event) => {

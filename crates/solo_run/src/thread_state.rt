@@ -1,8 +1,8 @@
 //! The thread, and one whole instruction of it.
 
-ghost use Rattle.std.specs.Prelude.{◌≡◌, ◌/◌, ◌<◌, ◌^◌, length};
+ghost use Rattle.std.specs.Prelude.{◌≡◌, ◌/◌, ◌<◌, ◌^◌, false, length};
 ghost use Rattle.core_model.specs.Thread.{fresh};
-ghost use Rattle.core_model.specs.Issue.{issue, execute_word, effect_of};
+ghost use Rattle.core_model.specs.Issue.{issue, is_load, execute_word, effect_of};
 ghost use Rattle.core_model.specs.Memory.{code_at};
 ghost use Rattle.core_model.specs.Solo.{contents_by};
 ghost use Rattle.timer_unit.specs.Time.{is_due};
@@ -111,6 +111,7 @@ impl ThreadState {
         ensures store { IsAlignedStore result }
         ensures shown { W.word_at shown.new ≡ W.word_at shown.old }
         ensures kept { W.kept shown.new ≡ W.kept shown.old }
+        ensures untouched { is_load (ins x.now.word) ≡ false → shown.new ≡ shown.old }
     {
         let instruction = decode(x.word);
         let loaded = match instruction {

@@ -104,7 +104,7 @@ impl Timers {
     }
 
     /// Whether a moment is armed for the thread that the time has reached.
-    pub fn is_due(&self, thread: u8, now: u64) -> bool
+    pub fn due(&self, thread: u8, now: u64) -> bool
         requires { thread < 8 }
         ensures { result ≡ is_due (timer_of self.now thread).armed now }
     {

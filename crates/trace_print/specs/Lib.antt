@@ -1,7 +1,7 @@
 pub mod Digits
 pub mod Text
 pub mod Kept
-pub mod KeyPaths
+pub mod Places
 pub mod Refusals
 pub mod Bounds
 pub mod DumpLines

@@ -3,7 +3,7 @@ use Rattle.std.specs.Prelude.{ℕ, ◌==◌, ◌%◌, ◌^◌, List, [], ◌∷�
 use Rattle.trace_print.specs.declared.refusals.Refusal.{Refusal}
 use Rattle.trace_print.specs.declared.refusals.Refusal.TheVariants.{Setup, Section, Image, Source, Bound, Routines}
 use Rattle.trace_print.specs.Digits.{hex}
-use Rattle.trace_print.specs.KeyPaths.{path_text}
+use Rattle.trace_print.specs.Places.{place_text}
 
 -- a code and its name
 pub record Named : Type 0 where
@@ -33,7 +33,6 @@ setup_names =
     ∷ named 10 (codes "ConfinedPermit")
     ∷ named 11 (codes "DoubleThread")
     ∷ named 12 (codes "TooMany")
-    ∷ named 20 (codes "NotBuilt")
     ∷ []
 
 -- with the section or the thread that is asked for
@@ -47,7 +46,7 @@ section_names =
     ∷ named 6 (codes "NotConfined")
     ∷ []
 
--- with an image, 1 to 20, or with an ELF file, 31 to 42
+-- with an image, 1 to 6, or with an ELF file, 31 to 42
 unfoldable pub image_names : List Named
 image_names =
     named 1 (codes "TooLong")
@@ -56,7 +55,6 @@ image_names =
     ∷ named 4 (codes "BadSegment")
     ∷ named 5 (codes "Overlap")
     ∷ named 6 (codes "Trailing")
-    ∷ named 20 (codes "NotBuilt")
     ∷ named 31 (codes "TooLong")
     ∷ named 32 (codes "NotElf")
     ∷ named 33 (codes "Truncated")
@@ -119,8 +117,8 @@ bound_value code value = if code == 6 then decimal value else hex 8 (value % 2 ^
 
 -- the line of a refusal: what is refused, the code with its name, and where
 unfoldable pub refusal_text : Refusal → List ℕ
-refusal_text (Setup code path) =
-    codes "refused setup " ++ (code_text setup_names code ++ (codes " " ++ (path_text path ++ codes "\n")))
+refusal_text (Setup code place) =
+    codes "refused setup " ++ (code_text setup_names code ++ (codes " " ++ (place_text place ++ codes "\n")))
 refusal_text (Section code) = codes "refused section " ++ (code_text section_names code ++ codes "\n")
 refusal_text (Image code offset) =
     codes "refused image " ++ (code_text image_names code ++ (codes " " ++ (decimal offset ++ codes "\n")))

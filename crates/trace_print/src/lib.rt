@@ -8,7 +8,7 @@ mod dump_lines;
 mod event_line;
 mod events;
 mod in_place;
-mod key_path;
+mod places;
 mod refusals;
 
 pub use bounds::bound_line;

@@ -5,15 +5,15 @@ ghost use Rattle.arrayvec.specs.ArrayString.{array_string_len};
 ghost use Rattle.trace_print.specs.Refusals.{name_of, setup_names, section_names, image_names, source_names, bound_names, routine_names, bound_value, code_text, refusal_text};
 
 use crate::digits::{push_decimal, push_hex};
-use crate::key_path::push_path;
+use crate::places::push_place;
 use arrayvec::ArrayString;
-use fp_setup::KeyPath;
+use fp_setup::Place;
 
 /// Why something is refused, by the code of its fault. A code without a name prints none.
 #[derive(Clone, Copy, Debug)]
 pub enum Refusal {
-    /// A setup, with the path of the fault.
-    Setup { code: u8, path: KeyPath },
+    /// A setup, with the place of the fault.
+    Setup { code: u8, place: Place },
     /// The section or the thread that is asked for.
     Section { code: u8 },
     /// An image or an ELF file, with the offset of the fault in bytes.
@@ -34,11 +34,11 @@ pub fn refusal_line(r: &Refusal) -> ArrayString<96>
 {
     let mut text = ArrayString::new();
     match *r {
-        Refusal::Setup { code, path } => {
+        Refusal::Setup { code, place } => {
             text.push_str("refused setup ");
             push_code(&mut text, code, setup_name(code));
             text.push_str(" ");
-            push_path(&mut text, &path);
+            push_place(&mut text, &place);
         }
         Refusal::Section { code } => {
             text.push_str("refused section ");
@@ -138,7 +138,6 @@ fn setup_name(code: u8) -> &'static str
         10 => "ConfinedPermit",
         11 => "DoubleThread",
         12 => "TooMany",
-        20 => "NotBuilt",
         _ => "",
     }
 }
@@ -173,7 +172,6 @@ fn image_name(code: u8) -> &'static str
         4 => "BadSegment",
         5 | 41 => "Overlap",
         6 => "Trailing",
-        20 => "NotBuilt",
         32 => "NotElf",
         34 => "Class",
         35 => "ByteOrder",

@@ -26,7 +26,7 @@ const FILES: [(&str, &str); 13] = [
 const COMMANDS: [(&str, &str); 11] = [
     ("asm examples/drive.s", "drive.fpx"),
     (
-        "run examples/drive.toml --thread 0 --cycles 57",
+        "run examples/drive.toml --thread 0 --cycles 77",
         "drive.trace",
     ),
     ("asm examples/sum.s", "sum.fpx"),

@@ -99,6 +99,8 @@ impl<F: Files + Drop> NotedFiles<F> {
 impl<F: Files + Drop> Files for NotedFiles<F> {
     ghost told = { λ noted. F.told noted.files };
 
+    ghost requests = { λ noted. F.requests noted.files };
+
     ghost faults = { λ noted. F.faults noted.files };
 
     fn fetch(&mut self, alloc: Global, name: &str, most: usize) -> Result<Vec<u8>, FetchFault> {

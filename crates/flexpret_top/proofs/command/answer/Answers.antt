@@ -2,8 +2,8 @@ use Rattle.std.proofs.Common.{rules, ◌∙◌, ap, inl, inr, refl, subst}
 use Rattle.fp_ports.specs.Rows.{rows_of}
 use Rattle.flexpret_top.specs.Endings.{Ends}
 use Rattle.program_files.specs.declared.stop.Stop.{Stop}
-use Rattle.flexpret_top.proofs.Ending.{all-of, answered-of, front-of, left-of, ok-no_difference, ok-no_nothing, ok-no_write, write-no_difference, write-no_nothing, write-no_ok}
-use Rattle.flexpret_top.proofs.Stopping.{difference-no_memory, no-difference, stop-said, stop-read, stop-write, stop-front, stop-complete, stop-leaves, stop-usage}
+use Rattle.flexpret_top.proofs.Ending.{all-of, answered-of, front-of, left-of, ok-no_difference, ok-no_nothing, ok-no_write, part-of, same-cut-short, write-no_difference, write-no_nothing, write-no_ok}
+use Rattle.flexpret_top.proofs.Stopping.{difference-no_memory, no-difference, stop-said, stop-read, stop-write, stop-front, stop-complete, stop-leaves, stop-usage, write-no_memory}
 use Rattle.flexpret_top.proofs.command.answer.Goals as goal
 
 pub prepare-requires-clause-limits : goal.prepare-requires-clause-limits
@@ -21,6 +21,7 @@ deliver-requires-clause-eight g c = c.prepare.ensures.eight
 pub returns-in-Ok-deliver : goal.returns-in-Ok-deliver
 returns-in-Ok-deliver g c = record {
   told = c.prepare.ensures.told;
+  requests = c.prepare.ensures.asked;
   counted_files = c.prepare.ensures.counted;
   counted_out = c.deliver.ensures.counted;
   said = λ read write memory. (all-of (g.F.Files.told c.args.files.now) c.args.ask.now _ _ c.in-Ok.prepared (g.K.Sink.taken c.args.out.now) (g.K.Sink.taken c.deliver.new.out)
@@ -32,6 +33,8 @@ returns-in-Ok-deliver g c = record {
   nothing = λ nothing. absurd (ok-no_nothing nothing);
   ports = λ ok. left-of (g.F.Files.told c.args.files.now) c.args.ask.now _ _ _ c.in-Ok.prepared c.in-Ok.ensures.ok c.in-Ok-deliver.ensures.left;
   eight = c.deliver.ensures.eight;
+  part = λ write. absurd (ok-no_write write);
+  unrun = λ memory. absurd (ok-no_nothing (inr memory));
   kept = λ ok differs write memory. absurd (ok refl);
   apart = λ apart. c.deliver.ensures.apart (c.in-Ok.ensures.apart_from apart) ∙ c.prepare.ensures.apart apart;
   reads = λ reads. c.deliver.ensures.reads (c.in-Ok.ensures.reads_for reads) ∙ c.prepare.ensures.reads reads;
@@ -42,6 +45,7 @@ returns-in-Ok-deliver g c = record {
 pub returns-in-Err-deliver : goal.returns-in-Err-deliver
 returns-in-Err-deliver g c = record {
   told = c.prepare.ensures.told;
+  requests = c.prepare.ensures.asked;
   counted_files = c.prepare.ensures.counted;
   counted_out = c.deliver.ensures.counted;
   said = λ read write memory. absurd (write refl);
@@ -53,6 +57,8 @@ returns-in-Err-deliver g c = record {
   nothing = λ nothing. absurd (write-no_nothing nothing);
   ports = λ ok. absurd (write-no_ok ok);
   eight = c.deliver.ensures.eight;
+  part = λ write. part-of (g.F.Files.told c.args.files.now) c.args.ask.now _ _ _ c.in-Ok.prepared c.in-Ok.ensures.ok c.in-Err-deliver.ensures.part;
+  unrun = λ memory. absurd (write-no_nothing (inr memory));
   kept = λ ok differs write memory. absurd (write refl);
   apart = λ apart. c.deliver.ensures.apart (c.in-Ok.ensures.apart_from apart) ∙ c.prepare.ensures.apart apart;
   reads = λ reads. c.deliver.ensures.reads (c.in-Ok.ensures.reads_for reads) ∙ c.prepare.ensures.reads reads;
@@ -63,6 +69,7 @@ returns-in-Err-deliver g c = record {
 pub returns-in-Err : goal.returns-in-Err
 returns-in-Err g c = record {
   told = c.prepare.ensures.told;
+  requests = c.prepare.ensures.asked;
   counted_files = c.prepare.ensures.counted;
   counted_out = c.end.ensures.counted;
   said = λ read write memory. (let rows = rows_of (λ b. (goal.Port-dyn g (b.vtable, b.value)).latched b.value) (λ b. (goal.Port-dyn g (b.vtable, b.value)).word_at b.value) c.args.ports.now.items in
@@ -86,6 +93,12 @@ returns-in-Err g c = record {
       c.in-Err.ensures.kept (λ none. memory (subst Stops none c.end.ensures.ends)) (no-difference c.in-Err.stop c.end.result _ _ _ _ c.end.ensures.ends differs write));
   apart = λ apart. c.prepare.ensures.apart apart;
   eight = c.prepare.ensures.eight;
+  part = λ write. (same-cut-short (g.F.Files.told c.args.files.now) c.args.ask.now _ _
+      (elim (c.in-Err.ensures.others (write-no_memory c.in-Err.stop c.end.result _ _ _ _ c.end.ensures.ends write)) [
+        | inl reads ↦ c.prepare.ensures.reads reads
+        | inr same ↦ ap (λ ports. rows_of (λ b. (goal.Port-dyn g (b.vtable, b.value)).latched b.value) (λ b. (goal.Port-dyn g (b.vtable, b.value)).word_at b.value) ports.items) same
+      ]));
+  unrun = λ memory. c.in-Err.ensures.part;
   reads = λ reads. c.prepare.ensures.reads reads;
   differs = λ differs. (elim (c.in-Err.ensures.others (difference-no_memory c.in-Err.stop c.end.result _ _ _ _ c.end.ensures.ends differs)) [
     | inl reads ↦ c.prepare.ensures.reads reads

@@ -1,11 +1,11 @@
 use Rattle.std.proofs.Common.{rules, ◌≡◌, ◌⊎◌, ◌∙◌, ℕ, ap, sym, subst, arith, map}
 use Rattle.std.specs.Prelude.{string_bytes}
 use Rattle.fp_ports.specs.Rows.{rows_of}
-use Rattle.flexpret_top.proofs.Ending.{apart-by, asks-some, complete-of, front-by, leaves-by, nothing-of, number-of, read-by, reads-by, said-of, status-of}
+use Rattle.flexpret_top.proofs.Ending.{apart-by, asked-by, asks-some, complete-of, cut-short-by, front-by, leaves-by, nothing-of, number-of, read-by, reads-by, said-of, status-of, unasked, unrun, unrun-by}
 use Rattle.ask_words.specs.Commands.{ask}
 use Rattle.flexpret_top.specs.Status.{number_of}
 use Rattle.flexpret_top.specs.declared.status.Status.TheVariants.{Differs, Usage, Write}
-use Rattle.flexpret_top.proofs.Headlines.{alone-of, as-run-of, call-visits-of, imported-of, phased-of, said-zero, visits-of}
+use Rattle.flexpret_top.proofs.Headlines.{alone-of, as-run-of, call-visits-of, imported-of, phased-of, retired-of, said-zero, visits-of}
 use Rattle.flexpret_top.proofs.Usage.{usage-said, usage-answered}
 use Rattle.flexpret_top.proofs.command.flexpret.Goals as goal
 
@@ -17,10 +17,17 @@ returns-in-Err-Usage g c =
       rules,
       usage-said (g.F.Files.told c.args.files.now) (map string_bytes c.args.words.now) rows (g.K.Sink.taken c.args.out.now) c.number-in-Err-Usage.result c.number-in-Err-Usage.ensures nothing,
       usage-answered (g.F.Files.told c.args.files.now) (map string_bytes c.args.words.now) rows c.number-in-Err-Usage.result c.number-in-Err-Usage.ensures nothing,
+      unasked (ask (map string_bytes c.args.words.now)) (g.F.Files.told c.args.files.now) (g.F.Files.requests c.args.files.now),
     )
 
 pub returns-in-Err-NoMemory : goal.returns-in-Err-NoMemory
-returns-in-Err-NoMemory g c = search rules
+returns-in-Err-NoMemory g c =
+    let rows = rows_of (λ b. (goal.Port-dyn g (b.vtable, b.value)).latched b.value) (λ b. (goal.Port-dyn g (b.vtable, b.value)).word_at b.value) c.args.ports.now.items in
+    search (
+      rules,
+      unasked (ask (map string_bytes c.args.words.now)) (g.F.Files.told c.args.files.now) (g.F.Files.requests c.args.files.now),
+      unrun (g.F.Files.told c.args.files.now) (ask (map string_bytes c.args.words.now)) rows,
+    )
 
 pub returns-in-Ok : goal.returns-in-Ok
 returns-in-Ok g c = record {
@@ -30,6 +37,7 @@ returns-in-Ok g c = record {
   read = λ seven. (let rows = rows_of (λ b. (goal.Port-dyn g (b.vtable, b.value)).latched b.value) (λ b. (goal.Port-dyn g (b.vtable, b.value)).word_at b.value) c.args.ports.now.items in
       read-by (g.F.Files.told c.args.files.now) (map string_bytes c.args.words.now) c.in-Ok.ask rows c.answer.result c.number.result (g.F.Files.faults c.args.files.now) (g.F.Files.faults c.answer.new.files)
       c.in-Ok.ensures.asked c.number.ensures seven c.answer.ensures.read);
+  requests = asked-by (g.F.Files.told c.args.files.now) (map string_bytes c.args.words.now) c.in-Ok.ask _ _ c.in-Ok.ensures.asked c.answer.ensures.requests;
   write = λ eight. c.answer.ensures.write (status-of c.answer.result Write (sym c.number.ensures ∙ eight));
   front = λ eight. (let rows = rows_of (λ b. (goal.Port-dyn g (b.vtable, b.value)).latched b.value) (λ b. (goal.Port-dyn g (b.vtable, b.value)).word_at b.value) c.args.ports.now.items in
       front-by (g.F.Files.told c.args.files.now) (map string_bytes c.args.words.now) c.in-Ok.ask rows c.answer.result c.number.result (g.K.Sink.taken c.args.out.now) (g.K.Sink.taken c.answer.new.out)
@@ -39,6 +47,14 @@ returns-in-Ok g c = record {
       let left = rows_of (λ b. (goal.Port-dyn g (b.vtable, b.value)).latched b.value) (λ b. (goal.Port-dyn g (b.vtable, b.value)).word_at b.value) c.answer.new.ports.items in
       leaves-by (g.F.Files.told c.args.files.now) (map string_bytes c.args.words.now) c.in-Ok.ask rows left c.answer.result c.number.result
       c.in-Ok.ensures.asked c.number.ensures zero c.answer.ensures.ports);
+  part = λ eight. (let rows = rows_of (λ b. (goal.Port-dyn g (b.vtable, b.value)).latched b.value) (λ b. (goal.Port-dyn g (b.vtable, b.value)).word_at b.value) c.args.ports.now.items in
+      let left = rows_of (λ b. (goal.Port-dyn g (b.vtable, b.value)).latched b.value) (λ b. (goal.Port-dyn g (b.vtable, b.value)).word_at b.value) c.answer.new.ports.items in
+      cut-short-by (g.F.Files.told c.args.files.now) (map string_bytes c.args.words.now) c.in-Ok.ask rows left c.answer.result c.number.result
+      c.in-Ok.ensures.asked c.number.ensures eight c.answer.ensures.part);
+  unrun = λ nine. (let rows = rows_of (λ b. (goal.Port-dyn g (b.vtable, b.value)).latched b.value) (λ b. (goal.Port-dyn g (b.vtable, b.value)).word_at b.value) c.args.ports.now.items in
+      let left = rows_of (λ b. (goal.Port-dyn g (b.vtable, b.value)).latched b.value) (λ b. (goal.Port-dyn g (b.vtable, b.value)).word_at b.value) c.answer.new.ports.items in
+      unrun-by (g.F.Files.told c.args.files.now) (map string_bytes c.args.words.now) c.in-Ok.ask rows left c.answer.result c.number.result
+      c.in-Ok.ensures.asked c.number.ensures nine c.answer.ensures.unrun);
   apart = λ apart. c.answer.ensures.apart (apart-by (map string_bytes c.args.words.now) c.in-Ok.ask c.in-Ok.ensures.asked apart);
   nothing = λ none. (let None : ℕ → Type 0 = λ n. (n ≡ 2) ⊎ ((n ≡ 7) ⊎ (n ≡ 9)) in
       c.answer.ensures.nothing (nothing-of c.answer.result c.answer.ensures.asked (subst None c.number.ensures none)));
@@ -75,14 +91,14 @@ returns-in-Ok g c = record {
       let before = g.K.Sink.taken c.args.out.now in
       let after = g.K.Sink.taken c.answer.new.out in
       let said = said-zero told words c.in-Ok.ask rows c.answer.result c.number.result before after c.in-Ok.ensures.asked c.number.ensures zero c.answer.ensures.said in
-      visits-of c.laws.ensures.visits told (ask words) rows before after said);
+      visits-of (record { quiet = c.laws.ensures.visits; scheduled = c.laws.ensures.visits_scheduled; set = c.laws.ensures.visits_in_settings }) told (ask words) rows before after said);
   call_visits = λ zero. (let told = g.F.Files.told c.args.files.now in
       let words = map string_bytes c.args.words.now in
       let rows = rows_of (λ b. (goal.Port-dyn g (b.vtable, b.value)).latched b.value) (λ b. (goal.Port-dyn g (b.vtable, b.value)).word_at b.value) c.args.ports.now.items in
       let before = g.K.Sink.taken c.args.out.now in
       let after = g.K.Sink.taken c.answer.new.out in
       let said = said-zero told words c.in-Ok.ask rows c.answer.result c.number.result before after c.in-Ok.ensures.asked c.number.ensures zero c.answer.ensures.said in
-      call-visits-of c.laws.ensures.call_visits told (ask words) rows before after said);
+      call-visits-of (record { quiet = c.laws.ensures.call_visits; scheduled = c.laws.ensures.call_visits_scheduled; set = c.laws.ensures.call_visits_in_settings }) told (ask words) rows before after said);
   phased = λ zero. (let told = g.F.Files.told c.args.files.now in
       let words = map string_bytes c.args.words.now in
       let rows = rows_of (λ b. (goal.Port-dyn g (b.vtable, b.value)).latched b.value) (λ b. (goal.Port-dyn g (b.vtable, b.value)).word_at b.value) c.args.ports.now.items in
@@ -90,6 +106,13 @@ returns-in-Ok g c = record {
       let after = g.K.Sink.taken c.answer.new.out in
       let said = said-zero told words c.in-Ok.ask rows c.answer.result c.number.result before after c.in-Ok.ensures.asked c.number.ensures zero c.answer.ensures.said in
       phased-of c.laws.ensures.phased c.laws.ensures.rules told (ask words) rows before after said);
+  retired = λ zero. (let told = g.F.Files.told c.args.files.now in
+      let words = map string_bytes c.args.words.now in
+      let rows = rows_of (λ b. (goal.Port-dyn g (b.vtable, b.value)).latched b.value) (λ b. (goal.Port-dyn g (b.vtable, b.value)).word_at b.value) c.args.ports.now.items in
+      let before = g.K.Sink.taken c.args.out.now in
+      let after = g.K.Sink.taken c.answer.new.out in
+      let said = said-zero told words c.in-Ok.ask rows c.answer.result c.number.result before after c.in-Ok.ensures.asked c.number.ensures zero c.answer.ensures.said in
+      retired-of c.laws.ensures.retired c.laws.ensures.retired_phased c.laws.ensures.rules told (ask words) rows before after said);
   imported = λ zero. (let told = g.F.Files.told c.args.files.now in
       let words = map string_bytes c.args.words.now in
       let rows = rows_of (λ b. (goal.Port-dyn g (b.vtable, b.value)).latched b.value) (λ b. (goal.Port-dyn g (b.vtable, b.value)).word_at b.value) c.args.ports.now.items in

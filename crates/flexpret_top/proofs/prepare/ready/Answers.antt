@@ -1,5 +1,5 @@
 use Rattle.std.proofs.Common.{rules, refl, sym, ◌∙◌}
-use Rattle.flexpret_top.proofs.Preparing.{ready-beside}
+use Rattle.flexpret_top.proofs.Preparing.{fed-part, ready-beside, same-fed}
 use Rattle.flexpret_top.proofs.prepare.ready.Goals as goal
 
 pub returns-in-Ok-machine_beside-clause-ok : goal.returns-in-Ok-machine_beside-clause-ok
@@ -9,7 +9,7 @@ returns-in-Ok-machine_beside-clause-ok g c =
     c.requires.limit c.in-Ok-machine_beside.ensures.stands
 
 pub returns-in-Err-machine_beside : goal.returns-in-Err-machine_beside
-returns-in-Err-machine_beside g c = search rules
+returns-in-Err-machine_beside g c = search (rules, fed-part (g.F.Files.told c.args.files.now) c.args.setup.now _ _ c.in-Ok.program c.in-Ok.ensures.ok c.in-Err-machine_beside.ensures.part)
 
 pub returns-in-Err : goal.returns-in-Err
-returns-in-Err g c = search rules
+returns-in-Err g c = search (rules, same-fed (g.F.Files.told c.args.files.now) c.args.setup.now)

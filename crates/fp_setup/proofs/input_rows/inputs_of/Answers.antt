@@ -15,7 +15,7 @@ loop-index-preserved c =
     let same = c.in_ok-input.ensures.read.1 in
     let good = rw c.element.ensures at c.in_ok-input.ensures.read.0 in
     record {
-      found = before.found ∙ found-more items i x c.in_ok-input.input c.loop-index-test.true c.index-items-index.is same c.args.path c.loop-index.before good;
+      found = before.found ∙ found-more items i x c.in_ok-input.input c.loop-index-test.true c.index-items-index.is same c.args.place c.loop-index.before good;
       read = read-more items i x c.in_ok-input.input c.loop-index-test.true c.index-items-index.is same c.loop-index.read.items _ c.in_ok-push.ensures.items before.read;
       within = All-same (λ (i : Input). i.at ≤ most_cycles) _ _ c.in_ok-push.ensures.items (All-push (λ (i : Input). i.at ≤ most_cycles) c.loop-index.read.items c.in_ok-input.input before.within c.in_ok-input.ensures.within);
       rising = rising-more c.loop-index.read.items _ c.in_ok-input.input c.loop-index.before c.in_ok-push.ensures.items before.reached c.in_ok-input.ensures.after before.rising;
@@ -27,12 +27,12 @@ returns-in_err-input-clause-read c =
     let before = c.loop-index.invariant in
     let p = err_from_is_err_and c.from_residual.result c.from_residual.ensures.1 in
     rw (p.1, p.2)
-    (before.found ∙ found-here c.args.items.now c.loop-index.index c.index-items-index.result c.loop-index-test.true c.index-items-index.is c.args.path c.loop-index.before _ (rw c.element.ensures at c.in_err-input.ensures.read))
+    (before.found ∙ found-here c.args.items.now c.loop-index.index c.index-items-index.result c.loop-index-test.true c.index-items-index.is c.args.place c.loop-index.before _ (rw c.element.ensures at c.in_err-input.ensures.read))
 
 pub returns-clause-read : goal.returns-clause-read
 returns-clause-read c =
     let before = c.loop-index.invariant in (
-      before.found ∙ found-none c.args.items.now c.loop-index.index c.loop-index-test.false c.args.path c.loop-index.before,
+      before.found ∙ found-none c.args.items.now c.loop-index.index c.loop-index-test.false c.args.place c.loop-index.before,
       c.from_vec.ensures ∙ read-all c.args.items.now c.loop-index.index c.loop-index-test.false _ before.read,
     )
 

@@ -10,7 +10,7 @@ use Rattle.fp_setup.proofs.nibble_list.eight_numbers.Given as goal
 abbrev pub invariant-loop-i : goal.invariant-loop-i
 invariant-loop-i l = record {
   eight : length l.numbers ≡ 8;
-  found : each_fault (word_check l.words) l.path 0 (map view l.items) ≡ each_fault (word_check l.words) l.path l.i (map view (drop l.i l.items));
+  found : each_fault (word_check l.words) l.place 0 (map view l.items) ≡ each_fault (word_check l.words) l.place l.i (map view (drop l.i l.items));
   read : take l.i l.numbers ≡ map (λ d. named l.words (text d)) (map view (take l.i l.items));
   values : list_all (is_value l.words) (take l.i l.numbers) ≡ true;
 }

@@ -8,7 +8,7 @@ use Rattle.fp_setup.specs.declared.thread_list.ThreadSetup.{ThreadSetup}
 use Rattle.fp_setup.specs.declared.thread_rows.ThreadRow.{ThreadRow}
 use Rattle.fp_setup.specs.Threads.{IsThread}
 use Rattle.fp_setup.specs.Values.{members}
-use Rattle.fp_setup.specs.declared.refusal.KeyPath.{KeyPath}
+use Rattle.fp_setup.specs.declared.refusal.Place.{Place}
 use Rattle.fp_setup.specs.Faults.{thread_row}
 use Rattle.fp_setup.specs.FaultOrder.{thread_fault}
 use Rattle.fp_setup.specs.Rows.{row_of}
@@ -47,7 +47,7 @@ loop-index-preserved c =
     let id : row.id ≡ id_at r = ap (λ (w : ThreadRow). w.id) same in
     let Fresh : List ℕ → Type 0 = λ ids. list_any (λ n. n == row.id) ids ≡ false in
     let fresh : list_any (λ n. n == row.id) (map id_at (tables (take i items))) ≡ false = subst Fresh before.ids c.in_ok-row.ensures.fresh in
-    let Good : KeyPath → Type 0 = λ path. thread_fault c.args.size (take i c.loop-index.ids) path (as_table (view x)) ≡ None in
+    let Good : Place → Type 0 = λ place. thread_fault c.args.size (take i c.loop-index.ids) place (as_table (view x)) ≡ None in
     let good : thread_fault c.args.size (take i c.loop-index.ids) (thread_row i) (as_table (view x)) ≡ None = subst Good c.thread.ensures c.in_ok-row.ensures.read.0 in
     record {
       eight = length-set c.loop-index.ids i row.id ∙ before.eight;

@@ -1,5 +1,5 @@
-use Rattle.run_laws.proofs.Traces.{trace-alone}
+use Rattle.run_laws.proofs.Retired.{trace-alone-from}
 use Rattle.run_laws.proofs.setup_traces.traces_alone.Goals as goal
 
 pub returns : goal.returns
-returns c = trace-alone c.runs_alone.ensures
+returns c = trace-alone-from c.traces_alone.ensures

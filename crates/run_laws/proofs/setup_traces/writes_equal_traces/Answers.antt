@@ -1,5 +1,5 @@
-use Rattle.run_laws.proofs.Traces.{equal-traces}
+use Rattle.run_laws.proofs.Retired.{equal-traces-from}
 use Rattle.run_laws.proofs.setup_traces.writes_equal_traces.Goals as goal
 
 pub returns : goal.returns
-returns c = equal-traces c.runs_alone.ensures
+returns c = equal-traces-from c.writes_equal_traces.ensures

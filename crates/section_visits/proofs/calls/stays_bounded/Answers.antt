@@ -1,5 +1,5 @@
-use Rattle.section_visits.proofs.CallBounded.{call_visits_are_bounded}
+use Rattle.section_visits.proofs.CallBounded.{call-visits-from}
 use Rattle.section_visits.proofs.calls.stays_bounded.Goals as goal
 
 pub returns : goal.returns
-returns c = call_visits_are_bounded
+returns c = call-visits-from c.stays_bounded_in_settings.ensures

@@ -1,5 +1,5 @@
-use Rattle.section_visits.proofs.Links.{issues_follow_edges}
+use Rattle.section_visits.proofs.Links.{follows-from}
 use Rattle.section_visits.proofs.sections.follows_edges.Goals as goal
 
 pub returns : goal.returns
-returns c = issues_follow_edges
+returns c = follows-from c.follows_edges_in_settings.ensures

@@ -1,5 +1,5 @@
-use Rattle.section_visits.proofs.Visited.{visits_are_bounded}
+use Rattle.section_visits.proofs.Visited.{visits-from}
 use Rattle.section_visits.proofs.sections.stays_bounded.Goals as goal
 
 pub returns : goal.returns
-returns c = visits_are_bounded
+returns c = visits-from c.stays_bounded_in_settings.ensures

@@ -1,0 +1,2 @@
+pub mod Loads
+pub use Rattle.flexpret_top.specs.Rows

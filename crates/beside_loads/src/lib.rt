@@ -1,0 +1,104 @@
+//! An example of a program over the theorems of this project. It shows that a control thread writes
+//! the same trace beside two loads, whatever these are.
+//!
+//! Its line of crates.txt names `flexpret_top` alone, which hands on the definitions, the theorems
+//! and the types that are used here.
+
+#![tactic(auto)]
+
+ghost use Rattle.std.specs.Prelude.{◌≡◌, [], IfOk, map, string_bytes, true, vec_len};
+ghost use Rattle.flexpret_top.specs.Rows.{rows_of};
+ghost use Rattle.beside_loads.specs.Loads.{IsSameBeside, IsTraceBeside};
+
+use flexpret_top::{Files, MemSink, Ports, flexpret};
+use std::alloc::{AllocError, Global};
+
+/// Why there is no trace.
+#[derive(Clone, Copy, Debug, PartialEq, Eq)]
+pub enum NoTrace {
+    /// The command ended with this status, 1 to 10.
+    Status(u8),
+    /// Memory was refused.
+    NoMemory,
+}
+
+impl From<AllocError> for NoTrace {
+    fn from(_refused: AllocError) -> NoTrace {
+        NoTrace::NoMemory
+    }
+}
+
+/// Lets the command of some words write into a sink that is empty, and answers its status.
+fn write_trace<F: Files>(
+    alloc: Global,
+    words: &[String],
+    files: &mut F,
+    ports: &mut Ports,
+    out: &mut MemSink,
+) -> u8
+    requires eight { vec_len ports.old ≡ 8 }
+    requires empty { out.old.bytes ≡ [] }
+    ensures { result ≡ 0 → IsTraceBeside (F.told files.old) (map string_bytes words.now)
+        (rows_of latched word_at ports.old.items) out.new.bytes }
+{
+    flexpret(alloc, words, files, out, ports)
+}
+
+/// The trace that the command of some words writes beside a load, in a sink with room for so many
+/// bytes: the files hold the setup and the image with the load, and the ports have its devices.
+///
+/// # Errors
+///
+/// The status of the command, 8 where the trace has more bytes; or memory was refused.
+pub fn trace_beside<F: Files>(
+    alloc: Global,
+    words: &[String],
+    files: &mut F,
+    ports: &mut Ports,
+    room: usize,
+) -> Result<MemSink, NoTrace>
+    requires { vec_len ports.old ≡ 8 }
+    ensures { IfOk result (λ trace. IsTraceBeside (F.told files.old) (map string_bytes words.now)
+        (rows_of latched word_at ports.old.items) trace.bytes) }
+{
+    let mut out = MemSink::new(alloc, room)?;
+    match write_trace(alloc, words, files, ports, &mut out) {
+        0 => Ok(out),
+        status => Err(NoTrace::Status(status)),
+    }
+}
+
+/// Whether two sinks have the same bytes.
+fn have_same(one: &MemSink, other: &MemSink) -> bool
+    ensures { one.now.bytes ≡ other.now.bytes → result ≡ true }
+{
+    one.bytes() == other.bytes()
+}
+
+/// Whether the command of some words writes the same trace beside two loads. Where both leave the
+/// thread protected, with the same view, it does: its own code, slots, private memory and inputs
+/// are the same, and nothing else of the loads has a part in its trace.
+///
+/// # Errors
+///
+/// As for [`trace_beside`], of the first load or else of the second one.
+#[tactic(auto, using(crate::proofs::Traces::same_beside))]
+pub fn is_same_beside<F: Files>(
+    alloc: Global,
+    words: &[String],
+    one: &mut F,
+    ports_of_one: &mut Ports,
+    other: &mut F,
+    ports_of_other: &mut Ports,
+    room: usize,
+) -> Result<bool, NoTrace>
+    requires one { vec_len ports_of_one.old ≡ 8 }
+    requires other { vec_len ports_of_other.old ≡ 8 }
+    ensures { IfOk result (λ same. IsSameBeside (F.told one.old) (F.told other.old)
+        (map string_bytes words.now) (rows_of latched word_at ports_of_one.old.items)
+        (rows_of latched word_at ports_of_other.old.items) same) }
+{
+    let first = trace_beside(alloc, words, one, ports_of_one, room)?;
+    let second = trace_beside(alloc, words, other, ports_of_other, room)?;
+    Ok(have_same(&first, &second))
+}

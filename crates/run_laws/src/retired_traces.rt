@@ -1,0 +1,38 @@
+//! The theorems of isolation for the machine of a setup, an image and ports, with premises only on
+//! issues that have retired. Each is the contract of a call that does nothing; its statement is in
+//! specs/RetiredTraces.antt.
+
+ghost use Rattle.run_laws.specs.RetiredTraces.{RetiredEqualTraces, RetiredTraceAlone, RetiredTraceByPhases, RetiredTraceByWideView};
+
+/// While no issue that has retired writes a configuration register, the trace of a confined hard
+/// thread is that of the definition of one thread over its view, whatever the seven others run.
+pub fn traces_alone()
+    ensures { RetiredTraceAlone }
+{
+    crate::retired_isolation::runs_alone();
+}
+
+/// While no issue that has retired writes a region register, and no setting of slots and modes
+/// makes it soft and active, the trace of a confined thread is that of the definition of one thread
+/// over its view and these settings.
+pub fn traces_by_phases()
+    ensures { RetiredTraceByPhases }
+{
+    crate::retired_isolation::runs_by_phases();
+}
+
+/// While no issue that has retired writes a configuration register, machines that agree in a
+/// confined hard thread's view write equal traces of it.
+pub fn writes_equal_traces()
+    ensures { RetiredEqualTraces }
+{
+    traces_alone();
+}
+
+/// While no issue that has retired writes a configuration register, the trace of a hard thread that
+/// isn't confined follows from its wide view.
+pub fn traces_by_wide_view()
+    ensures { RetiredTraceByWideView }
+{
+    crate::retired_isolation::runs_by_wide_view();
+}
