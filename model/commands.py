@@ -2,7 +2,7 @@
 from __future__ import annotations
 
 import sys
-from collections.abc import Callable, Sequence
+from collections.abc import Callable, Iterator, Sequence
 from dataclasses import dataclass, field
 from enum import IntEnum
 from typing import Protocol
@@ -24,7 +24,7 @@ from model.refusals import (
 )  # fmt: skip
 from model.registers import own_positions
 from model.setups import HARD, THREADS, Setup, SetupFault, read_setup
-from model.world import RETIRES, PortCall, Setting, World
+from model.world import BUBBLE, RETIRES, PortCall, Setting, World
 
 Bytes = bytes
 
@@ -249,8 +249,7 @@ class Call:
         world = World(setup, image, list(self.ports))
         feed(setup, self.ports)
         begin()
-        for cycle in range(self.question.cycles):
-            world.step()
+        for cycle in cycles_of(world, self.question.cycles):
             unplug(setup, self.ports, cycle)
             if cycle >= AT_PORT:
                 call_port(self.ports, world.turns[cycle - AT_PORT].port)
@@ -301,6 +300,19 @@ def section_refusal(setup: Setup, question: Question) -> SectionNo | None:
     if start % 4 or end % 4:
         return SectionNo.Misaligned
     return SectionNo.Outside if end > setup.size else None
+
+
+def cycles_of(world: World, end: int) -> Iterator[int]:
+    """Does the cycles up to `end`, and gives the number of each. Of those in which all threads sleep, with nothing in the
+    pipeline, it gives the last one only."""
+    while world.at < end:
+        world.step()
+        yield world.at - 1
+        if all(turn is BUBBLE for turn in world.turns[-RETIRES:]):
+            before = world.at
+            world.skip_sleep(end)
+            if world.at > before:
+                yield world.at - 1
 
 
 def feed(setup: Setup, ports: Ports) -> None:

@@ -10,8 +10,8 @@ from model.images import DATA, Image
 from model.issues import Step, Thread
 from model.bits import nibble, u32
 from model.ports import Ports, Shown
-from model.registers import DREGIONS, IREGIONS, MACHINE_CSRS, MODES, PORT, SLOTS, Regions, pick
-from model.setups import READ_ONLY, THREADS, Setup
+from model.registers import DREGIONS, IREGIONS, MACHINE_CSRS, MODES, PORT, SLOTS, Regions, mode, pick
+from model.setups import HARD, READ_ONLY, SOFT, THREADS, Setup
 
 RETIRES = 4
 """An issue's line is there so many cycles later."""
@@ -91,6 +91,19 @@ class World:
         pc = thread.pc
         word, event = Step(thread, number, cycle, now, around).issue()
         return Turn(Kind.ISSUE, number, pc, word, event, around.port)
+
+    def skip_sleep(self, end: int) -> None:
+        """Does the cycles up to `end`, or to the next moment at which a thread wakes, if all threads sleep until then.
+
+        Nobody has a turn in these cycles. It needs settings that stay: no write is on its way to picking."""
+        _, modes, sleeps = self._picking[0]
+        if any(setting != self._picking[0] for setting in self._picking):
+            return
+        moments = [sleep for number, sleep in enumerate(sleeps) if mode(modes, number) in (HARD, SOFT)]
+        wakes = -(-min(moments, default=end * self.setup.period) // self.setup.period)
+        skipped = max(min(wakes, end) - self.at, 0)
+        self.turns += [BUBBLE] * skipped
+        self.at += skipped
 
     def run_to(self, cycles: int) -> World:
         """Does cycles until so many are done."""

@@ -43,7 +43,7 @@ COMMAND_TABLES = (
 
 EXAMPLES = {
     "asm drive.s": "drive.fpx",
-    "run drive.toml --thread 0 --cycles 57": "drive.trace",
+    "run drive.toml --thread 0 --cycles 77": "drive.trace",
     "asm sum.s": "sum.fpx",
     "run sum.toml --thread 0 --cycles 820": "sum.trace",
     "bound sum.toml --thread 0 --from 0x10 --to 0x3c": "sum.bound",

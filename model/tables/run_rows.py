@@ -51,7 +51,7 @@ def pairs(text: str) -> list[tuple[int, int]]:
 
 def program_answer(call: str) -> str:
     """The events of a program, and the latch of thread 0's device, which is the only one."""
-    if call == "machine":
+    if call == "state_of_fields":
         return machine_answer()
     head, code, fed = (call.split(", ") + [""])[:3]
     slots, modes, second, cycles = numbers(head)

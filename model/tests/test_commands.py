@@ -57,7 +57,7 @@ def test_a_put_that_fails_stops_the_run() -> None:
     files = {path.name: path.read_bytes() for path in EXAMPLES.glob("drive.*")}
     setup = files["drive.toml"].replace(b"examples/", b"")
     sink = MemSink({1: 3})
-    words = "run drive.toml --thread 0 --cycles 57".split()
+    words = "run drive.toml --thread 0 --cycles 77".split()
     status = flexpret(words, MemFiles({**files, "drive.toml": setup}), sink, [HeldPort() for _ in range(8)])
     assert (status, len(sink.puts)) == (Status.WRITE, 2)
     assert files["drive.trace"].startswith(sink.bytes)
