@@ -16,12 +16,32 @@ _flexpret_offer() {
     mapfile -t COMPREPLY < <(compgen "$@" -- "$word")
 }
 
+# The options of the scripts themselves, in front of the command.
+_flexpret_own='--quiet --unproved --use --version --help'
+
+# Whether what is completed is the command: only the scripts' own options stand before it.
+_flexpret_is_first() {
+    local at skipped=''
+    for ((at = 1; at < COMP_CWORD; at++)); do
+        case $skipped${COMP_WORDS[at]} in
+        --quiet | --unproved) ;;
+        --use) skipped='file' ;;
+        file*) skipped='' ;;
+        *) return 1 ;;
+        esac
+    done
+    [ -z "$skipped" ]
+}
+
 _flexpret() {
-    local word before options=''
+    local word before command options=''
     COMPREPLY=()
     _flexpret_words
-    if [ "$COMP_CWORD" -eq 1 ]; then
-        _flexpret_offer -W 'run dump phases solo check bound calls asm elf selfrun'
+    if _flexpret_is_first; then
+        case $word in
+        -*) _flexpret_offer -W "$_flexpret_own" ;;
+        *) _flexpret_offer -W 'run dump phases solo check bound calls asm elf selfrun disasm' ;;
+        esac
         return
     fi
     case $before in
@@ -31,15 +51,23 @@ _flexpret() {
         ;;
     --cycles | --from | --to | selfrun) return ;;
     esac
-    case ${COMP_WORDS[1]} in
-    run | solo) options='--thread --cycles' ;;
-    dump | phases) options='--cycles' ;;
-    check) options='--thread --cycles --trace' ;;
-    bound) options='--thread --from --to' ;;
-    calls) options='--thread --from --to --routines' ;;
-    esac
+    for command in "${COMP_WORDS[@]:1}"; do
+        case $command in
+        run | solo) options='--thread --cycles' ;;
+        dump | phases) options='--cycles' ;;
+        check) options='--thread --cycles --trace' ;;
+        bound) options='--thread --from --to --elf --map' ;;
+        calls) options='--thread --from --to --routines --elf --map' ;;
+        asm) options='-o --listing --map' ;;
+        elf) options=-o ;;
+        disasm) options='--elf --map' ;;
+        selfrun) ;;
+        *) continue ;;
+        esac
+        break
+    done
     case $word in
-    -*) _flexpret_offer -W "$options" ;;
+    -*) _flexpret_offer -W "$options --quiet" ;;
     *) _flexpret_offer -f ;;
     esac
 }
@@ -49,8 +77,11 @@ _flexpret_view() {
     local word before
     COMPREPLY=()
     _flexpret_words
-    if [ "$COMP_CWORD" -eq 1 ]; then
-        _flexpret_offer -W turns
+    if _flexpret_is_first; then
+        case $word in
+        -*) _flexpret_offer -W "$_flexpret_own" ;;
+        *) _flexpret_offer -W turns ;;
+        esac
         return
     fi
     case $before in

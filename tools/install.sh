@@ -1,39 +1,57 @@
 #!/usr/bin/env bash
-# tools/install.sh PREFIX: puts the built program, its man page and its completion for bash under PREFIX, as /usr/local, and
-# the view with those of it, if ./flexpret-view has built it. They need nothing else of this repository. FLEXPRET and
-# FLEXPRET_VIEW name the programs, if they aren't the ones that the scripts build.
+# tools/install.sh PREFIX: installs the built program under PREFIX, as /usr/local, with the script ./flexpret around it, the tools that
+# it calls, its man page and its completion for bash; and the same of the view, if ./flexpret-view has built it. They need nothing else of
+# this repository. FLEXPRET and FLEXPRET_VIEW name the programs, if they aren't the ones that the scripts build.
 set -eu
 if [ $# -ne 1 ] || [ "${1#-}" != "$1" ]; then
-    sed -n '2,4s/^# //p' "$0" >&2
+    sed -n '2,5s/^# //p' "$0" >&2
     exit 2
 fi
-prefix=$1
 tools=$(dirname "$(readlink -f "$0")")
-program=${FLEXPRET:-$tools/../crates/flexpret_cli/out/flexpret_cli}
-view=${FLEXPRET_VIEW:-$tools/../crates/flexpret_view/out/flexpret_view}
-if [ ! -x "$program" ]; then
-    echo "install.sh: no program is built yet; ./flexpret selfrun 1 builds it" >&2
+top=$(dirname "$tools")
+
+fail() {
+    echo "install.sh: $1" >&2
     exit 1
-fi
+}
 
-# Ends here where a file is no ELF executable, as the script ./flexpret, which is of use in its own folder alone.
+# Ends here where a file is no ELF executable, as the script ./flexpret is.
 refuse_script() {
-    if [ "$(head -c 4 "$1" | tr -d '\0')" != $'\x7fELF' ]; then
-        echo "install.sh: $1 is no ELF executable: name the program itself, no script that calls it" >&2
-        exit 1
-    fi
+    [ "$(head -c 4 "$1" | tr -d '\0')" = $'\x7fELF' ] || fail "$1 is no ELF executable: name the program itself, no script that calls it"
 }
 
-# Puts a program under a name, with its man page and completion.
+# put PROGRAM CRATE SCRIPT: a program with its record, its script, man page and completion.
 put() {
-    install -D -m 755 "$1" "$prefix/bin/$2"
-    install -D -m 644 "$tools/$2.1" "$prefix/share/man/man1/$2.1"
-    install -D -m 644 "$tools/flexpret.bash" "$prefix/share/bash-completion/completions/$2"
+    local place=$home/crates/$2/out
+    install -D -m 755 "$1" "$place/$2"
+    [ ! -f "$1.sources" ] || install -D -m 644 "$1.sources" "$place/$2.sources"
+    install -D -m 755 "$top/$3" "$home/$3"
+    mkdir -p "$prefix/bin"
+    ln -sfn "../lib/rilluqar/$3" "$prefix/bin/$3"
+    install -D -m 644 "$tools/$3.1" "$prefix/share/man/man1/$3.1"
+    install -D -m 644 "$tools/flexpret.bash" "$prefix/share/bash-completion/completions/$3"
 }
 
+# The tools that the scripts call, and the schemas that these read.
+put_tools() {
+    local file
+    for file in "$tools"/fp* "$tools"/launch.bash "$tools"/*.schema.json; do
+        [ -d "$file" ] || install -D -m "$([ -x "$file" ] && echo 755 || echo 644)" "$file" "$home/tools/${file##*/}"
+    done
+    for file in "$tools"/fplaunch/*.py "$tools"/fptools/*.py; do
+        install -D -m 644 "$file" "$home/tools/${file#"$tools/"}"
+    done
+}
+
+program=${FLEXPRET:-$top/crates/flexpret_cli/out/flexpret_cli}
+view=${FLEXPRET_VIEW:-$top/crates/flexpret_view/out/flexpret_view}
+[ -x "$program" ] || fail "no program is built yet; ./flexpret selfrun 1 builds it"
 refuse_script "$program"
 [ ! -x "$view" ] || refuse_script "$view"
-put "$program" flexpret
-if [ -x "$view" ]; then
-    put "$view" flexpret-view
-fi
+if ! mkdir -p -- "$1" 2>/dev/null || [ ! -w "$1" ]; then fail "$1 can't be written"; fi
+prefix=$(cd -- "$1" && pwd)
+home=$prefix/lib/rilluqar
+put_tools
+: >"$home/installed"
+put "$program" flexpret_cli flexpret
+[ ! -x "$view" ] || put "$view" flexpret_view flexpret-view

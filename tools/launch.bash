@@ -1,110 +1,142 @@
-# shellcheck shell=bash
-# What ./flexpret and ./flexpret-view share; each reads it, and says by `launches` which program it is for.
+# shellcheck shell=bash disable=SC2034
+# What ./flexpret and ./flexpret-view share. Each reads this file, and calls `launches` first.
 
-# launches SCRIPT CRATE: where the crate's program, the stamp of its build and its log are, from the script's whole name.
-launches() {
-    script=${1##*/}
-    top=${1%/*}
-    crate=$2
-    out=$top/crates/$crate/out
-    program=$out/$crate
-    log=$out/${script//-/_}.log
-    built=$out/${script//-/_}.built
-}
-
-# The names of the sources, or of those that find's words choose.
-sources() {
-    (cd "$top" && find crates.txt crates \( -name out -o -name incremental -o -name data -o -name must-fail \) -prune -o \
-        \( -name '*.rt' -o -name '*.antt' -o -name crates.txt \) "$@" -print 2>/dev/null) | LC_ALL=C sort
-}
-
-# Whether the sources are those that were built, whose names the stamp has: none went, none came, and none is newer.
-is_built() {
-    [ -x "$program" ] && [ -e "$built" ] && [ "$(sources ! -newer "$built")" = "$(<"$built")" ]
-}
-
-# How many crates the program is made of: its own and those below it. The list has lower ones first.
-crates() {
-    tac "$top/crates.txt" | awk -F '[: ]+' -v crate="$crate" '
-        BEGIN { needed[crate] }
-        $1 in needed { count++; for (field = 2; field <= NF; field++) needed[$field] }
-        END { print count }'
-}
-
-# The status where the program can't be built: none of the program's.
+# The status where the program isn't the one that answers.
 readonly NOT_BUILT=125
 
-# Builds the program by a run of it with these words, and tells each crate that is proved as it goes.
-build() {
-    local all proved=0 line
-    if ! command -v rt >/dev/null; then
-        echo "$script: the program is to be built, but rt, of the kit that README.md names, isn't on the PATH" >&2
-        exit "$NOT_BUILT"
-    fi
-    all=$(crates)
-    echo "$script: building, which proves $all crates first: up to an hour on four processors" >&2
-    mkdir -p "$out"
-    # A source that is changed while this goes on is newer than what is built.
-    sources >"$built.begun"
-    (cd "$top/crates/$crate" && rt run -- "$@") 2>&1 </dev/null | tee "$log" |
-        while IFS= read -r line; do
-            case $line in
-            logic=proved*)
-                proved=$((proved + 1))
-                echo "$script: $proved of $all crates" >&2
-                ;;
-            esac
-        done
-    if [ "${PIPESTATUS[0]}" -ne 0 ]; then
-        echo "$script: the program can't be built; see $log" >&2
-        exit "$NOT_BUILT"
-    fi
-    mv "$built.begun" "$built"
+# launches SCRIPT CRATE VARIABLE: where the crate's program is, and what lies beside it, from the script's whole name. The variable may name
+# another program.
+launches() {
+    self=$1 script=${1##*/} top=${1%/*} crate=$2 variable=$3
+    out=$top/crates/$crate/out
+    program=$out/$crate
+    names=$out/$crate.names times=$out/$crate.times
+    quiet='' used='' given=() said=''
+    unproved='' status=0
 }
 
-# Runs the program, which ends with this script, whatever ends it.
-run() {
-    setpriv --pdeathsig TERM -- "$program" "$@"
+# A line of the script itself, on standard error.
+say() {
+    printf '%s: %s\n' "$script" "$*" >&2 2>/dev/null
 }
 
-# Whether a file is there, after its name and what it is.
-tell_file() {
-    local is="is there"
-    if [ ! -e "$1" ]; then
-        is="isn't there"
-    elif [ -d "$1" ]; then
-        is="is a folder"
-    elif [ ! -r "$1" ]; then
-        is="can't be read"
-    fi
-    echo "  $1 ($2) $is"
+# Ends the script with a line.
+stop() {
+    say "$2"
+    exit "$1"
 }
 
-# files WHAT WORDS: the files that a command reads: the one that it names, after what it is, a setup's image, and the one of
-# an option. The words ask a command, or there would be another status.
-files() {
-    local what=$1 command=$2 name='' option='' other='' image beside
-    shift 2
+# run_python FILE ARGUMENT..: runs a file that needs Python's standard library alone.
+run_python() {
+    local python=/usr/bin/python3
+    [ -x $python ] || python=python3
+    FLEXPRET_QUIET=$quiet "$python" -S "$@"
+}
+
+# helper COMMAND ARGUMENT..: what the scripts leave to Python.
+helper() {
+    run_python "$top/tools/fp_launch" "$script" "$crate" "$@"
+}
+
+# options ARGUMENT..: takes the script's own options in front of the command, and --quiet behind it too. The rest is `given`.
+options() {
     while [ $# -gt 0 ]; do
         case $1 in
-        --trace=* | --routines=*) option=${1%%=*} other=${1#*=} ;;
-        --trace | --routines) option=$1 other=$2 && shift ;;
-        --*=* | --) ;;
-        --*) shift ;;
-        *) name=$1 ;;
+        --quiet) quiet=1 ;;
+        --unproved) unproved=1 ;;
+        --use)
+            [ $# -gt 1 ] || stop 2 '--use: FILE is missing, the program to be used'
+            used=$2
+            shift
+            ;;
+        --use=*) used=${1#*=} ;;
+        --version) version ;;
+        --help | -h | help) help ;;
+        *) break ;;
         esac
         shift
     done
-    echo "files are looked for from $PWD:"
-    tell_file "$name" "$what"
-    case $command in asm | elf) return ;; esac
-    image=$(sed -n "s/^[[:blank:]]*image[[:blank:]]*=[[:blank:]]*[\"']\([^\"']*\)[\"'].*/\1/p" "$name" 2>/dev/null | head -n 1)
-    if [ -n "$image" ]; then
-        tell_file "$image" "the setup's image"
-        beside=$(dirname "$name")/$(basename "$image")
-        if [ ! -e "$image" ] && [ -e "$beside" ]; then
-            echo "  $beside is there: a setup's image is named as it is seen from the folder of the call"
-        fi
+    local word
+    for word in "$@"; do
+        case $word in
+        --quiet) quiet=1 ;;
+        --help) help ;;
+        *) given+=("$word") ;;
+        esac
+    done
+}
+
+# Prints the program's commit and kit, and ends the script.
+version() {
+    quiet=1
+    choose_program
+    if [ -n "$used" ]; then helper version "$program"; else helper version; fi
+    exit
+}
+
+# The sizes and times of the files that `names` lists: the sources, their folders, the list of crates and the program.
+list_times() {
+    (cd "$top" && exec find -files0-from "$names" -maxdepth 0 -printf '%s %T@\n' 2>/dev/null)
+}
+
+# Whether the program is that of the sources that are there. Where a size or time isn't that of the last call, the helper reads the stamp
+# beside the program, with the checksums, and notes the new times.
+is_built() {
+    [ -x "$program" ] || return
+    [ ! -e "$top/installed" ] || return 0
+    if [ -e "$names" ] && list_times | cmp -s - "$times"; then return; fi
+    helper is-built
+}
+
+# Chooses the program that --use or the variable names, unless that is this script.
+choose_program() {
+    local named=${!variable-}
+    if [ -z "$used" ] && [ -n "$named" ] && ! [ "$named" -ef "$self" ]; then used=$named; fi
+    [ -z "$used" ] || use "$used"
+}
+
+# Builds the program, where there is none of these sources. Arguments that the program would refuse build nothing.
+need_program() {
+    if [ -z "$used" ] && ! is_built; then
+        [ ! -e "$top/installed" ] || stop "$NOT_BUILT" "$program isn't there: install it again"
+        explain "$@"
+        helper build || exit "$NOT_BUILT"
     fi
-    [ -z "$option" ] || tell_file "$other" "the file of $option"
+}
+
+# use FILE: takes a program that was built elsewhere, and says for which sources.
+use() {
+    local line='' commit='no record says from which sources it was built' kit=''
+    program=$(readlink -f -- "$1")
+    if [ ! -f "$program" ] || [ ! -x "$program" ]; then stop "$NOT_BUILT" "$1 isn't a program that can be run"; fi
+    if [ -r "$program.sources" ]; then
+        while read -r line; do
+            case $line in
+            'kit '*) kit=${line#kit } ;;
+            'commit '*) commit="built from commit ${line#commit }, by $kit" && break ;;
+            esac
+        done <"$program.sources"
+    fi
+    [ -n "$quiet" ] || say "using $1: $commit"
+}
+
+# run ARGUMENT..: runs the program, which ends with this script. Standard error is kept in `said`: it gets one line at the end.
+run() {
+    if [ -e /dev/fd/1 ]; then
+        { said=$(exec setpriv --pdeathsig TERM -- "$program" "$@" 2>&1 >&3 3>&-); } 3>&1
+    else
+        said=$(exec setpriv --pdeathsig TERM -- "$program" "$@" 2>&1 >&-)
+    fi
+    status=$?
+}
+
+# Passes on what the program wrote to standard error.
+pass_on() {
+    [ -z "$said" ] || printf '%s\n' "$said" >&2 2>/dev/null
+}
+
+# explain ARGUMENT..: says which argument is wrong, and ends with status 2. Where none is it returns.
+explain() {
+    helper explain "$@"
+    [ $? -ne 2 ] || exit 2
 }

@@ -2,15 +2,18 @@
 import importlib.util
 import sys
 
-# What the tools are made of beyond Python itself: the module's name, that of pip's package, and that of Debian's.
+# What the tools need beyond Python itself: the module's name, that of pip's package, and that of Debian's.
 NEEDED = {
     "elftools": ("pyelftools", "python3-pyelftools"),
     "jsonschema": ("jsonschema", "python3-jsonschema"),
     "networkx": ("networkx", "python3-networkx"),
 }
 
+OLDEST = (3, 11)
+"""The first version of Python that has what the tools use."""
+
 _missing = [packages for module, packages in NEEDED.items() if importlib.util.find_spec(module) is None]
-if _missing or sys.version_info < (3, 11):
+if _missing or sys.version_info < OLDEST:
     version = ".".join(map(str, sys.version_info[:3]))
     print(
         f"the tools run by {sys.executable}, which is Python {version}; they need 3.11 or later",

@@ -2,8 +2,10 @@
 from __future__ import annotations
 
 import os
+import shlex
 import subprocess
 import sys
+import tempfile
 from pathlib import Path
 
 import pytest
@@ -12,6 +14,24 @@ TOP = Path(__file__).resolve().parents[2]
 TOOLS = TOP / "tools"
 BUILT = TOP / "crates" / "flexpret_cli" / "out" / "flexpret_cli"
 sys.path.insert(0, str(TOOLS))
+
+
+def document(name: str) -> Path:
+    """A page of docs/, in whichever folder of it the page is."""
+    (found,) = (TOP / "docs").rglob(name)
+    return found
+
+
+def as_python3(folder: Path) -> None:
+    """Makes the Python that runs the tests the `python3` of each tool and script that they call."""
+    wrapper = folder / "python3"
+    wrapper.write_text(f'#!/bin/sh\nexec {shlex.quote(sys.executable)} "$@"\n')
+    wrapper.chmod(0o755)
+    os.environ["PATH"] = f"{folder}:{os.environ['PATH']}"
+
+
+_folder = tempfile.TemporaryDirectory(prefix="python3-")
+as_python3(Path(_folder.name))
 
 
 @pytest.fixture(scope="session")

@@ -71,7 +71,7 @@ def test_a_budget_that_holds_and_one_that_is_over(asking: Tool, tmp_path: Path) 
             "0x130",
             f"status 6: refused bound 2 IndirectJump 00000124: {HELP['IndirectJump']}",
         ),
-        ("drive", "0x10", "0x2c", f"status 6: refused bound 3 TimedWait 00000028: {HELP['TimedWait']}"),
+        ("drive", "0x10", "0x38", f"status 6: refused bound 3 TimedWait 00000034: {HELP['TimedWait']}"),
         ("drive", "0x40", "0x20", "status 3: refused section 3 Order"),
     ],
 )

@@ -18,8 +18,8 @@ MOVED = sorted(TOP.glob("bench/edits/*/*.edit"))
 
 
 def table() -> list[tuple[str, str]]:
-    """The crate and the wrong body of each edit that docs/TESTING.md lists."""
-    text = (TOP / "docs/TESTING.md").read_text()
+    """The crate and the wrong body of each edit that docs/dev/TESTING.md lists."""
+    text = (TOP / "docs/dev/TESTING.md").read_text()
     rows = re.findall(r"^\| [^|]+ \| ([^|]+) \|$", text[text.index("| body | edits |") :], re.MULTILINE)
     found = []
     for row in rows:

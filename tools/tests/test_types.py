@@ -1,20 +1,36 @@
-"""The types of the tools, the tests and the scripts, as mypy --strict has them."""
+"""The types of the tools, the tests, the model and the scripts, as mypy --strict has them, and what pyflakes finds.
+
+Both are pinned to what Debian 12 ships, since other versions find other things."""
 from __future__ import annotations
 
-import importlib.util
 import os
+import shutil
 import subprocess
-import sys
 from pathlib import Path
 
 import pytest
 from conftest import TOOLS, TOP
 
+MYPY, PYFLAKES = "1.0.1", "2.5.0"
+"""The versions of Debian 12."""
+
 PARTS = {
-    "tools": ["fp_budget", "fp_layout", "fp_lint", "fp_loops", "fp_trace", "fptools", "tests"],
-    "bench": [str(it) for it in sorted((TOP / "bench").glob("*.py"))],
-    "examples": [str(it) for it in sorted((TOP / "examples").glob("*/*.py"))],
+    "tools": (TOOLS, ["fptools", "fplaunch", "tests", *sorted(it.name for it in TOOLS.glob("fp*") if it.is_file())]),
+    "bench": (TOOLS, [str(it) for it in sorted((TOP / "bench").glob("*.py"))]),
+    "examples": (TOOLS, [str(it) for it in sorted((TOP / "examples").glob("*/*.py"))]),
+    "model": (TOP / "model", ["-p", "model"]),
 }
+"""For each part the folder that has its settings, and what is checked."""
+
+
+def pinned(tool: str, package: str, version: str) -> str:
+    """The tool's name, if it is there in the version that is asked for; else the test is skipped."""
+    if shutil.which(tool) is None:
+        pytest.skip(f"{tool} isn't installed (Debian: {package})")
+    said = subprocess.run([tool, "--version"], capture_output=True, text=True, check=False).stdout
+    if version not in said.split():
+        pytest.skip(f"{tool} is not {version} (Debian 12: {package})")
+    return tool
 
 
 @pytest.fixture(scope="module")
@@ -22,13 +38,21 @@ def cache(tmp_path_factory: pytest.TempPathFactory) -> Path:
     return tmp_path_factory.mktemp("mypy")
 
 
-@pytest.mark.skipif(not importlib.util.find_spec("mypy"), reason="mypy isn't installed")
 @pytest.mark.parametrize("part", PARTS)
 def test_types_are_strict(part: str, cache: Path) -> None:
-    mypy = [sys.executable, "-m", "mypy", "--strict", "--scripts-are-modules", f"--cache-dir={cache}"]
-    # The scripts in `bench` use the model, which is seen from the top of the repository.
+    mypy = [pinned("mypy", "mypy", MYPY), "--strict", "--scripts-are-modules", f"--cache-dir={cache}"]
+    folder, parts = PARTS[part]
+    # The scripts of `bench` use the model, which is found from the top of the repository.
     environment = {**os.environ, "MYPYPATH": str(TOP)}
-    ran = subprocess.run(
-        [*mypy, *PARTS[part]], cwd=TOOLS, env=environment, capture_output=True, text=True, check=False
-    )
+    ran = subprocess.run([*mypy, *parts], cwd=folder, env=environment, capture_output=True, text=True, check=False)
     assert ran.returncode == 0, ran.stdout
+
+
+@pytest.mark.parametrize("part", ["tools", "bench", "examples", "model"])
+def test_pyflakes_finds_nothing(part: str) -> None:
+    pyflakes = pinned("pyflakes3", "pyflakes3", PYFLAKES)
+    files = [str(it) for it in sorted((TOP / part).rglob("*.py"))]
+    if part == "tools":
+        files += PARTS["tools"][1][2:]
+    ran = subprocess.run([pyflakes, *files], cwd=TOOLS, capture_output=True, text=True, check=False)
+    assert (ran.returncode, ran.stdout) == (0, "")

@@ -1,0 +1,212 @@
+"""The command line of the program: which argument is wrong, what is allowed there, and which files it names.
+
+The rules are those of `read_words` in the crate ask_words; the tests compare both over the rows of the gate."""
+from __future__ import annotations
+
+import difflib
+import re
+from dataclasses import dataclass, field
+from typing import Callable, Iterator
+
+MOST_CYCLES = 4_000_000_000
+"""The most cycles of a run."""
+
+MOST_CHECKED = 1_000_000
+"""The most cycles that `check` compares."""
+
+MOST_NUMBER = (1 << 32) - 1
+"""The largest address, and the largest number of `selfrun`."""
+
+
+@dataclass(frozen=True)
+class Command:
+    """A command: how its file or number is called, and its options, each of which is needed once."""
+
+    subject: str
+    options: tuple[str, ...] = ()
+
+
+COMMANDS = {
+    "run": Command("SETUP", ("thread", "cycles")),
+    "dump": Command("SETUP", ("cycles",)),
+    "phases": Command("SETUP", ("cycles",)),
+    "solo": Command("SETUP", ("thread", "cycles")),
+    "check": Command("SETUP", ("thread", "cycles", "trace")),
+    "bound": Command("SETUP", ("thread", "from", "to")),
+    "calls": Command("SETUP", ("thread", "from", "to", "routines")),
+    "asm": Command("SOURCE"),
+    "elf": Command("FILE"),
+    "selfrun": Command("NUMBER"),
+}
+VALUES = {"thread": "I", "cycles": "N", "from": "A", "to": "B", "trace": "FILE", "routines": "FILE"}
+"""How the value of an option is called."""
+
+
+@dataclass
+class Asked:
+    """The words behind a command: what stands without an option, and the values of each option."""
+
+    subjects: list[str] = field(default_factory=list)
+    values: dict[str, list[str]] = field(default_factory=dict)
+
+    def value(self, option: str) -> str:
+        return self.values[option][0]
+
+
+class Fault(Exception):
+    """What is wrong with a command line, in one line."""
+
+
+def form(name: str) -> str:
+    """How a command is called."""
+    command = COMMANDS[name]
+    return " ".join([name, command.subject, *(f"--{option} {VALUES[option]}" for option in command.options)])
+
+
+# ---------------------------------------------------------------- numbers
+
+
+def decimal(text: str, most: int) -> int | None:
+    """The number of one to ten decimal digits, up to a limit."""
+    return int(text) if re.fullmatch("[0-9]{1,10}", text) and int(text) <= most else None
+
+
+def address(text: str) -> int | None:
+    """An address in decimal, or in hexadecimal behind 0x."""
+    if re.fullmatch("0x[0-9a-fA-F]{1,8}", text):
+        return int(text, 16)
+    return decimal(text, MOST_NUMBER)
+
+
+def thread_fault(text: str) -> str | None:
+    return None if re.fullmatch("[0-7]", text) else "threads are 0 to 7"
+
+
+def cycles_fault(text: str, most: int) -> str | None:
+    if decimal(text, most) is not None:
+        return None
+    return f"a number of cycles is one to ten decimal digits, at most {most}"
+
+
+def address_fault(text: str) -> str | None:
+    if address(text) is not None:
+        return None
+    return "an address is decimal, or 0x and one to eight hexadecimal digits, at most 0xffffffff"
+
+
+FAULTS: dict[str, Callable[[str], str | None]] = {
+    "thread": thread_fault,
+    "cycles": lambda text: cycles_fault(text, MOST_CYCLES),
+    "from": address_fault,
+    "to": address_fault,
+}
+"""What is wrong with the value of an option. Any text is the name of a file."""
+
+
+def value_fault(name: str, option: str, text: str) -> str | None:
+    """What is wrong with the value of a command's option."""
+    if name == "check" and option == "cycles":
+        is_large = decimal(text, MOST_CYCLES) is not None and decimal(text, MOST_CHECKED) is None
+        return f"check compares at most {MOST_CHECKED} cycles" if is_large else cycles_fault(text, MOST_CHECKED)
+    return FAULTS.get(option, lambda text: None)(text)
+
+
+# ---------------------------------------------------------------- words
+
+
+def sort_out(name: str, words: list[str]) -> Asked:
+    """The words behind a command, by what they are; a word without a place is a fault."""
+    asked = Asked()
+    left = iter(words)
+    for word in left:
+        if word and not word.startswith("-"):
+            asked.subjects.append(word)
+            continue
+        option, text = option_of(name, word, left)
+        asked.values.setdefault(option, []).append(text)
+    return asked
+
+
+def option_of(name: str, word: str, left: Iterator[str]) -> tuple[str, str]:
+    """The option that a word names, and its value, which may be the next word."""
+    options = COMMANDS[name].options
+    if not word:
+        raise Fault("an argument is empty")
+    option, sign, value = word.removeprefix("--").partition("=")
+    if not word.startswith("--") or option not in options:
+        raise Fault(unknown_option(name, word, option))
+    if not sign:
+        value = next(left, "")
+    if not value:
+        raise Fault(f"--{option}: {VALUES[option]} is missing")
+    if value.startswith("-"):
+        raise Fault(f"--{option} {value}: a value doesn't begin with -{' (write ./' + value + ')' if VALUES[option] == 'FILE' else ''}")
+    return option, value
+
+
+def unknown_option(name: str, word: str, option: str) -> str:
+    """What is said of a word that begins with `-` and is no option of the command."""
+    options = COMMANDS[name].options
+    known = f"{name} has the options {' and '.join(f'--{one}' for one in options)}" if options else f"{name} has no options"
+    if not word.startswith("--"):
+        return f"{word}: {known}; a file whose name begins with - is written ./{word}"
+    near = difflib.get_close_matches(option, options, 1)
+    return f"--{option}: {known}" + (f"; is --{near[0]} meant?" if near else "")
+
+
+def check(name: str, asked: Asked) -> None:
+    """Whether each part of a command is there once, with a value that is allowed."""
+    command = COMMANDS[name]
+    for option, texts in asked.values.items():
+        if len(texts) > 1:
+            raise Fault(f"--{option} is given {len(texts)} times")
+    for option, texts in asked.values.items():
+        fault = value_fault(name, option, texts[0])
+        if fault:
+            raise Fault(f"--{option} {texts[0]}: {fault}")
+    missing = [f"--{option} {VALUES[option]}" for option in command.options if option not in asked.values]
+    if not asked.subjects:
+        missing.insert(0, command.subject)
+    if missing:
+        raise Fault(f"{name} needs {' and '.join(missing)}")
+    if len(asked.subjects) > 1:
+        raise Fault(f"{asked.subjects[1]}: {name} takes one {command.subject}, and {asked.subjects[0]} is that")
+    if name == "selfrun" and decimal(asked.subjects[0], MOST_NUMBER) is None:
+        raise Fault(f"selfrun {asked.subjects[0]}: NUMBER is decimal, at most {MOST_NUMBER}")
+
+
+def parse(words: list[str]) -> tuple[str, Asked]:
+    """The command of a command line and its parts. What isn't allowed is a fault."""
+    for word in words:
+        try:
+            word.encode()
+        except UnicodeEncodeError:
+            raise Fault(f"{ascii(word)}: an argument isn't UTF-8") from None
+    if not words:
+        raise Fault("no command is named; --help shows them")
+    name = words[0]
+    if name not in COMMANDS:
+        near = difflib.get_close_matches(name, COMMANDS, 1)
+        hint = f"is {near[0]} meant?" if near else f"the commands are {', '.join(COMMANDS)}"
+        raise Fault(f"{name}: no such command; {hint}")
+    asked = sort_out(name, words[1:])
+    check(name, asked)
+    return name, asked
+
+
+def fault_of(words: list[str]) -> str | None:
+    """What is wrong with a command line, or nothing."""
+    try:
+        parse(words)
+    except Fault as fault:
+        return str(fault)
+    return None
+
+
+def files_of(words: list[str]) -> list[tuple[str, str]]:
+    """The files that a command line names, each with what it is. The image of a setup isn't named."""
+    name, asked = parse(words)
+    command = COMMANDS[name]
+    files = [] if name == "selfrun" else [(asked.subjects[0], command.subject.lower())]
+    files += [(asked.value(option), f"file of --{option}") for option in command.options if VALUES[option] == "FILE"]
+    return files

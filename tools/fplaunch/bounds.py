@@ -1,0 +1,74 @@
+"""What a bound leaves out: edges by which the section is left otherwise than by its end, and a number that is 0."""
+from __future__ import annotations
+
+from pathlib import Path
+from typing import Iterator, Mapping
+
+from fplaunch.arguments import address, parse
+from fplaunch.plain_section import EBREAK, ECALL, JAL, goes_on, is_branch, is_call, target
+from fplaunch.setups import image_of
+
+
+def words_of(image: Path) -> dict[int, int]:
+    """The words of an image that the program accepted, by address."""
+    data = image.read_bytes()
+    words: dict[int, int] = {}
+    offset = 8
+    for _ in range(int.from_bytes(data[4:8], "little")):
+        start = int.from_bytes(data[offset : offset + 4], "little")
+        length = int.from_bytes(data[offset + 4 : offset + 8], "little")
+        for at in range(0, length, 4):
+            words[start + at] = int.from_bytes(data[offset + 8 + at : offset + 12 + at], "little")
+        offset += 8 + length
+    return words
+
+
+def edges(pc: int, word: int) -> list[int]:
+    """Where a thread goes on after a word, as `bound` has it: a call goes on at the called function."""
+    if is_branch(word):
+        return [pc + 4, target(pc, word)]
+    if word & 0x7F == JAL:
+        return [target(pc, word)]
+    return [pc + 4] if goes_on(word) else []
+
+
+def reached(words: Mapping[int, int], start: int, end: int) -> list[int]:
+    """The addresses of a section that a thread reaches from its first."""
+    found: set[int] = set()
+    ahead = [start]
+    while ahead:
+        pc = ahead.pop()
+        if pc not in found and start <= pc < end:
+            found.add(pc)
+            ahead += edges(pc, words.get(pc, 0))
+    return sorted(found)
+
+
+def ways_out(words: Mapping[int, int], start: int, end: int) -> Iterator[str]:
+    """A line for each reachable word by which the section is left otherwise than by its end. What has no bound isn't among them."""
+    for pc in reached(words, start, end):
+        word = words.get(pc, 0)
+        if word in (ECALL, EBREAK):
+            yield f"{pc:08x}: a trap leaves the section, and the bound ends there"
+        elif not edges(pc, word):
+            yield f"{pc:08x}: no instruction is there, and the bound ends there"
+        for to in edges(pc, word):
+            if start <= to <= end:
+                continue
+            if is_call(word):
+                yield f"{pc:08x}: a call of {to:08x} leaves the section, and the bound ends there; calls and tools/fp_budget follow it"
+            else:
+                yield f"{pc:08x}: the section is left for {to:08x}, and the bound ends there; tools/fp_budget checks that"
+
+
+def warnings(command: list[str], line: str) -> list[str]:
+    """What is said of a bound that was answered by a line."""
+    name, asked = parse(command)
+    image = image_of(Path(asked.subjects[0]))
+    start, end = address(asked.value("from")), address(asked.value("to"))
+    if image is None or start is None or end is None or not Path(image).is_file():
+        return []
+    lines = list(ways_out(words_of(Path(image)), start, end))
+    if line == "bound 0":
+        lines.append(f"the bound is 0: no path from {start:08x} leaves the section after a cycle; tools/fp_budget says why")
+    return lines

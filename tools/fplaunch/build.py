@@ -1,0 +1,314 @@
+"""Proves the crates of a program, as many at once as processors and memory allow, and builds it."""
+from __future__ import annotations
+
+import errno
+import fcntl
+import os
+import re
+import shutil
+import signal
+import subprocess
+import sys
+import time
+from concurrent.futures import FIRST_COMPLETED, Future, ThreadPoolExecutor, wait
+from contextlib import contextmanager
+from dataclasses import dataclass, field
+from functools import cached_property
+from graphlib import TopologicalSorter
+from threading import Lock
+from types import FrameType
+from typing import Iterator, TextIO
+
+from fplaunch.sources import SUFFIXES, Checkout, kit_line
+
+NEEDED_MEMORY = 2 << 30
+"""Bytes that one proof may take."""
+
+NEEDED_DISK = 3 << 30
+"""Bytes that a build may take on the disk."""
+
+LOGIC = "dac8208d650f15bf"
+"""The logic of the kit that README.md names."""
+
+FIRST_SECONDS, SOURCE_SECONDS, PROOF_SECONDS, LINK_SECONDS = 10.0, 0.0018, 0.0003, 60.0
+"""What a crate takes on a processor of 2.5 GHz: at all, for a byte of src, for one of specs and proofs, and a program for its link."""
+
+TRIED = {"flexpret_cli": ["asm", "data/loads.s"], "flexpret_view": ["--help"]}
+"""With which arguments a program is called by its build, which `rt run` does."""
+
+
+class NotBuilt(Exception):
+    """Why there is no program, in one line."""
+
+
+def seconds_of(checkout: Checkout, crate: str) -> float:
+    """What the proof of a crate takes, about, by one job on a quiet processor of 2.5 GHz."""
+    folder = checkout.top / "crates" / crate
+    seconds = FIRST_SECONDS
+    for file in folder.rglob("*"):
+        part = file.relative_to(folder).parts[0]
+        if part != "out" and file.name.endswith(SUFFIXES):
+            seconds += file.stat().st_size * (SOURCE_SECONDS if part == "src" else PROOF_SECONDS)
+    return seconds
+
+
+def free_memory() -> int:
+    """The bytes of memory that are free."""
+    with open("/proc/meminfo") as file:
+        found = re.search(r"^MemAvailable:\s+(\d+) kB$", file.read(), re.MULTILINE)
+    return int(found[1]) << 10 if found else NEEDED_MEMORY
+
+
+def processors() -> int:
+    return len(os.sched_getaffinity(0))
+
+
+def jobs() -> int:
+    """How many crates are proved at once."""
+    return max(1, min(processors(), free_memory() // NEEDED_MEMORY))
+
+
+def minutes(seconds: float) -> str:
+    """A time in words."""
+    return f"{max(1, round(seconds / 60))} minute{'s' if round(seconds / 60) > 1 else ''}"
+
+
+@dataclass
+class Plan:
+    """The crates of a program, and what is left to be proved."""
+
+    checkout: Checkout
+    at_once: int
+    begun: float = field(default_factory=time.monotonic)
+    running: dict[str, float] = field(default_factory=dict)
+    done: dict[str, float] = field(default_factory=dict)
+    """The seconds that each crate took."""
+
+    @cached_property
+    def below(self) -> dict[str, list[str]]:
+        """For each crate those of the repository that it uses."""
+        libraries = self.checkout.libraries()
+        return {crate: [one for one in libraries[crate] if one in libraries] for crate in self.checkout.crates()}
+
+    @cached_property
+    def weight(self) -> dict[str, float]:
+        """The seconds that each crate takes, about."""
+        weight = {crate: seconds_of(self.checkout, crate) for crate in self.below}
+        weight[self.checkout.crate] += LINK_SECONDS
+        return weight
+
+    @cached_property
+    def chain(self) -> dict[str, float]:
+        """The seconds from the start of each crate to the end, if all that waits for it is proved one after the other."""
+        chain: dict[str, float] = {}
+        for crate in reversed(list(TopologicalSorter(self.below).static_order())):
+            above = [chain[one] for one, uses in self.below.items() if crate in uses]
+            chain[crate] = self.weight[crate] + max(above, default=0.0)
+        return chain
+
+    def left(self) -> float:
+        """The seconds until the program is there, about, by the pace so far."""
+        ahead = [crate for crate in self.below if crate not in self.done]
+        if not ahead:
+            return 0.0
+        now = time.monotonic()
+        spent = {crate: min(now - since, self.weight[crate]) for crate, since in self.running.items()}
+        work = sum(self.weight[crate] - spent.get(crate, 0.0) for crate in ahead) / self.at_once
+        longest = max(self.chain[crate] - spent.get(crate, 0.0) for crate in ahead)
+        return max(work, longest) * self.pace()
+
+    def pace(self) -> float:
+        """How much longer crates take here than on a quiet processor of 2.5 GHz. A crate that was quick had been proved before."""
+        proved = [crate for crate, took in self.done.items() if took > FIRST_SECONDS]
+        known = sum(self.weight[crate] for crate in proved)
+        return sum(self.done[crate] for crate in proved) / known if known else 1.0
+
+
+class Progress:
+    """Lines on standard error: one that is renewed on a terminal, else one for each crate that is proved."""
+
+    def __init__(self, script: str, plan: Plan, quiet: bool) -> None:
+        self.script, self.plan, self.quiet = script, plan, quiet
+        self.terminal = sys.stderr.isatty()
+
+    def show(self) -> None:
+        if self.quiet:
+            return
+        plan = self.plan
+        at = ", ".join(plan.running) or "the program"
+        line = f"{self.script}: {len(plan.done)} of {len(plan.below)} crates proved; now {at}; about {minutes(plan.left())} left"
+        if self.terminal:
+            columns = shutil.get_terminal_size().columns
+            print(f"\r\x1b[K{line[: columns - 1]}", end="", file=sys.stderr, flush=True)
+        else:
+            print(line, file=sys.stderr, flush=True)
+
+    def end(self) -> None:
+        if self.terminal and not self.quiet:
+            print("\r\x1b[K", end="", file=sys.stderr, flush=True)
+
+
+class Builder:
+    """Runs `rt` over the crates of a plan."""
+
+    def __init__(self, plan: Plan, log: TextIO) -> None:
+        self.plan, self.log = plan, log
+        self.lock = Lock()
+        self.children: set[subprocess.Popen[str]] = set()
+        self.stopped = False
+
+    def call(self, crate: str, words: list[str]) -> None:
+        """Calls `rt` in a crate's folder; what it writes goes to the log. A failure is an error with its last line."""
+        with self.lock:
+            if self.stopped:
+                raise NotBuilt("broken off")
+            child = subprocess.Popen(
+                ["rt", *words], cwd=self.plan.checkout.top / "crates" / crate, stdin=subprocess.DEVNULL,
+                stdout=subprocess.PIPE, stderr=subprocess.STDOUT, text=True, errors="replace", process_group=0,
+            )  # fmt: skip
+            self.children.add(child)
+        said, _ = child.communicate()
+        with self.lock:
+            self.children.discard(child)
+            self.log.write(f"== {crate}\n{said}")
+            self.log.flush()
+        if child.returncode:
+            raise NotBuilt(why_not(crate, said, child.returncode))
+
+    def prove(self, crate: str, count: int) -> None:
+        """Proves a crate by so many jobs; the program's own is linked too, and called once."""
+        flags = ["--jobs", str(count)]
+        if crate == self.plan.checkout.crate:
+            self.call(crate, ["run", *flags, "--", *TRIED[crate]])
+        else:
+            self.call(crate, ["lib", *flags])
+
+    def stop(self) -> None:
+        """Ends what runs."""
+        with self.lock:
+            self.stopped = True
+            for child in self.children:
+                os.killpg(child.pid, signal.SIGTERM)
+
+    def build(self, progress: Progress) -> None:
+        """Proves all crates of the plan, each behind those that it uses, the longest chain first."""
+        plan = self.plan
+        order = TopologicalSorter(plan.below)
+        order.prepare()
+        ready: list[str] = []
+        futures: dict[Future[None], str] = {}
+        with ThreadPoolExecutor(plan.at_once) as pool:
+            try:
+                while order.is_active():
+                    ready = sorted([*ready, *order.get_ready()], key=plan.chain.__getitem__)
+                    while ready and len(futures) < plan.at_once:
+                        crate = ready.pop()
+                        plan.running[crate] = time.monotonic()
+                        share = max(1, plan.at_once // (len(futures) + 1 + len(ready)))
+                        futures[pool.submit(self.prove, crate, share)] = crate
+                    progress.show()
+                    ended, _ = wait(futures, timeout=30 if progress.terminal else None, return_when=FIRST_COMPLETED)
+                    for future in ended:
+                        crate = futures.pop(future)
+                        future.result()
+                        plan.done[crate] = time.monotonic() - plan.running.pop(crate)
+                        order.done(crate)
+            except BaseException:
+                self.stop()
+                raise
+            finally:
+                progress.end()
+
+
+def why_not(crate: str, said: str, status: int) -> str:
+    """Why `rt` failed over a crate, in one line."""
+    if "No space left on device" in said or "the disk is full" in said:
+        return f"the disk is full: {crate} can't be proved"
+    lines = [line for line in said.splitlines() if "error" in line or line.startswith("rt: ")]
+    last = (lines or said.splitlines() or [f"status {status}"])[-1]
+    return f"{crate} is not proved: {last.strip()[:200]}"
+
+
+# ---------------------------------------------------------------- one build at a time
+
+
+@contextmanager
+def in_turn(script: str, checkout: Checkout, quiet: bool) -> Iterator[bool]:
+    """Waits while another call builds in this checkout, and gives whether it had to."""
+    with open(checkout.top / "crates.txt") as held:
+        waited = False
+        try:
+            fcntl.flock(held, fcntl.LOCK_EX | fcntl.LOCK_NB)
+        except BlockingIOError:
+            waited = True
+            if not quiet:
+                print(f"{script}: another call builds here: waiting for it", file=sys.stderr, flush=True)
+            fcntl.flock(held, fcntl.LOCK_EX)
+        except OSError:
+            pass  # a file system without locks
+        yield waited
+
+
+def first_line(checkout: Checkout, plan: Plan) -> str:
+    """What a build says when it begins."""
+    return (
+        f"the program isn't built yet: {len(plan.below)} crates are proved first, in about {minutes(plan.left())};"
+        " for an answer now: --unproved, or python3 -m model"
+    )
+
+
+def look_ahead(checkout: Checkout) -> None:
+    """What stands in the way of a build before it begins."""
+    if shutil.which("rt") is None:
+        raise NotBuilt("the program isn't built, and rt of the kit that README.md names isn't on the PATH")
+    try:
+        checkout.out.mkdir(parents=True, exist_ok=True)
+        free = shutil.disk_usage(checkout.out).free
+    except OSError as fault:
+        raise NotBuilt(f"{checkout.out} can't be made: {fault.strerror}") from None
+    if not os.access(checkout.out, os.W_OK):
+        raise NotBuilt(f"{checkout.out} can't be written")
+    if free < NEEDED_DISK:
+        raise NotBuilt(f"the disk has {free >> 20} MB left; a build needs {NEEDED_DISK >> 20}")
+
+
+def other_kit(kit: str) -> str:
+    """What is said of a kit that isn't the one that README.md names."""
+    return "" if LOGIC in kit else f" (the kit is {kit}; README.md names one with logic {LOGIC})"
+
+
+def build(script: str, checkout: Checkout, quiet: bool) -> None:
+    """Builds the program, unless another call has done so meanwhile."""
+    look_ahead(checkout)
+    with in_turn(script, checkout, quiet) as waited:
+        if waited and checkout.is_built():
+            return
+        plan = Plan(checkout, jobs())
+        if not quiet:
+            print(f"{script}: {first_line(checkout, plan)}", file=sys.stderr, flush=True)
+        kit, sources = kit_line(), checkout.listed()
+        log = checkout.out / f"{checkout.crate}.log"
+        try:
+            with log.open("w") as file:
+                run_builder(Builder(plan, file), Progress(script, plan, quiet))
+            checkout.write_stamp(kit, sources)
+        except NotBuilt as fault:
+            raise NotBuilt(f"{fault}{other_kit(kit)}; see {log}") from None
+        except OSError as fault:
+            why = "the disk is full" if fault.errno == errno.ENOSPC else fault.strerror
+            raise NotBuilt(f"{fault.filename or checkout.out}: {why}") from None
+
+
+def run_builder(builder: Builder, progress: Progress) -> None:
+    """Builds; a signal ends what runs, and the next call goes on behind the crates that are proved."""
+
+    def end(number: int, frame: FrameType | None) -> None:
+        builder.stop()
+        raise NotBuilt("broken off; the next call goes on with what is proved")
+
+    before = {number: signal.signal(number, end) for number in (signal.SIGINT, signal.SIGTERM, signal.SIGHUP)}
+    try:
+        builder.build(progress)
+    finally:
+        for number, handler in before.items():
+            signal.signal(number, handler)

@@ -1,0 +1,123 @@
+"""The commands of tools/fp_launch: fp_launch SCRIPT CRATE COMMAND ARGUMENT.."""
+from __future__ import annotations
+
+import os
+import sys
+from pathlib import Path
+
+from fplaunch.sources import Checkout, kit_line, read_stamp
+
+# The other modules are imported by the commands that need them, since each call waits for its imports.
+
+NOT_BUILT = 125
+"""The status where the program isn't the one that answers."""
+
+
+def say(script: str, line: str) -> None:
+    print(f"{script}: {line}", file=sys.stderr, flush=True)
+
+
+def is_built(script: str, checkout: Checkout, words: list[str]) -> int:
+    """Status 0 where the program was built from these sources, else 1."""
+    return 0 if checkout.is_built() else 1
+
+
+def build(script: str, checkout: Checkout, words: list[str]) -> int:
+    """Builds the program."""
+    from fplaunch.build import NotBuilt
+    from fplaunch.build import build as build_program
+
+    try:
+        build_program(script, checkout, bool(os.environ.get("FLEXPRET_QUIET")))
+    except NotBuilt as fault:
+        say(script, str(fault))
+        return NOT_BUILT
+    return 0
+
+
+def unproved(script: str, checkout: Checkout, words: list[str]) -> int:
+    """Answers the program's arguments by `rt try`."""
+    from fplaunch.build import NotBuilt
+    from fplaunch.unproved import run
+
+    try:
+        return run(script, checkout, words)
+    except (NotBuilt, OSError) as fault:
+        say(script, str(fault))
+        return NOT_BUILT
+
+
+def explain(script: str, checkout: Checkout, words: list[str]) -> int:
+    """Says what is wrong with arguments, with status 2; status 0 where nothing is."""
+    from fplaunch.arguments import fault_of
+    from fplaunch.view import fault_of as view_fault
+
+    fault = fault_of(words) if checkout.crate == "flexpret_cli" else view_fault(words)
+    if fault is None:
+        return 0
+    say(script, fault)
+    return 2
+
+
+def files(script: str, checkout: Checkout, words: list[str]) -> int:
+    """Says which file of a command can't be read."""
+    from fplaunch.arguments import Fault, files_of
+    from fplaunch.files import lines
+    from fplaunch.view import setup_of
+
+    try:
+        named = files_of(words) if checkout.crate == "flexpret_cli" else [(setup_of(words), "setup")]
+    except (Fault, IndexError):
+        return 1
+    for line in lines(named):
+        say(script, line)
+    return 0
+
+
+def warn(script: str, checkout: Checkout, words: list[str]) -> int:
+    """Says what the number of a `bound` leaves out: the number's line, and then the command."""
+    from fplaunch.arguments import Fault
+    from fplaunch.bounds import warnings
+
+    try:
+        for line in warnings(words[1:], words[0]):
+            say(script, f"warning: {line}")
+    except (Fault, OSError, ValueError):
+        return 1
+    return 0
+
+
+def option(script: str, checkout: Checkout, words: list[str]) -> int:
+    """Prints the value of an option of a command."""
+    from fplaunch.arguments import Fault, parse
+
+    try:
+        print(parse(words[1:])[1].value(words[0]))
+    except (Fault, KeyError):
+        return 1
+    return 0
+
+
+def version(script: str, checkout: Checkout, words: list[str]) -> int:
+    """Prints what is known of a program: that of the checkout, or a file."""
+    program = Path(words[0]) if words else checkout.program
+    stamp = read_stamp(Path(f"{program}.sources") if words else checkout.stamp)
+    if not program.is_file():
+        print(f"{script}: not built")
+    elif stamp is None or not (words or (checkout.top / "installed").exists() or checkout.is_built()):
+        print(f"{script}: {program}: no record says from which sources it was built")
+    else:
+        print(f"{script}: commit {stamp.commit}, {stamp.kit}, proved: {program}")
+    print(f"kit here: {kit_line()}")
+    return 0
+
+
+COMMANDS = {
+    "is-built": is_built, "build": build, "unproved": unproved, "explain": explain, "files": files, "warn": warn, "option": option,
+    "version": version,
+}  # fmt: skip
+
+
+def main(words: list[str]) -> int:
+    script, crate, command, *rest = words
+    return COMMANDS[command](script, Checkout(Path(__file__).resolve().parents[2], crate), rest)

@@ -1,0 +1,14 @@
+"""The image that a setup names."""
+from __future__ import annotations
+
+import tomllib
+from pathlib import Path
+
+
+def image_of(setup: Path) -> str | None:
+    """The name of a setup's image, if the file can be read that far."""
+    try:
+        image = tomllib.loads(setup.read_text(encoding="utf-8-sig")).get("image")
+    except (OSError, ValueError):
+        return None
+    return image if isinstance(image, str) else None

@@ -1,0 +1,82 @@
+"""The command line of the view: what is surely wrong with it, before a program is built that would say so."""
+from __future__ import annotations
+
+from typing import Iterator
+
+MOST_CYCLE = 3_999_999_997
+"""The last cycle behind a window."""
+
+MOST_COLUMNS = 2000
+"""The most cycles of a picture."""
+
+FORMS = ("konata", "vcd", "svg")
+OPTIONS = {"from": "CYCLE", "to": "CYCLE", "konata": "FILE", "vcd": "FILE", "svg": "FILE", "progress": "UNTIL"}
+
+
+def fault_of(words: list[str]) -> str | None:
+    """What is wrong with the arguments, or nothing. The program may still find something."""
+    if not words:
+        return "no command is named; --help shows the one there is"
+    if words[0] != "turns":
+        return f"{words[0]}: no such command; the command is turns"
+    subjects: list[str] = []
+    values: dict[str, str] = {}
+    left = iter(words[1:])
+    for word in left:
+        if not word.startswith("--"):
+            subjects.append(word)
+            continue
+        fault = take_option(word, left, values)
+        if fault:
+            return fault
+    return missing(subjects, values) or window_fault(values)
+
+
+def take_option(word: str, left: Iterator[str], values: dict[str, str]) -> str | None:
+    """Takes an option with its value, and says what is wrong with it."""
+    option, sign, value = word.removeprefix("--").partition("=")
+    if option not in OPTIONS:
+        return f"{word}: the options are {', '.join(f'--{one}' for one in OPTIONS)}"
+    value = value if sign else next(left, "")
+    if not value:
+        return f"--{option}: {OPTIONS[option]} is missing"
+    if option in values:
+        return f"--{option} is given twice"
+    values[option] = value
+    if OPTIONS[option] == "CYCLE" and not (value.isascii() and value.isdigit() and int(value) <= MOST_CYCLE):
+        return f"--{option} {value}: a cycle is decimal, at most {MOST_CYCLE}"
+    if option == "progress" and value not in ("before", "all"):
+        return f"--progress {value}: it is before or all"
+    return None
+
+
+def missing(subjects: list[str], values: dict[str, str]) -> str | None:
+    """What isn't there once."""
+    absent = [*([] if subjects else ["SETUP"]), *(f"--{one} CYCLE" for one in ("from", "to") if one not in values)]
+    if absent:
+        return f"turns needs {' and '.join(absent)}"
+    if len(subjects) > 1:
+        return f"{subjects[1]}: turns takes one SETUP, and {subjects[0]} is that"
+    forms = [f"--{form}" for form in FORMS if form in values]
+    return f"{' and '.join(forms)}: one form at a time" if len(forms) > 1 else None
+
+
+def window_fault(values: dict[str, str]) -> str | None:
+    """What is wrong with the cycles that are shown."""
+    first, end = int(values["from"]), int(values["to"])
+    if first >= end:
+        return f"--from {first} --to {end}: --from is below --to"
+    if "svg" in values and end - first > MOST_COLUMNS:
+        return f"--from {first} --to {end}: a picture has at most {MOST_COLUMNS} cycles"
+    return None
+
+
+def setup_of(words: list[str]) -> str:
+    """The setup that arguments without a fault name."""
+    left = iter(words[1:])
+    for word in left:
+        if not word.startswith("--"):
+            return word
+        if "=" not in word:
+            next(left, "")
+    return ""

@@ -1,0 +1,52 @@
+"""Compares `loop_cli` with the executable model over drawn setups and plants by tables."""
+from __future__ import annotations
+
+import os
+import random
+import subprocess
+import sys
+from pathlib import Path
+
+import pytest
+
+TOP = Path(__file__).parents[2]
+sys.path.insert(0, str(TOP))
+
+from model.drawn.worlds import World as Drawn  # noqa: E402
+from model.images import read_image  # noqa: E402
+from model.loops import Plant, TablePlant, loop_world, sampled  # noqa: E402
+from model.ports import HeldPort  # noqa: E402
+from model.setups import THREADS, read_setup  # noqa: E402
+
+PROGRAM = Path(os.environ.get("LOOP_CLI", TOP / "crates/loop_cli/out/loop_cli"))
+"""The built program."""
+
+SEEDS = range(20_000, 20_200)
+
+
+def drawn_tables(chance: random.Random) -> dict[int, tuple[int, ...]]:
+    """Tables of one to 16 words for some threads."""
+    threads = [thread for thread in range(THREADS) if chance.random() < 0.7]
+    return {thread: tuple(chance.randrange(1 << 32) for _ in range(chance.randint(1, 16))) for thread in threads}
+
+
+@pytest.mark.parametrize("seed", SEEDS)
+def test_a_trace_in_loops_with_tables(seed: int, tmp_path: Path) -> None:
+    drawn, chance = Drawn(seed), random.Random(seed)
+    tables, every = drawn_tables(chance), chance.choice([1, 2, 5, 16, 100])
+    setup = read_setup(drawn.setup)
+    image = read_image(drawn.image, setup.size)
+    (tmp_path / "a.toml").write_bytes(drawn.setup)
+    (tmp_path / "a.fpx").write_bytes(drawn.image)
+    lines = [f"{thread} table {' '.join(map(str, table))}\n" for thread, table in tables.items()]
+    (tmp_path / "plants.txt").write_text("".join(lines))
+    plants: dict[int, Plant] = {
+        thread: sampled(TablePlant(tables.get(thread, (0,))), every, 0) for thread in range(THREADS)
+    }
+    world = loop_world(setup, image, [HeldPort() for _ in range(THREADS)], plants).run_to(drawn.cycles)
+    events = list(world.retired(drawn.cycles))
+    for thread in range(THREADS):
+        wanted = b"".join(event.line() for event in events if event.thread == thread)
+        numbers = [str(number) for number in (thread, every, drawn.cycles)]
+        ran = subprocess.run([PROGRAM, "a.toml", "plants.txt", *numbers], cwd=tmp_path, capture_output=True)
+        assert (ran.returncode, ran.stdout) == (0, wanted)
