@@ -28,16 +28,16 @@ LITTLE_MEMORY = 48 << 20
 LATE_STORE = (b'        20 00000014', b'        24 00000014')
 """What makes a store in the sixth line of the example's trace four cycles late."""
 
-RUN_DRIVE = ['run', 'examples/drive.toml', '--thread', '0', '--cycles', '57']
-CHECK_DRIVE = ['check', 'examples/drive.toml', '--thread', '0', '--cycles', '57', '--trace']
+RUN_DRIVE = ['run', 'examples/drive.toml', '--thread', '0', '--cycles', '77']
+CHECK_DRIVE = ['check', 'examples/drive.toml', '--thread', '0', '--cycles', '77', '--trace']
 CHECK_LONGEST = ['check', 'examples/drive.toml', '--thread', '0', '--cycles', '1000000', '--trace', '/dev/zero']
 BOUND_SUM = ['bound', 'examples/sum.toml', '--thread', '0', '--from', '0x10', '--to', '0x3c']
 CALLS = ['calls', 'examples/calls.toml', '--thread', '0', '--from', '0x8', '--to', '0x18', '--routines']
 
 WRITING = [
     RUN_DRIVE,
-    ['dump', 'examples/drive.toml', '--cycles', '57'],
-    ['phases', 'examples/drive.toml', '--cycles', '57'],
+    ['dump', 'examples/drive.toml', '--cycles', '77'],
+    ['phases', 'examples/drive.toml', '--cycles', '77'],
     ['solo', *RUN_DRIVE[1:]],
     [*CHECK_DRIVE, 'examples/drive.trace'],
     BOUND_SUM,
@@ -164,7 +164,7 @@ def statuses(edge: Edge) -> None:
         (Status.DIFFERS, [*CHECK_DRIVE, 'late.trace'], b'differs line 6\n'),
         (Status.USAGE, [], b''),
         (Status.USAGE, ['--help'], b''),
-        (Status.USAGE, ['run', 'examples/drive.toml', '--cycles', '57'], b''),
+        (Status.USAGE, ['run', 'examples/drive.toml', '--cycles', '77'], b''),
         (Status.USAGE, ['asm', ''], b''),
         (Status.SETUP, ['run', 'period.toml', '--thread', '0', '--cycles', '5'], b'refused setup 6 OutOfRange period\n'),
         (Status.SETUP, ['bound', 'soft.toml', '--thread', '0', '--from', '0', '--to', '8'], b'refused section 1 NotHard\n'),
@@ -216,9 +216,9 @@ def full_output(edge: Edge) -> None:
 
 def output_with_room(edge: Edge) -> None:
     """A file that may have some bytes and no more gets these of the text: a prefix."""
-    text = edge.call(['dump', 'examples/drive.toml', '--cycles', '57']).out
+    text = edge.call(['dump', 'examples/drive.toml', '--cycles', '77']).out
     trace = edge.call(['run', 'examples/drive.toml', '--thread', '0', '--cycles', '40000']).out
-    for name, words, whole in (('a dump', ['dump', 'examples/drive.toml', '--cycles', '57'], text),
+    for name, words, whole in (('a dump', ['dump', 'examples/drive.toml', '--cycles', '77'], text),
                                ('a long trace', ['run', 'examples/drive.toml', '--thread', '0', '--cycles', '40000'], trace)):
         for room in (1, 100, len(whole) - 1, len(whole)):
             edge.want(f'{name} with room for {room} bytes', limited(edge, words, room),

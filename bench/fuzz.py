@@ -3,7 +3,7 @@
 with little memory and time. A crash, a status that isn't listed, another text than the status has, or another line of
 standard error is a finding, and so is one line in twenty whose status or bytes aren't those of the executable model.
 Line N of a seed is always the same, so --first goes on where a call ended, and --only N shows one line again.
-It is no part of the gate. The status is 1 where something was found."""
+The gate makes a short call. The status is 1 where something was found."""
 import argparse
 import contextlib
 import importlib

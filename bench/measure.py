@@ -1,6 +1,6 @@
 #!/usr/bin/env python3
 """What the program costs: instructions as valgrind counts them, processor time and memory, each beside
-the last figures, which stand in docs/MEASUREMENTS.md. Ends with 1 where one takes over 5 % more
+the last figures, which stand in docs/dev/MEASUREMENTS.md. Ends with 1 where one takes over 5 % more
 instructions than it did there. Wants valgrind and GNU time; takes some minutes. It is no part of the gate."""
 import argparse
 import os
@@ -19,7 +19,7 @@ from pathlib import Path
 import inputs
 from program import TOP, Status, built_program
 
-PAGE = TOP / 'docs/MEASUREMENTS.md'
+PAGE = TOP / 'docs/dev/MEASUREMENTS.md'
 BEGIN, END = '<!-- measure.py -->', '<!-- end of measure.py -->'
 """The lines of the page between which the last figures stand."""
 

@@ -2,7 +2,7 @@
 """Refuses the program one allocation at a time, over a command line of each command: it must answer as with ample memory, or
 end with status 9 and write nothing. Either by `rt try --fail-alloc N`, which proves nothing and builds once for each number, in a
 minute or more; or, with --built, every number of each row on the built program, by a library that is loaded before the C
-library (wants cc). Prints a table, and ends with 1 where anything else was answered. It is no part of the gate."""
+library (wants cc). Prints a table, and ends with 1 where anything else was answered. The gate calls it with --built."""
 import argparse
 import re
 import subprocess
@@ -77,7 +77,7 @@ def row_of(words: list[str], files: dict[str, bytes]) -> Row:
 def rows() -> list[Row]:
     """A control loop's trace, a loop's bound, a source, a dump, and a line of each other command."""
     drive = example_files('drive.toml', 'drive.fpx')
-    of_drive = ['examples/drive.toml', '--thread', '0', '--cycles', '57']
+    of_drive = ['examples/drive.toml', '--thread', '0', '--cycles', '77']
     section = ['--thread', '0', '--from', '0x8', '--to', '0x18']
     return [
         row_of(['run', *of_drive], drive),

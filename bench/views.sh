@@ -5,6 +5,7 @@
 set -u
 cd "$(dirname "${BASH_SOURCE[0]}")/.." || exit 1
 view=$(readlink -f "${FLEXPRET_VIEW:-crates/flexpret_view/out/flexpret_view}")
+unset FLEXPRET_VIEW
 work=$(mktemp -d)
 trap 'rm -rf "$work"' EXIT
 failed=0
@@ -22,9 +23,9 @@ shows() {
     "$view" turns "$@" | cmp - "$file" || failed=1
 }
 
-shows examples/drive.vcd examples/drive.toml --from 0 --to 57 --vcd -
+shows examples/drive.vcd examples/drive.toml --from 0 --to 77 --vcd -
 shows examples/slots.konata examples/slots.toml --from 3 --to 20 --konata -
-shows docs/drive.svg examples/drive.toml --from 0 --to 60 --svg -
+shows docs/drive.svg examples/drive.toml --from 0 --to 80 --svg -
 shows <(sed -n '/^    \$ .*sleep.toml/,/^$/{/^    \$/d; /^$/d; s/^    //p}' docs/VIEW.md) examples/sleep.toml --from 4 --to 13
 
 # Compares the line of a view that is refused for its words.
@@ -57,11 +58,19 @@ END
 # The script, by a link, beside a program that is as new as the sources: it builds nothing.
 mkdir -p "$work/top/crates/flexpret_view/out" "$work/top/tools" "$work/bin"
 cp flexpret-view crates.txt "$work/top"
-cp tools/launch.bash "$work/top/tools"
+cp -R tools/launch.bash tools/fp_launch tools/fplaunch tools/fptools "$work/top/tools"
 cp -R crates/flexpret_view/src "$work/top/crates/flexpret_view"
-ln -s "$view" "$work/top/crates/flexpret_view/out/flexpret_view"
-# shellcheck source=tools/launch.bash disable=SC2154
-(. tools/launch.bash && launches "$work/top/flexpret-view" flexpret_view && sources >"$built")
+cp "$view" "$work/top/crates/flexpret_view/out/flexpret_view"
+PYTHONPATH=tools python3 - "$work/top" <<'END' || failed=1
+import sys
+from pathlib import Path
+
+from fplaunch.sources import Checkout
+
+checkout = Checkout(Path(sys.argv[1]), "flexpret_view")
+checkout.write_stamp("the kit of the test", checkout.listed())
+END
+# shellcheck disable=SC2016
 printf '#!/bin/sh\necho "$0 is called"\nexit 1\n' >"$work/bin/rt"
 chmod +x "$work/bin/rt"
 ln -s "$work/top/flexpret-view" "$work/view"

@@ -6,7 +6,7 @@ code. Of each the model says what every cycle holds, and a few windows of each f
 text line by line, a value change dump signal by signal at each cycle, a log for Konata by the rules of kanata.py and turn by
 turn, a picture cell by cell. Of the proved program `run`, `phases` and `dump` at some cycles are compared with the same, and the
 instructions' texts must assemble to their words. Where GTKWave's vcd2fst is installed, it reads some dumps too. Setup N of a
-seed is always the same, so --only N shows one again. It is no part of the gate. The status is 1 where something differs."""
+seed is always the same, so --only N shows one again. The gate makes a short call. The status is 1 where something differs."""
 from __future__ import annotations
 
 import argparse

@@ -1,0 +1,353 @@
+#!/usr/bin/env python3
+"""All that ./test runs: `rt ci`, and then the parts of PARTS, as many at once as there are processors.
+
+A part that needs something which isn't installed is skipped, and its line says so. As root the script first asks `apt-get`
+for what is missing. The status is 0 if nothing failed.
+"""
+from __future__ import annotations
+
+import argparse
+import contextlib
+import os
+import re
+import shlex
+import shutil
+import subprocess
+import sys
+import tempfile
+import time
+from collections import Counter
+from collections.abc import Iterable, Iterator, Sequence
+from concurrent.futures import ThreadPoolExecutor, as_completed
+from dataclasses import dataclass, field
+from pathlib import Path
+
+TOP = Path(__file__).resolve().parent.parent
+sys.path.insert(0, str(TOP / 'tools'))
+
+from fplaunch.sources import Checkout, kit_line  # noqa: E402
+
+PROGRAMS = {'FLEXPRET': 'flexpret_cli', 'FLEXPRET_VIEW': 'flexpret_view'}
+"""The variables that name the programs to the scripts, and the crates that make them."""
+
+MODULES = {
+    'pytest': 'python3-pytest',
+    'xdist': 'python3-pytest-xdist',
+    'elftools': 'python3-pyelftools',
+    'jsonschema': 'python3-jsonschema',
+    'networkx': 'python3-networkx',
+}
+"""What the tests import beyond Python itself, and the Debian packages that have it."""
+
+COMMANDS = {
+    'mypy': 'mypy',
+    'pyflakes3': 'pyflakes3',
+    'shellcheck': 'shellcheck',
+    'groff': 'groff-base',
+    'script': 'bsdutils',
+    'make': 'make',
+    'cc': 'gcc',
+    'riscv64-unknown-elf-gcc': 'gcc-riscv64-unknown-elf',
+    'riscv64-unknown-elf-as': 'binutils-riscv64-unknown-elf',
+    'clang': 'clang',
+    'ld.lld': 'lld',
+    'llvm-objdump': 'llvm',
+    'riscv64-linux-gnu-objdump': 'binutils-riscv64-linux-gnu',
+    'qemu-riscv32': 'qemu-user',
+    'parallel': 'parallel',
+}
+"""What the tests call, and the Debian packages that have it."""
+
+OPTIONAL = {'xdist'}
+"""Only makes the tests quicker."""
+
+APT_SECONDS = 600
+"""A call of apt-get that takes longer is ended."""
+
+PART_SECONDS = 1800
+"""A part that takes longer is ended, and has failed."""
+
+SHOWN = 60
+"""How many lines of a part that failed are printed."""
+
+CI_LINE = re.compile(r'^(\d+) passed, (\d+) failed')
+PYTEST_LINE = re.compile(r'^(?=.* in [\d.]+s)(?:=+ )?(?:(\d+) failed)?(?:, )?(?:(\d+) passed)?(?:, )?(?:(\d+) skipped)?(?:.*?(\d+) errors?)?', re.M)
+SKIPPED = re.compile(r'^SKIPPED \[(\d+)\] \S+ (.*)$', re.M)
+DONE = re.compile(r'^(as shown|as stored|as here|holds|same): ', re.M)
+DIFFERS = re.compile(r'^(differs|FAILS): ', re.M)
+COMPARED = re.compile(r'^.*: (?P<done>\d+) (?:compared|calls at the edge of the program)(?:, \d+ not)?, (?P<differ>\d+) differ', re.M)
+"""A line of a script that compares many rows."""
+
+
+@dataclass(frozen=True)
+class Part:
+    """A command, and what it needs: modules of Python, commands, and whether the built programs."""
+    name: str
+    command: Sequence[str]
+    modules: Sequence[str] = ()
+    commands: Sequence[str] = ()
+    programs: bool = True
+    tests: str = ''
+    """The folder of its tests, if they are pytest's."""
+
+
+@dataclass
+class Sum:
+    """How many tests passed and failed, and why others were skipped."""
+    passed: int = 0
+    failed: int = 0
+    skipped: list[tuple[int, str]] = field(default_factory=list)
+
+    def add(self, other: Sum) -> None:
+        self.passed += other.passed
+        self.failed += other.failed
+        self.skipped += other.skipped
+
+    def reasons(self) -> Counter[str]:
+        """How many tests were skipped for each reason."""
+        reasons: Counter[str] = Counter()
+        for count, why in self.skipped:
+            reasons[why] += count
+        return reasons
+
+    def line(self) -> str:
+        skipped = sum(count for count, _ in self.skipped)
+        return f'{self.passed} passed, {self.failed} failed' + (f', {skipped} skipped' if skipped else '')
+
+
+def pytest(name: str, folder: str, jobs: int) -> Part:
+    """A part of pytest, over a folder. Its tests say themselves which of them need a program."""
+    command = ['{python}', '-m', 'pytest', '-q', '-rs', *(['-n', str(jobs)] if jobs > 1 else []), folder]
+    return Part(name, command, ['pytest', 'elftools', 'jsonschema'], programs=False, tests=folder)
+
+
+def parts(jobs: int) -> list[Part]:
+    """All but `rt ci`, those that take longest first."""
+    texts = [('bench/api.py', '--check'), ('bench/exports.py',)]
+    return [
+        *(Part(text[0], ['{python}', *text], programs=False) for text in texts if (TOP / text[0]).is_file()),
+        Part('tables of the model', ['{python}', '-m', 'model.tables.check'], commands=['riscv64-unknown-elf-as', 'qemu-riscv32'],
+             programs=False),
+        pytest('tools', 'tools/tests', jobs),
+        pytest('model', 'model', 1),
+        Part('bench/fuzz.py', ['{python}', 'bench/fuzz.py', '--count', '400', '--jobs', '1']),
+        Part('bench/views_fuzz.py', ['{python}', 'bench/views_fuzz.py', '--seed', '1', '--count', '4']),
+        Part('bench/refused_memory.py', ['{python}', 'bench/refused_memory.py', '--built'], commands=['cc']),
+        Part('bench/edge.py', ['{python}', 'bench/edge.py']),
+        Part('bench/edits.py', ['{python}', 'bench/edits.py', '--applies'], programs=False),
+        Part('bench/examples.sh', ['bench/examples.sh'], programs=False),
+        Part('bench/views.sh', ['bench/views.sh'], commands=['script']),
+        Part('examples/try.sh', ['examples/try.sh']),
+        Part('examples/first.sh', ['examples/first.sh']),
+        Part('examples/pages.sh', ['examples/pages.sh']),
+        Part('examples/c/try.sh', ['examples/c/try.sh'], commands=['make', 'riscv64-unknown-elf-gcc']),
+        Part('examples/device/try.sh', ['examples/device/try.sh', '--built']),
+        Part('examples/sweep/try.sh', ['examples/sweep/try.sh'], commands=['parallel']),
+    ]
+
+
+# ---------------------------------------------------------------- what is installed
+
+def has_modules(python: str, modules: Iterable[str]) -> bool:
+    tried = subprocess.run([python, '-c', f'import sys, {", ".join(modules)}; sys.exit(sys.version_info < (3, 11))'],
+                           capture_output=True, check=False)
+    return tried.returncode == 0
+
+
+def interpreter(modules: Sequence[str]) -> str:
+    """The first Python that has these modules, or else this one."""
+    for python in (os.environ.get('PYTHON'), sys.executable, '/usr/bin/python3'):
+        if python and Path(python).is_file() and has_modules(python, modules):
+            return python
+    return sys.executable
+
+
+def missing_packages() -> list[str]:
+    """The Debian packages of what isn't installed."""
+    packages = [package for command, package in COMMANDS.items() if shutil.which(command) is None]
+    if not has_modules(interpreter(list(MODULES)), MODULES):
+        packages += MODULES.values()
+    return packages
+
+
+def install(packages: Sequence[str]) -> None:
+    """Asks apt-get for packages, as root on Debian. The tests go on without what it can't get."""
+    if not packages or os.geteuid() != 0 or shutil.which('apt-get') is None:
+        return
+    print(f'./test: apt-get install {" ".join(packages)}', flush=True)
+    options = ['-o', 'Acquire::Retries=0', '-o', 'Acquire::http::Timeout=20']
+    quiet = {**os.environ, 'DEBIAN_FRONTEND': 'noninteractive'}
+    for words in (['update'], ['install', '-y', '--no-install-recommends', *packages]):
+        try:
+            ran = subprocess.run(['apt-get', '-qq', *options, *words], env=quiet, stdin=subprocess.DEVNULL, capture_output=True,
+                                 text=True, timeout=APT_SECONDS, check=False)
+        except subprocess.TimeoutExpired:
+            print(f'./test: apt-get {words[0]} had not ended after {APT_SECONDS} seconds', flush=True)
+            return
+        if ran.returncode:
+            said = (ran.stderr.strip().splitlines() or [f'status {ran.returncode}'])[-1]
+            print(f'./test: apt-get {words[0]} failed: {said}', flush=True)
+
+
+# ---------------------------------------------------------------- rt ci
+
+@contextlib.contextmanager
+def stamped() -> Iterator[None]:
+    """Notes beside the programs which are there behind it from which sources they are, if these are the same as before."""
+    before = {crate: Checkout(TOP, crate).listed() for crate in PROGRAMS.values()}
+    yield
+    for crate, sources in before.items():
+        checkout = Checkout(TOP, crate)
+        if checkout.program.is_file() and checkout.listed() == sources:
+            checkout.write_stamp(kit_line(), sources)
+
+
+def run_ci() -> Sum:
+    """Runs `rt ci`, with its lines as they come."""
+    last = ''
+    with subprocess.Popen(['rt', 'ci'], cwd=TOP, stdin=subprocess.DEVNULL, stdout=subprocess.PIPE, text=True,
+                          errors='replace') as child:
+        assert child.stdout
+        for line in child.stdout:
+            print(line, end='', flush=True)
+            last = line
+    found = CI_LINE.match(last)
+    if not found:
+        return Sum(failed=1)
+    counted = Sum(int(found[1]), int(found[2]))
+    if child.returncode and not counted.failed:
+        counted.failed = 1
+    return counted
+
+
+# ---------------------------------------------------------------- the other parts
+
+@dataclass(frozen=True)
+class Place:
+    """The Python that the tests run by, the environment that they get, and whether the programs are built."""
+    python: str
+    environment: dict[str, str]
+    built: bool
+
+    def lacks(self, part: Part) -> str:
+        """What a part needs and isn't there, in words, or nothing."""
+        modules = [name for name in part.modules if not has_modules(self.python, [name])]
+        commands = [name for name in part.commands if shutil.which(name) is None]
+        packages = [MODULES[name] for name in modules] + [COMMANDS[name] for name in commands if name in COMMANDS]
+        words = [f'{name} is not installed' for name in (*modules, *commands)]
+        if part.programs and not self.built:
+            words.append('the programs are not built')
+        return ', '.join(words) + (f' (Debian: {" ".join(packages)})' if packages else '')
+
+
+def tests_in(folder: str) -> int:
+    """How many functions of tests are in a folder."""
+    return sum(len(re.findall(r'^def test_', file.read_text(), re.M)) for file in (TOP / folder).rglob('test_*.py'))
+
+
+def counted(part: Part, status: int, said: str) -> Sum:
+    """The tests of a part that ran."""
+    found = Sum()
+    if part.tests:
+        lines = [line for line in PYTEST_LINE.finditer(said) if any(line.groups())]
+        numbers = [int(number or 0) for number in lines[-1].groups()] if lines else [0, 0, 0, 0]
+        found = Sum(numbers[1], numbers[0] + numbers[3], [(int(count), why) for count, why in SKIPPED.findall(said)])
+    elif COMPARED.search(said):
+        rows = [(int(row['done']), int(row['differ'])) for row in COMPARED.finditer(said)]
+        found = Sum(sum(done - differ for done, differ in rows), sum(differ for _, differ in rows))
+    elif DONE.search(said) or DIFFERS.search(said):
+        found = Sum(len(DONE.findall(said)), len(DIFFERS.findall(said)))
+    else:
+        found = Sum(passed=int(status == 0))
+    if status and not found.failed:
+        found.failed = 1
+    return found
+
+
+def run_part(part: Part, place: Place) -> tuple[Part, Sum, str, float]:
+    """Runs a part, and returns its tests, what it wrote, and the seconds that it took."""
+    lacks = place.lacks(part)
+    if lacks:
+        return part, Sum(skipped=[(tests_in(part.tests) if part.tests else 1, f'{part.name}: {lacks}')]), '', 0
+    begun = time.monotonic()
+    command = [word.replace('{python}', place.python) for word in part.command]
+    try:
+        ran = subprocess.run(command, cwd=TOP, env=place.environment, stdin=subprocess.DEVNULL, stdout=subprocess.PIPE,
+                             stderr=subprocess.STDOUT, text=True, errors='replace', timeout=PART_SECONDS, check=False)
+        status, said = ran.returncode, ran.stdout
+    except subprocess.TimeoutExpired as ended:
+        said = (ended.stdout or b'').decode(errors='replace') if isinstance(ended.stdout, bytes) else ended.stdout or ''
+        status, said = 1, f'{said}\nhad not ended after {PART_SECONDS} seconds'
+    return part, counted(part, status, said), said, time.monotonic() - begun
+
+
+def environment(python: str, folder: Path) -> dict[str, str]:
+    """What the parts get: the programs by name, and this Python as `python3`."""
+    wrapper = folder / 'python3'
+    wrapper.write_text(f'#!/bin/sh\nexec {shlex.quote(python)} "$@"\n')
+    wrapper.chmod(0o755)
+    named = {name: str(program_of(crate)) for name, crate in PROGRAMS.items() if program_of(crate).is_file()}
+    return {**os.environ, **named, 'PATH': f'{folder}:{os.environ["PATH"]}'}
+
+
+def program_of(crate: str) -> Path:
+    return TOP / 'crates' / crate / 'out' / crate
+
+
+def run_parts(chosen: Sequence[Part], place: Place, jobs: int) -> Iterator[tuple[Part, Sum, str, float]]:
+    """Runs parts, as many at once as there are processors, and gives each as it ends."""
+    with ThreadPoolExecutor(jobs) as pool:
+        for done in as_completed([pool.submit(run_part, part, place) for part in chosen]):
+            yield done.result()
+
+
+def arguments() -> argparse.Namespace:
+    parser = argparse.ArgumentParser(prog='./test', description=__doc__, formatter_class=argparse.RawDescriptionHelpFormatter)
+    parser.add_argument('--only', action='append', metavar='PART', help='runs this part alone, without rt ci; may be repeated')
+    parser.add_argument('--no-ci', action='store_true', help='leaves rt ci out: all else, over the programs that are there')
+    parser.add_argument('--no-install', action='store_true', help='installs nothing by apt-get')
+    parser.add_argument('--list', action='store_true', help='prints the names of the parts, and runs nothing')
+    parser.add_argument('--jobs', type=int, default=os.cpu_count() or 1, metavar='N', help='how many parts run at once')
+    return parser.parse_args()
+
+
+def chosen_parts(options: argparse.Namespace) -> list[Part]:
+    every = parts(options.jobs)
+    for name in options.only or []:
+        if name not in [part.name for part in every]:
+            sys.exit(f'./test: --only {name}: the parts are {", ".join(part.name for part in every)}')
+    return [part for part in every if not options.only or part.name in options.only]
+
+
+def main() -> int:
+    options = arguments()
+    chosen = chosen_parts(options)
+    if options.list:
+        print('\n'.join(part.name for part in chosen))
+        return 0
+    total = Sum()
+    if not options.only and not options.no_ci:
+        with stamped():
+            total.add(run_ci())
+    if not options.no_install:
+        install(missing_packages())
+    with tempfile.TemporaryDirectory(prefix='test-') as folder:
+        python = interpreter(list(MODULES))
+        if not has_modules(python, MODULES):
+            python = interpreter([name for name in MODULES if name not in OPTIONAL])
+        place = Place(python, environment(python, Path(folder)), all(program_of(crate).is_file() for crate in PROGRAMS.values()))
+        if not has_modules(python, ['xdist']):
+            chosen = [part for part in parts(1) if part.name in [one.name for one in chosen]]
+        for part, found, said, seconds in run_parts(chosen, place, options.jobs):
+            if found.failed:
+                print('\n'.join([f'== {part.name}', *said.splitlines()[-SHOWN:]]))
+            print(f'{part.name}: {found.line()}, {seconds:.0f} seconds', flush=True)
+            total.add(found)
+    for why, count in total.reasons().items():
+        print(f'skipped: {count}: {why}')
+    print(total.line())
+    return 1 if total.failed else 0
+
+
+if __name__ == '__main__':
+    sys.exit(main())
