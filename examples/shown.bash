@@ -1,3 +1,4 @@
+# shellcheck shell=bash disable=SC2034,SC2154
 # What the scripts share that run the commands of a page and compare: bash, to be sourced, with a folder of one's own in `work`.
 #
 # A page has a command behind four spaces and `$ `, and under it the lines that it writes, `..` for lines left out. A command goes on
@@ -49,13 +50,13 @@ read_page() {
             ;;
         more:*)
             command+=$'\n'${line#'    '}
-            [[ $line == *'\' ]] || open=
+            [[ $line == *\\ ]] || open=
             ;;
         '    $ '*)
             [ -z "$command" ] || try_command "$command"
             command=${line#'    $ '}
             : >"$work/shown"
-            case $line in *"<<'END'") open=here: ;; *'\') open=more: ;; esac
+            case $line in *"<<'END'") open=here: ;; *\\) open=more: ;; esac
             ;;
         '    '*) [ -z "$command" ] || echo "${line#'    '}" >>"$work/shown" ;;
         *)

@@ -17,3 +17,4 @@ sum:    lw   x7, 0(x3)          # 0x24: eight rounds
         addi x10, x10, 2000
         wu   x11, x10
         j    loop
+# Nothing is carried into x11, so the loop is for runs of up to 4.29 seconds: docs/PROGRAMMING.md has one for longer runs.

@@ -44,7 +44,7 @@ writes() {
     as_here "$made" "./flexpret $*"
 }
 writes drive.fpx asm examples/drive.s
-writes drive.trace run examples/drive.toml --thread 0 --cycles 57
+writes drive.trace run examples/drive.toml --thread 0 --cycles 77
 writes sum.fpx asm examples/sum.s
 writes sum.bound bound examples/sum.toml --thread 0 --from 0x10 --to 0x3c
 writes sum.trace run examples/sum.toml --thread 0 --cycles 820

@@ -1,6 +1,6 @@
 #!/usr/bin/env bash
-# Runs each command that docs/C.md shows, on a copy of this folder, and compares what it writes with the page. It is no
-# part of the gate. FLEXPRET names the program, if it isn't ../../flexpret, and FLEXPRET_VIEW the view, if it isn't
+# Runs each command that docs/C.md shows, on a copy of this folder, and compares what it writes with the page. The gate
+# does so too. FLEXPRET names the program, if it isn't ../../flexpret, and FLEXPRET_VIEW the view, if it isn't
 # ../../flexpret-view. Without gcc for RISC-V it says so and stops with success.
 set -u
 here=$(dirname "$(readlink -f "${BASH_SOURCE[0]}")")
@@ -27,19 +27,28 @@ make -s -C examples/c clean
 
 . "$top/examples/shown.bash"
 
-# The page's own executable is what the commands are tried on that show its addresses.
+# The page shows addresses of one compiler. With another one the sections 1 to 4 are left out, and section 5 is tried on the
+# repository's executable.
 other=
+make -s -C examples/c pid.elf
+if ! cmp -s examples/c/pid.elf "$here/pid.elf"; then
+    echo "this compiler makes another pid.elf than the repository's: sections 1 to 4 aren't tried"
+    other=1
+fi
+make -s -C examples/c clean
+
+section=
 try_command() {
-    as_shown "$1"
-    if [ "$1" = 'make -C examples/c' ] && ! cmp -s examples/c/pid.elf "$here/pid.elf"; then
-        echo "this compiler makes another pid.elf than the repository's, which the others are tried on, but for section 8"
-        cp "$here/pid.elf" examples/c/pid.elf
-        other=1
+    if [ -z "$other" ] || [ "$section" = 5 ]; then
+        as_shown "$1"
+        [ "$1" != 'make -C examples/c' ] || cp "$here/pid.elf" examples/c/pid.elf
     fi
 }
 
-# The addresses of section 8 are those of one compiler.
-other_line() { [[ -z $other || $1 != '## 8. '* ]]; }
+# Keeps the number of the section.
+other_line() {
+    [[ $1 != '## '* ]] || section=${1:3:1}
+}
 read_page "$top/docs/C.md"
 
 # Whether a command writes what a file of the repository has.

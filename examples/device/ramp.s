@@ -3,7 +3,7 @@
         gt   x10                # the time in nanoseconds, in x11 and x10
         gth  x11
         lw   x5, 0(x2)          # the first sample
-loop:   addi x10, x10, 400
+loop:   addi x10, x10, 400      # without a carry: for runs up to 4.29 s
         wu   x11, x10           # sleep until the next one is due
         lw   x6, 0(x2)
         sub  x7, x6, x5

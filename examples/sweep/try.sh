@@ -1,7 +1,8 @@
 #!/usr/bin/env bash
 # Tries the sweep of this folder with the periods of 1 and 2 nanoseconds: by GNU parallel, where a job fails at first, and as the
 # tasks of an array, one after the other. Both are to give the same table, with the rows of expected.tsv. FLEXPRET names the
-# program, if it isn't the built one. It is no part of the gate.
+# program, if it isn't the built one. The gate does so too.
+# shellcheck disable=SC2317
 set -u
 here=$(dirname "$(readlink -f "$0")")
 work=$(mktemp -d)
