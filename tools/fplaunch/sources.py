@@ -137,10 +137,17 @@ class Checkout:
         """The program, the list of crates, the sources and their folders: one of these changes if a source does, goes or comes."""
         found = [f"crates/{self.crate}/out/{self.crate}", "crates.txt"]
         for folder in self.folders():
-            # Where there is no such folder, it would come in the crate's own.
-            found += [] if (self.top / folder).is_dir() else [str(Path(folder).parent)]
+            # Where there is no such folder, it would come in the nearest one above it.
+            found += [] if (self.top / folder).is_dir() else [self.nearest(folder)]
             found += [os.path.relpath(at, self.top) for at, _, _ in os.walk(self.top / folder)]
         return [*found, *self.names()]
+
+    def nearest(self, folder: str) -> str:
+        """The nearest folder above a missing one, by its name from the top."""
+        above = Path(folder).parent
+        while not (self.top / above).is_dir():
+            above = above.parent
+        return str(above)
 
     # ------------------------------------------------------------ stamps
 
