@@ -6,6 +6,9 @@
 
 #![tactic(auto)]
 
+#[cfg(test)]
+mod tests;
+
 ghost use Rattle.std.specs.Prelude.{◌≡◌, [], IfOk, map, string_bytes, true, vec_len};
 ghost use Rattle.flexpret_top.specs.Rows.{rows_of};
 ghost use Rattle.beside_loads.specs.Loads.{IsSameBeside, IsTraceBeside};
