@@ -1,5 +1,7 @@
 //! A control loop beside two loads.
 
+ghost use Rattle.std.specs.Prelude.{◌≡◌, IfOk, vec_len};
+
 use super::*;
 use flexpret_top::MemFiles;
 use std::test::Fail;
@@ -22,7 +24,8 @@ const CONTROL: &str = "lui t0, 0x40000\nloop:\nlw t1, 0(t0)\nsw t1, 0(t0)\nj loo
 const COUNTS: &str = "count:\naddi t0, t0, 1\nj count\n";
 
 /// A load that stores where it may, and where it may not.
-const STORES: &str = "lui t0, 0x20000\nlui t1, 0x20001\nstore:\nsw t1, 0(t1)\nsw t1, 0(t0)\nj store\n";
+const STORES: &str =
+    "lui t0, 0x20000\nlui t1, 0x20001\nstore:\nsw t1, 0(t1)\nsw t1, 0(t0)\nj store\n";
 
 /// The bytes that an image has at most here.
 const ROOM: usize = 4_096;
@@ -37,9 +40,11 @@ fn words_of(alloc: Global, line: &str) -> Result<Vec<String>, AllocError> {
 }
 
 /// Eight ports without devices.
-fn no_ports(alloc: Global) -> Result<Ports, AllocError> {
+fn no_ports(alloc: Global) -> Result<Ports, AllocError>
+    ensures { IfOk result (λ ports. vec_len ports ≡ 8) }
+{
     let mut ports = Vec::new(alloc);
-    for _ in 0..8 {
+    for _thread in 0..8u8 {
         ports.push(None)?;
     }
     Ok(ports)
@@ -68,7 +73,15 @@ fn a_control_loop_has_the_same_trace(rt: HostRuntime) -> Result<(), Fail> {
     let trace = trace_beside(alloc, &words, &mut one, &mut ports, ROOM)?;
     assert!(rt; trace.bytes().len() > 1_000);
     let mut others = no_ports(alloc)?;
-    let same = is_same_beside(alloc, &words, &mut one, &mut ports, &mut other, &mut others, ROOM)?;
+    let same = is_same_beside(
+        alloc,
+        &words,
+        &mut one,
+        &mut ports,
+        &mut other,
+        &mut others,
+        ROOM,
+    )?;
     assert!(rt; same);
     Ok(())
 }
@@ -79,7 +92,15 @@ fn the_loads_differ(rt: HostRuntime) -> Result<(), Fail> {
     let words = words_of(alloc, "run a.toml --thread 1 --cycles 100")?;
     let (mut one, mut other) = (files_with(alloc, COUNTS)?, files_with(alloc, STORES)?);
     let (mut ports, mut others) = (no_ports(alloc)?, no_ports(alloc)?);
-    let same = is_same_beside(alloc, &words, &mut one, &mut ports, &mut other, &mut others, ROOM)?;
+    let same = is_same_beside(
+        alloc,
+        &words,
+        &mut one,
+        &mut ports,
+        &mut other,
+        &mut others,
+        ROOM,
+    )?;
     assert!(rt; !same);
     Ok(())
 }
