@@ -69,10 +69,9 @@ fn a_control_loop_has_the_same_trace(rt: HostRuntime) -> Result<(), Fail> {
     let alloc = rt.alloc();
     let words = words_of(alloc, "run a.toml --thread 0 --cycles 100")?;
     let (mut one, mut other) = (files_with(alloc, COUNTS)?, files_with(alloc, STORES)?);
-    let mut ports = no_ports(alloc)?;
-    let trace = trace_beside(alloc, &words, &mut one, &mut ports, ROOM)?;
+    let trace = trace_beside(alloc, &words, &mut one, &mut no_ports(alloc)?, ROOM)?;
     assert!(rt; trace.bytes().len() > 1_000);
-    let mut others = no_ports(alloc)?;
+    let (mut ports, mut others) = (no_ports(alloc)?, no_ports(alloc)?);
     let same = is_same_beside(
         alloc,
         &words,
