@@ -3,6 +3,7 @@ from __future__ import annotations
 
 import os
 import shlex
+import signal
 import subprocess
 import sys
 import tempfile
@@ -14,6 +15,9 @@ TOP = Path(__file__).resolve().parents[2]
 TOOLS = TOP / "tools"
 BUILT = TOP / "crates" / "flexpret_cli" / "out" / "flexpret_cli"
 sys.path.insert(0, str(TOOLS))
+
+# A shell starts jobs in the background with the interrupt ignored, and what they start inherits that.
+signal.signal(signal.SIGINT, signal.default_int_handler)
 
 
 def document(name: str) -> Path:

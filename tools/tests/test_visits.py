@@ -453,7 +453,10 @@ def test_what_was_seen_is_shown_where_it_is_stopped() -> None:
             with pytest.raises(subprocess.TimeoutExpired):
                 ran.communicate(timeout=3)
             ran.send_signal(signal.SIGINT)
-            out, errors = ran.communicate(timeout=30)
+            try:
+                out, errors = ran.communicate(timeout=30)
+            finally:
+                ran.kill()
     assert ran.returncode == 3
     assert out.startswith("-: ") and " events, cycles 0 to " in out
     assert errors.startswith("fp_visits: standard input: stopped behind cycle ")
