@@ -117,7 +117,7 @@ class Sum:
 
 def pytest(name: str, folder: str, jobs: int) -> Part:
     """A part of pytest, over a folder. Its tests say themselves which of them need a program."""
-    command = ['{python}', '-m', 'pytest', '-q', '-rs', *(['-n', str(jobs)] if jobs > 1 else []), folder]
+    command = ['{python}', '-m', 'pytest', '-q', '-rfEs', *(['-n', str(jobs)] if jobs > 1 else []), folder]
     return Part(name, command, ['pytest', 'elftools', 'jsonschema'], programs=False, tests=folder)
 
 
