@@ -27,7 +27,7 @@ sys.path.insert(0, str(TOP / 'tools'))
 
 from fplaunch.sources import Checkout, kit_line  # noqa: E402
 
-PROGRAMS = {'FLEXPRET': 'flexpret_cli', 'FLEXPRET_VIEW': 'flexpret_view'}
+PROGRAMS = {'FLEXPRET': 'flexpret_cli', 'FLEXPRET_VIEW': 'flexpret_view', 'LOOP_CLI': 'loop_cli'}
 """The variables that name the programs to the scripts, and the crates that make them."""
 
 MODULES = {
@@ -141,6 +141,7 @@ def parts(jobs: int) -> list[Part]:
         Part('examples/first.sh', ['examples/first.sh']),
         Part('examples/pages.sh', ['examples/pages.sh']),
         Part('examples/c/try.sh', ['examples/c/try.sh'], commands=['make', 'riscv64-unknown-elf-gcc']),
+        Part('examples/loop/try.sh', ['examples/loop/try.sh']),
         Part('examples/device/try.sh', ['examples/device/try.sh', '--built']),
         Part('examples/sweep/try.sh', ['examples/sweep/try.sh'], commands=['parallel']),
     ]

@@ -9,9 +9,12 @@ from conftest import TOP, Tool
 
 TOO_MANY = "warning: loop[0].bound: the code counts 8 rounds, which is bound = 7; 8 is more than that"
 SUM = (TOP / "examples/sum.toml").read_text()
+QUIET = "examples/loop/quiet.toml"
+"""The closed loop without the other threads."""
 EXAMPLES = sorted(
     str(it.relative_to(TOP)) for it in TOP.glob("examples/**/*.toml") if it.name != "budgets.toml"
 )
+EXAMPLES.remove(QUIET)
 
 
 def said(tool: Tool, folder: Path, text: str, *options: str) -> tuple[int, list[str]]:
@@ -35,6 +38,12 @@ def changed(*changes: tuple[str, str]) -> str:
 def test_the_examples_are_fine(tool: Tool, setup: str) -> None:
     ran = tool("fp_lint", setup)
     assert (ran.returncode, ran.stdout, ran.stderr) == (0, "", "")
+
+
+def test_the_loop_without_noise_has_an_empty_slot(tool: Tool) -> None:
+    ran = tool("fp_lint", QUIET)
+    text = "9: warning: slots[2]: T1 has no table, so it sleeps, and soft threads have its turns"
+    assert (ran.returncode, ran.stdout, ran.stderr) == (1, f"{QUIET}:{text}\n", "")
 
 
 @pytest.mark.parametrize(

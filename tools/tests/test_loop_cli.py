@@ -21,6 +21,8 @@ from model.setups import THREADS, read_setup  # noqa: E402
 PROGRAM = Path(os.environ.get("LOOP_CLI", TOP / "crates/loop_cli/out/loop_cli"))
 """The built program."""
 
+pytestmark = pytest.mark.skipif(not PROGRAM.is_file(), reason="no loop_cli: build it by rt ci, or name it by LOOP_CLI")
+
 SEEDS = range(20_000, 20_200)
 
 
