@@ -23,7 +23,7 @@ from fptools.layout import Options, lay_out
 from layout_check import Executable, flow
 
 from layout_shapes import (
-    BATCHES, DATA, FOURTH, GCC, LINK, SETUP, SHAPES, VISITS, Ran, Shape, Way, build, counted_hashes, quick_runner, run, shapes,
+    BATCHES, DATA, FOURTH, LINK, SETUP, SHAPES, VISITS, Ran, Shape, Way, build, counted_hashes, quick_runner, run, shapes,
 )  # fmt: skip
 
 NEEDED = ("riscv64-unknown-elf-gcc", "riscv64-unknown-elf-ld", "cc")

@@ -54,4 +54,6 @@ def test_each_command_writes_what_is_shown(flexpret: str, tmp_path: Path) -> Non
             text=True,
             check=False,
         )
-        assert ran.stdout.splitlines() == lines, command
+        # The installed script says which program FLEXPRET names.
+        said = [line for line in ran.stdout.splitlines() if not line.startswith("flexpret: using ")]
+        assert said == lines, command
