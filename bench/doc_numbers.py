@@ -209,9 +209,6 @@ REFUSALS = {
 }
 """The functions that name codes, each with the tables that have them."""
 
-NEVER_WRITTEN = {(20, "NotBuilt")}
-"""Codes that no command answers."""
-
 
 def refusals(pages: Pages) -> Iterator[str]:
     """The codes and names of refusals, in each direction."""
@@ -222,7 +219,7 @@ def refusals(pages: Pages) -> Iterator[str]:
             (int(number), name)
             for numbers, name in re.findall(r"^\s*([\d| ]+) => \"(\w+)\"", body, re.M)
             for number in numbers.split("|")
-        } - NEVER_WRITTEN
+        }
         shown = set()
         for page, heading in tables:
             for row in pages.table(page, heading):

@@ -1,5 +1,5 @@
 //! Theorems on loops with sampled plants. Each is the contract of a function that does nothing. The
-//! statements are in specs/DriverLaws.antt.
+//! statements are in specs/SampledLaws.antt.
 
 ghost use Rattle.loop_runs.specs.SampledLaws.{SampledAlone, SampledPhased, SampledUnpermitted};
 
