@@ -42,9 +42,7 @@ def test_a_trace_in_loops_with_tables(seed: int, tmp_path: Path) -> None:
     (tmp_path / "a.fpx").write_bytes(drawn.image)
     lines = [f"{thread} table {' '.join(map(str, table))}\n" for thread, table in tables.items()]
     (tmp_path / "plants.txt").write_text("".join(lines))
-    plants: dict[int, Plant] = {
-        thread: sampled(TablePlant(tables.get(thread, (0,))), every, 0) for thread in range(THREADS)
-    }
+    plants: dict[int, Plant] = {thread: sampled(TablePlant(table), every, 0) for thread, table in tables.items()}
     world = loop_world(setup, image, [HeldPort() for _ in range(THREADS)], plants).run_to(drawn.cycles)
     events = list(world.retired(drawn.cycles))
     for thread in range(THREADS):
@@ -52,3 +50,25 @@ def test_a_trace_in_loops_with_tables(seed: int, tmp_path: Path) -> None:
         numbers = [str(number) for number in (thread, every, drawn.cycles)]
         ran = subprocess.run([PROGRAM, "a.toml", "plants.txt", *numbers], cwd=tmp_path, capture_output=True)
         assert (ran.returncode, ran.stdout) == (0, wanted)
+
+
+FAULT = "loop_cli: PLANTS has other lines than `THREAD body|motor STEPS` and `THREAD table WORD ..`, or two of a thread\n"
+
+
+@pytest.mark.parametrize(
+    "plants",
+    ["0 body 3 4\n", "0 motor 3\n0 table 1\n", "8 motor 3\n", "0 table\n", "0 motor\n", "0 lamp 1\n", "0 motor 0x3\n"],
+)
+def test_a_list_that_is_refused(plants: str, tmp_path: Path) -> None:
+    listed = tmp_path / "plants.txt"
+    listed.write_text(plants)
+    words = [PROGRAM, "examples/loop/motor.toml", listed, "0", "100", "1000"]
+    ran = subprocess.run(words, cwd=TOP, capture_output=True, text=True)
+    assert (ran.returncode, ran.stdout, ran.stderr) == (2, "", FAULT)
+
+
+def test_a_thread_without_a_plant_has_the_inputs_of_its_setup(tmp_path: Path) -> None:
+    (tmp_path / "none.txt").write_text("")
+    setup = ["examples/drive.toml", tmp_path / "none.txt", "0", "100", "77"]
+    ran = subprocess.run([PROGRAM, *setup], cwd=TOP, capture_output=True)
+    assert (ran.returncode, ran.stdout) == (0, (TOP / "examples/drive.trace").read_bytes())

@@ -43,7 +43,7 @@ impl Fault {
         match self {
             Fault::Usage => "loop_cli: usage: loop_cli SETUP PLANTS THREAD EVERY CYCLES",
             Fault::Plants => {
-                "loop_cli: PLANTS has a line other than `THREAD body|motor STEPS` or `THREAD table WORD ..`"
+                "loop_cli: PLANTS has other lines than `THREAD body|motor STEPS` and `THREAD table WORD ..`, or two of a thread"
             }
             Fault::Setup => "loop_cli: the setup has a fault; `flexpret run` names it",
             Fault::Image => "loop_cli: the image has a fault; `flexpret run` names it",

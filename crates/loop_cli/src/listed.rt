@@ -27,11 +27,12 @@ pub enum Listed {
 }
 
 /// Reads the plants of the eight threads that a file lists. Empty lines, and lines that begin with
-/// `#` and a blank, are left out. The last plant of a thread counts.
+/// `#` and a blank, are left out.
 ///
 /// # Errors
 ///
-/// `Plants` for a line that names no plant, or a file that isn't text; `Read`; `NoMemory`.
+/// `Plants` for a line that names no plant, a second plant of a thread, or a file that isn't text;
+/// `Read`; `NoMemory`.
 pub fn read_plants<F: Files>(
     alloc: Global,
     name: &Name,
@@ -61,8 +62,11 @@ fn add_lines(alloc: Global, text: &str, plants: &mut Vec<Option<Listed>>) -> Res
         match words.next() {
             None | Some("#") => {}
             Some(thread) => {
-                let thread = thread_of(thread)?;
-                plants[thread as usize] = Some(plant_of(alloc, words)?);
+                let thread = thread_of(thread)? as usize;
+                if plants[thread].is_some() {
+                    return Err(Fault::Plants);
+                }
+                plants[thread] = Some(plant_of(alloc, words)?);
             }
         }
     }
@@ -72,8 +76,8 @@ fn add_lines(alloc: Global, text: &str, plants: &mut Vec<Option<Listed>>) -> Res
 /// The plant of a line, by the words after its thread.
 fn plant_of(alloc: Global, mut words: SplitWhitespace<'_>) -> Result<Listed, Fault> {
     match words.next() {
-        Some("body") => Ok(Listed::Body(number(words.next())?)),
-        Some("motor") => Ok(Listed::Motor(number(words.next())?)),
+        Some("body") => Ok(Listed::Body(last_number(words)?)),
+        Some("motor") => Ok(Listed::Motor(last_number(words)?)),
         Some("table") => Ok(Listed::Table(table_of(alloc, words)?)),
         _ => Err(Fault::Plants),
     }
@@ -95,6 +99,15 @@ fn thread_of(text: &str) -> Result<u8, Fault>
     match text.parse::<u8>() {
         Ok(thread) if thread < THREADS => Ok(thread),
         _ => Err(Fault::Plants),
+    }
+}
+
+/// The number that ends a line.
+fn last_number(mut words: SplitWhitespace<'_>) -> Result<u32, Fault> {
+    let number = number(words.next())?;
+    match words.next() {
+        None => Ok(number),
+        Some(_) => Err(Fault::Plants),
     }
 }
 

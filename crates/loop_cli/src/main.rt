@@ -16,7 +16,7 @@ use example_plants::{HeatedBody, Motor, TablePlant};
 use fp_io::{Gathered, OutSink, RealFiles};
 use fp_ports::{HeldPort, Ports};
 use loop_runs::{Plants, run_loops};
-use machine::Machine;
+use machine::{Machine, feed_inputs};
 use program_files::{Program, load};
 use std::process::ExitCode;
 use std::{env, io};
@@ -24,7 +24,8 @@ use std::{env, io};
 /// How many threads there are.
 const THREADS: u8 = 8;
 
-/// Runs the machine of a program with its plants, and prints the trace of the thread.
+/// Runs the machine of a program with its plants, and prints the trace of the thread. The port of a
+/// thread without a plant shows the inputs of the setup.
 fn run_program(
     rt: HostRuntime,
     question: &Question,
@@ -36,6 +37,7 @@ fn run_program(
     requires plants { vec_len plants.old ≡ 8 }
 {
     let mut machine = Machine::load(rt.alloc(), &program.setup, &program.image)?;
+    feed_inputs(&program.setup, ports)?;
     let mut out = Gathered::new(OutSink::new(rt));
     run_loops(
         &mut machine,
