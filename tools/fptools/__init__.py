@@ -1,6 +1,7 @@
 """What the tools beside this folder share. None of it is proved; the program answers, the tools show and ask."""
 import importlib.util
 import sys
+from typing import Mapping
 
 # What the tools need beyond Python itself: the module's name, that of pip's package, and that of Debian's.
 NEEDED = {
@@ -12,14 +13,18 @@ NEEDED = {
 OLDEST = (3, 11)
 """The first version of Python that has what the tools use."""
 
-_missing = [packages for module, packages in NEEDED.items() if importlib.util.find_spec(module) is None]
-if _missing or sys.version_info < OLDEST:
+
+def require(needed: Mapping[str, tuple[str, str]]) -> None:
+    """Ends the call where a module isn't installed, and names its packages."""
+    missing = [packages for module, packages in needed.items() if importlib.util.find_spec(module) is None]
+    if not missing and sys.version_info >= OLDEST:
+        return
     version = ".".join(map(str, sys.version_info[:3]))
     print(
         f"the tools run by {sys.executable}, which is Python {version}; they need 3.11 or later",
         file=sys.stderr,
     )
-    for pip, debian in _missing:
+    for pip, debian in missing:
         print(
             f"  its package {pip} is missing: {sys.executable} -m pip install {pip}, or, for Debian's own",
             file=sys.stderr,
@@ -30,3 +35,6 @@ if _missing or sys.version_info < OLDEST:
         )
     # Status 2 says of every tool that it couldn't do its work.
     sys.exit(2)
+
+
+require(NEEDED)

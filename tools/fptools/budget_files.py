@@ -8,6 +8,7 @@ from typing import Any, Mapping
 
 import jsonschema
 
+from fptools.setup import spelled
 from fptools.toml import faults, read_toml
 
 SCHEMA = Path(__file__).resolve().parents[1] / "budgets.schema.json"
@@ -103,6 +104,13 @@ def read_budgets(path: Path, period: int) -> list[Budget]:
     if fault:
         raise fault
     return [_budget(table, period) for table in values["budget"]]
+
+
+def fault_text(fault: Exception, budgets: Path | None) -> str:
+    """What is said of a fault; of one in a file of budgets, with the key where it is."""
+    if isinstance(fault, jsonschema.ValidationError):
+        return f"{budgets}: {spelled(tuple(fault.absolute_path))}: {fault.message}"
+    return str(fault)
 
 
 def _budget(table: Mapping[str, Any], period: int) -> Budget:

@@ -17,6 +17,15 @@ NAME = "fp_budget"
 
 
 @dataclass(frozen=True)
+class Compared:
+    """A result with what a run of its thread showed; without these where its section isn't known."""
+
+    result: Result
+    observation: Observation | None = None
+    executions: Executions | None = None
+
+
+@dataclass(frozen=True)
 class Runs:
     """Runs of a setup's threads for some cycles."""
 
@@ -27,11 +36,16 @@ class Runs:
     cycles: int
     is_of_names: bool = False  # whether the results have loops of their own, and not the setup's
     is_of_functions: bool = False  # whether the budgets are named by functions
+    name: str = NAME  # of the tool that shows how far a run is
 
     def compared(self, results: Sequence[Result]) -> list[Result]:
         """The results, each with what a run of its thread showed."""
+        return [it.result for it in self.observed(results)]
+
+    def observed(self, results: Sequence[Result]) -> list[Compared]:
+        """The results with the runs of their threads."""
         watched = [self._watched(it) for it in results]
-        found = list(results)
+        found = [Compared(it) for it in results]
         for thread in sorted({it.budget.thread for it in results}):
             own = [
                 at for at, it in enumerate(results) if it.budget.thread == thread and watched[at] is not None
@@ -40,7 +54,7 @@ class Runs:
                 observation = self._observed(thread, [it for at in own if (it := watched[at])], results)
                 # Functions come last in an observation, and here all are of one kind.
                 for at, seen in zip(own, observation.executions):
-                    found[at] = self._with_run(results[at], observation, seen)
+                    found[at] = Compared(self._with_run(results[at], observation, seen), observation, seen)
         return found
 
     def _observed(self, thread: int, watched: Sequence[Watched], results: Sequence[Result]) -> Observation:
@@ -50,7 +64,7 @@ class Runs:
             question = replace(
                 question, loops=[LoopTable(*place, bound) for place, bound in sorted(facts.items())]
             )
-        return run_and_observe(self.flexpret, self.setup, question, self.cycles, name=NAME)
+        return run_and_observe(self.flexpret, self.setup, question, self.cycles, name=self.name)
 
     def _watched(self, result: Result) -> Watched | None:
         """The section or function of a budget; None where an address isn't known."""

@@ -62,6 +62,17 @@ class Unknown(Exception):
     """Why nothing can be said of a budget."""
 
 
+def other_word(program: Program, image: Mapping[int, int]) -> str:
+    """The first word of an image that the executable has otherwise; empty where there is none."""
+    if program.path is None:
+        return ""
+    for pc in sorted({*image, *program.words}):
+        if program.words.get(pc, 0) != image.get(pc, 0):
+            text = f"the image isn't made of {program.path}: make it again by `elf`"
+            return f"{pc:#x} {program.name_of(pc)}".rstrip() + f": {text}"
+    return ""
+
+
 @dataclass
 class Asked:
     """A budget with the code that it is of: its section first, then the functions that this calls."""
@@ -123,9 +134,7 @@ class Judge:
     def asked(self, budget: Budget) -> Asked:
         """A budget with the code that it is of."""
         if self._other_word:
-            raise Unknown(
-                f"{self._other_word}: the image isn't made of {self.program.path}: make it again by `elf`"
-            )
+            raise Unknown(self._other_word)
         start, end = self._address(budget.start), self._address(budget.end)
         functions = self.program.functions if budget.calls else []
         parts = walk_all(self.image, start, end, functions)
@@ -219,13 +228,7 @@ class Judge:
 
     @cached_property
     def _other_word(self) -> str:
-        """The first word of the image that the executable has otherwise; empty where there is none."""
-        if self.program.path is None:
-            return ""
-        for pc in sorted({*self.image, *self.program.words}):
-            if self.program.words.get(pc, 0) != self.image.get(pc, 0):
-                return f"{pc:#x} {self.program.name_of(pc)}".rstrip()
-        return ""
+        return other_word(self.program, self.image)
 
     @cached_property
     def _code(self) -> Code:

@@ -9,7 +9,7 @@ from typing import Any, Callable, Iterator, Mapping
 
 from fptools.image import ImageError, read_image
 from fptools.rounds import counted_rounds, jumps_of
-from fptools.setup import DATA_START, LARGE, KeyPath, Setup, spelled
+from fptools.setup import DATA_START, LARGE, KeyPath, Setup, read_setup, spelled
 from fptools.toml import faults
 from fptools.words import Flow, Word
 
@@ -70,6 +70,14 @@ def lint(setup: Setup) -> list[Finding]:
 def refusals(setup: Setup) -> list[Said]:
     """What the program refuses of a setup, beyond its image."""
     return list(_schema(setup)) or list(_refusals(setup))
+
+
+def read_valid(path: Path) -> Setup:
+    """A setup that the program takes; another one is a `ValueError`."""
+    setup = read_setup(path)
+    if refusals(setup):
+        raise ValueError(f"{path} is refused; fp_lint says why")
+    return setup
 
 
 def _schema(setup: Setup) -> Iterator[Said]:

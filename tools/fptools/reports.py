@@ -16,7 +16,7 @@ def junit(results: list[Result], name: str, fault: str | None = None) -> bytes:
     of = {verdict: sum(it.verdict is verdict for it in results) for verdict in Verdict}
     faults = 0 if fault is None else 1
     suite = ElementTree.Element(
-        "testsuite", name=_xml(name), tests=str(len(results) + faults),
+        "testsuite", name=without_controls(name), tests=str(len(results) + faults),
         failures=str(of[Verdict.OVER]), errors=str(of[Verdict.UNKNOWN] + faults),
     )  # fmt: skip
     for result in results:
@@ -33,9 +33,9 @@ def _case(
     suite: ElementTree.Element, group: str, name: str, kind: str | None, text: str
 ) -> ElementTree.Element:
     """Adds a case, with a fault of a kind, if it has one."""
-    case = ElementTree.SubElement(suite, "testcase", {"classname": group, "name": _xml(name)})
+    case = ElementTree.SubElement(suite, "testcase", {"classname": group, "name": without_controls(name)})
     if kind:
-        ElementTree.SubElement(case, kind, message=_xml(text))
+        ElementTree.SubElement(case, kind, message=without_controls(text))
     return case
 
 
@@ -44,7 +44,7 @@ def _add_numbers(case: ElementTree.Element, result: Result) -> None:
     numbers = {"bound": result.bound, "budget": result.budget.cycles, "slack": result.slack, "ns": result.ns}
     numbers |= {"executions": result.executions, "longest": result.longest}
     known = {name: str(number) for name, number in numbers.items() if number is not None}
-    known |= {f"note {at}": _xml(note) for at, note in enumerate(result.notes, 1)}
+    known |= {f"note {at}": without_controls(note) for at, note in enumerate(result.notes, 1)}
     if not known:
         return
     properties = ElementTree.Element("properties")
@@ -84,6 +84,6 @@ def _fields(result: Result) -> dict[str, Any]:
     }
 
 
-def _xml(text: str) -> str:
-    """A text without the characters that XML has no place for, as names of files may have them."""
+def without_controls(text: str) -> str:
+    """A text without the characters that XML and HTML have no place for, as names of files may have them."""
     return NOT_XML.sub("\ufffd", text)

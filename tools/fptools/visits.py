@@ -50,6 +50,17 @@ class Spread:
         return self.total / self.count if self.count else 0.0
 
 
+@dataclass
+class Tally(Spread):
+    """A spread that counts how often each number came."""
+
+    counts: Counter[int] = field(default_factory=Counter)
+
+    def add(self, number: int, cycle: int, times: int = 1) -> None:
+        super().add(number, cycle, times)
+        self.counts[number] += times
+
+
 @dataclass(frozen=True)
 class Watched:
     """A section, by its first word and the address behind its last, with what is known of how long it
@@ -73,9 +84,9 @@ class Executions:
     """What was seen of a section or function."""
 
     watched: Watched
-    whole: Spread = field(default_factory=Spread)  # those that the bound speaks of
-    interrupted: Spread = field(default_factory=Spread)  # with a trap between begin and end
-    detours: Spread = field(default_factory=Spread)  # that left the section and came back
+    whole: Tally = field(default_factory=Tally)  # those that the bound speaks of
+    interrupted: Tally = field(default_factory=Tally)  # with a trap between begin and end
+    detours: Tally = field(default_factory=Tally)  # that left the section and came back
     periods: Spread = field(default_factory=Spread)  # from one begin to the next
     cut: Spread = field(default_factory=Spread)  # up to a trap, or to where the section was left
     traps: int = 0

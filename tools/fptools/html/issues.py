@@ -1,0 +1,104 @@
+"""The issues of threads in parts of a run, and where they spent their cycles."""
+from __future__ import annotations
+
+from bisect import bisect_left
+from dataclasses import dataclass
+from typing import Sequence
+
+from fptools.elf import Line
+from fptools.observed import opened_run
+from fptools.program import Flexpret
+from fptools.setup import Setup
+from fptools.shown import Columns
+from fptools.trace import Event, event_of
+from fptools.trace_blocks import Block, Progress, TraceReader
+from fptools.turns import Turns, is_delay, turns_of
+from fptools.visits import first_try
+
+MOST_CYCLES = 4_000_000_000  # of a run
+STAGES = "FDEMW"
+RETIRED = len(STAGES) - 1  # cycles from an issue to the one in which its line is written
+
+
+@dataclass(frozen=True)
+class Span:
+    """Cycles of a run: from `start` up to below `end`."""
+
+    start: int
+    end: int
+
+    @property
+    def cycles(self) -> int:
+        return self.end - self.start
+
+
+@dataclass(frozen=True)
+class Issue:
+    """An event, and the cycle of its first try, which only a DU has before its issue."""
+
+    begin: int
+    event: Event
+
+
+@dataclass(frozen=True)
+class Spot:
+    """A source line, or an instruction where no line is known, and what it took of an execution."""
+
+    place: str
+    text: str
+    function: str
+    cycles: int
+    issues: int
+
+
+def read_issues(
+    flexpret: Flexpret, setup: Setup, thread: int, spans: Sequence[Span], name: str
+) -> list[list[Issue]]:
+    """The issues of a thread in each of some spans, by one run."""
+    first, last = min(it.start for it in spans), max(it.end for it in spans)
+    turns, found = turns_of(setup, thread), [list[Issue]() for _ in spans]
+    with opened_run(flexpret, setup.path, thread, min(last + RETIRED, MOST_CYCLES)) as source:
+        for block in TraceReader(source, f"T{thread}", first, last, Progress(name, last)).blocks():
+            for span, issues in zip(spans, found):
+                begin = bisect_left(block.lines, b"%10d" % span.start)
+                end = bisect_left(block.lines, b"%10d" % span.end)
+                issues += [_issue(block, index, turns) for index in range(begin, end)]
+    return found
+
+
+def _issue(block: Block, index: int, turns: Turns | None) -> Issue:
+    event = event_of(block, index)
+    return Issue(first_try(block, index, turns) if is_delay(event.bits) else event.cycle, event)
+
+
+@dataclass
+class _Taken:
+    """What a source line or an address took so far; `event` is its first one."""
+
+    line: Line | None
+    event: Event
+    cycles: int = 0
+    issues: int = 0
+
+
+def spots_of(issues: Sequence[Issue], span: Span, columns: Columns) -> list[Spot]:
+    """Where a span's cycles went, the most first. An issue has the cycles up to the next one."""
+    taken: dict[Line | int, _Taken] = {}
+    begins = [max(span.start, it.begin) for it in issues]
+    for issue, begin, end in zip(issues, begins, [*begins[1:], span.end]):
+        line = columns.program.line_of(issue.event.pc)
+        spot = taken.setdefault(line or issue.event.pc, _Taken(line, issue.event))
+        spot.cycles += end - begin
+        spot.issues += 1
+    # Of equal ones the first to issue comes first.
+    return [_spot(it, columns) for it in sorted(taken.values(), key=lambda it: -it.cycles)]
+
+
+def _spot(taken: _Taken, columns: Columns) -> Spot:
+    event, line = taken.event, taken.line
+    at, instruction, _ = columns.of(event)
+    function = columns.program.function_at(event.pc)
+    place, text = f"{event.pc:#x} {at}".rstrip(), instruction
+    if line is not None:
+        place, text = str(line), columns.sources.text(line).strip()
+    return Spot(place, text, function.name if function else "", taken.cycles, taken.issues)
