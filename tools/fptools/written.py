@@ -7,8 +7,9 @@ from pathlib import Path
 
 
 def write_whole(name: str | Path, data: bytes) -> None:
-    """Writes a file. Where that fails, what was there stays. A link leads to it as before. A pipe or
-    a device gets the bytes as they are."""
+    """Writes a file. Where that fails, what was there stays. A link leads to it as before.
+
+    A pipe or a device gets the bytes as they are."""
     path = Path(os.path.realpath(name))
     if path.exists() and not path.is_file():
         path.write_bytes(data)

@@ -1,11 +1,12 @@
 """Runs of the executable model of this repository, for tests of tools that look at traces."""
 from __future__ import annotations
 
+import subprocess
 import sys
 from dataclasses import dataclass
 from pathlib import Path
 
-from conftest import TOP
+from conftest import TOOLS, TOP
 
 sys.path.insert(0, str(TOP))
 
@@ -13,6 +14,7 @@ from model import assembler, ports, setups, world  # noqa: E402
 from model.images import Image  # noqa: E402
 
 READ_ONLY = '["readonly", "readonly", "readonly", "readonly", "readonly", "readonly", "readonly", "readonly"]'
+HOLDS = TOOLS / "tests/data/holds"
 OWN_DATA = '["T0", "T1", "T2", "T3", "T4", "T5", "T6", "shared"]'
 
 
@@ -107,3 +109,20 @@ def program(folder: Path) -> Path:
     script.write_text(f'#!/bin/sh\nPYTHONPATH="{TOP}" exec "{sys.executable}" -m model "$@"\n')
     script.chmod(0o755)
     return script
+
+
+def held(name: str, folder: Path, most: int = 1000) -> tuple[Path, Path]:
+    """A setup of an executable of data/holds, in which T0 has each fourth cycle, and a budget."""
+    owners = ["T0", "T1", "T2", "T3", "T4", "T5", "T6"]
+    flexpret, image = program(folder), folder / "own.fpx"
+    made = subprocess.run([flexpret, "elf", HOLDS / f"{name}.elf"], capture_output=True, check=True)
+    image.write_bytes(made.stdout)
+    setup, budgets = folder / "own.toml", folder / "budgets.toml"
+    setup.write_text(
+        f"period = 10\nimage = {str(image)!r}\nslots = {['T0', 'S', 'S', 'S'] + ['D'] * 4}\n"
+        f"i_regions = {[*owners, 'readonly']}\nd_regions = {[*owners, 'shared']}\n"
+        f"[[thread]]\nid = 0\nmode = 'hard'\nentry = 0\nconfined = true\ninputs = [[0, 15]]\n"
+    )
+    section = f'[[budget]]\nname = "it"\nthread = 0\nfrom = "work_begin"\nto = "work_end"\ncycles = {most}\n'
+    budgets.write_text(f"{section}calls = true\n")
+    return setup, budgets

@@ -24,4 +24,4 @@ def time_text(ns: int) -> str:
 
 def part_text(part: float) -> str:
     """A part of a whole, in percent."""
-    return f"{100 * part:.1f} %"
+    return f"{100 * part:,.1f} %"

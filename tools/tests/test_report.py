@@ -1,0 +1,563 @@
+"""The page of fp_report: what stands on it, what is refused, and that the same input gives the same bytes."""
+from __future__ import annotations
+
+import json
+import os
+import re
+import shutil
+import subprocess
+import sys
+from base64 import b64decode
+from html.parser import HTMLParser
+from pathlib import Path
+from typing import Any, Iterator
+
+import pytest
+from conftest import TOOLS, TOP, Tool, document
+from modelled import HOLDS, held, program
+
+pytest.importorskip("jinja2", reason="jinja2 isn't installed (Debian: python3-jinja2)")
+
+from fptools.html.promises import CHECKS, PROVED, TESTED  # noqa: E402
+
+PID = ("examples/c/pid.toml", "examples/c/budgets.toml", "--elf", "examples/c/pid.elf")
+RUN = ("--cycles", "10000")
+HOSTILE = "<b>&\"' </script><script>alert(1)</script>"
+STEP = '[[budget]]\nname = {}\nthread = 0\nfrom = "step_begin"\nto = "step_end"\nassume = ["no traps"]\ncycles = {}\n'
+
+
+class Reader(HTMLParser):
+    """The elements of a page, with what is in them."""
+
+    VOID = ("meta", "link", "input")
+
+    def __init__(self, text: str) -> None:
+        super().__init__()
+        self.open: list[str] = []
+        self.elements: list[tuple[str, dict[str, str | None]]] = []
+        self.scripts: list[str] = []
+        self.texts: list[str] = []
+        self.feed(text)
+        self.close()
+
+    def handle_starttag(self, tag: str, attrs: list[tuple[str, str | None]]) -> None:
+        self.elements.append((tag, dict(attrs)))
+        if tag == "script":
+            self.scripts.append("")
+        if tag not in self.VOID:
+            self.open.append(tag)
+
+    def handle_startendtag(self, tag: str, attrs: list[tuple[str, str | None]]) -> None:
+        self.elements.append((tag, dict(attrs)))
+
+    def handle_endtag(self, tag: str) -> None:
+        assert self.open.pop() == tag
+
+    def handle_data(self, data: str) -> None:
+        if self.open and self.open[-1] == "script":
+            self.scripts[-1] += data
+        elif not self.open or self.open[-1] != "style":
+            self.texts.append(data)
+
+    @property
+    def text(self) -> str:
+        return " ".join(" ".join(self.texts).split())
+
+    @property
+    def data(self) -> Any:
+        """What the timeline's pointer tells."""
+        return json.loads(self.scripts[0])
+
+
+@pytest.fixture(scope="module")
+def modelled_tool(tmp_path_factory: pytest.TempPathFactory) -> Tool:
+    """Runs a tool at the top of the repository, with the model as the program."""
+    return Tool(TOP, str(program(tmp_path_factory.mktemp("model"))))
+
+
+@pytest.fixture(scope="module")
+def pid_page(modelled_tool: Tool, tmp_path_factory: pytest.TempPathFactory) -> Path:
+    out = tmp_path_factory.mktemp("page") / "report.html"
+    ran = modelled_tool("fp_report", *PID, *RUN, "-o", out)
+    line = "holds    T0 a step of the controller: 352 of 400 cycles (3520 ns); the longest of 12 executions takes 344\n"
+    assert (ran.returncode, ran.stdout, ran.stderr) == (0, line, "")
+    return out
+
+
+def read(page: Path) -> Reader:
+    return Reader(page.read_text(encoding="utf-8"))
+
+
+def test_the_numbers_of_a_budget_have_units(pid_page: Path) -> None:
+    text = read(pid_page).text
+    for part in (
+        "✓ 1 holds of 1 budget; each thread with a budget ran for 10,000 cycles, which are 100 µs (10 ns a cycle)",
+        "344 cycles 3.44 µs 352 cycles 3.52 µs 400 cycles 4 µs 48 cycles 12.0 % of the budget 97.7 % 12 executions",
+        "assumes no traps: it is of executions without a trap (0x50 on_trap+0x34: MRET goes on where a trap was",
+        "The loop at 0xf0 step_begin+0x3c goes back at most 7 times: the code counts 8 rounds."
+        " In the run: 7 times, in 13 entries.",
+        "Where the longest one spent its 344 cycles (3.44 µs), from cycle 120 on, by instruction:",
+        "Cycles 80 to 503 of the run (800 ns to 5.04 µs).",
+        "a frame is 4 cycles, 40 ns. S is for soft threads",
+        "Each region has 2,048 bytes (B).",
+        "T0 0x1a4 step_end 12 0 – 3.88 µs",
+    ):
+        assert part in text
+
+
+def test_what_is_proved_and_assumed_is_on_the_page(pid_page: Path) -> None:
+    text = read(pid_page).text
+    for part in [*(it for pair in (*PROVED, *CHECKS) for it in pair), TESTED]:
+        assert part in text
+
+
+def test_the_words_are_those_of_the_assumptions() -> None:
+    """Without marks, links and the names of pages."""
+    page = re.sub(
+        r"[*`]|\[([^\]]*)\]\([^)]*\)", lambda it: it[1] or "", document("ASSUMPTIONS.md").read_text()
+    )
+    plain = " ".join(page.split())
+    for first, second in (*PROVED, *CHECKS):
+        assert first in plain and second in plain, first
+    assert TESTED in plain
+
+
+def test_the_same_input_gives_the_same_bytes(modelled_tool: Tool, pid_page: Path, tmp_path: Path) -> None:
+    again = tmp_path / "again.html"
+    tool = Tool(TOP, modelled_tool.environment["FLEXPRET"])
+    tool.environment["PYTHONHASHSEED"] = "1"
+    assert tool("fp_report", *PID, *RUN, "-o", again).returncode == 0
+    assert again.read_bytes() == pid_page.read_bytes()
+
+
+def test_the_page_needs_no_network(pid_page: Path) -> None:
+    page = read(pid_page)
+    for tag, attributes in page.elements:
+        assert tag not in ("img", "iframe", "object", "embed", "base")
+        for name in ("src", "href", "action", "data", "poster"):
+            assert (attributes.get(name) or "#").startswith(("#", "data:,")), (tag, attributes)
+    text = pid_page.read_text()
+    assert "@import" not in text and not re.search(r"url\((?!#)", text)
+    (policy,) = (
+        it["content"] for tag, it in page.elements if it.get("http-equiv") == "Content-Security-Policy"
+    )
+    assert policy and policy.startswith("default-src 'none'; ") and "http" not in policy
+
+
+def test_no_name_of_a_machine_is_on_the_page(pid_page: Path) -> None:
+    text = pid_page.read_text()
+    assert str(TOP) not in text and os.uname().nodename not in text
+
+
+def test_the_built_program_gives_the_same_page(asking: Tool, pid_page: Path, tmp_path: Path) -> None:
+    out = tmp_path / "report.html"
+    assert asking("fp_report", *PID, *RUN, "-o", out).returncode == 0
+    assert out.read_bytes() == pid_page.read_bytes()
+
+
+def test_names_are_only_texts(modelled_tool: Tool, pid_page: Path, tmp_path: Path) -> None:
+    budgets, out = tmp_path / "<i>&budgets.toml", tmp_path / "report.html"
+    budgets.write_text(STEP.format(json.dumps(HOSTILE), 400))
+    ran = modelled_tool("fp_report", PID[0], budgets, *PID[2:], *RUN, "--title", HOSTILE, "-o", out)
+    assert ran.returncode == 0, ran.stderr
+    page, plain = read(out), read(pid_page)
+    assert not page.open
+    assert len(page.scripts) == 2 and page.scripts[1] == plain.scripts[1]
+    assert [tag for tag, _ in page.elements] == [tag for tag, _ in plain.elements]
+    assert page.text.count(HOSTILE) >= 4 and "<i>&budgets.toml" in page.text
+
+
+def test_the_timeline_has_the_traces(modelled_tool: Tool, pid_page: Path) -> None:
+    """Each event of the window, with its cycle, word and effect, and nothing else."""
+    data = read(pid_page).data
+    start, end = data["start"], data["start"] + data["cycles"]
+    assert (start, end, data["period"], data["frame"]) == (80, 504, 10, ["T0", "S", "T1", "S"])
+    assert [row["thread"] for row in data["rows"]] == list(range(8))
+    for row in data["rows"]:
+        run = [modelled_tool.environment["FLEXPRET"], "run", PID[0], "--thread", str(row["thread"])]
+        trace = subprocess.run(
+            [*run, "--cycles", "600"], cwd=TOP, capture_output=True, text=True, check=True
+        ).stdout
+        wanted = [
+            (int(line[:10]), hex(int(line[11:19], 16)), line[29:])
+            for line in trace.splitlines()
+            if start <= int(line[:10]) < end
+        ]
+        cycle, found = start, []
+        for gap, word, effect in zip(row["gaps"], row["words"], row["effects"]):
+            cycle += gap
+            found.append((cycle, data["words"][word][0], effect))
+        assert found == wanted
+
+
+def test_the_longest_execution_is_shown_by_source_line(modelled_tool: Tool, tmp_path: Path) -> None:
+    setup, budgets = held("taps16", tmp_path)
+    out, elf = tmp_path / "report.html", HOLDS / "taps16.elf"
+    loops = modelled_tool("fp_loops", elf, "--from", "work_begin", "--to", "work_end", "--src", HOLDS).stdout
+    setup.write_text(setup.read_text() + loops)
+    words = (setup, budgets, "--elf", elf, "--src", HOLDS, "--cycles", "5000", "-o", out)
+    ran = modelled_tool("fp_report", *words)
+    assert ran.returncode == 0, ran.stdout + ran.stderr
+    text = read(out).text
+    assert "by source line:" in text
+    assert re.search(
+        r"taps\.c:10 main0 for \(int i = 0; i < TAPS; i\+\+\) /\* @rounds 16 \*/ 132 33 33.3 %", text
+    )
+    assert re.search(r"taps\.c:11 main0 sum \+= samples\[i\]; 256 64 64.6 %", text)
+
+
+@pytest.mark.parametrize(
+    "most, more, status, word, text",
+    [
+        (10, "", 1, "✕ over", "84 of 10 cycles"),
+        (1000, 'exits = ["nowhere"]\n', 2, "? unknown", "nowhere is no symbol of code in"),
+    ],
+)
+def test_a_budget_that_does_not_hold_has_its_reason(
+    modelled_tool: Tool, tmp_path: Path, most: int, more: str, status: int, word: str, text: str
+) -> None:
+    budgets, out = tmp_path / "budgets.toml", tmp_path / "report.html"
+    budgets.write_text(STEP.format('"it"', most) + more)
+    ran = modelled_tool("fp_report", PID[0], budgets, *PID[2:], *RUN, "-o", out)
+    assert (ran.returncode, ran.stderr) == (status, "")
+    page = read(out)
+    assert word in page.text
+    assert (text if status == 2 else "344 of 10 cycles") in page.text
+
+
+@pytest.mark.parametrize(
+    "change, said",
+    [
+        ({"setup": "nowhere.toml"}, "nowhere.toml"),
+        ({"setup": "period = 0"}, "setup.toml is refused; fp_lint says why"),
+        ({"setup": "period ="}, "setup.toml:1: Invalid value"),
+        ({"budgets": "nowhere.toml"}, "nowhere.toml"),
+        ({"budgets": "[[budget]]\nname = 1"}, "budgets.toml: budget[0]"),
+        ({"budgets": "budget = []"}, "budgets.toml: budget: [] is too short"),
+        ({"budgets": "[[budget]"}, "budgets.toml:1: "),
+        ({"elf": "examples/big.elf"}, "the image isn't made of examples/big.elf: make it again by `elf`"),
+        ({"elf": "examples/c/pid.toml"}, "examples/c/pid.toml is no ELF file"),
+        ({"elf": "nowhere.elf"}, "nowhere.elf"),
+        ({"out": "nowhere/report.html"}, "report.html can't be written: "),
+        ({"out": "."}, " is a folder: it can't be written"),
+        ({"window": "9000:10001"}, "--window 9000:10001: the run has 10000 cycles; --cycles asks for more"),
+        ({"window": "40:40"}, "--window 40:40: its end isn't above its begin"),
+        ({"cycles": "30000", "window": "0:20001"}, "--window 0:20001: 20001 cycles, of 20000 at most"),
+        ({"flexpret": "/bin/false"}, "run examples/c/pid.toml --thread 0: status 1"),
+        ({"flexpret": "/nowhere"}, "/nowhere"),
+    ],
+)  # fmt: skip
+def test_what_is_refused_writes_nothing(
+    modelled_tool: Tool, tmp_path: Path, change: dict[str, str], said: str
+) -> None:
+    """One line, status 2, and the file that was there stays."""
+    kept = tmp_path / "kept"
+    kept.mkdir()
+    out = kept / change.get("out", "report.html")
+    (kept / "report.html").write_text("as it was")
+    files = {"setup": PID[0], "budgets": PID[1]}
+    for what in files.keys() & change.keys():
+        files[what] = change[what]
+        if "=" in change[what] or "[" in change[what]:
+            files[what] = str(tmp_path / f"{what}.toml")
+            Path(files[what]).write_text(change[what])
+    words = ["--elf", change.get("elf", PID[3]), "--cycles", change.get("cycles", "10000"), "-o", str(out)]
+    for option in {"window", "flexpret"} & change.keys():
+        words += [f"--{option}", change[option]]
+    ran = modelled_tool("fp_report", files["setup"], files["budgets"], *words)
+    lines = ran.stderr.splitlines()
+    assert (ran.returncode, ran.stdout) == (2, "")
+    assert len(lines) == 1 and lines[0].startswith("fp_report: ") and said in lines[0], ran.stderr
+    assert [it.name for it in kept.iterdir()] == ["report.html"]
+    assert (kept / "report.html").read_text() == "as it was"
+
+
+@pytest.mark.parametrize(
+    "words, said",
+    [
+        (("--window", "5"), "argument --window: invalid window A:B value: '5'"),
+        (("--window", "-1:5"), "argument --window: "),
+        (("--cycles", "0"), "argument --cycles: invalid number of cycles value: '0'"),
+        (("--cycles", "4000000001"), "argument --cycles: invalid number of cycles value: '4000000001'"),
+        ((), "the following arguments are required: -o"),
+    ],
+)
+def test_wrong_arguments_are_named(tool: Tool, tmp_path: Path, words: tuple[str, ...], said: str) -> None:
+    out = ("-o", tmp_path / "report.html") if words else ()
+    ran = tool("fp_report", *PID, *words, *out)
+    assert ran.returncode == 2 and said in ran.stderr and not list(tmp_path.iterdir())
+
+
+def test_an_output_that_can_not_take_the_page(modelled_tool: Tool) -> None:
+    ran = modelled_tool("fp_report", *PID, *RUN, "-o", "/dev/full")
+    assert ran.returncode == 2
+    assert ran.stderr == "fp_report: [Errno 28] No space left on device\n"
+
+
+def test_a_link_keeps_leading_to_the_page(modelled_tool: Tool, tmp_path: Path) -> None:
+    (tmp_path / "real").mkdir()
+    link, real = tmp_path / "report.html", tmp_path / "real/report.html"
+    link.symlink_to(real)
+    assert modelled_tool("fp_report", *PID, *RUN, "-o", link).returncode == 0
+    assert link.is_symlink() and real.read_text().startswith("<!doctype html>")
+
+
+def test_without_jinja2_the_package_is_named(tmp_path: Path) -> None:
+    hidden = "import importlib.util as it\nfind = it.find_spec\n"
+    hidden += "it.find_spec = lambda name, *more: None if name == 'jinja2' else find(name, *more)\n"
+    (tmp_path / "sitecustomize.py").write_text(hidden)
+    ran = subprocess.run(
+        [sys.executable, TOOLS / "fp_report", "--help"], env={**os.environ, "PYTHONPATH": str(tmp_path)},
+        capture_output=True, text=True, check=False,
+    )  # fmt: skip
+    assert ran.returncode == 2 and "apt-get install python3-jinja2" in ran.stderr
+    assert "Traceback" not in ran.stderr
+
+
+def test_addresses_do_without_an_executable(modelled_tool: Tool, tmp_path: Path) -> None:
+    budgets, out = tmp_path / "budgets.toml", tmp_path / "report.html"
+    budgets.write_text(
+        '[[budget]]\nname = "a sum"\nthread = 0\nfrom = 0x10\nto = 0x3c\nns = 2000\nassume = ["loop tables"]\n'
+    )
+    ran = modelled_tool("fp_report", "examples/sum.toml", budgets, "--cycles", "2000", "-o", out)
+    assert ran.returncode == 0, ran.stdout + ran.stderr
+    text = read(out).text
+    assert "0x10 to 0x3c" in text and "184 cycles 1.84 µs 184 cycles 1.84 µs 200 cycles 2 µs" in text
+
+
+def test_a_permit_hides_the_slots(modelled_tool: Tool, tmp_path: Path) -> None:
+    budgets, out = tmp_path / "budgets.toml", tmp_path / "report.html"
+    budgets.write_text('[[budget]]\nname = "it"\nthread = 0\nfrom = 0\nto = 8\ncycles = 100\n')
+    ran = modelled_tool(
+        "fp_report", "examples/slots.toml", budgets, "--cycles", "200", "--window", "0:60", "-o", out
+    )
+    assert ran.returncode in (0, 2) and ran.stderr == ""
+    page = read(out)
+    assert page.data["frame"] == []
+    assert "bounds hold while no instruction writes slots, modes or regions" in page.text
+
+
+def test_a_large_window_stays_below_five_megabytes(modelled_tool: Tool, tmp_path: Path) -> None:
+    out = tmp_path / "report.html"
+    ran = modelled_tool("fp_report", *PID, "--cycles", "20000", "--window", "0:20000", "-o", out)
+    assert ran.returncode == 0, ran.stderr
+    assert out.stat().st_size < 5_000_000
+    assert sum(len(row["gaps"]) for row in read(out).data["rows"]) > 10_000
+
+
+WIDTHS, SCHEMES = (1280, 400), ("light", "dark")
+OVERFLOW = "return [document.documentElement.scrollWidth, window.innerWidth]"
+PLACE = "const it = document.querySelector(arguments[0]).getBoundingClientRect(); return [it.left, it.top, it.width, it.height]"
+BESIDE = """
+const found = [];
+for (const it of document.querySelectorAll('main *, header *, footer *')) {
+  if (!it.checkVisibility() || it.closest('svg, .plot, .hidden') || getComputedStyle(it).overflowX !== 'visible') continue;
+  const box = it.closest('section, header, footer').getBoundingClientRect(), own = it.getBoundingClientRect();
+  const isWide = own.right > box.right + 1 || own.left < box.left - 1;
+  const isFull = getComputedStyle(it).display !== 'inline' && it.scrollWidth > it.clientWidth + 1 && it.clientWidth > 0;
+  const marks = it.matches('.histogram, .bars, .mark, .tick, .limit') || it.querySelector(':scope > .mark');
+  if (isWide || isFull && !marks) found.push([it.tagName, it.className, it.scrollWidth, it.clientWidth, it.textContent.trim().slice(0, 40)]);
+}
+return found;
+"""
+VIEW = "return document.querySelector('.cells').getAttribute('viewBox')"
+CONTRAST = """
+const level = (text) => {
+  const parts = text.match(/[\\d.]+/g).slice(0, 3).map((it) => it / 255).map((it) => it <= .04045 ? it / 12.92 : ((it + .055) / 1.055) ** 2.4);
+  return .2126 * parts[0] + .7152 * parts[1] + .0722 * parts[2];
+};
+const ground = (it) => {
+  for (; it; it = it.parentElement) {
+    const color = getComputedStyle(it).backgroundColor;
+    if (!/, 0\\)$/.test(color)) return color;
+  }
+  return 'rgb(255, 255, 255)';
+};
+const found = [];
+for (const it of document.querySelectorAll('body *')) {
+  const says = [...it.childNodes].some((node) => node.nodeType === 3 && node.data.trim());
+  if (!says || it.closest('svg, script, noscript')) continue;
+  const [low, high] = [level(getComputedStyle(it).color), level(ground(it))].sort((a, b) => a - b);
+  if ((high + .05) / (low + .05) < 4.5) found.push(it.className + ': ' + it.textContent.trim().slice(0, 40));
+}
+return found;
+"""
+
+
+class Browser:
+    """Chromium without a window."""
+
+    def __init__(self, folder: Path) -> None:
+        selenium = pytest.importorskip(
+            "selenium.webdriver", reason="selenium isn't installed (Debian: python3-selenium)"
+        )
+        for command, package in (("chromium", "chromium"), ("chromedriver", "chromium-driver")):
+            if shutil.which(command) is None:
+                pytest.skip(f"{command} isn't installed (Debian: {package})")
+        options = selenium.ChromeOptions()
+        options.binary_location = shutil.which("chromium")
+        for word in ("headless=new", "no-sandbox", "disable-gpu", "disable-dev-shm-usage", "hide-scrollbars"):
+            options.add_argument(f"--{word}")
+        options.add_argument(f"--user-data-dir={folder}")
+        options.set_capability("goog:loggingPrefs", {"browser": "ALL", "performance": "ALL"})
+        service = selenium.chrome.service.Service(shutil.which("chromedriver"))
+        self.driver = selenium.Chrome(options=options, service=service)
+
+    def open(self, page: Path, width: int = 1280, scheme: str = "light") -> None:
+        size = {"width": width, "height": 900, "deviceScaleFactor": 1, "mobile": False}
+        self.driver.execute_cdp_cmd("Emulation.setDeviceMetricsOverride", size)
+        features = [{"name": "prefers-color-scheme", "value": scheme}]
+        self.driver.execute_cdp_cmd("Emulation.setEmulatedMedia", {"features": features})
+        for log in ("browser", "performance"):
+            self.driver.get_log(log)
+        self.driver.get(page.as_uri())
+
+    def run(self, script: str, *values: object) -> Any:
+        return self.driver.execute_script(script, *values)
+
+    def console(self) -> list[str]:
+        """What the console has of errors, warnings and other messages."""
+        return [it["message"] for it in self.driver.get_log("browser")]
+
+    def requests(self) -> list[str]:
+        """The addresses that were asked for."""
+        events = [json.loads(it["message"])["message"] for it in self.driver.get_log("performance")]
+        sent = [it for it in events if it["method"] == "Network.requestWillBeSent"]
+        return [it["params"]["request"]["url"] for it in sent]
+
+    def picture(self, script: str = "return document.documentElement.scrollHeight") -> bytes:
+        """A screenshot of the whole page, as PNG."""
+        clip = {
+            "x": 0,
+            "y": 0,
+            "width": self.run("return innerWidth"),
+            "height": self.run(script),
+            "scale": 1,
+        }
+        words = {"captureBeyondViewport": True, "clip": clip}
+        return b64decode(self.driver.execute_cdp_cmd("Page.captureScreenshot", words)["data"])
+
+    def point(self, x: float, y: float, kind: str = "mouseMoved") -> None:
+        words = {
+            "type": kind,
+            "x": x,
+            "y": y,
+            "button": "none" if kind == "mouseMoved" else "left",
+            "clickCount": 1,
+        }
+        self.driver.execute_cdp_cmd("Input.dispatchMouseEvent", words)
+
+    def press(self, key: str) -> None:
+        self.driver.execute_cdp_cmd("Input.dispatchKeyEvent", {"type": "keyDown", "key": key})
+        self.driver.execute_cdp_cmd("Input.dispatchKeyEvent", {"type": "keyUp", "key": key})
+
+    def view(self) -> tuple[float, float]:
+        """The first cycle of the timeline that is seen, from the window's begin on, and how many are."""
+        left, _, span, _ = map(float, self.run(VIEW).split())
+        return left, span
+
+
+@pytest.fixture(scope="module")
+def browser(tmp_path_factory: pytest.TempPathFactory) -> Iterator[Browser]:
+    opened = Browser(tmp_path_factory.mktemp("chromium"))
+    yield opened
+    opened.driver.quit()
+
+
+@pytest.fixture(scope="module")
+def full_page(modelled_tool: Tool, tmp_path_factory: pytest.TempPathFactory) -> Path:
+    """A page with budgets that hold, are over and are unknown, with long and hostile names."""
+    folder = tmp_path_factory.mktemp("full")
+    budgets, out = folder / "budgets.toml", folder / "report.html"
+    section = '[[budget]]\nname = "pulse"\nthread = 1\nfrom = "main1"\nto = "main1+8"\ncycles = 70\n'
+    names = [json.dumps(HOSTILE), '"a_name_that_is_long_and_has_no_place_to_break_it_in_two"', '"over"']
+    tables = [STEP.format(name, most) for name, most in zip(names, (400, 123456789, 10))]
+    unknown = STEP.format('"unknown"', 400).replace('assume = ["no traps"]\n', "")
+    budgets.write_text("".join([*tables, section, unknown]))
+    ran = modelled_tool("fp_report", PID[0], budgets, *PID[2:], "--cycles", "4000", "-o", out)
+    assert ran.returncode == 2 and ran.stderr == "", ran.stdout + ran.stderr
+    return out
+
+
+@pytest.mark.parametrize("width", WIDTHS)
+@pytest.mark.parametrize("scheme", SCHEMES)
+@pytest.mark.parametrize("name", ["pid_page", "full_page"])
+def test_the_page_is_readable(
+    browser: Browser, request: pytest.FixtureRequest, tmp_path: Path, name: str, scheme: str, width: int
+) -> None:
+    """No message on the console, no request, nothing beside the screen, and enough contrast for each text."""
+    page: Path = request.getfixturevalue(name)
+    browser.open(page, width, scheme)
+    assert browser.console() == []
+    assert browser.run(OVERFLOW) == [width, width]
+    assert browser.run(BESIDE) == []
+    assert browser.run(CONTRAST) == []
+    assert {it for it in browser.requests() if not it.startswith("data:")} == {page.as_uri()}
+    dark = browser.run("return getComputedStyle(document.body).backgroundColor") == "rgb(18, 22, 27)"
+    assert dark == (scheme == "dark")
+    shot = browser.picture()
+    (tmp_path / "page.png").write_bytes(shot)
+    assert shot.startswith(b"\x89PNG") and int.from_bytes(shot[16:20], "big") == width and len(shot) > 50_000
+    assert int.from_bytes(shot[20:24], "big") > 2000
+
+
+def test_the_pointer_tells_instruction_effect_and_stage(browser: Browser, pid_page: Path) -> None:
+    """The issue of cycle 120 is in F then, in D in the next one, and so on; the rows are the threads."""
+    browser.open(pid_page)
+    browser.run("document.querySelector('.plot').scrollIntoView({block: 'center'})")
+    left, top, width, _ = browser.run(PLACE, ".cells")
+    heads = {
+        120: "Cycle 120, 1.2 µs; the slot is T0's, T0 issues.",
+        121: "Cycle 121, 1.21 µs; the slot is S's, T2 issues.",
+        122: "Cycle 122, 1.22 µs; the slot is T1's, nobody issues.",
+    }
+    for stage, cycle in zip("FDEMW", range(120, 125)):
+        browser.point(left + (cycle - 80 + 0.5) * width / browser.view()[1], top + 20 + 22)
+        text = " ".join(browser.run("return document.querySelector('.told').innerText").split())
+        assert text.startswith(f"{heads.get(cycle, 'Cycle')}") and "T0 in the five stages: F" in text
+        assert f"{stage} 0xb4 add a4, a2, a6 \u2192 x14=00001978 step_begin" in text
+    assert browser.console() == []
+
+
+def test_the_timeline_zooms_and_scrolls(browser: Browser, pid_page: Path) -> None:
+    browser.open(pid_page)
+    press = "document.querySelector(`[data-do=${arguments[0]}]`).click()"
+    assert browser.view() == (0, 160)
+    browser.run(press, "in")
+    assert browser.view()[1] == 100
+    for _ in range(20):
+        browser.run(press, "in")
+    assert browser.view()[1] == 12
+    assert browser.run("return document.querySelectorAll('.over text.in').length") > 0
+    browser.run(press, "all")
+    assert browser.view() == (0, 424)
+    browser.run(press, "right")
+    assert browser.view() == (0, 424)
+    browser.run("document.querySelector('.plot').focus()")
+    for key in ("+", "+", "ArrowRight"):
+        browser.press(key)
+    left, span = browser.view()
+    assert span == 424 / 1.6 / 1.6 and left > 0
+    scroll = "const it = document.querySelector('.scroll'); it.value = arguments[0]; it.dispatchEvent(new Event('input'))"
+    browser.run(scroll, 1000)
+    assert browser.view()[0] == pytest.approx(424 - span)
+    browser.run("document.querySelector('.plot').scrollIntoView({block: 'center'})")
+    left, top, width, _ = browser.run(PLACE, ".cells")
+    before = browser.view()[0]
+    browser.point(left + 300, top + 50, "mousePressed")
+    browser.point(left + 400, top + 50)
+    browser.point(left + 400, top + 50, "mouseReleased")
+    assert browser.view()[0] == pytest.approx(before - 100 * span / width, abs=0.01)
+    assert browser.console() == []
+
+
+def test_without_scripts_the_window_is_shown(pid_page: Path) -> None:
+    page = read(pid_page)
+    (cells,) = (it for tag, it in page.elements if it.get("class") == "cells")
+    assert cells["viewbox"] == "0 0 424 372"
+    issues = [it["d"] or "" for tag, it in page.elements if (it.get("class") or "").startswith("issue ")]
+    assert sum(path.count("M") for path in issues) == sum(len(row["gaps"]) for row in page.data["rows"])
+    assert [tag for tag, it in page.elements if "hidden" in it and tag in ("div", "input")] == [
+        "div",
+        "input",
+    ]
