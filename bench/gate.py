@@ -36,6 +36,8 @@ MODULES = {
     'elftools': 'python3-pyelftools',
     'jsonschema': 'python3-jsonschema',
     'networkx': 'python3-networkx',
+    'jinja2': 'python3-jinja2',
+    'selenium': 'python3-selenium',
 }
 """What the tests import beyond Python itself, and the Debian packages that have it."""
 
@@ -55,11 +57,13 @@ COMMANDS = {
     'riscv64-linux-gnu-objdump': 'binutils-riscv64-linux-gnu',
     'qemu-riscv32': 'qemu-user',
     'parallel': 'parallel',
+    'chromium': 'chromium',
+    'chromedriver': 'chromium-driver',
 }
 """What the tests call, and the Debian packages that have it."""
 
-OPTIONAL = {'xdist'}
-"""Only makes the tests quicker."""
+OPTIONAL = {'xdist', 'jinja2', 'selenium'}
+"""The tests run without these: slower without xdist, and without those of fp_report, which are skipped by name."""
 
 APT_SECONDS = 600
 """A call of apt-get that takes longer is ended."""

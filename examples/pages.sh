@@ -31,7 +31,17 @@ declare -A known
 readonly LONG='./flexpret-view turns examples/drive.toml --from 3000000000 --to 3000000060'
 
 try_command() {
-    [ "$1" = "$LONG" ] || as_shown "$1"
+    case $1 in
+    "$LONG") ;;
+    tools/fp_report*)
+        if python3 -c 'import jinja2' 2>/dev/null; then
+            as_shown "$1"
+        else
+            echo "not tried, since jinja2 isn't installed (Debian: python3-jinja2): $1"
+        fi
+        ;;
+    *) as_shown "$1" ;;
+    esac
 }
 
 # Runs a command of a page that is shown without its output, and compares the output with a file.

@@ -38,7 +38,7 @@ put_tools() {
     for file in "$tools"/fp* "$tools"/launch.bash "$tools"/*.schema.json; do
         [ -d "$file" ] || install -D -m "$([ -x "$file" ] && echo 755 || echo 644)" "$file" "$home/tools/${file##*/}"
     done
-    for file in "$tools"/fplaunch/*.py "$tools"/fptools/*.py; do
+    for file in "$tools"/fplaunch/*.py "$tools"/fptools/{,html/}*.py "$tools"/fptools/html/templates/*; do
         install -D -m 644 "$file" "$home/tools/${file#"$tools/"}"
     done
 }

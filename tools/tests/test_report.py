@@ -13,7 +13,7 @@ from pathlib import Path
 from typing import Any, Iterator
 
 import pytest
-from conftest import TOOLS, TOP, Tool, document
+from conftest import BUILT, TOOLS, TOP, Tool, document
 from modelled import HOLDS, held, program
 
 pytest.importorskip("jinja2", reason="jinja2 isn't installed (Debian: python3-jinja2)")
@@ -70,15 +70,16 @@ class Reader(HTMLParser):
 
 
 @pytest.fixture(scope="module")
-def modelled_tool(tmp_path_factory: pytest.TempPathFactory) -> Tool:
-    """Runs a tool at the top of the repository, with the model as the program."""
-    return Tool(TOP, str(program(tmp_path_factory.mktemp("model"))))
+def reporting(tmp_path_factory: pytest.TempPathFactory) -> Tool:
+    """Runs a tool at the top of the repository, with the program; without one, with the model in its place."""
+    built = os.environ.get("FLEXPRET") or str(BUILT)
+    return Tool(TOP, built if os.access(built, os.X_OK) else str(program(tmp_path_factory.mktemp("model"))))
 
 
 @pytest.fixture(scope="module")
-def pid_page(modelled_tool: Tool, tmp_path_factory: pytest.TempPathFactory) -> Path:
+def pid_page(reporting: Tool, tmp_path_factory: pytest.TempPathFactory) -> Path:
     out = tmp_path_factory.mktemp("page") / "report.html"
-    ran = modelled_tool("fp_report", *PID, *RUN, "-o", out)
+    ran = reporting("fp_report", *PID, *RUN, "-o", out)
     line = "holds    T0 a step of the controller: 352 of 400 cycles (3520 ns); the longest of 12 executions takes 344\n"
     assert (ran.returncode, ran.stdout, ran.stderr) == (0, line, "")
     return out
@@ -122,9 +123,9 @@ def test_the_words_are_those_of_the_assumptions() -> None:
     assert TESTED in plain
 
 
-def test_the_same_input_gives_the_same_bytes(modelled_tool: Tool, pid_page: Path, tmp_path: Path) -> None:
+def test_the_same_input_gives_the_same_bytes(reporting: Tool, pid_page: Path, tmp_path: Path) -> None:
     again = tmp_path / "again.html"
-    tool = Tool(TOP, modelled_tool.environment["FLEXPRET"])
+    tool = Tool(TOP, reporting.environment["FLEXPRET"])
     tool.environment["PYTHONHASHSEED"] = "1"
     assert tool("fp_report", *PID, *RUN, "-o", again).returncode == 0
     assert again.read_bytes() == pid_page.read_bytes()
@@ -149,16 +150,16 @@ def test_no_name_of_a_machine_is_on_the_page(pid_page: Path) -> None:
     assert str(TOP) not in text and os.uname().nodename not in text
 
 
-def test_the_built_program_gives_the_same_page(asking: Tool, pid_page: Path, tmp_path: Path) -> None:
+def test_the_model_gives_the_same_page(pid_page: Path, tmp_path: Path) -> None:
     out = tmp_path / "report.html"
-    assert asking("fp_report", *PID, *RUN, "-o", out).returncode == 0
+    assert Tool(TOP, str(program(tmp_path)))("fp_report", *PID, *RUN, "-o", out).returncode == 0
     assert out.read_bytes() == pid_page.read_bytes()
 
 
-def test_names_are_only_texts(modelled_tool: Tool, pid_page: Path, tmp_path: Path) -> None:
+def test_names_are_only_texts(reporting: Tool, pid_page: Path, tmp_path: Path) -> None:
     budgets, out = tmp_path / "<i>&budgets.toml", tmp_path / "report.html"
     budgets.write_text(STEP.format(json.dumps(HOSTILE), 400))
-    ran = modelled_tool("fp_report", PID[0], budgets, *PID[2:], *RUN, "--title", HOSTILE, "-o", out)
+    ran = reporting("fp_report", PID[0], budgets, *PID[2:], *RUN, "--title", HOSTILE, "-o", out)
     assert ran.returncode == 0, ran.stderr
     page, plain = read(out), read(pid_page)
     assert not page.open
@@ -167,14 +168,14 @@ def test_names_are_only_texts(modelled_tool: Tool, pid_page: Path, tmp_path: Pat
     assert page.text.count(HOSTILE) >= 4 and "<i>&budgets.toml" in page.text
 
 
-def test_the_timeline_has_the_traces(modelled_tool: Tool, pid_page: Path) -> None:
+def test_the_timeline_has_the_traces(reporting: Tool, pid_page: Path) -> None:
     """Each event of the window, with its cycle, word and effect, and nothing else."""
     data = read(pid_page).data
     start, end = data["start"], data["start"] + data["cycles"]
     assert (start, end, data["period"], data["frame"]) == (80, 504, 10, ["T0", "S", "T1", "S"])
     assert [row["thread"] for row in data["rows"]] == list(range(8))
     for row in data["rows"]:
-        run = [modelled_tool.environment["FLEXPRET"], "run", PID[0], "--thread", str(row["thread"])]
+        run = [reporting.environment["FLEXPRET"], "run", PID[0], "--thread", str(row["thread"])]
         trace = subprocess.run(
             [*run, "--cycles", "600"], cwd=TOP, capture_output=True, text=True, check=True
         ).stdout
@@ -190,13 +191,13 @@ def test_the_timeline_has_the_traces(modelled_tool: Tool, pid_page: Path) -> Non
         assert found == wanted
 
 
-def test_the_longest_execution_is_shown_by_source_line(modelled_tool: Tool, tmp_path: Path) -> None:
+def test_the_longest_execution_is_shown_by_source_line(reporting: Tool, tmp_path: Path) -> None:
     setup, budgets = held("taps16", tmp_path)
     out, elf = tmp_path / "report.html", HOLDS / "taps16.elf"
-    loops = modelled_tool("fp_loops", elf, "--from", "work_begin", "--to", "work_end", "--src", HOLDS).stdout
+    loops = reporting("fp_loops", elf, "--from", "work_begin", "--to", "work_end", "--src", HOLDS).stdout
     setup.write_text(setup.read_text() + loops)
     words = (setup, budgets, "--elf", elf, "--src", HOLDS, "--cycles", "5000", "-o", out)
-    ran = modelled_tool("fp_report", *words)
+    ran = reporting("fp_report", *words)
     assert ran.returncode == 0, ran.stdout + ran.stderr
     text = read(out).text
     assert "by source line:" in text
@@ -214,11 +215,11 @@ def test_the_longest_execution_is_shown_by_source_line(modelled_tool: Tool, tmp_
     ],
 )
 def test_a_budget_that_does_not_hold_has_its_reason(
-    modelled_tool: Tool, tmp_path: Path, most: int, more: str, status: int, word: str, text: str
+    reporting: Tool, tmp_path: Path, most: int, more: str, status: int, word: str, text: str
 ) -> None:
     budgets, out = tmp_path / "budgets.toml", tmp_path / "report.html"
     budgets.write_text(STEP.format('"it"', most) + more)
-    ran = modelled_tool("fp_report", PID[0], budgets, *PID[2:], *RUN, "-o", out)
+    ran = reporting("fp_report", PID[0], budgets, *PID[2:], *RUN, "-o", out)
     assert (ran.returncode, ran.stderr) == (status, "")
     page = read(out)
     assert word in page.text
@@ -248,7 +249,7 @@ def test_a_budget_that_does_not_hold_has_its_reason(
     ],
 )  # fmt: skip
 def test_what_is_refused_writes_nothing(
-    modelled_tool: Tool, tmp_path: Path, change: dict[str, str], said: str
+    reporting: Tool, tmp_path: Path, change: dict[str, str], said: str
 ) -> None:
     """One line, status 2, and the file that was there stays."""
     kept = tmp_path / "kept"
@@ -264,7 +265,7 @@ def test_what_is_refused_writes_nothing(
     words = ["--elf", change.get("elf", PID[3]), "--cycles", change.get("cycles", "10000"), "-o", str(out)]
     for option in {"window", "flexpret"} & change.keys():
         words += [f"--{option}", change[option]]
-    ran = modelled_tool("fp_report", files["setup"], files["budgets"], *words)
+    ran = reporting("fp_report", files["setup"], files["budgets"], *words)
     lines = ran.stderr.splitlines()
     assert (ran.returncode, ran.stdout) == (2, "")
     assert len(lines) == 1 and lines[0].startswith("fp_report: ") and said in lines[0], ran.stderr
@@ -288,17 +289,17 @@ def test_wrong_arguments_are_named(tool: Tool, tmp_path: Path, words: tuple[str,
     assert ran.returncode == 2 and said in ran.stderr and not list(tmp_path.iterdir())
 
 
-def test_an_output_that_can_not_take_the_page(modelled_tool: Tool) -> None:
-    ran = modelled_tool("fp_report", *PID, *RUN, "-o", "/dev/full")
+def test_an_output_that_can_not_take_the_page(reporting: Tool) -> None:
+    ran = reporting("fp_report", *PID, *RUN, "-o", "/dev/full")
     assert ran.returncode == 2
     assert ran.stderr == "fp_report: [Errno 28] No space left on device\n"
 
 
-def test_a_link_keeps_leading_to_the_page(modelled_tool: Tool, tmp_path: Path) -> None:
+def test_a_link_keeps_leading_to_the_page(reporting: Tool, tmp_path: Path) -> None:
     (tmp_path / "real").mkdir()
     link, real = tmp_path / "report.html", tmp_path / "real/report.html"
     link.symlink_to(real)
-    assert modelled_tool("fp_report", *PID, *RUN, "-o", link).returncode == 0
+    assert reporting("fp_report", *PID, *RUN, "-o", link).returncode == 0
     assert link.is_symlink() and real.read_text().startswith("<!doctype html>")
 
 
@@ -314,21 +315,21 @@ def test_without_jinja2_the_package_is_named(tmp_path: Path) -> None:
     assert "Traceback" not in ran.stderr
 
 
-def test_addresses_do_without_an_executable(modelled_tool: Tool, tmp_path: Path) -> None:
+def test_addresses_do_without_an_executable(reporting: Tool, tmp_path: Path) -> None:
     budgets, out = tmp_path / "budgets.toml", tmp_path / "report.html"
     budgets.write_text(
         '[[budget]]\nname = "a sum"\nthread = 0\nfrom = 0x10\nto = 0x3c\nns = 2000\nassume = ["loop tables"]\n'
     )
-    ran = modelled_tool("fp_report", "examples/sum.toml", budgets, "--cycles", "2000", "-o", out)
+    ran = reporting("fp_report", "examples/sum.toml", budgets, "--cycles", "2000", "-o", out)
     assert ran.returncode == 0, ran.stdout + ran.stderr
     text = read(out).text
     assert "0x10 to 0x3c" in text and "184 cycles 1.84 µs 184 cycles 1.84 µs 200 cycles 2 µs" in text
 
 
-def test_a_permit_hides_the_slots(modelled_tool: Tool, tmp_path: Path) -> None:
+def test_a_permit_hides_the_slots(reporting: Tool, tmp_path: Path) -> None:
     budgets, out = tmp_path / "budgets.toml", tmp_path / "report.html"
     budgets.write_text('[[budget]]\nname = "it"\nthread = 0\nfrom = 0\nto = 8\ncycles = 100\n')
-    ran = modelled_tool(
+    ran = reporting(
         "fp_report", "examples/slots.toml", budgets, "--cycles", "200", "--window", "0:60", "-o", out
     )
     assert ran.returncode in (0, 2) and ran.stderr == ""
@@ -337,9 +338,9 @@ def test_a_permit_hides_the_slots(modelled_tool: Tool, tmp_path: Path) -> None:
     assert "bounds hold while no instruction writes slots, modes or regions" in page.text
 
 
-def test_a_large_window_stays_below_five_megabytes(modelled_tool: Tool, tmp_path: Path) -> None:
+def test_a_large_window_stays_below_five_megabytes(reporting: Tool, tmp_path: Path) -> None:
     out = tmp_path / "report.html"
-    ran = modelled_tool("fp_report", *PID, "--cycles", "20000", "--window", "0:20000", "-o", out)
+    ran = reporting("fp_report", *PID, "--cycles", "20000", "--window", "0:20000", "-o", out)
     assert ran.returncode == 0, ran.stderr
     assert out.stat().st_size < 5_000_000
     assert sum(len(row["gaps"]) for row in read(out).data["rows"]) > 10_000
@@ -465,7 +466,7 @@ def browser(tmp_path_factory: pytest.TempPathFactory) -> Iterator[Browser]:
 
 
 @pytest.fixture(scope="module")
-def full_page(modelled_tool: Tool, tmp_path_factory: pytest.TempPathFactory) -> Path:
+def full_page(reporting: Tool, tmp_path_factory: pytest.TempPathFactory) -> Path:
     """A page with budgets that hold, are over and are unknown, with long and hostile names."""
     folder = tmp_path_factory.mktemp("full")
     budgets, out = folder / "budgets.toml", folder / "report.html"
@@ -474,7 +475,7 @@ def full_page(modelled_tool: Tool, tmp_path_factory: pytest.TempPathFactory) -> 
     tables = [STEP.format(name, most) for name, most in zip(names, (400, 123456789, 10))]
     unknown = STEP.format('"unknown"', 400).replace('assume = ["no traps"]\n', "")
     budgets.write_text("".join([*tables, section, unknown]))
-    ran = modelled_tool("fp_report", PID[0], budgets, *PID[2:], "--cycles", "4000", "-o", out)
+    ran = reporting("fp_report", PID[0], budgets, *PID[2:], "--cycles", "4000", "-o", out)
     assert ran.returncode == 2 and ran.stderr == "", ran.stdout + ran.stderr
     return out
 
