@@ -4,9 +4,14 @@
 t0_motor.c."""
 from __future__ import annotations
 
-import re
 import sys
 from collections.abc import Iterable, Iterator
+from pathlib import Path
+
+sys.path.insert(0, str(Path(__file__).resolve().parents[2] / "tools"))
+
+from fptools.trace import Event, read_trace  # noqa: E402
+from fptools.trace_blocks import BrokenTrace  # noqa: E402
 
 PORT = 0x4000_0000
 """The address of a thread's port."""
@@ -15,10 +20,6 @@ PERIOD = 10
 """Nanoseconds of a cycle, as in motor.toml."""
 
 SET_POINT = 16.0
-
-LINE = re.compile(r" *(\d+) [0-9a-f]{8} ([0-9a-f]{8}) (.*)")
-REGISTER = re.compile(r"x(\d\d)=([0-9a-f]{8})")
-STORE = re.compile(r"\[([0-9a-f]{8})\]/4=([0-9a-f]{8})")
 
 
 def fixed(word: int) -> float:
@@ -32,25 +33,25 @@ def is_port_load(word: int, registers: list[int]) -> bool:
     return word & 0x707F == 0x2003 and (registers[word >> 15 & 31] + offset) % (1 << 32) == PORT
 
 
-def samples(lines: Iterable[str]) -> Iterator[tuple[int, float, float]]:
+def samples(events: Iterable[Event]) -> Iterator[tuple[int, float, float]]:
     """The cycle of each store at the port, its value, and the value that was loaded last before it."""
     registers, speed = [0] * 32, 0.0
-    for line in lines:
-        if not (found := LINE.match(line)):
-            sys.exit(f"loop_trace.py: no line of a trace: {line.rstrip()}")
-        cycle, word, effect = int(found[1]), int(found[2], 16), found[3]
-        if write := REGISTER.match(effect):
-            if is_port_load(word, registers):
-                speed = fixed(int(write[2], 16))
-            registers[int(write[1])] = int(write[2], 16)
-        elif (store := STORE.match(effect)) and int(store[1], 16) == PORT:
-            yield cycle, fixed(int(store[2], 16)), speed
+    for event in events:
+        if event.register is not None and event.value is not None:
+            if is_port_load(event.bits, registers):
+                speed = fixed(event.value)
+            registers[event.register] = event.value
+        elif event.stored is not None and event.stored.address == PORT:
+            yield event.cycle, fixed(event.stored.value), speed
 
 
 def main() -> None:
     print("# ns set-point drive value")
-    for cycle, voltage, speed in samples(sys.stdin):
-        print(f"{cycle * PERIOD} {SET_POINT:.4f} {voltage:.4f} {speed:.4f}")
+    try:
+        for cycle, voltage, speed in samples(read_trace(sys.stdin.buffer, "standard input")):
+            print(f"{cycle * PERIOD} {SET_POINT:.4f} {voltage:.4f} {speed:.4f}")
+    except BrokenTrace as fault:
+        sys.exit(f"loop_trace.py: {fault}")
 
 
 if __name__ == "__main__":

@@ -4,15 +4,14 @@ from __future__ import annotations
 import json
 import os
 import re
-import shutil
 import subprocess
 import sys
-from base64 import b64decode
 from html.parser import HTMLParser
 from pathlib import Path
 from typing import Any, Iterator
 
 import pytest
+from chromium import Browser
 from conftest import BUILT, TOOLS, TOP, Tool, document
 from modelled import HOLDS, held, program
 
@@ -73,7 +72,9 @@ class Reader(HTMLParser):
 def reporting(tmp_path_factory: pytest.TempPathFactory) -> Tool:
     """Runs a tool at the top of the repository, with the program; without one, with the model in its place."""
     built = os.environ.get("FLEXPRET") or str(BUILT)
-    return Tool(TOP, built if os.access(built, os.X_OK) else str(program(tmp_path_factory.mktemp("model"))))
+    return Tool(
+        TOP, built if os.access(built, os.X_OK) else str(program(tmp_path_factory.mktemp("model")))
+    )
 
 
 @pytest.fixture(scope="module")
@@ -115,7 +116,9 @@ def test_what_is_proved_and_assumed_is_on_the_page(pid_page: Path) -> None:
 def test_the_words_are_those_of_the_assumptions() -> None:
     """Without marks, links and the names of pages."""
     page = re.sub(
-        r"[*`]|\[([^\]]*)\]\([^)]*\)", lambda it: it[1] or "", document("ASSUMPTIONS.md").read_text()
+        r"[*`]|\[([^\]]*)\]\([^)]*\)",
+        lambda it: it[1] or "",
+        document("ASSUMPTIONS.md").read_text(),
     )
     plain = " ".join(page.split())
     for first, second in (*PROVED, *CHECKS):
@@ -123,7 +126,9 @@ def test_the_words_are_those_of_the_assumptions() -> None:
     assert TESTED in plain
 
 
-def test_the_same_input_gives_the_same_bytes(reporting: Tool, pid_page: Path, tmp_path: Path) -> None:
+def test_the_same_input_gives_the_same_bytes(
+    reporting: Tool, pid_page: Path, tmp_path: Path
+) -> None:
     again = tmp_path / "again.html"
     tool = Tool(TOP, reporting.environment["FLEXPRET"])
     tool.environment["PYTHONHASHSEED"] = "1"
@@ -140,7 +145,9 @@ def test_the_page_needs_no_network(pid_page: Path) -> None:
     text = pid_page.read_text()
     assert "@import" not in text and not re.search(r"url\((?!#)", text)
     (policy,) = (
-        it["content"] for tag, it in page.elements if it.get("http-equiv") == "Content-Security-Policy"
+        it["content"]
+        for tag, it in page.elements
+        if it.get("http-equiv") == "Content-Security-Policy"
     )
     assert policy and policy.startswith("default-src 'none'; ") and "http" not in policy
 
@@ -194,7 +201,9 @@ def test_the_timeline_has_the_traces(reporting: Tool, pid_page: Path) -> None:
 def test_the_longest_execution_is_shown_by_source_line(reporting: Tool, tmp_path: Path) -> None:
     setup, budgets = held("taps16", tmp_path)
     out, elf = tmp_path / "report.html", HOLDS / "taps16.elf"
-    loops = reporting("fp_loops", elf, "--from", "work_begin", "--to", "work_end", "--src", HOLDS).stdout
+    loops = reporting(
+        "fp_loops", elf, "--from", "work_begin", "--to", "work_end", "--src", HOLDS
+    ).stdout
     setup.write_text(setup.read_text() + loops)
     words = (setup, budgets, "--elf", elf, "--src", HOLDS, "--cycles", "5000", "-o", out)
     ran = reporting("fp_report", *words)
@@ -202,7 +211,8 @@ def test_the_longest_execution_is_shown_by_source_line(reporting: Tool, tmp_path
     text = read(out).text
     assert "by source line:" in text
     assert re.search(
-        r"taps\.c:10 main0 for \(int i = 0; i < TAPS; i\+\+\) /\* @rounds 16 \*/ 132 33 33.3 %", text
+        r"taps\.c:10 main0 for \(int i = 0; i < TAPS; i\+\+\) /\* @rounds 16 \*/ 132 33 33.3 %",
+        text,
     )
     assert re.search(r"taps\.c:11 main0 sum \+= samples\[i\]; 256 64 64.6 %", text)
 
@@ -262,7 +272,14 @@ def test_what_is_refused_writes_nothing(
         if "=" in change[what] or "[" in change[what]:
             files[what] = str(tmp_path / f"{what}.toml")
             Path(files[what]).write_text(change[what])
-    words = ["--elf", change.get("elf", PID[3]), "--cycles", change.get("cycles", "10000"), "-o", str(out)]
+    words = [
+        "--elf",
+        change.get("elf", PID[3]),
+        "--cycles",
+        change.get("cycles", "10000"),
+        "-o",
+        str(out),
+    ]
     for option in {"window", "flexpret"} & change.keys():
         words += [f"--{option}", change[option]]
     ran = reporting("fp_report", files["setup"], files["budgets"], *words)
@@ -279,11 +296,16 @@ def test_what_is_refused_writes_nothing(
         (("--window", "5"), "argument --window: invalid window A:B value: '5'"),
         (("--window", "-1:5"), "argument --window: "),
         (("--cycles", "0"), "argument --cycles: invalid number of cycles value: '0'"),
-        (("--cycles", "4000000001"), "argument --cycles: invalid number of cycles value: '4000000001'"),
+        (
+            ("--cycles", "4000000001"),
+            "argument --cycles: invalid number of cycles value: '4000000001'",
+        ),
         ((), "the following arguments are required: -o"),
     ],
 )
-def test_wrong_arguments_are_named(tool: Tool, tmp_path: Path, words: tuple[str, ...], said: str) -> None:
+def test_wrong_arguments_are_named(
+    tool: Tool, tmp_path: Path, words: tuple[str, ...], said: str
+) -> None:
     out = ("-o", tmp_path / "report.html") if words else ()
     ran = tool("fp_report", *PID, *words, *out)
     assert ran.returncode == 2 and said in ran.stderr and not list(tmp_path.iterdir())
@@ -301,6 +323,26 @@ def test_a_link_keeps_leading_to_the_page(reporting: Tool, tmp_path: Path) -> No
     link.symlink_to(real)
     assert reporting("fp_report", *PID, *RUN, "-o", link).returncode == 0
     assert link.is_symlink() and real.read_text().startswith("<!doctype html>")
+
+
+def test_the_installed_tool_writes_the_same_page(
+    flexpret: str, pid_page: Path, tmp_path: Path
+) -> None:
+    if not Path(flexpret).read_bytes().startswith(b"\x7fELF"):
+        pytest.skip("install.sh takes no script in place of the program")
+    prefix, out = tmp_path / "prefix", tmp_path / "report.html"
+    environment = {**os.environ, "FLEXPRET": flexpret, "FLEXPRET_VIEW": "/none"}
+    subprocess.run([TOOLS / "install.sh", prefix], env=environment, capture_output=True, check=True)
+    installed = [
+        sys.executable,
+        str(prefix / "lib/rilluqar/tools/fp_report"),
+        *PID,
+        *RUN,
+        "-o",
+        str(out),
+    ]
+    subprocess.run(installed, cwd=TOP, env=environment, capture_output=True, check=True)
+    assert out.read_bytes() == pid_page.read_bytes()
 
 
 def test_without_jinja2_the_package_is_named(tmp_path: Path) -> None:
@@ -323,14 +365,43 @@ def test_addresses_do_without_an_executable(reporting: Tool, tmp_path: Path) -> 
     ran = reporting("fp_report", "examples/sum.toml", budgets, "--cycles", "2000", "-o", out)
     assert ran.returncode == 0, ran.stdout + ran.stderr
     text = read(out).text
-    assert "0x10 to 0x3c" in text and "184 cycles 1.84 µs 184 cycles 1.84 µs 200 cycles 2 µs" in text
+    assert (
+        "0x10 to 0x3c" in text and "184 cycles 1.84 µs 184 cycles 1.84 µs 200 cycles 2 µs" in text
+    )
+
+
+@pytest.mark.parametrize(
+    "window, sleep",
+    [
+        ("0:504", "M465 0H504"),  # T0 waits in cycle 464
+        ("460:1000", "M5 0H392"),  # and goes on in cycle 852
+        ("800:1000", "M0 0H52"),  # the wait is before the window
+    ],
+)
+def test_sleep_is_shown_from_the_wait_on(
+    reporting: Tool, tmp_path: Path, window: str, sleep: str
+) -> None:
+    out = tmp_path / "report.html"
+    assert reporting("fp_report", *PID, *RUN, "--window", window, "-o", out).returncode == 0
+    found = [
+        it["d"] for tag, it in read(out).elements if it.get("class") == "sleep" and tag == "path"
+    ]
+    assert found[0] == sleep
 
 
 def test_a_permit_hides_the_slots(reporting: Tool, tmp_path: Path) -> None:
     budgets, out = tmp_path / "budgets.toml", tmp_path / "report.html"
     budgets.write_text('[[budget]]\nname = "it"\nthread = 0\nfrom = 0\nto = 8\ncycles = 100\n')
     ran = reporting(
-        "fp_report", "examples/slots.toml", budgets, "--cycles", "200", "--window", "0:60", "-o", out
+        "fp_report",
+        "examples/slots.toml",
+        budgets,
+        "--cycles",
+        "200",
+        "--window",
+        "0:60",
+        "-o",
+        out,
     )
     assert ran.returncode in (0, 2) and ran.stderr == ""
     page = read(out)
@@ -347,115 +418,6 @@ def test_a_large_window_stays_below_five_megabytes(reporting: Tool, tmp_path: Pa
 
 
 WIDTHS, SCHEMES = (1280, 400), ("light", "dark")
-OVERFLOW = "return [document.documentElement.scrollWidth, window.innerWidth]"
-PLACE = "const it = document.querySelector(arguments[0]).getBoundingClientRect(); return [it.left, it.top, it.width, it.height]"
-BESIDE = """
-const found = [];
-for (const it of document.querySelectorAll('main *, header *, footer *')) {
-  if (!it.checkVisibility() || it.closest('svg, .plot, .hidden') || getComputedStyle(it).overflowX !== 'visible') continue;
-  const box = it.closest('section, header, footer').getBoundingClientRect(), own = it.getBoundingClientRect();
-  const isWide = own.right > box.right + 1 || own.left < box.left - 1;
-  const isFull = getComputedStyle(it).display !== 'inline' && it.scrollWidth > it.clientWidth + 1 && it.clientWidth > 0;
-  const marks = it.matches('.histogram, .bars, .mark, .tick, .limit') || it.querySelector(':scope > .mark');
-  if (isWide || isFull && !marks) found.push([it.tagName, it.className, it.scrollWidth, it.clientWidth, it.textContent.trim().slice(0, 40)]);
-}
-return found;
-"""
-VIEW = "return document.querySelector('.cells').getAttribute('viewBox')"
-CONTRAST = """
-const level = (text) => {
-  const parts = text.match(/[\\d.]+/g).slice(0, 3).map((it) => it / 255).map((it) => it <= .04045 ? it / 12.92 : ((it + .055) / 1.055) ** 2.4);
-  return .2126 * parts[0] + .7152 * parts[1] + .0722 * parts[2];
-};
-const ground = (it) => {
-  for (; it; it = it.parentElement) {
-    const color = getComputedStyle(it).backgroundColor;
-    if (!/, 0\\)$/.test(color)) return color;
-  }
-  return 'rgb(255, 255, 255)';
-};
-const found = [];
-for (const it of document.querySelectorAll('body *')) {
-  const says = [...it.childNodes].some((node) => node.nodeType === 3 && node.data.trim());
-  if (!says || it.closest('svg, script, noscript')) continue;
-  const [low, high] = [level(getComputedStyle(it).color), level(ground(it))].sort((a, b) => a - b);
-  if ((high + .05) / (low + .05) < 4.5) found.push(it.className + ': ' + it.textContent.trim().slice(0, 40));
-}
-return found;
-"""
-
-
-class Browser:
-    """Chromium without a window."""
-
-    def __init__(self, folder: Path) -> None:
-        selenium = pytest.importorskip(
-            "selenium.webdriver", reason="selenium isn't installed (Debian: python3-selenium)"
-        )
-        for command, package in (("chromium", "chromium"), ("chromedriver", "chromium-driver")):
-            if shutil.which(command) is None:
-                pytest.skip(f"{command} isn't installed (Debian: {package})")
-        options = selenium.ChromeOptions()
-        options.binary_location = shutil.which("chromium")
-        for word in ("headless=new", "no-sandbox", "disable-gpu", "disable-dev-shm-usage", "hide-scrollbars"):
-            options.add_argument(f"--{word}")
-        options.add_argument(f"--user-data-dir={folder}")
-        options.set_capability("goog:loggingPrefs", {"browser": "ALL", "performance": "ALL"})
-        service = selenium.chrome.service.Service(shutil.which("chromedriver"))
-        self.driver = selenium.Chrome(options=options, service=service)
-
-    def open(self, page: Path, width: int = 1280, scheme: str = "light") -> None:
-        size = {"width": width, "height": 900, "deviceScaleFactor": 1, "mobile": False}
-        self.driver.execute_cdp_cmd("Emulation.setDeviceMetricsOverride", size)
-        features = [{"name": "prefers-color-scheme", "value": scheme}]
-        self.driver.execute_cdp_cmd("Emulation.setEmulatedMedia", {"features": features})
-        for log in ("browser", "performance"):
-            self.driver.get_log(log)
-        self.driver.get(page.as_uri())
-
-    def run(self, script: str, *values: object) -> Any:
-        return self.driver.execute_script(script, *values)
-
-    def console(self) -> list[str]:
-        """What the console has of errors, warnings and other messages."""
-        return [it["message"] for it in self.driver.get_log("browser")]
-
-    def requests(self) -> list[str]:
-        """The addresses that were asked for."""
-        events = [json.loads(it["message"])["message"] for it in self.driver.get_log("performance")]
-        sent = [it for it in events if it["method"] == "Network.requestWillBeSent"]
-        return [it["params"]["request"]["url"] for it in sent]
-
-    def picture(self, script: str = "return document.documentElement.scrollHeight") -> bytes:
-        """A screenshot of the whole page, as PNG."""
-        clip = {
-            "x": 0,
-            "y": 0,
-            "width": self.run("return innerWidth"),
-            "height": self.run(script),
-            "scale": 1,
-        }
-        words = {"captureBeyondViewport": True, "clip": clip}
-        return b64decode(self.driver.execute_cdp_cmd("Page.captureScreenshot", words)["data"])
-
-    def point(self, x: float, y: float, kind: str = "mouseMoved") -> None:
-        words = {
-            "type": kind,
-            "x": x,
-            "y": y,
-            "button": "none" if kind == "mouseMoved" else "left",
-            "clickCount": 1,
-        }
-        self.driver.execute_cdp_cmd("Input.dispatchMouseEvent", words)
-
-    def press(self, key: str) -> None:
-        self.driver.execute_cdp_cmd("Input.dispatchKeyEvent", {"type": "keyDown", "key": key})
-        self.driver.execute_cdp_cmd("Input.dispatchKeyEvent", {"type": "keyUp", "key": key})
-
-    def view(self) -> tuple[float, float]:
-        """The first cycle of the timeline that is seen, from the window's begin on, and how many are."""
-        left, _, span, _ = map(float, self.run(VIEW).split())
-        return left, span
 
 
 @pytest.fixture(scope="module")
@@ -470,8 +432,14 @@ def full_page(reporting: Tool, tmp_path_factory: pytest.TempPathFactory) -> Path
     """A page with budgets that hold, are over and are unknown, with long and hostile names."""
     folder = tmp_path_factory.mktemp("full")
     budgets, out = folder / "budgets.toml", folder / "report.html"
-    section = '[[budget]]\nname = "pulse"\nthread = 1\nfrom = "main1"\nto = "main1+8"\ncycles = 70\n'
-    names = [json.dumps(HOSTILE), '"a_name_that_is_long_and_has_no_place_to_break_it_in_two"', '"over"']
+    section = (
+        '[[budget]]\nname = "pulse"\nthread = 1\nfrom = "main1"\nto = "main1+8"\ncycles = 70\n'
+    )
+    names = [
+        json.dumps(HOSTILE),
+        '"a_name_that_is_long_and_has_no_place_to_break_it_in_two"',
+        '"over"',
+    ]
     tables = [STEP.format(name, most) for name, most in zip(names, (400, 123456789, 10))]
     unknown = STEP.format('"unknown"', 400).replace('assume = ["no traps"]\n', "")
     budgets.write_text("".join([*tables, section, unknown]))
@@ -484,21 +452,32 @@ def full_page(reporting: Tool, tmp_path_factory: pytest.TempPathFactory) -> Path
 @pytest.mark.parametrize("scheme", SCHEMES)
 @pytest.mark.parametrize("name", ["pid_page", "full_page"])
 def test_the_page_is_readable(
-    browser: Browser, request: pytest.FixtureRequest, tmp_path: Path, name: str, scheme: str, width: int
+    browser: Browser,
+    request: pytest.FixtureRequest,
+    tmp_path: Path,
+    name: str,
+    scheme: str,
+    width: int,
 ) -> None:
     """No message on the console, no request, nothing beside the screen, and enough contrast for each text."""
     page: Path = request.getfixturevalue(name)
     browser.open(page, width, scheme)
     assert browser.console() == []
-    assert browser.run(OVERFLOW) == [width, width]
-    assert browser.run(BESIDE) == []
-    assert browser.run(CONTRAST) == []
+    assert browser.sizes() == [width, width]
+    assert browser.outside() == []
+    assert browser.faint() == []
     assert {it for it in browser.requests() if not it.startswith("data:")} == {page.as_uri()}
-    dark = browser.run("return getComputedStyle(document.body).backgroundColor") == "rgb(18, 22, 27)"
+    dark = (
+        browser.run("return getComputedStyle(document.body).backgroundColor") == "rgb(18, 22, 27)"
+    )
     assert dark == (scheme == "dark")
     shot = browser.picture()
     (tmp_path / "page.png").write_bytes(shot)
-    assert shot.startswith(b"\x89PNG") and int.from_bytes(shot[16:20], "big") == width and len(shot) > 50_000
+    assert (
+        shot.startswith(b"\x89PNG")
+        and int.from_bytes(shot[16:20], "big") == width
+        and len(shot) > 50_000
+    )
     assert int.from_bytes(shot[20:24], "big") > 2000
 
 
@@ -506,16 +485,18 @@ def test_the_pointer_tells_instruction_effect_and_stage(browser: Browser, pid_pa
     """The issue of cycle 120 is in F then, in D in the next one, and so on; the rows are the threads."""
     browser.open(pid_page)
     browser.run("document.querySelector('.plot').scrollIntoView({block: 'center'})")
-    left, top, width, _ = browser.run(PLACE, ".cells")
+    left, top, width, _ = browser.place(".cells")
     heads = {
-        120: "Cycle 120, 1.2 µs; the slot is T0's, T0 issues.",
-        121: "Cycle 121, 1.21 µs; the slot is S's, T2 issues.",
-        122: "Cycle 122, 1.22 µs; the slot is T1's, nobody issues.",
+        120: "Cycle 120, 1.2 µs; a slot of T0, T0 issues.",
+        121: "Cycle 121, 1.21 µs; a slot of soft threads, T2 issues.",
+        122: "Cycle 122, 1.22 µs; a slot of T1, nobody issues.",
     }
     for stage, cycle in zip("FDEMW", range(120, 125)):
         browser.point(left + (cycle - 80 + 0.5) * width / browser.view()[1], top + 20 + 22)
         text = " ".join(browser.run("return document.querySelector('.told').innerText").split())
-        assert text.startswith(f"{heads.get(cycle, 'Cycle')}") and "T0 in the five stages: F" in text
+        assert (
+            text.startswith(f"{heads.get(cycle, 'Cycle')}") and "T0 in the five stages: F" in text
+        )
         assert f"{stage} 0xb4 add a4, a2, a6 \u2192 x14=00001978 step_begin" in text
     assert browser.console() == []
 
@@ -539,11 +520,12 @@ def test_the_timeline_zooms_and_scrolls(browser: Browser, pid_page: Path) -> Non
         browser.press(key)
     left, span = browser.view()
     assert span == 424 / 1.6 / 1.6 and left > 0
-    scroll = "const it = document.querySelector('.scroll'); it.value = arguments[0]; it.dispatchEvent(new Event('input'))"
-    browser.run(scroll, 1000)
+    browser.run(
+        "const it = document.querySelector('.scroll'); it.value = 1000; it.dispatchEvent(new Event('input'))"
+    )
     assert browser.view()[0] == pytest.approx(424 - span)
     browser.run("document.querySelector('.plot').scrollIntoView({block: 'center'})")
-    left, top, width, _ = browser.run(PLACE, ".cells")
+    left, top, width, _ = browser.place(".cells")
     before = browser.view()[0]
     browser.point(left + 300, top + 50, "mousePressed")
     browser.point(left + 400, top + 50)
@@ -556,8 +538,12 @@ def test_without_scripts_the_window_is_shown(pid_page: Path) -> None:
     page = read(pid_page)
     (cells,) = (it for tag, it in page.elements if it.get("class") == "cells")
     assert cells["viewbox"] == "0 0 424 372"
-    issues = [it["d"] or "" for tag, it in page.elements if (it.get("class") or "").startswith("issue ")]
-    assert sum(path.count("M") for path in issues) == sum(len(row["gaps"]) for row in page.data["rows"])
+    issues = [
+        it["d"] or "" for tag, it in page.elements if (it.get("class") or "").startswith("issue ")
+    ]
+    assert sum(path.count("M") for path in issues) == sum(
+        len(row["gaps"]) for row in page.data["rows"]
+    )
     assert [tag for tag, it in page.elements if "hidden" in it and tag in ("div", "input")] == [
         "div",
         "input",

@@ -11,7 +11,7 @@ from fptools.program import Flexpret
 from fptools.setup import Setup
 from fptools.shown import Columns
 from fptools.trace import Event, event_of
-from fptools.trace_blocks import Block, Progress, TraceReader
+from fptools.trace_blocks import EFFECT, Block, Progress, TraceReader
 from fptools.turns import Turns, is_delay, turns_of
 from fptools.visits import first_try
 
@@ -38,6 +38,7 @@ class Issue:
 
     begin: int
     event: Event
+    is_awakening: bool  # the event before is a wait: the thread slept until now
 
 
 @dataclass(frozen=True)
@@ -67,8 +68,9 @@ def read_issues(
 
 
 def _issue(block: Block, index: int, turns: Turns | None) -> Issue:
-    event = event_of(block, index)
-    return Issue(first_try(block, index, turns) if is_delay(event.bits) else event.cycle, event)
+    event, before = event_of(block, index), block.line(index - 1)
+    begin = first_try(block, index, turns) if is_delay(event.bits) else event.cycle
+    return Issue(begin, event, before is not None and before[EFFECT] == b"wait")
 
 
 @dataclass

@@ -144,14 +144,20 @@ def _shades(window: Span, executions: Iterable[tuple[Span, str]]) -> Iterable[Sh
 
 def _row(thread: int, mode: str, issues: Sequence[Issue], window: Span, shades: list[Shade]) -> Row:
     paths: dict[str, list[str]] = defaultdict(list)
-    sleeps, everything = [], []
-    ends = [*(it.event.cycle for it in issues[1:]), window.end]
-    for it, end in zip(issues, ends):
-        at = it.event.cycle - window.start
-        cell = f"M{at} 0h.9"
-        everything.append(cell)
+    for it in issues:
+        cell = f"M{it.event.cycle - window.start} 0h.9"
+        paths["all"].append(cell)
         paths[kind_of(it.event)].append(cell)
-        if it.event.is_wait:
-            sleeps.append(f"M{at + 1} 0H{end - window.start}")
     kinds = [(kind, "".join(paths[kind])) for kind, _ in KINDS if kind in paths]
-    return Row(thread, mode, kinds, "".join(everything), "".join(sleeps), shades, len(issues))
+    sleeps = "".join(_sleeps(issues, window))
+    return Row(thread, mode, kinds, "".join(paths["all"]), sleeps, shades, len(issues))
+
+
+def _sleeps(issues: Sequence[Issue], window: Span) -> Iterable[str]:
+    """The cycles from behind a wait up to the next issue, as far as they are in the window."""
+    for it in issues:
+        if it.is_awakening:
+            asleep = max(0, it.event.cycle - it.event.gap + 1 - window.start)
+            yield f"M{asleep} 0H{it.event.cycle - window.start}"
+    if issues and issues[-1].event.is_wait:
+        yield f"M{issues[-1].event.cycle + 1 - window.start} 0H{window.cycles}"

@@ -110,7 +110,8 @@
   }
 
   function headline(row, cycle, at) {
-    const slot = data.frame.length ? `; the slot is ${data.frame[at % data.frame.length]}'s` : "";
+    const owner = data.frame.length ? data.frame[at % data.frame.length] : "";
+    const slot = owner === "S" ? "; a slot of soft threads" : owner ? `; a slot of ${owner}` : "";
     const who = issues.findIndex((issued) => issued.has(cycle));
     const issuer = who < 0 ? "nobody issues" : `T${data.rows[who].thread} issues`;
     const time = at * data.period;
