@@ -1,11 +1,13 @@
-"""The page of fp_report: what stands on it, what is refused, and that the same input gives the same bytes."""
+"""The page of fp_report: its content, what is refused, and how it works in a browser."""
 from __future__ import annotations
 
 import json
 import os
 import re
+import signal
 import subprocess
 import sys
+import time
 from html.parser import HTMLParser
 from pathlib import Path
 from typing import Any, Iterator
@@ -64,7 +66,7 @@ class Reader(HTMLParser):
 
     @property
     def data(self) -> Any:
-        """What the timeline's pointer tells."""
+        """The texts for the timeline's pointer."""
         return json.loads(self.scripts[0])
 
 
@@ -72,9 +74,7 @@ class Reader(HTMLParser):
 def reporting(tmp_path_factory: pytest.TempPathFactory) -> Tool:
     """Runs a tool at the top of the repository, with the program; without one, with the model in its place."""
     built = os.environ.get("FLEXPRET") or str(BUILT)
-    return Tool(
-        TOP, built if os.access(built, os.X_OK) else str(program(tmp_path_factory.mktemp("model")))
-    )
+    return Tool(TOP, built if os.access(built, os.X_OK) else str(program(tmp_path_factory.mktemp("model"))))
 
 
 @pytest.fixture(scope="module")
@@ -126,9 +126,7 @@ def test_the_words_are_those_of_the_assumptions() -> None:
     assert TESTED in plain
 
 
-def test_the_same_input_gives_the_same_bytes(
-    reporting: Tool, pid_page: Path, tmp_path: Path
-) -> None:
+def test_the_same_input_gives_the_same_bytes(reporting: Tool, pid_page: Path, tmp_path: Path) -> None:
     again = tmp_path / "again.html"
     tool = Tool(TOP, reporting.environment["FLEXPRET"])
     tool.environment["PYTHONHASHSEED"] = "1"
@@ -145,9 +143,7 @@ def test_the_page_needs_no_network(pid_page: Path) -> None:
     text = pid_page.read_text()
     assert "@import" not in text and not re.search(r"url\((?!#)", text)
     (policy,) = (
-        it["content"]
-        for tag, it in page.elements
-        if it.get("http-equiv") == "Content-Security-Policy"
+        it["content"] for tag, it in page.elements if it.get("http-equiv") == "Content-Security-Policy"
     )
     assert policy and policy.startswith("default-src 'none'; ") and "http" not in policy
 
@@ -201,9 +197,7 @@ def test_the_timeline_has_the_traces(reporting: Tool, pid_page: Path) -> None:
 def test_the_longest_execution_is_shown_by_source_line(reporting: Tool, tmp_path: Path) -> None:
     setup, budgets = held("taps16", tmp_path)
     out, elf = tmp_path / "report.html", HOLDS / "taps16.elf"
-    loops = reporting(
-        "fp_loops", elf, "--from", "work_begin", "--to", "work_end", "--src", HOLDS
-    ).stdout
+    loops = reporting("fp_loops", elf, "--from", "work_begin", "--to", "work_end", "--src", HOLDS).stdout
     setup.write_text(setup.read_text() + loops)
     words = (setup, budgets, "--elf", elf, "--src", HOLDS, "--cycles", "5000", "-o", out)
     ran = reporting("fp_report", *words)
@@ -251,7 +245,7 @@ def test_a_budget_that_does_not_hold_has_its_reason(
         ({"elf": "nowhere.elf"}, "nowhere.elf"),
         ({"out": "nowhere/report.html"}, "report.html can't be written: "),
         ({"out": "."}, " is a folder: it can't be written"),
-        ({"window": "9000:10001"}, "--window 9000:10001: the run has 10000 cycles; --cycles asks for more"),
+        ({"window": "9000:10001"}, "--window 9000:10001: the run has 10000 cycles, by --cycles"),
         ({"window": "40:40"}, "--window 40:40: its end isn't above its begin"),
         ({"cycles": "30000", "window": "0:20001"}, "--window 0:20001: 20001 cycles, of 20000 at most"),
         ({"flexpret": "/bin/false"}, "run examples/c/pid.toml --thread 0: status 1"),
@@ -303,9 +297,7 @@ def test_what_is_refused_writes_nothing(
         ((), "the following arguments are required: -o"),
     ],
 )
-def test_wrong_arguments_are_named(
-    tool: Tool, tmp_path: Path, words: tuple[str, ...], said: str
-) -> None:
+def test_wrong_arguments_are_named(tool: Tool, tmp_path: Path, words: tuple[str, ...], said: str) -> None:
     out = ("-o", tmp_path / "report.html") if words else ()
     ran = tool("fp_report", *PID, *words, *out)
     assert ran.returncode == 2 and said in ran.stderr and not list(tmp_path.iterdir())
@@ -317,6 +309,46 @@ def test_an_output_that_can_not_take_the_page(reporting: Tool) -> None:
     assert ran.stderr == "fp_report: [Errno 28] No space left on device\n"
 
 
+def test_a_broken_run_is_refused(reporting: Tool, tmp_path: Path) -> None:
+    """Bounds come from the program, and a line of its run is broken."""
+    out, fake = tmp_path / "report.html", tmp_path / "flexpret"
+    real = reporting.environment["FLEXPRET"]
+    fake.write_text(f'#!/bin/sh\n[ "$1" != run ] || exec echo x\nexec {real} "$@"\n')
+    fake.chmod(0o755)
+    ran = reporting("fp_report", *PID, *RUN, "--flexpret", fake, "-o", out)
+    assert (ran.returncode, ran.stdout, out.exists()) == (2, "", False)
+    assert ran.stderr == "fp_report: T0: line 1 is broken: it is no event of a trace: 'x'\n"
+
+
+def test_an_interrupt_leaves_nothing(reporting: Tool, tmp_path: Path) -> None:
+    """Of a run that would take minutes: one line, no file and no process."""
+    kept, begun, marking = tmp_path / "kept", tmp_path / "begun", tmp_path / "flexpret"
+    kept.mkdir()
+    real = reporting.environment["FLEXPRET"]
+    marking.write_text(f'#!/bin/sh\n[ "$1" != run ] || : > {begun}\nexec {real} "$@"\n')
+    marking.chmod(0o755)
+    words = [sys.executable, TOOLS / "fp_report", *PID, "--cycles", "4000000000", "-o", kept / "report.html"]
+    environment = {**os.environ, "FLEXPRET": str(marking)}
+    with subprocess.Popen(
+        list(map(str, words)),
+        cwd=TOP,
+        env=environment,
+        stderr=subprocess.PIPE,
+        text=True,
+        start_new_session=True,
+    ) as child:
+        for _ in range(600):
+            time.sleep(0.1)
+            if begun.exists():
+                break
+        child.send_signal(signal.SIGINT)
+        _, said = child.communicate(timeout=60)
+    assert child.returncode == 2 and not list(kept.iterdir())
+    assert re.fullmatch(r"fp_report: .*stopped.*\n", said), said
+    with pytest.raises(ProcessLookupError):
+        os.killpg(child.pid, 0)
+
+
 def test_a_link_keeps_leading_to_the_page(reporting: Tool, tmp_path: Path) -> None:
     (tmp_path / "real").mkdir()
     link, real = tmp_path / "report.html", tmp_path / "real/report.html"
@@ -325,9 +357,7 @@ def test_a_link_keeps_leading_to_the_page(reporting: Tool, tmp_path: Path) -> No
     assert link.is_symlink() and real.read_text().startswith("<!doctype html>")
 
 
-def test_the_installed_tool_writes_the_same_page(
-    flexpret: str, pid_page: Path, tmp_path: Path
-) -> None:
+def test_the_installed_tool_writes_the_same_page(flexpret: str, pid_page: Path, tmp_path: Path) -> None:
     if not Path(flexpret).read_bytes().startswith(b"\x7fELF"):
         pytest.skip("install.sh takes no script in place of the program")
     prefix, out = tmp_path / "prefix", tmp_path / "report.html"
@@ -365,9 +395,7 @@ def test_addresses_do_without_an_executable(reporting: Tool, tmp_path: Path) -> 
     ran = reporting("fp_report", "examples/sum.toml", budgets, "--cycles", "2000", "-o", out)
     assert ran.returncode == 0, ran.stdout + ran.stderr
     text = read(out).text
-    assert (
-        "0x10 to 0x3c" in text and "184 cycles 1.84 µs 184 cycles 1.84 µs 200 cycles 2 µs" in text
-    )
+    assert "0x10 to 0x3c" in text and "184 cycles 1.84 µs 184 cycles 1.84 µs 200 cycles 2 µs" in text
 
 
 @pytest.mark.parametrize(
@@ -378,14 +406,10 @@ def test_addresses_do_without_an_executable(reporting: Tool, tmp_path: Path) -> 
         ("800:1000", "M0 0H52"),  # the wait is before the window
     ],
 )
-def test_sleep_is_shown_from_the_wait_on(
-    reporting: Tool, tmp_path: Path, window: str, sleep: str
-) -> None:
+def test_sleep_is_shown_from_the_wait_on(reporting: Tool, tmp_path: Path, window: str, sleep: str) -> None:
     out = tmp_path / "report.html"
     assert reporting("fp_report", *PID, *RUN, "--window", window, "-o", out).returncode == 0
-    found = [
-        it["d"] for tag, it in read(out).elements if it.get("class") == "sleep" and tag == "path"
-    ]
+    found = [it["d"] for tag, it in read(out).elements if it.get("class") == "sleep" and tag == "path"]
     assert found[0] == sleep
 
 
@@ -432,9 +456,7 @@ def full_page(reporting: Tool, tmp_path_factory: pytest.TempPathFactory) -> Path
     """A page with budgets that hold, are over and are unknown, with long and hostile names."""
     folder = tmp_path_factory.mktemp("full")
     budgets, out = folder / "budgets.toml", folder / "report.html"
-    section = (
-        '[[budget]]\nname = "pulse"\nthread = 1\nfrom = "main1"\nto = "main1+8"\ncycles = 70\n'
-    )
+    section = '[[budget]]\nname = "pulse"\nthread = 1\nfrom = "main1"\nto = "main1+8"\ncycles = 70\n'
     names = [
         json.dumps(HOSTILE),
         '"a_name_that_is_long_and_has_no_place_to_break_it_in_two"',
@@ -459,7 +481,7 @@ def test_the_page_is_readable(
     scheme: str,
     width: int,
 ) -> None:
-    """No message on the console, no request, nothing beside the screen, and enough contrast for each text."""
+    """No message on the console, no request, nothing outside of the screen, and enough contrast for each text."""
     page: Path = request.getfixturevalue(name)
     browser.open(page, width, scheme)
     assert browser.console() == []
@@ -467,21 +489,15 @@ def test_the_page_is_readable(
     assert browser.outside() == []
     assert browser.faint() == []
     assert {it for it in browser.requests() if not it.startswith("data:")} == {page.as_uri()}
-    dark = (
-        browser.run("return getComputedStyle(document.body).backgroundColor") == "rgb(18, 22, 27)"
-    )
+    dark = browser.run("return getComputedStyle(document.body).backgroundColor") == "rgb(18, 22, 27)"
     assert dark == (scheme == "dark")
     shot = browser.picture()
     (tmp_path / "page.png").write_bytes(shot)
-    assert (
-        shot.startswith(b"\x89PNG")
-        and int.from_bytes(shot[16:20], "big") == width
-        and len(shot) > 50_000
-    )
+    assert shot.startswith(b"\x89PNG") and int.from_bytes(shot[16:20], "big") == width and len(shot) > 50_000
     assert int.from_bytes(shot[20:24], "big") > 2000
 
 
-def test_the_pointer_tells_instruction_effect_and_stage(browser: Browser, pid_page: Path) -> None:
+def test_the_pointer_shows_instruction_effect_and_stage(browser: Browser, pid_page: Path) -> None:
     """The issue of cycle 120 is in F then, in D in the next one, and so on; the rows are the threads."""
     browser.open(pid_page)
     browser.run("document.querySelector('.plot').scrollIntoView({block: 'center'})")
@@ -493,10 +509,8 @@ def test_the_pointer_tells_instruction_effect_and_stage(browser: Browser, pid_pa
     }
     for stage, cycle in zip("FDEMW", range(120, 125)):
         browser.point(left + (cycle - 80 + 0.5) * width / browser.view()[1], top + 20 + 22)
-        text = " ".join(browser.run("return document.querySelector('.told').innerText").split())
-        assert (
-            text.startswith(f"{heads.get(cycle, 'Cycle')}") and "T0 in the five stages: F" in text
-        )
+        text = " ".join(browser.run("return document.querySelector('.readout').innerText").split())
+        assert text.startswith(f"{heads.get(cycle, 'Cycle')}") and "T0 in the five stages: F" in text
         assert f"{stage} 0xb4 add a4, a2, a6 \u2192 x14=00001978 step_begin" in text
     assert browser.console() == []
 
@@ -538,12 +552,8 @@ def test_without_scripts_the_window_is_shown(pid_page: Path) -> None:
     page = read(pid_page)
     (cells,) = (it for tag, it in page.elements if it.get("class") == "cells")
     assert cells["viewbox"] == "0 0 424 372"
-    issues = [
-        it["d"] or "" for tag, it in page.elements if (it.get("class") or "").startswith("issue ")
-    ]
-    assert sum(path.count("M") for path in issues) == sum(
-        len(row["gaps"]) for row in page.data["rows"]
-    )
+    issues = [it["d"] or "" for tag, it in page.elements if (it.get("class") or "").startswith("issue ")]
+    assert sum(path.count("M") for path in issues) == sum(len(row["gaps"]) for row in page.data["rows"])
     assert [tag for tag, it in page.elements if "hidden" in it and tag in ("div", "input")] == [
         "div",
         "input",

@@ -1,4 +1,4 @@
-"""What a report has to tell: budgets with their bounds and runs, and the window of the timeline."""
+"""What a report shows: budgets with their bounds and runs, and the window of the timeline."""
 from __future__ import annotations
 
 import hashlib
@@ -49,7 +49,7 @@ class Finding:
 
 @dataclass(frozen=True)
 class Input:
-    """A file that the report is of, with the first digits of its SHA-256."""
+    """An input file, with the first digits of its SHA-256."""
 
     what: str
     name: str
@@ -58,7 +58,7 @@ class Input:
 
 @dataclass(frozen=True)
 class Findings:
-    """All that a report is of."""
+    """All that a report shows."""
 
     setup: Setup
     image: Mapping[int, int]
@@ -72,7 +72,7 @@ class Findings:
 
 @dataclass
 class Question:
-    """What a report is asked of: a run of so many cycles, and a window of it."""
+    """A setup with its program, the length of its run, and the window of the timeline."""
 
     flexpret: Flexpret
     setup: Setup
@@ -90,10 +90,12 @@ class Question:
             look_at_window(self.window, self.cycles)
 
     def findings(self, budgets: Sequence[Budget], files: Sequence[tuple[str, Path]]) -> Findings:
-        """Asks for bounds, runs the threads, and looks at their longest executions."""
+        """Gets the bounds, runs the threads, and reads their longest executions."""
         judge = Judge(self.flexpret, self.setup, self.image, self.program, self.sources)
         runs = Runs(self.flexpret, self.setup, self.image, self.program, self.cycles, name=NAME)
-        found = self._located(runs.observed([judge.judge(it) for it in budgets]))
+        compared = runs.observed([judge.judge(it) for it in budgets])
+        seen = observations_of(compared)
+        found = self._located(compared)
         self._columns.disassembler.learn(self.image)
         painter = Painter(self.flexpret, self.setup, self._columns, NAME)
         executions = [
@@ -103,7 +105,6 @@ class Question:
         ]
         timeline = painter.painted(self.window or chosen_window(found, self.cycles), executions)
         inputs = [Input(what, str(path), digest_of(path)) for what, path in files]
-        seen = observations_of(found)
         return Findings(
             self.setup, self.image, self.program, self.cycles, inputs, found, seen, timeline
         )
@@ -128,9 +129,12 @@ class Question:
         return found
 
 
-def observations_of(found: Sequence[Finding]) -> list[Observation]:
-    """The runs that the findings are of, by their threads."""
-    seen = {it.question.thread: it for one in found if (it := one.compared.observation)}
+def observations_of(compared: Sequence[Compared]) -> list[Observation]:
+    """The runs of the threads, in their order. Each has to be whole, and of this setup."""
+    seen = {it.question.thread: it for one in compared if (it := one.observation)}
+    for it in seen.values():
+        if it.broken or it.foreign:
+            raise NoReport(it.broken or it.foreign)
     return [seen[thread] for thread in sorted(seen, key=lambda thread: thread or 0)]
 
 
@@ -151,7 +155,7 @@ def look_at_window(window: Span, cycles: int) -> None:
     if window.cycles < 1:
         raise NoReport(f"{named}: its end isn't above its begin")
     if window.end > cycles:
-        raise NoReport(f"{named}: the run has {cycles} cycles; --cycles asks for more")
+        raise NoReport(f"{named}: the run has {cycles} cycles, by --cycles")
     if window.cycles > MOST_WINDOW:
         raise NoReport(f"{named}: {window.cycles} cycles, of {MOST_WINDOW} at most")
 

@@ -254,11 +254,10 @@ class Page:
 
     @property
     def remarks(self) -> list[str]:
-        """What else a run showed: that it broke something, or isn't of this setup."""
+        """That a run broke a loop's table or a bound."""
         text = Text(self.findings.program)
         found: list[str] = []
         for it in self.findings.observations:
-            found += [words for words in (it.foreign, it.broken) if words]
             # A budget that is over says so itself.
             found += [text.broken(it, one) for one in it.breaks if one.kind is not Kind.BUDGET]
         return found

@@ -49,7 +49,7 @@ class Row:
 
 @dataclass(frozen=True)
 class Timeline:
-    """A window with its rows, and what the pointer tells."""
+    """A window with its rows, and the texts for the pointer."""
 
     window: Span
     frame: list[str]  # the owners of the slots that repeat; empty where a thread may change them

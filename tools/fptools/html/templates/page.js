@@ -10,7 +10,7 @@
   const cells = section.querySelector(".cells");
   const over = section.querySelector(".over");
   const scroll = section.querySelector(".scroll");
-  const told = section.querySelector(".told");
+  const readout = section.querySelector(".readout");
   const rowHeight = Number(cells.dataset.row), strip = Number(cells.dataset.strip);
   const height = strip + rowHeight * data.rows.length;
   // Of each thread its issues by their cycles from the window's begin on: the numbers of word and effect.
@@ -88,7 +88,7 @@
     return found;
   }
 
-  function tell(row, cycle) {
+  function showCell(row, cycle) {
     pointed = [row, cycle];
     draw();
     const at = data.start + cycle, issued = issues[row], table = element("table");
@@ -106,7 +106,7 @@
       }
       table.append(line);
     });
-    told.replaceChildren(element("p", headline(row, cycle, at)), table);
+    readout.replaceChildren(element("p", headline(row, cycle, at)), table);
   }
 
   function headline(row, cycle, at) {
@@ -167,16 +167,16 @@
       return;
     }
     const cell = cellAt(event);
-    if (cell) tell(...cell);
+    if (cell) showCell(...cell);
   });
   plot.addEventListener("click", (event) => {
     const cell = cellAt(event);
-    if (cell) tell(...cell);
+    if (cell) showCell(...cell);
   });
   window.addEventListener("resize", () => show(left, span));
 
   section.querySelector(".controls").hidden = scroll.hidden = false;
   show(0, span);
   const first = issues.findIndex((issued) => issued.size);
-  if (first >= 0) tell(first, Math.min(data.cycles - 1, issues[first].keys().next().value + 2));
+  if (first >= 0) showCell(first, Math.min(data.cycles - 1, issues[first].keys().next().value + 2));
 })();
