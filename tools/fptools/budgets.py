@@ -63,14 +63,8 @@ class Unknown(Exception):
 
 
 def other_word(program: Program, image: Mapping[int, int]) -> str:
-    """The first word of an image that the executable has otherwise; empty where there is none."""
-    if program.path is None:
-        return ""
-    for pc in sorted({*image, *program.words}):
-        if program.words.get(pc, 0) != image.get(pc, 0):
-            text = f"the image isn't made of {program.path}: make it again by `elf`"
-            return f"{pc:#x} {program.name_of(pc)}".rstrip() + f": {text}"
-    return ""
+    """The first word of the image that the executable has otherwise; empty where there is none, or no executable."""
+    return program.other_word(image) if program.path else ""
 
 
 @dataclass

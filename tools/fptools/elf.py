@@ -6,7 +6,7 @@ from bisect import bisect_right
 from dataclasses import dataclass, field
 from functools import cached_property
 from pathlib import Path
-from typing import Any, Collection, Iterable, Iterator
+from typing import Any, Collection, Iterable, Iterator, Mapping
 
 from elftools.common.exceptions import DWARFError, ELFError
 from elftools.construct import ConstructError
@@ -114,6 +114,13 @@ class Program:
             return ""
         at, name = self.symbols[index]
         return name if at == address else f"{name}+{address - at:#x}"
+
+    def other_word(self, image: Mapping[int, int]) -> str:
+        """The first word that an image has otherwise, by its address and name; empty where there is none."""
+        for at in sorted({*image, *self.words}):
+            if self.words.get(at, 0) != image.get(at, 0):
+                return f"{at:#x} {self.name_of(at)}".rstrip()
+        return ""
 
     def address(self, text: str) -> int:
         """The address that a number, a symbol, or a symbol and a number after `+` stands for."""
