@@ -59,6 +59,7 @@ COMMANDS = {
     'parallel': 'parallel',
     'chromium': 'chromium',
     'chromedriver': 'chromium-driver',
+    'gdb-multiarch': 'gdb-multiarch',
 }
 """What the tests call, and the Debian packages that have it."""
 
@@ -146,6 +147,7 @@ def parts(jobs: int) -> list[Part]:
         Part('examples/pages.sh', ['examples/pages.sh']),
         Part('examples/c/try.sh', ['examples/c/try.sh'], commands=['make', 'riscv64-unknown-elf-gcc']),
         Part('examples/loop/try.sh', ['examples/loop/try.sh']),
+        Part('examples/c/debug.sh', ['examples/c/debug.sh'], commands=['make', 'riscv64-unknown-elf-gcc', 'gdb-multiarch']),
         Part('examples/device/try.sh', ['examples/device/try.sh', '--built']),
         Part('examples/sweep/try.sh', ['examples/sweep/try.sh'], commands=['parallel']),
     ]

@@ -73,8 +73,16 @@ class Connection:
             self._read()
 
     def send(self, data: bytes) -> None:
+        if self.acknowledges:
+            self._drop_impatience()
         self._last = framed(data)
         self._write(self._last)
+
+    def _drop_impatience(self) -> None:
+        """Drops what gdb has sent while it waited for an answer: it asks again after two seconds."""
+        while select.select([self._source], [], [], 0)[0]:
+            self._read()
+        del self._buffer[: len(self._buffer) - len(self._buffer.lstrip(b"+-"))]
 
     def wait_for(self, descriptor: int) -> None:
         """Returns when a descriptor can be read. Ctrl-C before that is an `Interrupted`, and the
@@ -124,10 +132,15 @@ class Connection:
                 self._buffer.clear()
             if end < 0 or len(self._buffer) < end + 3:
                 return None
-            inside, digits = bytes(self._buffer[1:end]), bytes(self._buffer[end + 1 : end + 3])
+            whole = bytes(self._buffer[: end + 3])
+            inside, digits = whole[1:end], whole[end + 1 :]
             del self._buffer[: end + 3]
             is_sound = _is_sum(digits, inside)
             if self.acknowledges:
                 self._write(b"+" if is_sound else b"-")
             if is_sound:
+                self._last = b""
+                # Of a packet that gdb has repeated since it had no answer yet, one is answered.
+                while self.acknowledges and self._buffer.lstrip(b"+-").startswith(whole):
+                    del self._buffer[: self._buffer.index(whole) + len(whole)]
                 return unescaped(inside)

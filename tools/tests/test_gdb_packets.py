@@ -86,6 +86,17 @@ def test_an_answer_is_repeated_if_gdb_asks(pipes: Pipes) -> None:
     assert pipes.written() == b"$OK#9a$OK#9a+"
 
 
+def test_a_packet_that_gdb_repeats_is_answered_once(pipes: Pipes) -> None:
+    """gdb sends it again, and `-`, when it has waited for two seconds."""
+    pipes.give(framed(b"?") + framed(b"?") + b"-" + framed(b"?") + b"-")
+    assert pipes.connection.receive() == b"?"
+    pipes.give(b"-")
+    pipes.connection.send(b"T05")
+    pipes.give(b"+" + framed(b"g"))
+    assert pipes.connection.receive() == b"g"
+    assert pipes.written() == b"+" + framed(b"T05") + b"+"
+
+
 def test_without_acknowledgements_none_are_written(pipes: Pipes) -> None:
     pipes.connection.acknowledges = False
     pipes.give(framed(b"g"))
