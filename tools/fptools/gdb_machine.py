@@ -87,6 +87,8 @@ class Machine:
         self.now = cycle
         self.pc(thread)
         self.states.at(cycle)
+        for each in range(THREADS):
+            self.wakes(each)
 
     def dump(self, cycles: int) -> Dump:
         """A dump; the last one is kept."""

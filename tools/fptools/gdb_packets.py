@@ -79,7 +79,7 @@ class Connection:
         self._write(self._last)
 
     def _drop_impatience(self) -> None:
-        """Drops what gdb has sent while it waited for an answer: it asks again after two seconds."""
+        """Drops what gdb has sent while it waited: after two seconds it asks again."""
         while select.select([self._source], [], [], 0)[0]:
             self._read()
         del self._buffer[: len(self._buffer) - len(self._buffer.lstrip(b"+-"))]

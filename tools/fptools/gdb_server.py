@@ -13,7 +13,7 @@ from fptools.gdb_monitor import Monitor
 from fptools.gdb_packets import MOST_BYTES, Connection, Interrupted
 from fptools.gdb_registers import REGISTERS, spelled, target_description
 from fptools.gdb_runs import RunFailed
-from fptools.gdb_stops import Access, Reason, Stop, Stops, Watch
+from fptools.gdb_stops import Access, Kind, Reason, Stop, Stops, Watch
 
 NAME = "fp_gdb"
 OK, NO_SUCH, UNKNOWN = b"OK", b"E01", b""
@@ -22,10 +22,12 @@ FEATURES = (
     f"PacketSize={MOST_BYTES:x};QStartNoAckMode+;qXfer:features:read+;qXfer:threads:read+"
     ";vContSupported+;swbreak+;hwbreak+;ReverseStep+;ReverseContinue+"
 )
+BREAKS = {"0": Kind.SOFTWARE, "1": Kind.HARDWARE}
 WATCHES = {"2": Access.WRITE, "3": Access.READ, "4": Access.EITHER}
 TRAP, INTERRUPT = 5, 2  # signals
 POINT = re.compile(r"[zZ]([0-4]),([0-9a-f]+),([0-9a-f]+)")
 TRANSFER = re.compile(r"qXfer:(features|threads):read:([^:]*):([0-9a-f]+),([0-9a-f]+)")
+HEXADECIMAL = re.compile("[0-9a-fA-F]{1,16}")
 ACTION = re.compile(r"([csr]|[CS][0-9a-f]{2})(?:([0-9a-f]+),([0-9a-f]+))?(?::(-?[0-9a-f]+))?")
 NUMBERS = tuple(f"{thread + 1:x}" for thread in range(THREADS))  # of gdb's threads
 ANY_THREAD = ("", "0", "-1")
@@ -147,14 +149,14 @@ class Server:
         return "".join(spelled(register, value) for register, value in values).encode()
 
     def _register(self, text: str) -> bytes:
-        number = int(text, 16)
+        number = _number(text)
         if number >= len(REGISTERS):
             return NO_SUCH
         register = REGISTERS[number]
         return spelled(register, self.machine.value(self.thread, register, number)).encode()
 
     def _memory(self, text: str) -> bytes:
-        address, size = (int(it, 16) for it in text.split(","))
+        address, size = (_number(it) for it in text.split(","))
         found = self.machine.memory(self.thread, address, min(size, MOST_BYTES // 2))
         return found.hex().encode() if found or not size else NO_SUCH
 
@@ -174,14 +176,15 @@ class Server:
         found = POINT.match(packet)
         if found is None:
             return UNKNOWN
-        address, size = int(found[2], 16), int(found[3], 16)
+        address, size = _number(found[2]), _number(found[3])
         if found[1] in WATCHES:
             watch = Watch(WATCHES[found[1]], address, size)
             (self.stops.watches.add if is_set else self.stops.watches.discard)(watch)
             return OK if self.machine.memory(self.thread, address, 1) or not is_set else NO_SUCH
         if is_set and address not in self.machine.code:
             return b"E.no code is at this address"
-        (self.stops.breakpoints.add if is_set else self.stops.breakpoints.discard)(address)
+        point = address, BREAKS[found[1]]
+        (self.stops.breakpoints.add if is_set else self.stops.breakpoints.discard)(point)
         return OK
 
     def _transfer(self, text: str) -> bytes:
@@ -192,7 +195,7 @@ class Server:
         if found[1] == "features" and found[2] != "target.xml":
             return b"E00"
         document = target_description() if found[1] == "features" else self._threads()
-        start, size = int(found[3], 16), int(found[4], 16)
+        start, size = _number(found[3]), _number(found[4])
         part = document[start : start + size]
         return (b"m" if start + size < len(document) else b"l") + part
 
@@ -220,7 +223,7 @@ class Server:
                 raise Wrong(action)
             if found[1][0] not in "cC":
                 thread = self.resumed if (found[4] or "") in ANY_THREAD else _thread(found[4])
-                return Resume(thread, *(int(it, 16) for it in (found[2], found[3]) if it))
+                return Resume(thread, *(_number(it) for it in (found[2], found[3]) if it))
         return Resume()
 
     def _forwards(self, resume: Resume) -> bytes:
@@ -269,7 +272,7 @@ class Server:
         reasons = {
             Reason.END: "replaylog:end;",
             Reason.BEGIN: "replaylog:begin;",
-            Reason.BREAK: "swbreak:;",
+            Reason.BREAK: f"{stop.kind.value}:;",
         }
         why = reasons.get(stop.reason, "")
         if stop.watch is not None:
@@ -277,9 +280,16 @@ class Server:
         return f"T{signal:02x}thread:{stop.thread + 1:x};{why}".encode()
 
 
+def _number(text: str) -> int:
+    """A number of a packet."""
+    if HEXADECIMAL.fullmatch(text) is None:
+        raise Wrong(text)
+    return int(text, 16)
+
+
 def _thread(text: str) -> int:
     """The thread of the machine by gdb's number."""
-    thread = int(text, 16) - 1
+    thread = _number(text) - 1
     if thread not in range(THREADS):
         raise Wrong(text)
     return thread

@@ -1,7 +1,8 @@
 """Breakpoints and watchpoints, and where a run next stops by them, forwards or backwards.
 
 Nothing is executed: a stop is looked for in the events of the run. A breakpoint stops before the
-issue at its address. A watchpoint stops behind the access, or, backwards, before it."""
+issue at its address. A watchpoint stops before the access, or, backwards, right behind it: gdb goes
+over the access by a step of its own, as on all RISC-V targets, and compares the values."""
 from __future__ import annotations
 
 from dataclasses import dataclass, field
@@ -25,12 +26,19 @@ WRITTEN, VALUE = slice(30, 32), slice(33, 41)  # of an effect `x05=0000002a` in 
 class Reason(Enum):
     """Why the machine stops. Of those in one place the first counts."""
 
-    WATCH = 0
-    BREAK = 1
+    BREAK = 0
+    WATCH = 1
     STEP = 2
     END = 3
     BEGIN = 4
     INTERRUPT = 5
+
+
+class Kind(Enum):
+    """How gdb has set a breakpoint, with its name in a stop reply. Here both are the same."""
+
+    SOFTWARE = "swbreak"
+    HARDWARE = "hwbreak"
 
 
 class Access(Enum):
@@ -66,6 +74,7 @@ class Stop:
     thread: int
     reason: Reason
     watch: Watch | None = None
+    kind: Kind = Kind.SOFTWARE  # of a breakpoint
 
 
 @dataclass(frozen=True)
@@ -86,7 +95,7 @@ class Stops:
     """The breakpoints and watchpoints of a machine."""
 
     machine: Machine
-    breakpoints: set[int] = field(default_factory=set)
+    breakpoints: set[tuple[int, Kind]] = field(default_factory=set)  # with their addresses
     watches: set[Watch] = field(default_factory=set)
 
     def forwards(self, step: int | None) -> Stop | None:
@@ -134,10 +143,10 @@ class Stops:
             yield from self._read(thread, span)
 
     def _breaks(self, thread: int, lines: bytes, is_forwards: bool) -> Iterator[Stop]:
-        for pc in self.breakpoints:
+        for pc, kind in self.breakpoints:
             start = _issue_at(lines, pc, is_forwards)
             if start >= 0:
-                yield Stop(int(lines[start : start + CYCLE.stop]), thread, Reason.BREAK)
+                yield Stop(int(lines[start : start + CYCLE.stop]), thread, Reason.BREAK, kind=kind)
 
     def _written(self, thread: int, lines: bytes, is_forwards: bool) -> Iterator[Stop]:
         """The stores of a thread to watched bytes."""
@@ -150,7 +159,7 @@ class Stops:
             if watch is not None:
                 start = found.start() - EFFECT.start
                 cycle = int(lines[start : start + CYCLE.stop])
-                yield Stop(cycle + is_forwards, thread, Reason.WATCH, watch)
+                yield Stop(cycle + (not is_forwards), thread, Reason.WATCH, watch)
 
     def _read(self, thread: int, span: Span) -> Iterator[Stop]:
         """The loads of a thread from watched bytes."""
@@ -162,7 +171,7 @@ class Stops:
         for cycle, address, size in _loads(lines, list(state.registers[thread])):
             watch = next((it for it in watches if it.takes(address, size, False)), None)
             if watch is not None and cycle >= span.start:
-                yield Stop(cycle + span.is_forwards, thread, Reason.WATCH, watch)
+                yield Stop(cycle + (not span.is_forwards), thread, Reason.WATCH, watch)
 
 
 def _nearest(lines: bytes, is_forwards: bool) -> bytes:
