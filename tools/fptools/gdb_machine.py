@@ -53,7 +53,7 @@ class Machine:
         self.setup, self.end = setup, cycles
         windows = -(-cycles // WINDOW) + AHEAD + 1
         self.runs = Runs(flexpret, setup.path, windows * WINDOW + RETIRES, waiter)
-        self.runs.start()
+        self.runs.start(setup.path, setup.image)
         self.code = {at: bits for at, bits in image.items() if at < DATA_START}
         self.history = History(self.runs, list(_may_run(setup)))
         self.states = States(self.runs, self.history)

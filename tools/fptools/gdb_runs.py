@@ -79,9 +79,12 @@ class Runs:
 
     def __init__(self, flexpret: Flexpret, setup: Path, most: int, waiter: Waiter) -> None:
         self.flexpret, self.setup, self.most, self.waiter = flexpret, setup, most, waiter
+        self._files: dict[Path, tuple[int, int, int]] = {}
 
-    def start(self) -> None:
-        """Has the program built, if it must be. What it refuses is a `RunFailed` with its words."""
+    def start(self, *files: Path) -> None:
+        """Has the program built, if it must be. A refusal is a `RunFailed` with its words.
+        The files have to stay as they are, since all calls are of one run."""
+        self._files = {path: _mark(path) for path in files}
         answer = self.flexpret.ask("dump", str(self.setup), "--cycles", "0")
         if answer.status != 0:
             raise RunFailed(f"{self.setup}: {answer.text or f'status {answer.status}'}")
@@ -103,7 +106,19 @@ class Runs:
             call.close()
 
     def _call(self, command: str, *options: str) -> Call:
+        for path, mark in self._files.items():
+            if _mark(path) != mark:
+                raise RunFailed(f"{path} has changed since the session began: connect again")
         return Call([self.flexpret.path, command, str(self.setup), *options], self.waiter)
+
+
+def _mark(path: Path) -> tuple[int, int, int]:
+    """What changes with a file; zeros where there is none."""
+    try:
+        found = path.stat()
+    except OSError:
+        return 0, 0, 0
+    return found.st_ino, found.st_size, found.st_mtime_ns
 
 
 def last_cycle(text: bytes) -> int:

@@ -250,17 +250,28 @@ class Server:
         if self.machine.goal is not None:
             search = partial(Stop, self.machine.goal, self.resumed, Reason.INTERRUPT)
             self.machine.goal = None
+        start = self.machine.now
         self.connection.is_running = True
         try:
-            stop = search() or Stop(end, self.resumed, at_end)
+            stop = self._found(search, at_end, end)
             # What takes long is done here, where gdb waits as long as it takes.
             self.machine.move(stop.cycle, stop.thread)
         except Interrupted:
-            stop = Stop(self.machine.now, self.resumed, Reason.INTERRUPT)
+            stop = Stop(start, self.resumed, Reason.INTERRUPT)
+        except RunFailed:
+            self.machine.now = start
+            raise
         finally:
             self.connection.is_running = False
         self._stand(stop)
         return self._reply(stop)
+
+    def _found(self, search: Callable[[], Stop | None], at_end: Reason, end: int) -> Stop:
+        """Where a search ends; after Ctrl-C, as far as it got."""
+        try:
+            return search() or Stop(end, self.resumed, at_end)
+        except Interrupted:
+            return Stop(self.machine.now, self.resumed, Reason.INTERRUPT)
 
     def _stand(self, stop: Stop) -> None:
         self.machine.now = stop.cycle

@@ -414,6 +414,42 @@ def test_ctrl_c_stops_a_long_run(flexpret: str, own: Path) -> None:
         assert cycle_of(client) >= 0 and client.registers(0)["sp"] == 0x2000_0800 - 16
 
 
+def test_ctrl_c_on_the_way_to_a_cycle_leaves_the_machine_where_it_was(
+    flexpret: str, own: Path
+) -> None:
+    with Client(flexpret, own, "--cycles", 3_000_000_000) as client:
+        client.go_to(100)
+        client.monitor("cycle 2900000000")
+        client.write(framed(b"vCont;c:-1"))
+        time.sleep(0.3)
+        client.write(b"\x03")
+        assert client.answer() == "T02thread:1;"
+        assert cycle_of(client) == 100
+
+
+def test_files_that_change_end_a_run(flexpret: str, own: Path) -> None:
+    with Client(flexpret, own) as client:
+        client.ask("vCont;s:1")
+        own.write_text(own.read_text() + "\n")
+        answer = client.go_to(9_000_000)
+        assert answer == f"E.{own} has changed since the session began: connect again"
+        assert client.registers(0)["cycle"] == 1
+
+
+def test_a_step_a_million_cycles_in_is_quick(flexpret: str) -> None:
+    with Client(flexpret, PID) as client:
+        client.go_to(1_000_000)
+        times = []
+        for step in ["vCont;s:1"] * 10 + ["bs"] * 10:
+            begun = time.monotonic()
+            client.ask(step)
+            client.ask("g")
+            client.memory(DATA_START, 64)
+            client.ask("qXfer:threads:read::0,1000")
+            times.append(time.monotonic() - begun)
+        assert sorted(times)[10] < 0.2, times
+
+
 def test_a_refusal_goes_to_gdb_and_to_standard_error(flexpret: str, tmp_path: Path) -> None:
     bad = tmp_path / "bad.toml"
     bad.write_text((TOP / PID).read_text().replace('"S", "T1"', '"X", "T1"'))
