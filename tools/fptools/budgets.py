@@ -63,8 +63,11 @@ class Unknown(Exception):
 
 
 def other_word(program: Program, image: Mapping[int, int]) -> str:
-    """The first word of the image that the executable has otherwise; empty where there is none, or no executable."""
-    return program.other_word(image) if program.path else ""
+    """The first word of an image that the executable has otherwise; empty where there is none."""
+    if program.path is None:
+        return ""
+    word = program.other_word(image)
+    return f"{word}: the image isn't made of {program.path}: make it again by `elf`" if word else ""
 
 
 @dataclass
