@@ -62,13 +62,13 @@ FAULT = "loop_cli: PLANTS has other lines than `THREAD body|motor STEPS` and `TH
 def test_a_list_that_is_refused(plants: str, tmp_path: Path) -> None:
     listed = tmp_path / "plants.txt"
     listed.write_text(plants)
-    words = [PROGRAM, "examples/loop/motor.toml", listed, "0", "100", "1000"]
+    words = [str(PROGRAM), "examples/loop/motor.toml", str(listed), "0", "100", "1000"]
     ran = subprocess.run(words, cwd=TOP, capture_output=True, text=True)
     assert (ran.returncode, ran.stdout, ran.stderr) == (2, "", FAULT)
 
 
 def test_a_thread_without_a_plant_has_the_inputs_of_its_setup(tmp_path: Path) -> None:
     (tmp_path / "none.txt").write_text("")
-    setup = ["examples/drive.toml", tmp_path / "none.txt", "0", "100", "77"]
+    setup = ["examples/drive.toml", str(tmp_path / "none.txt"), "0", "100", "77"]
     ran = subprocess.run([PROGRAM, *setup], cwd=TOP, capture_output=True)
     assert (ran.returncode, ran.stdout) == (0, (TOP / "examples/drive.trace").read_bytes())
