@@ -26,7 +26,7 @@ pub fn tokens(alloc: Global, line: &[u8]) -> Result<Tokens, LexNo>
     ensures rising { IfOk result (AreRising 0) }
     ensures few { IfOk result (λ ts. length ts ≤ 64) }
 {
-    Ok(Tokens::new(list_of(alloc, line)?))
+    Ok(Tokens::from_vec(list_of(alloc, line)?))
 }
 
 #[tactic(auto, unfolding(crate::specs::Tokens::tokens_of))]

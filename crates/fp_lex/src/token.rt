@@ -75,10 +75,17 @@ impl Model for Tokens {
 
 impl Tokens {
     /// The tokens of a list.
-    pub(crate) fn new(list: Vec<Token>) -> Tokens
+    pub fn from_vec(list: Vec<Token>) -> Tokens
         ensures { result ≡ list.items }
     {
         Tokens { list }
+    }
+
+    /// The list of the tokens.
+    pub fn into_vec(self) -> Vec<Token>
+        ensures { result.items ≡ self }
+    {
+        self.list
     }
 
     /// The tokens as a slice.

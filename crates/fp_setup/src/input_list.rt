@@ -43,6 +43,13 @@ impl Inputs {
         Inputs { items }
     }
 
+    /// The list of the words.
+    pub fn into_vec(self) -> Vec<Input>
+        ensures { result.items ≡ self }
+    {
+        self.items
+    }
+
     /// The words, in the order of their cycles.
     pub fn as_slice(&self) -> &[Input]
         ensures value { result.now ≡ self.now }

@@ -45,6 +45,13 @@ impl Loops {
         Loops { items }
     }
 
+    /// The list of the loops.
+    pub fn into_vec(self) -> Vec<LoopSetup>
+        ensures { result.items ≡ self }
+    {
+        self.items
+    }
+
     /// The loops, in the order of the file.
     pub fn as_slice(&self) -> &[LoopSetup]
         ensures value { result.now ≡ self.now }
