@@ -22,6 +22,7 @@ class Assumption(Enum):
     NO_CONFIGURATION_WRITES = "no configuration writes"
     REACHED = "reached"
     MOVED_WORK = "moved work"
+    SAME_SOURCES = "same sources"
 
 
 class Verdict(IntEnum):

@@ -11,7 +11,7 @@ from typing import Mapping
 from fptools.budget_files import Assumption, Budget, LoopFact, Result, Verdict
 from fptools.elf import Program, ProgramError
 from fptools.loops import StatedLoop, state_loops
-from fptools.moved import moved_word
+from fptools.moved import NotKnown, moved_word
 from fptools.program import Answer, Flexpret
 from fptools.returns import wrong_return
 from fptools.section import Exit, Loop, Section, WayOut, walk_all
@@ -113,7 +113,7 @@ class Judge:
             asked = self.asked(budget)
             bound = self._bound(asked)
         except (Unknown, ProgramError) as why:
-            return Result(budget, Verdict.UNKNOWN, str(why))
+            return self.unknown(budget, why)
         is_over = budget.cycles is not None and bound > budget.cycles
         time = bound * self.setup.values["period"]
         text = f"{bound} of {budget.cycles} cycles ({time} ns)"
@@ -127,6 +127,12 @@ class Judge:
             tuple(asked.loops),
             tuple(self.where(part.start) for part in asked.parts[1:]),
         )
+
+    def unknown(self, budget: Budget, why: Exception) -> Result:
+        """Why nothing can be said of a budget, and whether the sources are of another build."""
+        text, newer = str(why), self.newer_source
+        is_told = not newer or newer in text
+        return Result(budget, Verdict.UNKNOWN, text if is_told else f"{text}; {newer}")
 
     def asked(self, budget: Budget) -> Asked:
         """A budget with the code that it is of."""
@@ -148,7 +154,8 @@ class Judge:
         self._look_at_writes(asked)
         self._look_at_loops(asked)
         self._look_at_traps(asked, thread)
-        self._look_at_moved_work(asked)
+        self._look_at_moved_work(asked, thread)
+        self._look_at_sources(asked)
         if bound == 0:
             raise Unknown("a bound of 0: nothing of the section issues")
         return bound
@@ -348,25 +355,41 @@ class Judge:
             helps = f"if executions without a trap are meant: assume = [{Assumption.NO_TRAPS.value!r}]"
             raise Unknown(f"{note}: no bound counts a trap handler; {helps}")
 
-    def _look_at_moved_work(self, asked: Asked) -> None:
+    def _look_at_moved_work(self, asked: Asked, thread: ThreadCode) -> None:
         """Work between the marks of a section is done in it."""
         names = asked.budget.start, asked.budget.end
         if not isinstance(names[0], str) or not isinstance(names[1], str):
             return
-        if not self.program.all_lines:
-            asked.notes.append(
-                "without line tables (-g) nothing tells whether work was moved out of the section"
+        section, entry = asked.section, thread.entry
+        try:
+            moved = moved_word(section, self._code, self.program, self.sources, entry, (names[0], names[1]))
+        except NotKnown as why:
+            note = f"nothing tells whether work was moved out of the section: {why}"
+            helps = f"or assume = [{Assumption.MOVED_WORK.value!r}]"
+        else:
+            if moved is None:
+                return
+            place = "it comes of a line between the marks, and is done outside of the section"
+            note = f"{self.where(moved)}: {place}"
+            helps = (
+                "FP_KEEP(value) before the mark at the end keeps it in; "
+                f"if it isn't meant: assume = [{Assumption.MOVED_WORK.value!r}]"
             )
-            return
-        moved = moved_word(asked.section, self._code, self.program, self.sources, (names[0], names[1]))
-        if moved is None:
-            return
-        note = (
-            f"{self.where(moved)}: it comes of a line between the marks, and is done outside of the section"
-        )
         if not asked.assumes(Assumption.MOVED_WORK, note):
-            helps = "FP_KEEP(value) before the mark at the end keeps it in"
-            raise Unknown(f"{note}: {helps}; if it isn't meant: assume = [{Assumption.MOVED_WORK.value!r}]")
+            raise Unknown(f"{note}; {helps}")
+
+    def _look_at_sources(self, asked: Asked) -> None:
+        """Lines and comments are of the sources that the executable was built from."""
+        note = self.newer_source
+        if note and not asked.assumes(Assumption.SAME_SOURCES, note):
+            raise Unknown(f"{note}: build it again, or assume = [{Assumption.SAME_SOURCES.value!r}]")
+
+    @property
+    def newer_source(self) -> str:
+        """Which source that was looked at is newer than the executable; empty where none is."""
+        path = self.program.path
+        newer = self.sources.newer_than(path) if path else None
+        return f"{newer.name} is newer than {path.name}, so its lines may be others" if newer and path else ""
 
     def _ask(self, asked: Asked) -> Answer:
         budget, section = asked.budget, asked.section

@@ -52,6 +52,15 @@ class CText:
         end = lines[number] if number < len(lines) else len(self.code)
         return self.code[lines[number - 1] : end]
 
+    @cached_property
+    def depths(self) -> list[int]:
+        """In how many braces each line ends, by its number; 0 for the line before the first."""
+        depth, depths = 0, [0]
+        for line in self.code.split("\n"):
+            depth += line.count("{") - line.count("}")
+            depths.append(depth)
+        return depths
+
     def _number(self, at: int) -> int:
         return self.code.count("\n", 0, at) + 1
 

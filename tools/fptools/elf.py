@@ -73,6 +73,7 @@ class Program:
         self.words: dict[int, int] = {}
         self.functions: list[Function] = []
         self.symbols: list[tuple[int, str]] = []
+        self.is_compiled = False  # whether a part of it was compiled from C
         if path is None:
             return
         try:
@@ -99,6 +100,7 @@ class Program:
     def _take_symbols(self, table: SymbolTableSection) -> None:
         for symbol in table.iter_symbols():
             at, size, kind = symbol["st_value"], symbol["st_size"], symbol["st_info"]["type"]
+            self.is_compiled |= kind == "STT_FILE" and symbol.name.endswith((".c", ".cc", ".cpp"))
             is_label = kind == "STT_NOTYPE" and not symbol.name.startswith((".L", "$"))
             if symbol["st_shndx"] == "SHN_UNDEF" or not symbol.name or at >= CODE_END:
                 continue
@@ -161,12 +163,6 @@ class Program:
         return sorted(
             {line for _, line in self._lines if line is not None}, key=lambda it: (it.file, it.number)
         )
-
-    def call_line_of(self, address: int) -> Line | None:
-        """The line of an address in the function that was compiled: for the code of an inlined one, where it is called."""
-        inlined = [it for it in self._inlined if it.start <= address < it.end]
-        # An inlined function that is called in another lies in it: the widest is called in the function itself.
-        return max(inlined, key=lambda it: it.end - it.start).call if inlined else self.line_of(address)
 
     @cached_property
     def _inlined(self) -> list[Inlined]:

@@ -1,7 +1,8 @@
 """The loops of a section as tables for a setup, with bounds that the sources state.
 
 A round is an execution of the loop's body as its source has it. A loop of N rounds goes back at most N times. It goes
-back N - 1 times if its source has the body before the test, or if the code counts N rounds."""
+back N - 1 times if the code counts N rounds, or if its source has the body before the test and the code leaves it only
+where it goes back: else a round may be begun after the last whole one."""
 from __future__ import annotations
 
 import re
@@ -55,7 +56,9 @@ class StatedLoop:
         """How often it goes back, where the sources state one number of rounds that a setup takes."""
         if not self.rounds or not self.loop.is_interval:
             return None
-        is_less = self.is_body_first or self.counted == self.rounds
+        # A loop that is left elsewhere than where it goes back may do a part of its body once more.
+        is_left_last = self.is_body_first and self.loop.exits <= set(self.loop.backs)
+        is_less = is_left_last or self.counted == self.rounds
         bound = self.rounds - 1 if is_less else self.rounds
         return bound if bound <= MOST_BOUND else None
 

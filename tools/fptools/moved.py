@@ -2,6 +2,7 @@
 from __future__ import annotations
 
 import re
+from dataclasses import dataclass
 
 from fptools.elf import Line, Program
 from fptools.section import Section
@@ -9,33 +10,81 @@ from fptools.sources import Sources
 from fptools.thread import Code, reach
 from fptools.words import OPCODE_AUIPC, OPCODE_IMMEDIATE, OPCODE_LUI, Flow, Word
 
+# A mark in a line of its own.
+ALONE = re.compile(r"\s*FP_MARK\w*\s*\([^()]*\)\s*;?\s*")
+
+
+class NotKnown(Exception):
+    """Why nothing tells whether work was moved, and what helps."""
+
+
+@dataclass(frozen=True)
+class Marks:
+    """The source lines of the marks at a section's begin and end."""
+
+    begin: Line
+    end: Line
+
+    def are_around(self, line: Line) -> bool:
+        return line.file == self.begin.file and self.begin.number < line.number < self.end.number
+
 
 def moved_word(
-    section: Section, code: Code, program: Program, sources: Sources, names: tuple[str, str]
+    section: Section, code: Code, program: Program, sources: Sources, entry: int, names: tuple[str, str]
 ) -> int | None:
-    """The first word between the section's end and its next execution that was compiled from a line between its marks,
-    which are known by names. None where there is no such word, or no line tables or sources to know it by. A word that
-    gives a register a number is no work."""
-    begin, end = (_line_of_mark(program, sources, name) for name in names)
-    if begin is None or end is None or begin.file != end.file:
+    """The first word outside of a section that was compiled from a line between its marks, which are known by names.
+    Outside is between its end and its next execution; of a section that isn't executed again, also the code before it,
+    from the thread's entry on. A word that gives a register a number is no work. None where there is no such word.
+    Raises NotKnown."""
+    marks = _marks(section, program, sources, names)
+    if marks is None:
         return None
-    outside = reach(code, [section.end], [section.start])
-    for pc, word in sorted(outside.words.items()):
-        line = program.call_line_of(pc)
-        is_between = line is not None and line.file == begin.file and begin.number < line.number < end.number
+    starts = [section.end]
+    if not reach(code, starts).has(section.start):
+        starts.append(entry)
+    for pc, word in sorted(reach(code, starts, [section.start]).words.items()):
+        is_between = any(marks.are_around(line) for line in program.lines_of(pc))
         if is_between and not section.holds(pc) and not _is_number(code, word):
             return pc
     return None
+
+
+def _marks(section: Section, program: Program, sources: Sources, names: tuple[str, str]) -> Marks | None:
+    """The marks of a section; None where it was written in assembler, or ends at a function."""
+    if not program.is_compiled or any(it.start == section.end for it in program.functions):
+        return None
+    around = [program.line_of(section.start), program.line_of(section.end)]
+    if None in around:
+        raise NotKnown("the code has no line tables: compile with -g")
+    if all(line is not None and not sources.is_c(line.file) for line in around):
+        return None
+    begin, end = (_line_of_mark(program, sources, name) for name in names)
+    is_in_order = begin.file == end.file and begin.number < end.number
+    if not is_in_order or not sources.are_in_one_function(begin.file, begin.number, end.number):
+        raise NotKnown(f"the marks at {begin} and {end} aren't one after the other in one function")
+    return Marks(begin, end)
+
+
+def _line_of_mark(program: Program, sources: Sources, name: str) -> Line:
+    """The source line of a mark: the one line with FP_MARK and its name, of those that the executable has. A function's
+    name is a mark at its first line."""
+    function = next((it for it in program.functions if it.name == name), None)
+    line = program.line_of(function.start) if function else None
+    if line is not None:
+        return line
+    mark = re.compile(rf"\bFP_MARK\w*\s*\(\s*{re.escape(name)}\s*[,)]")
+    found = {line for line in program.all_lines if mark.search(sources.text(line))}
+    if len(found) != 1:
+        missing = sources.missing(program.all_lines)
+        helps = f"{missing} isn't found: --src" if missing and not found else "one alone has to"
+        raise NotKnown(f"{len(found) or 'no'} lines of the sources have FP_MARK({name}): {helps}")
+    (line,) = found
+    if not ALONE.fullmatch(sources.code_at(line)):
+        raise NotKnown(f"{line} has more than the mark {name}: write it in a line of its own")
+    return line
 
 
 def _is_number(code: Code, word: Word) -> bool:
     """Whether a word only gives a register a number, by itself or with the straight code before it."""
     is_plain = word.flow is Flow.NEXT and word.opcode in (OPCODE_LUI, OPCODE_AUIPC, OPCODE_IMMEDIATE)
     return is_plain and code.value_at(word.next, word.rd) is not None
-
-
-def _line_of_mark(program: Program, sources: Sources, name: str) -> Line | None:
-    """The source line of a mark: the one line with FP_MARK and its name, of those that the executable has."""
-    mark = re.compile(rf"\bFP_MARK\w*\s*\(\s*{re.escape(name)}\s*[,)]")
-    found = [line for line in program.all_lines if mark.search(sources.text(line))]
-    return found[0] if len(set(found)) == 1 else None

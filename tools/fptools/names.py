@@ -60,7 +60,7 @@ class Names:
         try:
             values["loop"] = self._tables(judge, budget)
         except (Unknown, ProgramError) as why:
-            return Result(budget, Verdict.UNKNOWN, str(why))
+            return judge.unknown(budget, why)
         path = self.folder / "own.toml"
         path.write_text(toml_of(values), encoding="utf-8")
         judge.setup = Setup(path, values, {})

@@ -1,7 +1,9 @@
 """The lines of sources, as compilers count them."""
 from __future__ import annotations
 
+from itertools import dropwhile
 from pathlib import Path
+from typing import Collection
 
 from fptools.ctext import KEYWORD, NAME, CText, LoopText, is_c
 from fptools.elf import Line
@@ -26,6 +28,30 @@ class Sources:
             self._lines[file] = self._text(file).split("\n")
         lines = self._lines[file]
         return lines[number - 1] if 0 < number <= len(lines) else ""
+
+    def code_at(self, line: Line) -> str:
+        """The text of a line of C without comments and texts."""
+        return self._code(line.file).line(line.number)
+
+    def is_c(self, file: Path) -> bool:
+        return is_c(file)
+
+    def are_in_one_function(self, file: Path, first: int, last: int) -> bool:
+        """Whether no function of a C source ends between two lines. It may begin at the first."""
+        depths = self._code(file).depths
+        between = depths[first:last] if last < len(depths) else [0]
+        return any(between) and all(dropwhile(lambda depth: depth == 0, between))
+
+    def missing(self, lines: Collection[Line]) -> str:
+        """The name of a C source of some lines that isn't found; empty where all are."""
+        files = sorted({line.file for line in lines if is_c(line.file)})
+        return next((str(file) for file in files if self._find(file) is None), "")
+
+    def newer_than(self, executable: Path) -> Path | None:
+        """A source that was looked at, and was written after an executable; None where there is none."""
+        made = executable.stat().st_mtime_ns
+        found = (self._find(file) for file in sorted(self._texts))
+        return next((it for it in found if it is not None and it.stat().st_mtime_ns > made), None)
 
     def loops_from(self, file: Path, number: int) -> list[LoopText]:
         """The loops of a C source that begin or end in a line."""

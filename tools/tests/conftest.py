@@ -38,6 +38,13 @@ _folder = tempfile.TemporaryDirectory(prefix="python3-")
 as_python3(Path(_folder.name))
 
 
+@pytest.fixture(scope="session", autouse=True)
+def built() -> None:
+    """The executables of the tests are newer than their sources, which a checkout leaves in any order."""
+    for executable in (TOOLS / "tests/data").rglob("*.elf"):
+        os.utime(executable)
+
+
 @pytest.fixture(scope="session")
 def flexpret() -> str:
     """The program that FLEXPRET names, or the built one; what asks it is skipped where there is none."""

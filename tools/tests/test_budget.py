@@ -16,12 +16,15 @@ from fptools.setup import read_setup
 
 PID = ("examples/c/pid.toml", "--elf", "examples/c/pid.elf")
 COMES_BACK = "0x50 on_trap+0x34: MRET goes on where a trap was; 0xc0 step_begin+0xc: an EE"
-NO_LINES = "without line tables (-g) nothing tells whether work was moved out of the section"
+NO_LINES = (
+    "assumes moved work: nothing tells whether work was moved out of the section: "
+    "the code has no line tables: compile with -g"
+)
 STEP_NOTE = (
     f"fp_budget: T0 step: assumes no traps: it is of executions without a trap ({COMES_BACK}); {NO_LINES}"
 )
 PLAIN_STEP = 'name = "step"\nthread = 0\nfrom = "step_begin"\nto = "step_end"\n'
-STEP = f'{PLAIN_STEP}assume = ["no traps"]\n'
+STEP = f'{PLAIN_STEP}assume = ["no traps", "moved work"]\n'
 CALLS = "calls = true goes through functions that are called by x1"
 ELSEWHERE = "lay the code out by fp_layout, or name the address in `exits` if it may end there"
 
@@ -125,7 +128,7 @@ def test_calls_of_functions(asking: Tool, tmp_path: Path, calling: tuple[str, ..
     # Three cycles for each call and return, one for each of three other words.
     assert judged(asking, tmp_path, calling, f"{table}calls = true\n") == (
         0,
-        ["holds    T0 it: 15 of 1000 cycles (150 ns)", f"fp_budget: T0 it: {NO_LINES}"],
+        ["holds    T0 it: 15 of 1000 cycles (150 ns)"],
     )
 
 

@@ -1,6 +1,7 @@
 """No budget "holds" where a run takes longer: sections of data/holds, their bounds, and their longest execution in a run."""
 from __future__ import annotations
 
+import os
 import subprocess
 from pathlib import Path
 
@@ -94,6 +95,18 @@ def test_a_loop_that_tests_before_its_body_goes_back_n_times(case: Case) -> None
     assert "the sources state 15 rounds, which is bound = 15; the setup's table has 14" in text
 
 
+@of("left_first")
+def test_a_loop_that_is_left_at_the_begin_of_its_body_goes_back_n_times(case: Case) -> None:
+    status, loops = case.loops("work_begin", "work_end")
+    assert (status, "bound = 15\n" in loops) == (0, True)
+    case.set_up(loops)
+    # The bound counts a part of a round more: one that is begun, and can't go back.
+    assert case.longest(2000) == 684
+    assert (case.judged(704)[0], case.judged(703)[0]) == (0, 1)
+    case.set_up(loops.replace("bound = 15", "bound = 14"))
+    assert case.judged(704)[0] == 2
+
+
 @of("one_head")
 def test_two_loops_with_one_head(case: Case) -> None:
     status, loops = case.loops("work_begin", "work_end")
@@ -132,6 +145,68 @@ def test_work_that_the_compiler_moves_behind_a_mark(case: Case) -> None:
     assert "(moved.c:9): it comes of a line between the marks, and is done outside of the section" in text
     assert "FP_KEEP" in text
     assert case.judged(40, 'assume = ["moved work"]\n')[0] == 0
+
+
+@of("marked")
+@pytest.mark.parametrize(
+    ("mark", "says"),
+    [
+        ("inlined", "(marked.c:11): it comes of a line between the marks, and is done outside of the section"),
+        ("once", "(marked.c:31): it comes of a line between the marks, and is done outside of the section"),
+        ("macro", "no lines of the sources have FP_MARK(macro_begin): one alone has to"),
+        ("line", "marked.c:38 has more than the mark line_begin: write it in a line of its own"),
+    ],
+)
+def test_marks_that_are_hard_to_find(case: Case, mark: str, says: str) -> None:
+    case.set_up()
+    start, end = f"{mark}_begin", f"{mark}_end"
+    assert case.longest(2000, start, end) <= 8
+    status, text = case.judged(40, start=start, end=end)
+    assert (status, says in text) == (2, True)
+    assert case.judged(40, 'assume = ["moved work"]\n', start, end)[0] == 0
+
+
+@of("marked")
+def test_marks_of_sources_that_are_elsewhere(case: Case) -> None:
+    case.set_up()
+    budgets = case.folder / "budgets.toml"
+    budgets.write_text(
+        '[[budget]]\nname = "it"\nthread = 0\nfrom = "once_begin"\nto = "once_end"\ncycles = 40\n'
+    )
+    ran = case.asking("fp_budget", case.setup, budgets, "--elf", case.elf, "--src", case.folder)
+    assert ran.returncode == 2
+    assert "no lines of the sources have FP_MARK(once_begin)" in ran.stdout
+    assert "isn't found: --src" in ran.stdout
+
+
+@of("moved_plain")
+def test_moved_work_without_line_tables(case: Case) -> None:
+    case.set_up()
+    status, text = case.judged(40)
+    assert status == 2
+    assert "nothing tells whether work was moved out of the section: the code has no line tables" in text
+    status, text = case.judged(40, 'assume = ["moved work"]\n')
+    assert (status, "assumes moved work: nothing tells" in text) == (0, True)
+
+
+@of("head_test")
+def test_a_source_that_is_newer_than_the_executable(case: Case) -> None:
+    elf, source = case.folder / "head_test.elf", case.folder / "head_test.c"
+    elf.write_bytes(case.elf.read_bytes())
+    source.write_bytes((HOLDS / "head_test.c").read_bytes())
+    case.set_up(case.loops("work_begin", "work_end", "--calls")[1])
+    ask = ("fp_budget", elf, "--setup", case.setup, "--thread", 0, "--src", case.folder)
+    section = ("--from-label", "work_begin", "--to-label", "work_end", "--cycles", 476)
+    made = elf.stat().st_mtime_ns
+    os.utime(source, ns=(made, made))
+    assert case.asking(*ask, *section).returncode == 0
+    os.utime(source, ns=(made + 1, made + 1))
+    ran = case.asking(*ask, *section)
+    assert ran.returncode == 2
+    assert "head_test.c is newer than head_test.elf, so its lines may be others: build it again" in ran.stdout
+    assert case.asking(*ask, *section, "--assume", "same sources").returncode == 0
+    ran = case.asking("fp_loops", elf, "--from", "sum_of", "--src", case.folder)
+    assert (ran.returncode, "head_test.c is newer than head_test.elf" in ran.stderr) == (1, True)
 
 
 @of("kept")

@@ -16,6 +16,7 @@ from fptools.words import Word
 HOLDS = TOOLS / "tests/data/holds"
 PID = ("examples/c/pid.elf", "--setup", "examples/c/pid.toml", "--thread", "0")
 STEP = ("--from-label", "step_begin", "--to-label", "step_end")
+ASSUMED = ("--assume", "no traps", "--assume", "moved work")
 
 
 class Named:
@@ -44,13 +45,13 @@ def named(asking: Tool, tmp_path: Path) -> Named:
 
 
 def test_a_section_with_its_loops(asking: Tool) -> None:
-    ran = asking("fp_budget", *PID, *STEP, "--assume", "no traps")
+    ran = asking("fp_budget", *PID, *STEP, *ASSUMED)
     assert (ran.returncode, ran.stdout) == (
         0,
         "bound    T0 step_begin to step_end: 352 cycles (3520 ns)\n"
         "         loop 0xf0 step_begin+0x3c: goes back 7 times: the code counts 8 rounds\n",
     )
-    ran = asking("fp_budget", *PID, *STEP, "--assume", "no traps", "--ns", "3519")
+    ran = asking("fp_budget", *PID, *STEP, *ASSUMED, "--ns", "3519")
     assert (ran.returncode, ran.stdout.splitlines()[0]) == (
         1,
         "OVER     T0 step_begin to step_end: 352 of 351 cycles (3520 ns)",

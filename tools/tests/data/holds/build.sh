@@ -30,6 +30,9 @@ built taps16 taps.c -Os -DTAPS=16
 built taps32 taps.c -Os -DTAPS=32
 built moved moved.c -Os '-DKEEP(value)='
 built kept moved.c -Os '-DKEEP(value)=FP_KEEP(value)'
+built left_first left_first.c -Os
+built moved_plain moved.c -Os -g0 '-DKEEP(value)='
+built marked marked.c -Os
 built expires expires.c -Os
 built emulates emulates.s
 built crossing crossing.s
