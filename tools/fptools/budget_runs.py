@@ -88,20 +88,23 @@ class Runs:
         return value if isinstance(value, int) else self.program.address(value)
 
     def _with_run(self, result: Result, observation: Observation, seen: Executions) -> Result:
-        longest, most = seen.longest, result.budget.cycles
-        if longest is None:
-            return replace(result, text=f"{result.text}; no execution in {self.cycles} cycles", executions=0)
-        result = replace(result, executions=seen.count, longest=longest.most)
-        if most is not None and longest.most > most:
+        slowest, most = seen.slowest, result.budget.cycles
+        if slowest is not None:
+            result = replace(result, executions=seen.count, longest=slowest[0])
+        if slowest is not None and most is not None and slowest[0] > most:
+            longest = seen.longest
             kinds = {id(seen.interrupted): " with a trap", id(seen.detours): " that leaves the section"}
-            text = f"an execution{kinds.get(id(longest), '')} takes {longest.most} of {most} cycles"
-            text += f", from cycle {longest.at} of a run; {result.text}"
+            kind = kinds.get(id(longest), "") if longest and longest.most == slowest[0] else " that goes on"
+            text = f"an execution{kind} takes {slowest[0]} of {most} cycles"
+            text += f", from cycle {slowest[1]} of a run; {result.text}"
             return replace(result, verdict=Verdict.OVER, text=text)
         broken = self._broken(observation, seen)
         if broken is not None:
             return replace(result, verdict=Verdict.UNKNOWN, text=f"{broken}; {result.text}")
+        if not seen.count or slowest is None:
+            return replace(result, text=f"{result.text}; no execution in {self.cycles} cycles", executions=0)
         return replace(
-            result, text=f"{result.text}; the longest of {seen.count} executions takes {longest.most}"
+            result, text=f"{result.text}; the longest of {seen.count} executions takes {slowest[0]}"
         )
 
     def _broken(self, observation: Observation, seen: Executions) -> str | None:

@@ -98,9 +98,9 @@ class Observation:
 
     def _broken_budgets(self) -> Iterator[Break]:
         for seen in self.executions:
-            longest, budget = seen.longest, seen.watched.budget
-            if longest is not None and budget is not None and longest.most > budget:
-                yield Break(Kind.BUDGET, seen.watched.name, longest.most, budget, longest.at, 1)
+            slowest, budget = seen.slowest, seen.watched.budget
+            if slowest is not None and budget is not None and slowest[0] > budget:
+                yield Break(Kind.BUDGET, seen.watched.name, slowest[0], budget, slowest[1], 1)
 
     def _broken_bounds(self) -> Iterator[Break]:
         """The visits above their bound in which no loop went back more often than its table says."""

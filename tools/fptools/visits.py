@@ -93,6 +93,7 @@ class Executions:
     left: Counter[int] = field(default_factory=Counter)  # to which addresses other than its ends
     given_up: int = 0  # executions that began again before they ended
     unfinished: tuple[int, int] | None = None  # the cycle in which the last one began, and its cycles so far
+    is_inside: bool = False  # whether that one was in the section at the end, and not in a trap handler
     over: list[tuple[int, int]] = field(default_factory=list)  # visits above the bound: cycle and cycles
 
     @property
@@ -104,6 +105,15 @@ class Executions:
         """The spread that has the longest execution, however it went."""
         seen = [it for it in (self.whole, self.interrupted, self.detours) if it.count]
         return max(seen, key=lambda spread: spread.most) if seen else None
+
+    @property
+    def slowest(self) -> tuple[int, int] | None:
+        """The cycles of the longest execution, however it went, also of one that goes on; and its first cycle."""
+        longest = self.longest
+        seen = [(longest.most, longest.at)] if longest else []
+        if self.unfinished and self.is_inside:
+            seen.append((self.unfinished[1], self.unfinished[0]))
+        return max(seen, default=None)
 
     def met(self, cycle: int, cycles: int) -> None:
         """Compares a visit, as the bound speaks of them, with the bound."""
@@ -234,6 +244,7 @@ class SectionMeter:
             return
         so_far = cycle - self._started
         self.seen.unfinished = self._started, so_far
+        self.seen.is_inside = self._where is _Where.INSIDE
         if self._is_clean:
             self.seen.met(self._started, so_far)
 
@@ -502,6 +513,7 @@ class CallMeter:
         for call in self._stack:
             if call.callee in self.seen:
                 self.seen[call.callee].unfinished = call.cycle, cycle - call.cycle
+                self.seen[call.callee].is_inside = call.traps == self._traps
 
     def _take_jump(self, block: Block, index: int) -> None:
         line = self._jump if index < 0 else block.lines[index]

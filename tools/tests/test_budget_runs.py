@@ -13,6 +13,7 @@ HOLDS = TOOLS / "tests/data/holds"
 OWNERS = ["T0", "T1", "T2", "T3", "T4", "T5", "T6"]
 ODD_THEN_EVEN = "[[0, 1], [400, 0], [1500, 1], [2600, 0]]"
 LOOP = "[[loop]]\nhead = {}\nlast = {}\nbound = {}\n"
+ONE_HEAD_LOOP = LOOP.format("0x3c", "0x58", 7)
 
 
 class Case:
@@ -67,23 +68,22 @@ def test_traps_that_come_back(tool: Tool, folder: Path, name: str, most: int) ->
 
 
 def test_two_loops_with_one_head(tool: Tool, folder: Path) -> None:
-    found = subprocess.run(
-        [TOOLS / "fp_loops", HOLDS / "one_head.elf", "--from", "work_begin", "--to", "work_end", "--src", HOLDS],
-        capture_output=True, text=True, check=False,
-    ).stdout  # fmt: skip
-    loops = (
-        found.split("\n\n")[0].split("#")[0]
-        + "\n"
-        + "\n".join(found.split("\n")[1:4]).replace("?", "7")
-        + "\n"
-    )
-    case = Case(tool, folder, "one_head", ODD_THEN_EVEN, loops)
+    case = Case(tool, folder, "one_head", ODD_THEN_EVEN, ONE_HEAD_LOOP)
     status, text = case.judged(500, 9000, 'assume = ["loop tables"]\n')
     assert status == 1
     assert text.startswith("OVER     T0 it: an execution takes ")
     status, text = case.judged(5000, 9000, 'assume = ["loop tables"]\n')
     assert status == 2
     assert "its table says 7" in text
+
+
+def test_an_execution_that_does_not_end(tool: Tool, folder: Path) -> None:
+    case = Case(tool, folder, "one_head", "[[0, 1]]", ONE_HEAD_LOOP)
+    status, text = case.judged(500, 9000, 'assume = ["loop tables"]\n')
+    assert status == 1
+    assert text.startswith("OVER     T0 it: an execution that goes on takes 8")
+    status, text = case.judged(10000, 9000, 'assume = ["loop tables"]\n')
+    assert (status, "its table says 7" in text) == (2, True)
 
 
 def test_a_section_that_never_runs(tool: Tool, folder: Path) -> None:

@@ -77,6 +77,10 @@ def test_budgets_and_names_of_an_executable(tool: Tool, tmp_path: Path) -> None:
     tight.write_text((TOP / "examples/c/budgets.toml").read_text().replace("4000", "3430"))
     lines = shown(tool, *words, "--budgets", tight, status=1)
     assert lines[-1] == "OVER T0 a step of the controller: 344 of 343 cycles, from cycle 120"
+    tight.write_text((TOP / "examples/c/budgets.toml").read_text().replace("4000", "2000"))
+    lines = shown(tool, *words, "--budgets", tight, "--to", "400", status=1)
+    assert "one began in cycle 120 and hadn't ended 276 cycles later" in lines
+    assert lines[-1] == "OVER T0 a step of the controller: 276 of 200 cycles, from cycle 120"
 
 
 def test_a_table_that_a_run_breaks(tool: Tool, tmp_path: Path) -> None:
