@@ -160,7 +160,10 @@ RANGE_END = re.compile(r"\.L(BE|FE|BBE)\d*$")
 
 SWITCH = ": -fno-jump-tables avoids it for a switch; a computed goto has no bound"
 PARTS = "-fno-reorder-blocks-and-partition keeps it in one section"
-SIBLING = "another function returns for it: -fno-optimize-sibling-calls keeps a last call a call"
+SIBLING = (
+    "another function returns for it: -fno-optimize-sibling-calls keeps a last call a call, -fno-ipa-icf a function "
+    "apart from another of the same code"
+)
 
 
 class Reader:

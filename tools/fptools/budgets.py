@@ -34,8 +34,8 @@ HELP = {
     "UnboundedBackEdge": "no [[loop]] of the setup states this loop: write the table that fp_loops gives",
     "Overlap": "this function has words of the section",
     "Recursion": "its calls lead back to it: rewrite it as a loop",
-    "Escape": "it leaves its function other than by `ret`: a tail call (-fno-optimize-sibling-calls), or a part "
-    "of the function elsewhere (-fno-reorder-blocks-and-partition)",
+    "Escape": "it leaves its function other than by `ret`: a tail call (-fno-optimize-sibling-calls), another "
+    "function of the same code (-fno-ipa-icf), or a part of it elsewhere (-fno-reorder-blocks-and-partition)",
     "NotHard": "the thread doesn't start hard and awake",
     "NoSlot": "no slot is the thread's own",
 }

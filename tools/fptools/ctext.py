@@ -61,6 +61,15 @@ class CText:
             depths.append(depth)
         return depths
 
+    def end_of_function(self, first: int) -> int:
+        """The last line of the function that begins in a line."""
+        depths, number = self.depths, first
+        while number < len(depths) and depths[number] == 0 and "}" not in self.line(number):
+            number += 1
+        while number < len(depths) and depths[number] != 0:
+            number += 1
+        return number
+
     def _number(self, at: int) -> int:
         return self.code.count("\n", 0, at) + 1
 

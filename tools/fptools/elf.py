@@ -61,6 +61,14 @@ class Inlined:
     call: Line
 
 
+@dataclass(frozen=True)
+class Declared:
+    """A function of a source, and the line that names it."""
+
+    name: str
+    line: Line
+
+
 # From which address on a line counts, or none.
 Row = tuple[int, Line | None]
 
@@ -165,8 +173,8 @@ class Program:
         )
 
     @cached_property
-    def _inlined(self) -> list[Inlined]:
-        """The functions that the compiler put in place of calls."""
+    def _units(self) -> list[tuple[list[Inlined], list[Declared]]]:
+        """What the compiler put in place of calls, and the functions without code of their own, unit by unit."""
         if self.path is None:
             return []
         with self.path.open("rb") as file:
@@ -175,9 +183,20 @@ class Program:
                 return []
             try:
                 dwarf = elf.get_dwarf_info()
-                return [it for unit in dwarf.iter_CUs() for it in _inlined_of(dwarf, unit)]
+                units = list(dwarf.iter_CUs())
+                return [([*_inlined_of(dwarf, it)], [*_without_code_of(dwarf, it)]) for it in units]
             except (ELFError, DWARFError, *FAULTS):
                 return []  # a form of DWARF that isn't known: each address has its own line
+
+    @cached_property
+    def _inlined(self) -> list[Inlined]:
+        return [it for inlined, _ in self._units for it in inlined]
+
+    @property
+    def without_code(self) -> list[Declared]:
+        """The functions of the sources that have neither code of their own nor are inlined. Calls of them go elsewhere:
+        the compiler has folded them with others of the same code."""
+        return [it for _, declared in self._units for it in declared]
 
     @cached_property
     def _lines(self) -> list[Row]:
@@ -232,6 +251,21 @@ def _rows_of(dwarf: Any, unit: Any) -> Iterator[Row]:
             continue
         line = Line(_file_of(table, state.file, base), state.line, state.column)
         yield state.address, None if state.end_sequence else line
+
+
+def _without_code_of(dwarf: Any, unit: Any) -> Iterator[Declared]:
+    """The functions of a unit that are defined, but have no addresses, and of which no copy was made."""
+    table = dwarf.line_program_for_CU(unit)
+    top = unit.get_top_DIE()
+    folder = top.attributes.get("DW_AT_comp_dir")
+    base = Path(folder.value.decode()) if folder else Path()
+    has_code = {"DW_AT_low_pc", "DW_AT_ranges", "DW_AT_inline", "DW_AT_declaration", "DW_AT_abstract_origin"}
+    for entry in unit.iter_DIEs():
+        known = entry.attributes
+        is_named = {"DW_AT_name", "DW_AT_decl_file", "DW_AT_decl_line"} <= known.keys()
+        if entry.tag == "DW_TAG_subprogram" and is_named and not has_code & known.keys():
+            file = _file_of(table.header, known["DW_AT_decl_file"].value, base)
+            yield Declared(known["DW_AT_name"].value.decode(), Line(file, known["DW_AT_decl_line"].value))
 
 
 def _inlined_of(dwarf: Any, unit: Any) -> Iterator[Inlined]:

@@ -125,7 +125,21 @@ class Comments:
             return f"{self._where(elsewhere)} may go back in another loop than that of `@rounds`"
         if self.sources.hides_loops(comment.file, comment.of_line) > self._words_of_one(comment):
             return "the line of `@rounds` has several loops: write each in a line of its own"
-        return self._not_as_in_text(loop, comment)
+        return self._folded(comment) or self._not_as_in_text(loop, comment)
+
+    def _folded(self, comment: Comment) -> str:
+        """Which function may share the code of a loop, as one that was folded with it, and makes more rounds; empty where
+        there is none."""
+        for function in self.program.without_code:
+            for text in self.sources.loops_of_function(function.line):
+                ends = (Line(function.line.file, number) for number in {text.first, text.last})
+                rounds = [it.rounds for line in ends for it in self._of_line(line)]
+                if comment.rounds and (not rounds or any(it is None or it > comment.rounds for it in rounds)):
+                    return (
+                        f"{function.name} ({function.line}) has no code of its own: it may share this loop, and "
+                        "makes more rounds; -fno-ipa-icf keeps functions apart"
+                    )
+        return ""
 
     def is_body_first(self, comment: Comment) -> bool:
         text = self._text_of(comment)

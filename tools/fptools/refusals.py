@@ -33,8 +33,8 @@ BOUND_HINTS = {
     "Overlap": "it has words in common with the section: take the section's own function out of the list, or "
     "end the section before it",
     "Recursion": "calls lead from it back to it: rewrite it as a loop",
-    "Escape": "it leaves its function other than by a return: compile with -fno-optimize-sibling-calls, or "
-    "correct the function's last word in the list",
+    "Escape": "it leaves its function other than by a return: compile with -fno-optimize-sibling-calls and "
+    "-fno-ipa-icf, or correct the function's last word in the list",
 }
 SECTION_HINTS = {
     "NotHard": ("mode", 'a bound and `solo` are of a thread that starts hard and awake: mode = "hard"'),

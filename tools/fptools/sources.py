@@ -42,6 +42,12 @@ class Sources:
         between = depths[first:last] if last < len(depths) else [0]
         return any(between) and all(dropwhile(lambda depth: depth == 0, between))
 
+    def loops_of_function(self, line: Line) -> list[LoopText]:
+        """The loops of the function of a C source that begins in a line."""
+        code = self._code(line.file)
+        last = code.end_of_function(line.number)
+        return [it for it in code.loops if line.number <= it.first and it.last <= last]
+
     def missing(self, lines: Collection[Line]) -> str:
         """The name of a C source of some lines that isn't found; empty where all are."""
         files = sorted({line.file for line in lines if is_c(line.file)})

@@ -107,6 +107,27 @@ def test_a_loop_that_is_left_at_the_begin_of_its_body_goes_back_n_times(case: Ca
     assert case.judged(704)[0] == 2
 
 
+@of("folded")
+def test_functions_that_the_compiler_folds_into_one(case: Case) -> None:
+    status, loops = case.loops("work_begin", "work_end", "--calls")
+    assert (status, loops.count("bound = ?")) == (1, 1)
+    case.set_up(loops.replace("?", "4"))
+    assert case.longest(2000) > 200
+    status, text = case.judged(200)
+    assert status == 2
+    assert "sum_large (folded.c:14) has no code of its own: it may share this loop, and makes more rounds" in text
+    assert "-fno-ipa-icf" in text
+
+
+@of("unfolded")
+def test_functions_that_are_kept_apart(case: Case) -> None:
+    status, loops = case.loops("work_begin", "work_end", "--calls")
+    assert (status, loops.count("[[loop]]")) == (0, 2)
+    case.set_up(loops)
+    assert (case.judged(548)[0], case.judged(547)[0]) == (0, 1)
+    assert case.longest(2000) <= 548
+
+
 @of("one_head")
 def test_two_loops_with_one_head(case: Case) -> None:
     status, loops = case.loops("work_begin", "work_end")

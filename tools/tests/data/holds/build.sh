@@ -31,6 +31,8 @@ built taps32 taps.c -Os -DTAPS=32
 built moved moved.c -Os '-DKEEP(value)='
 built kept moved.c -Os '-DKEEP(value)=FP_KEEP(value)'
 built left_first left_first.c -Os
+built folded folded.c -O2 -fno-reorder-blocks
+built unfolded folded.c -O2 -fno-reorder-blocks -fno-ipa-icf
 built moved_plain moved.c -Os -g0 '-DKEEP(value)='
 built marked marked.c -Os
 built expires expires.c -Os
