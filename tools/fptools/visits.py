@@ -1,7 +1,7 @@
 """Measures executions of sections and functions, rounds of loops, waits and traps in a trace.
 
 Each meter takes the blocks of a trace in order. Cycles are counted as the bound counts them: from an
-issue of a section's first word to the first issue outside of the section (docs/FORMATS.md, "What the
+issue of a section's first word to the first issue outside of the section (docs/BOUNDS.md, "What the
 number means")."""
 from __future__ import annotations
 

@@ -43,7 +43,7 @@ def test_each_command_writes_what_is_shown(flexpret: str, tmp_path: Path) -> Non
     (tmp_path / "bin/python3").chmod(0o755)
     environment = {**os.environ, "FLEXPRET": flexpret, "PATH": f"{tmp_path}/bin:{os.environ['PATH']}"}
     blocks = shown()
-    assert len(blocks) == 18
+    assert len(blocks) == 7
     for command, lines in blocks:
         ran = subprocess.run(
             ["bash", "-c", command],
