@@ -8,7 +8,7 @@ from fptools.elf import Line, Program
 from fptools.section import Section
 from fptools.sources import Sources
 from fptools.thread import Code, reach
-from fptools.words import OPCODE_AUIPC, OPCODE_IMMEDIATE, OPCODE_LUI, Flow, Word
+from fptools.words import OPCODE_AUIPC, OPCODE_IMMEDIATE, OPCODE_LUI, OPCODE_REGISTERS, Flow, Word
 
 # A mark in a line of its own.
 ALONE = re.compile(r"\s*FP_MARK\w*\s*\([^()]*\)\s*;?\s*")
@@ -42,11 +42,25 @@ def moved_word(
     starts = [section.end]
     if not reach(code, starts).has(section.start):
         starts.append(entry)
-    for pc, word in sorted(reach(code, starts, [section.start]).words.items()):
-        is_between = any(marks.are_around(line) for line in program.lines_of(pc))
-        if is_between and not section.holds(pc) and not _is_number(code, word):
-            return pc
-    return None
+    outside = sorted(reach(code, starts, [section.start]).words.items())
+    work = [word for pc, word in outside if not section.holds(pc) and not _is_number(code, word)]
+    moved = [word.pc for word in work if any(map(marks.are_around, program.lines_of(word.pc)))]
+    if not moved:
+        _look_at_lines(section, program, work)
+    return moved[0] if moved else None
+
+
+def _look_at_lines(section: Section, program: Program, work: list[Word]) -> None:
+    """Each computation outside of a section, in its function, comes of a line: a compiler that joins work of two lines
+    may give it none."""
+    function = program.function_at(section.start)
+    for word in work:
+        is_own = function is not None and function.start <= word.pc < function.end
+        is_move = word.opcode == OPCODE_IMMEDIATE and word.immediate == 0
+        if is_own and word.opcode in (OPCODE_IMMEDIATE, OPCODE_REGISTERS) and not is_move:
+            if program.line_of(word.pc) is None:
+                where = f"{word.pc:#x} {program.name_of(word.pc)}".rstrip()
+                raise NotKnown(f"{where} is outside of it, and comes of no line")
 
 
 def _marks(section: Section, program: Program, sources: Sources, names: tuple[str, str]) -> Marks | None:

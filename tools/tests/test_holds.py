@@ -210,6 +210,15 @@ def test_moved_work_without_line_tables(case: Case) -> None:
     assert (status, "assumes moved work: nothing tells" in text) == (0, True)
 
 
+@of("noline")
+def test_moved_work_of_no_line(case: Case) -> None:
+    case.set_up()
+    status, text = case.judged(40)
+    assert status == 2
+    assert "work_end+0x" in text and "is outside of it, and comes of no line" in text
+    assert case.judged(40, 'assume = ["moved work"]\n')[0] == 0
+
+
 @of("head_test")
 def test_a_source_that_is_newer_than_the_executable(case: Case) -> None:
     elf, source = case.folder / "head_test.elf", case.folder / "head_test.c"

@@ -37,6 +37,9 @@ BEQ, BNE, BLT, BLTU = 0, 1, 4, 6
         ),  # the first round is made in any case
         ([addi(1, 0, -5), addi(2, 0, 10)], [addi(1, 1, 1)], (BLTU, 1, 2), 1),  # -5 is large without a sign
         ([addi(2, 1, -4)], [addi(1, 1, 1)], (BLT, 1, 2), None),  # what isn't known may wrap
+        ([addi(2, 1, 8)], [addi(1, 1, 4)], (BLTU, 1, 2), 2),
+        ([addi(2, 1, 8), addi(1, 1, 32)], [addi(1, 1, 4)], (BLTU, 1, 2), None),  # beyond its limit, it may wrap
+        ([addi(2, 1, 0)], [addi(1, 1, 4)], (BLTU, 1, 2), None),
         ([addi(1, 0, 8)], [addi(1, 1, -3)], (BNE, 1, 0), None),  # it passes its limit
         ([addi(1, 0, 8)], [addi(1, 1, 1)], (BNE, 1, 0), None),  # it goes away from its limit
         (

@@ -34,6 +34,12 @@ built left_first left_first.c -Os
 built folded folded.c -O2 -fno-reorder-blocks
 built unfolded folded.c -O2 -fno-reorder-blocks -fno-ipa-icf
 built moved_plain moved.c -Os -g0 '-DKEEP(value)='
+# Work of line 9 without a line, as clang has what it joins of two lines.
+clang --target=riscv32-unknown-elf -march=rv32im -mabi=ilp32 -O2 -gdwarf-4 -fdebug-compilation-dir=. -I "$c" '-DKEEP(value)=' \
+    -ffreestanding -S -o - moved.c | sed -E 's/(\.loc\t[0-9]+) 9 [0-9]+/\1 0 0/' >t0_noline.s
+clang --target=riscv32-unknown-elf -march=rv32im -mabi=ilp32 -fdebug-compilation-dir=. -c -o t0_noline.o t0_noline.s
+rm t0_noline.s
+linked noline t0_noline.o
 built marked marked.c -Os
 built expires expires.c -Os
 built emulates emulates.s
