@@ -1,6 +1,7 @@
 """Listings, maps, images as sources, and addresses by names."""
 from __future__ import annotations
 
+import os
 import subprocess
 from pathlib import Path
 from random import Random
@@ -200,3 +201,25 @@ def test_a_reader_that_stops_early_is_no_fault() -> None:
         shell=True, cwd=TOP, capture_output=True, text=True, check=False,
     )  # fmt: skip
     assert ran.stderr == ""
+
+
+def test_names_of_another_executable(tool: Tool, tmp_path: Path) -> None:
+    elf, other = "examples/c/pid.elf", "tools/tests/data/holds/kept.elf"
+    setup = ("--setup", "examples/c/pid.toml")
+    ran = tool("fp_addresses", "--elf", elf, *setup, "step_begin", "step_end")
+    assert (ran.returncode, ran.stdout) == (0, "0x000000b4\n0x000001a4\n")
+    ran = tool("fp_addresses", "--elf", other, *setup, "work_begin")
+    text = f"fp_addresses: the setup's image isn't made of {other}: other words at 0x14 start0+0x14\n"
+    assert (ran.returncode, ran.stdout, ran.stderr) == (2, "", text)
+    assert tool("fp_addresses", "--elf", other, "--setup", tmp_path / "none.toml", "work_begin").returncode == 0
+
+
+def test_a_source_that_is_newer_than_its_map(tool: Tool, tmp_path: Path) -> None:
+    source, names = tmp_path / "sum.s", tmp_path / "sum.map"
+    source.write_bytes((TOP / "examples/sum.s").read_bytes())
+    assert tool("fp_asm", source, "examples/sum.fpx", "--map", names).returncode == 0
+    made = names.stat().st_mtime_ns
+    for later, said in ((0, ""), (1, "fp_addresses: sum.s is newer than sum.map: its labels may be elsewhere\n")):
+        os.utime(source, ns=(made + later, made + later))
+        ran = tool("fp_addresses", "--map", names, "loop")
+        assert (ran.returncode, ran.stdout, ran.stderr) == (0, "0x00000010\n", said)

@@ -739,7 +739,7 @@ def test_names_are_replaced_by_addresses(checkout: Checkout) -> None:
     ran = checkout.run("calls", "x.toml", "--thread", "0", "--from", "f", "--to", "g", "--elf", "x.elf")
     routines = ran.stdout.split()[5]
     assert not Path(routines).exists()
-    assert (checkout.folder / "tool").read_text() == f"--elf x.elf --routines {routines} f g\n"
+    assert (checkout.folder / "tool").read_text() == f"--elf x.elf --setup x.toml --routines {routines} f g\n"
     put_tool(checkout, "fp_addresses", "sys.stderr.write('fp_addresses: no f\\n'); sys.exit(2)")
     ran = checkout.run("bound", "x.toml", "--thread", "0", "--from", "f", "--to", "g", "--elf", "x.elf")
     assert (ran.returncode, ran.stderr) == (NOT_BUILT, "fp_addresses: no f\n")
