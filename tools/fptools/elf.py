@@ -81,7 +81,7 @@ class Program:
         self.words: dict[int, int] = {}
         self.functions: list[Function] = []
         self.symbols: list[tuple[int, str]] = []
-        self.is_compiled = False  # whether a part of it was compiled from C
+        self._files: list[str] = []  # the names of its sources, or of its objects
         if path is None:
             return
         try:
@@ -108,7 +108,8 @@ class Program:
     def _take_symbols(self, table: SymbolTableSection) -> None:
         for symbol in table.iter_symbols():
             at, size, kind = symbol["st_value"], symbol["st_size"], symbol["st_info"]["type"]
-            self.is_compiled |= kind == "STT_FILE" and symbol.name.endswith((".c", ".cc", ".cpp"))
+            if kind == "STT_FILE":
+                self._files.append(symbol.name)
             is_label = kind == "STT_NOTYPE" and not symbol.name.startswith((".L", "$"))
             if symbol["st_shndx"] == "SHN_UNDEF" or not symbol.name or at >= CODE_END:
                 continue
@@ -116,6 +117,11 @@ class Program:
                 self.symbols.append((at, symbol.name))
             if kind == "STT_FUNC" and size:
                 self.functions.append(Function(at, at + size, symbol.name))
+
+    @property
+    def is_compiled(self) -> bool:
+        """Whether a part of it was compiled from C, as far as its names tell: without names it may be."""
+        return not self._files or any(name.endswith((".c", ".cc", ".cpp")) for name in self._files)
 
     def name_of(self, address: int) -> str:
         """The symbol at or below an address of code, with the distance; empty where there is none."""

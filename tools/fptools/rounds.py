@@ -46,8 +46,8 @@ def _rounds(funct3: int, start: Value, limit: Value, step: int) -> int | None:
 
 
 def _meets_limit(funct3: int, start: Value, first: int, end: int, step: int) -> bool:
-    """Whether a rising counter can't wrap past its limit. What isn't known may be anywhere: it has to hit the limit, and
-    one that is beyond the limit at first may wrap before it."""
+    """Whether a rising counter can't wrap past its limit. What isn't known may be anywhere: it has to hit the limit,
+    and one that is beyond the limit at first may wrap before it."""
     if start.origin is not None:
         return 0 <= first < end and (end - first) % step == 0
     return max(first, end) + step < (2**32 if funct3 == BLTU else 2**31)

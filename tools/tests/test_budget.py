@@ -125,10 +125,13 @@ def test_calls_of_functions(asking: Tool, tmp_path: Path, calling: tuple[str, ..
     assert judged(asking, tmp_path, calling, table) == (
         2, [f"UNKNOWN  T0 it: 0x0 start to 0xc outer: a call leaves the section: a bound ends here; {CALLS}"],
     )  # fmt: skip
-    # Three cycles for each call and return, one for each of three other words.
-    assert judged(asking, tmp_path, calling, f"{table}calls = true\n") == (
+    # Three cycles for each call and return, one for each of three other words. Nothing tells that it isn't of C.
+    status, lines = judged(asking, tmp_path, calling, f"{table}calls = true\n")
+    assert (status, "nothing tells whether work was moved" in lines[0]) == (2, True)
+    assumed = f'{table}calls = true\nassume = ["moved work"]\n'
+    assert judged(asking, tmp_path, calling, assumed) == (
         0,
-        ["holds    T0 it: 15 of 1000 cycles (150 ns)"],
+        ["holds    T0 it: 15 of 1000 cycles (150 ns)", f"fp_budget: T0 it: {NO_LINES}"],
     )
 
 
