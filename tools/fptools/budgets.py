@@ -105,6 +105,7 @@ class Judge:
     sources: Sources = field(default_factory=lambda: Sources(None))
     # Calls that the tool put beside the code, each with the function that it calls.
     put_calls: Mapping[int, int] = field(default_factory=dict)
+    is_of_function: bool = False  # whether the sections are calls of functions
     _threads: dict[int, ThreadCode] = field(default_factory=dict)
     _changes: dict[int, frozenset[int]] = field(default_factory=dict)
 
@@ -357,12 +358,12 @@ class Judge:
 
     def _look_at_moved_work(self, asked: Asked, thread: ThreadCode) -> None:
         """Work between the marks of a section is done in it."""
-        names = asked.budget.start, asked.budget.end
-        if not isinstance(names[0], str) or not isinstance(names[1], str):
+        begin, end = self._mark(asked.budget.start), self._mark(asked.budget.end)
+        if begin is None or end is None or self.is_of_function:
             return
         section, entry = asked.section, thread.entry
         try:
-            moved = moved_word(section, self._code, self.program, self.sources, entry, (names[0], names[1]))
+            moved = moved_word(section, self._code, self.program, self.sources, entry, (begin, end))
         except NotKnown as why:
             note = f"nothing tells whether work was moved out of the section: {why}"
             helps = f"or assume = [{Assumption.MOVED_WORK.value!r}]"
@@ -377,6 +378,13 @@ class Judge:
             )
         if not asked.assumes(Assumption.MOVED_WORK, note):
             raise Unknown(f"{note}; {helps}")
+
+    def _mark(self, value: int | str) -> str | None:
+        """The name of a mark; of a number, that of a label there. None where no label is there."""
+        if isinstance(value, str) and not value[:1].isdigit():
+            return value
+        at, functions = self._address(value), {it.name for it in self.program.functions}
+        return next((name for pc, name in self.program.symbols if pc == at and name not in functions), None)
 
     def _look_at_sources(self, asked: Asked) -> None:
         """Lines and comments are of the sources that the executable was built from."""

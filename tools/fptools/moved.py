@@ -67,10 +67,10 @@ def _marks(section: Section, program: Program, sources: Sources, names: tuple[st
     """The marks of a section; None where it was written in assembler, or ends at a function."""
     if not program.is_compiled or any(it.start == section.end for it in program.functions):
         return None
-    around = [program.line_of(section.start), program.line_of(section.end)]
-    if None in around:
+    around = [line for pc in (*section.reached, section.end) if (line := program.line_of(pc))]
+    if not around:
         raise NotKnown("the code has no line tables: compile with -g")
-    if all(line is not None and not sources.is_c(line.file) for line in around):
+    if not any(sources.is_c(line.file) for line in around):
         return None
     begin, end = (_line_of_mark(program, sources, name) for name in names)
     is_in_order = begin.file == end.file and begin.number < end.number

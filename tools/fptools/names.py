@@ -38,7 +38,7 @@ class Names:
         function = self._named(name)
         call = self._call_of(function, budget.thread)
         if call is not None:
-            return self.section(replace(budget, start=call, end=call + 4, calls=True))
+            return self.section(replace(budget, start=call, end=call + 4, calls=True), None, function)
         at = self._free_word(function, budget.thread)
         if at is None:
             text = f"{name}: nothing calls it, and no word of the image is free for a call"
@@ -46,7 +46,8 @@ class Names:
         return self.section(replace(budget, start=at, end=at + 4, calls=True), at, function)
 
     def section(self, budget: Budget, put: int | None = None, function: Function | None = None) -> Result:
-        """The bound of a section, by the setup with tables of its loops. `put` is where a call of a function is put."""
+        """The bound of a section, by the setup with tables of its loops: of a call of a function, if that is given, which
+        is put at `put`, or there."""
         image, program, calls = dict(self.image), self.program, {}
         if put is not None and function is not None:
             program = copy.copy(program)
@@ -56,7 +57,8 @@ class Names:
         written = self.folder / "own.fpx"
         written.write_bytes(write_image(image))
         values: dict[str, Any] = {**self.setup.values, "image": str(written)}
-        judge = Judge(self.flexpret, replace(self.setup, values=values), image, program, self.sources, calls)
+        setup, is_of_function = replace(self.setup, values=values), function is not None
+        judge = Judge(self.flexpret, setup, image, program, self.sources, calls, is_of_function)
         try:
             values["loop"] = self._tables(judge, budget)
         except (Unknown, ProgramError) as why:

@@ -200,6 +200,16 @@ def test_marks_of_sources_that_are_elsewhere(case: Case) -> None:
     assert "isn't found: --src" in ran.stdout
 
 
+@of("moved")
+def test_moved_work_of_a_section_by_numbers(case: Case) -> None:
+    case.set_up()
+    program = Program(case.elf)
+    start, end = program.address("work_begin"), program.address("work_end")
+    ask = ("fp_budget", case.elf, "--setup", case.setup, "--thread", 0, *SRC, "--cycles", 40)
+    ran = case.asking(*ask, "--from-label", f"{start:#x}", "--to-label", f"{end:#x}")
+    assert (ran.returncode, "is done outside of the section" in ran.stdout) == (2, True)
+
+
 @of("moved_plain")
 def test_moved_work_without_line_tables(case: Case) -> None:
     case.set_up()
