@@ -81,6 +81,7 @@ class Program:
         self.words: dict[int, int] = {}
         self.functions: list[Function] = []
         self.symbols: list[tuple[int, str]] = []
+        self.knows_functions = True  # whether it is known which functions were inlined, and which have no code
         self._files: list[str] = []  # the names of its sources, or of its objects
         if path is None:
             return
@@ -192,7 +193,8 @@ class Program:
                 units = list(dwarf.iter_CUs())
                 return [([*_inlined_of(dwarf, it)], [*_without_code_of(dwarf, it)]) for it in units]
             except (ELFError, DWARFError, *FAULTS):
-                return []  # a form of DWARF that isn't known: each address has its own line
+                self.knows_functions = False  # a form of DWARF that isn't known: each address has its own line
+                return []
 
     @cached_property
     def _inlined(self) -> list[Inlined]:

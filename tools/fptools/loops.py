@@ -139,6 +139,8 @@ class Comments:
                         f"{function.name} ({function.line}) has no code of its own: it may share this loop, and "
                         "makes more rounds; -fno-ipa-icf keeps functions apart"
                     )
+        if not self.program.knows_functions:
+            return "which functions share code isn't known by this form of DWARF: -gdwarf-4 gives another"
         return ""
 
     def is_body_first(self, comment: Comment) -> bool:

@@ -45,6 +45,8 @@ def moved_word(
     outside = sorted(reach(code, starts, [section.start]).words.items())
     work = [word for pc, word in outside if not section.holds(pc) and not _is_number(code, word)]
     moved = [word.pc for word in work if any(map(marks.are_around, program.lines_of(word.pc)))]
+    if not moved and not program.knows_functions:
+        raise NotKnown("which functions were inlined isn't known by this form of DWARF: -gdwarf-4 gives another")
     if not moved:
         _look_at_lines(section, program, work)
     return moved[0] if moved else None

@@ -4,10 +4,15 @@ from __future__ import annotations
 import os
 import subprocess
 from pathlib import Path
+from typing import Iterator
 
 import pytest
 from conftest import TOOLS, Tool
-from fptools.elf import Program
+from fptools.elf import Inlined, Program
+from fptools.moved import NotKnown, moved_word
+from fptools.section import walk
+from fptools.sources import Sources
+from fptools.thread import Code
 
 HOLDS = TOOLS / "tests/data/holds"
 SRC = ("--src", str(HOLDS))
@@ -208,6 +213,25 @@ def test_moved_work_of_a_section_by_numbers(case: Case) -> None:
     ask = ("fp_budget", case.elf, "--setup", case.setup, "--thread", 0, *SRC, "--cycles", 40)
     ran = case.asking(*ask, "--from-label", f"{start:#x}", "--to-label", f"{end:#x}")
     assert (ran.returncode, "is done outside of the section" in ran.stdout) == (2, True)
+
+
+@of("kept")
+def test_debugging_information_of_an_unknown_form(case: Case, monkeypatch: pytest.MonkeyPatch) -> None:
+    """What isn't known of inlined and folded functions is told, and isn't taken for none."""
+
+    def broken(*_: object) -> Iterator[Inlined]:
+        raise ValueError
+        yield
+
+    program, sources = Program(case.elf), Sources(HOLDS)
+    start, end = program.address("work_begin"), program.address("work_end")
+    section, code = walk(program.words, start, end), Code(program.words)
+    asked = (section, code, program, sources, 0, ("work_begin", "work_end"))
+    assert moved_word(*asked) is None
+    monkeypatch.setattr("fptools.elf._inlined_of", broken)
+    asked = (section, code, Program(case.elf), sources, 0, ("work_begin", "work_end"))
+    with pytest.raises(NotKnown, match="-gdwarf-4"):
+        moved_word(*asked)
 
 
 @of("moved_plain")
