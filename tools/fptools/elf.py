@@ -16,6 +16,7 @@ from elftools.elf.sections import SymbolTableSection
 from fptools.image import words_of
 
 CODE_END = 0x1_0000
+ASSEMBLER = (".s", ".S", ".asm")
 ADDRESS = re.compile(
     r"(?P<name>[A-Za-z_.$][\w.$]*)?(?P<plus>\+)?(?P<number>0x[0-9a-fA-F]{1,16}|[0-9]{1,20})?"
 )
@@ -121,8 +122,8 @@ class Program:
 
     @property
     def is_compiled(self) -> bool:
-        """Whether a part of it was compiled from C, as far as its names tell: without names it may be."""
-        return not self._files or any(name.endswith((".c", ".cc", ".cpp")) for name in self._files)
+        """Whether a part of it may be compiled: the names of its files aren't all of assembler, or it has none."""
+        return not self._files or any(not name.endswith((".o", *ASSEMBLER)) for name in self._files)
 
     def name_of(self, address: int) -> str:
         """The symbol at or below an address of code, with the distance; empty where there is none."""

@@ -4,7 +4,7 @@ from __future__ import annotations
 import re
 from dataclasses import dataclass
 
-from fptools.elf import Line, Program
+from fptools.elf import ASSEMBLER, Line, Program
 from fptools.section import Section
 from fptools.sources import Sources
 from fptools.thread import Code, reach
@@ -72,7 +72,7 @@ def _marks(section: Section, program: Program, sources: Sources, names: tuple[st
     around = [line for pc in (*section.reached, section.end) if (line := program.line_of(pc))]
     if not around:
         raise NotKnown("the code has no line tables: compile with -g")
-    if not any(sources.is_c(line.file) for line in around):
+    if all(line.file.suffix in ASSEMBLER for line in around):
         return None
     begin, end = (_line_of_mark(program, sources, name) for name in names)
     is_in_order = begin.file == end.file and begin.number < end.number

@@ -33,9 +33,6 @@ class Sources:
         """The text of a line of C without comments and texts."""
         return self._code(line.file).line(line.number)
 
-    def is_c(self, file: Path) -> bool:
-        return is_c(file)
-
     def are_in_one_function(self, file: Path, first: int, last: int) -> bool:
         """Whether no function of a C source ends between two lines. It may begin at the first."""
         depths = self._code(file).depths
