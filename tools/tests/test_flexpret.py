@@ -891,7 +891,9 @@ def install(*words: object, **named: str) -> subprocess.CompletedProcess[str]:
     )  # fmt: skip
 
 
-def test_install_puts_program_page_and_completion(tmp_path: Path) -> None:
+def test_install_puts_program_page_and_completion(tmp_path: Path, monkeypatch: pytest.MonkeyPatch) -> None:
+    for name in ("FLEXPRET", "FLEXPRET_VIEW"):
+        monkeypatch.delenv(name, raising=False)
     prefix, program = tmp_path / "prefix", elf(tmp_path / "program")
     for view, names in (("/none", ["flexpret"]), (elf(tmp_path / "view"), ["flexpret", "flexpret-view"])):
         assert install(prefix, FLEXPRET=program, FLEXPRET_VIEW=view).returncode == 0

@@ -24,7 +24,7 @@ from fptools.html.promises import CHECKS, PROVED, TESTED  # noqa: E402
 PID = ("examples/c/pid.toml", "examples/c/budgets.toml", "--elf", "examples/c/pid.elf")
 RUN = ("--cycles", "10000")
 HOSTILE = "<b>&\"' </script><script>alert(1)</script>"
-STEP = '[[budget]]\nname = {}\nthread = 0\nfrom = "step_begin"\nto = "step_end"\nassume = ["no traps"]\ncycles = {}\n'
+STEP = '[[budget]]\nname = {}\nthread = 0\nfrom = "step_begin"\nto = "step_end"\nassume = ["no traps", "moved work"]\ncycles = {}\n'
 
 
 class Reader(HTMLParser):
@@ -115,12 +115,8 @@ def test_what_is_proved_and_assumed_is_on_the_page(pid_page: Path) -> None:
 
 def test_the_words_are_those_of_the_assumptions() -> None:
     """Without marks, links and the names of pages."""
-    page = re.sub(
-        r"[*`]|\[([^\]]*)\]\([^)]*\)",
-        lambda it: it[1] or "",
-        document("ASSUMPTIONS.md").read_text(),
-    )
-    plain = " ".join(page.split())
+    page = re.sub(r"\[([^\]]*)\]\([^)]*\)", r"\1", document("ASSUMPTIONS.md").read_text())
+    plain = " ".join(re.sub("[*`]", "", page).split())
     for first, second in (*PROVED, *CHECKS):
         assert first in plain and second in plain, first
     assert TESTED in plain
@@ -463,7 +459,7 @@ def full_page(reporting: Tool, tmp_path_factory: pytest.TempPathFactory) -> Path
         '"over"',
     ]
     tables = [STEP.format(name, most) for name, most in zip(names, (400, 123456789, 10))]
-    unknown = STEP.format('"unknown"', 400).replace('assume = ["no traps"]\n', "")
+    unknown = STEP.format('"unknown"', 400).replace('assume = ["no traps", "moved work"]\n', "")
     budgets.write_text("".join([*tables, section, unknown]))
     ran = reporting("fp_report", PID[0], budgets, *PID[2:], "--cycles", "4000", "-o", out)
     assert ran.returncode == 2 and ran.stderr == "", ran.stdout + ran.stderr

@@ -28,11 +28,13 @@ CHECKS = (
     ("The wait for the first slot isn't included.", "Add a frame where it matters."),
     (
         "A stack overrun isn't detected",
-        "until it leaves the region. Before that it overwrites the thread's own data.",
+        "until it leaves the region. Before that it overwrites the thread's own data. "
+        "For calls, no store may overwrite a return address.",
     ),
     (
         "Marks don't stop the compiler.",
-        "Computations in registers may move across a mark. Pin them with FP_KEEP.",
+        "Computations in registers may move across a mark. Pin them with FP_KEEP, and compile with -g: "
+        "fp_budget finds moved work by source lines.",
     ),
     (
         "Time has 64 bits.",
