@@ -5,7 +5,7 @@
 
 mod shared;
 mod unit;
+mod word;
 
 pub use core_model::{CsrOp, Trapping};
-pub use shared::{read_shared, write_shared};
 pub use unit::{CsrDone, CsrNo, Traps};

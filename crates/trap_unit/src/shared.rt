@@ -11,7 +11,7 @@ use slot_table::SlotTable;
 
 /// The word of one of the machine's registers: slots (0x7C0), modes (0x7C1) and dregions (0x7C2) by
 /// their numbers, and iregions (0x7C3) for every other one.
-pub fn read_shared(sched: &Sched, guard: &Guard, csr: u16) -> u32
+pub(crate) fn read_shared(sched: &Sched, guard: &Guard, csr: u16) -> u32
     ensures { result ≡ shared_value sched.now guard.now csr }
 {
     match csr {
@@ -25,7 +25,7 @@ pub fn read_shared(sched: &Sched, guard: &Guard, csr: u16) -> u32
 /// Writes one of the machine's registers, 0x7C0 to 0x7C3, which may hold the word. Other numbers
 /// change nothing.
 #[tactic(auto, unfolding(core_model::specs::Csr::may_hold), using(crate::proofs::Held::slots_kept))]
-pub fn write_shared(sched: &mut Sched, guard: &mut Guard, csr: u16, word: u32)
+pub(crate) fn write_shared(sched: &mut Sched, guard: &mut Guard, csr: u16, word: u32)
     requires { IsTrue (may_hold csr word) }
     ensures sched { sched.new ≡ sched_after sched.old csr (Some word) }
     ensures guard { guard.new ≡ guard_after guard.old csr (Some word) }

@@ -1,13 +1,13 @@
 //! The trap registers of the eight threads.
 
-ghost use Rattle.std.specs.Prelude.{◌≡◌, ◌<◌, Some, IsTrue, length, replicate, slice_set};
+ghost use Rattle.std.specs.Prelude.{◌≡◌, ◌<◌, ◌%◌, Some, IsTrue, length, replicate, slice_set};
 ghost use Rattle.core_model.specs.Csr.{csr_value, may_hold, kept};
 ghost use Rattle.trap_unit.specs.Rows.{no_trap, trap_of, is_trap, with_trap, entered, IsAlignedTrap};
 ghost use Rattle.trap_unit.specs.Access.{value_by, answer_by, written_in, traps_after, sched_after, guard_after};
 
 use crate::shared::{read_shared, write_shared};
-use core_model::{CsrOp, Own, Trapping};
-use hart_exec::{change, keep, may_hold, put, value_of};
+use crate::word::{change, keep, may_hold};
+use core_model::{CsrOp, Trapping};
 use region_guard::Guard;
 use rv_decode::csr;
 use slot_scheduler::Sched;
@@ -69,7 +69,12 @@ impl Traps {
         ensures { result ≡ replicate 8 no_trap }
     {
         Traps {
-            rows: [Own::new().trap; 8],
+            rows: [Trapping {
+                mtvec: 0,
+                mscratch: 0,
+                mepc: 0,
+                mcause: 0,
+            }; 8],
         }
     }
 
@@ -83,7 +88,7 @@ impl Traps {
     }
 
     /// Gives a thread other trap registers.
-    pub fn set_row(&mut self, thread: u8, row: Trapping)
+    fn set_row(&mut self, thread: u8, row: Trapping)
         requires thread { thread < 8 }
         requires aligned { IsAlignedTrap row }
         ensures row { self.new ≡ slice_set self.old thread row }
@@ -113,6 +118,7 @@ impl Traps {
     pub fn enter(&mut self, thread: u8, cause: u8, epc: u32) -> u32
         requires { thread < 8 }
         ensures target { result ≡ (trap_of self.old thread).mtvec }
+        ensures aligned { result % 4 ≡ 0 }
         ensures row { self.new ≡ slice_set self.old thread
             (entered (trap_of self.old thread) cause epc) }
         ensures eight { length self.new ≡ 8 }
@@ -133,7 +139,8 @@ impl Traps {
     /// A return from a trap. The answer is mepc, where the thread goes on.
     pub fn leave(&self, thread: u8) -> u32
         requires { thread < 8 }
-        ensures { result ≡ (trap_of self.now thread).mepc }
+        ensures target { result ≡ (trap_of self.now thread).mepc }
+        ensures aligned { result % 4 ≡ 0 }
     {
         self.row(thread).mepc
     }
@@ -144,29 +151,40 @@ impl Traps {
         requires { thread < 8 }
         ensures { result ≡ value_by self.now sched.now guard.now thread csr }
     {
-        let own = Own {
-            trap: self.row(thread),
-            ..Own::new()
-        };
-        value_of(&own, thread, csr, Some(read_shared(sched, guard, csr)))
+        match csr {
+            csr::MTVEC | csr::MSCRATCH | csr::MEPC | csr::MCAUSE => Some(self.value(thread, csr)),
+            csr::MHARTID => Some(u32::from(thread)),
+            csr::SLOTS | csr::MODES | csr::DREGIONS | csr::IREGIONS => {
+                Some(read_shared(sched, guard, csr))
+            }
+            _ => None,
+        }
     }
 
-    /// Gives one of the thread's registers, or of the machine's, a value that it keeps.
-    fn put(&mut self, sched: &mut Sched, guard: &mut Guard, thread: u8, csr: u16, value: u32)
+    /// Gives one of the thread's own registers a value that it keeps. Other numbers change nothing.
+    fn put(&mut self, thread: u8, csr: u16, value: u32)
         requires thread { thread < 8 }
-        requires held { IsTrue (may_hold csr value) }
         requires kept { kept csr value ≡ value }
-        ensures traps { self.new ≡ traps_after self.old thread csr (Some value) }
-        ensures sched { sched.new ≡ sched_after sched.old csr (Some value) }
-        ensures guard { guard.new ≡ guard_after guard.old csr (Some value) }
+        ensures { self.new ≡ traps_after self.old thread csr (Some value) }
     {
-        let mut own = Own {
-            trap: self.row(thread),
-            ..Own::new()
+        let row = self.row(thread);
+        let row = match csr {
+            csr::MTVEC => Trapping {
+                mtvec: value,
+                ..row
+            },
+            csr::MSCRATCH => Trapping {
+                mscratch: value,
+                ..row
+            },
+            csr::MEPC => Trapping { mepc: value, ..row },
+            csr::MCAUSE => Trapping {
+                mcause: value,
+                ..row
+            },
+            _ => row,
         };
-        put(&mut own, csr, value);
-        self.set_row(thread, own.trap);
-        write_shared(sched, guard, csr, value);
+        self.set_row(thread, row);
     }
 
     /// A thread's access to a register by its number. The operand takes the old value's place, or
@@ -211,7 +229,8 @@ impl Traps {
             return Err(CsrNo::BadValue);
         }
         let value = keep(csr, word);
-        self.put(sched, guard, thread, csr, value);
+        self.put(thread, csr, value);
+        write_shared(sched, guard, csr, value);
         Ok(CsrDone {
             old,
             written: Some(value),

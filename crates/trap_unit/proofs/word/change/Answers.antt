@@ -2,7 +2,7 @@
 use Rattle.std.proofs.Common.{arith}
 use Rattle.std.proofs.lemmas.Grind.{common_steps}
 use Rattle.core_model.specs.Csr.{changed}
-use Rattle.hart_exec.proofs.control.change.Goals as goal
+use Rattle.trap_unit.proofs.word.change.Goals as goal
 
 pub returns-in-Clear : goal.returns-in-Clear
 unfolding changed

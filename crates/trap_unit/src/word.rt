@@ -1,0 +1,49 @@
+//! The word that an access writes: what the register would hold, whether it may, and what it keeps.
+
+ghost use Rattle.std.specs.Prelude.{◌≡◌};
+ghost use Rattle.core_model.specs.Csr.{changed, may_hold, kept};
+
+use core_model::CsrOp;
+use region_guard::Regions;
+use rv_decode::{AluOp, csr};
+use rv_exec::compute;
+use slot_scheduler::Modes;
+use slot_table::SlotTable;
+
+/// The word that an access writes, from the old one and the operand.
+#[tactic(auto, unfolding(core_model::specs::Csr::changed))]
+pub(crate) fn change(op: CsrOp, old: u32, operand: u32) -> u32
+    ensures { result ≡ changed op old operand }
+{
+    match op {
+        CsrOp::Swap => operand,
+        CsrOp::Set => compute(AluOp::Or, old, operand),
+        CsrOp::Clear => compute(AluOp::And, old, !operand),
+    }
+}
+
+/// Whether a register may hold a word. mhartid takes none; slots, modes and regions take those
+/// whose fields all have a meaning, the others every word.
+#[tactic(auto, unfolding(core_model::specs::Csr::may_hold))]
+pub(crate) fn may_hold(csr: u16, word: u32) -> bool
+    ensures { result ≡ may_hold csr word }
+{
+    match csr {
+        csr::MHARTID => false,
+        csr::SLOTS => SlotTable::from_word(word).is_ok(),
+        csr::MODES => Modes::from_word(word).is_ok(),
+        csr::DREGIONS | csr::IREGIONS => Regions::from_word(word).is_ok(),
+        _ => true,
+    }
+}
+
+/// The word as a register keeps it: mtvec and mepc without the two low bits.
+pub(crate) fn keep(csr: u16, word: u32) -> u32
+    ensures { result ≡ kept csr word }
+{
+    if csr == csr::MTVEC || csr == csr::MEPC {
+        word / 4 * 4
+    } else {
+        word
+    }
+}
