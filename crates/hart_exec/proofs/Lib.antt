@@ -1,2 +1,5 @@
 pub mod Zero
 pub mod WordSources
+pub mod Targets
+pub mod Left
+pub mod Answered

@@ -1,4 +1,5 @@
 pub mod AsDefined
+pub mod Units
 pub use Rattle.core_model.specs.Csr
 pub use Rattle.core_model.specs.Issue
 pub use Rattle.core_model.specs.Outcomes

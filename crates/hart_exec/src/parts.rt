@@ -1,20 +1,22 @@
 //! The outcomes of an instruction.
 
-ghost use Rattle.std.specs.Prelude.{◌≡◌, ◌<◌, ◌%◌, ◌^◌, true, Some};
-ghost use Rattle.core_model.specs.declared.own.Own.{Own};
+ghost use Rattle.std.specs.Prelude.{◌≡◌, ◌<◌, ◌%◌, Some, true, false, if◌then◌else◌};
+ghost use Rattle.rv_decode.specs.Lag.{lag, plain_lag, redirect_lag};
 ghost use Rattle.core_model.specs.Thread.{reg_effect};
 ghost use Rattle.core_model.specs.Traps.{trapped};
-ghost use Rattle.core_model.specs.Outcomes.{plus, load, store, branch, delay, wait};
-ghost use Rattle.rv_exec.specs.Line.{IsPrintable, IsWidth};
-ghost use Rattle.hart_exec.specs.AsDefined.{executed_as_defined, IsShowable, IsAlignedStore, IsPlain};
-ghost use Rattle.hart_exec.specs.declared.outcome.Onward.TheVariants.{Elsewhere, LateValue};
+ghost use Rattle.core_model.specs.Outcomes.{plus, plain, wrote, go_to, branch};
+ghost use Rattle.rv_exec.specs.Line.{IsPrintable};
 ghost use Rattle.rv_exec.specs.declared.outcome.Effect.TheVariants.{Nothing};
+ghost use Rattle.hart_exec.specs.AsDefined.{IsShowable, IsAlignedStore};
+ghost use Rattle.hart_exec.specs.Units.{Holds, Refines, RefinesInPlace, own_of};
 
-use crate::outcome::{Executed, Onward, PcWord};
-use core_model::Own;
+use crate::hart::Hart;
+use crate::outcome::{Executed, PcWord};
+use rv_decode::{Ins, REDIRECT_LAG, lag_of};
 use rv_exec::Effect;
 
 /// The effect of a register's write: none on x0.
+#[inline(always)]
 pub fn write_to(rd: u8, value: u32) -> Effect
     requires { rd < 32 }
     ensures effect { result ≡ reg_effect rd value }
@@ -27,31 +29,12 @@ pub fn write_to(rd: u8, value: u32) -> Effect
     }
 }
 
-/// A trap: it saves pc and cause, and goes to mtvec.
-pub fn trap(own: &mut Own, at: PcWord, cause: u8) -> Executed
-    ensures did { executed_as_defined own.new result ≡ trapped at.pc own.old at.word cause }
-    ensures showable { IsShowable result.effect }
-    ensures store { IsAlignedStore result.effect }
-    ensures word { result.word ≡ at.word }
-    ensures address { result.address ≡ 0 }
-{
-    own.trap.mepc = at.pc;
-    own.trap.mcause = u32::from(cause);
-    go_to(
-        at,
-        own.trap.mtvec,
-        Effect::Trap {
-            cause,
-            target: own.trap.mtvec,
-        },
-    )
-}
-
 /// The thread goes on to the next word.
-pub fn go_on(at: PcWord, onward: Onward, effect: Effect) -> Executed
+#[inline(always)]
+pub fn go_on(at: PcWord, lag: u64, effect: Effect) -> Executed
     ensures { result ≡ record {
       pc = plus at.pc 4;
-      onward = onward;
+      lag = lag;
       word = at.word;
       address = 0;
       effect = Some effect;
@@ -59,146 +42,134 @@ pub fn go_on(at: PcWord, onward: Onward, effect: Effect) -> Executed
 {
     Executed {
         pc: at.pc.wrapping_add(4),
-        onward,
+        lag,
         word: at.word,
         address: 0,
         effect: Some(effect),
     }
 }
 
-/// The thread goes elsewhere.
-pub fn go_to(at: PcWord, target: u32, effect: Effect) -> Executed
-    ensures { result ≡ record {
-      pc = target;
-      onward = Elsewhere;
-      word = at.word;
-      address = 0;
-      effect = Some effect;
-    } }
+/// A trap: it saves pc and cause, and goes to mtvec.
+#[inline(always)]
+pub fn trap(hart: &mut Hart<'_>, at: PcWord, cause: u8) -> Executed
+    requires { at.pc % 4 ≡ 0 }
+    ensures holds { Holds hart.old hart.new }
+    ensures refines { Refines hart.old hart.new result (trapped at.pc (own_of hart.old) at.word
+        cause) }
+    ensures pc { result.pc % 4 ≡ 0 }
+    ensures showable { IsShowable result.effect }
+    ensures store { IsAlignedStore result.effect }
+    ensures word { result.word ≡ at.word }
+    ensures address { result.address ≡ 0 }
+{
+    let target = hart.traps.enter(hart.thread, cause, at.pc);
+    Executed {
+        pc: target,
+        lag: REDIRECT_LAG,
+        word: at.word,
+        address: 0,
+        effect: Some(Effect::Trap { cause, target }),
+    }
+}
+
+/// An instruction that does nothing but go on to the next word.
+#[inline(always)]
+pub fn pass(at: PcWord, i: &Ins) -> Executed
+    requires { at.pc % 4 ≡ 0 }
+    ensures refines { RefinesInPlace result (λ own. plain at.pc own at.word
+        (lag i.now false false) Nothing) }
+    ensures pc { result.pc % 4 ≡ 0 }
+    ensures showable { IsShowable result.effect }
+    ensures store { IsAlignedStore result.effect }
+    ensures word { result.word ≡ at.word }
+    ensures address { result.address ≡ 0 }
+{
+    go_on(at, lag_of(i, false, false), Effect::Nothing)
+}
+
+/// A value for a register.
+#[inline(always)]
+pub fn write(at: PcWord, i: &Ins, rd: u8, value: u32) -> Executed
+    requires rd { rd < 32 }
+    requires pc { at.pc % 4 ≡ 0 }
+    ensures refines { RefinesInPlace result (λ own. wrote at.pc own at.word
+        (lag i.now false false) rd value) }
+    ensures pc { result.pc % 4 ≡ 0 }
+    ensures showable { IsShowable result.effect }
+    ensures store { IsAlignedStore result.effect }
+    ensures word { result.word ≡ at.word }
+    ensures address { result.address ≡ 0 }
+{
+    go_on(at, lag_of(i, false, false), write_to(rd, value))
+}
+
+/// A jump, with its value for a register.
+#[inline(always)]
+pub fn jump(at: PcWord, i: &Ins, target: u32, rd: u8, value: u32) -> Executed
+    requires rd { rd < 32 }
+    requires target { target % 4 ≡ 0 }
+    requires lag { lag i.now false false ≡ redirect_lag }
+    ensures refines { RefinesInPlace result (λ own. go_to own at.word target
+        (reg_effect rd value)) }
+    ensures pc { result.pc % 4 ≡ 0 }
+    ensures showable { IsShowable result.effect }
+    ensures store { IsAlignedStore result.effect }
+    ensures word { result.word ≡ at.word }
+    ensures address { result.address ≡ 0 }
 {
     Executed {
         pc: target,
-        onward: Onward::Elsewhere,
+        lag: lag_of(i, false, false),
         word: at.word,
         address: 0,
-        effect: Some(effect),
+        effect: Some(write_to(rd, value)),
     }
 }
 
 /// A branch, taken or not.
 #[tactic(auto, unfolding(core_model::specs::Outcomes::branch))]
-pub fn branch_on(at: PcWord, taken: bool, target: u32) -> Executed
-    ensures did { (own : Own) → executed_as_defined own result
-        ≡ branch at.pc own at.word taken target }
+#[inline(always)]
+pub fn branch_on(at: PcWord, i: &Ins, taken: bool, target: u32) -> Executed
+    requires pc { at.pc % 4 ≡ 0 }
+    requires target { taken ≡ true → target % 4 ≡ 0 }
+    requires lag { lag i.now taken false ≡ (if taken then redirect_lag else plain_lag) }
+    ensures refines { RefinesInPlace result (λ own. branch at.pc own at.word taken target) }
+    ensures pc { result.pc % 4 ≡ 0 }
     ensures showable { IsShowable result.effect }
     ensures store { IsAlignedStore result.effect }
-    ensures plain { IsPlain result.effect }
     ensures word { result.word ≡ at.word }
     ensures address { result.address ≡ 0 }
 {
-    if taken {
-        go_to(at, target, Effect::Nothing)
-    } else {
-        go_on(at, Onward::NextWord, Effect::Nothing)
-    }
-}
-
-/// A load that is allowed.
-#[tactic(auto, unfolding(core_model::specs::Outcomes::load))]
-pub fn load_at(at: PcWord, address: u32) -> Executed
-    ensures did { (own : Own) → executed_as_defined own result
-        ≡ load at.pc own at.word address true }
-    ensures showable { IsShowable result.effect }
-    ensures store { IsAlignedStore result.effect }
-    ensures plain { IsPlain result.effect }
-    ensures word { result.word ≡ at.word }
-    ensures address { result.address ≡ address }
-{
     Executed {
-        address,
-        ..go_on(at, Onward::LateValue, Effect::Nothing)
-    }
-}
-
-/// A store that is allowed.
-#[tactic(auto, unfolding(core_model::specs::Outcomes::store))]
-pub fn store_at(at: PcWord, address: u32, size: u8, value: u32) -> Executed
-    requires width { IsWidth size }
-    requires aligned { address % size ≡ 0 }
-    requires cut { value < 256 ^ size }
-    ensures did { (own : Own) → executed_as_defined own result
-        ≡ store at.pc own at.word address size value true }
-    ensures showable { IsShowable result.effect }
-    ensures store { IsAlignedStore result.effect }
-    ensures plain { IsPlain result.effect }
-    ensures word { result.word ≡ at.word }
-    ensures address { result.address ≡ address }
-{
-    Executed {
-        address,
-        ..go_on(
-            at,
-            Onward::NextWord,
-            Effect::Store {
-                address,
-                size,
-                value,
-            },
-        )
-    }
-}
-
-/// A multiplication or division.
-pub fn muldiv_at(at: PcWord) -> Executed
-    ensures { result ≡ record {
-      pc = plus at.pc 4;
-      onward = LateValue;
-      word = at.word;
-      address = 0;
-      effect = Some Nothing;
-    } }
-{
-    go_on(at, Onward::LateValue, Effect::Nothing)
-}
-
-/// DU: the thread stays at its word until the moment.
-#[tactic(auto, unfolding(core_model::specs::Outcomes::delay))]
-pub fn delay_until(at: PcWord, now: u64, until: u64) -> Executed
-    ensures did { (own : Own) → executed_as_defined own result
-        ≡ delay now at.pc own at.word until }
-    ensures showable { IsShowable result.effect }
-    ensures store { IsAlignedStore result.effect }
-    ensures plain { IsPlain result.effect }
-    ensures word { result.word ≡ at.word }
-    ensures address { result.address ≡ 0 }
-{
-    if until <= now {
-        return go_on(at, Onward::Elsewhere, Effect::Nothing);
-    }
-    Executed {
-        pc: at.pc,
-        onward: Onward::Elsewhere,
+        pc: if taken {
+            target
+        } else {
+            at.pc.wrapping_add(4)
+        },
+        lag: lag_of(i, taken, false),
         word: at.word,
         address: 0,
-        effect: None,
+        effect: Some(Effect::Nothing),
     }
 }
 
-/// WU: the thread sleeps until the moment, or until its armed one where that is earlier.
-#[tactic(auto, unfolding(core_model::specs::Outcomes::wait))]
-pub fn wait_until(own: &mut Own, at: PcWord, now: u64, until: u64) -> Executed
-    ensures did { executed_as_defined own.new result ≡ wait now at.pc own.old at.word until }
+/// MRET: the thread goes back to where its last trap was taken.
+#[inline(always)]
+pub fn return_from_trap(hart: &Hart<'_>, at: PcWord, i: &Ins) -> Executed
+    requires { lag i.now false false ≡ redirect_lag }
+    ensures refines { Refines hart.now hart.now result (go_to (own_of hart.now) at.word
+        (own_of hart.now).trap.mepc Nothing) }
+    ensures pc { result.pc % 4 ≡ 0 }
     ensures showable { IsShowable result.effect }
     ensures store { IsAlignedStore result.effect }
     ensures word { result.word ≡ at.word }
     ensures address { result.address ≡ 0 }
 {
-    if until <= now {
-        return go_on(at, Onward::Elsewhere, Effect::Nothing);
+    Executed {
+        pc: hart.traps.leave(hart.thread),
+        lag: lag_of(i, false, false),
+        word: at.word,
+        address: 0,
+        effect: Some(Effect::Nothing),
     }
-    own.sleep = match own.timer.armed {
-        Some(armed) => until.min(armed),
-        None => until,
-    };
-    go_on(at, Onward::Elsewhere, Effect::Wait)
 }

@@ -5,7 +5,7 @@ ghost use Rattle.rv_decode.specs.Fields.{field};
 ghost use Rattle.rv_decode.specs.Table.{ins};
 ghost use Rattle.core_model.specs.Issue.{source_1, source_2};
 
-use crate::step::sources_of;
+use crate::sources::sources_of;
 use rv_decode::decode;
 
 /// The bits that tell a word of 32 bits from a shorter one. Each entry that isn't 0 has them.
