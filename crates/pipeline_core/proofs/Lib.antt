@@ -1,7 +1,6 @@
 pub mod Registers
 pub mod Pcs
-pub mod Acts
 pub mod Forwarding
 pub mod Standing
-pub mod Plain
+pub mod Issue
 pub mod Stepping

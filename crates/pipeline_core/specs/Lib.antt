@@ -1,11 +1,11 @@
 pub mod StageFacts
 pub mod AsDefined
-pub mod AccessRights
 pub use Rattle.core_model.specs.Memory
 pub use Rattle.core_model.specs.Thread
 pub use Rattle.core_model.specs.declared.own.Own
 pub use Rattle.fp_ports.specs.Rows
 pub use Rattle.hart_exec.specs.AsDefined as HartExecAsDefined
+pub use Rattle.hart_exec.specs.Units as HartUnits
 pub use Rattle.pipe_model.specs.PipelineLaws
 pub use Rattle.pipe_model.specs.Relation
 pub use Rattle.pipe_model.specs.Stages

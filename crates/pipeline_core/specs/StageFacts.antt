@@ -1,5 +1,5 @@
 -- What holds of everything that stands in a stage register.
-use Rattle.std.specs.Prelude.{◌≡◌, ℕ, ◌<◌, ◌%◌, ◌==◌, Bool, false, not, ◌&&◌, ◌||◌, Option, Some, None, IsTrue}
+use Rattle.std.specs.Prelude.{◌≡◌, ℕ, ◌<◌, ◌%◌, ◌==◌, Bool, false, not, ◌&&◌, ◌||◌, Option, Some, None}
 use Rattle.std.proofs.Common.{inl, inr, ap, arith}
 use Rattle.std.proofs.Math.Nat.{ℕ_set}
 use Rattle.std.proofs.Math.Bridge.{le_prop}
@@ -13,7 +13,6 @@ use Rattle.rv_exec.specs.declared.outcome.Event.{Event}
 use Rattle.rv_exec.specs.declared.outcome.Effect.TheVariants as effect
 use Rattle.region_guard.specs.MemoryMap.{port_address}
 use Rattle.region_guard.specs.Regions.{is_code, is_data}
-use Rattle.core_model.specs.Csr.{may_hold}
 use Rattle.core_model.specs.Issue.{is_load}
 use Rattle.hart_exec.specs.AsDefined.{IsShowable, IsAlignedStore}
 use Rattle.pipe_model.specs.declared.stage_registers.Held.{Held}
@@ -87,11 +86,6 @@ IsEventShowable None = Unit {0}
 abbrev pub RedirectFits : Option Redirect → Type 0
 RedirectFits (Some r) = (r.thread < 8) × IsPc r.pc
 RedirectFits None = Unit {0}
-
--- a control and status register is given a word that it may hold
-abbrev pub IsAccepted : Option Effect → Type 0
-IsAccepted (Some (effect.Csr csr value rd old)) = IsTrue (may_hold csr value)
-IsAccepted _ = Unit {0}
 
 -- each of these holds in one way
 width-prop : (size : ℕ) → IsProp (IsWidth size)

@@ -93,10 +93,7 @@ fn is_due(timers: &Timers, clock: &Clock, cycle: u64, thread: u8) -> bool
     requires cycle { cycle < most_cycles }
     ensures { result ≡ is_due (timer_of timers.now thread).armed (time clock.now (cycle - 1)) }
 {
-    match timers.armed(thread) {
-        Some(moment) => moment <= clock.now(cycle.saturating_sub(1)),
-        None => false,
-    }
+    timers.due(thread, clock.now(cycle.saturating_sub(1)))
 }
 
 /// An issue with its sources, and whether its thread's armed moment was reached when it was issued,

@@ -8,7 +8,6 @@ mod fetch;
 mod memory;
 mod memory_stage;
 mod pipe;
-mod rights;
 mod units;
 mod writeback;
 

@@ -193,19 +193,7 @@ impl Pipe {
         ensures m { self.new.m ≡ self.old.m }
         ensures w { self.new.w ≡ self.old.w }
     {
-        execute_stage(
-            &mut units.guard,
-            &mut units.sched,
-            &mut units.timers,
-            &mut units.traps,
-            &units.confined,
-            &units.permit,
-            &units.clock,
-            cycle,
-            &self.d,
-            &mut self.e,
-            redirect,
-        )
+        execute_stage(units, cycle, &self.d, &mut self.e, redirect)
     }
 
     /// D and F, by what E tells: where its answer was that a thread's next turns are flushed, that

@@ -38,3 +38,16 @@ pub struct Units {
     ghost imem_size: { length imem ≡ guard.size / 4 },
     ghost dmem_size: { length dmem ≡ guard.size / 4 },
 }
+
+impl Units {
+    ghost use Rattle.std.specs.Prelude.{◌<◌, slice_index_or, true};
+
+    /// Whether a thread is confined.
+    #[inline(always)]
+    pub(crate) fn is_confined(&self, thread: u8) -> bool
+        requires { thread < 8 }
+        ensures { result ≡ slice_index_or self.now.confined thread true }
+    {
+        self.confined[thread as usize]
+    }
+}

@@ -1,26 +1,46 @@
--- An issue that leaves what its thread owns.
-use Rattle.std.proofs.Common.{ap, sym, ◌∙◌}
+-- What an executed issue leaves.
+use Rattle.std.proofs.Common.{◌-◌, ap, sym, refl, ◌∙◌}
+use Rattle.timer_unit.specs.Time.{time}
+use Rattle.core_model.specs.Thread.{Around}
+use Rattle.world_model.specs.World.{around}
+use Rattle.hart_exec.specs.Units.{asked}
 use Rattle.pipe_model.specs.Stages.{After, execute_stage}
-use Rattle.pipeline_core.specs.AsDefined.{control_as_defined}
-use Rattle.pipeline_core.proofs.Plain.{plain_after, shown_executed}
+use Rattle.pipeline_core.specs.AsDefined.{registers_as_defined}
+use Rattle.pipeline_core.proofs.Issue.{issue_after, size_after}
 use Rattle.pipeline_core.proofs.execute.execute_issue.Goals as goal
 
 pub returns-clause-e : goal.returns-clause-e
-unfolding execute_stage
+unfolding execute_stage asked around
 returns-clause-e c =
-    rw (c.leave.ensures.e, shown_executed c.args.x.now c.in-Some.done c.in-Some.ensures.shown)
-    (ap (λ (r : After). r.e) (plain_after _ _ c.args.thread c.args.x.now (control_as_defined c.args.sched.now c.args.guard.now c.args.timers.now c.args.traps.now)
-    c.in-Some.done c.of-rights.ensures c.in-Some.ensures.did c.in-Some.ensures.plain))
+    let u = c.args.units.now in
+    let a : Around = around (time u.clock (c.args.cycle - 2)) u.guard.size u.confined u.permit (registers_as_defined u.sched u.guard) c.args.thread in
+    c.leave.ensures.e
+    ∙ ap (λ (r : After). r.e) (issue_after _ _ _ c.args.x.now a (rw (c.now.ensures, c.saturating_sub.ensures, c.is_confined.ensures) refl) c.execute_in-done.ensures.refines)
 
 pub returns-clause-redirect : goal.returns-clause-redirect
-unfolding execute_stage
+unfolding execute_stage asked around
 returns-clause-redirect c =
-    sym (ap (λ (r : After). r.redirect) (plain_after _ _ c.args.thread c.args.x.now (control_as_defined c.args.sched.now c.args.guard.now c.args.timers.now c.args.traps.now)
-    c.in-Some.done c.of-rights.ensures c.in-Some.ensures.did c.in-Some.ensures.plain))
+    let u = c.args.units.now in
+    let a : Around = around (time u.clock (c.args.cycle - 2)) u.guard.size u.confined u.permit (registers_as_defined u.sched u.guard) c.args.thread in
+    sym (ap (λ (r : After). r.redirect) (issue_after _ _ _ c.args.x.now a (rw (c.now.ensures, c.saturating_sub.ensures, c.is_confined.ensures) refl) c.execute_in-done.ensures.refines))
     ∙ c.leave.ensures.redirect
 
-pub returns-clause-control : goal.returns-clause-control
-unfolding execute_stage
-returns-clause-control c =
-    ap (λ (r : After). r.control) (plain_after _ _ c.args.thread c.args.x.now (control_as_defined c.args.sched.now c.args.guard.now c.args.timers.now c.args.traps.now)
-    c.in-Some.done c.of-rights.ensures c.in-Some.ensures.did c.in-Some.ensures.plain)
+pub returns-clause-units : goal.returns-clause-units
+unfolding execute_stage asked around
+returns-clause-units c ports =
+    let u = c.args.units.now in
+    let a : Around = around (time u.clock (c.args.cycle - 2)) u.guard.size u.confined u.permit (registers_as_defined u.sched u.guard) c.args.thread in
+    let control = ap (λ (r : After). r.control) (issue_after _ _ _ c.args.x.now a (rw (c.now.ensures, c.saturating_sub.ensures, c.is_confined.ensures) refl) c.execute_in-done.ensures.refines) in
+    let size = size_after _ _ _ _ c.execute_in-done.ensures.refines in
+    λ j. record {
+      bank = u.bank;
+      i_words = u.imem;
+      d_words = u.dmem;
+      control = control j;
+      last = u.scheduler;
+      period = u.clock;
+      size = size j;
+      confined = u.confined;
+      permit = u.permit;
+      ports = ports;
+    }

@@ -1,5 +1,5 @@
 -- The way tells the redirect.
-use Rattle.pipeline_core.proofs.Plain.{redirecting}
+use Rattle.pipeline_core.proofs.Issue.{redirecting}
 use Rattle.pipeline_core.proofs.execute.leave.Goals as goal
 
 pub returns-clause-redirect : goal.returns-clause-redirect
