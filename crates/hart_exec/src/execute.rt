@@ -24,13 +24,7 @@ use timer_unit::moment;
 /// An instruction whose result has no trap.
 #[tactic(auto, unfolding(core_model::specs::Issue::execute_untrapped, rv_decode::specs::Lag::lag, crate::specs::Units::asked), using(crate::proofs::Zero::aligned_zero))]
 #[inline(always)]
-fn execute_untrapped(
-    hart: &mut Hart<'_>,
-    at: PcWord,
-    s: Sources,
-    o: &Outcome,
-    i: &Ins,
-) -> Executed
+fn execute_untrapped(hart: &mut Hart<'_>, at: PcWord, s: Sources, o: &Outcome, i: &Ins) -> Executed
     requires range { InRange i.now }
     requires pc { at.pc % 4 ≡ 0 }
     requires target { HasTarget i.now o.now }

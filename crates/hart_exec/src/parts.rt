@@ -141,11 +141,7 @@ pub fn branch_on(at: PcWord, i: &Ins, taken: bool, target: u32) -> Executed
     ensures address { result.address ≡ 0 }
 {
     Executed {
-        pc: if taken {
-            target
-        } else {
-            at.pc.wrapping_add(4)
-        },
+        pc: if taken { target } else { at.pc.wrapping_add(4) },
         lag: lag_of(i, taken, false),
         word: at.word,
         address: 0,

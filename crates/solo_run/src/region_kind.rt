@@ -15,20 +15,8 @@ pub enum RegionKind {
 
 impl RegionKind {
     ghost use Rattle.std.specs.Prelude.{◌≡◌, ◌≤◌};
-    ghost use Rattle.region_guard.specs.Regions.{is_readable, is_writable, is_mine};
+    ghost use Rattle.region_guard.specs.Regions.{is_readable};
     ghost use Rattle.solo_run.specs.RegionKinds.{kind_as_defined, kind_of_number};
-
-    /// The kind that a number of a view means; above 3 there is none.
-    pub fn from_number(number: u8) -> RegionKind
-        ensures { kind_as_defined result ≡ kind_of_number number }
-    {
-        match number {
-            0 => RegionKind::Mine,
-            1 => RegionKind::ReadOnly,
-            2 => RegionKind::Shared,
-            _ => RegionKind::Foreign,
-        }
-    }
 
     /// Its number in a view, 0 to 3.
     pub fn number(self) -> u8
@@ -48,19 +36,5 @@ impl RegionKind {
         ensures { result ≡ is_readable (kind_as_defined self) }
     {
         matches!(self, RegionKind::Mine | RegionKind::ReadOnly)
-    }
-
-    /// Whether the thread may store there.
-    pub fn is_writable(self) -> bool
-        ensures { result ≡ is_writable (kind_as_defined self) }
-    {
-        matches!(self, RegionKind::Mine | RegionKind::Shared)
-    }
-
-    /// Whether a store there changes what the thread reads.
-    pub fn is_mine(self) -> bool
-        ensures { result ≡ is_mine (kind_as_defined self) }
-    {
-        self == RegionKind::Mine
     }
 }

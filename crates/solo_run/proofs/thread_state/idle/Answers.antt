@@ -1,0 +1,9 @@
+-- A table of which no slot is used is one.
+use Rattle.nibble_word.specs.Nibbles.{nibbles}
+use Rattle.slot_table.specs.Table.{is_table}
+use Rattle.solo_run.proofs.Accepted.{accepted}
+use Rattle.solo_run.proofs.thread_state.idle.Goals as goal
+
+pub unwrap-requires : goal.unwrap-requires
+unfolding nibbles is_table
+unwrap-requires c = accepted _ c.from_word.ensures.accepts

@@ -1,0 +1,60 @@
+//! The region registers of a view: who owns each region, as far as the thread can tell.
+
+ghost use Rattle.std.specs.Prelude.{◌≡◌, ◌<◌, nat_lt, true};
+ghost use Rattle.std.specs.List.{list_all};
+ghost use Rattle.nibble_word.specs.Nibbles.{nibbles};
+ghost use Rattle.region_guard.specs.Regions.{is_owner, region_kind};
+ghost use Rattle.fp_setup.specs.SetupOfTables.{word_of};
+ghost use Rattle.world_model.specs.Viewed.{region_kinds};
+ghost use Rattle.solo_run.specs.RegionKinds.{kind_of_number, kinds_of_numbers};
+
+use region_guard::Regions;
+
+/// The nibble of a region that is to a thread what a number of a view says. Another thread's is any
+/// other one's.
+#[tactic(auto, unfolding(region_guard::specs::Regions::region_kind))]
+fn owner(number: u8, thread: u8) -> u8
+    requires { thread < 8 }
+    ensures kind { region_kind thread result ≡ kind_of_number number }
+    ensures owner { is_owner result ≡ true }
+    ensures small { result < 16 }
+{
+    match number {
+        0 => thread,
+        1 => 12,
+        2 => 8,
+        _ => (thread + 1) % 8,
+    }
+}
+
+/// The word of eight nibbles, the lowest first.
+fn word_of(digits: &[u8; 8]) -> u32
+    requires { list_all (λ n. nat_lt n 16) digits.now ≡ true }
+    ensures word { result ≡ word_of 16 digits.now }
+    ensures nibbles { nibbles result ≡ digits.now }
+{
+    let mut word = 0u32;
+    for i in (0..8).rev() {
+        word = 16 * word + u32::from(digits[i]);
+    }
+    word
+}
+
+/// A region register in which each region is to a thread what the numbers of a view say.
+pub fn regions(numbers: [u8; 8], thread: u8) -> Regions
+    requires { thread < 8 }
+    ensures { region_kinds thread result ≡ kinds_of_numbers numbers }
+{
+    let [a, b, c, d, e, f, g, h] = numbers;
+    let nibbles = [
+        owner(a, thread),
+        owner(b, thread),
+        owner(c, thread),
+        owner(d, thread),
+        owner(e, thread),
+        owner(f, thread),
+        owner(g, thread),
+        owner(h, thread),
+    ];
+    Regions::from_word(word_of(&nibbles)).unwrap()
+}
