@@ -7,7 +7,7 @@ use Rattle.region_tree.specs.Edges.{edges_of}
 use Rattle.region_tree.specs.Graph.{Edge, Holds, edge_list}
 use Rattle.region_tree.specs.Refusals.{EnteredAt, UnboundedAt}
 use Rattle.region_tree.specs.Tree.{IsSection, counts}
-use Rattle.fp_routines.specs.declared.routines.Routine.{Routine}
+use Rattle.call_bounds.specs.declared.routines.Routine.{Routine}
 use Rattle.call_bounds.specs.Calls.{Calls, Part, callee, onward, part, plain, plain_unless, range}
 use Rattle.call_bounds.proofs.Agree.{reach}
 use Rattle.call_bounds.proofs.Composed.{agrees-back}

@@ -2,7 +2,7 @@
 use Rattle.std.proofs.Common.{◌≡◌, ℕ, suc, ◌+◌, ◌<◌, ◌≤◌, ◌==◌, refl, arith, sym, subst, cond, not, nat_lt, if◌then◌else◌, Some, None, List, [], ◌∷◌, length, slice_index_or, Bool, true, false}
 use Rattle.std.specs.List.{position, position_or_len}
 use Rattle.std.proofs.lemmas.Bool.Decides.{nat_tests}
-use Rattle.fp_routines.specs.declared.routines.Routine.{Routine}
+use Rattle.call_bounds.specs.declared.routines.Routine.{Routine}
 use Rattle.call_bounds.specs.Calls.{routine_at}
 
 abbrev pub has : ℕ → Routine → Bool

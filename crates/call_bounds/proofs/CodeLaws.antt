@@ -7,8 +7,8 @@ use Rattle.fp_setup.specs.declared.loop_list.LoopSetup.{LoopSetup}
 use Rattle.region_tree.specs.Tree.{IsSection, tree_with, words_of}
 use Rattle.region_tree.specs.declared.section.Section.{Section}
 use Rattle.region_tree.proofs.DraftLaws.{words-length}
-use Rattle.fp_routines.specs.Routines.{AreRoutines, IsRoutine}
-use Rattle.fp_routines.specs.declared.routines.Routine.{Routine}
+use Rattle.call_bounds.specs.Routines.{AreRoutines, IsRoutine}
+use Rattle.call_bounds.specs.declared.routines.Routine.{Routine}
 use Rattle.call_bounds.specs.Calls.{Calls, Part, callee, linked, range, routine_to}
 use Rattle.call_bounds.specs.Listing.{Listing, calls, part_at, part_count, scratchpad}
 use Rattle.call_bounds.specs.Patched.{part_tree, patch, patched}

@@ -10,7 +10,7 @@ use Rattle.bound_calc.specs.Best.{Entries, IsBest}
 use Rattle.bound_calc.specs.Passing.{WaysOn, over, index}
 use Rattle.bound_calc.specs.Section.{IsAccepted, net, whole}
 use Rattle.bound_calc.specs.Ways.{Reaches}
-use Rattle.fp_routines.specs.declared.routines.Routine.{Routine}
+use Rattle.call_bounds.specs.declared.routines.Routine.{Routine}
 use Rattle.call_bounds.specs.Calls.{Calls, Part, callee, onward, part, range}
 use Rattle.call_bounds.specs.CallWalk.{Route}
 use Rattle.call_bounds.specs.Field.{field}

@@ -10,8 +10,8 @@ use Rattle.region_tree.specs.Graph.{Lies}
 use Rattle.region_tree.specs.Refusals.{IsAllowed}
 use Rattle.region_tree.specs.Tree.{counts}
 use Rattle.bound_calc.proofs.Outermost.{cons-cases, cons-first, cons-rest}
-use Rattle.fp_routines.specs.Routines.{IsRoutine, Rise}
-use Rattle.fp_routines.specs.declared.routines.Routine.{Routine}
+use Rattle.call_bounds.specs.Routines.{IsRoutine, Rise}
+use Rattle.call_bounds.specs.declared.routines.Routine.{Routine}
 use Rattle.call_bounds.specs.CallRefusals.{IsCallable, IsListing}
 use Rattle.call_bounds.specs.Calls.{Calls, CallsLead, IsReached, Part, callee, linked, part, range, routine_at, routine_to}
 use Rattle.bound_calc.proofs.Accepted.{accepted-of}

@@ -8,7 +8,7 @@ use Rattle.region_tree.specs.Walk.{counted}
 use Rattle.bound_calc.proofs.Accepted.{holds-or}
 use Rattle.bound_calc.proofs.Counters.{counted-other, counted-≤}
 use Rattle.bound_calc.proofs.Embed.{is_or_not}
-use Rattle.fp_routines.specs.declared.routines.Routine.{Routine}
+use Rattle.call_bounds.specs.declared.routines.Routine.{Routine}
 use Rattle.call_bounds.specs.Calls.{Calls, CallsLead, Counts, IsReached, Part, part, range}
 use Rattle.call_bounds.specs.CallWalk.{CallWalk, Route, called, part_in}
 use Rattle.call_bounds.specs.Runs.{Run}

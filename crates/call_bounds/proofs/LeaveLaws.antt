@@ -14,7 +14,7 @@ use Rattle.bound_calc.specs.Matrices.{entry}
 use Rattle.bound_calc.specs.Passing.{WaysOn, edges_at, leaves, matrix_at, moved, index}
 use Rattle.bound_calc.specs.declared.matrix.Matrix.{Matrix}
 use Rattle.bound_calc.proofs.MostLaws.{leaves-not, not-leaves}
-use Rattle.fp_routines.specs.declared.routines.Routine.{Routine}
+use Rattle.call_bounds.specs.declared.routines.Routine.{Routine}
 use Rattle.call_bounds.specs.Calls.{Calls, Part, callee, onward, part, plain, plain_unless, range}
 use Rattle.call_bounds.specs.CallWalk.{Route}
 use Rattle.call_bounds.specs.Field.{moves}

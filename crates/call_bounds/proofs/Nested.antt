@@ -6,7 +6,7 @@ use Rattle.region_tree.specs.Graph.{Lies, Reachable}
 use Rattle.region_tree.specs.Graph.Reachable.{first, next}
 use Rattle.region_tree.specs.Walk.{IsNextTurn, counted}
 use Rattle.bound_calc.proofs.Counters.{counted-other, counted-≤}
-use Rattle.fp_routines.specs.declared.routines.Routine.{Routine}
+use Rattle.call_bounds.specs.declared.routines.Routine.{Routine}
 use Rattle.call_bounds.specs.Calls.{Calls, CallsLead, IsReached, Part, callee, part}
 use Rattle.call_bounds.specs.CallWalk.{CallWalk, Route, called, part_in}
 use Rattle.call_bounds.specs.Runs.{Run}

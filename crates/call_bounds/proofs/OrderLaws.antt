@@ -3,16 +3,16 @@ use Rattle.std.proofs.Common.{◌≡◌, ◌≢◌, ℕ, ◌+◌, ◌<◌, ◌�
 use Rattle.std.proofs.Math.ListN.{get_or-append}
 use Rattle.std.proofs.lemmas.List.{get_or-append-add}
 use Rattle.std.proofs.lemmas.List.Sums.{count_by-le-length, sum_by-cons}
-use Rattle.led_parts.specs.Led.{DoesCall as DoesRow, IsExact, Led, is_met, unmet}
-use Rattle.led_parts.proofs.RankLaws.{rank-falls}
+use Rattle.call_bounds.specs.Reachability.{DoesCall as DoesRow, IsExact, Led, is_met, unmet}
+use Rattle.call_bounds.proofs.RankLaws.{rank-falls}
 use Rattle.region_tree.specs.Refusals.{IsLowest, Nowhere}
 use Rattle.region_tree.specs.declared.section.Section.{Section}
-use Rattle.fp_routines.specs.declared.routines.Routine.{Routine}
+use Rattle.call_bounds.specs.declared.routines.Routine.{Routine}
 use Rattle.call_bounds.specs.Build.{AreReached, IsRankOf, IsTable}
 use Rattle.call_bounds.specs.CallRefusals.{IsListing, RecursionAt}
 use Rattle.call_bounds.specs.Calls.{CallsLead, IsReached, range}
 use Rattle.call_bounds.specs.Listing.{AreRanks, Listing, calls, part_at, part_count, rank_at}
-use Rattle.call_bounds.proofs.LedParts.{back-of, call-reaches, lead-of, reached-row, row-of, row-reached}
+use Rattle.call_bounds.proofs.ReachedParts.{back-of, call-reaches, lead-of, reached-row, row-of, row-reached}
 use Rattle.call_bounds.proofs.Numbers.{heads-rise, reached-number, routine-of}
 use Rattle.call_bounds.proofs.Parts.{lead-from}
 

@@ -4,8 +4,8 @@ use Rattle.std.proofs.lemmas.List.{get_or_default}
 use Rattle.std.proofs.lemmas.List.Elements.{Contains-get_or}
 use Rattle.region_tree.specs.Refusals.{IsLowest, Nowhere}
 use Rattle.region_tree.specs.declared.section.Section.{Section}
-use Rattle.fp_routines.specs.Routines.{AreRoutines}
-use Rattle.fp_routines.specs.declared.routines.Routine.{Routine}
+use Rattle.call_bounds.specs.Routines.{AreRoutines}
+use Rattle.call_bounds.specs.declared.routines.Routine.{Routine}
 use Rattle.call_bounds.specs.CallRefusals.{OverlapAt}
 use Rattle.call_bounds.specs.Calls.{Calls}
 use Rattle.call_bounds.proofs.Numbers.{rise-apart}

@@ -12,7 +12,7 @@ use Rattle.bound_calc.specs.Matrices.{entry}
 use Rattle.bound_calc.specs.Passing.{AreReached, Ended, WayTable, WaysOn, matrix_at, no_matrix, picked, index, ways_on}
 use Rattle.bound_calc.specs.Section.{IsAccepted, Steps}
 use Rattle.bound_calc.specs.declared.matrix.Matrix.{Matrix}
-use Rattle.fp_routines.specs.declared.routines.Routine.{Routine}
+use Rattle.call_bounds.specs.declared.routines.Routine.{Routine}
 use Rattle.call_bounds.specs.CallRefusals.{IsListing}
 use Rattle.call_bounds.specs.Calls.{Calls, IsReached, Part, callee, part, range, returns}
 use Rattle.call_bounds.specs.CallWalk.{Route}

@@ -5,7 +5,7 @@ use Rattle.region_tree.specs.Edges.{edges_of}
 use Rattle.region_tree.specs.Graph.{Edge, Lies, Reachable, edge_list}
 use Rattle.region_tree.specs.Graph.Reachable.{first, next}
 use Rattle.bound_calc.specs.Section.{IsAccepted}
-use Rattle.fp_routines.specs.declared.routines.Routine.{Routine}
+use Rattle.call_bounds.specs.declared.routines.Routine.{Routine}
 use Rattle.call_bounds.specs.Calls.{Calls, CallsLead, IsReached, Part, callee, onward, part, plain, plain_unless}
 
 -- What is known of parts where nothing refuses.

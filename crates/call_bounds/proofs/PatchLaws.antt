@@ -13,7 +13,7 @@ use Rattle.region_tree.specs.declared.section.Section.{Section}
 use Rattle.region_tree.specs.declared.edges.Stop.{Stop}
 use Rattle.region_tree.specs.declared.edges.Stop.TheVariants.{No}
 use Rattle.region_tree.proofs.EdgeLaws.{edge-aligned}
-use Rattle.fp_routines.specs.declared.routines.Routine.{Routine}
+use Rattle.call_bounds.specs.declared.routines.Routine.{Routine}
 use Rattle.call_bounds.specs.Calls.{Calls, Part, callee, is_back, linked, onward, part, range, returns, routine_to, stop_unless}
 use Rattle.call_bounds.specs.Patched.{part_tree, patch, patched}
 use Rattle.call_bounds.proofs.Agree.{Agree}

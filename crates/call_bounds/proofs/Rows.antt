@@ -5,7 +5,7 @@ use Rattle.rv_decode.specs.Table.{ins, rows, lui_rows, auipc_rows, jal_rows, jal
 use Rattle.region_tree.specs.Edges.{edges_from, edges_of}
 use Rattle.region_tree.specs.Graph.{Lies}
 use Rattle.region_tree.specs.Walk.{IsNextTurn, IsOwn, Positions}
-use Rattle.fp_routines.specs.declared.routines.Routine.{Routine}
+use Rattle.call_bounds.specs.declared.routines.Routine.{Routine}
 use Rattle.call_bounds.specs.Calls.{Calls, Part, callee, is_back, linked, part, plain, routine_at}
 use Rattle.call_bounds.specs.CallWalk.{CallWalk, CostsOf, Route, WithinBounds}
 

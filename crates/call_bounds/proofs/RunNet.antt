@@ -9,7 +9,7 @@ use Rattle.bound_calc.specs.Context.{IsNested, IsPart, May, Walk}
 use Rattle.bound_calc.specs.Section.{IsAccepted, net, whole}
 use Rattle.bound_calc.proofs.Counters.{counted-in, counted-other, kept}
 use Rattle.bound_calc.proofs.Embed.{is_or_not}
-use Rattle.fp_routines.specs.declared.routines.Routine.{Routine}
+use Rattle.call_bounds.specs.declared.routines.Routine.{Routine}
 use Rattle.call_bounds.specs.Calls.{Calls, Part, callee, onward, part, plain, plain_unless}
 use Rattle.call_bounds.specs.CallWalk.{Route}
 use Rattle.call_bounds.specs.Field.{field, moves}

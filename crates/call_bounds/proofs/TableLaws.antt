@@ -3,13 +3,13 @@ use Rattle.std.proofs.Common.{◌≡◌, ◌≢◌, ℕ, ◌+◌, ◌-◌, ◌*�
 use Rattle.std.proofs.Math.ListN.{get_or-append}
 use Rattle.std.proofs.lemmas.List.{get_or-append-add}
 use Rattle.std.proofs.Math.Nat.{mul-le-mul_right}
-use Rattle.led_parts.specs.Led.{is_met}
+use Rattle.call_bounds.specs.Reachability.{is_met}
 use Rattle.region_tree.specs.Graph.{Reachable}
 use Rattle.region_tree.specs.Search.{Before, address}
 use Rattle.region_tree.specs.Tree.{IsDraft, IsSection, Tree, graph}
 use Rattle.region_tree.proofs.DraftLaws.{draft-is}
 use Rattle.region_tree.proofs.GraphLaws.{index-address, index-within, reachable-aligned, reachable-lies}
-use Rattle.fp_routines.specs.declared.routines.Routine.{Routine}
+use Rattle.call_bounds.specs.declared.routines.Routine.{Routine}
 use Rattle.call_bounds.specs.Build.{CallsAt, IsRow, IsRowTo, IsTableTo, Marked}
 use Rattle.call_bounds.specs.CallRefusals.{IsListing}
 use Rattle.call_bounds.specs.Calls.{callee, part, range}

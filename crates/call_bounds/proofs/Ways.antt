@@ -9,7 +9,7 @@ use Rattle.bound_calc.specs.Passing.{moved}
 use Rattle.bound_calc.specs.Section.{Arc, Field, Steps, net}
 use Rattle.bound_calc.specs.Ways.{Reaches}
 use Rattle.bound_calc.specs.declared.matrix.Matrix.{Matrix}
-use Rattle.fp_routines.specs.declared.routines.Routine.{Routine}
+use Rattle.call_bounds.specs.declared.routines.Routine.{Routine}
 use Rattle.call_bounds.specs.Calls.{Part, callee, part}
 use Rattle.call_bounds.specs.CallWalk.{Route}
 use Rattle.call_bounds.specs.Field.{field, moves}

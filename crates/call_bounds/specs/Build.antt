@@ -1,6 +1,6 @@
 -- What the parts of a section with routines are found to be on the way to its tree.
 use Rattle.std.specs.Prelude.{◌≡◌, ℕ, ◌+◌, ◌*◌, ◌<◌, ◌≤◌, ◌⊎◌, ◌↔◌, Bool, true, false, Option, Some, None, List, length, count_by, slice_index_or, Contains}
-use Rattle.led_parts.specs.Led.{IsExact, is_met}
+use Rattle.call_bounds.specs.Reachability.{IsExact, is_met}
 use Rattle.region_tree.specs.Graph.{Edge, Graph, Lies, Reachable}
 use Rattle.region_tree.specs.Refusals.{IndirectAt, NestingAt, TimedAt, UnboundedAt}
 use Rattle.region_tree.specs.Search.{Before, LowestOf, address, lower_of}

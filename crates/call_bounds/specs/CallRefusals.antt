@@ -4,8 +4,8 @@ use Rattle.fp_setup.specs.Loops.{AreLoops}
 use Rattle.region_tree.specs.Tree.{IsSection}
 use Rattle.region_tree.specs.Graph.{Edge, Graph, Lies, Reachable}
 use Rattle.region_tree.specs.Refusals.{IndirectAt, NestingAt, Nowhere, TimedAt, UnboundedAt}
-use Rattle.fp_routines.specs.declared.routines.Routine.{Routine}
-use Rattle.fp_routines.specs.Routines.{AreRoutines}
+use Rattle.call_bounds.specs.declared.routines.Routine.{Routine}
+use Rattle.call_bounds.specs.Routines.{AreRoutines}
 use Rattle.call_bounds.specs.Calls.{Calls, CallsLead, IsReached, Part, part}
 
 -- a routine that has a word in common with the section

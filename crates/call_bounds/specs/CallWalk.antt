@@ -8,7 +8,7 @@ use Rattle.bound_calc.specs.declared.cycle_bound.BoundNo.TheVariants.{NoMemory, 
 use Rattle.fp_setup.specs.declared.loop_list.LoopSetup.{LoopSetup}
 use Rattle.region_tree.specs.Graph.{Edge, Lies}
 use Rattle.region_tree.specs.Walk.{IsNextTurn, IsOwn, Positions, counted}
-use Rattle.fp_routines.specs.declared.routines.Routine.{Routine}
+use Rattle.call_bounds.specs.declared.routines.Routine.{Routine}
 use Rattle.call_bounds.specs.Calls.{Calls, Counts, Part, callee, is_back, part, plain}
 
 -- what call walks go over

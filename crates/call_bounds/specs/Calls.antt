@@ -11,7 +11,7 @@ use Rattle.region_tree.specs.Tree.{counts}
 use Rattle.region_tree.specs.declared.edges.Stop.{Stop}
 use Rattle.region_tree.specs.declared.edges.Stop.TheVariants.{No}
 use Rattle.region_tree.specs.declared.section.Section.{Section}
-use Rattle.fp_routines.specs.declared.routines.Routine.{Routine}
+use Rattle.call_bounds.specs.declared.routines.Routine.{Routine}
 
 -- A section, the listed routines, the words of memory, and the listed loops.
 pub record Calls : Type 0 where

@@ -5,7 +5,7 @@ use Rattle.fp_setup.specs.declared.loop_list.LoopSetup.{LoopSetup}
 use Rattle.region_tree.specs.Graph.{Reachable}
 use Rattle.region_tree.specs.Tree.{Tree, words_of}
 use Rattle.region_tree.specs.declared.section.Section.{Section}
-use Rattle.fp_routines.specs.declared.routines.Routine.{Routine}
+use Rattle.call_bounds.specs.declared.routines.Routine.{Routine}
 use Rattle.call_bounds.specs.Calls.{Calls, IsReached, Part, callee, part}
 use Rattle.call_bounds.specs.CallRefusals.{IsCallable, IsListing}
 use Rattle.call_bounds.specs.Patched.{part_tree}

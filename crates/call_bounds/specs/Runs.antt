@@ -5,7 +5,7 @@ use Rattle.rv_decode.specs.Lag.{redirect_lag}
 use Rattle.fp_setup.specs.declared.loop_list.LoopSetup.{LoopSetup}
 use Rattle.region_tree.specs.Graph.{Edge, Lies}
 use Rattle.region_tree.specs.Walk.{IsNextTurn, IsOwn, counted}
-use Rattle.fp_routines.specs.declared.routines.Routine.{Routine}
+use Rattle.call_bounds.specs.declared.routines.Routine.{Routine}
 use Rattle.call_bounds.specs.Calls.{Part, callee, is_back, part, plain, range}
 use Rattle.call_bounds.specs.CallWalk.{Route}
 

@@ -8,7 +8,7 @@ use Rattle.bound_calc.specs.Matrices.{entry}
 use Rattle.bound_calc.specs.Passing.{WaysOn, edges_at, leaves, matrix_at, moved, no_matrix}
 use Rattle.bound_calc.specs.Section.{Steps}
 use Rattle.bound_calc.specs.declared.matrix.Matrix.{Matrix}
-use Rattle.fp_routines.specs.declared.routines.Routine.{Routine}
+use Rattle.call_bounds.specs.declared.routines.Routine.{Routine}
 use Rattle.call_bounds.specs.CallRefusals.{IsCallable, IsListing}
 use Rattle.call_bounds.specs.Calls.{IsReached, returns}
 use Rattle.call_bounds.specs.CallWalk.{Route}

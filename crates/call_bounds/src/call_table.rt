@@ -1,7 +1,7 @@
 //! Which parts call which.
 
 ghost use Rattle.std.specs.Prelude.{◌≡◌, ℕ, ◌<◌, ◌↔◌, length, false, IfOk, IfSome, Some};
-ghost use Rattle.led_parts.specs.Led.{is_met};
+ghost use Rattle.call_bounds.specs.Reachability.{is_met};
 ghost use Rattle.region_tree.specs.Search.{IsMet};
 ghost use Rattle.region_tree.specs.Tree.{IsDraft};
 ghost use Rattle.call_bounds.specs.Build.{CallsAt, IsRow, IsRowTo, IsTable, Marked};

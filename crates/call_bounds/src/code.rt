@@ -4,11 +4,11 @@ ghost use Rattle.std.specs.Prelude.{◌≡◌, ◌==◌, position, IfOk};
 ghost use Rattle.rv_decode.specs.Table.{ins};
 ghost use Rattle.region_guard.specs.MemoryMap.{large_size};
 ghost use Rattle.fp_setup.specs.Loops.{AreLoops};
-ghost use Rattle.fp_routines.specs.Routines.{AreRoutines};
+ghost use Rattle.call_bounds.specs.Routines.{AreRoutines};
 ghost use Rattle.call_bounds.specs.Calls.{linked};
 
+use crate::routines::{Routine, Routines};
 use fp_image::Image;
-use fp_routines::{Routine, Routines};
 use fp_setup::{LoopSetup, Loops};
 use region_guard::LARGE_SIZE;
 use region_tree::{Draft, LoopTree, Section, TreeNo, edges_of, words};
@@ -105,7 +105,7 @@ impl Code {
     ghost use Rattle.region_tree.specs.Refusals.{IsAllowed, IsRefused};
     ghost use Rattle.region_tree.specs.Tree.{IsSection, graph};
     ghost use Rattle.fp_setup.specs.Loops.{AreLoops};
-    ghost use Rattle.fp_routines.specs.Routines.{AreRoutines};
+    ghost use Rattle.call_bounds.specs.Routines.{AreRoutines};
     ghost use Rattle.call_bounds.specs.CallRefusals.{IsListing};
     ghost use Rattle.call_bounds.specs.Calls.{returns};
     ghost use Rattle.call_bounds.specs.Listing.{calls, listing_of, part_at, part_count};

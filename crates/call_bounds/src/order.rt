@@ -1,7 +1,7 @@
 //! In which order parts call each other.
 
 ghost use Rattle.std.specs.Prelude.{◌≡◌, ℕ, ◌<◌, ◌↔◌, ◌≤◌, ◌*◌, length, true, IfOk, IfErr, IsTrue, OnOk};
-ghost use Rattle.led_parts.specs.Led.{Led, is_met};
+ghost use Rattle.call_bounds.specs.Reachability.{Led, is_met};
 ghost use Rattle.region_tree.specs.Refusals.{Nowhere};
 ghost use Rattle.region_tree.specs.Search.{LowestOf};
 ghost use Rattle.call_bounds.specs.Build.{AreReached, IsRankOf, IsTable};
@@ -10,8 +10,8 @@ ghost use Rattle.call_bounds.specs.CallRefusals.{OverlapAt, RecursionAt};
 ghost use Rattle.call_bounds.specs.Listing.{AreRanks, calls, part_count};
 
 use crate::code::Code;
+use crate::reachability::led_to;
 use crate::tree::CallNo;
-use led_parts::led_to;
 use std::alloc::{AllocError, Global};
 
 /// Which parts are reached.

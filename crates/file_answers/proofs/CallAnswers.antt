@@ -2,7 +2,7 @@
 use Rattle.std.proofs.Common.{◌≡◌, ◌<◌, ◌^◌, ℕ, List, None, Ok, Err, Option, Result, Some, ap, ap₂, inl, inr, refl, subst, sym, ◌∙◌}
 use Rattle.std.specs.Prelude.{IfErr, IfOk, IfSome}
 use Rattle.fp_io.specs.Content.{FileMap}
-use Rattle.fp_routines.specs.declared.routines.Routine.{Routine}
+use Rattle.call_bounds.specs.declared.routines.Routine.{Routine}
 use Rattle.fp_setup.specs.Settings.{size_of}
 use Rattle.region_tree.specs.declared.section.Section.{Section}
 use Rattle.bound_calc.specs.declared.cycle_bound.BoundNo.{BoundNo}

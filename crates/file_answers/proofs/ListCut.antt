@@ -2,12 +2,12 @@
 use Rattle.std.proofs.Common.{◌≡◌, ℕ, zero, suc, ◌+◌, ◌*◌, ◌<◌, List, [], ◌∷◌, length, take, drop, min, Option, Some, None, Result, Ok, Err, refl, sym, ap, subst, ◌∙◌, arith, take-append-drop}
 use Rattle.std.proofs.Math.Seq.{take-nil}
 use Rattle.std.proofs.lemmas.List.{drop-take, length-take, take-take}
-use Rattle.fp_routines.specs.RoutinesFile.{and_then, lines_of, routine_at, routines_from, routines_of}
-use Rattle.fp_routines.specs.declared.refusals.RoutinesNo.TheVariants.{TooMany}
-use Rattle.fp_routines.specs.declared.refusals.RoutinesRefused.{RoutinesRefused}
-use Rattle.fp_routines.specs.declared.refusals.RoutinesRefused.TheVariants.{Fault}
-use Rattle.fp_routines.specs.declared.routines.Routine.{Routine}
-use Rattle.fp_routines.proofs.FileLines.{line-next, line-stops}
+use Rattle.call_bounds.specs.RoutinesFile.{and_then, lines_of, routine_at, routines_from, routines_of}
+use Rattle.call_bounds.specs.declared.routines_refusals.RoutinesNo.TheVariants.{TooMany}
+use Rattle.call_bounds.specs.declared.routines_refusals.RoutinesRefused.{RoutinesRefused}
+use Rattle.call_bounds.specs.declared.routines_refusals.RoutinesRefused.TheVariants.{Fault}
+use Rattle.call_bounds.specs.declared.routines.Routine.{Routine}
+use Rattle.call_bounds.proofs.RoutineLines.{line-next, line-stops}
 use Rattle.file_answers.specs.CallsAnswer.{of_routines, routines_in}
 use Rattle.program_files.proofs.Cuts.{IsCut}
 

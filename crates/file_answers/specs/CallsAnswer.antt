@@ -4,10 +4,10 @@ use Rattle.fp_io.specs.Content.{Request}
 use Rattle.fp_setup.specs.Settings.{size_of}
 use Rattle.fp_image.specs.Rules.{word}
 use Rattle.region_tree.specs.declared.section.Section.{Section}
-use Rattle.fp_routines.specs.RoutinesFile.{routines_of}
-use Rattle.fp_routines.specs.declared.refusals.RoutinesRefused.{RoutinesRefused}
-use Rattle.fp_routines.specs.declared.refusals.RoutinesRefused.TheVariants.{Fault, NoMemory}
-use Rattle.fp_routines.specs.declared.routines.Routine.{Routine}
+use Rattle.call_bounds.specs.RoutinesFile.{routines_of}
+use Rattle.call_bounds.specs.declared.routines_refusals.RoutinesRefused.{RoutinesRefused}
+use Rattle.call_bounds.specs.declared.routines_refusals.RoutinesRefused.TheVariants.{Fault, NoMemory}
+use Rattle.call_bounds.specs.declared.routines.Routine.{Routine}
 use Rattle.call_bounds.specs.CallRefusals.{IsCallable, IsListing}
 use Rattle.call_bounds.specs.CallRefused.{IsCallRefused}
 use Rattle.call_bounds.specs.CallWalk.{CostsOf, IsCallBound, route}

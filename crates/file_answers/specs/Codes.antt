@@ -4,8 +4,8 @@ use Rattle.fp_asm.specs.declared.refusal.AsmNo.{AsmNo}
 use Rattle.fp_asm.specs.declared.refusal.AsmNo.TheVariants as in_source
 use Rattle.fp_elf.specs.declared.refusals.ElfNo.{ElfNo}
 use Rattle.fp_elf.specs.declared.refusals.ElfNo.TheVariants as in_elf
-use Rattle.fp_routines.specs.declared.refusals.RoutinesNo.{RoutinesNo}
-use Rattle.fp_routines.specs.declared.refusals.RoutinesNo.TheVariants as in_list
+use Rattle.call_bounds.specs.declared.routines_refusals.RoutinesNo.{RoutinesNo}
+use Rattle.call_bounds.specs.declared.routines_refusals.RoutinesNo.TheVariants as in_list
 use Rattle.call_bounds.specs.declared.tree.CallNo.{CallNo}
 use Rattle.call_bounds.specs.declared.tree.CallNo.TheVariants as in_calls
 use Rattle.region_tree.specs.declared.tree.TreeNo.{TreeNo}

@@ -6,10 +6,10 @@ use Rattle.fp_io.specs.Content.{FileMap}
 use Rattle.fp_ports.specs.Rows.{Row}
 use Rattle.ask_words.specs.declared.asked.Ask.{Ask}
 use Rattle.ask_words.specs.declared.asked.Ask.TheVariants.{Run, Dump, Asm, Bound, Selfrun, Phases, Solo, Check, Elf, Calls}
-use Rattle.fp_routines.specs.RoutinesFile.{routines_of}
-use Rattle.fp_routines.specs.declared.refusals.RoutinesRefused.{RoutinesRefused}
-use Rattle.fp_routines.specs.declared.refusals.RoutinesRefused.TheVariants as in_list
-use Rattle.fp_routines.specs.declared.routines.Routine.{Routine}
+use Rattle.call_bounds.specs.RoutinesFile.{routines_of}
+use Rattle.call_bounds.specs.declared.routines_refusals.RoutinesRefused.{RoutinesRefused}
+use Rattle.call_bounds.specs.declared.routines_refusals.RoutinesRefused.TheVariants as in_list
+use Rattle.call_bounds.specs.declared.routines.Routine.{Routine}
 use Rattle.call_bounds.specs.Listing.{calls}
 use Rattle.call_bounds.specs.declared.tree.CallNo.{CallNo}
 use Rattle.call_bounds.specs.declared.tree.CallNo.TheVariants as in_calls

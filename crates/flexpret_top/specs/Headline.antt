@@ -7,8 +7,8 @@ use Rattle.fp_ports.specs.Rows.{Row}
 use Rattle.ask_words.specs.declared.asked.Ask.{Ask}
 use Rattle.ask_words.specs.declared.asked.Ask.TheVariants.{Run, Bound, Solo, Elf, Calls}
 use Rattle.bound_calc.specs.Bound.{IsBound, course}
-use Rattle.fp_routines.specs.RoutinesFile.{routines_of}
-use Rattle.fp_routines.specs.declared.routines.Routine.{Routine}
+use Rattle.call_bounds.specs.RoutinesFile.{routines_of}
+use Rattle.call_bounds.specs.declared.routines.Routine.{Routine}
 use Rattle.call_bounds.specs.CallWalk.{IsCallBound, route}
 use Rattle.call_bounds.specs.Listing.{calls}
 use Rattle.section_visits.specs.CallVisits.{IsCallVisit, KeepsReturns, KeepsBounds as KeepsCallBounds}

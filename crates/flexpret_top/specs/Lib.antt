@@ -30,8 +30,8 @@ pub use Rattle.fp_io.specs.Content
 pub use Rattle.fp_io.specs.Memory
 pub use Rattle.fp_ports.specs.Rows
 pub use Rattle.fp_ports.specs.ShownWords
-pub use Rattle.fp_routines.specs.RoutinesFile
-pub use Rattle.fp_routines.specs.declared.routines.Routine
+pub use Rattle.call_bounds.specs.RoutinesFile
+pub use Rattle.call_bounds.specs.declared.routines.Routine
 pub use Rattle.fp_setup.specs.Rules
 pub use Rattle.fp_setup.specs.Settings
 pub use Rattle.fp_setup.specs.declared.input_list.Input

@@ -11,7 +11,7 @@ use Rattle.region_tree.specs.Graph.Reachable.{first, next}
 use Rattle.region_tree.specs.Walk.{IsNextTurn}
 use Rattle.region_tree.specs.declared.edges.Stop.TheVariants.{No}
 use Rattle.world_model.specs.World.{Start, contents, issue_of, recent, surroundings, thread_of}
-use Rattle.fp_routines.specs.declared.routines.Routine.{Routine}
+use Rattle.call_bounds.specs.declared.routines.Routine.{Routine}
 use Rattle.section_visits.proofs.Instructions.{Gone, issue-fetches, issue-goes}
 use Rattle.section_visits.proofs.Linking.{AreBelow, Went, all-below, below-at, linked-after, linked-own, linked_all}
 use Rattle.section_visits.proofs.Scheduled.{always-set, quiet-keeps}

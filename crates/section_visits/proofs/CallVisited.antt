@@ -11,7 +11,7 @@ use Rattle.region_tree.specs.Graph.{Edge, Lies, Reachable, edge_list}
 use Rattle.region_tree.specs.Walk.{IsNextTurn, counted}
 use Rattle.region_tree.specs.declared.edges.Stop.{Stop}
 use Rattle.region_tree.specs.declared.edges.Stop.TheVariants.{No, Indirect, Timed}
-use Rattle.fp_routines.specs.declared.routines.Routine.{Routine}
+use Rattle.call_bounds.specs.declared.routines.Routine.{Routine}
 use Rattle.call_bounds.specs.Calls.{Calls, Counts, IsReached, Part, callee, is_back, linked, part, plain, plain_unless, routine_at, routine_to}
 use Rattle.call_bounds.specs.CallRefusals.{IsCallable}
 use Rattle.call_bounds.specs.CallWalk.{CallWalk, CostsOf, Route, called, part_in}

@@ -3,7 +3,7 @@ use Rattle.std.specs.Prelude.{◌≡◌, ◌⊎◌, ℕ, ◌+◌, ◌≤◌, Boo
 use Rattle.fp_setup.specs.declared.loop_list.LoopSetup.{LoopSetup}
 use Rattle.region_tree.specs.Graph.{Lies}
 use Rattle.region_tree.specs.Walk.{counted}
-use Rattle.fp_routines.specs.declared.routines.Routine.{Routine}
+use Rattle.call_bounds.specs.declared.routines.Routine.{Routine}
 use Rattle.section_visits.specs.Visits.{Issued, first_of}
 use Rattle.call_bounds.specs.Calls.{Calls, Counts, callee, is_back, part}
 use Rattle.call_bounds.specs.CallWalk.{called, part_in}

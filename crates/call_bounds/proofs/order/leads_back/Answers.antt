@@ -1,6 +1,6 @@
 use Rattle.std.proofs.Common.{◌≡◌, ◌↔◌, ◌∙◌, arith, false, subst, sym, true}
 use Rattle.std.proofs.lemmas.List.{get_or_default}
-use Rattle.led_parts.specs.Led.{IsExact, Led, is_met}
+use Rattle.call_bounds.specs.Reachability.{IsExact, Led, is_met}
 use Rattle.call_bounds.proofs.order.leads_back.Goals as goal
 
 pub returns : goal.returns

@@ -1,5 +1,5 @@
 use Rattle.std.proofs.Common.{subst}
-use Rattle.led_parts.specs.Led.{IsExact}
+use Rattle.call_bounds.specs.Reachability.{IsExact}
 use Rattle.call_bounds.proofs.OrderLaws.{reached-is}
 use Rattle.call_bounds.proofs.order.reached_parts.Goals as goal
 

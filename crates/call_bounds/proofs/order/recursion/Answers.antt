@@ -1,5 +1,5 @@
 use Rattle.std.proofs.Common.{◌≡◌, ◌<◌, arith, subst, true}
-use Rattle.led_parts.specs.Led.{Led, is_met}
+use Rattle.call_bounds.specs.Reachability.{Led, is_met}
 use Rattle.call_bounds.specs.Listing.{part_count}
 use Rattle.call_bounds.proofs.OrderLaws.{recursion-found, recursion-never}
 use Rattle.call_bounds.proofs.order.recursion.Goals as goal

@@ -1,6 +1,6 @@
 use Rattle.std.proofs.Common.{◌<◌, ◌≤◌, length, slice_index_or, subst, sym}
 use Rattle.region_tree.specs.Refusals.{IsLowest}
-use Rattle.fp_routines.specs.Routines.{AreRoutines}
+use Rattle.call_bounds.specs.Routines.{AreRoutines}
 use Rattle.call_bounds.specs.CallRefusals.{OverlapAt}
 use Rattle.call_bounds.specs.Listing.{calls}
 use Rattle.call_bounds.proofs.OverlapLaws.{Overlaps, none, overlap-lowest, overlap-never}

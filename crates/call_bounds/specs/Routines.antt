@@ -1,0 +1,21 @@
+-- The rules of routines, for scratchpads of any size.
+use Rattle.std.specs.Prelude.{◌≡◌, ◌%◌, ◌<◌, ◌≤◌, List, [], ◌∷◌, length, Contains}
+use Rattle.call_bounds.specs.declared.routines.Routine.{Routine}
+
+-- each routine begins above the one before it
+abbrev pub Rise : List Routine → Type 0
+Rise [] = Unit {0}
+Rise (r ∷ rs) = ((t : Routine) → Contains rs t → r.last < t.head) × Rise rs
+
+-- A routine that may be listed: aligned, not empty, and inside the largest scratchpad.
+pub record IsRoutine (r : Routine) : Type 0 where
+  pub head_aligned : r.head % 4 ≡ 0
+  pub last_aligned : r.last % 4 ≡ 0
+  pub order : r.head ≤ r.last
+  pub end : r.last ≤ 65532
+
+-- Routines that may be listed: at most 64, each by the rules, and each above the one before it.
+pub record AreRoutines (rs : List Routine) : Type 0 where
+  pub few : length rs ≤ 64
+  pub each : (r : Routine) → Contains rs r → IsRoutine r
+  pub rise : Rise rs

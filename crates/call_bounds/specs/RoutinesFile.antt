@@ -1,0 +1,116 @@
+-- The file of routines: a line for each, with its head and the address of its last word. Source:
+-- this project's profile.
+use Rattle.std.specs.Prelude.{ℕ, suc, ◌+◌, ◌-◌, ◌*◌, ◌%◌, ◌==◌, nat_lt, nat_le, Bool, true, not, ◌&&◌, ◌||◌, if◌then◌else◌, List, [], ◌∷◌, length, take, drop, slice_index_or, Option, Some, None, Result, Ok, Err}
+use Rattle.std.specs.List.{list_all}
+use Rattle.call_bounds.specs.declared.routines_refusals.RoutinesNo.{RoutinesNo}
+use Rattle.call_bounds.specs.declared.routines_refusals.RoutinesNo.TheVariants.{TooMany, BadLine, BadPlace, Order}
+use Rattle.call_bounds.specs.declared.routines_refusals.RoutinesRefused.{RoutinesRefused}
+use Rattle.call_bounds.specs.declared.routines_refusals.RoutinesRefused.TheVariants.{Fault}
+use Rattle.call_bounds.specs.declared.routines.Routine.{Routine}
+
+-- a byte before lines: in front of the first of them
+abbrev pub in_front : ℕ → List (List ℕ) → List (List ℕ)
+in_front byte [] = (byte ∷ []) ∷ []
+in_front byte (line ∷ lines) = (byte ∷ line) ∷ lines
+
+-- the lines of a file: each ends with a line feed (10), and what stands after the last line feed is
+-- a line too
+unfoldable pub lines_of : List ℕ → List (List ℕ)
+lines_of [] = []
+lines_of (byte ∷ bytes) =
+    if byte == 10 then (byte ∷ []) ∷ lines_of bytes else in_front byte (lines_of bytes)
+
+-- a hexadecimal digit: 0 (48) to 9, a (97) to f
+abbrev pub is_digit : ℕ → Bool
+is_digit byte = (nat_le 48 byte && nat_le byte 57) || (nat_le 97 byte && nat_le byte 102)
+
+-- the value of a hexadecimal digit
+abbrev pub digit : ℕ → ℕ
+digit byte = if nat_le byte 57 then byte - 48 else byte - 87
+
+-- the number of digits that follow those of n
+unfoldable pub number_from : ℕ → List ℕ → ℕ
+number_from n [] = n
+number_from n (byte ∷ bytes) = number_from (n * 16 + digit byte) bytes
+
+-- the eight digits of the address of the first word
+abbrev pub head_digits : List ℕ → List ℕ
+head_digits line = take 8 line
+
+-- the eight digits of the address of the last word, behind the space
+abbrev pub last_digits : List ℕ → List ℕ
+last_digits line = take 8 (drop 9 line)
+
+-- eight digits, a space (32), eight digits, and a line feed
+abbrev pub has_form : List ℕ → Bool
+has_form line = length line == 18
+    && list_all is_digit (head_digits line) && slice_index_or line 8 0 == 32
+    && list_all is_digit (last_digits line) && slice_index_or line 17 0 == 10
+
+-- the routine of a line
+abbrev pub routine_in : List ℕ → Routine
+routine_in line =
+    record { head = number_from 0 (head_digits line); last = number_from 0 (last_digits line) }
+
+-- whether a routine may stand in a scratchpad of this size, in bytes
+abbrev pub is_placed : ℕ → Routine → Bool
+is_placed size r =
+    r.head % 4 == 0 && r.last % 4 == 0 && nat_le r.head r.last && nat_le r.last (size - 4)
+
+-- whether a routine begins above the one before it, if there is one
+abbrev pub is_above : Option Routine → Routine → Bool
+is_above None r = true
+is_above (Some before) r = nat_lt before.last r.head
+
+-- A check of a line: whether it fails, and the fault that it then gives.
+pub record Check : Type 0 where
+  pub fails : Bool
+  pub code : RoutinesNo
+
+-- a check by whether it fails and its fault
+abbrev pub check : Bool → RoutinesNo → Check
+check fails code = record { fails = fails; code = code }
+
+-- the fault of the first check that fails
+abbrev pub first_fault : ℕ → List Check → Option RoutinesRefused
+first_fault number [] = None
+first_fault number (c ∷ more) =
+    if c.fails then Some (Fault number c.code) else first_fault number more
+
+-- the checks of a line, in their order: lines are numbered from 1
+abbrev pub line_checks : ℕ → ℕ → Option Routine → List ℕ → List Check
+line_checks size number before line =
+    check (number == 65) TooMany
+    ∷ check (not (has_form line)) BadLine
+    ∷ check (not (is_placed size (routine_in line))) BadPlace
+    ∷ check (not (is_above before (routine_in line))) Order
+    ∷ []
+
+-- a result where no check fails
+abbrev pub unless : {A : Type 0} → Option RoutinesRefused → A → Result A RoutinesRefused
+unless (Some fault) value = Err fault
+unless None value = Ok value
+
+-- a result that goes on from another
+abbrev pub and_then : {A B : Type 0} → Result A RoutinesRefused → (A → Result B RoutinesRefused) →
+    Result B RoutinesRefused
+and_then (Ok value) next = next value
+and_then (Err fault) next = Err fault
+
+-- the routine of a line, or its fault
+unfoldable pub routine_at : ℕ → ℕ → Option Routine → List ℕ → Result Routine RoutinesRefused
+routine_at size number before line =
+    unless (first_fault number (line_checks size number before line)) (routine_in line)
+
+-- the routines of lines from this number on, or the first fault
+unfoldable pub routines_from : ℕ → ℕ → Option Routine → List (List ℕ) →
+    Result (List Routine) RoutinesRefused
+routines_from size number before [] = Ok []
+routines_from size number before (line ∷ lines) =
+    and_then (routine_at size number before line) (λ r.
+    and_then (routines_from size (suc number) (Some r) lines) (λ more.
+    Ok (r ∷ more)))
+
+-- The routines of a file for scratchpads of this size, or its first fault.
+unfoldable pub routines_of : ℕ → List ℕ → Result (List Routine) RoutinesRefused
+routines_of size file = routines_from size 1 None (lines_of file)

@@ -1,0 +1,87 @@
+//! Reachability in the call graph: to which parts calls lead.
+
+ghost use Rattle.std.specs.Prelude.{◌≡◌, ℕ, ◌+◌, ◌*◌, ◌<◌, ◌≤◌, ◌⊎◌, true, false, length, IfOk, slice_index_or};
+ghost use Rattle.call_bounds.specs.Reachability.{DoesCall, Led, IsClosed, IsSound, IsExact, Spread, SpreadMet, Swept, is_met, unmet};
+
+use std::alloc::{AllocError, Global};
+
+/// Meets the callees of one part, and answers whether any of them was new.
+fn spread(table: &[bool], count: usize, part: usize, met: &mut Vec<bool>) -> bool
+    requires few { count ≤ 65 }
+    requires part { part < count }
+    requires table { length table.now ≡ count * count }
+    requires met { length met.old.items ≡ count }
+    ensures { Spread count table.now part count met.old.items met.new.items result }
+{
+    let mut changed = false;
+    for callee in 0..count {
+        if table[part * count + callee] && !met[callee] {
+            met[callee] = true;
+            changed = true;
+        }
+    }
+    changed
+}
+
+/// Meets the callees of one part, if it is met itself, and answers whether any of them was new.
+fn spread_met(table: &[bool], count: usize, part: usize, met: &mut Vec<bool>) -> bool
+    requires few { count ≤ 65 }
+    requires part { part < count }
+    requires table { length table.now ≡ count * count }
+    requires met { length met.old.items ≡ count }
+    ensures { SpreadMet count table.now part met.old.items met.new.items result }
+{
+    if !met[part] {
+        return false;
+    }
+    spread(table, count, part, met)
+}
+
+/// Meets the callees of all parts that are met, and answers whether any of them was new.
+fn sweep(table: &[bool], count: usize, met: &mut Vec<bool>) -> bool
+    requires few { count ≤ 65 }
+    requires table { length table.now ≡ count * count }
+    requires met { length met.old.items ≡ count }
+    ensures { Swept count table.now count met.old.items met.new.items result }
+{
+    let mut changed = false;
+    for part in 0..count {
+        let more = spread_met(table, count, part, met);
+        changed = if more { true } else { changed };
+    }
+    changed
+}
+
+/// So many parts of which none is met.
+fn none(alloc: Global, count: usize) -> Result<Vec<bool>, AllocError>
+    ensures { IfOk result (λ met. (length met.items ≡ count)
+        × ((k : ℕ) → is_met met.items k ≡ false)) }
+{
+    vec![in alloc; false; count]
+}
+
+/// Which of `count` parts, at most 65, calls lead to from one: a mark for each part. The table says
+/// in row p and column q, at p times `count` plus q, whether part p calls part q.
+///
+/// # Errors
+///
+/// Memory was refused.
+pub fn led_to(
+    alloc: Global,
+    table: &[bool],
+    count: usize,
+    part: usize,
+) -> Result<Vec<bool>, AllocError>
+    requires few { count ≤ 65 }
+    requires part { part < count }
+    requires table { length table.now ≡ count * count }
+    ensures { IfOk result (λ met. IsExact count table.now part met.items) }
+{
+    let mut met = none(alloc, count)?;
+    spread(table, count, part, &mut met);
+    let mut changed = true;
+    while changed {
+        changed = sweep(table, count, &mut met);
+    }
+    Ok(met)
+}

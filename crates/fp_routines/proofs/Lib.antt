@@ -1,4 +1,0 @@
-pub mod FileLines
-pub mod LineLaws
-pub mod Rising
-mod RoutineRows

@@ -1,3 +1,0 @@
-pub mod Routines
-pub mod RoutinesFile
-pub use Rattle.region_guard.specs.Regions

@@ -1,9 +1,0 @@
-use Rattle.std.proofs.Common.{◌∙◌, arith, inl, inr, refl}
-use Rattle.led_parts.proofs.LedLaws.{mark-at}
-use Rattle.led_parts.proofs.spread_met.Goals as goal
-
-pub returns-then-not-index : goal.returns-then-not-index
-returns-then-not-index c = inl (mark-at c.args.met.now.items c.args.part c.index.result.now (omega (arith, c.requires.part, c.requires.met)) c.index.ensures ∙ c.if-not-index.true, refl, refl)
-
-pub returns : goal.returns
-returns c = inr (mark-at c.args.met.now.items c.args.part c.index.result.now (omega (arith, c.requires.part, c.requires.met)) c.index.ensures ∙ c.if-not-index.false, c.spread.ensures)
