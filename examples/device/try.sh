@@ -36,7 +36,7 @@ try_command() {
 # Whether a block of code stands in one of the crates' sources.
 try_code() {
     local file
-    for file in "$top"/crates/{ramp_port/src/lib,device_cli/src/main,device_cli/src/control_loop,example_plants/src/body}.rt; do
+    for file in "$top"/crates/{fp_ports/src/ramp,device_cli/src/main,device_cli/src/control_loop,example_plants/src/body}.rt; do
         [[ $(<"$file") != *"$code"* ]] || return 0
     done
     fail "the page shows other code: ${code%%$'\n'*}"

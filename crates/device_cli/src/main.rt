@@ -11,8 +11,7 @@ mod plant;
 
 use flexpret_top::flexpret;
 use fp_io::{Gathered, OutSink, PutFailed, RealFiles};
-use fp_ports::{HeldPort, Ports};
-use ramp_port::RampPort;
+use fp_ports::{HeldPort, Ports, RampPort};
 use std::alloc::AllocError;
 use std::process::ExitCode;
 use std::{env, io};

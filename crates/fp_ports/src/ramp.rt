@@ -1,11 +1,10 @@
-//! A device of one's own: what it shows is a ramp.
-
-#![tactic(auto)]
+//! A device that shows a ramp. It is the example of a device of one's own.
 
 ghost use Rattle.std.specs.Prelude.{◌≡◌, ℕ, ◌<◌};
-ghost use Rattle.ramp_port.specs.Ramp.{new_ramp, ramp, shown_word};
+ghost use Rattle.fp_ports.specs.Ramp.{new_ramp, ramp, shown_word};
 
-use fp_ports::{HeldPort, Port};
+use crate::held::HeldPort;
+use crate::port::Port;
 use std::alloc::{AllocError, Global};
 use std::marker::Model;
 
@@ -19,7 +18,7 @@ pub struct RampPort {
 
 impl Model for RampPort {
     ghost use Rattle.std.specs.Prelude.{◌<◌};
-    ghost use Rattle.ramp_port.specs.Ramp.{Ramp};
+    ghost use Rattle.fp_ports.specs.Ramp.{Ramp};
 
     ghost Value = { Ramp };
 

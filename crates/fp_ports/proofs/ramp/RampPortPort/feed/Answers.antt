@@ -1,5 +1,5 @@
 use Rattle.std.proofs.Common.{rules}
-use Rattle.ramp_port.proofs.RampPortPort.feed.Goals as goal
+use Rattle.fp_ports.proofs.ramp.RampPortPort.feed.Goals as goal
 
 pub returns-in-Some-clause-ok : goal.returns-in-Some-clause-ok
 returns-in-Some-clause-ok c = search rules

@@ -1,5 +1,5 @@
 use Rattle.std.proofs.Common.{rules}
-use Rattle.ramp_port.proofs.RampPortPort.read.Goals as goal
+use Rattle.fp_ports.proofs.ramp.RampPortPort.read.Goals as goal
 
 pub returns-in_default-clause-value : goal.returns-in_default-clause-value
 returns-in_default-clause-value c = search rules
