@@ -1,9 +1,11 @@
-//! The text of a word at its address, as the assembler reads it. That it gives the word back,
-//! assembled there, is a law of `disasm_laws`.
+//! The text of a word at its address, as the assembler reads it. Assembled there, the text gives
+//! the word back.
 #![tactic(auto)]
 
 mod names;
 mod operands;
+mod round_trip;
 mod text;
 
+pub use round_trip::texts_assemble_back;
 pub use text::text_at;

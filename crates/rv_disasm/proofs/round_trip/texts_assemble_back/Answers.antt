@@ -1,5 +1,5 @@
-use Rattle.disasm_laws.proofs.Back.{takes_one_word, assembles_back}
-use Rattle.disasm_laws.proofs.texts_assemble_back.Goals as goal
+use Rattle.rv_disasm.proofs.Back.{takes_one_word, assembles_back}
+use Rattle.rv_disasm.proofs.round_trip.texts_assemble_back.Goals as goal
 
 pub returns-clause-one : goal.returns-clause-one
 returns-clause-one c = takes_one_word

@@ -1,4 +1,4 @@
--- That the texts of words assemble to the words.
+-- The texts of words assemble to the words.
 use Rattle.std.specs.Prelude.{◌≡◌, ℕ, ◌+◌, ◌%◌, ◌^◌, ◌<◌, [], ◌∷◌, Some, Ok}
 use Rattle.fp_asm.specs.First.{Labels, Placed, first_line, placed_by}
 use Rattle.fp_asm.specs.Second.{Memory, second_line, with_words}

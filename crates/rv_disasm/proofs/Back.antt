@@ -11,10 +11,10 @@ use Rattle.fp_asm.specs.Faults.{next}
 use Rattle.fp_asm.specs.declared.refusal.AsmNo.{AsmNo}
 use Rattle.rv_disasm.specs.Parts.{Part, named, counted, digits, comma, opening, closing, minus, Line, line_text}
 use Rattle.rv_disasm.specs.Text.{line_of, text_at}
-use Rattle.disasm_laws.specs.Law.{TakesOneWord, AssemblesBack}
-use Rattle.disasm_laws.proofs.Lexing.{part_piece, line_pieces}
-use Rattle.disasm_laws.proofs.Words.{encoded-ins}
-use Rattle.disasm_laws.proofs.Statements.{IsAssembled, assembled}
+use Rattle.rv_disasm.specs.RoundTrip.{TakesOneWord, AssemblesBack}
+use Rattle.rv_disasm.proofs.Lexing.{part_piece, line_pieces}
+use Rattle.rv_disasm.proofs.Words.{encoded-ins}
+use Rattle.rv_disasm.proofs.Statements.{IsAssembled, assembled}
 
 -- no part is a colon
 no_labels : (m : Text) (parts : List Part) → after_labels (name m ∷ map part_piece parts) ≡ name m ∷ map part_piece parts

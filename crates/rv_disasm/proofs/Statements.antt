@@ -32,7 +32,7 @@ use Rattle.rv_decode.specs.Fields.{sign_extended}
 use Rattle.rv_disasm.specs.Text.{target, leading, word_line, fence_line, csr_source, line_of}
 use Rattle.rv_disasm.specs.Names.{branch_name, load_name, store_name, imm_name, shift_name, alu_name, mul_name, csr_name}
 use Rattle.rv_disasm.specs.Parts.{Line, line, Part, named, digits, comma, opening, closing, register, signed, csr_part, two_registers, three_registers, with_number, with_memory, with_csr}
-use Rattle.disasm_laws.proofs.Lexing.{part_piece, is_name, and_true, IsSound, IsApart, AreSound}
+use Rattle.rv_disasm.proofs.Lexing.{part_piece, is_name, and_true, IsSound, IsApart, AreSound}
 use Rattle.fp_asm.specs.Words.{signed_12, up_to, instruction}
 use Rattle.fp_asm.specs.Statements.{some_targets, statement_in, checked, statement_named, size_of, location_after}
 use Rattle.fp_asm.specs.First.{Labels}

@@ -1,0 +1,10 @@
+//! The assembler makes of each text the word that it was made of.
+
+ghost use Rattle.rv_disasm.specs.RoundTrip.{TakesOneWord, AssemblesBack};
+
+/// The text of each word, assembled at the word's address, is a statement of one word without a
+/// label, and gives the word back. The contract is the theorem; the call does nothing.
+pub fn texts_assemble_back()
+    ensures one { TakesOneWord }
+    ensures back { AssemblesBack }
+{}
