@@ -2,7 +2,7 @@
 
 use clap::builder::ValueParser;
 use clap::{Arg, ArgGroup, Command};
-use pipe_watch::Window;
+use pipe_view::Window;
 use std::alloc::{AllocError, Global};
 
 /// The value of `--progress` until the window begins.

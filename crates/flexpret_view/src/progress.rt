@@ -1,7 +1,6 @@
 //! A line on standard error that tells how far a run is.
 
-use pipe_view::Progress;
-use pipe_watch::Window;
+use pipe_view::{Progress, Window};
 
 /// More blanks than a line has characters, which are 52 at most.
 const BLANKS: &str = "                                                            ";

@@ -4,8 +4,7 @@ use crate::options::{BEFORE, commands};
 use crate::progress::Telling;
 use clap::error::ErrorKind;
 use clap::{ArgMatches, Error};
-use pipe_view::Form;
-use pipe_watch::Window;
+use pipe_view::{Form, Window};
 use std::alloc::Global;
 
 /// The most columns of a picture.

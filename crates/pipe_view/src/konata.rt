@@ -1,8 +1,9 @@
 //! The log of the Konata viewer, format `Kanata` 0004.
 
+use crate::cycle::{Cycle, is_flushed, thread_of};
 use crate::text::TurnText;
 use crate::view::Writing;
-use pipe_watch::{Cycle, Window, is_flushed, thread_of};
+use crate::window::Window;
 use pipeline_core::{Held, Stored};
 use std::io;
 use std::io::Write;

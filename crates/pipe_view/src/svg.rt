@@ -2,9 +2,10 @@
 
 ghost use Rattle.std.specs.Prelude.{◌≡◌, ◌≤◌};
 
+use crate::cycle::{Cycle, is_flushed, thread_of};
 use crate::text::{TurnText, slot_name};
 use crate::view::Writing;
-use pipe_watch::{Cycle, Window, is_flushed, thread_of};
+use crate::window::Window;
 use std::io;
 use std::io::Write;
 

@@ -1,7 +1,8 @@
 //! A line of text for each cycle.
 
+use crate::cycle::{Cycle, is_flushed, thread_of};
 use crate::view::Writing;
-use pipe_watch::{Cycle, Window, is_flushed, thread_of};
+use crate::window::Window;
 use pipeline_core::{Held, Stored};
 use rv_disasm::text_at;
 use slot_table::Turn;

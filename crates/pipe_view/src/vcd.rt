@@ -1,8 +1,9 @@
 //! A value change dump (IEEE 1364-2005, 18.2), with text values as GTKWave reads them.
 
+use crate::cycle::{Cycle, CycleStart, ThreadState};
 use crate::text::slot_name;
 use crate::view::Writing;
-use pipe_watch::{Cycle, CycleStart, ThreadState, Window};
+use crate::window::Window;
 use pipeline_core::{Held, Stored};
 use rv_disasm::text_at;
 use std::io::Write;

@@ -3,14 +3,16 @@
 ghost use Rattle.std.specs.Prelude.{◌≡◌, ◌+◌, ◌<◌, ◌≤◌, vec_len};
 ghost use Rattle.timer_unit.specs.Time.{most_cycles};
 
+use crate::cycle::Cycle;
 use crate::konata::Konata;
 use crate::progress::{Progress, tell_at};
 use crate::svg::Svg;
 use crate::text::Rows;
 use crate::vcd::Vcd;
+use crate::watch::Watch;
+use crate::window::Window;
 use fp_ports::Ports;
 use machine::Machine;
-use pipe_watch::{Cycle, Watch, Window};
 use std::io;
 use std::io::Write;
 

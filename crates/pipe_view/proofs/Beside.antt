@@ -7,7 +7,7 @@ use Rattle.pipe_model.specs.Stages.{retired}
 use Rattle.machine.proofs.Retiring.{ticks_by}
 use Rattle.machine.specs.declared.state.Machine.{Machine}
 use Rattle.machine.specs.WorldRelation.{AreLeft, StandsFor, Ticks}
-use Rattle.pipe_watch.specs.Watching.{IsTick}
+use Rattle.pipe_view.specs.Watching.{IsTick}
 
 pub tick_beside : (m : Machine) (ports read : List (Option Row)) (next : Machine) (ports_next : List (Option Row)) (event : Option Event) → read ≡ ports → event ≡ retired (m.at - 4) m.pipe.m → ((s : Start) (n : ℕ) → m.at < n + 3 → StandsFor s m.at n m read → Ticks s m.at n read next ports_next event) → IsTick m ports next ports_next
 tick_beside m ports read next ports_next event same is h = subst (λ (rows : List (Option Row)). IsTick m rows next ports_next) same (λ s n within st. ticks_by s _ n _ _ _ _ _ is (h s n within st))

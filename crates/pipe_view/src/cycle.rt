@@ -1,7 +1,7 @@
 //! What is seen of one cycle.
 
 ghost use Rattle.std.specs.Prelude.{◌≡◌, option_map};
-ghost use Rattle.pipe_watch.specs.Watching.{IsOutcome, is_donated, is_flushed, is_trap, picked_turn, thread_of};
+ghost use Rattle.pipe_view.specs.Watching.{IsOutcome, is_donated, is_flushed, is_trap, picked_turn, thread_of};
 
 use arrayvec::ArrayString;
 use pipeline_core::{Held, Stored};

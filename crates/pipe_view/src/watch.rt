@@ -6,7 +6,7 @@ ghost use Rattle.machine.specs.FieldRelation.{found};
 ghost use Rattle.machine.specs.WorldRelation.{AreLeft};
 ghost use Rattle.pipe_model.specs.declared.stage_registers.Held.TheVariants.{Bubble};
 ghost use Rattle.pipe_model.specs.Stages.{retired};
-ghost use Rattle.pipe_watch.specs.Watching.{HasLine, IsTick, is_asleep, seen_after, start_of, thread_state, whole_next};
+ghost use Rattle.pipe_view.specs.Watching.{HasLine, IsTick, is_asleep, seen_after, start_of, thread_state, whole_next};
 ghost use Rattle.trace_print.specs.Text.{line_text};
 ghost use Rattle.timer_unit.specs.Time.{most_cycles};
 

@@ -1,5 +1,5 @@
-use Rattle.pipe_watch.proofs.Beside.{tick_beside, left_beside}
-use Rattle.pipe_watch.proofs.watch.Watch.tick.Goals as goal
+use Rattle.pipe_view.proofs.Beside.{tick_beside, left_beside}
+use Rattle.pipe_view.proofs.watch.Watch.tick.Goals as goal
 
 pub returns-clause-relation : goal.returns-clause-relation
 returns-clause-relation g c = tick_beside c.args.machine.now _ _ _ _ _ c.start_of.ensures.rows c.tick-event.ensures.retires c.tick-event.ensures.relation

@@ -19,10 +19,10 @@ use Rattle.slot_table.specs.Frame.{turn}
 use Rattle.timer_unit.specs.Time.{time, timer_of}
 use Rattle.trace_print.specs.Text.{line_text}
 use Rattle.world_model.specs.World.{Start}
-use Rattle.pipe_watch.specs.declared.cycle.ThreadState.{ThreadState}
-use Rattle.pipe_watch.specs.declared.cycle.Cycle.{Cycle}
-use Rattle.pipe_watch.specs.declared.cycle.CycleStart.{CycleStart}
-use Rattle.pipe_watch.specs.declared.watch.Watch.{Watch}
+use Rattle.pipe_view.specs.declared.cycle.ThreadState.{ThreadState}
+use Rattle.pipe_view.specs.declared.cycle.Cycle.{Cycle}
+use Rattle.pipe_view.specs.declared.cycle.CycleStart.{CycleStart}
+use Rattle.pipe_view.specs.declared.watch.Watch.{Watch}
 
 -- whether a thread's mode is asleep at the start of a machine's next cycle, or the moment until which it sleeps lies ahead
 abbrev pub is_asleep : Machine → ℕ → Bool

@@ -1,5 +1,5 @@
 use Rattle.std.proofs.Common.{rules}
-use Rattle.pipe_watch.proofs.window.Window.new.Goals as goal
+use Rattle.pipe_view.proofs.window.Window.new.Goals as goal
 
 pub invariant_of-result : goal.invariant_of-result
 invariant_of-result c = search rules
