@@ -13,10 +13,10 @@ ghost use Rattle.std.specs.Prelude.{◌≡◌, vec_len};
 use crate::control_loop::ControlLoop;
 use crate::fixed::Fixed;
 use crate::{NO_MEMORY, WRITE};
+use command_files::{Program, Stop, load};
 use fp_io::RealFiles;
 use fp_ports::{HeldPort, Ports};
 use fp_setup::Name;
-use program_files::{Program, Stop, load};
 use std::io;
 
 /// The setup, whose thread 0 is the controller.

@@ -18,19 +18,19 @@ use Rattle.setup_model.specs.Start.{inputs_of, shown_to, thread_of}
 use Rattle.solo_run.specs.View.{view_as_defined}
 use Rattle.trace_print.specs.Text.{text}
 use Rattle.world_model.specs.Viewed.{view}
-use Rattle.program_files.specs.declared.program.Program.{Program}
+use Rattle.command_files.specs.declared.program.Program.{Program}
 use Rattle.flexpret_top.specs.declared.ready.Alone.{Alone}
 use Rattle.flexpret_top.specs.declared.ready.Prepared.{Prepared}
 use Rattle.flexpret_top.specs.declared.ready.Prepared.TheVariants as prepared
-use Rattle.program_files.specs.declared.stop.Stop.{Stop}
-use Rattle.program_files.specs.declared.stop.Stop.TheVariants.{Refused, Differs, Read, NoMemory}
+use Rattle.command_files.specs.declared.stop.Stop.{Stop}
+use Rattle.command_files.specs.declared.stop.Stop.TheVariants.{Refused, Differs, Read, NoMemory}
 use Rattle.flexpret_top.specs.SoloAndCheck.{IsAlone, IsAloneOf, alone_of, alone_text, check_answer, checked_of, compared, same_text, told_alone}
-use Rattle.program_files.specs.Answer.{Answer, ends, over_file, then_by}
-use Rattle.program_files.specs.Answer.Answer.{Says}
+use Rattle.command_files.specs.Answer.{Answer, ends, over_file, then_by}
+use Rattle.command_files.specs.Answer.Answer.{Says}
 use Rattle.flexpret_top.specs.Command.{IsAnswerIn}
 use Rattle.flexpret_top.specs.Prepared.{Prepares}
 use Rattle.flexpret_top.specs.Run.{start_of}
-use Rattle.program_files.specs.Stops.{IsStop}
+use Rattle.command_files.specs.Stops.{IsStop}
 use Rattle.flexpret_top.proofs.OneThread.{view-beside}
 
 -- a stop of one kind is a stop of another where its answers are

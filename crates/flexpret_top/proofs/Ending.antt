@@ -13,8 +13,8 @@ use Rattle.flexpret_top.specs.Requests.{IsAsked, IsAskedBy}
 use Rattle.flexpret_top.specs.declared.ready.Prepared.{Prepared}
 use Rattle.flexpret_top.specs.declared.status.Status.{Status}
 use Rattle.flexpret_top.specs.declared.status.Status.TheVariants.{Ok, Differs, Usage, Setup, Image, Source, Bound, Read, Write, NoMemory, Routines}
-use Rattle.program_files.specs.Answer.{IsAnswered}
-use Rattle.program_files.specs.Answer.Answer.{Says, Missing}
+use Rattle.command_files.specs.Answer.{IsAnswered}
+use Rattle.command_files.specs.Answer.Answer.{Says, Missing}
 use Rattle.flexpret_top.specs.Command.{IsAnswer, IsAnswerIn, IsAnswerTo, IsApart, IsApartBy, OnlyReads, OnlyReadsBy, Leaves, LeavesBy, LeavesCutShort, LeavesUnrun, Said, Began, Answered}
 use Rattle.flexpret_top.specs.Prepared.{Delivers, LeavesPorts, LeavesPortsInPart, Prepares}
 use Rattle.flexpret_top.specs.Status.{IsStatus, number_of}

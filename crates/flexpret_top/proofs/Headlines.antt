@@ -36,20 +36,20 @@ use Rattle.section_visits.specs.SetupCallVisitBound.{CallVisitsStayBounded}
 use Rattle.section_visits.specs.SetupInSettings.{CallVisitsStayBoundedInSettings, CallVisitsStayBoundedWhileScheduled, VisitsStayBoundedInSettings, VisitsStayBoundedWhileScheduled}
 use Rattle.section_visits.specs.SetupVisitBound.{VisitsStayBounded}
 use Rattle.trace_print.specs.declared.refusals.Refusal.TheVariants as refusal
-use Rattle.file_answers.specs.BoundAnswer.{IsBoundAnswer, IsSectionAnswer, section_fault, section_tree}
-use Rattle.file_answers.specs.CallsAnswer.{IsCallsAnswer, IsRoutinesAnswer, IsSectionCallsAnswer, of_routines, routines_in, section_listing}
-use Rattle.file_answers.specs.Codes.{call_refusal, tree_refusal}
-use Rattle.program_files.specs.declared.program.Program.{Program}
-use Rattle.program_files.specs.Answer.{Answer, IsSaid, refused, then_by, over_file, ends}
+use Rattle.command_files.specs.BoundAnswer.{IsBoundAnswer, IsSectionAnswer, section_fault, section_tree}
+use Rattle.command_files.specs.CallsAnswer.{IsCallsAnswer, IsRoutinesAnswer, IsSectionCallsAnswer, of_routines, routines_in, section_listing}
+use Rattle.command_files.specs.Codes.{call_refusal, tree_refusal}
+use Rattle.command_files.specs.declared.program.Program.{Program}
+use Rattle.command_files.specs.Answer.{Answer, IsSaid, refused, then_by, over_file, ends}
 use Rattle.flexpret_top.specs.SoloAndCheck.{alone_fault, alone_in, alone_of, alone_text, unless_fault}
-use Rattle.file_answers.specs.Elf.{elf_in, of_elf}
+use Rattle.command_files.specs.Elf.{elf_in, of_elf}
 use Rattle.ask_words.specs.Commands.{ask}
 use Rattle.flexpret_top.specs.declared.status.Status.{Status}
 use Rattle.flexpret_top.specs.declared.status.Status.TheVariants.{Read, Write, NoMemory as OutOfMemory}
 use Rattle.flexpret_top.specs.Status.{number_of}
 use Rattle.flexpret_top.specs.Command.{IsAnswerIn, IsAnswerTo, Said}
 use Rattle.flexpret_top.specs.Headline.{BoundsCallVisits, BoundsVisits, IsImported, IsLongest, IsLongestByCalls, WritesAlone, WritesAsRun, WritesByPhases, WritesImage, WritesRetired, machine_of}
-use Rattle.program_files.specs.Program.{image_in, of_setup, program, setup_in, with_image}
+use Rattle.command_files.specs.Program.{image_in, of_setup, program, setup_in, with_image}
 use Rattle.flexpret_top.specs.Run.{trace_of}
 
 -- a refusal isn't status 0

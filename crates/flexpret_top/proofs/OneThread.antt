@@ -32,12 +32,12 @@ use Rattle.solo_run.proofs.Compare.{front}
 use Rattle.world_model.specs.Viewed.{view, setting_of}
 use Rattle.solo_run.specs.View.{view_as_defined}
 use Rattle.solo_run.specs.declared.view.SoloView.{SoloView}
-use Rattle.program_files.specs.Answer.{Answer, differs_text, over_file}
+use Rattle.command_files.specs.Answer.{Answer, differs_text, over_file}
 use Rattle.flexpret_top.specs.SoloAndCheck.{compared, said_by, same_text}
-use Rattle.program_files.specs.declared.stop.Stop.{Stop}
-use Rattle.program_files.specs.declared.stop.Stop.TheVariants as in_stop
-use Rattle.program_files.specs.Stops.{IsStop, IsStopOf, is_difference}
-use Rattle.program_files.specs.Answer.Answer.{Says}
+use Rattle.command_files.specs.declared.stop.Stop.{Stop}
+use Rattle.command_files.specs.declared.stop.Stop.TheVariants as in_stop
+use Rattle.command_files.specs.Stops.{IsStop, IsStopOf, is_difference}
+use Rattle.command_files.specs.Answer.Answer.{Says}
 
 -- one of the threads stands at its own index
 thread-at : (i : ℕ) → i < 8 → get_or the_threads i 0 ≡ i

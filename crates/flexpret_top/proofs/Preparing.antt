@@ -19,12 +19,12 @@ use Rattle.phase_model.specs.Phases.{phases}
 use Rattle.setup_model.specs.Start.{start}
 use Rattle.trace_print.specs.Text.{text}
 use Rattle.world_model.specs.World.{Start, events}
-use Rattle.program_files.specs.declared.program.Program.{Program}
+use Rattle.command_files.specs.declared.program.Program.{Program}
 use Rattle.flexpret_top.specs.declared.ready.Ready.{Ready}
 use Rattle.flexpret_top.specs.declared.ready.Prepared.TheVariants as prepared
-use Rattle.program_files.specs.Answer.{Answer, then_by, ends}
+use Rattle.command_files.specs.Answer.{Answer, then_by, ends}
 use Rattle.flexpret_top.specs.Prepared.{IsReady, LeavesPartOfRun, LeavesRun, Prepares, Runs}
-use Rattle.program_files.specs.Program.{program}
+use Rattle.command_files.specs.Program.{program}
 use Rattle.flexpret_top.specs.Run.{start_of, trace_of, dump_of, phases_of}
 
 -- the world of a program starts with the slots and modes of its setup

@@ -4,12 +4,12 @@ use Rattle.std.specs.Prelude.{◌≢◌, IfSome}
 use Rattle.fp_io.specs.Content.{Asks, FileMap, Request}
 use Rattle.fp_setup.specs.Settings.{Settings}
 use Rattle.region_tree.specs.declared.section.Section.{Section}
-use Rattle.program_files.specs.declared.program.Program.{Program}
-use Rattle.program_files.specs.Program.{IsProgramAsked, program, program_requests}
-use Rattle.program_files.specs.Stops.{Makes}
-use Rattle.program_files.proofs.Asking.{Asks-trans}
-use Rattle.file_answers.specs.BoundAnswer.{section_fault}
-use Rattle.file_answers.specs.CallsAnswer.{routines_request}
+use Rattle.command_files.specs.declared.program.Program.{Program}
+use Rattle.command_files.specs.Program.{IsProgramAsked, program, program_requests}
+use Rattle.command_files.specs.Stops.{Makes}
+use Rattle.command_files.proofs.Asking.{Asks-trans}
+use Rattle.command_files.specs.BoundAnswer.{section_fault}
+use Rattle.command_files.specs.CallsAnswer.{routines_request}
 use Rattle.flexpret_top.specs.declared.ready.Alone.{Alone}
 use Rattle.flexpret_top.specs.Requests.{AreRoutinesAsked, IsTraceAsked, trace_request}
 use Rattle.flexpret_top.specs.SoloAndCheck.{IsAlone}

@@ -10,13 +10,13 @@ use Rattle.trace_print.specs.declared.refusals.Refusal.{Refusal}
 use Rattle.trace_print.specs.declared.refusals.Refusal.TheVariants.{Setup, Section, Image, Source, Bound, Routines}
 use Rattle.flexpret_top.specs.declared.status.Status.{Status}
 use Rattle.flexpret_top.specs.declared.status.Status.TheVariants.{Ok, Differs, Usage, Read, Write, NoMemory}
-use Rattle.program_files.specs.declared.stop.Stop.{Stop}
-use Rattle.program_files.specs.declared.stop.Stop.TheVariants as why
-use Rattle.program_files.specs.Answer.{differs_text, refused, status_of}
-use Rattle.program_files.specs.Answer.Answer.{Says, Missing}
+use Rattle.command_files.specs.declared.stop.Stop.{Stop}
+use Rattle.command_files.specs.declared.stop.Stop.TheVariants as why
+use Rattle.command_files.specs.Answer.{differs_text, refused, status_of}
+use Rattle.command_files.specs.Answer.Answer.{Says, Missing}
 use Rattle.flexpret_top.specs.Command.{IsAnswerIn, Leaves, Said, Began, Answered}
 use Rattle.flexpret_top.specs.Status.{number_of}
-use Rattle.program_files.specs.Stops.{IsStop, is_difference}
+use Rattle.command_files.specs.Stops.{IsStop, is_difference}
 use Rattle.flexpret_top.specs.Endings.{Ends}
 
 -- a refusal's status is one of 3 to 6, or 10

@@ -6,7 +6,7 @@ use Rattle.fp_ports.specs.Rows.{Row}
 use Rattle.ask_words.specs.Commands.{ask}
 use Rattle.ask_words.specs.declared.asked.Ask.{Ask}
 use Rattle.fp_io.proofs.Fronts.{appends_nothing}
-use Rattle.program_files.specs.Answer.Answer.{Says}
+use Rattle.command_files.specs.Answer.Answer.{Says}
 use Rattle.flexpret_top.specs.Command.{IsAnswer, IsAnswerTo, Said, Answered}
 
 pub usage-said : (told : Option FileMap) (words : List (List ℕ)) (ports : List (Option Row)) (before : Option (List ℕ)) (n : ℕ) → n ≡ 2 → ask words ≡ None →

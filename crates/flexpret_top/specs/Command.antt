@@ -2,20 +2,20 @@
 use Rattle.std.specs.Prelude.{◌≡◌, ◌⊎◌, ◌≤◌, ℕ, List, [], Option, Some, None, Ok}
 use Rattle.machine.specs.Feeding.{IsFedFront, fed_all}
 use Rattle.machine.specs.WorldRelation.{PortsAfter}
-use Rattle.program_files.specs.declared.program.Program.{Program}
+use Rattle.command_files.specs.declared.program.Program.{Program}
 use Rattle.fp_io.specs.Content.{FileMap}
 use Rattle.ask_words.specs.Commands.{ask}
 use Rattle.ask_words.specs.declared.asked.Ask.{Ask}
 use Rattle.ask_words.specs.declared.asked.Ask.TheVariants.{Run, Dump, Asm, Bound, Selfrun, Phases, Solo, Check, Elf, Calls}
 use Rattle.selfrun.specs.Text.{selfrun_text}
-use Rattle.program_files.specs.Answer.{Answer, IsSaid, WritesFront, IsAnswered}
-use Rattle.program_files.specs.Answer.Answer.{Says}
+use Rattle.command_files.specs.Answer.{Answer, IsSaid, WritesFront, IsAnswered}
+use Rattle.command_files.specs.Answer.Answer.{Says}
 use Rattle.flexpret_top.specs.SoloAndCheck.{solo_answer, check_answer}
-use Rattle.file_answers.specs.Assembled.{asm_answer}
-use Rattle.file_answers.specs.BoundAnswer.{IsBoundAnswer}
-use Rattle.file_answers.specs.CallsAnswer.{IsCallsAnswer}
-use Rattle.file_answers.specs.Elf.{elf_answer}
-use Rattle.program_files.specs.Program.{program}
+use Rattle.command_files.specs.Assembled.{asm_answer}
+use Rattle.command_files.specs.BoundAnswer.{IsBoundAnswer}
+use Rattle.command_files.specs.CallsAnswer.{IsCallsAnswer}
+use Rattle.command_files.specs.Elf.{elf_answer}
+use Rattle.command_files.specs.Program.{program}
 use Rattle.flexpret_top.specs.Run.{start_of, run_answer, dump_answer, phases_answer}
 use Rattle.fp_ports.specs.Rows.{Row}
 

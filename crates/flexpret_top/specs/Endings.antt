@@ -1,9 +1,9 @@
 -- How a command ends that has no text.
 use Rattle.std.specs.Io.KnownBytes.{Appends}
 use Rattle.std.specs.Prelude.{◌≡◌, ◌⊎◌, ℕ, List, Option}
-use Rattle.program_files.specs.Answer.{differs_text, status_of}
-use Rattle.program_files.specs.declared.stop.Stop.{Stop}
-use Rattle.program_files.specs.declared.stop.Stop.TheVariants.{Refused, Differs, Read, NoMemory}
+use Rattle.command_files.specs.Answer.{differs_text, status_of}
+use Rattle.command_files.specs.declared.stop.Stop.{Stop}
+use Rattle.command_files.specs.declared.stop.Stop.TheVariants.{Refused, Differs, Read, NoMemory}
 use Rattle.fp_io.specs.Causes.{Rose}
 use Rattle.fp_io.specs.Content.{AppendsFront}
 use Rattle.trace_print.specs.Refusals.{refusal_text}

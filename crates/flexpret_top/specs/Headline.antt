@@ -30,10 +30,10 @@ use Rattle.section_visits.specs.SetupVisitBound.{IsAlike, issues}
 use Rattle.trace_print.specs.Bounds.{bound_text}
 use Rattle.trace_print.specs.Text.{text}
 use Rattle.section_visits.specs.Visits.{Issued, IsVisit, KeepsBounds, first_of}
-use Rattle.program_files.specs.declared.program.Program.{Program}
-use Rattle.file_answers.specs.BoundAnswer.{section_tree}
-use Rattle.file_answers.specs.CallsAnswer.{section_listing}
-use Rattle.program_files.specs.Program.{program}
+use Rattle.command_files.specs.declared.program.Program.{Program}
+use Rattle.command_files.specs.BoundAnswer.{section_tree}
+use Rattle.command_files.specs.CallsAnswer.{section_listing}
+use Rattle.command_files.specs.Program.{program}
 
 -- the machine of a program beside the ports as they are handed in
 abbrev pub machine_of : Program → List (Option Row) → Machine

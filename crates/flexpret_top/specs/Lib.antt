@@ -17,10 +17,10 @@ pub use Rattle.call_bounds.specs.Listing
 pub use Rattle.core_model.specs.Solo
 pub use Rattle.core_model.specs.Thread
 pub use Rattle.core_model.specs.View as ThreadView
-pub use Rattle.file_answers.specs.Assembled
-pub use Rattle.file_answers.specs.BoundAnswer
-pub use Rattle.file_answers.specs.CallsAnswer
-pub use Rattle.file_answers.specs.Elf as ElfAnswer
+pub use Rattle.command_files.specs.Assembled
+pub use Rattle.command_files.specs.BoundAnswer
+pub use Rattle.command_files.specs.CallsAnswer
+pub use Rattle.command_files.specs.Elf as ElfAnswer
 pub use Rattle.fp_elf.specs.Elf
 pub use Rattle.fp_image.specs.Format
 pub use Rattle.fp_image.specs.Rules as ImageRules
@@ -45,11 +45,11 @@ pub use Rattle.phase_model.specs.Phased
 pub use Rattle.phase_model.specs.Phases
 pub use Rattle.phase_model.specs.SettingLaws
 pub use Rattle.phase_model.specs.declared.phase.Phase
-pub use Rattle.program_files.specs.Answer
-pub use Rattle.program_files.specs.Program
-pub use Rattle.program_files.specs.Stops
-pub use Rattle.program_files.specs.declared.program.Program as LoadedProgram
-pub use Rattle.program_files.specs.declared.stop.Stop
+pub use Rattle.command_files.specs.Answer
+pub use Rattle.command_files.specs.Program
+pub use Rattle.command_files.specs.Stops
+pub use Rattle.command_files.specs.declared.program.Program as LoadedProgram
+pub use Rattle.command_files.specs.declared.stop.Stop
 pub use Rattle.region_guard.specs.MemoryMap
 pub use Rattle.region_tree.specs.Graph
 pub use Rattle.region_tree.specs.Tree

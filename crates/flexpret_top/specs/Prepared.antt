@@ -14,15 +14,15 @@ use Rattle.phase_model.specs.Phases.{phases}
 use Rattle.trace_print.specs.Bounds.{bound_text}
 use Rattle.trace_print.specs.Text.{text}
 use Rattle.world_model.specs.World.{Start, events}
-use Rattle.program_files.specs.declared.program.Program.{Program}
+use Rattle.command_files.specs.declared.program.Program.{Program}
 use Rattle.flexpret_top.specs.declared.ready.Ready.{Ready}
 use Rattle.flexpret_top.specs.declared.ready.Prepared.{Prepared}
 use Rattle.flexpret_top.specs.declared.ready.Prepared.TheVariants.{Trace, Dump, Phases, Solo, Same, Image, Bound, Selfrun}
 use Rattle.selfrun.specs.Text.{tallies_text}
 use Rattle.flexpret_top.specs.SoloAndCheck.{same_text, told_alone}
-use Rattle.program_files.specs.Answer.Answer.{Says}
+use Rattle.command_files.specs.Answer.Answer.{Says}
 use Rattle.flexpret_top.specs.Command.{IsAnswerOf, Leaves, LeavesInPart}
-use Rattle.program_files.specs.Program.{program}
+use Rattle.command_files.specs.Program.{program}
 use Rattle.flexpret_top.specs.Run.{start_of}
 use Rattle.std.specs.Prelude.{Ok}
 

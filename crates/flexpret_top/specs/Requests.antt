@@ -4,13 +4,13 @@ use Rattle.fp_io.specs.Content.{Asks, FileMap, Request}
 use Rattle.ask_words.specs.declared.asked.Ask.{Ask}
 use Rattle.ask_words.specs.declared.asked.Ask.TheVariants.{Run, Dump, Asm, Bound, Selfrun, Phases, Solo, Check, Elf, Calls}
 use Rattle.region_tree.specs.declared.section.Section.{Section}
-use Rattle.program_files.specs.declared.program.Program.{Program}
-use Rattle.program_files.specs.Program.{IsProgramAsked, program, program_requests}
-use Rattle.program_files.specs.Stops.{Makes}
-use Rattle.file_answers.specs.Assembled.{source_request}
-use Rattle.file_answers.specs.BoundAnswer.{section_fault}
-use Rattle.file_answers.specs.CallsAnswer.{routines_request}
-use Rattle.file_answers.specs.Elf.{executable_request}
+use Rattle.command_files.specs.declared.program.Program.{Program}
+use Rattle.command_files.specs.Program.{IsProgramAsked, program, program_requests}
+use Rattle.command_files.specs.Stops.{Makes}
+use Rattle.command_files.specs.Assembled.{source_request}
+use Rattle.command_files.specs.BoundAnswer.{section_fault}
+use Rattle.command_files.specs.CallsAnswer.{routines_request}
+use Rattle.command_files.specs.Elf.{executable_request}
 use Rattle.flexpret_top.specs.SoloAndCheck.{alone_program}
 
 -- what is asked of the files for a recorded trace of so many cycles

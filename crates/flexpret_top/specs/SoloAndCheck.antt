@@ -16,10 +16,10 @@ use Rattle.trace_print.specs.Text.{text}
 use Rattle.trace_print.specs.declared.refusals.Refusal.TheVariants.{Section}
 use Rattle.world_model.specs.Viewed.{view}
 use Rattle.flexpret_top.specs.declared.ready.Alone.{Alone}
-use Rattle.program_files.specs.declared.program.Program.{Program}
-use Rattle.program_files.specs.Answer.{Answer, differs_text, refused, then_by, over_file, ends}
-use Rattle.program_files.specs.Answer.Answer.{Says}
-use Rattle.program_files.specs.Program.{program}
+use Rattle.command_files.specs.declared.program.Program.{Program}
+use Rattle.command_files.specs.Answer.{Answer, differs_text, refused, then_by, over_file, ends}
+use Rattle.command_files.specs.Answer.Answer.{Says}
+use Rattle.command_files.specs.Program.{program}
 use Rattle.flexpret_top.specs.Run.{start_of}
 
 -- why a thread isn't run from its view alone, if so: it isn't hard and awake, or else it isn't confined

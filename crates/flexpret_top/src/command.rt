@@ -12,25 +12,24 @@ ghost use Rattle.section_visits.specs.SetupInSettings.{CallVisitsStayBoundedInSe
 ghost use Rattle.section_visits.specs.SetupVisitBound.{VisitsStayBounded};
 ghost use Rattle.ask_words.specs.Commands.{ask};
 ghost use Rattle.ask_words.specs.Limits.{IsWithinLimits};
-ghost use Rattle.program_files.specs.Answer.Answer.{Missing};
+ghost use Rattle.command_files.specs.Answer.Answer.{Missing};
 ghost use Rattle.flexpret_top.specs.Command.{IsAnswer, IsAnswerIn, IsApart, IsApartBy, Leaves, LeavesBy, LeavesCutShort, LeavesUnrun, OnlyReads, OnlyReadsBy, Said, Began, Answered};
 ghost use Rattle.flexpret_top.specs.Headline.{BoundsCallVisits, BoundsVisits, WritesAlone, WritesAsRun, WritesByPhases, WritesImage, WritesRetired};
 ghost use Rattle.flexpret_top.specs.Requests.{IsAsked, IsAskedBy};
 ghost use Rattle.flexpret_top.specs.Status.{IsStatus, number_of};
-ghost use Rattle.program_files.specs.declared.stop.Stop.{Stop};
-ghost use Rattle.program_files.specs.Answer.{status_of};
+ghost use Rattle.command_files.specs.declared.stop.Stop.{Stop};
+ghost use Rattle.command_files.specs.Answer.{status_of};
 ghost use Rattle.flexpret_top.specs.Endings.{Ends};
 
 use crate::deliver::deliver;
 use crate::prepare::prepare;
 use crate::status::Status;
 use ask_words::{Ask, WordsNo, read_words};
-use file_answers::difference_line;
+use command_files::{Stop, difference_line};
 use fp_elf::reads_back;
 use fp_io::{Files, PutFailed, Sink};
 use fp_ports::Ports;
 use fp_setup::accepted_keep_rules;
-use program_files::Stop;
 use run_laws::retired_traces;
 use run_laws::setup_traces::{traces_alone, traces_by_phases};
 use section_visits::setups::{

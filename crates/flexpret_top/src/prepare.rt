@@ -10,13 +10,13 @@ ghost use Rattle.machine.specs.Feeding.{IsFedFront, fed_all};
 ghost use Rattle.machine.specs.WorldRelation.{StandsFor, start_beside};
 ghost use Rattle.flexpret_top.specs.SoloAndCheck.{alone_program};
 ghost use Rattle.flexpret_top.specs.declared.ready.Prepared.{Prepared};
-ghost use Rattle.file_answers.specs.Assembled.{asm_answer, source_request};
-ghost use Rattle.file_answers.specs.BoundAnswer.{IsBoundAnswer};
-ghost use Rattle.file_answers.specs.CallsAnswer.{IsCallsAnswer};
+ghost use Rattle.command_files.specs.Assembled.{asm_answer, source_request};
+ghost use Rattle.command_files.specs.BoundAnswer.{IsBoundAnswer};
+ghost use Rattle.command_files.specs.CallsAnswer.{IsCallsAnswer};
 ghost use Rattle.flexpret_top.specs.Command.{IsAnswerIn, IsApart, IsUnrun, LeavesFedInPart, OnlyReads};
 ghost use Rattle.flexpret_top.specs.Requests.{IsAsked};
-ghost use Rattle.file_answers.specs.Elf.{elf_answer, executable_request};
-ghost use Rattle.program_files.specs.Program.{IsProgramAsked, program};
+ghost use Rattle.command_files.specs.Elf.{elf_answer, executable_request};
+ghost use Rattle.command_files.specs.Program.{IsProgramAsked, program};
 ghost use Rattle.flexpret_top.specs.Prepared.{
   IsApartFrom,
   IsPrepared,
@@ -26,18 +26,17 @@ ghost use Rattle.flexpret_top.specs.Prepared.{
   OnlyReadsFor,
   Prepares,
 };
-ghost use Rattle.program_files.specs.Stops.{IsStop, IsStopIn, is_difference};
-ghost use Rattle.program_files.specs.declared.stop.Stop.TheVariants.{NoMemory};
+ghost use Rattle.command_files.specs.Stops.{IsStop, IsStopIn, is_difference};
+ghost use Rattle.command_files.specs.declared.stop.Stop.TheVariants.{NoMemory};
 
 use crate::alone::{compare_alone, load_alone};
 use crate::ready::{Prepared, Ready};
 use ask_words::Ask;
-use file_answers::{calls_bound, image_bytes, imported_bytes, section_bound};
+use command_files::{Program, Stop, calls_bound, image_bytes, imported_bytes, load, section_bound};
 use fp_io::Files;
 use fp_ports::Ports;
 use fp_setup::Name;
 use machine::{Machine, feed_inputs};
-use program_files::{Program, Stop, load};
 use region_tree::Section;
 use selfrun::Selfrun;
 use std::alloc::{AllocError, Global};

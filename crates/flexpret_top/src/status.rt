@@ -33,7 +33,7 @@ pub enum Status {
 }
 
 impl Status {
-    ghost use Rattle.program_files.specs.Answer.{status_of};
+    ghost use Rattle.command_files.specs.Answer.{status_of};
     ghost use Rattle.flexpret_top.specs.Status.{number_of};
 
     /// How a command ends whose refusal line was written.

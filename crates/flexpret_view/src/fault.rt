@@ -1,6 +1,6 @@
 //! Why nothing, or not all, was shown.
 
-use program_files::Stop;
+use command_files::Stop;
 use std::alloc::{AllocError, AllocFailed};
 use std::io;
 use trace_print::Refusal;

@@ -1,8 +1,8 @@
 //! Why a run ended before its trace.
 
+use command_files::Stop;
 use fp_io::PutFailed;
 use loop_runs::LoopStop;
-use program_files::Stop;
 use std::alloc::{AllocError, AllocFailed};
 use trace_print::Refusal;
 

@@ -3,9 +3,9 @@
 ghost use Rattle.std.specs.Prelude.{◌≡◌, ◌<◌, IfOk, OnOk, vec_len};
 
 use crate::fault::Fault;
+use command_files::fetch;
 use fp_io::Files;
 use fp_setup::Name;
-use program_files::fetch;
 use std::alloc::Global;
 use std::str::SplitWhitespace;
 

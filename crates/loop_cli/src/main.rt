@@ -12,12 +12,12 @@ mod question;
 use crate::fault::Fault;
 use crate::listed::{Listed, read_plants};
 use crate::question::Question;
+use command_files::{Program, load};
 use example_plants::{HeatedBody, Motor, TablePlant};
 use fp_io::{Gathered, OutSink, RealFiles};
 use fp_ports::{HeldPort, Ports};
 use loop_runs::{Plants, run_loops};
 use machine::{Machine, feed_inputs};
-use program_files::{Program, load};
 use std::process::ExitCode;
 use std::{env, io};
 

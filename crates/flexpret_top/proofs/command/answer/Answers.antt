@@ -1,7 +1,7 @@
 use Rattle.std.proofs.Common.{rules, ◌∙◌, ap, inl, inr, refl, subst}
 use Rattle.fp_ports.specs.Rows.{rows_of}
 use Rattle.flexpret_top.specs.Endings.{Ends}
-use Rattle.program_files.specs.declared.stop.Stop.{Stop}
+use Rattle.command_files.specs.declared.stop.Stop.{Stop}
 use Rattle.flexpret_top.proofs.Ending.{all-of, answered-of, front-of, left-of, ok-no_difference, ok-no_nothing, ok-no_write, part-of, same-cut-short, write-no_difference, write-no_nothing, write-no_ok}
 use Rattle.flexpret_top.proofs.Stopping.{difference-no_memory, no-difference, stop-said, stop-read, stop-write, stop-front, stop-complete, stop-leaves, stop-usage, write-no_memory}
 use Rattle.flexpret_top.proofs.command.answer.Goals as goal

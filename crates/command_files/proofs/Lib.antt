@@ -1,0 +1,5 @@
+mod Bounds
+mod CallAnswers
+pub mod Cuts
+pub mod Asking
+mod ListCut

@@ -1,0 +1,11 @@
+pub mod Codes
+pub mod Answer
+pub mod Program
+pub mod Stops
+pub mod Assembled
+pub mod Elf
+pub mod BoundAnswer
+pub mod CallsAnswer
+pub mod BoundStops
+pub use Rattle.fp_io.specs.Content
+pub use Rattle.trace_print.specs.Bounds

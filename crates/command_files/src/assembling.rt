@@ -1,0 +1,76 @@
+//! The image of a source.
+
+ghost use Rattle.std.specs.Prelude.{◌≡◌, ◌≤◌, [], ◌∷◌, Ok, IfOk, IfErr, IfSome};
+ghost use Rattle.fp_io.specs.Content.{Asks};
+ghost use Rattle.fp_image.specs.Format.{written};
+ghost use Rattle.command_files.specs.Answer.{on_file};
+ghost use Rattle.command_files.specs.Answer.Answer.{Says};
+ghost use Rattle.command_files.specs.Assembled.{asm_answer, source_in, source_request};
+ghost use Rattle.command_files.specs.Codes.{source_code};
+ghost use Rattle.command_files.specs.Stops.{IsStop, IsStopIn, IsStopOf, Makes};
+
+use crate::program::fetch;
+use crate::stop::Stop;
+use fp_asm::{AsmNo, AsmRefused, MOST_SOURCE_BYTES, assemble};
+use fp_image::{Image, write_image};
+use fp_io::Files;
+use fp_setup::Name;
+use std::alloc::Global;
+use trace_print::Refusal;
+
+/// The refusal of a source.
+fn source_refusal(line: u32, code: AsmNo) -> Refusal
+    ensures { result ≡ Refusal.Source line (source_code code) }
+{
+    Refusal::Source {
+        line,
+        code: code as u8,
+    }
+}
+
+/// The image of a source's bytes.
+#[tactic(auto, unfolding(crate::specs::Assembled::source_in))]
+fn source_in(alloc: Global, bytes: &[u8]) -> Result<Image, Stop>
+    ensures ok { IfOk result (λ image. source_in bytes.now ≡ Ok image) }
+    ensures stop { IfErr result (IsStopOf (source_in bytes.now)) }
+{
+    match assemble(alloc, bytes) {
+        Ok(image) => Ok(image),
+        Err(AsmRefused::Fault { line, code }) => Err(Stop::Refused(source_refusal(line, code))),
+        Err(AsmRefused::NoMemory) => Err(Stop::NoMemory),
+    }
+}
+
+/// Fetches a source, and assembles it.
+fn fetch_source<F: Files>(alloc: Global, name: &Name, files: &mut F) -> Result<Image, Stop>
+    ensures told { F.told files.new ≡ F.told files.old }
+    ensures counted { F.faults files.old ≤ F.faults files.new }
+    ensures request { Asks (F.requests files.old) (F.requests files.new)
+        (source_request name.now ∷ []) }
+    ensures ok { IfOk result (Makes (F.told files.old) (on_file source_in name.now)) }
+    ensures stop { IfErr result (IsStopIn (F.told files.old) (on_file source_in name.now)
+        (F.faults files.old) (F.faults files.new)) }
+{
+    let bytes = fetch(alloc, name, MOST_SOURCE_BYTES, files)?;
+    source_in(alloc, &bytes)
+}
+
+/// The bytes of the image of a source.
+///
+/// # Errors
+///
+/// Where the source isn't there, can't be read or has a fault; NoMemory where memory was refused.
+pub fn image_bytes<F: Files>(alloc: Global, name: &Name, files: &mut F) -> Result<Vec<u8>, Stop>
+    ensures told { F.told files.new ≡ F.told files.old }
+    ensures counted { F.faults files.old ≤ F.faults files.new }
+    ensures request { Asks (F.requests files.old) (F.requests files.new)
+        (source_request name.now ∷ []) }
+    ensures ok { IfOk result (λ bytes. IfSome (F.told files.old) (λ told.
+        Says 0 bytes.items ≡ asm_answer told name.now)) }
+    ensures stop { IfErr result
+        (IsStop (F.told files.old) (λ told x. x ≡ asm_answer told name.now)
+        (F.faults files.old) (F.faults files.new)) }
+{
+    let image = fetch_source(alloc, name, files)?;
+    Ok(write_image(alloc, &image)?)
+}

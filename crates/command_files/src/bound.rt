@@ -1,0 +1,128 @@
+//! The bound of a section of a program.
+
+ghost use Rattle.std.specs.Prelude.{◌≡◌, ◌<◌, ◌≤◌, ◌↔◌, IsTrue, Some, Ok, IfOk, IfErr, OnOk, None, Contains, length};
+ghost use Rattle.region_tree.specs.Tree.{IsSection, IsTree};
+ghost use Rattle.command_files.specs.Answer.Answer.{Says};
+ghost use Rattle.trace_print.specs.Bounds.{bound_text};
+ghost use Rattle.command_files.specs.BoundAnswer.{IsBoundAnswer, IsTreeRefused, IsTreeAnswer, names, section_fault, section_tree};
+ghost use Rattle.command_files.specs.Stops.{IsAnswerStop};
+ghost use Rattle.command_files.specs.BoundStops.{stop_of_tree, stop_of_bound};
+
+use crate::program::Program;
+use crate::stop::Stop;
+use bound_calc::{BoundNo, bound};
+use fp_setup::Setup;
+use nibble_word::nibbles_of;
+use region_tree::{LoopTree, Section, TreeNo};
+use setup_model::{modes, slot_table};
+use slot_table::SlotTable;
+use std::alloc::Global;
+use trace_print::Refusal;
+
+/// Whether a slot of the register names a thread.
+fn names(slots: &SlotTable, thread: u8) -> bool
+    ensures { result ≡ names slots.now thread }
+{
+    nibbles_of(slots.word()).iter().any(|slot| *slot == thread)
+}
+
+/// Why no bound is told of a section, by the code of its fault, if so.
+#[tactic(auto, unfolding(crate::specs::BoundAnswer::section_fault))]
+pub fn section_fault(setup: &Setup, thread: u8, section: Section) -> Option<u8>
+    requires { thread < 8 }
+    ensures { result ≡ section_fault setup.now thread section }
+{
+    if modes(setup).mode(thread) != 0 {
+        Some(1)
+    } else if !names(&slot_table(setup), thread) {
+        Some(2)
+    } else if section.to <= section.from {
+        Some(3)
+    } else if section.from % 4 != 0 || section.to % 4 != 0 {
+        Some(4)
+    } else if section.to > setup.size() {
+        Some(5)
+    } else {
+        None
+    }
+}
+
+/// Why a section with its loops has no bound.
+fn tree_stop(no: TreeNo) -> Stop
+    ensures { result ≡ stop_of_tree no }
+{
+    let (code, address) = match no {
+        TreeNo::Nesting { address } => (1, address),
+        TreeNo::IndirectJump { address } => (2, address),
+        TreeNo::TimedWait { address } => (3, address),
+        TreeNo::UnboundedBackEdge { address } => (4, address),
+        TreeNo::NoMemory => return Stop::NoMemory,
+    };
+    Stop::Refused(Refusal::Bound {
+        code,
+        value: u128::from(address),
+    })
+}
+
+/// Why no bound was answered.
+pub fn bound_stop(no: BoundNo) -> Stop
+    ensures { result ≡ stop_of_bound no }
+{
+    match no {
+        BoundNo::Overflow { value } => Stop::Refused(Refusal::Bound { code: 6, value }),
+        BoundNo::NoMemory => Stop::NoMemory,
+    }
+}
+
+/// The tree of a section's loops.
+#[tactic(auto, using(crate::proofs::Bounds::tree_stops))]
+fn tree_in(alloc: Global, program: &Program, section: Section) -> Result<LoopTree, Stop>
+    requires { IsSection section }
+    ensures tree { IfOk result (λ tree. tree ≡ section_tree program.now section) }
+    ensures rules { OnOk result (IsTree (section_tree program.now section)) }
+    ensures stop { IfErr result (IsAnswerStop (IsTreeRefused (section_tree program.now section))) }
+{
+    match LoopTree::build(alloc, &program.image, section, &program.setup.loops) {
+        Ok(tree) => Ok(tree),
+        Err(no) => Err(tree_stop(no)),
+    }
+}
+
+/// The bound of a section that may be asked for, in cycles.
+fn bound_in(alloc: Global, program: &Program, thread: u8, section: Section) -> Result<u64, Stop>
+    requires thread { thread < 8 }
+    requires section { section_fault program.now.setup thread section ≡ None }
+    ensures ok { IfOk result (λ cycles. IsTreeAnswer (section_tree program.now section)
+        program.now.setup.slots thread (Says 0 (bound_text cycles))) }
+    ensures stop { IfErr result (IsAnswerStop
+        (IsTreeAnswer (section_tree program.now section) program.now.setup.slots thread)) }
+{
+    let tree = tree_in(alloc, program, section)?;
+    match bound(alloc, &tree, &slot_table(&program.setup), thread) {
+        Ok(cycles) => Ok(cycles),
+        Err(no) => Err(bound_stop(no)),
+    }
+}
+
+/// The bound of a section for a thread, in cycles.
+///
+/// # Errors
+///
+/// A refusal where no bound is told of the section for this thread; where its tree is refused; and
+/// where the bound has more than 64 bits. NoMemory where memory was refused.
+pub fn section_bound(
+    alloc: Global,
+    program: &Program,
+    thread: u8,
+    section: Section,
+) -> Result<u64, Stop>
+    requires { thread < 8 }
+    ensures ok { IfOk result (λ cycles.
+        IsBoundAnswer (Ok program.now) thread section (Says 0 (bound_text cycles))) }
+    ensures stop { IfErr result (IsAnswerStop (IsBoundAnswer (Ok program.now) thread section)) }
+{
+    match section_fault(&program.setup, thread, section) {
+        Some(code) => Err(Stop::Refused(Refusal::Section { code })),
+        None => bound_in(alloc, program, thread, section),
+    }
+}

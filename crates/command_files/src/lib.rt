@@ -1,0 +1,20 @@
+//! The files of a command: its setup and image, and why it ends before its text. Also what the
+//! commands answer that run no machine: the bound of a section, also through calls, and the image
+//! of a source or an executable.
+#![tactic(auto)]
+
+mod assembling;
+mod bound;
+mod calls;
+mod difference;
+mod elf;
+mod program;
+mod stop;
+
+pub use assembling::image_bytes;
+pub use bound::section_bound;
+pub use calls::calls_bound;
+pub use difference::difference_line;
+pub use elf::imported_bytes;
+pub use program::{Program, fetch, load};
+pub use stop::Stop;

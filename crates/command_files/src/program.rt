@@ -1,0 +1,171 @@
+//! The setup and the image that a command reads.
+
+ghost use Rattle.std.specs.Prelude.{◌≡◌, ◌≤◌, ◌<◌, ◌^◌, ◌-◌, [], ◌∷◌, Ok, IfOk, IfErr};
+ghost use Rattle.fp_io.specs.Content.{Asks, Fetched};
+ghost use Rattle.fp_setup.specs.Settings.{size_of};
+ghost use Rattle.region_guard.specs.Regions.{IsSize};
+ghost use Rattle.fp_image.specs.Format.{longest};
+ghost use Rattle.command_files.specs.Answer.{on_file};
+ghost use Rattle.command_files.specs.Codes.{setup_code, image_code};
+ghost use Rattle.command_files.specs.Program.{IsProgramAsked, image_in, program, program_requests, setup_in, setup_request};
+ghost use Rattle.command_files.specs.Stops.{IsFetchStop, IsStopIn, IsStopOf, Makes, stop_of_fetch};
+
+use crate::stop::Stop;
+use fp_image::{Image, ImageNo, ImageRefused, longest, read_image};
+use fp_io::{FetchFault, Files};
+use fp_setup::{MOST_SETUP_BYTES, Name, Place, Setup, SetupNo, SetupRefused, read_setup};
+use std::alloc::Global;
+use trace_print::Refusal;
+
+/// A setup, and the image that it names, which was read for the setup's size.
+#[derive(Drop)]
+pub struct Program {
+    /// The setup.
+    pub setup: Setup,
+    /// The image of the file that the setup names.
+    pub image: Image,
+}
+
+/// Why a file that isn't fetched stops a command.
+fn stop_of_fetch(fault: FetchFault) -> Stop
+    ensures { result ≡ stop_of_fetch fault }
+{
+    match fault {
+        FetchFault::Missing | FetchFault::Failed => Stop::Read,
+        FetchFault::NoMemory => Stop::NoMemory,
+    }
+}
+
+/// Fetches a file: its first `most + 1` bytes, or all where it has fewer.
+///
+/// # Errors
+///
+/// Read only where the files' count of faults rose, or where they tell that the file isn't there;
+/// NoMemory where memory was refused.
+pub fn fetch<F: Files>(
+    alloc: Global,
+    name: &Name,
+    most: usize,
+    files: &mut F,
+) -> Result<Vec<u8>, Stop>
+    requires { most < 2 ^ 64 - 1 }
+    ensures told { F.told files.new ≡ F.told files.old }
+    ensures counted { F.faults files.old ≤ F.faults files.new }
+    ensures request { Asks (F.requests files.old) (F.requests files.new) ((name.now, most) ∷ []) }
+    ensures bytes { IfOk result (λ bytes. Fetched (F.told files.old) name.now most bytes.items) }
+    ensures stop { IfErr result (IsFetchStop (F.told files.old) name.now
+        (F.faults files.old) (F.faults files.new)) }
+{
+    match files.fetch(alloc, name.as_str(), most) {
+        Ok(bytes) => Ok(bytes),
+        Err(fault) => Err(stop_of_fetch(fault)),
+    }
+}
+
+/// The refusal of a setup.
+fn setup_refusal(code: SetupNo, place: Place) -> Refusal
+    ensures { result ≡ Refusal.Setup (setup_code code) place }
+{
+    Refusal::Setup {
+        code: code as u8,
+        place,
+    }
+}
+
+/// The setup of a file's bytes.
+#[tactic(auto, unfolding(crate::specs::Program::setup_in))]
+fn setup_in(alloc: Global, bytes: &[u8]) -> Result<Setup, Stop>
+    ensures ok { IfOk result (λ s. setup_in bytes.now ≡ Ok s) }
+    ensures stop { IfErr result (IsStopOf (setup_in bytes.now)) }
+{
+    match read_setup(alloc, bytes) {
+        Ok(setup) => Ok(setup),
+        Err(SetupRefused::Fault { code, place }) => {
+            Err(Stop::Refused(setup_refusal(code, place)))
+        }
+        Err(SetupRefused::NoMemory) => Err(Stop::NoMemory),
+    }
+}
+
+/// The refusal of an image.
+fn image_refusal(code: ImageNo, offset: u32) -> Refusal
+    ensures { result ≡ Refusal.Image (image_code code) offset }
+{
+    Refusal::Image {
+        code: code as u8,
+        offset,
+    }
+}
+
+/// The image of a file's bytes, for scratchpads of a size.
+#[tactic(auto, unfolding(crate::specs::Program::image_in))]
+fn image_in(alloc: Global, bytes: &[u8], size: u32) -> Result<Image, Stop>
+    requires { IsSize size }
+    ensures ok { IfOk result (λ image. image_in size bytes.now ≡ Ok image) }
+    ensures stop { IfErr result (IsStopOf (image_in size bytes.now)) }
+{
+    match read_image(alloc, bytes, size) {
+        Ok(image) => Ok(image),
+        Err(ImageRefused::Fault { code, offset }) => {
+            Err(Stop::Refused(image_refusal(code, offset)))
+        }
+        Err(ImageRefused::NoMemory) => Err(Stop::NoMemory),
+    }
+}
+
+/// Fetches and reads a setup.
+fn fetch_setup<F: Files>(alloc: Global, name: &Name, files: &mut F) -> Result<Setup, Stop>
+    ensures told { F.told files.new ≡ F.told files.old }
+    ensures counted { F.faults files.old ≤ F.faults files.new }
+    ensures request { Asks (F.requests files.old) (F.requests files.new)
+        (setup_request name.now ∷ []) }
+    ensures ok { IfOk result (Makes (F.told files.old) (on_file setup_in name.now)) }
+    ensures stop { IfErr result (IsStopIn (F.told files.old) (on_file setup_in name.now)
+        (F.faults files.old) (F.faults files.new)) }
+{
+    let bytes = fetch(alloc, name, MOST_SETUP_BYTES, files)?;
+    setup_in(alloc, &bytes)
+}
+
+/// Fetches and reads an image, for scratchpads of a size.
+fn fetch_image<F: Files>(
+    alloc: Global,
+    name: &Name,
+    size: u32,
+    files: &mut F,
+) -> Result<Image, Stop>
+    requires { IsSize size }
+    ensures told { F.told files.new ≡ F.told files.old }
+    ensures counted { F.faults files.old ≤ F.faults files.new }
+    ensures request { Asks (F.requests files.old) (F.requests files.new)
+        ((name.now, longest size) ∷ []) }
+    ensures ok { IfOk result (Makes (F.told files.old) (on_file (image_in size) name.now)) }
+    ensures stop { IfErr result (IsStopIn (F.told files.old) (on_file (image_in size) name.now)
+        (F.faults files.old) (F.faults files.new)) }
+{
+    let bytes = fetch(alloc, name, longest(size), files)?;
+    image_in(alloc, &bytes, size)
+}
+
+/// Fetches and reads a setup, and then the image that it names, for scratchpads of the setup's
+/// size.
+///
+/// # Errors
+///
+/// The first of: the setup isn't there or can't be read; it has a fault; the image isn't there or
+/// can't be read; it has a fault. NoMemory where memory was refused.
+pub fn load<F: Files>(alloc: Global, name: &Name, files: &mut F) -> Result<Program, Stop>
+    ensures told { F.told files.new ≡ F.told files.old }
+    ensures counted { F.faults files.old ≤ F.faults files.new }
+    ensures requests { IfOk result (λ p. Asks (F.requests files.old) (F.requests files.new)
+        (program_requests name.now p.setup)) }
+    ensures asked { IsProgramAsked (F.told files.old) name.now
+        (F.requests files.old) (F.requests files.new) }
+    ensures ok { IfOk result (Makes (F.told files.old) (λ told. program told name.now)) }
+    ensures stop { IfErr result (IsStopIn (F.told files.old) (λ told. program told name.now)
+        (F.faults files.old) (F.faults files.new)) }
+{
+    let setup = fetch_setup(alloc, name, files)?;
+    let image = fetch_image(alloc, &setup.image, setup.size(), files)?;
+    Ok(Program { setup, image })
+}

@@ -1,0 +1,28 @@
+//! Why a command ends before its text.
+
+use std::alloc::AllocError;
+use trace_print::Refusal;
+
+/// Why a command ends before its text.
+#[derive(Clone, Copy)]
+pub enum Stop {
+    /// Something has a fault, of which this refusal tells.
+    Refused(Refusal),
+    /// A recorded trace isn't the defined one, and first differs in this line.
+    Differs { line: u64 },
+    /// A file isn't there, or could not be read.
+    Read,
+    /// Memory was refused.
+    NoMemory,
+}
+
+impl From<AllocError> for Stop {
+    ghost use Rattle.std.specs.Prelude.{◌≡◌};
+    ghost use Rattle.command_files.specs.declared.stop.Stop.TheVariants.{NoMemory};
+
+    ghost from_gives = { λ _ stop. stop ≡ NoMemory };
+
+    fn from(_error: AllocError) -> Stop {
+        Stop::NoMemory
+    }
+}

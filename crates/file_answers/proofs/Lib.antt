@@ -1,4 +1,0 @@
-mod Bounds
-mod CallAnswers
-mod Cuts
-mod ListCut
