@@ -131,6 +131,7 @@ def parts(jobs: int) -> list[Part]:
     texts = [('bench/api.py', '--check'), ('bench/exports.py',)]
     return [
         *(Part(text[0], ['{python}', *text], programs=False) for text in texts if (TOP / text[0]).is_file()),
+        Part('bench/layers.py', ['{python}', 'bench/layers.py', '--check'], modules=['networkx'], programs=False),
         Part('tables of the model', ['{python}', '-m', 'model.tables.check'], commands=['riscv64-unknown-elf-as', 'qemu-riscv32'],
              programs=False),
         pytest('tools', 'tools/tests', jobs),
