@@ -5,7 +5,7 @@ from dataclasses import dataclass, field
 
 from program import TOP
 
-FOLDER = TOP / 'crates/rows/data'
+FOLDERS = tuple(TOP / 'crates' / name / 'data' for name in ('unit_rows', 'command_rows'))
 
 ESCAPED = re.compile(rb'\\(x[0-9a-f]{2}|.)', re.DOTALL)
 LETTERS = {b'n': b'\n', b'r': b'\r', b't': b'\t'}
@@ -44,8 +44,9 @@ def unescaped(text: str) -> bytes:
 
 
 def lines_of(table: str) -> list[str]:
-    """The lines of a table."""
-    return (FOLDER / table).read_text().splitlines()
+    """The lines of a table, of the one crate that has it."""
+    path, = (folder / table for folder in FOLDERS if (folder / table).exists())
+    return path.read_text().splitlines()
 
 
 def cases(table: str) -> list[Case]:

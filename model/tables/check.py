@@ -10,7 +10,7 @@ from dataclasses import dataclass
 from model.commands import answer as command_answer
 from model.tables import file_rows, gnu, instruction_rows, qemu, run_rows, text_rows, unit_rows
 from model.tables.cases import call_walks, cases, wrong
-from model.tables.forms import ROWS, Row, rows
+from model.tables.forms import COMMAND_ROWS, Row, rows
 from model.tables.tools import Missing
 
 Answer = Callable[[str], "str | None"]
@@ -85,7 +85,7 @@ def checked_commands(name: str) -> Iterator[Row]:
 
 
 def checked_examples() -> Iterator[Row]:
-    files = {path.name: path.read_bytes() for path in ROWS.iterdir()}
+    files = {path.name: path.read_bytes() for path in COMMAND_ROWS.iterdir()}
     named = {**files, **{f"examples/{name}": data for name, data in files.items()}}
     named |= {f"examples/c/{name}": data for name, data in files.items()}
     for line, wanted in EXAMPLES.items():

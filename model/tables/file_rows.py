@@ -8,7 +8,7 @@ from model.graphs import RoutinesFault, read_routines
 from model.images import Image, ImageFault, read_image
 from model.bits import nibbles_word
 from model.setups import HARD, LARGE, SMALL, SOFT, THREADS, Setup, SetupFault, ThreadSetup, read_setup
-from model.tables.forms import ROWS, number, repeated, table, unescaped, words_in_runs
+from model.tables.forms import number, repeated, table, unescaped, words_in_runs
 from model.tables.text_rows import segments
 
 SIZES = {"small": SMALL, "large": LARGE}
@@ -92,7 +92,7 @@ def read_setup_answer(data: bytes) -> str:
 
 
 def setup_of_words() -> Setup:
-    """The setup that `rows` makes of its registers' words."""
+    """The setup that `unit_rows` makes of its registers' words."""
     threads = [ThreadSetup(HARD if k < 4 else SOFT, 2048 * k, confined=k < 4) for k in range(THREADS)]
     return Setup(1, 10, "-", 0xEEEE3210, nibbles_word(range(8)), 0xC8883210, threads)
 
@@ -109,7 +109,7 @@ def setup_answer(call: str) -> str | None:
         case "signs":
             return read_setup_answer(b"#" * int(given))
         case "file":
-            return read_setup_answer((ROWS / given).read_bytes())
+            return read_setup_answer(table(given).read_bytes())
         case "words":
             return setup_said(setup_of_words())
     return None

@@ -6,7 +6,8 @@ from itertools import groupby
 from pathlib import Path
 
 TOP = Path(__file__).resolve().parents[2]
-ROWS = TOP / "crates/rows/data"
+UNIT_ROWS = TOP / "crates/unit_rows/data"
+COMMAND_ROWS = TOP / "crates/command_rows/data"
 
 Row = tuple[str, "str | None"]
 """What a row is called, and what is wrong with it: nothing where that is empty, and None where it couldn't be
@@ -18,8 +19,9 @@ LETTERS = {b"n": b"\n", b"r": b"\r", b"t": b"\t"}
 
 
 def table(name: str) -> Path:
-    """The path of a table by its name."""
-    return ROWS / name
+    """The path of a table, or of a file that its rows read, by its name."""
+    path = UNIT_ROWS / name
+    return path if path.exists() else COMMAND_ROWS / name
 
 
 def rows(name: str) -> list[tuple[str, str]]:

@@ -13,7 +13,7 @@ from model.bits import bits
 from model.ports import HeldPort, Ports
 from model.registers import own_positions
 from model.setups import LARGE, READ_ONLY, THREADS, Loop, Setup, ThreadSetup, read_setup
-from model.tables.forms import ROWS, Row, number, numbers, rows
+from model.tables.forms import Row, number, numbers, rows, table
 from model.walks import TooManyWalks, Walks
 from model.world import RETIRES, World
 
@@ -38,7 +38,7 @@ def program_setup(slots: int, modes: int, second: int) -> Setup:
 
 
 def machine_answer() -> str:
-    """The trace of the machine that `rows` puts together from its fields."""
+    """The trace of the machine that `unit_rows` puts together from its fields."""
     code = {0: 0x00100293, 4: 0x00002303, 8: 0x00000463, 12: 0x00000013, 16: 0x00200393, 20: 0x0000006F}
     threads = [ThreadSetup(0, confined=True)] + [ThreadSetup()] * 7
     setup = Setup(1, 10, "-", 0xFFFFFFF0, ALL_READ_ONLY, 0xCCCCC810, threads)
@@ -67,8 +67,8 @@ def program_answer(call: str) -> str:
 def solo_answer(call: str) -> str:
     """How many bytes a thread's trace has, without a device at its port."""
     setup_name, image_name, thread, cycles = call.split()
-    setup = read_setup((ROWS / setup_name).read_bytes())
-    image = read_image((ROWS / image_name).read_bytes(), setup.size)
+    setup = read_setup(table(setup_name).read_bytes())
+    image = read_image(table(image_name).read_bytes(), setup.size)
     return f"{len(trace(solo(View(setup, image, [None] * THREADS, int(thread)), int(cycles))))} bytes"
 
 

@@ -502,7 +502,7 @@ def test_an_argument_that_is_no_text_is_named(checkout: Checkout) -> None:
 
 
 def test_what_is_wrong_by_the_script_is_wrong_by_the_rows_of_the_gate() -> None:
-    rows = [line.split("\t", 1) for line in (TOP / "crates/rows/data/words.txt").read_text().splitlines() if "\t" in line]
+    rows = [line.split("\t", 1) for line in (TOP / "crates/unit_rows/data/words.txt").read_text().splitlines() if "\t" in line]
     assert len(rows) > 100
     for answer, call in rows:
         words = call[1:].split(" ") if call.startswith(":") else []

@@ -21,7 +21,7 @@ FLOWS = {
 
 
 def rows() -> list[tuple[Word, str, str]]:
-    found = map(ROW.match, (TOP / "crates/rows/data/decode.txt").read_text().splitlines())
+    found = map(ROW.match, (TOP / "crates/unit_rows/data/decode.txt").read_text().splitlines())
     return [(Word(PC, int(it[1], 16)), it[2], it[3]) for it in found if it]
 
 

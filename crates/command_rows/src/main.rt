@@ -1,0 +1,109 @@
+//! Compares what the program answers to command lines with tables that were worked out apart from
+//! it: its status, what it writes, what is left of the devices at the ports, and the calls that it
+//! makes. `commands.txt` says at its head how the tables are written.
+//!
+//! The tables are in the folder where it runs, with copies of the files of the repository's examples
+//! and what commands over them write. Standard output has each command at which the two differ, and
+//! for each table how many there are and how many differ.
+#![tactic(auto)]
+
+mod answer;
+mod cases;
+mod devices;
+mod examples;
+mod expanded;
+mod failing;
+mod noted;
+mod ports;
+mod stopped;
+
+use crate::answer::{Answer, answer_to, is_wanted, push_answer};
+use crate::cases::{Case, Command, Wanted, cases};
+use crate::stopped::is_shown;
+use row_text::{RowText, Tally};
+use std::{fs, io};
+
+/// The tables.
+const TABLES: [&str; 8] = [
+    "commands.txt",
+    "worlds.txt",
+    "settings.txt",
+    "worked.txt",
+    "calls.txt",
+    "noted.txt",
+    "limits.txt",
+    "stopped.txt",
+];
+
+/// Those whose commands are run again with each fetch and each put failing, with what is printed of
+/// these runs.
+const FAILING: [(&str, &str); 2] = [
+    ("worked.txt", "worked.txt, each fetch and put failing"),
+    ("noted.txt", "noted.txt, each fetch and put failing"),
+];
+
+/// Whether a command has the answer that is wanted. One that differs is printed.
+pub fn agrees(
+    rt: HostRuntime,
+    case: &Case<'_>,
+    command: &Command<'_>,
+    wanted: Wanted<'_>,
+) -> io::Result<bool> {
+    let answer = answer_to(rt.alloc(), case, command, wanted.fails)?;
+    let agrees = is_wanted(&answer, command, wanted);
+    if !agrees {
+        print_answer(rt, case, command, &answer)?;
+    }
+    Ok(agrees)
+}
+
+/// Prints the answer to a command.
+fn print_answer(
+    rt: HostRuntime,
+    case: &Case<'_>,
+    command: &Command<'_>,
+    answer: &Answer,
+) -> io::Result<()> {
+    let mut text = RowText::new(rt.alloc());
+    push_answer(&mut text, answer);
+    println!(rt; "{}, {}: {}", case.name, command.line, text.as_str()?)
+}
+
+/// Whether the machine of a command is left as is wanted, where that is. One that isn't is printed.
+fn is_left(rt: HostRuntime, case: &Case<'_>, command: &Command<'_>) -> io::Result<bool> {
+    let is_left = is_shown(rt.alloc(), case, command);
+    if !is_left {
+        println!(rt; "{}, {}: another machine is left", case.name, command.line)?;
+    }
+    Ok(is_left)
+}
+
+/// Counts the commands of a case.
+pub fn count(rt: HostRuntime, tally: &mut Tally, case: &Case<'_>) -> io::Result<()> {
+    for command in &case.commands {
+        let agrees = agrees(rt, case, command, command.wanted())?;
+        tally.count(agrees && is_left(rt, case, command)?);
+    }
+    Ok(())
+}
+
+/// Compares the commands of a table.
+fn compare(rt: HostRuntime, name: &str) -> io::Result<()> {
+    let table = fs::read_to_string(&rt, name)?;
+    let mut tally = Tally::new();
+    for case in &cases(rt.alloc(), table.as_str())? {
+        count(rt, &mut tally, case)?;
+    }
+    tally.print(rt, name, "commands")
+}
+
+fn main(rt: HostRuntime) -> io::Result<()> {
+    examples::compare(rt)?;
+    for name in TABLES {
+        compare(rt, name)?;
+    }
+    for (name, title) in FAILING {
+        failing::compare(rt, name, title)?;
+    }
+    Ok(())
+}

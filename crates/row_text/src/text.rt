@@ -1,0 +1,53 @@
+//! Texts that note by themselves whether memory was refused.
+
+use std::alloc::{AllocError, Global};
+use std::fmt::{Display, Write};
+
+/// A text that is compared with a row, or printed. If memory for a part of it was refused, it can't
+/// be read.
+#[derive(Drop)]
+pub struct RowText {
+    text: String,
+    is_refused: bool,
+}
+
+impl RowText {
+    pub fn new(alloc: Global) -> RowText {
+        RowText {
+            text: String::new(alloc),
+            is_refused: false,
+        }
+    }
+
+    /// Appends a format. `write!` and `writeln!` call it.
+    pub fn write_fmt<D: Display + Drop>(&mut self, format: D) {
+        if self.text.write_fmt(format).is_err() {
+            self.is_refused = true;
+        }
+    }
+
+    pub fn push_str(&mut self, more: &str) {
+        if self.text.push_str(more).is_err() {
+            self.is_refused = true;
+        }
+    }
+
+    /// Notes that memory was refused for what the text is made of.
+    pub fn refuse(&mut self) {
+        self.is_refused = true;
+    }
+
+    /// How many bytes the text has.
+    pub fn len(&self) -> usize {
+        self.text.len()
+    }
+
+    /// The text. An error if memory for a part of it was refused.
+    pub fn as_str(&self) -> Result<&str, AllocError> {
+        if self.is_refused {
+            Err(AllocError)
+        } else {
+            Ok(self.text.as_str())
+        }
+    }
+}

@@ -1,0 +1,106 @@
+//! What the machine's units answer.
+
+ghost use Rattle.std.specs.Prelude.{◌<◌};
+
+use crate::numbers::{head, low_byte, low_word, numbers, thread_of};
+use crate::steps;
+use region_guard::{Guard, Regions};
+use row_text::RowText;
+use slot_scheduler::{Modes, Pick, Sched, Scheduler};
+use slot_table::SlotTable;
+use std::alloc::Global;
+use timer_unit::{Clock, moment};
+
+/// `turn SLOTS CYCLE`, `mode MODES THREAD`, `picks SLOTS MODES SLEEP`, `regions REGIONS`, `access
+/// SIZE THREAD CONFINED ADDRESS BYTES`, `time PERIOD CYCLE`, `moment HIGH LOW`, and the calls of
+/// `steps`.
+pub fn push_answer(text: &mut RowText, alloc: Global, call: &str) {
+    let (name, with) = head(call);
+    let n = numbers(with);
+    let word = low_word(n[0]);
+    match name {
+        "turn" => push_turn(text, word, n[1]),
+        "mode" => push_mode(text, word, thread_of(n[1])),
+        "picks" => push_picks(text, word, low_word(n[1]), n[2]),
+        "regions" => push_regions(text, word),
+        "access" => push_access(text, &n),
+        "time" => push_time(text, word, n[1]),
+        "moment" => write!(text, "{:x}", moment(word, low_word(n[1]))),
+        "memory" => steps::push_memory(text, alloc),
+        _ => steps::push_steps(text, name, with),
+    }
+}
+
+/// The word of a table of slots, the length of its frame, and whose turn a cycle is.
+fn push_turn(text: &mut RowText, word: u32, cycle: u64) {
+    match SlotTable::from_word(word) {
+        Ok(table) => {
+            let (word, len) = (table.word(), table.frame_len());
+            write!(text, "{word:x} {len} {:?}", table.turn(cycle))
+        }
+        Err(bad) => write!(text, "{bad:?}"),
+    }
+}
+
+/// The word of modes, and the mode of a thread.
+fn push_mode(text: &mut RowText, word: u32, thread: u8)
+    requires { thread < 8 }
+{
+    match Modes::from_word(word) {
+        Ok(modes) => write!(text, "{:x} {}", modes.word(), modes.mode(thread)),
+        Err(bad) => write!(text, "{bad:?}"),
+    }
+}
+
+/// The picks of eight cycles of 10 nanoseconds, from the first one on, where thread 0 sleeps until
+/// a moment. `b` is a bubble.
+fn push_picks(text: &mut RowText, slots: u32, modes: u32, sleep: u64) {
+    let (Ok(slots), Ok(modes)) = (SlotTable::from_word(slots), Modes::from_word(modes)) else {
+        return text.push_str("no words");
+    };
+    let sched = Sched {
+        slots,
+        modes,
+        sleep: [sleep, 0, 0, 0, 0, 0, 0, 0],
+    };
+    let mut scheduler = Scheduler::new();
+    for cycle in 0..8u64 {
+        match scheduler.pick(&sched, cycle, cycle * 10) {
+            Pick::Issue { thread } => write!(text, "{thread}"),
+            Pick::Bubble => text.push_str("b"),
+        }
+    }
+}
+
+/// The word of registers of regions.
+fn push_regions(text: &mut RowText, word: u32) {
+    match Regions::from_word(word) {
+        Ok(regions) => write!(text, "{:x}", regions.word()),
+        Err(bad) => write!(text, "{bad:?}"),
+    }
+}
+
+/// Whether a thread may load, store and fetch at an address, where the data regions are thread 0's,
+/// thread 1's, a shared one, and then read only ones, as those of code.
+fn push_access(text: &mut RowText, n: &[u64; 8]) {
+    let code = Regions::from_word(0xcccc_cccc);
+    let (Ok(i), Ok(d)) = (code, Regions::from_word(0xcccc_c810)) else {
+        return text.push_str("no regions");
+    };
+    let size = if n[0] == 65_536 { 65_536 } else { 16_384 };
+    let guard = Guard { i, d, size };
+    let (thread, confined) = (thread_of(n[1]), n[2] != 0);
+    let (address, bytes) = (low_word(n[3]), low_byte(n[4]));
+    let load = guard.may_load(thread, confined, address, bytes);
+    let store = guard.may_store(thread, address, bytes);
+    let fetch = guard.may_fetch(thread, confined, address);
+    write!(text, "{load} {store} {fetch}")
+}
+
+/// The time of a cycle.
+fn push_time(text: &mut RowText, period: u32, cycle: u64) {
+    if !(1..=1000).contains(&period) || cycle > 4_000_000_010 {
+        return text.push_str("no time");
+    }
+    write!(text, "{}", Clock::new(period).now(cycle))
+}
