@@ -3,3 +3,4 @@ pub mod WordSources
 pub mod Targets
 pub mod Left
 pub mod Answered
+pub mod Shown

@@ -1,12 +1,12 @@
 -- The code's values as those of the definitions, and what holds of them.
-use Rattle.std.specs.Prelude.{◌≡◌, ℕ, ◌%◌, true, Option, Some, None}
+use Rattle.std.specs.Prelude.{◌≡◌, ◌≢◌, ℕ, ◌%◌, true, Option, Some, None}
 use Rattle.rv_decode.specs.declared.instruction.Ins.{Ins}
 use Rattle.rv_decode.specs.declared.instruction.Ins.TheVariants as row
 use Rattle.rv_decode.specs.declared.instruction.CsrKind.{CsrKind}
 use Rattle.rv_exec.specs.declared.outcome.Outcome.{Outcome}
 use Rattle.rv_exec.specs.Line.{IsPrintable}
 use Rattle.rv_exec.specs.declared.outcome.Effect.{Effect}
-use Rattle.rv_exec.specs.declared.outcome.Effect.TheVariants.{Store}
+use Rattle.rv_exec.specs.declared.outcome.Effect.TheVariants.{Store, Trap}
 use Rattle.core_model.specs.Issue.{csr_op, csr_operand, csr_writes}
 use Rattle.hart_exec.specs.declared.csr.Access.{Access}
 
@@ -23,6 +23,11 @@ IsAlignedStore _ = Unit {0}
 abbrev pub IsShowable : Option Effect → Type 0
 IsShowable (Some effect) = IsPrintable effect
 IsShowable None = Unit {0}
+
+-- a word is shown, and so isn't 0, unless its instruction traps
+abbrev pub IsShown : Option Effect → ℕ → Type 0
+IsShown (Some (Trap cause target)) word = Unit {0}
+IsShown _ word = word ≢ 0
 
 -- the target of a jump, and of a branch that is taken, is a multiple of four
 abbrev pub HasTarget : Ins → Outcome → Type 0

@@ -8,7 +8,7 @@ ghost use Rattle.core_model.specs.Issue.{execute_untrapped, run_at, execute_in};
 ghost use Rattle.core_model.specs.Outcomes.{with_armed};
 ghost use Rattle.core_model.specs.Traps.{trapped};
 ghost use Rattle.rv_exec.specs.TrapCauses.{cause_expiry};
-ghost use Rattle.hart_exec.specs.AsDefined.{IsShowable, IsAlignedStore, HasTarget};
+ghost use Rattle.hart_exec.specs.AsDefined.{IsShowable, IsAlignedStore, IsShown, HasTarget};
 ghost use Rattle.hart_exec.specs.Units.{Holds, Refines, asked, own_of};
 
 use crate::csr::{Access, access_csr};
@@ -95,6 +95,7 @@ fn expire(hart: &mut Hart<'_>, at: PcWord) -> Executed
     ensures pc { result.pc % 4 ≡ 0 }
     ensures showable { IsShowable result.effect }
     ensures store { IsAlignedStore result.effect }
+    ensures shown { IsShown result.effect result.word }
     ensures word { result.word ≡ 0 }
     ensures address { result.address ≡ 0 }
 {
@@ -114,6 +115,7 @@ pub fn execute_in(hart: &mut Hart<'_>, at: PcWord, expired: bool, s: Sources) ->
     ensures pc { result.pc % 4 ≡ 0 }
     ensures showable { IsShowable result.effect }
     ensures store { IsAlignedStore result.effect }
+    ensures shown { IsShown result.effect result.word }
     ensures address { IsAligned (ins result.word) result.address }
 {
     if expired {

@@ -7,7 +7,7 @@ ghost use Rattle.core_model.specs.Traps.{trapped};
 ghost use Rattle.core_model.specs.Outcomes.{plus, plain, wrote, go_to, branch};
 ghost use Rattle.rv_exec.specs.Line.{IsPrintable};
 ghost use Rattle.rv_exec.specs.declared.outcome.Effect.TheVariants.{Nothing};
-ghost use Rattle.hart_exec.specs.AsDefined.{IsShowable, IsAlignedStore};
+ghost use Rattle.hart_exec.specs.AsDefined.{IsShowable, IsAlignedStore, IsShown};
 ghost use Rattle.hart_exec.specs.Units.{Holds, Refines, RefinesInPlace, own_of};
 
 use crate::hart::Hart;
@@ -59,6 +59,7 @@ pub fn trap(hart: &mut Hart<'_>, at: PcWord, cause: u8) -> Executed
     ensures pc { result.pc % 4 ≡ 0 }
     ensures showable { IsShowable result.effect }
     ensures store { IsAlignedStore result.effect }
+    ensures shown { IsShown result.effect result.word }
     ensures word { result.word ≡ at.word }
     ensures address { result.address ≡ 0 }
 {

@@ -10,11 +10,11 @@ ghost use Rattle.pipe_model.specs.declared.stage_registers.Held.TheVariants.{Iss
 ghost use Rattle.pipe_model.specs.Stages.{forward, from_m, from_e, operand, flushes_d, decode_stage};
 ghost use Rattle.pipeline_core.specs.StageFacts.{EffectFits, FetchedFits, DecodedFits, ExecutedFits, StoredFits};
 
+use crate::units::Units;
 use hart_exec::sources_in;
 use pipe_model::{Decoded, Executed, Fetched, Held, Redirect, Stored};
 use regfile_bank::Bank;
 use rv_exec::Effect;
-use timer_unit::{Clock, Timers};
 
 /// Whether a redirect flushes a thread's turn in D: each one of its own thread does.
 fn flushes_d(thread: u8, redirect: Option<Redirect>) -> bool
@@ -88,23 +88,24 @@ fn sources(
 }
 
 /// Whether a thread's armed moment was reached in the cycle before this one.
-fn is_due(timers: &Timers, clock: &Clock, cycle: u64, thread: u8) -> bool
+fn is_due(units: &Units, cycle: u64, thread: u8) -> bool
     requires thread { thread < 8 }
     requires cycle { cycle < most_cycles }
-    ensures { result ≡ is_due (timer_of timers.now thread).armed (time clock.now (cycle - 1)) }
+    ensures { result ≡ is_due (timer_of units.now.timers thread).armed
+        (time units.now.clock (cycle - 1)) }
 {
-    timers.due(thread, clock.now(cycle.saturating_sub(1)))
+    units
+        .timers
+        .due(thread, units.clock.now(cycle.saturating_sub(1)))
 }
 
 /// An issue with its sources, and whether its thread's armed moment was reached when it was issued,
 /// in the cycle before this one.
 #[inline(always)]
 fn decoded(
-    bank: &Bank,
+    units: &Units,
     m: &Held<Stored>,
     e: &Held<Executed>,
-    timers: &Timers,
-    clock: &Clock,
     cycle: u64,
     thread: u8,
     x: &Fetched,
@@ -116,17 +117,18 @@ fn decoded(
     ensures { result ≡ record {
       pc = x.now.pc;
       word = x.now.word;
-      expired = is_due (timer_of timers.now thread).armed (time clock.now (cycle - 1));
-      a = operand bank.now m.now e.now thread (source_1 (ins x.now.word));
-      b = operand bank.now m.now e.now thread (source_2 (ins x.now.word));
+      expired = is_due (timer_of units.now.timers thread).armed
+          (time units.now.clock (cycle - 1));
+      a = operand units.now.bank m.now e.now thread (source_1 (ins x.now.word));
+      b = operand units.now.bank m.now e.now thread (source_2 (ins x.now.word));
     } }
 {
     let (rs1, rs2) = sources_in(x.word);
-    let (a, b) = sources(bank, m, e, thread, rs1, rs2);
+    let (a, b) = sources(&units.bank, m, e, thread, rs1, rs2);
     Decoded {
         pc: x.pc,
         word: x.word,
-        expired: is_due(timers, clock, cycle, thread),
+        expired: is_due(units, cycle, thread),
         a,
         b,
     }
@@ -159,11 +161,9 @@ fn put_decoded(thread: u8, what: Decoded, d: &mut Held<Decoded>)
 #[tactic(auto, unfolding(pipe_model::specs::Stages::decode_stage))]
 #[inline(always)]
 pub fn decode_stage(
-    bank: &Bank,
+    units: &Units,
     m: &Held<Stored>,
     e: &Held<Executed>,
-    timers: &Timers,
-    clock: &Clock,
     redirect: Option<Redirect>,
     cycle: u64,
     held: &Held<Fetched>,
@@ -173,8 +173,8 @@ pub fn decode_stage(
     requires e { ExecutedFits e.now }
     requires f { FetchedFits held.now }
     requires cycle { cycle < most_cycles }
-    ensures stage { d.new ≡ decode_stage bank.now m.now e.now timers.now redirect
-        (time clock.now (cycle - 1)) held.now }
+    ensures stage { d.new ≡ decode_stage units.now.bank m.now e.now units.now.timers redirect
+        (time units.now.clock (cycle - 1)) held.now }
     ensures fits { DecodedFits d.new }
 {
     let (thread, x) = match held {
@@ -192,6 +192,6 @@ pub fn decode_stage(
         *d = Held::Flushed { thread };
         return;
     }
-    let what = decoded(bank, m, e, timers, clock, cycle, thread, x);
+    let what = decoded(units, m, e, cycle, thread, x);
     put_decoded(thread, what, d);
 }

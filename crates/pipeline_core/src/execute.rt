@@ -7,6 +7,7 @@ ghost use Rattle.rv_decode.specs.Lag.{plain_lag, late_lag};
 ghost use Rattle.rv_exec.specs.Access.{IsAligned};
 ghost use Rattle.timer_unit.specs.Time.{most_cycles};
 ghost use Rattle.fp_ports.specs.Rows.{Row};
+ghost use Rattle.hart_exec.specs.AsDefined.{IsShown};
 ghost use Rattle.hart_exec.specs.Units.{executed_as_defined};
 ghost use Rattle.pipe_model.specs.Stages.{execute_stage, executed, redirect_of};
 ghost use Rattle.pipe_model.specs.declared.stage_registers.Held.TheVariants.{Issue};
@@ -34,29 +35,45 @@ fn way_of(lag: u64) -> Option<Way>
     }
 }
 
-/// What stands in the stage register of an executed instruction with its effect. One whose word
-/// isn't shown has no sources.
-#[inline(always)]
+/// What stands in the stage register of an executed instruction with its effect.
 fn executed_of(x: &Decoded, done: &Done, effect: Option<Effect>) -> Executed
-    ensures { result ≡ record (executed x.now (executed_as_defined no_own done.now)) {
+    ensures { result ≡ record {
+      pc = x.now.pc;
+      word = done.now.word;
+      a = x.now.a;
+      b = x.now.b;
+      address = done.now.address;
       effect = effect;
     } }
 {
-    let is_shown = done.word != 0;
     Executed {
         pc: x.pc,
         word: done.word,
-        a: if is_shown { x.a } else { 0 },
-        b: if is_shown { x.b } else { 0 },
+        a: x.a,
+        b: x.b,
         address: done.address,
         effect,
     }
 }
 
+/// The issue as its instruction was executed: one whose word isn't shown has no sources.
+fn shown(x: &Decoded, done: &Done) -> Decoded
+    ensures a { result.a ≡ (if done.now.word == 0 then 0 else x.now.a) }
+    ensures b { result.b ≡ (if done.now.word == 0 then 0 else x.now.b) }
+    ensures pc { result.pc ≡ x.now.pc }
+{
+    if done.word == 0 {
+        Decoded { a: 0, b: 0, ..*x }
+    } else {
+        *x
+    }
+}
+
 /// Leaves an executed instruction in `e`. The two most frequent effects have lines of their own, so
-/// that only the variant's own fields are copied.
+/// that only the variant's own fields are copied; their words are shown.
 #[inline(always)]
 fn put_executed(thread: u8, x: &Decoded, done: &Done, e: &mut Held<Executed>)
+    requires { IsShown done.now.effect done.now.word }
     ensures { e.new ≡ Issue thread (executed x.now (executed_as_defined no_own done.now)) }
 {
     match done.effect {
@@ -69,7 +86,7 @@ fn put_executed(thread: u8, x: &Decoded, done: &Done, e: &mut Held<Executed>)
             *e = Held::Issue { thread, what };
         }
         effect => {
-            let what = executed_of(x, done, effect);
+            let what = executed_of(&shown(x, done), done, effect);
             *e = Held::Issue { thread, what };
         }
     }
@@ -77,7 +94,9 @@ fn put_executed(thread: u8, x: &Decoded, done: &Done, e: &mut Held<Executed>)
 
 /// Leaves an executed instruction in `e`. Returns whether its thread's next turns are flushed;
 /// where they are, `redirect` says where it goes on, else it has no meaning. An `Option<Redirect>`
-/// would be spilled to memory: ten instructions in each cycle that has none.
+/// would be spilled to memory: ten instructions in each cycle that has none. The stage register is
+/// written on each of the two ways, since the compiler then knows the lag there: with one write
+/// before the ways parted, a cycle took 38 instructions more.
 #[inline(always)]
 fn leave(
     thread: u8,
@@ -88,15 +107,17 @@ fn leave(
 ) -> bool
     requires thread { thread < 8 }
     requires pc { IsPc done.now.pc }
+    requires shown { IsShown done.now.effect done.now.word }
     ensures e { e.new ≡ Issue thread (executed x.now (executed_as_defined no_own done.now)) }
     ensures redirect { redirect_of thread (executed_as_defined no_own done.now)
         ≡ (if result then Some redirect.new else None) }
     ensures fits { RedirectFits (if result then Some redirect.new else None) }
 {
-    put_executed(thread, x, done, e);
     let Some(way) = way_of(done.lag) else {
+        put_executed(thread, x, done, e);
         return false;
     };
+    put_executed(thread, x, done, e);
     *redirect = Redirect {
         thread,
         pc: done.pc,

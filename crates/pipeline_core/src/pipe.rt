@@ -246,11 +246,9 @@ impl Pipe {
         ensures w { self.new.w ≡ self.old.w }
     {
         decode_stage(
-            &units.bank,
+            units,
             &self.m,
             &self.e,
-            &units.timers,
-            &units.clock,
             redirect,
             cycle,
             &self.f,
