@@ -35,3 +35,15 @@ HasTarget (row.Jal rd off) o = o.target % 4 ≡ 0
 HasTarget (row.Jalr rd rs1 imm) o = o.target % 4 ≡ 0
 HasTarget (row.Branch op rs1 rs2 off) o = o.taken ≡ true → o.target % 4 ≡ 0
 HasTarget _ o = Unit {0}
+
+-- an instruction on control registers, traps or time
+abbrev pub IsSystem : Ins → Type 0
+IsSystem row.Mret = Unit {0}
+IsSystem (row.Csr op rd csr src) = Unit {0}
+IsSystem (row.Gt rd) = Unit {0}
+IsSystem (row.Gth rd) = Unit {0}
+IsSystem (row.Du rs1 rs2) = Unit {0}
+IsSystem (row.Wu rs1 rs2) = Unit {0}
+IsSystem (row.Ee rs1 rs2) = Unit {0}
+IsSystem row.De = Unit {0}
+IsSystem _ = ⊥

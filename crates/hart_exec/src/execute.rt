@@ -4,11 +4,12 @@ ghost use Rattle.std.specs.Prelude.{◌≡◌, ◌%◌, None};
 ghost use Rattle.rv_decode.specs.Table.{ins};
 ghost use Rattle.rv_decode.specs.Range.{InRange};
 ghost use Rattle.rv_exec.specs.Access.{IsAligned};
+ghost use Rattle.rv_exec.specs.declared.outcome.Outcome.{Outcome};
 ghost use Rattle.core_model.specs.Issue.{execute_untrapped, run_at, execute_in};
 ghost use Rattle.core_model.specs.Outcomes.{with_armed};
 ghost use Rattle.core_model.specs.Traps.{trapped};
 ghost use Rattle.rv_exec.specs.TrapCauses.{cause_expiry};
-ghost use Rattle.hart_exec.specs.AsDefined.{IsShowable, IsAlignedStore, IsShown, HasTarget};
+ghost use Rattle.hart_exec.specs.AsDefined.{IsShowable, IsAlignedStore, IsShown, IsSystem, HasTarget};
 ghost use Rattle.hart_exec.specs.Units.{Holds, Refines, asked, own_of};
 
 use crate::csr::{Access, access_csr};
@@ -20,6 +21,69 @@ use crate::timing::{arm, delay_until, disarm, read_high, read_low, wait_until};
 use rv_decode::{Ins, decode};
 use rv_exec::{Outcome, cause, execute};
 use timer_unit::moment;
+
+/// An instruction on control registers, traps or time.
+#[tactic(auto, unfolding(core_model::specs::Issue::execute_untrapped, rv_decode::specs::Lag::lag, crate::specs::Units::asked))]
+#[cold]
+#[inline(never)]
+fn execute_system(hart: &mut Hart<'_>, at: PcWord, s: Sources, i: &Ins) -> Executed
+    requires range { InRange i.now }
+    requires system { IsSystem i.now }
+    requires pc { at.pc % 4 ≡ 0 }
+    ensures holds { Holds hart.old hart.new }
+    ensures refines { (o : Outcome) → Refines hart.old hart.new result (execute_untrapped
+        (asked hart.old) at.pc (own_of hart.old) at.word s.a s.b o i.now) }
+    ensures pc { result.pc % 4 ≡ 0 }
+    ensures showable { IsShowable result.effect }
+    ensures store { IsAlignedStore result.effect }
+    ensures word { result.word ≡ at.word }
+    ensures address { result.address ≡ 0 }
+{
+    match *i {
+        Ins::Mret => return_from_trap(hart, at, i),
+        Ins::Csr { op, rd, csr, src } => {
+            access_csr(hart, at, i, rd, csr, Access::of(op, src, s.a))
+        }
+        Ins::Gt { rd } => read_low(hart, at, i, rd),
+        Ins::Gth { rd } => read_high(hart, at, i, rd),
+        Ins::Du { .. } => delay_until(at, i, hart.time, moment(s.a, s.b)),
+        Ins::Wu { .. } => wait_until(hart, at, i, moment(s.a, s.b)),
+        Ins::Ee { .. } => arm(hart, at, i, moment(s.a, s.b)),
+        Ins::De => disarm(hart, at, i),
+        _ => unreachable!(),
+    }
+}
+
+/// The same, on a `Hart` and an instruction that are put into memory for it: those of the caller
+/// stay in registers. Inlined into the caller, these rare instructions took 32 instructions from
+/// each cycle.
+#[inline(always)]
+fn execute_system_apart(hart: &mut Hart<'_>, at: PcWord, s: Sources, i: &Ins) -> Executed
+    requires range { InRange i.now }
+    requires system { IsSystem i.now }
+    requires pc { at.pc % 4 ≡ 0 }
+    ensures holds { Holds hart.old hart.new }
+    ensures refines { (o : Outcome) → Refines hart.old hart.new result (execute_untrapped
+        (asked hart.old) at.pc (own_of hart.old) at.word s.a s.b o i.now) }
+    ensures pc { result.pc % 4 ≡ 0 }
+    ensures showable { IsShowable result.effect }
+    ensures store { IsAlignedStore result.effect }
+    ensures word { result.word ≡ at.word }
+    ensures address { result.address ≡ 0 }
+{
+    let mut apart = Hart {
+        thread: hart.thread,
+        time: hart.time,
+        confined: hart.confined,
+        permit: hart.permit,
+        guard: &mut *hart.guard,
+        sched: &mut *hart.sched,
+        timers: &mut *hart.timers,
+        traps: &mut *hart.traps,
+    };
+    let instruction = *i;
+    execute_system(&mut apart, at, s, &instruction)
+}
 
 /// An instruction whose result has no trap.
 #[tactic(auto, unfolding(core_model::specs::Issue::execute_untrapped, rv_decode::specs::Lag::lag, crate::specs::Units::asked), using(crate::proofs::Zero::aligned_zero))]
@@ -49,16 +113,14 @@ fn execute_untrapped(hart: &mut Hart<'_>, at: PcWord, s: Sources, o: &Outcome, i
         Ins::Load { op, .. } => load(hart, at, i, op, o.address),
         Ins::Store { op, .. } => store(hart, at, i, op, o.address, s.b),
         Ins::Muldiv { .. } | Ins::Fence { .. } => pass(at, i),
-        Ins::Mret => return_from_trap(hart, at, i),
-        Ins::Csr { op, rd, csr, src } => {
-            access_csr(hart, at, i, rd, csr, Access::of(op, src, s.a))
-        }
-        Ins::Gt { rd } => read_low(hart, at, i, rd),
-        Ins::Gth { rd } => read_high(hart, at, i, rd),
-        Ins::Du { .. } => delay_until(at, i, hart.time, moment(s.a, s.b)),
-        Ins::Wu { .. } => wait_until(hart, at, i, moment(s.a, s.b)),
-        Ins::Ee { .. } => arm(hart, at, i, moment(s.a, s.b)),
-        Ins::De => disarm(hart, at, i),
+        Ins::Mret
+        | Ins::Csr { .. }
+        | Ins::Gt { .. }
+        | Ins::Gth { .. }
+        | Ins::Du { .. }
+        | Ins::Wu { .. }
+        | Ins::Ee { .. }
+        | Ins::De => execute_system_apart(hart, at, s, i),
         Ins::Ecall | Ins::Ebreak | Ins::Illegal { .. } => trap(hart, at, cause::ILLEGAL),
     }
 }

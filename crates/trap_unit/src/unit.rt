@@ -115,6 +115,8 @@ impl Traps {
 
     /// A trap: it saves the pc, whose two low bits mepc doesn't keep, and the cause. The answer is
     /// mtvec, where the thread goes on.
+    #[cold]
+    #[inline(never)]
     pub fn enter(&mut self, thread: u8, cause: u8, epc: u32) -> u32
         requires { thread < 8 }
         ensures target { result ≡ (trap_of self.old thread).mtvec }
@@ -194,6 +196,8 @@ impl Traps {
     ///
     /// [`CsrNo`] by the first of its causes that holds; nothing changes then.
     #[tactic(auto, using(crate::proofs::Aligned::held_as_kept))]
+    #[cold]
+    #[inline(never)]
     pub fn access(
         &mut self,
         sched: &mut Sched,

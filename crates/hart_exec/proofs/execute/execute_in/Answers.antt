@@ -2,7 +2,6 @@
 use Rattle.std.proofs.Common.{ap, ◌∙◌}
 use Rattle.core_model.specs.Thread.{Did}
 use Rattle.core_model.specs.Issue.{execute_in, run_at}
-use Rattle.hart_exec.specs.AsDefined.{IsShown}
 use Rattle.hart_exec.specs.Units.{asked, own_of}
 use Rattle.hart_exec.proofs.Shown.{run-shown}
 use Rattle.hart_exec.proofs.execute.execute_in.Goals as goal
