@@ -1,12 +1,12 @@
 -- What an instruction of a thread reads and leaves in the units.
-use Rattle.std.specs.Prelude.{◌≡◌, ℕ, if◌then◌else◌, List, slice_index_or, slice_set, Option, Some, None}
+use Rattle.std.specs.Prelude.{◌≡◌, ℕ, ◌-◌, if◌then◌else◌, List, slice_index_or, slice_set, Option, Some, None}
 use Rattle.rv_exec.specs.declared.outcome.Effect.{Effect}
 use Rattle.rv_exec.specs.declared.outcome.Effect.TheVariants.{Csr}
 use Rattle.region_guard.specs.declared.access.Guard.{Guard}
 use Rattle.region_guard.specs.Regions.{may_fetch, may_load, may_store}
 use Rattle.slot_scheduler.specs.declared.picking.Sched.{Sched}
 use Rattle.timer_unit.specs.declared.row.Timer.{Timer}
-use Rattle.timer_unit.specs.Time.{timer_of}
+use Rattle.timer_unit.specs.Time.{time, timer_of}
 use Rattle.core_model.specs.declared.own.Own.{Own}
 use Rattle.core_model.specs.declared.own.Trapping.{Trapping}
 use Rattle.core_model.specs.Thread.{Around, Did}
@@ -32,12 +32,16 @@ row_of k u = record { timer = timer_of u.timers k; trap = trap_of u.traps k; sle
 abbrev pub own_of : Hart → Own
 own_of h = row_of h.thread (units_of h)
 
+-- the time of the cycle of its issue
+abbrev pub time_of : Hart → ℕ
+time_of h = time h.clock (h.cycle - h.since_issue)
+
 -- what the thread's instruction may do, by the units as they stand
 unfoldable pub asked : Hart → Around
 asked h =
     record {
       thread = h.thread;
-      now = h.time;
+      now = time_of h;
       fetch = λ pc. may_fetch h.thread h.guard.now.size h.confined h.guard.now.i pc;
       load = λ address width.
           may_load h.thread h.guard.now.size h.confined h.guard.now.i h.guard.now.d address width;
@@ -81,6 +85,6 @@ RefinesInPlace x d = (h : Hart) → Refines h h x (d (own_of h))
 -- the same thread with the same units, be they changed
 abbrev pub Holds : Hart → Hart → Type 0
 Holds a b =
-    (b.thread ≡ a.thread) × (b.time ≡ a.time) × (b.confined ≡ a.confined) × (b.permit ≡ a.permit)
+    (b.thread ≡ a.thread) × (b.clock ≡ a.clock) × (b.cycle ≡ a.cycle) × (b.since_issue ≡ a.since_issue) × (b.confined ≡ a.confined) × (b.permit ≡ a.permit)
     × (b.guard.ghost_name ≡ a.guard.ghost_name) × (b.sched.ghost_name ≡ a.sched.ghost_name)
     × (b.timers.ghost_name ≡ a.timers.ghost_name) × (b.traps.ghost_name ≡ a.traps.ghost_name)

@@ -46,7 +46,7 @@ fn execute_system(hart: &mut Hart<'_>, at: PcWord, s: Sources, i: &Ins) -> Execu
         }
         Ins::Gt { rd } => read_low(hart, at, i, rd),
         Ins::Gth { rd } => read_high(hart, at, i, rd),
-        Ins::Du { .. } => delay_until(at, i, hart.time, moment(s.a, s.b)),
+        Ins::Du { .. } => delay_until(at, i, hart.now(), moment(s.a, s.b)),
         Ins::Wu { .. } => wait_until(hart, at, i, moment(s.a, s.b)),
         Ins::Ee { .. } => arm(hart, at, i, moment(s.a, s.b)),
         Ins::De => disarm(hart, at, i),
@@ -73,7 +73,9 @@ fn execute_system_apart(hart: &mut Hart<'_>, at: PcWord, s: Sources, i: &Ins) ->
 {
     let mut apart = Hart {
         thread: hart.thread,
-        time: hart.time,
+        clock: hart.clock,
+        cycle: hart.cycle,
+        since_issue: hart.since_issue,
         confined: hart.confined,
         permit: hart.permit,
         guard: &mut *hart.guard,

@@ -5,7 +5,7 @@ ghost use Rattle.rv_decode.specs.Lag.{lag, redirect_lag};
 ghost use Rattle.core_model.specs.Outcomes.{plain, wrote, delay, wait, with_armed, with_high};
 ghost use Rattle.rv_exec.specs.declared.outcome.Effect.TheVariants.{Nothing};
 ghost use Rattle.hart_exec.specs.AsDefined.{IsShowable, IsAlignedStore};
-ghost use Rattle.hart_exec.specs.Units.{Holds, Refines, RefinesInPlace, own_of};
+ghost use Rattle.hart_exec.specs.Units.{Holds, Refines, RefinesInPlace, own_of, time_of};
 
 use crate::hart::Hart;
 use crate::outcome::{Executed, PcWord};
@@ -20,15 +20,16 @@ pub fn read_low(hart: &mut Hart<'_>, at: PcWord, i: &Ins, rd: u8) -> Executed
     requires pc { at.pc % 4 ≡ 0 }
     ensures holds { Holds hart.old hart.new }
     ensures refines { Refines hart.old hart.new result (wrote at.pc
-        (with_high (own_of hart.old) (hart.old.time / 2 ^ 32)) at.word (lag i.now false false) rd
-        (hart.old.time % 2 ^ 32)) }
+        (with_high (own_of hart.old) (time_of hart.old / 2 ^ 32)) at.word (lag i.now false false) rd
+        (time_of hart.old % 2 ^ 32)) }
     ensures pc { result.pc % 4 ≡ 0 }
     ensures showable { IsShowable result.effect }
     ensures store { IsAlignedStore result.effect }
     ensures word { result.word ≡ at.word }
     ensures address { result.address ≡ 0 }
 {
-    let low = hart.timers.get_low(hart.thread, hart.time);
+    let now = hart.now();
+    let low = hart.timers.get_low(hart.thread, now);
     write(at, i, rd, low)
 }
 
@@ -80,7 +81,7 @@ pub fn wait_until(hart: &mut Hart<'_>, at: PcWord, i: &Ins, until: u64) -> Execu
     requires pc { at.pc % 4 ≡ 0 }
     requires lag { lag i.now false false ≡ redirect_lag }
     ensures holds { Holds hart.old hart.new }
-    ensures refines { Refines hart.old hart.new result (wait hart.old.time at.pc
+    ensures refines { Refines hart.old hart.new result (wait (time_of hart.old) at.pc
         (own_of hart.old) at.word until) }
     ensures pc { result.pc % 4 ≡ 0 }
     ensures showable { IsShowable result.effect }
@@ -88,7 +89,7 @@ pub fn wait_until(hart: &mut Hart<'_>, at: PcWord, i: &Ins, until: u64) -> Execu
     ensures word { result.word ≡ at.word }
     ensures address { result.address ≡ 0 }
 {
-    if until <= hart.time {
+    if until <= hart.now() {
         return pass(at, i);
     }
     let moment = match hart.timers.armed(hart.thread) {

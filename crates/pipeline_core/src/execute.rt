@@ -156,7 +156,9 @@ fn execute_issue(
     };
     let mut hart = Hart {
         thread,
-        time: units.clock.now(cycle.saturating_sub(2)),
+        clock: units.clock,
+        cycle,
+        since_issue: 2,
         confined: units.is_confined(thread),
         permit: units.permit[thread as usize],
         guard: &mut units.guard,

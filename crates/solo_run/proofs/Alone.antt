@@ -27,7 +27,7 @@ use Rattle.trap_unit.specs.Access.{guard_after}
 use Rattle.trap_unit.specs.Rows.{no_trap}
 use Rattle.hart_exec.specs.declared.hart.Hart.{Hart}
 use Rattle.hart_exec.specs.declared.outcome.Executed.{Executed}
-use Rattle.hart_exec.specs.Units.{Refines, Units, asked, executed_as_defined, guard_by, row_of, units_after, units_of}
+use Rattle.hart_exec.specs.Units.{Refines, Units, asked, executed_as_defined, guard_by, row_of, time_of, units_after, units_of}
 use Rattle.solo_run.proofs.OwnStore.{kind-is}
 
 same_fetch : (i Z regions : ℕ) → i < 8 → (pc : ℕ) → may_fetch i Z true regions pc ≡ (is_code Z pc && is_readable (kind_at Z (region_kinds i regions) pc))
@@ -52,11 +52,11 @@ same_store i Z dregions h address width =
 
 -- what the guard answers is what the regions are to the thread
 asked_alone : (h : Hart) → h.thread < 8 → h.confined ≡ true → h.permit ≡ false →
-    asked h ≡ around_by h.thread h.guard.now.size (region_kinds h.thread h.guard.now.i) (region_kinds h.thread h.guard.now.d) h.time
+    asked h ≡ around_by h.thread h.guard.now.size (region_kinds h.thread h.guard.now.i) (region_kinds h.thread h.guard.now.d) (time_of h)
 unfolding asked around_by
 asked_alone h k confined permit = λ j. record {
   thread = h.thread;
-  now = h.time;
+  now = time_of h;
   fetch = λ pc. fetches pc j;
   load = λ address width. loads address width j;
   store = λ address width. same_store h.thread h.guard.now.size h.guard.now.d k address width j;
@@ -228,7 +228,7 @@ pub did_alone : (h g : Hart) (x : Executed) (pc : ℕ) (t : Own) (expired : Bool
     h.thread < length h.timers.now → h.thread < length h.traps.now → h.thread < length h.sched.now.sleep →
     Refines h g x (execute_in (asked h) pc t expired w p q) →
     executed_as_defined (row_of h.thread (units_of g)) x
-    ≡ execute_in (around_by h.thread h.guard.now.size (region_kinds h.thread h.guard.now.i) (region_kinds h.thread h.guard.now.d) h.time) pc t expired w p q
+    ≡ execute_in (around_by h.thread h.guard.now.size (region_kinds h.thread h.guard.now.i) (region_kinds h.thread h.guard.now.d) (time_of h)) pc t expired w p q
 did_alone h g x pc t expired w p q k confined permit timers traps sleeps r =
     ap (λ (o : Own). executed_as_defined o x) (ap (row_of h.thread) r.units ∙ row_after h.thread (execute_in (asked h) pc t expired w p q) (units_of h) timers traps sleeps)
     ∙ r.did

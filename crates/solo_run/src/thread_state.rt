@@ -1,12 +1,13 @@
 //! The thread, and one whole instruction of it.
 
-ghost use Rattle.std.specs.Prelude.{◌≡◌, ◌/◌, ◌<◌, ◌^◌, ◌≤◌, ◌%◌, false, length, replicate};
+ghost use Rattle.std.specs.Prelude.{◌≡◌, ◌/◌, ◌<◌, ◌≤◌, ◌%◌, false, length, replicate};
 ghost use Rattle.core_model.specs.Thread.{fresh};
 ghost use Rattle.core_model.specs.Issue.{issue, is_load, execute_word, effect_of};
 ghost use Rattle.core_model.specs.Memory.{code_at};
 ghost use Rattle.core_model.specs.Solo.{contents_by};
 ghost use Rattle.hart_exec.specs.AsDefined.{IsShowable, IsAlignedStore};
 ghost use Rattle.rv_decode.specs.Table.{ins};
+ghost use Rattle.timer_unit.specs.Time.{time};
 ghost use Rattle.rv_exec.specs.Access.{IsAligned};
 
 use crate::memory::{code_word, data_word};
@@ -19,7 +20,7 @@ use rv_exec::Effect;
 use scratchpad::Spm;
 use slot_scheduler::{Modes, Sched};
 use slot_table::SlotTable;
-use timer_unit::Timers;
+use timer_unit::{Clock, Timers};
 use trap_unit::Traps;
 
 /// A thread between two of its instructions, with the units that these work on. Of the units it
@@ -80,12 +81,13 @@ impl ThreadState {
         }
     }
 
-    /// Executes the word at the pc at a time, but for a late value.
+    /// Executes the word at the pc in a cycle, but for a late value.
     #[tactic(auto, unfolding(core_model::specs::Issue::execute_word))]
-    fn execute_word(&mut self, now: u64, i: &Spm) -> Executed
-        requires { length i.now ≡ self.old.guard.size / 4 }
+    fn execute_word(&mut self, clock: Clock, cycle: u64, i: &Spm) -> Executed
+        requires words { length i.now ≡ self.old.guard.size / 4 }
+        requires cycle { cycle ≤ 4000000010 }
         ensures did { executed_as_defined (own_of self.new) result ≡
-            execute_word (asked now self.old) (code_at self.old.guard.size i.now self.old.pc)
+            execute_word (asked (time clock cycle) self.old) (code_at self.old.guard.size i.now self.old.pc)
             (thread_as_defined self.old) }
         ensures thread { self.new.thread ≡ self.old.thread }
         ensures registers { self.new.registers ≡ self.old.registers }
@@ -101,10 +103,12 @@ impl ThreadState {
             word: code_word(&self.guard, i, self.pc),
         };
         let sources = self.registers.sources(&decode(at.word));
-        let expired = self.timers.due(self.thread, now);
+        let expired = self.timers.due(self.thread, clock.now(cycle));
         let mut hart = Hart {
             thread: self.thread,
-            time: now,
+            clock,
+            cycle,
+            since_issue: 0,
             confined: true,
             permit: false,
             guard: &mut self.guard,
@@ -153,21 +157,21 @@ impl ThreadState {
         )
     }
 
-    /// One whole instruction, in a cycle at a time.
+    /// One whole instruction, in a cycle.
     #[tactic(auto, unfolding(core_model::specs::Issue::issue))]
     pub fn issue<W: Shown>(
         &mut self,
-        now: u64,
+        clock: Clock,
         i: &Spm,
         d: &Spm,
         shown: &mut W,
         cycle: u64,
     ) -> Issued
-        requires cycle { cycle < 2 ^ 63 }
+        requires cycle { cycle ≤ 4000000010 }
         requires i { length i.now ≡ self.old.guard.size / 4 }
         requires d { length d.now ≡ self.old.guard.size / 4 }
         ensures done { done_as_defined self.new result ≡
-            issue (asked now self.old) (contents_by self.old.guard.size i.now d.now
+            issue (asked (time clock cycle) self.old) (contents_by self.old.guard.size i.now d.now
             (W.word_at shown.old cycle)) cycle (thread_as_defined self.old) }
         ensures thread { self.new.thread ≡ self.old.thread }
         ensures guard { self.new.guard ≡ self.old.guard }
@@ -176,7 +180,7 @@ impl ThreadState {
         ensures shown { W.word_at shown.new ≡ W.word_at shown.old }
         ensures kept { W.kept shown.new ≡ W.kept shown.old }
     {
-        let x = self.execute_word(now, i);
+        let x = self.execute_word(clock, cycle, i);
         let effect = self.late(i, d, shown, cycle, &x);
         self.pc = x.pc;
         self.ready = cycle + x.lag;

@@ -15,14 +15,14 @@ returns-clause-e c =
     let u = c.args.units.now in
     let a : Around = around (time u.clock (c.args.cycle - 2)) u.guard.size u.confined u.permit (registers_as_defined u.sched u.guard) c.args.thread in
     c.leave.ensures.e
-    ∙ ap (λ (r : After). r.e) (issue_after _ _ _ c.args.x.now a (rw (c.now.ensures, c.saturating_sub.ensures, c.is_confined.ensures) refl) c.execute_in-done.ensures.refines)
+    ∙ ap (λ (r : After). r.e) (issue_after _ _ _ c.args.x.now a (rw c.is_confined.ensures refl) c.execute_in-done.ensures.refines)
 
 pub returns-clause-redirect : goal.returns-clause-redirect
 unfolding execute_stage asked around
 returns-clause-redirect c =
     let u = c.args.units.now in
     let a : Around = around (time u.clock (c.args.cycle - 2)) u.guard.size u.confined u.permit (registers_as_defined u.sched u.guard) c.args.thread in
-    sym (ap (λ (r : After). r.redirect) (issue_after _ _ _ c.args.x.now a (rw (c.now.ensures, c.saturating_sub.ensures, c.is_confined.ensures) refl) c.execute_in-done.ensures.refines))
+    sym (ap (λ (r : After). r.redirect) (issue_after _ _ _ c.args.x.now a (rw c.is_confined.ensures refl) c.execute_in-done.ensures.refines))
     ∙ c.leave.ensures.redirect
 
 pub returns-clause-units : goal.returns-clause-units
@@ -30,7 +30,7 @@ unfolding execute_stage asked around
 returns-clause-units c ports =
     let u = c.args.units.now in
     let a : Around = around (time u.clock (c.args.cycle - 2)) u.guard.size u.confined u.permit (registers_as_defined u.sched u.guard) c.args.thread in
-    let control = ap (λ (r : After). r.control) (issue_after _ _ _ c.args.x.now a (rw (c.now.ensures, c.saturating_sub.ensures, c.is_confined.ensures) refl) c.execute_in-done.ensures.refines) in
+    let control = ap (λ (r : After). r.control) (issue_after _ _ _ c.args.x.now a (rw c.is_confined.ensures refl) c.execute_in-done.ensures.refines) in
     let size = size_after _ _ _ _ c.execute_in-done.ensures.refines in
     λ j. record {
       bank = u.bank;
