@@ -1,7 +1,7 @@
 #!/usr/bin/env bash
 # Whether the view writes what is stored of the examples: the lines and the picture of docs/VIEW.md, a value change dump and
 # a log for Konata; whether the logs of all examples keep the format's rules, and their pictures those of XML; and what the
-# script ./flexpret-view adds. FLEXPRET_VIEW names the program, if it isn't the one that ./flexpret-view builds.
+# script ./flexpret-view and tools/fp_view add. FLEXPRET_VIEW names the program, if it isn't the one that ./flexpret-view builds.
 set -u
 cd "$(dirname "${BASH_SOURCE[0]}")/.." || exit 1
 view=$(readlink -f "${FLEXPRET_VIEW:-crates/flexpret_view/out/flexpret_view}")
@@ -26,7 +26,7 @@ shows() {
 shows examples/drive.vcd examples/drive.toml --from 0 --to 77 --vcd -
 shows examples/slots.konata examples/slots.toml --from 3 --to 20 --konata -
 shows docs/drive.svg examples/drive.toml --from 0 --to 80 --svg -
-shows <(sed -n '/^    \$ .*sleep.toml/,/^$/{/^    \$/d; /^$/d; s/^    //p}' docs/VIEW.md) examples/sleep.toml --from 4 --to 13
+shows <(sed -n '/^    \$ .*turns .*sleep.toml/,/^$/{/^    \$/d; /^$/d; s/^    //p}' docs/VIEW.md) examples/sleep.toml --from 4 --to 13
 
 # Compares the line of a view that is refused for its words.
 refuses() {
@@ -43,15 +43,20 @@ for setup in examples/*.toml examples/c/pid.toml examples/device/*.toml; do
     name=$work/$(basename "$setup" .toml)
     "$view" turns "$setup" --from 1 --to 500 --konata "$name.konata" || wrong "no log of $setup"
     "$view" turns "$setup" --from 1 --to 500 --svg "$name.svg" || wrong "no picture of $setup"
+    tools/fp_view "$setup" --view "$view" --from 1 --to 500 --mark 4:8=9 --stages --svg "$name.more" || wrong "no stages of $setup"
+    # But for the signals that are added, the dump is the view's.
+    tools/fp_view "$setup" --view "$view" --from 1 --to 500 --vcd - | sed '1,/enddefinitions/d; / *[TCWADHUq].$/d' |
+        cmp - <("$view" turns "$setup" --from 1 --to 500 --vcd - | sed '1,/enddefinitions/d') || failed=1
 done
 bench/kanata.py "$work"/*.konata || failed=1
-python3 - "$work"/*.svg <<'END' || failed=1
+python3 - "$work"/*.svg "$work"/*.more <<'END' || failed=1
+import re
 import sys
 from xml.etree import ElementTree
 
 for name in sys.argv[1:]:
     cells = [cell for cell in ElementTree.parse(name).iter() if cell.find("./{*}title") is not None]
-    if not cells or any(not cell[0].text.startswith("cycle ") for cell in cells):
+    if not cells or any(not re.match("([FDEMW] in )?cycle |(deadline of )?4:8=9: |T[0-7] has armed ", cell[0].text) for cell in cells):
         sys.exit(f"{name}: no cell has a title that tells its cycle")
 END
 

@@ -10,6 +10,7 @@ top=$(dirname "$here")
 [ -z "${FLEXPRET:-}" ] || FLEXPRET=$(readlink -f "$FLEXPRET")
 export FLEXPRET=${FLEXPRET:-$top/crates/flexpret_cli/out/flexpret_cli}
 view=$(readlink -f "${FLEXPRET_VIEW:-$top/flexpret-view}")
+[ -z "${FLEXPRET_VIEW:-}" ] || export FLEXPRET_VIEW=$view
 
 work=$(mktemp -d)
 trap 'rm -rf "$work"' EXIT
@@ -105,6 +106,7 @@ for page in README.md docs/{COMMANDS,BOUNDS,VIEW,FORMATS,PROGRAMMING,ASSUMPTIONS
         known[$command]=shown
     done < <(sed -n 's/^    \(\(\.\/flexpret\|flexpret_cli\|python3 -m model \).*\)/\1/p' "$top/$page")
 done
+cmp docs/marks.svg "$top/docs/marks.svg" || fail 'docs/marks.svg'
 for command in "${!known[@]}"; do
     [ "${known[$command]}" = shown ] || fail "no page shows: $command"
 done

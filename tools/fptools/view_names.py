@@ -1,0 +1,39 @@
+"""What an executable or a map says of the turns of a view: their symbols and source lines."""
+from __future__ import annotations
+
+from dataclasses import dataclass
+
+from fptools.elf import Program
+from fptools.sources import Sources
+from fptools.trace import CAUSES
+from fptools.view_rows import Turn
+
+
+@dataclass(frozen=True)
+class Names:
+    """The names of a program's addresses, and the texts of its lines."""
+
+    program: Program
+    sources: Sources
+
+    @property
+    def is_known(self) -> bool:
+        return self.program.path is not None
+
+    def at(self, turn: Turn) -> str:
+        """The symbol of a turn's address, with the distance."""
+        return "" if turn.is_flushed else self.program.name_of(turn.event.pc)
+
+    def source(self, turn: Turn) -> str:
+        """The source line of a turn, with its text where the source is found."""
+        line = None if turn.is_flushed else self.program.line_of(turn.event.pc)
+        if line is None:
+            return ""
+        text = "".join(it if it.isprintable() else " " for it in self.sources.text(line))
+        return f"{line} {text.strip()}".rstrip()
+
+
+def cause_of(turn: Turn) -> str:
+    """What the cause of a turn's trap is called; empty where it doesn't trap."""
+    cause = turn.event.cause
+    return "" if cause is None else CAUSES.get(cause, "unknown")
