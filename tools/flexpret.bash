@@ -73,6 +73,17 @@ _flexpret() {
 }
 complete -o filenames -F _flexpret flexpret ./flexpret
 
+# Offers the options of the command that is there.
+_flexpret_view_options() {
+    local command options='--from --to --konata --vcd --svg'
+    for command in "${COMP_WORDS[@]:1}"; do
+        [ "$command" != turns ] || options+=' --progress'
+        [ "$command" != show ] ||
+            options+=' --around --before --after --within --elf --map --src --threads --mark --zoom --stages --view --flexpret'
+    done
+    _flexpret_offer -W "$options"
+}
+
 _flexpret_view() {
     local word before
     COMPREPLY=()
@@ -80,16 +91,16 @@ _flexpret_view() {
     if _flexpret_is_first; then
         case $word in
         -*) _flexpret_offer -W "$_flexpret_own" ;;
-        *) _flexpret_offer -W turns ;;
+        *) _flexpret_offer -W 'turns show' ;;
         esac
         return
     fi
     case $before in
     --progress) _flexpret_offer -W 'before all' ;;
-    --from | --to) ;;
+    --from | --to | --around | --before | --after | --within | --threads | --mark | --zoom) ;;
     *)
         case $word in
-        -*) _flexpret_offer -W '--from --to --konata --vcd --svg --progress' ;;
+        -*) _flexpret_view_options ;;
         *) _flexpret_offer -f ;;
         esac
         ;;

@@ -38,6 +38,23 @@ helper() {
     run_python "$top/tools/fp_launch" "$script" "$crate" "$@"
 }
 
+# The first Python that has the packages of the tools.
+tools_python() {
+    local python
+    for python in python3 /usr/bin/python3; do
+        "$python" -c 'import importlib.util, sys
+sys.exit(not all(map(importlib.util.find_spec, ("elftools", "jsonschema"))))' 2>/dev/null && break
+        python=python3
+    done
+    echo "$python"
+}
+
+# tool NAME ARGUMENT..: calls a tool of tools/, which asks this program if it asks one.
+tool() {
+    [ -x "$top/tools/$1" ] || stop "$NOT_BUILT" "tools/$1 isn't there"
+    env "$variable=$program" "$(tools_python)" "$top/tools/$1" "${@:2}"
+}
+
 # options ARGUMENT..: takes the script's own options in front of the command, and --quiet behind it too. The rest is `given`.
 options() {
     while [ $# -gt 0 ]; do

@@ -18,7 +18,7 @@ def fault_of(words: list[str]) -> str | None:
     if not words:
         return "no command is named; --help shows the one there is"
     if words[0] != "turns":
-        return f"{words[0]}: no such command; the command is turns"
+        return f"{words[0]}: no such command; the commands are turns and show"
     subjects: list[str] = []
     values: dict[str, str] = {}
     left = iter(words[1:])

@@ -513,7 +513,7 @@ def test_what_is_wrong_by_the_script_is_wrong_by_the_rows_of_the_gate() -> None:
     ("words", "said"),
     [
         ("", "no command is named; --help shows the one there is"),
-        ("turn a", "turn: no such command; the command is turns"),
+        ("turn a", "turn: no such command; the commands are turns and show"),
         ("turns a --from 1", "turns needs --to CYCLE"),
         ("turns --from 1 --to 2", "turns needs SETUP"),
         ("turns a --from 1 --to x", "--to x: a cycle is decimal, at most 3999999997"),
@@ -717,6 +717,20 @@ def test_an_image_is_shown_as_a_source_by_its_tool(checkout: Checkout) -> None:
     assert (ran.returncode, ran.stdout) == (2, "x.fpx --map m\n")
     (checkout.folder / "tools/fp_disasm").unlink()
     assert checkout.run("disasm", "x.fpx").stderr == "flexpret: tools/fp_disasm isn't there\n"
+
+
+def test_a_window_is_shown_with_more_by_its_tool(tmp_path: Path) -> None:
+    checkout = Checkout(tmp_path, "flexpret-view", "flexpret_view")
+    put_tool(checkout, "fp_view", "print(os.environ['FLEXPRET_VIEW'], asked); sys.exit(1)")
+    script = str(checkout.folder / "flexpret-view")
+    ran = checkout.run("--quiet", "show", "x.toml", "--around", "trap", FLEXPRET_VIEW="")
+    assert (ran.returncode, ran.stdout, ran.stderr) == (1, f"{script} x.toml --around trap\n", "")
+    other = elf(tmp_path / "other")
+    ran = checkout.run("--quiet", "--use", other, "show", "x.toml")
+    assert (ran.returncode, ran.stdout) == (1, f"{other} x.toml\n")
+    ran = checkout.run("--unproved", "show", "x.toml")
+    text = "flexpret-view: --unproved answers turns alone: show asks the built program\n"
+    assert (ran.returncode, ran.stdout, ran.stderr) == (2, "", text)
 
 
 def test_a_listing_is_made_of_an_image_that_is_there(checkout: Checkout) -> None:
@@ -951,7 +965,11 @@ def test_completion_behind_an_equals_sign() -> None:
 
 
 def test_completion_of_the_view() -> None:
-    assert offered("flexpret-view", "") == ["turns"]
+    assert offered("flexpret-view", "") == ["turns", "show"]
+    shown = subprocess.run([TOP / "tools/fp_view", "--help"], capture_output=True, text=True, check=True).stdout
+    options = set(re.findall(r"--[a-z]+", shown.partition("options:")[2])) - {"--help"}
+    assert set(offered("flexpret-view", "show", "--")) == options
+    assert offered("flexpret-view", "show", "x.toml", "--around", "READ") == []
     assert offered("flexpret-view", "turns", "x.toml", "--progress", "b") == ["before"]
     assert offered("flexpret-view", "turns", "READ") == ["README.md"]
     assert offered("flexpret-view", "turns", "--svg", "READ") == ["README.md"]
