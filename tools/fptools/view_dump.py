@@ -41,7 +41,8 @@ class Dump:
         self._by_cycle = {row.cycle: row.turn for row in rows}
         self._first, self._marks = first, marks
         self._own = OWN + (NAMED if names.is_known else ())
-        self._marked = marked_cycles(marks, rows, threads)
+        own = [row for row in rows if row.cycle >= first]
+        self._marked = marked_cycles(marks, own, threads)
 
     def text(self, dump: str) -> str:
         """The view's dump with what is added."""

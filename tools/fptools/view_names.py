@@ -22,15 +22,19 @@ class Names:
 
     def at(self, turn: Turn) -> str:
         """The symbol of a turn's address, with the distance."""
-        return "" if turn.is_flushed else self.program.name_of(turn.event.pc)
+        return "" if turn.is_flushed else printable(self.program.name_of(turn.event.pc))
 
     def source(self, turn: Turn) -> str:
         """The source line of a turn, with its text where the source is found."""
         line = None if turn.is_flushed else self.program.line_of(turn.event.pc)
         if line is None:
             return ""
-        text = "".join(it if it.isprintable() else " " for it in self.sources.text(line))
-        return f"{line} {text.strip()}".rstrip()
+        return printable(f"{line} {self.sources.text(line).strip()}").rstrip()
+
+
+def printable(text: str) -> str:
+    """A text with blanks for its control characters, which a picture may not have."""
+    return "".join(it if it.isprintable() else " " for it in text)
 
 
 def cause_of(turn: Turn) -> str:

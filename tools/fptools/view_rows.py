@@ -4,6 +4,7 @@ from __future__ import annotations
 import os
 import re
 import subprocess
+import sys
 from dataclasses import dataclass
 from pathlib import Path
 from typing import Iterator, Sequence
@@ -88,9 +89,13 @@ class View:
         """What the view writes of a window: text, or another one of its forms."""
         words = [self.path, "turns", str(self.setup), "--from", str(first), "--to", str(end)]
         words += [f"--{form}", "-"] if form else []
-        ran = subprocess.run(words, capture_output=True, text=True, check=False)
+        # A terminal gets what the view writes there, and so how far a long run is.
+        is_shown = sys.stderr.isatty()
+        words += ["--progress", "all"] if is_shown else []
+        errors = None if is_shown else subprocess.PIPE
+        ran = subprocess.run(words, stdout=subprocess.PIPE, stderr=errors, text=True, check=False)
         if ran.returncode:
-            raise ViewFailed(ran.returncode, ran.stdout, ran.stderr)
+            raise ViewFailed(ran.returncode, ran.stdout, ran.stderr or "")
         return ran.stdout
 
     def rows(self, first: int, end: int) -> list[Row]:
