@@ -116,19 +116,18 @@ def test_a_store_that_is_the_nth(viewing: Tool, flexpret: str) -> None:
 
 
 def test_the_events_of_all_threads_are_in_one_order(viewing: Tool, flexpret: str) -> None:
-    waits = [
+    drive = "examples/drive.toml"
+    cycles = [
         it.cycle
-        for thread in range(8)
-        for it in events_of(flexpret, "examples/sleep.toml", thread, 400)
-        if it.is_wait
+        for thread in range(2, 8)
+        for it in events_of(flexpret, drive, thread, 400)
+        if it.pc == 0x100
     ]
-    assert len(waits) > 3
-    for nth, cycle in enumerate(sorted(waits)[:4], 1):
-        event = f"wait,nth={nth}"
-        text = said(
-            viewing, "examples/sleep.toml", "--around", event, "--before", "0", "--after", "1"
-        )
-        assert cycles_of(text) == [cycle]
+    assert cycles != sorted(cycles)
+    for nth in (1, 2, 9):
+        event = f"pc=0x100,nth={nth}"
+        text = said(viewing, drive, "--around", event, "--before", "0", "--after", "1")
+        assert cycles_of(text) == [sorted(cycles)[nth - 1]]
 
 
 def test_a_window_begins_with_the_run(viewing: Tool) -> None:
