@@ -1,11 +1,17 @@
 -- The words of the kinds of port that this crate has.
-use Rattle.std.specs.Prelude.{ℕ, ◌/◌, ◌%◌, List, [], Option, option_map, unwrap_or, find, nat_le}
+use Rattle.std.specs.Prelude.{ℕ, ◌/◌, ◌%◌, List, [], ◌∷◌, Option, option_map, unwrap_or, find, nat_le, if◌then◌else◌}
 use Rattle.fp_ports.specs.declared.feeds.Feed.{Feed}
 
 -- the word that was fed for a cycle, if one was. Of the feeds, the newest first, the first one at
 -- or before the cycle counts
 abbrev pub fed_word : List Feed → ℕ → Option ℕ
 fed_word feeds c = option_map (λ feed. feed.word) (find (λ feed. nat_le feed.at c) feeds)
+
+-- the feeds that some cycle from `first` on shows. Of the feeds, the newest first, these are the ones
+-- up to the first one at or before that cycle
+abbrev pub kept_from : ℕ → List Feed → List Feed
+kept_from first [] = []
+kept_from first (feed ∷ older) = feed ∷ (if nat_le feed.at first then [] else kept_from first older)
 
 -- a port that holds the fed word
 pub record Held : Type 0 where

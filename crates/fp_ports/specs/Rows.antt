@@ -1,6 +1,6 @@
 -- Eight ports, seen as eight rows: a row is none where no port is plugged in, or what the port
 -- means.
-use Rattle.std.specs.Prelude.{ℕ, ◌^◌, List, map, Option, Some, None, option_map, fold, nat_lt, if◌then◌else◌, slice_index_or}
+use Rattle.std.specs.Prelude.{◌≡◌, ℕ, ◌^◌, ◌≤◌, ⊤, List, map, Option, Some, None, option_map, fold, nat_lt, if◌then◌else◌, slice_index_or}
 use Rattle.std.specs.Option.{option_map_or}
 use Rattle.fp_ports.specs.PortWords.{fed_words}
 
@@ -41,6 +41,15 @@ written row word = option_map {T = Row} (λ r. record r { latch = word }) row
 -- after a word was fed at a cycle. Where no port is plugged in nothing changes
 abbrev pub fed : Option Row → ℕ → ℕ → Option Row
 fed row at word = option_map {T = Row} (λ r. record r { words = claimed (fed_words r.words at word) }) row
+
+-- after the words before a cycle were forgotten: the latch stays, and so do the words from the cycle
+-- on. Where no port is plugged in nothing changes
+abbrev pub Forgot : ℕ → Option Row → Option Row → Type 0
+Forgot first (Some before) (Some after) =
+    (after.latch ≡ before.latch) × ((c : ℕ) → first ≤ c → after.words c ≡ before.words c)
+Forgot first None None = ⊤
+Forgot first (Some before) None = ⊥
+Forgot first None (Some after) = ⊥
 
 -- after pairs of a cycle and a word were fed in order
 abbrev pub fed_all : Option Row → List (ℕ × ℕ) → Option Row

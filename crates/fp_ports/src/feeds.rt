@@ -1,7 +1,7 @@
 //! The words that were fed to a device.
 
-ghost use Rattle.std.specs.Prelude.{◌≡◌, [], ◌∷◌, is_ok, reverse, find, nat_le, option_copied, if◌then◌else◌};
-ghost use Rattle.fp_ports.specs.Kinds.{fed_word};
+ghost use Rattle.std.specs.Prelude.{◌≡◌, ◌≤◌, [], ◌∷◌, is_ok, drop, length, reverse, find, nat_le, option_copied, if◌then◌else◌};
+ghost use Rattle.fp_ports.specs.Kinds.{fed_word, kept_from};
 
 use std::alloc::{AllocError, Global};
 use std::marker::Model;
@@ -53,6 +53,14 @@ impl Feeds {
         Ok(())
     }
 
+    /// Forgets the words that no cycle from `before` on shows. It takes no memory.
+    pub fn forget(&mut self, before: u64)
+        ensures { self.new ≡ kept_from before self.old }
+    {
+        let unseen = count_unseen(&self.fed, before);
+        drop(self.fed.drain(..unseen));
+    }
+
     /// The word that was fed for a cycle, if one was.
     pub fn word_at(&self, at: u64) -> Option<u32>
         ensures { result ≡ fed_word self.now at }
@@ -66,4 +74,15 @@ fn newest(fed: &[Feed], at: u64) -> Option<&Feed>
     ensures { option_copied result ≡ find (λ feed. nat_le feed.at at) (reverse fed.entry.now) }
 {
     fed.iter().rev().find(|feed| feed.at <= at)
+}
+
+/// How many of the oldest feeds no cycle from `before` on shows.
+fn count_unseen(fed: &[Feed], before: u64) -> usize
+    ensures kept { reverse (drop result fed.entry.now) ≡ kept_from before (reverse fed.entry.now) }
+    ensures within { result ≤ length fed.entry.now }
+{
+    match fed.iter().rev().position(|feed| feed.at <= before) {
+        Some(newer) => fed.len() - newer - 1,
+        None => 0,
+    }
 }

@@ -57,4 +57,8 @@ impl Port for HeldPort {
     fn latch(&self) -> u32 {
         self.latch
     }
+
+    fn forget(&mut self, before: u64) {
+        self.feeds.forget(before);
+    }
 }

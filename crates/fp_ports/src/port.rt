@@ -1,7 +1,7 @@
 //! What a device at a port is.
 
 ghost use Rattle.std.specs.Prelude.{◌≡◌, ℕ, OnOk, OnErr};
-ghost use Rattle.fp_ports.specs.PortWords.{SameWords, fed_words};
+ghost use Rattle.fp_ports.specs.PortWords.{SameWords, SameWordsFrom, fed_words};
 
 use std::alloc::AllocError;
 
@@ -41,4 +41,14 @@ pub trait Port: Drop {
     /// The last word that was written.
     fn latch(&self) -> u32
         ensures { result ≡ latched self.now };
+
+    /// Lets the device forget its words of the cycles before `before`. Its latch stays, and so do
+    /// its words from that cycle on. A device that keeps what it was fed then needs no more memory
+    /// the longer it runs. Without a body of its own a device forgets nothing.
+    fn forget(&mut self, before: u64)
+        ensures words { SameWordsFrom before (word_at self.old) (word_at self.new) }
+        ensures latch { latched self.new ≡ latched self.old }
+    {
+        let _ = before;
+    }
 }

@@ -3,8 +3,8 @@
 //! A contract sees them as eight rows, one for each thread. Each call states the new row of its
 //! thread, and keeps the other seven.
 
-ghost use Rattle.std.specs.Prelude.{◌≡◌, ◌<◌, None, true, is_ok, if◌then◌else◌, slice_set, vec_len, OnOk, OnErr};
-ghost use Rattle.fp_ports.specs.Rows.{row_of, rows_of, row_at, word_seen, latch_seen, written, fed};
+ghost use Rattle.std.specs.Prelude.{◌≡◌, ◌≢◌, ℕ, ◌<◌, None, true, is_ok, if◌then◌else◌, slice_set, vec_len, OnOk, OnErr};
+ghost use Rattle.fp_ports.specs.Rows.{row_of, rows_of, row_at, word_seen, latch_seen, written, fed, Forgot};
 ghost use Rattle.fp_ports.specs.PortWords.{SameWords, fed_words};
 
 use crate::port::Port;
@@ -55,6 +55,20 @@ pub fn feed_port(ports: &mut Ports, thread: u8, at: u64, word: u32) -> Result<()
     ensures eight { vec_len ports.new ≡ 8 }
 {
     feed_entry(&mut ports[thread as usize], at, word)
+}
+
+/// Lets a thread's device forget its words of the cycles before `before`. Its latch stays, and so do
+/// its words from that cycle on. At an empty port nothing happens.
+pub fn forget_port(ports: &mut Ports, thread: u8, before: u64)
+    requires eight { vec_len ports.old ≡ 8 }
+    requires thread { thread < 8 }
+    ensures forgot { Forgot before (row_at (rows_of latched word_at ports.old.items) thread)
+        (row_at (rows_of latched word_at ports.new.items) thread) }
+    ensures others { (k : ℕ) → k ≢ thread → row_at (rows_of latched word_at ports.new.items) k
+        ≡ row_at (rows_of latched word_at ports.old.items) k }
+    ensures eight { vec_len ports.new ≡ 8 }
+{
+    forget_entry(&mut ports[thread as usize], before);
 }
 
 /// The last word that was written to a thread's device, or none where the port is empty.
@@ -112,6 +126,14 @@ fn feed_box(port: &mut Box<dyn Port>, at: u64, word: u32) -> Result<(), AllocErr
     ensures latch { latched port.new ≡ latched port.old }
 {
     port.feed(at, word)
+}
+
+fn forget_entry(entry: &mut Option<Box<dyn Port>>, before: u64)
+    ensures { Forgot before (row_of latched word_at entry.old) (row_of latched word_at entry.new) }
+{
+    if let Some(port) = entry {
+        port.forget(before);
+    }
 }
 
 fn latch_entry(entry: &Option<Box<dyn Port>>) -> Option<u32>

@@ -72,4 +72,8 @@ impl Port for RampPort {
     fn latch(&self) -> u32 {
         self.held.latch()
     }
+
+    fn forget(&mut self, before: u64) {
+        self.held.forget(before);
+    }
 }

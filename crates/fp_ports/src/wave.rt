@@ -65,4 +65,8 @@ impl Port for WavePort {
     fn latch(&self) -> u32 {
         self.latch
     }
+
+    fn forget(&mut self, before: u64) {
+        self.feeds.forget(before);
+    }
 }
