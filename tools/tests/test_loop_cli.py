@@ -3,6 +3,7 @@ from __future__ import annotations
 
 import os
 import random
+import resource
 import subprocess
 import sys
 from pathlib import Path
@@ -50,6 +51,23 @@ def test_a_trace_in_loops_with_tables(seed: int, tmp_path: Path) -> None:
         numbers = [str(number) for number in (thread, every, drawn.cycles)]
         ran = subprocess.run([PROGRAM, "a.toml", "plants.txt", *numbers], cwd=tmp_path, capture_output=True)
         assert (ran.returncode, ran.stdout) == (0, wanted)
+
+
+LITTLE_MEMORY = 20 << 20
+"""A limit of the address space, in bytes. Eight ports that keep 16 bytes for each of 200,000 steps have no room in it."""
+
+
+def little_memory() -> None:
+    """Limits this process and what it runs."""
+    resource.setrlimit(resource.RLIMIT_AS, (LITTLE_MEMORY, LITTLE_MEMORY))
+
+
+def test_a_long_run_takes_no_more_memory_than_a_short_one(tmp_path: Path) -> None:
+    listed = tmp_path / "plants.txt"
+    listed.write_text("".join(f"{thread} table 3 1 4 1 5\n" for thread in range(THREADS)))
+    words = [str(PROGRAM), "examples/loop/motor.toml", str(listed), "0", "1", "200000"]
+    ran = subprocess.run(words, cwd=TOP, stdout=subprocess.DEVNULL, stderr=subprocess.PIPE, preexec_fn=little_memory)
+    assert (ran.returncode, ran.stderr) == (0, b"")
 
 
 FAULT = "loop_cli: PLANTS has other lines than `THREAD body|motor STEPS` and `THREAD table WORD ..`, or two of a thread\n"

@@ -1,6 +1,5 @@
 -- A thread in loops with sampled plants.
-use Rattle.std.proofs.Common.{◌≡◌, ℕ, ◌≤◌, List, Option, arith}
-use Rattle.std.proofs.Math.Nat.{le_trans}
+use Rattle.std.proofs.Common.{ℕ, List, arith}
 use Rattle.world_model.specs.Viewed.{setting_of, view}
 use Rattle.world_model.specs.World.{Start}
 use Rattle.run_laws.specs.Isolation.{IsApart, IsConfined, QuietUnpermitted}

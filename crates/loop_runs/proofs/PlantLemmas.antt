@@ -1,7 +1,7 @@
 -- Lemmas on one plant among the plants.
-use Rattle.std.proofs.Common.{◌≡◌, ◌≢◌, ℕ, ◌<◌, List, [], ◌∷◌, get_or, length, None, Option, refl, sym, ◌∙◌, ap, subst, get_or-set_other, get_or-set_same}
+use Rattle.std.proofs.Common.{◌≡◌, ◌≢◌, ℕ, ◌<◌, List, [], ◌∷◌, get_or, length, None, Option, sym, ◌∙◌, ap, subst, get_or-set_other, get_or-set_same}
 use Rattle.std.proofs.Math.ListN.{get_or-map, set}
-use Rattle.std.proofs.lemmas.List.{get_or_read, map-set, length-map}
+use Rattle.std.proofs.lemmas.List.{get_or_read}
 use Rattle.loop_runs.specs.Plants.{Continues, HasStepped, IsWord, Response, response_at, response_of, responses_of}
 
 -- x is the plant of a thread, read from the plants, and y what it becomes

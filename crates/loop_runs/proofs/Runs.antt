@@ -12,7 +12,7 @@ use Rattle.pipe_model.specs.Relation.{event_in, of_thread, turn_at}
 use Rattle.fp_ports.specs.Rows.{Row}
 use Rattle.trace_print.specs.Text.{text}
 use Rattle.world_model.specs.World.{Start, events, recent, world}
-use Rattle.machine.specs.WorldRelation.{HasRun, StandsFor, Stopped}
+use Rattle.machine.specs.WorldRelation.{HasRun, Stopped}
 use Rattle.machine.specs.declared.state.Machine.{Machine}
 use Rattle.machine.proofs.RunLemmas.{left_all, text-next}
 use Rattle.loop_laws.specs.Answered.{with_all_shown}

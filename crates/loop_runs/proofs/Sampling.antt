@@ -1,5 +1,5 @@
 -- Which words the ports show, from one sample to the next.
-use Rattle.std.proofs.Common.{◌≡◌, ◌≢◌, ℕ, zero, suc, ◌+◌, ◌*◌, ◌-◌, ◌/◌, ◌<◌, ◌≤◌, ◌^◌, inl, inr, Bool, true, false, List, [], ◌∷◌, ◌++◌, get_or, length, Some, None, Option, refl, ap, sym, ◌∙◌, subst, arith, true≢false}
+use Rattle.std.proofs.Common.{◌≡◌, ◌≢◌, ℕ, suc, ◌+◌, ◌*◌, ◌-◌, ◌/◌, ◌<◌, ◌≤◌, inl, inr, Bool, true, false, List, [], get_or, length, Some, None, Option, refl, ap, sym, ◌∙◌, subst, arith, true≢false}
 use Rattle.std.specs.Prelude.{if◌then◌else◌, ◌&&◌, is_some, nat_le, nat_lt}
 use Rattle.std.proofs.lemmas.Bool.{cases_lt, false≢true}
 use Rattle.std.proofs.lemmas.Bool.Decides.{nat_tests}
@@ -7,7 +7,6 @@ use Rattle.std.proofs.lemmas.Nat.{div-mul-add}
 use Rattle.std.proofs.Math.ListN.{get_or-eq_default}
 use Rattle.std.proofs.Math.Nat.{le_refl, suc-mul}
 use Rattle.fp_ports.specs.Rows.{Row, row_at}
-use Rattle.fp_ports.specs.ShownWords.{is_gone}
 use Rattle.world_model.specs.World.{Start, has_port, is_plugged, port_word, world}
 use Rattle.machine.specs.DumpedState.{is_kept}
 use Rattle.machine.specs.FieldRelation.{found}
@@ -19,7 +18,7 @@ use Rattle.loop_laws.proofs.Causal.{past-words}
 use Rattle.loop_laws.proofs.Closed.{closed-past}
 use Rattle.loop_laws.proofs.Sampling.{sampled-words}
 use Rattle.loop_runs.specs.Plants.{Response, loop_start, response_at}
-use Rattle.loop_runs.specs.Looping.{Looping, samples_taken, words_end}
+use Rattle.loop_runs.specs.Looping.{words_end}
 
 pub until-least : (every q i j : ℕ) → q * every ≤ words_end every q i j
 until-least every q i j = go (nat_lt j i)

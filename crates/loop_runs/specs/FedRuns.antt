@@ -1,7 +1,9 @@
 -- A machine whose ports are fed while it runs.
-use Rattle.std.specs.Prelude.{ℕ, ◌^◌, ◌≡◌, ◌<◌, ◌≤◌, nat_le, ◌&&◌, if◌then◌else◌, List, length, map, slice_set, Option}
+use Rattle.std.specs.Prelude.{ℕ, ◌^◌, ◌-◌, ◌≡◌, ◌<◌, ◌≤◌, nat_le, ◌&&◌, if◌then◌else◌, ⊤, List, [], ◌∷◌, length, map, slice_set, Option}
 use Rattle.std.specs.List.{range_with_len}
-use Rattle.fp_ports.specs.Rows.{Row, row_at, fed}
+use Rattle.fp_ports.specs.declared.feeds.Feed.{Feed}
+use Rattle.fp_ports.specs.Kinds.{kept_from}
+use Rattle.fp_ports.specs.Rows.{Row, Forgot, row_at, fed}
 use Rattle.world_model.specs.World.{Start, has_port, port_word}
 use Rattle.loop_laws.specs.Answered.{with_shown}
 use Rattle.machine.specs.declared.state.Machine.{Machine}
@@ -28,3 +30,23 @@ abbrev pub FeedsRunning : Type 0
 FeedsRunning = (s : Start) (c n : ℕ) (m : Machine) (ports : List (Option Row)) (i at word : ℕ)
     → StandsFor s c n m ports → length ports ≡ 8 → i < 8 → i < length s.shown → n ≤ 2 ^ 64
     → c ≤ n → c ≤ at → StandsFor (fed_start s i at word n) c n m (fed_ports ports i at word)
+
+-- each port forgot its words of the cycles before `first`, and kept its other words and its latch
+abbrev pub AllForgot : ℕ → List (Option Row) → List (Option Row) → Type 0
+AllForgot first before after = (k : ℕ) → k < 8 → Forgot first (row_at before k) (row_at after k)
+
+-- machine and ports that refine cycle c of a world still do so once the ports forget their words of
+-- the cycles before c - 3. The loads in flight were issued in cycles c - 3 to c - 1
+abbrev pub ForgetsRunning : Type 0
+ForgetsRunning = (s : Start) (c n : ℕ) (m : Machine) (before after : List (Option Row))
+    → StandsFor s c n m before → AllForgot (c - 3) before after → StandsFor s c n m after
+
+-- feeds, the newest first: each is of an earlier cycle than the one before it, and all are before c
+abbrev pub FallsBelow : ℕ → List Feed → Type 0
+FallsBelow c [] = ⊤
+FallsBelow c (feed ∷ older) = (feed.at < c) × FallsBelow feed.at older
+
+-- of such feeds a device of fp_ports keeps at most three, once it forgets the cycles before c - 3
+abbrev pub KeepsThree : Type 0
+KeepsThree = (feeds : List Feed) (c : ℕ) → 0 < c → FallsBelow c feeds
+    → length (kept_from (c - 3) feeds) ≤ 3

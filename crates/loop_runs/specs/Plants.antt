@@ -1,6 +1,6 @@
 -- The plants of the eight threads, seen as their responses. A response is the plant's word after some
 -- steps, by the words that the steps take.
-use Rattle.std.specs.Prelude.{◌≡◌, ◌≢◌, ℕ, ◌<◌, List, [], ◌∷◌, ◌++◌, map, Option, Some, None, option_map, slice_index_or, ⊤}
+use Rattle.std.specs.Prelude.{◌≡◌, ◌≢◌, ℕ, List, [], ◌∷◌, ◌++◌, map, Option, Some, None, slice_index_or, ⊤}
 use Rattle.world_model.specs.World.{Start}
 use Rattle.loop_laws.specs.Sampled.{sampled_start}
 

@@ -1,5 +1,5 @@
 -- What a thread does in loops with sampled plants.
-use Rattle.std.specs.Prelude.{◌≡◌, ℕ, ◌<◌, ◌≤◌, true, false, List, Option, slice_index_or}
+use Rattle.std.specs.Prelude.{◌≡◌, ℕ, ◌≤◌, true, false, List, Option, slice_index_or}
 use Rattle.std.specs.List.{list_all}
 use Rattle.world_model.specs.World.{Start, events, is_quiet}
 use Rattle.phase_model.specs.Phases.{phases, keeps_regions, is_never_soft}

@@ -19,7 +19,7 @@ ghost use Rattle.loop_runs.specs.Plants.{Response, loop_start, responses_of};
 ghost use Rattle.loop_runs.specs.Looping.{HasLooped, Looping};
 ghost use Rattle.loop_runs.specs.SampledLaws.{plant_at};
 
-use crate::feeding::feed_now;
+use crate::feeding::{feed_now, forget_past};
 use crate::plants::{Plants, step_plant, word_of};
 use fp_io::{PutFailed, Sink};
 use fp_ports::{Ports, latch_of};
@@ -153,8 +153,8 @@ fn sample_all(machine: &Machine, ports: &mut Ports, plants: &mut Plants) -> Resu
     Ok(())
 }
 
-/// Runs the machine for `every` cycles, and puts the lines of a thread. Then does a step of all
-/// plants.
+/// Runs the machine for `every` cycles, and puts the lines of a thread. Then the ports forget their
+/// past words, and all plants do a step.
 fn loop_step<K: Sink>(
     machine: &mut Machine,
     ports: &mut Ports,
@@ -192,6 +192,7 @@ fn loop_step<K: Sink>(
     events_grow();
     let end = machine.cycle() + every;
     machine.run_on(end, thread, ports, out)?;
+    forget_past(machine, ports);
     sample_all(machine, ports, plants)?;
     Ok(())
 }

@@ -1,12 +1,12 @@
 //! A machine whose ports are fed while it runs.
 
-ghost use Rattle.std.specs.Prelude.{◌≡◌, ℕ, ◌^◌, ◌<◌, ◌≤◌, length, vec_len, OnOk, OnErr};
+ghost use Rattle.std.specs.Prelude.{◌≡◌, ℕ, ◌^◌, ◌-◌, ◌<◌, ◌≤◌, length, vec_len, OnOk, OnErr};
 ghost use Rattle.fp_ports.specs.Rows.{rows_of};
 ghost use Rattle.world_model.specs.World.{Start};
 ghost use Rattle.machine.specs.WorldRelation.{StandsFor};
-ghost use Rattle.loop_runs.specs.FedRuns.{FeedsRunning, fed_start};
+ghost use Rattle.loop_runs.specs.FedRuns.{AllForgot, FeedsRunning, ForgetsRunning, KeepsThree, fed_start};
 
-use fp_ports::{Ports, feed_port};
+use fp_ports::{Ports, feed_port, forget_port};
 use machine::Machine;
 use std::alloc::AllocError;
 
@@ -40,4 +40,34 @@ pub fn feed_now(
 {
     feeds_running();
     feed_port(ports, thread, machine.cycle(), word)
+}
+
+/// A machine whose ports forget the words that no load in flight finds refines the same cycle of the
+/// same world. The contract is the theorem; the call does nothing.
+pub fn forgets_running()
+    ensures { ForgetsRunning }
+{}
+
+/// A device of fp_ports that is fed for rising cycles keeps at most three feeds of the cycles before
+/// the machine's, once it forgets. The contract is the theorem; the call does nothing.
+pub fn keeps_three()
+    ensures { KeepsThree }
+{}
+
+/// Lets all ports forget their words of the cycles before those of the loads in flight. It takes no
+/// memory.
+pub fn forget_past(machine: &Machine, ports: &mut Ports)
+    requires eight { vec_len ports.old ≡ 8 }
+    ensures forgot { AllForgot (machine.now.at - 3) (rows_of latched word_at ports.old.items)
+        (rows_of latched word_at ports.new.items) }
+    ensures stands { (s : Start) (n : ℕ)
+        → StandsFor s machine.now.at n machine.now (rows_of latched word_at ports.old.items)
+        → StandsFor s machine.now.at n machine.now (rows_of latched word_at ports.new.items) }
+    ensures eight { vec_len ports.new ≡ 8 }
+{
+    forgets_running();
+    let first = machine.cycle().saturating_sub(3);
+    for thread in 0..8u8 {
+        forget_port(ports, thread, first);
+    }
 }

@@ -1,4 +1,4 @@
-use Rattle.std.proofs.Common.{◌≡◌, ℕ, suc, ◌+◌, sym, arith}
+use Rattle.std.proofs.Common.{suc, ◌+◌, sym, arith}
 use Rattle.loop_runs.proofs.Steps.{at-cycle, begin-step, by-thread}
 use Rattle.loop_runs.proofs.driver.begin_all.Goals as goal
 

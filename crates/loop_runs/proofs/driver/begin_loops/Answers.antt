@@ -1,4 +1,4 @@
-use Rattle.std.proofs.Common.{◌≡◌, ℕ, List, Option}
+use Rattle.std.proofs.Common.{ℕ}
 use Rattle.loop_runs.specs.Looping.{HasLooped, Looping}
 use Rattle.loop_runs.proofs.Steps.{map-ok}
 use Rattle.loop_runs.proofs.Runs.{begins-looped}

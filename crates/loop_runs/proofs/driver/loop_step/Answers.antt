@@ -1,5 +1,6 @@
-use Rattle.std.proofs.Common.{◌≡◌, ℕ, suc, ◌+◌, ◌*◌, ◌≤◌, ap, ◌∙◌, arith}
+use Rattle.std.proofs.Common.{◌≡◌, ℕ, suc, ◌+◌, ◌*◌, ap, ◌∙◌, arith}
 use Rattle.std.proofs.lemmas.Result.{err_from_is_err_and}
+use Rattle.loop_runs.proofs.Forgetting.{forgot-looping}
 use Rattle.loop_runs.proofs.Runs.{looped-at, looped-front, next-cycle, ran-step, stepped-looped, stopped-front}
 use Rattle.loop_runs.proofs.driver.loop_step.Goals as goal
 
@@ -17,7 +18,8 @@ returns-clause-looped g c = λ first s n k told low within at h.
     (λ run. c.in_ok-run_on.ensures.ok _ n _ told (omega (arith, same, within)) run) in
     let here = looped-at first _ every s n k k end after c.args.thread c.run_on.new.self _ told (g.K.Sink.taken c.run_on.new.out) (omega arith) (omega (arith, done)) ran in
     stepped-looped first _ _ every s n k after c.args.thread c.run_on.new.self _ _ told (g.K.Sink.taken c.run_on.new.out) here
-    (c.in_ok-sample_all.ensures.looping first every s n k c.requires.some low (omega (arith, e, within)) multiple here.looping)
+    (c.in_ok-sample_all.ensures.looping first every s n k c.requires.some low (omega (arith, e, within)) multiple
+    (forgot-looping first _ every s n k 8 after c.run_on.new.self _ _ (λ t st. c.forget_past.ensures.stands t n st) here.looping))
 
 pub returns-in_err-run_on-clause-stopped : goal.returns-in_err-run_on-clause-stopped
 returns-in_err-run_on-clause-stopped g c =

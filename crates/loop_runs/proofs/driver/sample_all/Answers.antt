@@ -1,4 +1,4 @@
-use Rattle.std.proofs.Common.{◌≡◌, ℕ, suc, ◌+◌, sym, arith}
+use Rattle.std.proofs.Common.{suc, ◌+◌, arith}
 use Rattle.loop_runs.proofs.Steps.{by-thread, next-step}
 use Rattle.loop_runs.proofs.driver.sample_all.Goals as goal
 

@@ -1,4 +1,4 @@
-use Rattle.std.proofs.Common.{◌≡◌, ℕ, suc, ◌<◌, length, Option, Some, None, sym, ◌∙◌, arith}
+use Rattle.std.proofs.Common.{ℕ, suc, ◌<◌, length, sym, ◌∙◌, arith}
 use Rattle.machine.specs.WorldRelation.{StandsFor}
 use Rattle.loop_laws.specs.Answered.{with_all_shown}
 use Rattle.loop_runs.specs.FedRuns.{fed_start}
