@@ -11,15 +11,17 @@ import subprocess
 import sys
 import time
 from concurrent.futures import FIRST_COMPLETED, Future, ThreadPoolExecutor, wait
-from contextlib import contextmanager
+from contextlib import ExitStack, contextmanager
 from dataclasses import dataclass, field
 from functools import cached_property
 from graphlib import TopologicalSorter
 from threading import Lock
+from pathlib import Path
 from types import FrameType
 from typing import Iterator, TextIO
 
 from fplaunch.sources import SUFFIXES, Checkout, kit_line
+from fplaunch.trees import locked, tree_of
 
 NEEDED_MEMORY = 2 << 30
 """Bytes that one proof may take."""
@@ -30,8 +32,9 @@ NEEDED_DISK = 3 << 30
 LOGIC = "dac8208d650f15bf"
 """The logic of the kit that README.md names."""
 
-FIRST_SECONDS, SOURCE_SECONDS, PROOF_SECONDS, LINK_SECONDS = 10.0, 0.0018, 0.0003, 60.0
-"""What a crate takes on a processor of 2.5 GHz: at all, for a byte of src, for one of specs and proofs, and a program for its link."""
+FIRST_SECONDS, SOURCE_SECONDS, PROOF_SECONDS, LIBRARY_SECONDS, LINK_SECONDS = 10.0, 0.0018, 0.0003, 3.0, 60.0
+"""What a crate takes on a processor of 2.5 GHz: at all, for a byte of src, for one of specs and proofs, for each crate below it, and a program for its
+link."""
 
 TRIED = {"flexpret_cli": ["asm", "data/loads.s"], "flexpret_view": ["--help"]}
 """With which arguments a program is called by its build, which `rt run` does."""
@@ -44,7 +47,7 @@ class NotBuilt(Exception):
 def seconds_of(checkout: Checkout, crate: str) -> float:
     """What the proof of a crate takes, about, by one job on a quiet processor of 2.5 GHz."""
     folder = checkout.top / "crates" / crate
-    seconds = FIRST_SECONDS
+    seconds = FIRST_SECONDS + LIBRARY_SECONDS * (len(Checkout(checkout.top, crate).crates()) - 1)
     for file in folder.rglob("*"):
         part = file.relative_to(folder).parts[0]
         if part != "out" and file.name.endswith(SUFFIXES):
@@ -108,14 +111,30 @@ class Plan:
 
     def left(self) -> float:
         """The seconds until the program is there, about, by the pace so far."""
-        ahead = [crate for crate in self.below if crate not in self.done]
-        if not ahead:
-            return 0.0
+        spent = self.spent()
+        longest = max((self.chain[crate] - spent.get(crate, 0.0) for crate in self.ahead()), default=0.0)
+        return max(self.share_left(), longest) * self.pace()
+
+    def ahead(self) -> list[str]:
+        """The crates that aren't proved yet."""
+        return [crate for crate in self.below if crate not in self.done]
+
+    def spent(self) -> dict[str, float]:
+        """The seconds that the running proofs took so far, at most those that they take, about."""
         now = time.monotonic()
-        spent = {crate: min(now - since, self.weight[crate]) for crate, since in self.running.items()}
-        work = sum(self.weight[crate] - spent.get(crate, 0.0) for crate in ahead) / self.at_once
-        longest = max(self.chain[crate] - spent.get(crate, 0.0) for crate in ahead)
-        return max(work, longest) * self.pace()
+        return {crate: min(now - since, self.weight[crate]) for crate, since in self.running.items()}
+
+    def share_left(self) -> float:
+        """The seconds of each processor, about, if none has to wait."""
+        spent = self.spent()
+        return sum(self.weight[crate] - spent.get(crate, 0.0) for crate in self.ahead()) / self.at_once
+
+    def jobs_of(self, crate: str, waiting: int) -> int:
+        """By how many jobs a crate is proved, with so many others that run or could. It gets a second one where the chain that waits for it takes longer
+        than all processors have work, and memory allows."""
+        fair = max(1, self.at_once // (waiting + 1))
+        is_last = self.chain[crate] > self.share_left() and free_memory() > NEEDED_MEMORY * (self.at_once + 1)
+        return max(fair, 2) if self.at_once > 1 and is_last else fair
 
     def pace(self) -> float:
         """How much longer crates take here than on a quiet processor of 2.5 GHz. A crate that was quick had been proved before."""
@@ -156,18 +175,21 @@ class Builder:
         self.lock = Lock()
         self.children: set[subprocess.Popen[str]] = set()
         self.stopped = False
+        self.hold = ExitStack()
+        """Keeps `rt ci` out of the checkout until the crates below the program are proved."""
 
-    def call(self, crate: str, words: list[str]) -> None:
-        """Calls `rt` in a crate's folder; what it writes goes to the log. A failure is an error with its last line."""
+    def call(self, top: Path, crate: str, words: list[str]) -> None:
+        """Calls `rt` in a crate's folder below a top; what it writes goes to the log. A failure is an error with its last line."""
         with self.lock:
             if self.stopped:
                 raise NotBuilt("broken off")
             child = subprocess.Popen(
-                ["rt", *words], cwd=self.plan.checkout.top / "crates" / crate, stdin=subprocess.DEVNULL,
+                ["rt", *words], cwd=top / "crates" / crate, stdin=subprocess.DEVNULL,
                 stdout=subprocess.PIPE, stderr=subprocess.STDOUT, text=True, errors="replace", process_group=0,
             )  # fmt: skip
             self.children.add(child)
         said, _ = child.communicate()
+        said = said.replace(str(top), str(self.plan.checkout.top))
         with self.lock:
             self.children.discard(child)
             self.log.write(f"== {crate}\n{said}")
@@ -177,11 +199,13 @@ class Builder:
 
     def prove(self, crate: str, count: int) -> None:
         """Proves a crate by so many jobs; the program's own is linked too, and called once."""
-        flags = ["--jobs", str(count)]
-        if crate == self.plan.checkout.crate:
-            self.call(crate, ["run", *flags, "--", *TRIED[crate]])
+        flags, checkout = ["--jobs", str(count)], self.plan.checkout
+        if crate == checkout.crate:
+            self.hold.close()
+            self.call(checkout.top, crate, ["run", *flags, "--", *TRIED[crate]])
         else:
-            self.call(crate, ["lib", *flags])
+            with tree_of(checkout, crate) as top:
+                self.call(top, crate, ["lib", *flags])
 
     def stop(self) -> None:
         """Ends what runs."""
@@ -197,15 +221,17 @@ class Builder:
         order.prepare()
         ready: list[str] = []
         futures: dict[Future[None], str] = {}
-        with ThreadPoolExecutor(plan.at_once) as pool:
+        with self.hold, ThreadPoolExecutor(plan.at_once) as pool:
+            waits = "" if progress.quiet else f"{progress.script}: an rt works in this checkout: waiting for it"
+            self.hold.enter_context(locked(plan.checkout.out.parent, waits))
             try:
                 while order.is_active():
                     ready = sorted([*ready, *order.get_ready()], key=plan.chain.__getitem__)
                     while ready and len(futures) < plan.at_once:
                         crate = ready.pop()
+                        count = plan.jobs_of(crate, len(futures) + len(ready))
                         plan.running[crate] = time.monotonic()
-                        share = max(1, plan.at_once // (len(futures) + 1 + len(ready)))
-                        futures[pool.submit(self.prove, crate, share)] = crate
+                        futures[pool.submit(self.prove, crate, count)] = crate
                     progress.show()
                     ended, _ = wait(futures, timeout=30 if progress.terminal else None, return_when=FIRST_COMPLETED)
                     for future in ended:
