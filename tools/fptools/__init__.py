@@ -1,4 +1,4 @@
-"""What the tools beside this folder share. None of it is proved; the program answers, the tools show and ask."""
+"""What the tools share, and readers for scripts: tools/README.md lists them. None of it is proved."""
 import importlib.util
 import sys
 from typing import Mapping

@@ -1,7 +1,6 @@
 """Asks the program for the bounds of watched sections and functions."""
 from __future__ import annotations
 
-import re
 import tempfile
 from dataclasses import replace
 from pathlib import Path
@@ -13,8 +12,6 @@ from fptools.section import walk
 from fptools.setup import DATA_START
 from fptools.visits import Watched
 from fptools.words import Word
-
-BOUND = re.compile(r"bound (\d+)")
 
 
 def called_functions(
@@ -90,9 +87,9 @@ def with_bound(
         answer = _ask_calls(flexpret, setup, thread, start, end, routines)
     else:
         answer = flexpret.bound(setup, thread, start, end)
-    found = BOUND.fullmatch(answer.text)
-    if answer.status != 0 or found is None:
+    found = answer.bound
+    if found is None:
         return replace(watched, doubt=answer.text.split("\n")[0] or f"status {answer.status}")
-    if int(found[1]) == 0:
+    if found == 0:
         return replace(watched, doubt="a bound of 0: nothing of the section issues")
-    return replace(watched, bound=int(found[1]))
+    return replace(watched, bound=found)

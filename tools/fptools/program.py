@@ -6,6 +6,8 @@ import subprocess
 from dataclasses import dataclass
 from pathlib import Path
 
+from fptools.answers import Bound, NoAnswer, read_answer
+
 BESIDE = Path(__file__).resolve().parents[2] / "flexpret"
 HELP = "the program; if left out, what the variable FLEXPRET names, or the ./flexpret of this repository"
 
@@ -16,6 +18,15 @@ class Answer:
 
     status: int
     text: str
+
+    @property
+    def bound(self) -> int | None:
+        """The cycles of a bound; None for a refusal, or another text."""
+        try:
+            found = read_answer(self.text)
+        except NoAnswer:
+            return None
+        return found.cycles if isinstance(found, Bound) else None
 
 
 @dataclass(frozen=True)

@@ -2,11 +2,11 @@
 has the tables."""
 from __future__ import annotations
 
-import re
 from dataclasses import dataclass, field
 from pathlib import Path
 from typing import Iterator, Mapping
 
+from fptools.answers import NoAnswer, Refusal, read_answer
 from fptools.asm_words import text_of
 from fptools.elf import Program, ProgramError
 from fptools.image import ImageError, read_image
@@ -19,7 +19,6 @@ from fptools.words import MRET, OPCODE_JALR, RETURN_ADDRESS, Word
 
 from model.refusals import SourceNo
 
-REFUSAL = re.compile(r"refused (?P<what>setup|section|image|source|bound|routines) (?P<rest>.+)")
 RETURN = 0x0000_8067
 OVERFLOW = 6
 
@@ -90,10 +89,7 @@ class Context:
 
 def explain(line: str, context: Context) -> list[str]:
     """The lines that explain a refusal."""
-    parts = REFUSAL.fullmatch(line.strip())
-    if parts is None:
-        raise NoRefusal(f"no refusal line: {line.strip()[:80]!r}")
-    words = parts["rest"].split()
+    refusal = _read(line.strip())
     explainers = {
         "source": _source,
         "bound": _bound,
@@ -103,19 +99,29 @@ def explain(line: str, context: Context) -> list[str]:
         "routines": _routines,
     }
     try:
-        return list(explainers[parts["what"]](words, context))
+        return list(explainers[refusal.what](refusal, context))
     except (IndexError, KeyError, ValueError) as fault:
         raise NoRefusal(
             f"this program has no such refusal, or the file has changed since: {line.strip()[:80]!r}"
         ) from fault
 
 
-def _source(words: list[str], context: Context) -> Iterator[str]:
-    line, _, name = words
+def _read(line: str) -> Refusal:
+    try:
+        found = read_answer(line)
+    except NoAnswer:
+        found = None
+    if not isinstance(found, Refusal):
+        raise NoRefusal(f"no refusal line: {line[:80]!r}")
+    return found
+
+
+def _source(refusal: Refusal, context: Context) -> Iterator[str]:
     if context.file is None:
         raise NoRefusal("the source is needed: --file SOURCE")
     data = context.file.read_bytes()
-    yield from shown(str(context.file), data, explain_source(data, int(line), SourceNo[name]))
+    fault = explain_source(data, int(refusal.place), SourceNo[refusal.name])
+    yield from shown(str(context.file), data, fault)
 
 
 # ---------------------------------------------------------------- bounds
@@ -131,13 +137,13 @@ def _code(context: Context) -> Mapping[int, int]:
     return context.program.words
 
 
-def _bound(words: list[str], context: Context) -> Iterator[str]:
-    code, name, value = words
-    if int(code) == OVERFLOW:
-        yield f"error: the bound is {int(value):,} cycles, which has more than 64 bits"
+def _bound(refusal: Refusal, context: Context) -> Iterator[str]:
+    name = refusal.name
+    if refusal.code == OVERFLOW:
+        yield f"error: the bound is {int(refusal.place):,} cycles, which has more than 64 bits"
         yield "      = bounds of nested loops multiply: look at the tables of the setup"
         return
-    at = int(value, 16)
+    at = int(refusal.place, 16)
     bits = _code(context).get(at, 0)
     yield from _place(at, bits, name, context)
     if name == "IndirectJump":
@@ -201,8 +207,7 @@ def _tables(path: Path, at: int, head: int | None) -> Iterator[str]:
 # ---------------------------------------------------------------- setups, sections, images, routines
 
 
-def _setup(words: list[str], context: Context) -> Iterator[str]:
-    _, name, path = words
+def _setup(refusal: Refusal, context: Context) -> Iterator[str]:
     if context.setup is None:
         raise NoRefusal("the setup is needed: --setup SETUP")
     try:
@@ -210,16 +215,15 @@ def _setup(words: list[str], context: Context) -> Iterator[str]:
     except TomlError as fault:
         yield f"{context.setup}:{fault.line}: error: {fault.text}"
         return
-    own = [it for it in findings if it.key == path] or findings
+    own = [it for it in findings if it.key == refusal.place] or findings
     for finding in own:
         yield f"{context.setup}:{finding.line or 1}: error: {finding.key}: {finding.text}"
     if not own:
-        yield f"{context.setup}: error: {path}: {name}"
+        yield f"{context.setup}: error: {refusal.place}: {refusal.name}"
 
 
-def _section(words: list[str], context: Context) -> Iterator[str]:
-    _, name = words
-    key, hint = SECTION_HINTS[name]
+def _section(refusal: Refusal, context: Context) -> Iterator[str]:
+    key, hint = SECTION_HINTS[refusal.name]
     where = _key_line(context, key) if key else None
     thread = "" if context.thread is None else f"T{context.thread}: "
     yield f"{where}: error: {thread}{hint}" if where else f"error: {thread}{hint}"
@@ -242,20 +246,20 @@ def _key_line(context: Context, key: str) -> str | None:
     return f"{context.setup}:{line}" if line else str(context.setup)
 
 
-def _image(words: list[str], context: Context) -> Iterator[str]:
-    _, name, offset = words
+def _image(refusal: Refusal, context: Context) -> Iterator[str]:
+    name = refusal.name
     file = context.file
     if file is None and context.setup is not None:
         try:
             file = read_setup(context.setup).image
         except (OSError, TomlError, KeyError):
             pass
-    yield f"{file or 'the image'}: error: {name} at byte {int(offset)}"
+    yield f"{file or 'the image'}: error: {name} at byte {int(refusal.place)}"
     yield f"      = {IMAGE_HINTS[name]}"
 
 
-def _routines(words: list[str], context: Context) -> Iterator[str]:
-    line, _, name = words
+def _routines(refusal: Refusal, context: Context) -> Iterator[str]:
+    line, name = refusal.place, refusal.name
     where = f"{context.file}:{line}" if context.file else f"line {line} of the routines"
     yield f"{where}: error: {name}"
     if context.file:

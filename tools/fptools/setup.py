@@ -1,11 +1,20 @@
-"""A setup with the lines of its keys."""
+"""A setup as data: its threads and loops, and the line of each key.
+
+    from fptools.lint import read_valid
+
+    setup = read_valid(Path("examples/drive.toml"))
+    print(setup.period, setup.slots, [thread.entry for thread in setup.threads])
+
+`read_setup` takes each TOML document, `read_valid` only what the program takes. docs/FORMATS.md has the
+keys and their ranges."""
 from __future__ import annotations
 
 import re
 import tomllib
 from dataclasses import dataclass
+from functools import cached_property
 from pathlib import Path
-from typing import Any, Iterator
+from typing import Any, Iterator, Mapping
 
 from fptools.toml import read_toml
 
@@ -29,9 +38,44 @@ def spelled(path: KeyPath) -> str:
     return text or "top"
 
 
+@dataclass(frozen=True)
+class ThreadTable:
+    """A table `[[thread]]`: a key that it leaves out has its default."""
+
+    id: int
+    mode: str  # hard, hard-asleep, soft or soft-asleep
+    entry: int
+    confined: bool
+    permit: bool
+    unplug: int | None  # the cycle from which on it has no port
+    inputs: tuple[tuple[int, int], ...]  # cycles, each with its word
+
+    @classmethod
+    def of(cls, table: Mapping[str, Any]) -> ThreadTable:
+        return cls(
+            table["id"],
+            table["mode"],
+            table["entry"],
+            table.get("confined", False),
+            table.get("permit", False),
+            table.get("unplug"),
+            tuple((cycle, word) for cycle, word in table.get("inputs", ())),
+        )
+
+
+@dataclass(frozen=True)
+class LoopTable:
+    """A loop by its first and last word, and how often a table says that it goes back, at most."""
+
+    head: int
+    last: int
+    bound: int | None = None  # None where no table states it
+
+
 @dataclass
 class Setup:
-    """A setup's values as TOML has them, and the line of each key."""
+    """A setup's values as TOML has them, and the line of each key. The properties are those of a setup
+    that the program takes."""
 
     path: Path
     values: dict[str, Any]
@@ -49,8 +93,37 @@ class Setup:
         return LARGE if self.values.get("version") == 2 else SMALL
 
     @property
+    def period(self) -> int:
+        """Nanoseconds of a cycle."""
+        return int(self.values["period"])
+
+    @property
     def image(self) -> Path:
+        """The image's file, from the folder of the call."""
         return Path(self.values["image"])
+
+    @property
+    def slots(self) -> list[str]:
+        """The owners of the eight slots: `T0` to `T7`, `S` or `D`."""
+        return list(self.values["slots"])
+
+    @cached_property
+    def threads(self) -> list[ThreadTable]:
+        """The threads that have a table, in the order of the tables."""
+        return [ThreadTable.of(it) for it in self.values.get("thread", [])]
+
+    @cached_property
+    def loops(self) -> list[LoopTable]:
+        return [LoopTable(it["head"], it["last"], it["bound"]) for it in self.values.get("loop", [])]
+
+    def thread(self, number: int) -> ThreadTable | None:
+        """The table of a thread. A thread without one is soft and asleep, with entry 0."""
+        return next((it for it in self.threads if it.id == number), None)
+
+    @property
+    def has_permits(self) -> bool:
+        """Whether a thread may write slots, modes and regions."""
+        return any(it.permit for it in self.threads)
 
     def region(self, key: str, address: int) -> str:
         """Whose the region of an address is, of `i_regions` or `d_regions`."""
