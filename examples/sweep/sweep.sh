@@ -9,6 +9,6 @@ cd "$(dirname "$(readlink -f "$0")")"
 far=()
 if [ -n "$hosts" ]; then
     far=(--sshloginfile "$hosts" --workdir . --basefile flexpret --basefile job.sh --basefile sum.fpx
-        --transferfile 'setups/{1}.toml' --return 'results/{1}.tsv' --cleanup)
+        --transferfile 'setups/{1}.toml' --return 'results/{1}.txt' --cleanup)
 fi
 parallel "${far[@]}" --joblog jobs.log --resume-failed --retries 3 --colsep '\t' ./job.sh '{1}' :::: jobs.tsv

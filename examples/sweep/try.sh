@@ -25,7 +25,7 @@ holds() {
         failed=1
     fi
 }
-says() { [ "$(./table.sh)" = "$1" ]; }
+says() { [ "$("$here/table.py")" = "$1" ]; }
 not() { ! "$@" 2>errors; }
 
 "$here/make.py" all 2

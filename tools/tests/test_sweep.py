@@ -1,9 +1,10 @@
-"""examples/sweep: the setups that make.py writes, what it can't make, and the shares of array.sh."""
+"""examples/sweep: the setups that make.py writes, what it can't make, the table, and the shares of array.sh."""
 from __future__ import annotations
 
 import os
 import shutil
 import subprocess
+import sys
 from pathlib import Path
 
 import pytest
@@ -58,6 +59,44 @@ def test_a_folder_that_is_there_stays_as_it_is(tmp_path: Path) -> None:
     ran = made(tmp_path, ".", "1")
     assert ran.returncode == 1
     assert ran.stderr.startswith("make.py: [Errno 17] File exists")
+
+
+def tabled(folder: Path) -> subprocess.CompletedProcess[str]:
+    words = [sys.executable, str(TOP / "examples/sweep/table.py"), str(folder)]
+    return subprocess.run(words, capture_output=True, text=True, check=False)
+
+
+@pytest.fixture
+def work(tmp_path: Path) -> Path:
+    """A sweep with the results of two jobs."""
+    assert made(tmp_path, "work", "2").returncode == 0
+    results = tmp_path / "work/results"
+    (results / "02-TSSSTSSS.txt").write_text("bound 184\n29acbf7a868388d4\n")
+    (results / "01-SSSSSSST.txt").write_text("bound 2001\n3115170c0e0a8730\n")
+    return tmp_path / "work"
+
+
+def test_the_table_has_the_setups_with_their_results(work: Path) -> None:
+    ran = tabled(work)
+    assert (ran.returncode, ran.stdout) == (0, "508 of 510 jobs have no result\n"), ran.stderr
+    assert (work / "table.tsv").read_text().splitlines() == [
+        "name\tslots\tperiod\tbudget\tbound\tfold\tslack",
+        "01-SSSSSSST\tSSSSSSST\t1\t2000\t2001\t3115170c0e0a8730\t-1",
+        "02-TSSSTSSS\tTSSSTSSS\t2\t1000\t184\t29acbf7a868388d4\t816",
+    ]
+
+
+@pytest.mark.parametrize("text", ["refused section 2 NoSlot\n0\n", "184\n0\n", "bound 184\n", ""])
+def test_a_result_that_is_no_bound_makes_no_table(work: Path, text: str) -> None:
+    (work / "results/02-SSSSSSST.txt").write_text(text)
+    ran = tabled(work)
+    assert ran.returncode == 1 and ran.stderr.startswith("table.py: ") and ran.stderr.count("\n") == 1
+    assert not (work / "table.tsv").exists()
+
+
+def test_a_folder_without_jobs_has_no_table(tmp_path: Path) -> None:
+    ran = tabled(tmp_path)
+    assert ran.returncode == 1 and "jobs.tsv" in ran.stderr and not list(tmp_path.iterdir())
 
 
 def array(folder: Path, numbers: list[int]) -> tuple[list[str], list[int]]:
