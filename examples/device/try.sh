@@ -14,7 +14,8 @@ work=$(mktemp -d)
 trap 'rm -rf "$work"' EXIT
 mkdir -p "$work/top/examples"
 ln -s "$top/crates" "$top/crates.txt" "$work/top"
-ln -s "$top/examples/c" "$work/top/examples"
+ln -s "$top/tools" "$work/top"
+ln -s "$top/examples/c" "$top/examples/loop" "$top/examples/plant" "$work/top/examples"
 ln -s "$program" "$work/top/flexpret"
 cp -R "$here" "$work/top/examples/device"
 cd "$work/top" || exit 1
@@ -25,6 +26,10 @@ cd "$work/top" || exit 1
 try_command() {
     local made
     if [ "$built" = --built ] && [[ $1 =~ rt\ (check|try|run) ]]; then
+        return 0
+    fi
+    if [[ $1 =~ (^cc|/fp_plant)\  ]] && ! command -v cc >/dev/null; then
+        echo "not tried, since cc isn't installed (Debian: gcc): $1"
         return 0
     fi
     made=$(sed -n 's/.* > \(examples\/device\/[^ ]*\)$/\1/p' <<<"$1")

@@ -10,8 +10,8 @@ from fptools.observed import Kind, Observation, question_of, run_and_observe
 from fptools.observed_text import Text
 from fptools.program import Flexpret
 from fptools.section import walk_all
-from fptools.setup import Setup
-from fptools.visits import Executions, LoopTable, Watched
+from fptools.setup import LoopTable, Setup
+from fptools.visits import Executions, Watched
 
 NAME = "fp_budget"
 

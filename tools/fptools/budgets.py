@@ -1,13 +1,13 @@
 """Bounds of sections against budgets. Whatever isn't certain is unknown, and never taken to hold."""
 from __future__ import annotations
 
-import re
 import tempfile
 from dataclasses import dataclass, field, replace
 from functools import cached_property
 from pathlib import Path
 from typing import Mapping
 
+from fptools.answers import Bound, NoAnswer, read_answer
 from fptools.budget_files import Assumption, Budget, LoopFact, Result, Verdict
 from fptools.elf import Program, ProgramError
 from fptools.loops import StatedLoop, state_loops
@@ -23,7 +23,6 @@ from fptools.words import MRET, OPCODE_AUIPC, OPCODE_JALR
 
 __all__ = ["HELP", "Assumption", "Budget", "Judge", "Result", "Unknown", "Verdict"]
 
-BOUND = re.compile(r"bound (\d+)")
 # What helps against a refusal of the program, by its name.
 HELP = {
     "Nesting": "the loop is entered elsewhere than at its head, or tables overlap: lay the code out by fp_layout, "
@@ -39,7 +38,6 @@ HELP = {
     "NotHard": "the thread doesn't start hard and awake",
     "NoSlot": "no slot is the thread's own",
 }
-REFUSAL = re.compile(r"refused \w+ \d+ (\w+)(?: ([0-9a-f]{8}))?")
 LONG_CALL = (
     "a call by AUIPC and JALR, which the linker didn't shorten, as of clang: compile by -S, or with gcc"
 )
@@ -116,7 +114,7 @@ class Judge:
         except (Unknown, ProgramError) as why:
             return self.unknown(budget, why)
         is_over = budget.cycles is not None and bound > budget.cycles
-        time = bound * self.setup.values["period"]
+        time = bound * self.setup.period
         text = f"{bound} of {budget.cycles} cycles ({time} ns)"
         return Result(
             budget,
@@ -168,16 +166,16 @@ class Judge:
 
     def _answered(self, answer: Answer) -> int:
         """The number that the program writes. A refusal is told with its place and what helps."""
-        found = BOUND.fullmatch(answer.text)
-        if answer.status == 0 and found is not None:
-            return int(found[1])
         text = f"status {answer.status}: {answer.text}"
-        refusal = REFUSAL.fullmatch(answer.text)
-        if refusal is None:
-            raise Unknown(text)
-        at = int(refusal[2], 16) if refusal[2] else None
+        try:
+            found = read_answer(answer.text)
+        except NoAnswer:
+            raise Unknown(text) from None
+        if isinstance(found, Bound):
+            return found.cycles
+        at = found.address
         place = f", {self.where(at)}" if at is not None and self.program.path else ""
-        helps = LONG_CALL if at is not None and self._is_long_call(at) else HELP.get(refusal[1])
+        helps = LONG_CALL if at is not None and self._is_long_call(at) else HELP.get(found.name)
         raise Unknown(text + place + (f": {helps}" if helps else ""))
 
     def _is_long_call(self, pc: int) -> bool:
@@ -242,16 +240,14 @@ class Judge:
     def thread(self, number: int) -> ThreadCode:
         """What a thread may run."""
         if number not in self._threads:
-            tables = self.setup.values.get("thread", [])
-            entry = next((it["entry"] for it in tables if it["id"] == number), 0)
-            self._threads[number] = ThreadCode(self._code, entry)
+            table = self.setup.thread(number)
+            self._threads[number] = ThreadCode(self._code, table.entry if table else 0)
         return self._threads[number]
 
     def _look_at_fetches(self, asked: Asked) -> None:
         """A confined thread fetches in its own and read only regions alone."""
-        name = f"T{asked.budget.thread}"
-        tables = self.setup.values.get("thread", [])
-        if not any(it["id"] == asked.budget.thread and it.get("confined") for it in tables):
+        name, table = f"T{asked.budget.thread}", self.setup.thread(asked.budget.thread)
+        if table is None or not table.confined:
             return
         for pc in (pc for part in asked.parts for pc in part.reached):
             owner = self.setup.region("i_regions", pc)
@@ -275,20 +271,20 @@ class Judge:
 
     def _look_at_writes(self, asked: Asked) -> None:
         """A bound holds until slots, modes or regions are written."""
-        for table in self.setup.values.get("thread", []):
-            if not table.get("permit"):
+        for table in self.setup.threads:
+            if not table.permit:
                 continue
-            write = self.thread(table["id"]).configuration_write
+            write = self.thread(table.id).configuration_write
             if write is None:
                 continue
-            note = f"{self.where(write.pc)}: T{table['id']} has a permit and writes slots, modes or regions"
+            note = f"{self.where(write.pc)}: T{table.id} has a permit and writes slots, modes or regions"
             if not asked.assumes(Assumption.NO_CONFIGURATION_WRITES, note):
                 raise Unknown(f"{note}: no bound is promised from then on")
 
     def stated_loops(self, asked: Asked) -> list[tuple[Section, StatedLoop]]:
         """What is known of the loops of a section and of the functions that it calls."""
         thread = self.thread(asked.budget.thread)
-        entries = {it["entry"] for it in self.setup.values.get("thread", [])}
+        entries = {it.entry for it in self.setup.threads}
         entries |= {it.start for it in self.program.functions} | set(thread.handlers(asked.begin))
         found = [
             (part, stated)
@@ -301,11 +297,8 @@ class Judge:
 
     def table_of(self, part: Section, loop: Loop) -> int | None:
         """The bound of the setup's table of a loop."""
-        tables = self.setup.values.get("loop", [])
-        bounds = (
-            it["bound"] for it in tables if it["head"] == loop.head and loop.last <= it["last"] < part.end
-        )
-        return next(bounds, None)
+        own = (it for it in self.setup.loops if it.head == loop.head and loop.last <= it.last < part.end)
+        return next((it.bound for it in own), None)
 
     def _look_at_loops(self, asked: Asked) -> None:
         """Each loop's table is at least what the code counts, or the sources state where it doesn't."""

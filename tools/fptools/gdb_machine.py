@@ -4,7 +4,7 @@ The position is a cycle: all issues before it are complete, and none from it on 
 from __future__ import annotations
 
 from dataclasses import dataclass
-from typing import Any, Iterable, Mapping
+from typing import Iterable, Mapping
 
 from fptools.dump import THREADS, Dump
 from fptools.gdb_history import WINDOW, History, event_in
@@ -68,7 +68,7 @@ class Machine:
     @property
     def period(self) -> int:
         """Nanoseconds of a cycle."""
-        return int(self.setup.values["period"])
+        return self.setup.period
 
     @property
     def time(self) -> int:
@@ -135,7 +135,8 @@ class Machine:
 
     def _entry(self, thread: int) -> int:
         """Where a thread begins."""
-        return next((int(it["entry"]) for it in _tables(self.setup) if it["id"] == thread), 0)
+        table = self.setup.thread(thread)
+        return table.entry if table else 0
 
     def value(self, thread: int, register: Register, number: int) -> int | None:
         """The value of a register by its number for gdb."""
@@ -176,8 +177,8 @@ class Machine:
         return None
 
     def _has_port(self, thread: int) -> bool:
-        gone = next((it.get("unplug") for it in _tables(self.setup) if it["id"] == thread), None)
-        return gone is None or self.now < int(gone)
+        table = self.setup.thread(thread)
+        return table is None or table.unplug is None or self.now < table.unplug
 
     def wakes(self, thread: int) -> int | None:
         """The moment until which a thread sleeps by WU, in nanoseconds; None where it doesn't."""
@@ -213,18 +214,12 @@ class Machine:
         return ", ".join(parts)
 
 
-def _tables(setup: Setup) -> list[dict[str, Any]]:
-    return list(setup.values.get("thread", []))
-
-
 def _may_run(setup: Setup) -> Iterable[int]:
     """The threads that may ever issue. Without a permit nobody wakes one that starts asleep."""
-    tables = _tables(setup)
-    if any(it.get("permit") for it in tables):
+    if setup.has_permits:
         return range(THREADS)
-    slots = setup.values["slots"]
-    awake = [it for it in tables if it["mode"] in ("hard", "soft")]
-    return [int(it["id"]) for it in awake if it["mode"] == "soft" or f"T{it['id']}" in slots]
+    awake = [it for it in setup.threads if it.mode in ("hard", "soft")]
+    return [it.id for it in awake if it.mode == "soft" or f"T{it.id}" in setup.slots]
 
 
 def _behind(event: Event) -> int | None:

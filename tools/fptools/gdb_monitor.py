@@ -1,6 +1,7 @@
 """The commands of `monitor` in gdb: cycles, the pipeline, bounds, and times of the threads."""
 from __future__ import annotations
 
+import re
 from dataclasses import dataclass
 from typing import Callable, Iterator, Sequence
 
@@ -13,6 +14,7 @@ from fptools.gdb_state import SHOWN_LATER
 from fptools.section import walk
 from fptools.visits import Watched
 
+CYCLE = re.compile("[0-9]{1,20}")
 HELP = """\
 monitor cycle         the cycle in which the machine stands
 monitor cycle N       the next `continue` goes to cycle N, forwards or backwards, and stops there
@@ -57,7 +59,7 @@ class Monitor:
         yield HELP
 
     def _cycle(self, words: Sequence[str], thread: int) -> Iterator[str]:
-        if len(words) > 1 or words and not words[0].isdecimal():
+        if len(words) > 1 or words and not CYCLE.fullmatch(words[0]):
             raise Misuse("takes one number")
         if words and int(words[0]) > self.machine.end:
             raise Misuse(

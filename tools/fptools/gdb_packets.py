@@ -107,7 +107,10 @@ class Connection:
             raise Interrupted
 
     def _read(self) -> None:
-        data = os.read(self._source, READ_BYTES)
+        try:
+            data = os.read(self._source, READ_BYTES)
+        except ConnectionError as fault:
+            raise Gone from fault
         if not data:
             raise Gone
         self._buffer += data
@@ -116,7 +119,7 @@ class Connection:
         try:
             while data:
                 data = data[os.write(self._sink, data) :]
-        except BrokenPipeError as fault:
+        except ConnectionError as fault:
             raise Gone from fault
 
     def _next(self) -> bytes | None:

@@ -33,6 +33,11 @@ NUMBERS = tuple(f"{thread + 1:x}" for thread in range(THREADS))  # of gdb's thre
 ANY_THREAD = ("", "0", "-1")
 
 
+def refusal(text: str) -> bytes:
+    """An answer that gdb shows as an error."""
+    return f"E.{text}".encode("utf-8", "replace")
+
+
 class Ended(Exception):
     """gdb has ended the session; the last answer stands with it."""
 
@@ -83,9 +88,9 @@ class Server:
                 return
             except ValueError:
                 reply = NO_SUCH
-            except RunFailed as fault:
+            except (RunFailed, OSError) as fault:
                 print(f"{NAME}: {fault}", file=sys.stderr)
-                reply = f"E.{fault}".encode()
+                reply = refusal(str(fault))
             self.connection.send(reply)
             if packet == "QStartNoAckMode":
                 self.connection.acknowledges = False

@@ -73,10 +73,11 @@ def refusals(setup: Setup) -> list[Said]:
 
 
 def read_valid(path: Path) -> Setup:
-    """A setup that the program takes; another one is a `ValueError`."""
+    """A setup that the program takes; another one is a `ValueError`, with the line and key of a fault."""
     setup = read_setup(path)
-    if refusals(setup):
-        raise ValueError(f"{path} is refused; fp_lint says why")
+    if said := refusals(setup):
+        _, key, text = said[0]
+        raise ValueError(f"{path}:{setup.line(key) or 1}: {spelled(key)}: {text}")
     return setup
 
 

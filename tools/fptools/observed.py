@@ -16,12 +16,12 @@ from typing import IO, Collection, Iterator, Mapping, Sequence
 from fptools.trace_blocks import Block, BrokenTrace, Progress, Source, TraceReader, address
 from fptools.program import Flexpret
 from fptools.section import walk
-from fptools.setup import Setup
+from fptools.setup import LoopTable, Setup
 from fptools.turns import Turns, is_delay, turns_of
 
 from fptools.visits import (
-    MOST_KEPT, CallMeter, Executions, LoopMeter, LoopTable, Meter, Rounds, SectionMeter, Trapped, TrapMeter,
-    Wait, WaitJudge, WaitMeter, Watched, earliest_issue, measure,
+    MOST_KEPT, CallMeter, Executions, LoopMeter, Meter, Rounds, SectionMeter, Trapped, TrapMeter, Wait,
+    WaitJudge, WaitMeter, Watched, earliest_issue, measure,
 )  # fmt: skip
 
 PIPE_BYTES = 1 << 20
@@ -124,11 +124,6 @@ def spelled_loop(table: LoopTable) -> str:
     return f"{table.head:#x} to {table.last:#x}"
 
 
-def tables_of(setup: Setup) -> list[LoopTable]:
-    """The loops that a setup states."""
-    return [LoopTable(it["head"], it["last"], it["bound"]) for it in setup.values.get("loop", [])]
-
-
 def loops_without_table(
     watched: Collection[Watched], code: Mapping[int, int], stated: Collection[LoopTable]
 ) -> list[LoopTable]:
@@ -147,10 +142,9 @@ def loops_without_table(
 def question_of(setup: Setup, thread: int, watched: Sequence[Watched], code: Mapping[int, int]) -> Question:
     """What to look at in a run of a setup: sections, and all loops that its tables or the sections' code
     have."""
-    stated = tables_of(setup)
-    loops = [*stated, *loops_without_table(watched, code, stated)]
-    is_quiet = not any(it.get("permit") for it in setup.values.get("thread", []))
-    return Question(thread, watched, loops, turns_of(setup, thread), setup.values["period"], code, is_quiet)
+    loops = [*setup.loops, *loops_without_table(watched, code, setup.loops)]
+    is_quiet = not setup.has_permits
+    return Question(thread, watched, loops, turns_of(setup, thread), setup.period, code, is_quiet)
 
 
 class TurnMeter:

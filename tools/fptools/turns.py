@@ -32,11 +32,10 @@ class Turns:
 def turns_of(setup: Setup, thread: int) -> Turns | None:
     """The turns of a thread, where they are the same in each run: it starts hard and awake, and nobody
     has a permit."""
-    threads = setup.values.get("thread", [])
-    own = next((it for it in threads if it["id"] == thread), None)
-    if own is None or own["mode"] != "hard" or any(it.get("permit") for it in threads):
+    own = setup.thread(thread)
+    if own is None or own.mode != "hard" or setup.has_permits:
         return None
-    frame = [slot for slot in setup.values["slots"] if slot != DISABLED]
+    frame = [slot for slot in setup.slots if slot != DISABLED]
     positions = frozenset(at for at, slot in enumerate(frame) if slot == f"T{thread}")
     return Turns(positions, len(frame)) if positions else None
 

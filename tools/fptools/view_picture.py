@@ -94,7 +94,10 @@ class Picture:
         self._first, self._shape, self._marks, self._names = first, shape, marks, names
         self._passages = [it for it in passages_of(marks, self._rows) if it.thread in shape.threads]
         self._points = [it for it in points_of(marks, self._rows) if it.thread in shape.threads]
-        self._strip = STRIP if self._passages or self._points else 0
+        # Below a thread's cells each mark that it may meet has a strip of its own.
+        marked = sorted({it.mark for it in self._passages} | {it.mark for it in self._points})
+        self._strips = {mark: place * STRIP for place, mark in enumerate(marked)}
+        self._strip = STRIP * len(marked)
         self._bottom = TOP + len(shape.threads) * (shape.cell + 2 + self._strip)
 
     def text(self) -> str:
@@ -117,6 +120,10 @@ class Picture:
 
     def _x(self, cycle: float) -> float:
         return LEFT + (cycle - self._first) * self._shape.column
+
+    def _strip_y(self, thread: int, mark: int) -> int:
+        """Where the strip of a mark begins."""
+        return self._y(thread) + self._shape.cell + 3 + self._strips[mark]
 
     def _y(self, thread: int) -> int:
         place = list(self._shape.threads).index(thread)
@@ -226,7 +233,7 @@ class Picture:
             title = f"{self._marks[number].text}: {at} ns"
             yield _path("p", self._x(at / period), 28, self._bottom, title)
         for point in self._points:
-            y = self._y(point.thread) + self._shape.cell + 3
+            y = self._strip_y(point.thread, point.mark)
             title = f"{self._marks[point.mark].text}, cycle {point.cycle}"
             yield _box("m", self._x(point.cycle), y, self._shape.column, STRIP - 3, title)
         for passage in self._passages:
@@ -234,7 +241,7 @@ class Picture:
 
     def _passage(self, passage: Passage) -> Iterator[str]:
         """The bar of an execution under its thread's cells, and its deadline."""
-        name, y = self._marks[passage.mark].text, self._y(passage.thread) + self._shape.cell + 3
+        name, y = self._marks[passage.mark].text, self._strip_y(passage.thread, passage.mark)
         if passage.begin is None:
             assert passage.end is not None
             title = f"{name}: its end, cycle {passage.end}"

@@ -13,6 +13,7 @@ from enum import Enum, auto
 from functools import lru_cache
 from typing import Callable, Collection, Iterable, Iterator, Mapping, Protocol
 
+from fptools.setup import LoopTable
 from fptools.trace_blocks import (
     BITS, EFFECT, PC, Block, TraceReader, address, character, class_of, span, trap_character,
 )  # fmt: skip
@@ -120,15 +121,6 @@ class Executions:
         bound = self.watched.bound
         if bound is not None and cycles > bound and len(self.over) < MOST_KEPT:
             self.over.append((cycle, cycles))
-
-
-@dataclass(frozen=True)
-class LoopTable:
-    """A loop by its first and last word, and how often a table says that it goes back, at most."""
-
-    head: int
-    last: int
-    bound: int | None = None
 
 
 @dataclass

@@ -362,4 +362,4 @@ def test_a_refused_setup(asking: Tool, tmp_path: Path) -> None:
     setup = tmp_path / "setup.toml"
     setup.write_text((TOP / "examples/nest.toml").read_text().replace("period = 10", "period = 0"))
     status, lines = judged(asking, tmp_path, (str(setup),), section("0x8", "0x20"))
-    assert (status, lines) == (2, [f"fp_budget: {setup} is refused; fp_lint says why"])
+    assert (status, lines) == (2, [f"fp_budget: {setup}:10: period: 0 is less than the minimum of 1"])

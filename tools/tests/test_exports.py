@@ -100,6 +100,15 @@ def test_a_door_hands_on_what_its_definitions_use(tmp_path: Path) -> None:
     assert ran(tree(tmp_path, "pub struct Part;", "pub mod Own\npub use Rattle.low.specs.Limit\n", specs, "flexpret_top")).returncode == 0
 
 
+def test_names_that_stand_one_on_a_line_are_read(tmp_path: Path) -> None:
+    names = "use Rattle.low.specs.Limit.{\n  limit,\n  least,\n}\nabbrev pub twice : ℕ\ntwice = limit\n"
+    specs = {"specs/Own.antt": f"-- twice the limit\n{names}"}
+    found = ran(tree(tmp_path, "pub struct Part;", "pub mod Own\n", specs, "flexpret_top"))
+    assert found.returncode == 1
+    told = "crates/flexpret_top/specs/Own.antt:2: a definition cites `limit, least`"
+    assert told in found.stdout
+
+
 def test_a_missing_tree_is_an_error(tmp_path: Path) -> None:
     found = ran(tmp_path / "none")
     assert found.returncode == 2

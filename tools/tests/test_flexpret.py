@@ -1,6 +1,7 @@
 """The scripts ./flexpret and ./flexpret-view, over a program and an `rt` of the test's own."""
 from __future__ import annotations
 
+import fcntl
 import os
 import random
 import re
@@ -160,6 +161,24 @@ def test_the_longest_chain_comes_first(checkout: Checkout) -> None:
     assert ran.stdout == "b True\n"
 
 
+def test_a_crate_that_all_wait_for_gets_a_second_job(checkout: Checkout) -> None:
+    (checkout.folder / "crates.txt").write_text("a:\nb:\nc: b\nd: c\nflexpret_cli: a d\n")
+    for name in ("a", "b", "c", "d"):
+        (checkout.folder / "crates" / name / "src").mkdir(parents=True, exist_ok=True)
+        (checkout.folder / "crates" / name / "src/lib.rt").write_text(" " * 20000)
+    command = "import sys; sys.path.insert(0, 'tools'); from fplaunch import build; from pathlib import Path;"
+    command += " build.free_memory = lambda: int(sys.argv[1]) << 30; plan = build.Plan(build.Checkout(Path('.'), 'flexpret_cli'), int(sys.argv[2]));"
+    command += " print(plan.jobs_of('b', 3), plan.jobs_of('a', 3), plan.jobs_of('d', 0))"
+
+    def counts(gigabytes: int, at_once: int) -> str:
+        words = [sys.executable, "-c", command, str(gigabytes), str(at_once)]
+        return subprocess.run(words, cwd=checkout.folder, capture_output=True, text=True, check=True).stdout
+
+    assert counts(16, 2) == "2 1 2\n"
+    assert counts(4, 2) == "1 1 2\n", "a second job takes memory"
+    assert counts(16, 1) == "1 1 1\n"
+
+
 def test_nothing_is_built_twice_until_a_source_changes(either: Checkout) -> None:
     either.build()
     assert not either.builds()
@@ -275,6 +294,38 @@ def test_a_second_call_waits_for_the_build_of_the_first(either: Checkout) -> Non
     _, said = second.communicate(timeout=60)
     assert (second.returncode, said, first.wait(60)) == (0, "", 0)
     assert either.log.read_text().count("lib low\n") == 1
+
+
+def test_a_build_waits_for_an_rt_that_works_in_the_checkout(either: Checkout) -> None:
+    held = os.open(either.out.parent, os.O_RDONLY)
+    fcntl.flock(held, fcntl.LOCK_EX)
+    script = either.start()
+    assert script.stderr
+    assert "isn't built yet" in script.stderr.readline()
+    assert script.stderr.readline() == f"{either.script}: an rt works in this checkout: waiting for it\n"
+    assert not either.log.exists()
+    os.close(held)
+    script.communicate(timeout=60)
+    assert script.returncode == 0
+
+
+def test_each_crate_is_proved_in_a_folder_of_its_own(either: Checkout) -> None:
+    """`rt` locks the folders of all crates below, so two proofs in one checkout would wait for each other."""
+    noted = either.folder / "noted"
+    rt = either.folder / "bin/rt"
+    rt.write_text(f"""#!/bin/sh
+[ "$1" = lib ] && {{ pwd -P; cat ../../crates.txt; ls .. ; ls ../low/out out; }} >{noted}-${{PWD##*/}} 2>/dev/null
+[ "$1" = lib ] && {{ mkdir -p out/rlib out/incremental; echo "${{PWD##*/}}" >out/rlib/stamp; echo >out/incremental/work; }}
+{RT.removeprefix("#!/bin/sh")}""")
+    either.build()
+    folder, *rest = Path(f"{noted}-middle").read_text().splitlines()
+    assert folder == f"{either.out}/trees/middle/crates/middle"
+    assert rest == ["beside:", "low:", "middle: low beside arrayvec", "beside", "low", "middle", "../low/out:", "rlib"]
+    assert not list((either.out / "trees").iterdir())
+    crates = either.folder / "crates"
+    for crate in ("low", "beside", "middle"):
+        assert (crates / crate / "out/rlib/stamp").read_text() == f"{crate}\n"
+        assert (crates / crate / "out/incremental/work").exists()
 
 
 def test_a_build_that_is_broken_off_goes_on(either: Checkout) -> None:

@@ -2,6 +2,7 @@
 from __future__ import annotations
 
 import random
+import shutil
 import signal
 import struct
 import subprocess
@@ -324,6 +325,8 @@ def test_monitor(pid: Client) -> None:
     for text, said in (
         ("cycle 20001", "this run ends at cycle 20000"),
         ("cycle x", "takes one number"),
+        ("cycle \u0663", "takes one number"),
+        ("cycle " + "9" * 5000, "takes one number"),
         ("bound 0", "takes two addresses"),
         ("bound 8 4", "isn't above"),
         ("bound nobody 4", "nobody is no symbol"),
@@ -450,6 +453,35 @@ def test_a_step_a_million_cycles_in_is_quick(flexpret: str) -> None:
         assert sorted(times)[10] < 0.2, times
 
 
+def no_runs(folder: Path, flexpret: str) -> Path:
+    """A program that has no runs."""
+    script = folder / "no-runs"
+    script.write_text(f'#!/bin/sh\n[ "$1" != run ] || exit 9\nexec {flexpret} "$@"\n')
+    script.chmod(0o755)
+    return script
+
+
+def test_a_name_that_is_no_text_is_told(flexpret: str, tmp_path: Path) -> None:
+    setup = tmp_path / "\udcff.toml"
+    setup.write_text("period = 0")
+    with Client(flexpret, setup, acknowledges=True) as client:
+        client.write(framed(b"qSupported:swbreak+"))
+        assert "?.toml:1: " in client.answer()
+        assert client.child.wait(10) == 2
+
+
+def test_a_program_that_is_gone_ends_no_session(flexpret: str, tmp_path: Path) -> None:
+    program = tmp_path / "flexpret"
+    shutil.copy(flexpret, program)
+    with Client(str(program), PID) as client:
+        client.ask("vCont;s:1")
+        program.unlink()
+        assert client.go_to(9_000_000).startswith("E.")
+        bound = f"qRcmd,{f'bound {STEP_BEGIN} {STEP_END}'.encode().hex()}"
+        assert client.ask(bound).startswith("E.[Errno 2]")
+        assert client.registers(0)["cycle"] == 1
+
+
 def test_a_refusal_goes_to_gdb_and_to_standard_error(flexpret: str, tmp_path: Path) -> None:
     bad = tmp_path / "bad.toml"
     bad.write_text((TOP / PID).read_text().replace('"S", "T1"', '"X", "T1"'))
@@ -464,6 +496,9 @@ def test_a_refusal_goes_to_gdb_and_to_standard_error(flexpret: str, tmp_path: Pa
         (TOP / PID, ["--elf", PID], "is no ELF file"),
         (TOP / PID, ["--flexpret", str(tmp_path / "no")], "No such file"),
         (TOP / PID, ["--flexpret", "/bin/false"], "status 1"),
+        (TOP / PID, ["--flexpret", str(no_runs(tmp_path, flexpret))], "--thread 0 --cycles"),
+        (tmp_path, [], "Is a directory"),
+        (TOP / PID, ["--elf", str(tmp_path)], "Is a directory"),
     ]
     for setup, options, said in cases:
         with Client(flexpret, setup, *options, acknowledges=True) as client:

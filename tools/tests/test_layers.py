@@ -83,7 +83,7 @@ def test_a_right_page_is_taken(top: Path) -> None:
 def test_another_drawing_is_reported_and_then_written(top: Path) -> None:
     page_of(top).write_text(PAGE.format(drawn="low   bottom\n"))
     status, text = ran(top, "--check")
-    assert status == 1 and "layers.py writes it anew" in text
+    assert status == 1 and "layers.py writes it again" in text
     assert page_of(top).read_text() == PAGE.format(drawn="low   bottom\n")
     assert ran(top)[0] == 0
     assert page_of(top).read_text() == PAGE.format(drawn=DRAWN)

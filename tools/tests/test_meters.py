@@ -11,9 +11,9 @@ import pytest
 from fptools import trace_blocks
 from fptools.trace_blocks import TraceReader
 from fptools.observed import Question, observe
-from fptools.setup import read_setup
+from fptools.setup import LoopTable, read_setup
 from fptools.turns import turns_of
-from fptools.visits import LoopTable, Watched
+from fptools.visits import Watched
 from modelled import Issue, Made, issues_of, make, trace_of
 
 MRET, RETURN = 0x30200073, 0x00008067

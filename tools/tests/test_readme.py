@@ -14,13 +14,16 @@ INDENT, PROMPT = "    ", "    $ "
 
 
 def shown() -> list[tuple[str, list[str]]]:
-    """The commands in their order, each with the lines under it."""
+    """The commands in their order, each with the lines under it. A command may go on up to END."""
     blocks: list[tuple[str, list[str]]] = []
-    is_open = False
+    is_open = is_input = False
     for line in (TOOLS / "README.md").read_text().splitlines():
-        if line.startswith(PROMPT):
+        if is_input:
+            blocks[-1] = f"{blocks[-1][0]}\n{line.removeprefix(INDENT)}", []
+            is_input = line != f"{INDENT}END"
+        elif line.startswith(PROMPT):
             blocks.append((line.removeprefix(PROMPT), []))
-            is_open = True
+            is_open, is_input = True, line.endswith("<<'END'")
         elif is_open and (line.startswith(INDENT) or not line):
             blocks[-1][1].append(line.removeprefix(INDENT))
         else:
@@ -43,7 +46,7 @@ def test_each_command_writes_what_is_shown(flexpret: str, tmp_path: Path) -> Non
     (tmp_path / "bin/python3").chmod(0o755)
     environment = {**os.environ, "FLEXPRET": flexpret, "PATH": f"{tmp_path}/bin:{os.environ['PATH']}"}
     blocks = shown()
-    assert len(blocks) == 7
+    assert len(blocks) == 10
     for command, lines in blocks:
         ran = subprocess.run(
             ["bash", "-c", command],

@@ -230,7 +230,7 @@ def test_a_budget_that_does_not_hold_has_its_reason(
     "change, said",
     [
         ({"setup": "nowhere.toml"}, "nowhere.toml"),
-        ({"setup": "period = 0"}, "setup.toml is refused; fp_lint says why"),
+        ({"setup": "period = 0"}, "setup.toml:1: image: 'image' is a required property"),
         ({"setup": "period ="}, "setup.toml:1: Invalid value"),
         ({"budgets": "nowhere.toml"}, "nowhere.toml"),
         ({"budgets": "[[budget]]\nname = 1"}, "budgets.toml: budget[0]"),

@@ -108,7 +108,7 @@ def test_a_setup_that_is_refused_gives_no_period(tool: Tool, tmp_path: Path) -> 
     assert (ran.returncode, ran.stdout, ran.stderr) == (
         2,
         "",
-        f"fp_trace: {setup} is refused; fp_lint says why\n",
+        f"fp_trace: {setup}:6: period: '10' is not of type 'integer'\n",
     )
 
 

@@ -12,8 +12,11 @@ from xml.etree import ElementTree
 import pytest
 from conftest import TOP, Tool
 from fptools.elf import Program
+from fptools.sources import Sources
 from fptools.trace import Event, read_trace
 from fptools.view_marks import Mark, mark_of, passages_of, periods_of
+from fptools.view_names import Names
+from fptools.view_picture import Picture, Shape
 from fptools.view_rows import Row, Turn, turn_of
 
 sys.path.append(str(TOP / "bench"))
@@ -361,6 +364,21 @@ def test_sections_by_their_issues() -> None:
         (0, 109, None, 115),
     ]
     assert [it.cycles for it in found] == [None, 4, None, 6, None]
+
+
+def test_marks_of_a_thread_are_drawn_beside_each_other() -> None:
+    """Sections in each other, and an address, which have cycles in common."""
+    rows = [row(cycle, issue(4 * cycle)) for cycle in range(8)]
+    marks = [mark_of(text, Program()) for text in ("4:0x18=3", "8:0x10", "0x10")]
+    picture = Picture(rows, 0, Shape([0, 1]), marks, Names(Program(), Sources(None)))
+    drawn = ElementTree.fromstring(picture.text()).iter(f"{SPACE}rect")
+    boxes = [it for it in drawn if it.get("class") in ("s", "m")]
+    tops = [(float(it.attrib["y"]), float(it.attrib["height"])) for it in boxes]
+    assert len(tops) == 3
+    for (top, height), (after, _) in zip(sorted(tops), sorted(tops)[1:]):
+        assert top + height <= after
+    second = [it for it in ElementTree.fromstring(picture.text()).iter(f"{SPACE}text") if it.text == "T1"]
+    assert max(top + height for top, height in tops) <= float(second[0].attrib["y"])
 
 
 def test_a_section_from_an_address_to_itself_is_a_period() -> None:

@@ -158,8 +158,7 @@ class Page:
 
     @property
     def period(self) -> int:
-        period: int = self.findings.setup.values["period"]
-        return period
+        return self.findings.setup.period
 
     @cached_property
     def cards(self) -> list[Card]:
@@ -190,8 +189,7 @@ class Page:
 
     @property
     def permits(self) -> list[int]:
-        tables = self.findings.setup.values.get("thread", [])
-        return [it["id"] for it in tables if it.get("permit")]
+        return [it.id for it in self.findings.setup.threads if it.permit]
 
     @property
     def scratchpads(self) -> list[tuple[str, list[Region]]]:
@@ -205,8 +203,8 @@ class Page:
     def _places(self) -> list[Place]:
         """The first words of threads and of sections."""
         names, starts = names_at(self.findings.program), defaultdict[int, list[str]](list)
-        for it in self.findings.setup.values.get("thread", []):
-            starts[it["entry"]].append(f"T{it['id']}")
+        for it in self.findings.setup.threads:
+            starts[it.entry].append(f"T{it.id}")
         places = [
             Place(at, f"{names.get(at, hex(at))}: start of {', '.join(sorted(own))}")
             for at, own in sorted(starts.items())

@@ -64,7 +64,7 @@ class Place:
 def slots_of(setup: Setup) -> list[Slot]:
     """The eight slots in their order."""
     slots, place = [], 0
-    for number, owner in enumerate(setup.values["slots"]):
+    for number, owner in enumerate(setup.slots):
         is_used = owner != DISABLED
         text = SLOT_TEXTS.get(owner, f"thread {owner[1:]}")
         slots.append(Slot(number, owner, text, place if is_used else None))
@@ -88,18 +88,10 @@ def regions_of(
 
 def threads_of(setup: Setup, names: Mapping[int, str]) -> list[Thread]:
     """The threads that the setup has tables of; `names` are those of their entries."""
-    slots = setup.values["slots"]
     found = []
-    for it in sorted(setup.values.get("thread", []), key=lambda table: int(table["id"])):
-        name = names.get(it["entry"], "")
-        rights = (
-            "confined"
-            if it.get("confined")
-            else "has a permit"
-            if it.get("permit")
-            else "not confined"
-        )
-        entry = f"{it['entry']:#x} {name}".rstrip()
-        own = slots.count(f"T{it['id']}")
-        found.append(Thread(it["id"], it["mode"], entry, rights, own, len(it.get("inputs", []))))
+    for it in sorted(setup.threads, key=lambda table: table.id):
+        rights = "confined" if it.confined else "has a permit" if it.permit else "not confined"
+        entry = f"{it.entry:#x} {names.get(it.entry, '')}".rstrip()
+        own = setup.slots.count(f"T{it.id}")
+        found.append(Thread(it.id, it.mode, entry, rights, own, len(it.inputs)))
     return found

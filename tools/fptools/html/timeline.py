@@ -86,7 +86,7 @@ class Painter:
     def painted(self, window: Span, executions: Sequence[tuple[int, Span, str]]) -> Timeline:
         """The timeline of a window, with executions by their threads, spans and names."""
         rows, issued = [], {}
-        modes = {it["id"]: it["mode"] for it in self._setup.values.get("thread", [])}
+        modes = {it.id: it.mode for it in self._setup.threads}
         for thread in THREADS:
             (issues,) = read_issues(self._flexpret, self._setup, thread, [window], self._name)
             if not issues and thread not in modes:
@@ -99,7 +99,7 @@ class Painter:
         data = {
             "start": window.start,
             "cycles": window.cycles,
-            "period": self._setup.values["period"],
+            "period": self._setup.period,
             "frame": self.frame(),
             "rows": [self._issues(thread, issues, window) for thread, issues in issued.items()],
             "words": self._texts,
@@ -109,9 +109,9 @@ class Painter:
 
     def frame(self) -> list[str]:
         """The owners of the slots that repeat; none where a permit may change them."""
-        if any(it.get("permit") for it in self._setup.values.get("thread", [])):
+        if self._setup.has_permits:
             return []
-        return [slot for slot in self._setup.values["slots"] if slot != DISABLED]
+        return [slot for slot in self._setup.slots if slot != DISABLED]
 
     def _issues(self, thread: int, issues: Sequence[Issue], window: Span) -> dict[str, Any]:
         """The cycles of issues, each from the one before, with their words and effects."""
