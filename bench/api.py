@@ -20,7 +20,7 @@ from source import Source
 TOP = Path(__file__).resolve().parent.parent
 LIST = TOP / 'docs/dev/API.txt'
 REFUSALS = TOP / 'crates/trace_print/specs/Refusals.antt'
-STATUSES = TOP / 'crates/flexpret_top/specs/Status.antt'
+STATUSES = TOP / 'crates/command_files/specs/Status.antt'
 HEAD = '''\
 Each public signature, field, variant and number of the crates, lowest crate first. It is made by bench/api.py from the
 sources; the gate compares. `..` stands for private fields. What a call promises is its contract, in the sources.

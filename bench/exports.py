@@ -23,8 +23,8 @@ TOP = Path(__file__).resolve().parent.parent
 DOORS = ('flexpret_top',)
 """The crates that programs name alone in crates.txt."""
 
-USE = re.compile(r'use Rattle\.(?P<path>[\w.]+)\.\{(?P<names>.*)\}')
-"""A line of a file of definitions that brings in definitions of another one."""
+USE = re.compile(r'^use Rattle\.(?P<path>[\w.]+)\.\{(?P<names>[^}]*)\}', re.M)
+"""What brings definitions of another file into a file of definitions, on one line or on several."""
 
 
 @dataclass(frozen=True)
@@ -193,14 +193,16 @@ def missing_below(top: Path, crate: str, crates: set[str]) -> Iterator[Missing]:
     handed_on = reexported(folder)
     seen: set[tuple[str, ...]] = set()
     for file in sorted((folder / 'specs').glob('*.antt')):
-        for number, line in enumerate(file.read_text().splitlines(), 1):
-            found = USE.match(line)
-            path = tuple(found['path'].split('.')) if found else ()
-            if (not found or path[0] == crate or path[0] not in crates or path in seen
+        text = file.read_text()
+        for found in USE.finditer(text):
+            path = tuple(found['path'].split('.'))
+            if (path[0] == crate or path[0] not in crates or path in seen
                     or any(path[:len(use)] == use for use in handed_on)):
                 continue
             seen.add(path)
-            yield Missing(crate, file.relative_to(top), number, 'a definition', found['names'], path)
+            names = ', '.join(name.strip() for name in found['names'].split(',') if name.strip())
+            number = text.count('\n', 0, found.start()) + 1
+            yield Missing(crate, file.relative_to(top), number, 'a definition', names, path)
 
 
 def crates_of(top: Path) -> list[str]:

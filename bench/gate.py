@@ -60,6 +60,7 @@ COMMANDS = {
     'chromium': 'chromium',
     'chromedriver': 'chromium-driver',
     'gdb-multiarch': 'gdb-multiarch',
+    'emacs': 'emacs-nox',
 }
 """What the tests call, and the Debian packages that have it."""
 
@@ -132,6 +133,7 @@ def parts(jobs: int) -> list[Part]:
     return [
         *(Part(text[0], ['{python}', *text], programs=False) for text in texts if (TOP / text[0]).is_file()),
         Part('bench/layers.py', ['{python}', 'bench/layers.py', '--check'], modules=['networkx'], programs=False),
+        Part('bench/lines.py', ['{python}', 'bench/lines.py', '--check'], programs=False),
         Part('tables of the model', ['{python}', '-m', 'model.tables.check'], commands=['riscv64-unknown-elf-as', 'qemu-riscv32'],
              programs=False),
         pytest('tools', 'tools/tests', jobs),
@@ -148,6 +150,7 @@ def parts(jobs: int) -> list[Part]:
         Part('examples/pages.sh', ['examples/pages.sh']),
         Part('examples/c/try.sh', ['examples/c/try.sh'], commands=['make', 'riscv64-unknown-elf-gcc']),
         Part('examples/loop/try.sh', ['examples/loop/try.sh']),
+        Part('examples/plant/try.sh', ['examples/plant/try.sh'], commands=['cc']),
         Part('examples/c/debug.sh', ['examples/c/debug.sh'], commands=['make', 'riscv64-unknown-elf-gcc', 'gdb-multiarch']),
         Part('examples/device/try.sh', ['examples/device/try.sh', '--built']),
         Part('examples/sweep/try.sh', ['examples/sweep/try.sh'], commands=['parallel']),

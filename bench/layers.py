@@ -24,7 +24,7 @@ import networkx
 TOP = Path(__file__).resolve().parent.parent
 LIST = "crates.txt"
 PAGE = "docs/dev/ARCHITECTURE.md"
-LONGEST = 11
+LONGEST = 10
 """The most crates of a chain in which each uses the next: the gate proves one after the other."""
 
 DRAWING = re.compile(r"(?<=<!-- made by bench/layers.py -->\n```\n).*?(?=^```$)", re.M | re.S)
@@ -122,7 +122,7 @@ def main(arguments: list[str]) -> int:
     elif not found and not options.check:
         page.write_text(DRAWING.sub(lambda _: drawing(crates), text))
     elif not found and DRAWING.findall(text) != [drawing(crates)]:
-        found.append(f"{PAGE} has another drawing: bench/layers.py writes it anew")
+        found.append(f"{PAGE} has another drawing: bench/layers.py writes it again")
     for fault in found:
         print(f"layers.py: {fault}", file=sys.stderr)
     if found:
