@@ -107,6 +107,16 @@ class TablePlant:
         return self.table[(last + 3 * before) % len(self.table)]
 
 
+@dataclass(frozen=True)
+class RecordedPlant:
+    """A sampled plant by recorded words: after some steps it shows the word of that number, or the last one."""
+
+    recorded: tuple[int, ...]
+
+    def __call__(self, words: Sequence[int]) -> int:
+        return self.recorded[min(len(words), len(self.recorded) - 1)]
+
+
 def saturated(value: int) -> int:
     """A number as the nearest of 32 bits, signed."""
     return max(-(1 << 31), min((1 << 31) - 1, value))

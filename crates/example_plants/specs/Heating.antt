@@ -1,7 +1,7 @@
 -- A heated body and a sensor in it. Temperatures and heating have 16 bits after the binary point.
 use Rattle.std.specs.Prelude.{ℕ, ℤ, pos, ◌-◌, ◌==◌, ◌-ℤ◌, if◌then◌else◌, List, fold}
 use Rattle.std.specs.Int.{w32, saturate_signed, cast_signed, cast_unsigned}
-use Rattle.example_plants.specs.Lag.{lagged}
+use Rattle.example_plants.specs.Lag.{lag_step}
 
 -- a body between two steps
 pub record Heated : Type 0 where
@@ -22,9 +22,9 @@ abbrev pub after : Heated → ℕ → Heated
 after heated word =
     let unloaded = heated.unloaded - 1 in
     let heat = saturate_signed w32 (cast_signed w32 word -ℤ load unloaded) in
-    let body = lagged heated.body heat 7 in
-    record { body = body; sensor = lagged heated.sensor body 3; unloaded = unloaded }
+    let body = lag_step heated.body heat 7 in
+    record { body = body; sensor = lag_step heated.sensor body 3; unloaded = unloaded }
 
 -- the sensor's temperature after steps that take these words
-abbrev pub measured : Heated → List ℕ → ℕ
-measured heated words = cast_unsigned w32 (fold after heated words).sensor
+abbrev pub sensor_word : Heated → List ℕ → ℕ
+sensor_word heated words = cast_unsigned w32 (fold after heated words).sensor

@@ -2,3 +2,4 @@ pub mod Lag
 pub mod Heating
 pub mod Motion
 pub mod Tables
+pub mod Recordings

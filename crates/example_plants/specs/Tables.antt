@@ -12,8 +12,8 @@ abbrev pub unused : List ℕ → Tabled
 unused words = record { words = words; before = 0; last = 0 }
 
 -- after a step that takes a word
-abbrev pub took : Tabled → ℕ → Tabled
-took table word = record table { before = table.last; last = word }
+abbrev pub table_after : Tabled → ℕ → Tabled
+table_after table word = record table { before = table.last; last = word }
 
 -- the entry for the last two words
 abbrev pub entry_of : Tabled → ℕ
@@ -22,4 +22,4 @@ entry_of table =
 
 -- the entry after steps that take these words
 abbrev pub entry_after : Tabled → List ℕ → ℕ
-entry_after table taken = entry_of (fold took table taken)
+entry_after table taken = entry_of (fold table_after table taken)

@@ -2,7 +2,7 @@
 //! after the binary point.
 
 ghost use Rattle.std.specs.Prelude.{◌≡◌};
-ghost use Rattle.example_plants.specs.Heating.{after, cold, load, measured};
+ghost use Rattle.example_plants.specs.Heating.{after, cold, load, sensor_word};
 
 use crate::lag::lagging;
 use loop_runs::Plant;
@@ -62,7 +62,7 @@ impl HeatedBody {
 }
 
 impl Plant for HeatedBody {
-    ghost response = { measured };
+    ghost response = { sensor_word };
 
     fn word(&self) -> u32 {
         self.sensor.cast_unsigned()

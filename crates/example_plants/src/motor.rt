@@ -2,7 +2,7 @@
 //! point.
 
 ghost use Rattle.std.specs.Prelude.{◌≡◌};
-ghost use Rattle.example_plants.specs.Motion.{resting, speed_after, torque_of_load, turned};
+ghost use Rattle.example_plants.specs.Motion.{resting, speed_after, torque_of_load, motor_after};
 
 use crate::lag::lagging;
 use loop_runs::Plant;
@@ -47,7 +47,7 @@ impl Motor {
 
     /// The motor after a step that takes a word as voltage.
     fn turned(&self, word: u32) -> Motor
-        ensures { result ≡ turned self.now word }
+        ensures { result ≡ motor_after self.now word }
     {
         let unloaded = self.unloaded.saturating_sub(1);
         let voltage = word.cast_signed().saturating_sub(self.speed);

@@ -1,10 +1,17 @@
 //! Why a run ended before its trace.
 
-use command_files::Stop;
+use command_files::{Status, Stop};
 use fp_io::PutFailed;
 use loop_runs::LoopStop;
 use std::alloc::{AllocError, AllocFailed};
 use trace_print::Refusal;
+
+/// The line for a list of plants with a fault.
+const PLANTS_MESSAGE: &str = "loop_cli: PLANTS has other lines than `THREAD body|motor STEPS`, \
+    `THREAD table|recorded WORD ..` and `THREAD pipe`, or two of a thread, or two pipes";
+
+/// The exit status where the plant at the pipe ended the run.
+const PLANT_STATUS: u8 = 10;
 
 /// Why a run ended before its trace.
 #[derive(Clone, Copy)]
@@ -23,18 +30,24 @@ pub enum Fault {
     Write,
     /// Out of memory.
     NoMemory,
+    /// The plant at the pipe takes no line, or gives none.
+    PlantEnded,
+    /// The plant at the pipe answered no word.
+    NoWord,
 }
 
 impl Fault {
-    /// The exit status: that of `flexpret` for the same fault, and 2 for a list of plants.
+    /// The exit status: that of `flexpret` for the same fault, of usage for a list of plants, and
+    /// [`PLANT_STATUS`] for a plant at the pipe.
     pub fn status(&self) -> u8 {
         match self {
-            Fault::Usage | Fault::Plants => 2,
-            Fault::Setup => 3,
-            Fault::Image => 4,
-            Fault::Read => 7,
-            Fault::Write => 8,
-            Fault::NoMemory => 9,
+            Fault::Usage | Fault::Plants => Status::Usage.number(),
+            Fault::Setup => Status::Setup.number(),
+            Fault::Image => Status::Image.number(),
+            Fault::Read => Status::Read.number(),
+            Fault::Write => Status::Write.number(),
+            Fault::NoMemory => Status::NoMemory.number(),
+            Fault::PlantEnded | Fault::NoWord => PLANT_STATUS,
         }
     }
 
@@ -42,14 +55,14 @@ impl Fault {
     pub fn message(&self) -> &'static str {
         match self {
             Fault::Usage => "loop_cli: usage: loop_cli SETUP PLANTS THREAD EVERY CYCLES",
-            Fault::Plants => {
-                "loop_cli: PLANTS has other lines than `THREAD body|motor STEPS` and `THREAD table WORD ..`, or two of a thread"
-            }
+            Fault::Plants => PLANTS_MESSAGE,
             Fault::Setup => "loop_cli: the setup has a fault; `flexpret run` names it",
             Fault::Image => "loop_cli: the image has a fault; `flexpret run` names it",
             Fault::Read => "loop_cli: a file could not be read",
             Fault::Write => "loop_cli: the trace could not be written",
             Fault::NoMemory => "loop_cli: out of memory",
+            Fault::PlantEnded => "loop_cli: the plant at the pipe ended before the run",
+            Fault::NoWord => "loop_cli: the plant at the pipe answered no word of 32 bits",
         }
     }
 }

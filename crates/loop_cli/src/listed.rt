@@ -1,19 +1,17 @@
 //! The list of plants: a line for each, with its thread, its kind and its numbers.
 
-ghost use Rattle.std.specs.Prelude.{◌≡◌, ◌<◌, IfOk, OnOk, vec_len};
+ghost use Rattle.std.specs.Prelude.{◌≡◌, ◌<◌, IfOk, IfSome, OnOk, length, vec_len};
 
 use crate::fault::Fault;
 use command_files::fetch;
 use fp_io::Files;
+use fp_ports::THREADS;
 use fp_setup::Name;
 use std::alloc::Global;
 use std::str::SplitWhitespace;
 
-/// How many threads there are.
-const THREADS: u8 = 8;
-
 /// The most bytes of a list.
-const MOST_BYTES: usize = 1_048_576;
+const MOST_BYTES: usize = 67_108_864;
 
 /// A plant of the list.
 #[derive(Drop)]
@@ -24,6 +22,10 @@ pub enum Listed {
     Motor(u32),
     /// A table.
     Table(Vec<u32>),
+    /// Recorded words.
+    Recorded(Vec<u32>),
+    /// A plant in another process, by standard output and standard input.
+    Pipe,
 }
 
 /// Reads the plants of the eight threads that a file lists. Empty lines, and lines that begin with
@@ -52,6 +54,27 @@ pub fn read_plants<F: Files>(
     Ok(plants)
 }
 
+/// The thread whose plant is at the pipe, if one is.
+///
+/// # Errors
+///
+/// `Plants` for two.
+pub fn pipe_thread(plants: &[Option<Listed>]) -> Result<Option<u8>, Fault>
+    requires { length plants.now ≡ 8 }
+    ensures { IfOk result (λ pipe. IfSome pipe (λ thread. thread < 8)) }
+{
+    let mut pipe = None;
+    for thread in 0..THREADS {
+        if matches!(&plants[thread as usize], Some(Listed::Pipe)) {
+            if pipe.is_some() {
+                return Err(Fault::Plants);
+            }
+            pipe = Some(thread);
+        }
+    }
+    Ok(pipe)
+}
+
 /// Puts the plant of each line to its thread.
 fn add_lines(alloc: Global, text: &str, plants: &mut Vec<Option<Listed>>) -> Result<(), Fault>
     requires { vec_len plants.old ≡ 8 }
@@ -78,18 +101,28 @@ fn plant_of(alloc: Global, mut words: SplitWhitespace<'_>) -> Result<Listed, Fau
     match words.next() {
         Some("body") => Ok(Listed::Body(last_number(words)?)),
         Some("motor") => Ok(Listed::Motor(last_number(words)?)),
-        Some("table") => Ok(Listed::Table(table_of(alloc, words)?)),
+        Some("table") => Ok(Listed::Table(words_of(alloc, words)?)),
+        Some("recorded") => Ok(Listed::Recorded(words_of(alloc, words)?)),
+        Some("pipe") => pipe_of(words),
         _ => Err(Fault::Plants),
     }
 }
 
-/// The words of a table.
-fn table_of(alloc: Global, words: SplitWhitespace<'_>) -> Result<Vec<u32>, Fault> {
-    let mut table = Vec::new(alloc);
+/// The words of a table or a recording.
+fn words_of(alloc: Global, words: SplitWhitespace<'_>) -> Result<Vec<u32>, Fault> {
+    let mut all = Vec::new(alloc);
     for word in words {
-        table.push(number(Some(word))?)?;
+        all.push(number(Some(word))?)?;
     }
-    Ok(table)
+    Ok(all)
+}
+
+/// The pipe of a line that ends with its kind.
+fn pipe_of(mut words: SplitWhitespace<'_>) -> Result<Listed, Fault> {
+    match words.next() {
+        None => Ok(Listed::Pipe),
+        Some(_) => Err(Fault::Plants),
+    }
 }
 
 /// A thread's number.

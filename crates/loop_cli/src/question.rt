@@ -1,13 +1,12 @@
 //! What the command line asks.
 
 ghost use Rattle.std.specs.Prelude.{◌<◌, ◌≤◌, IfOk};
+ghost use Rattle.timer_unit.specs.Time.{most_cycles};
 
 use crate::fault::Fault;
 use fp_setup::Name;
 use std::alloc::Global;
-
-/// The most cycles of a run.
-const MOST_CYCLES: u64 = 4_000_000_000;
+use timer_unit::MOST_CYCLES;
 
 /// A run in closed loops.
 #[derive(Drop)]
@@ -24,12 +23,12 @@ pub struct Question {
     pub cycles: u64,
 
     ghost some: { 0 < every },
-    ghost limit: { cycles ≤ 4000000000 },
+    ghost limit: { cycles ≤ most_cycles },
 }
 
 impl Question {
-    /// The run that five arguments ask for: the setup, the plants, the thread, the cycles of a step,
-    /// and all cycles.
+    /// The run that five arguments ask for: the setup, the plants, the thread, the cycles of a
+    /// step, and all cycles.
     ///
     /// # Errors
     ///
