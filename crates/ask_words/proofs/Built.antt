@@ -1,5 +1,6 @@
 -- What building makes of a command's arguments, and the rows of pairs.
-use Rattle.std.proofs.Common.{◌≡◌, ℕ, List, [], ◌∷◌, ◌++◌, map, Some, None, refl, ap, sym, ◌∙◌, append_assoc, append-nil}
+use Rattle.std.proofs.Common.{◌≡◌, ℕ, List, [], ◌∷◌, ◌++◌, map, Some, None}
+use Rattle.std.proofs.Common.{refl, ap, sym, ◌∙◌, append_assoc, append-nil}
 use Rattle.std.specs.List.{fold}
 use Rattle.clap.specs.Walk.{Rule, Row}
 use Rattle.clap.specs.Simple.{filled, filled_from, with_index, help_rule, built, with_rule, App}
@@ -19,23 +20,34 @@ built_help = filled help_rule
 
 -- what is shown of a pair
 abbrev pub shown : Text × Text → Row
-shown p = record { id = p.0; values = p.1 ∷ []; count = None; source = Some CommandLine; reading = AsWritten }
+shown p = record {
+  id = p.0;
+  values = p.1 ∷ [];
+  count = None;
+  source = Some CommandLine;
+  reading = AsWritten;
+}
 
 -- the options' rules and the help flag's
 abbrev pub after_file : List Text → List Rule
 after_file names = map built_option names ++ built_help ∷ []
 
-options_built : (k : ℕ) (names : List Text) → filled_from k (map option_rule names ++ help_rule ∷ []) ≡ after_file names
+options_built : (k : ℕ) (names : List Text) →
+    filled_from k (map option_rule names ++ help_rule ∷ []) ≡ after_file names
 options_built k [] = refl
 options_built k (n ∷ ns) = ap (λ (rest : List Rule). built_option n ∷ rest) (options_built k ns)
 
-pub rules_are : (name : Text) (names : List Text) → (built (app name names)).top.rules ≡ built_file ∷ after_file names
+pub rules_are : (name : Text) (names : List Text) →
+    (built (app name names)).top.rules ≡ built_file ∷ after_file names
 rules_are name names = ap (λ (rest : List Rule). built_file ∷ rest) (options_built 2 names)
 
 -- the command after one option more
 abbrev pub and_option : App → Text → App
 and_option a n = with_rule a (option_rule n)
 
-pub options_added : (name : Text) (rules : List Rule) (names : List Text) → fold and_option (shaped name rules) names ≡ shaped name (rules ++ map option_rule names)
+pub options_added : (name : Text) (rules : List Rule) (names : List Text) →
+    fold and_option (shaped name rules) names ≡ shaped name (rules ++ map option_rule names)
 options_added name rules [] = ap (shaped name) (sym (append-nil rules))
-options_added name rules (n ∷ ns) = options_added name (rules ++ option_rule n ∷ []) ns ∙ ap (shaped name) (append_assoc rules (option_rule n ∷ []) (map option_rule ns))
+options_added name rules (n ∷ ns) =
+    options_added name (rules ++ option_rule n ∷ []) ns
+    ∙ ap (shaped name) (append_assoc rules (option_rule n ∷ []) (map option_rule ns))

@@ -1,11 +1,14 @@
 -- What the code's values are.
-use Rattle.std.specs.Prelude.{ℕ, ◌==◌, List, Option, Some, None, option_map, Bool, true, false, unwrap_or, []}
+use Rattle.std.specs.Prelude.{ℕ, ◌==◌, List, Option, Some, None}
+use Rattle.std.specs.Prelude.{option_map, Bool, true, false, unwrap_or, []}
 use Rattle.std.specs.Option.{option_map_or}
 use Rattle.std.specs.Str.{bytes_eq}
 use Rattle.ask_words.specs.Forms.{Text, Pairs, Form, gives, opens, bad, pairs, each_once, count_of}
-use Rattle.ask_words.specs.Commands.{CommandRow, run_row, dump_row, asm_row, bound_row, selfrun_row, phases_row, solo_row, check_row, elf_row, calls_row}
+use Rattle.ask_words.specs.Commands.{CommandRow, run_row, dump_row, asm_row, bound_row, selfrun_row}
+use Rattle.ask_words.specs.Commands.{phases_row, solo_row, check_row, elf_row, calls_row}
 use Rattle.ask_words.specs.declared.command.Command.{Command}
-use Rattle.ask_words.specs.declared.command.Command.TheVariants.{Run, Dump, Asm, Bound, Selfrun, Phases, Solo, Check, Elf, Calls}
+use Rattle.ask_words.specs.declared.command.Command.TheVariants.{Run, Dump, Asm, Bound, Selfrun}
+use Rattle.ask_words.specs.declared.command.Command.TheVariants.{Phases, Solo, Check, Elf, Calls}
 use Rattle.ask_words.specs.declared.form.Form.{Form as CodeForm}
 use Rattle.ask_words.specs.declared.form.Form.TheVariants as code
 

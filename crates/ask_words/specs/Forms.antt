@@ -1,5 +1,7 @@
 -- The forms of the words after a command's name.
-use Rattle.std.specs.Prelude.{ℕ, ◌==◌, ◌+◌, Bool, false, not, List, [], ◌∷◌, Option, Some, None, map, unwrap_or, option_map, option_and_then, if◌then◌else◌, codes, find}
+use Rattle.std.specs.Prelude.{ℕ, ◌==◌, ◌+◌, Bool, false, not, List, [], ◌∷◌}
+use Rattle.std.specs.Prelude.{Option, Some, None, map, unwrap_or, option_map}
+use Rattle.std.specs.Prelude.{option_and_then, if◌then◌else◌, codes, find}
 use Rattle.std.specs.List.{list_all, list_any, before_first, after_first}
 use Rattle.std.specs.Str.{bytes_eq}
 
@@ -44,7 +46,11 @@ abbrev pub option_form : List Text → Text → Form
 option_form names rest =
     let name = before_first is_equals rest in
     let value = after_first is_equals rest in
-    if is_among names name then (if list_any is_equals rest then (if is_plain value then gives name value else bad) else opens name) else bad
+    if is_among names name
+    then (if list_any is_equals rest
+    then (if is_plain value then gives name value else bad)
+    else opens name)
+    else bad
 
 abbrev pub dashed_form : List Text → Option Text → Form
 dashed_form names None = bad
@@ -52,7 +58,8 @@ dashed_form names (Some rest) = option_form names rest
 
 -- what a word does in a command with these options, where an option may wait for its value
 unfoldable pub form : List Text → Option Text → Text → Form
-form names None word = if is_plain word then gives file_id word else dashed_form names (after_dashes word)
+form names None word =
+    if is_plain word then gives file_id word else dashed_form names (after_dashes word)
 form names (Some name) word = if is_plain word then gives name word else bad
 
 -- names with their values
@@ -72,7 +79,9 @@ with_form bad next after = None
 unfoldable pub pairs : List Text → Option Text → List Text → Option Pairs
 pairs names None [] = Some []
 pairs names (Some name) [] = None
-pairs names waiting (word ∷ rest) = with_form (form names waiting word) (pairs names None rest) (λ name. pairs names (Some name) rest)
+pairs names waiting (word ∷ rest) =
+    with_form (form names waiting word) (pairs names None rest)
+    (λ name. pairs names (Some name) rest)
 
 -- how often a name is given a value
 abbrev pub count_of : Text → Pairs → ℕ
@@ -92,9 +101,10 @@ text_in ps name = unwrap_or (value_of name ps) []
 
 abbrev pub texts_of : List Text → Option Pairs → Option (List Text)
 texts_of names None = None
-texts_of names (Some ps) = if each_once names ps then Some (map (text_in ps) (file_id ∷ names)) else None
+texts_of names (Some ps) =
+    if each_once names ps then Some (map (text_in ps) (file_id ∷ names)) else None
 
--- the file name and then the options' values in the order of `names`, where the words, in any order,
--- give each exactly once and nothing else
+-- the file name and then the options' values in the order of `names`, where the words, in any
+-- order, give each exactly once and nothing else
 unfoldable pub texts_in : List Text → List Text → Option (List Text)
 texts_in names words = texts_of names (pairs names None words)

@@ -2,13 +2,15 @@
 use Rattle.std.specs.Prelude.{ℕ, ◌<◌, ◌≤◌}
 use Rattle.timer_unit.specs.Time.{most_cycles}
 use Rattle.ask_words.specs.declared.asked.Ask.{Ask}
-use Rattle.ask_words.specs.declared.asked.Ask.TheVariants.{Run, Dump, Asm, Bound, Selfrun, Phases, Solo, Check, Elf, Calls}
+use Rattle.ask_words.specs.declared.asked.Ask.TheVariants.{Run, Dump, Asm, Bound, Selfrun}
+use Rattle.ask_words.specs.declared.asked.Ask.TheVariants.{Phases, Solo, Check, Elf, Calls}
 
 -- the most cycles that a recorded trace is compared over
 abbrev pub most_checked_cycles : ℕ
 most_checked_cycles = 1000000
 
--- threads are below 8, cycles at most 4,000,000,000, those of `check` at most 1,000,000, the number of `selfrun` at most 4,294,967,295
+-- threads are below 8, cycles at most 4,000,000,000, those of `check` at most 1,000,000, the number
+-- of `selfrun` at most 4,294,967,295
 abbrev pub IsWithinLimits : Ask → Type 0
 IsWithinLimits (Run setup thread cycles) = (thread < 8) × (cycles ≤ most_cycles)
 IsWithinLimits (Dump setup cycles) = cycles ≤ most_cycles

@@ -1,7 +1,9 @@
 -- Numbers in words.
-use Rattle.std.specs.Prelude.{ℕ, ◌+◌, ◌-◌, ◌*◌, ◌&&◌, nat_le, Bool, if◌then◌else◌, [], ◌∷◌, length, Option, Some, None, option_and_then}
+use Rattle.std.specs.Prelude.{ℕ, ◌+◌, ◌-◌, ◌*◌, ◌&&◌, nat_le, Bool, if◌then◌else◌}
+use Rattle.std.specs.Prelude.{[], ◌∷◌, length, Option, Some, None, option_and_then}
 use Rattle.ask_words.specs.Forms.{Text, after_byte}
 
+-- whether a byte is one of a range. The lexer of sources has its own: arguments are no source
 abbrev pub is_between : ℕ → ℕ → ℕ → Bool
 is_between first last b = nat_le first b && nat_le b last
 
@@ -13,16 +15,21 @@ thread_in _ = None
 -- the decimal value of digits after others; none where a byte is no digit
 abbrev pub decimal_after : ℕ → Text → Option ℕ
 decimal_after value [] = Some value
-decimal_after value (d ∷ ds) = if is_between 48 57 d then decimal_after (value * 10 + (d - 48)) ds else None
+decimal_after value (d ∷ ds) =
+    if is_between 48 57 d then decimal_after (value * 10 + (d - 48)) ds else None
 
 -- a hexadecimal digit: 0 (48) to 9, a (97) to f, A (65) to F
 abbrev pub hexadecimal_digit : ℕ → Option ℕ
-hexadecimal_digit b = if is_between 48 57 b then Some (b - 48) else (if is_between 97 102 b then Some (b - 97 + 10) else (if is_between 65 70 b then Some (b - 65 + 10) else None))
+hexadecimal_digit b =
+    if is_between 48 57 b then Some (b - 48)
+    else (if is_between 97 102 b then Some (b - 97 + 10)
+    else (if is_between 65 70 b then Some (b - 65 + 10) else None))
 
 -- the hexadecimal value of digits after others; none where a byte is no digit
 abbrev pub hexadecimal_after : ℕ → Text → Option ℕ
 hexadecimal_after value [] = Some value
-hexadecimal_after value (d ∷ ds) = option_and_then (λ x. hexadecimal_after (value * 16 + x) ds) (hexadecimal_digit d)
+hexadecimal_after value (d ∷ ds) =
+    option_and_then (λ x. hexadecimal_after (value * 16 + x) ds) (hexadecimal_digit d)
 
 -- a reading of one to `most` digits
 abbrev pub of_length : ℕ → Text → Option ℕ → Option ℕ

@@ -16,7 +16,8 @@ file_rule = record (new_rule file_id) { action = Some Set; required = true }
 
 -- a command without subcommands, whose words are all arguments
 abbrev pub shaped : Text → List Rule → App
-shaped name rules = record { top = record (new_shape name) { no_binary_name = true; rules = rules }; subs = [] }
+shaped name rules =
+    record { top = record (new_shape name) { no_binary_name = true; rules = rules }; subs = [] }
 
 -- the command of this name with a file name and these options
 abbrev pub app : Text → List Text → App

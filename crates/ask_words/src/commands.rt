@@ -1,11 +1,14 @@
 //! The commands.
 
-ghost use Rattle.std.specs.Prelude.{◌≡◌, ◌≤◌, length, map, string_bytes, IfOk, IfErr, IfSome, Err, Some, option_map, find, true};
+ghost use Rattle.std.specs.Prelude.{◌≡◌, ◌≤◌, length, map, string_bytes, IfOk};
+ghost use Rattle.std.specs.Prelude.{IfErr, IfSome, Err, Some, option_map, find, true};
 ghost use Rattle.std.specs.Str.{bytes_eq};
 ghost use Rattle.timer_unit.specs.Time.{most_cycles};
 ghost use Rattle.ask_words.specs.Limits.{most_checked_cycles};
 ghost use Rattle.ask_words.specs.Commands.{cycles_in, checked_cycles_in};
-ghost use Rattle.ask_words.specs.Commands.{ask, asked, commands, run_asks, dump_asks, asm_asks, bound_asks, selfrun_asks, phases_asks, solo_asks, check_asks, elf_asks, calls_asks};
+ghost use Rattle.ask_words.specs.Commands.{ask, ask_of_words, commands, run_asks, dump_asks};
+ghost use Rattle.ask_words.specs.Commands.{asm_asks, bound_asks, selfrun_asks, phases_asks};
+ghost use Rattle.ask_words.specs.Commands.{solo_asks, check_asks, elf_asks, calls_asks};
 ghost use Rattle.ask_words.specs.Code.{row_of};
 ghost use Rattle.ask_words.specs.Rules.{is_fit};
 ghost use Rattle.ask_words.specs.Causes.{IsCauseOf};
@@ -304,12 +307,12 @@ fn ask_by(alloc: Global, command: Command, texts: &[&str]) -> Result<Ask, WordsN
 }
 
 /// What the words after the name of a command ask.
-#[tactic(auto, unfolding(crate::specs::Commands::asked))]
+#[tactic(auto, unfolding(crate::specs::Commands::ask_of_words))]
 fn ask_of(alloc: Global, name: &str, command: Command, words: &[String]) -> Result<Ask, WordsNo>
     ensures asked { IfOk result (λ a.
-        asked (row_of command) (map string_bytes words.now) ≡ Some a) }
+        ask_of_words (row_of command) (map string_bytes words.now) ≡ Some a) }
     ensures refused { IfErr result
-        (IsCauseOf (asked (row_of command) (map string_bytes words.now))) }
+        (IsCauseOf (ask_of_words (row_of command) (map string_bytes words.now))) }
     ensures limits { IfOk result IsWithinLimits }
 {
     let texts = texts_of(alloc, name, options_of(command), words)?;

@@ -1,7 +1,8 @@
 //! The forms of the words after a command's name.
 
 ghost use Rattle.std.specs.Prelude.{◌≡◌, map, option_map};
-ghost use Rattle.ask_words.specs.Forms.{is_plain, is_among, option_form, dashed_form, after_dashes, form};
+ghost use Rattle.ask_words.specs.Forms.{is_plain, is_among, option_form};
+ghost use Rattle.ask_words.specs.Forms.{dashed_form, after_dashes, form};
 ghost use Rattle.ask_words.specs.Code.{form_value, is_bad_form, gives_to, opened_by};
 
 /// Under which the file name stands beside the options.

@@ -1,8 +1,10 @@
 //! Numbers in words.
 
 ghost use Rattle.std.specs.Prelude.{◌≡◌, ◌≤◌, ◌<◌, IfSome, length};
-ghost use Rattle.ask_words.specs.Numbers.{decimal_after, decimal_in, hexadecimal_after, hexadecimal_in, hexadecimal_digit};
-ghost use Rattle.ask_words.specs.Numbers.{number_in, thread_in, address_in, address_value, after_prefix};
+ghost use Rattle.ask_words.specs.Numbers.{decimal_after, decimal_in, hexadecimal_after};
+ghost use Rattle.ask_words.specs.Numbers.{hexadecimal_in, hexadecimal_digit};
+ghost use Rattle.ask_words.specs.Numbers.{number_in, thread_in, address_in};
+ghost use Rattle.ask_words.specs.Numbers.{address_value, after_prefix};
 
 /// A thread: one digit 0 to 7.
 pub fn thread_of(word: &str) -> Option<u8>

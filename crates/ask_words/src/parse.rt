@@ -1,6 +1,7 @@
 //! The texts that words give, by the parser of command lines.
 
-ghost use Rattle.std.specs.Prelude.{◌≡◌, ◌∷◌, [], map, string_bytes, IfOk, IfErr, true, false, Some};
+ghost use Rattle.std.specs.Prelude.{◌≡◌, ◌∷◌, [], map, string_bytes};
+ghost use Rattle.std.specs.Prelude.{IfOk, IfErr, true, false, Some};
 ghost use Rattle.ask_words.specs.Forms.{texts_in, file_id};
 ghost use Rattle.ask_words.specs.Code.{has_forms};
 ghost use Rattle.ask_words.specs.Causes.{IsCauseOf};
@@ -8,7 +9,8 @@ ghost use Rattle.ask_words.specs.Rules.{app, option_rule, is_fit, row_text};
 ghost use Rattle.clap.specs.Simple.{new_rule};
 ghost use Rattle.clap.specs.Walk.{rule_of};
 ghost use Rattle.clap.specs.declared.builder.action.ArgAction.TheVariants.{Set};
-ghost use Rattle.clap.specs.Words.{app_of, takes, matches_of, rows_of, found_of, is_simple, with_rule};
+ghost use Rattle.clap.specs.Words.{app_of, takes, matches_of, rows_of};
+ghost use Rattle.clap.specs.Words.{found_of, is_simple, with_rule};
 
 use crate::asked::WordsNo;
 use crate::form::FILE;

@@ -1,11 +1,12 @@
 -- What a command wrote of a protected thread is the text of the thread by itself.
-use Rattle.std.proofs.Common.{◌≡◌, ℕ, List, [], ◌++◌, Bool, true, Option, Some, None, IfSome, ap, subst, sym, ◌∙◌}
+use Rattle.std.proofs.Common.{◌≡◌, ℕ, List, [], ◌++◌, Bool, true, Option}
+use Rattle.std.proofs.Common.{Some, None, IfSome, ap, subst, sym, ◌∙◌}
 use Rattle.flexpret_top.specs.Ask.{Ask}
 use Rattle.flexpret_top.specs.Ask.TheVariants.{Run}
 use Rattle.flexpret_top.specs.Commands.{ask}
 use Rattle.flexpret_top.specs.Content.{FileMap}
 use Rattle.flexpret_top.specs.Headline.{IsWrittenAlone, WritesRetired, machine_of}
-use Rattle.flexpret_top.specs.Rows.{Row}
+use Rattle.flexpret_top.specs.PluggedPorts.{Row}
 use Rattle.flexpret_top.specs.Solo.{solo}
 use Rattle.flexpret_top.specs.Text.{text}
 use Rattle.flexpret_top.specs.ThreadView.{View}
@@ -13,31 +14,53 @@ use Rattle.flexpret_top.specs.TraceLaws.{view_of}
 use Rattle.beside_loads.specs.Loads.{IsProtected, IsSameBeside, IsTraceBeside}
 
 -- into a sink that was empty
-written : (asked : Option Ask) (files : FileMap) (ports : List (Option Row)) (before bytes : List ℕ) → before ≡ [] → WritesRetired asked files ports (Some before) (Some bytes) →
-    (setup : List ℕ) (i n : ℕ) (v : View) → asked ≡ Some (Run setup i n) → IsProtected files ports setup i n v → bytes ≡ text (solo v n)
+written : (asked : Option Ask) (files : FileMap) (ports : List (Option Row))
+    (before bytes : List ℕ) → before ≡ [] → WritesRetired asked files ports (Some before)
+    (Some bytes) → (setup : List ℕ) (i n : ℕ) (v : View) → asked ≡ Some (Run setup i n) →
+    IsProtected files ports setup i n v → bytes ≡ text (solo v n)
 written asked files ports before bytes empty wrote setup i n v is p =
     let Wrote : Option Ask → Type 0 = λ o. WritesRetired o files ports (Some before) (Some bytes) in
-    let run : IsWrittenAlone (machine_of p.loaded ports) i n (Some before) (Some bytes) = (subst Wrote is wrote) p.loaded p.found in
-    run.alone p.hard p.quiet ∙ ap (λ (xs : List ℕ). xs ++ text (solo (view_of (machine_of p.loaded ports) i n) n)) empty ∙ ap (λ (w : View). text (solo w n)) p.view
+    let run : IsWrittenAlone (machine_of p.loaded ports) i n (Some before) (Some bytes) =
+    (subst Wrote is wrote) p.loaded p.found in
+    run.alone p.hard p.quiet
+    ∙ ap (λ (xs : List ℕ). xs ++ text (solo (view_of (machine_of p.loaded ports) i n) n)) empty
+    ∙ ap (λ (w : View). text (solo w n)) p.view
 
-all-written : (told : Option FileMap) (words : List (List ℕ)) (ports : List (Option Row)) (before bytes : List ℕ) → before ≡ [] → IfSome told (λ files. WritesRetired (ask words) files ports (Some before) (Some bytes)) →
-    IfSome told (λ files. (setup : List ℕ) (i n : ℕ) (v : View) → ask words ≡ Some (Run setup i n) → IsProtected files ports setup i n v → bytes ≡ text (solo v n))
+all-written : (told : Option FileMap) (words : List (List ℕ))
+    (ports : List (Option Row)) (before bytes : List ℕ) → before ≡ [] →
+    IfSome told (λ files. WritesRetired (ask words) files ports (Some before) (Some bytes)) →
+    IfSome told (λ files. (setup : List ℕ) (i n : ℕ) (v : View) → ask words ≡ Some (Run setup i n) →
+    IsProtected files ports setup i n v → bytes ≡ text (solo v n))
 all-written None words ports before bytes empty wrote = tt
-all-written (Some files) words ports before bytes empty wrote = written (ask words) files ports before bytes empty wrote
+all-written (Some files) words ports before bytes empty wrote =
+    written (ask words) files ports before bytes empty wrote
 
-pub traced : (told : Option FileMap) (words : List (List ℕ)) (ports : List (Option Row)) (before bytes : List ℕ) → before ≡ [] → IfSome told (λ files. WritesRetired (ask words) files ports (Some before) (Some bytes)) →
+pub traced : (told : Option FileMap) (words : List (List ℕ))
+    (ports : List (Option Row)) (before bytes : List ℕ) → before ≡ [] →
+    IfSome told (λ files. WritesRetired (ask words) files ports (Some before) (Some bytes)) →
     IsTraceBeside told words ports bytes
-traced told words ports before bytes empty wrote = record { text_of = all-written told words ports before bytes empty wrote }
+traced told words ports before bytes empty wrote =
+    record { text_of = all-written told words ports before bytes empty wrote }
 
 -- two traces of a protected thread
-both-same : (one other : Option FileMap) (words : List (List ℕ)) (ports ports' : List (Option Row)) (first second : List ℕ) (same : Bool) → (first ≡ second → same ≡ true) →
-    IfSome one (λ files. (setup : List ℕ) (i n : ℕ) (v : View) → ask words ≡ Some (Run setup i n) → IsProtected files ports setup i n v → first ≡ text (solo v n)) →
-    IfSome other (λ files. (setup : List ℕ) (i n : ℕ) (v : View) → ask words ≡ Some (Run setup i n) → IsProtected files ports' setup i n v → second ≡ text (solo v n)) →
-    IfSome one (λ f. IfSome other (λ s. (setup : List ℕ) (i n : ℕ) (v : View) → ask words ≡ Some (Run setup i n) → IsProtected f ports setup i n v → IsProtected s ports' setup i n v → same ≡ true))
+both-same : (one other : Option FileMap) (words : List (List ℕ)) (ports ports' : List (Option Row))
+    (first second : List ℕ) (same : Bool) → (first ≡ second → same ≡ true) →
+    IfSome one (λ files. (setup : List ℕ) (i n : ℕ) (v : View) → ask words ≡ Some (Run setup i n) →
+    IsProtected files ports setup i n v → first ≡ text (solo v n)) →
+    IfSome other (λ files. (setup : List ℕ) (i n : ℕ) (v : View) → ask words
+    ≡ Some (Run setup i n) → IsProtected files ports' setup i n v → second ≡ text (solo v n)) →
+    IfSome one (λ f. IfSome other (λ s. (setup : List ℕ) (i n : ℕ) (v : View) →
+    ask words ≡ Some (Run setup i n) → IsProtected f ports setup i n v →
+    IsProtected s ports' setup i n v → same ≡ true))
 both-same None other words ports ports' first second same compare a b = tt
 both-same (Some f) None words ports ports' first second same compare a b = tt
-both-same (Some f) (Some s) words ports ports' first second same compare a b = λ setup i n v is p q. compare (a setup i n v is p ∙ sym (b setup i n v is q))
+both-same (Some f) (Some s) words ports ports' first second same compare a b =
+    λ setup i n v is p q. compare (a setup i n v is p ∙ sym (b setup i n v is q))
 
-pub same_beside : (one other : Option FileMap) (words : List (List ℕ)) (ports ports' : List (Option Row)) (first second : List ℕ) (same : Bool) → (first ≡ second → same ≡ true) →
-    IsTraceBeside one words ports first → IsTraceBeside other words ports' second → IsSameBeside one other words ports ports' same
-same_beside one other words ports ports' first second same compare a b = record { always = both-same one other words ports ports' first second same compare a.text_of b.text_of }
+pub same_beside : (one other : Option FileMap) (words : List (List ℕ))
+    (ports ports' : List (Option Row)) (first second : List ℕ) (same : Bool) →
+    (first ≡ second → same ≡ true) → IsTraceBeside one words ports first →
+    IsTraceBeside other words ports' second → IsSameBeside one other words ports ports' same
+same_beside one other words ports ports' first second same compare a b = record {
+  always = both-same one other words ports ports' first second same compare a.text_of b.text_of;
+}

@@ -1,2 +1,2 @@
 pub mod Loads
-pub use Rattle.flexpret_top.specs.Rows
+pub use Rattle.flexpret_top.specs.PluggedPorts

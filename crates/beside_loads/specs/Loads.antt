@@ -1,4 +1,5 @@
--- A thread that is protected beside a load: a setup with its image and ports, in which the seven other threads run something.
+-- A thread that is protected beside a load: a setup with its image and ports, in which the seven
+-- other threads run something.
 use Rattle.std.specs.Prelude.{◌≡◌, ℕ, Bool, true, List, Option, Some, Ok, IfSome}
 use Rattle.flexpret_top.specs.Ask.TheVariants.{Run}
 use Rattle.flexpret_top.specs.Commands.{ask}
@@ -7,27 +8,33 @@ use Rattle.flexpret_top.specs.Headline.{machine_of}
 use Rattle.flexpret_top.specs.LoadedProgram.{Program}
 use Rattle.flexpret_top.specs.Program.{program}
 use Rattle.flexpret_top.specs.RetiredTraces.{IsRetiredQuiet}
-use Rattle.flexpret_top.specs.Rows.{Row}
+use Rattle.flexpret_top.specs.PluggedPorts.{Row}
 use Rattle.flexpret_top.specs.Solo.{solo}
 use Rattle.flexpret_top.specs.Text.{text}
 use Rattle.flexpret_top.specs.ThreadView.{View}
 use Rattle.flexpret_top.specs.TraceLaws.{IsConfinedHard, view_of}
 
--- The files have a setup of this name, in which thread i is confined, and hard and active at the start; its view over n
--- cycles is v; and no issue that has retired writes a configuration register. Nothing is said of the other threads.
-pub record IsProtected (files : FileMap) (ports : List (Option Row)) (setup : List ℕ) (i n : ℕ) (v : View) : Type 0 where
+-- The files have a setup of this name, in which thread i is confined, and hard and active at the
+-- start; its view over n cycles is v; and no issue that has retired writes a configuration
+-- register. Nothing is said of the other threads.
+pub record IsProtected (files : FileMap) (ports : List (Option Row)) (setup : List ℕ) (i n : ℕ)
+    (v : View) : Type 0 where
   pub loaded : Program
   pub found : program files setup ≡ Ok loaded
   pub hard : IsConfinedHard (machine_of loaded ports) i
   pub quiet : IsRetiredQuiet (machine_of loaded ports) n
   pub view : view_of (machine_of loaded ports) i n ≡ v
 
--- Where the words ask for the trace of a thread that is protected beside a load, these bytes are it: the text of the
--- definition of one thread over its view.
-pub record IsTraceBeside (told : Option FileMap) (words : List (List ℕ)) (ports : List (Option Row)) (bytes : List ℕ) : Type 0 where
-  pub text_of : IfSome told (λ files. (setup : List ℕ) (i n : ℕ) (v : View) → ask words ≡ Some (Run setup i n) → IsProtected files ports setup i n v → bytes ≡ text (solo v n))
+-- Where the words ask for the trace of a thread that is protected beside a load, these bytes are
+-- it: the text of the definition of one thread over its view.
+pub record IsTraceBeside (told : Option FileMap) (words : List (List ℕ)) (ports : List (Option Row))
+    (bytes : List ℕ) : Type 0 where
+  pub text_of : IfSome told (λ files. (setup : List ℕ) (i n : ℕ) (v : View) → ask words
+      ≡ Some (Run setup i n) → IsProtected files ports setup i n v → bytes ≡ text (solo v n))
 
 -- The answer is true where a thread is protected beside both loads, with the same view.
-pub record IsSameBeside (one other : Option FileMap) (words : List (List ℕ)) (ports_of_one ports_of_other : List (Option Row)) (same : Bool) : Type 0 where
-  pub always : IfSome one (λ first. IfSome other (λ second. (setup : List ℕ) (i n : ℕ) (v : View) → ask words ≡ Some (Run setup i n) →
-      IsProtected first ports_of_one setup i n v → IsProtected second ports_of_other setup i n v → same ≡ true))
+pub record IsSameBeside (one other : Option FileMap) (words : List (List ℕ))
+    (ports_of_one ports_of_other : List (Option Row)) (same : Bool) : Type 0 where
+  pub always : IfSome one (λ first. IfSome other (λ second. (setup : List ℕ) (i n : ℕ) (v : View) →
+      ask words ≡ Some (Run setup i n) → IsProtected first ports_of_one setup i n v →
+      IsProtected second ports_of_other setup i n v → same ≡ true))

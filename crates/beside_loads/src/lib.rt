@@ -10,7 +10,7 @@
 mod tests;
 
 ghost use Rattle.std.specs.Prelude.{◌≡◌, [], IfOk, map, string_bytes, true, vec_len};
-ghost use Rattle.flexpret_top.specs.Rows.{rows_of};
+ghost use Rattle.flexpret_top.specs.PluggedPorts.{rows_of};
 ghost use Rattle.beside_loads.specs.Loads.{IsSameBeside, IsTraceBeside};
 
 use flexpret_top::{Files, MemSink, Ports, flexpret};

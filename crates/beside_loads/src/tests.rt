@@ -3,7 +3,7 @@
 ghost use Rattle.std.specs.Prelude.{◌≡◌, IfOk, vec_len};
 
 use super::*;
-use flexpret_top::MemFiles;
+use flexpret_top::{MemFiles, THREADS};
 use std::test::Fail;
 
 /// T0 is the control thread; T1 has the load.
@@ -44,7 +44,7 @@ fn no_ports(alloc: Global) -> Result<Ports, AllocError>
     ensures { IfOk result (λ ports. vec_len ports ≡ 8) }
 {
     let mut ports = Vec::new(alloc);
-    for _thread in 0..8u8 {
+    for _thread in 0..THREADS {
         ports.push(None)?;
     }
     Ok(ports)

@@ -7,7 +7,7 @@ pub mod Pass
 pub mod Limit
 pub mod Matrices
 pub mod Hops
-pub mod Passing
+pub mod Propagation
 pub mod Rounds
 pub use Rattle.region_tree.specs.Graph
 pub use Rattle.region_tree.specs.Search

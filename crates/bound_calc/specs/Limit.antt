@@ -1,10 +1,10 @@
 -- How large a cost can be.
 use Rattle.std.specs.Prelude.{ℕ, zero, suc, ◌+◌, ◌*◌}
-use Rattle.bound_calc.specs.Context.{Net, Part, body}
+use Rattle.bound_calc.specs.Context.{Net, Scope, body}
 use Rattle.fp_setup.specs.declared.loop_list.LoopSetup.{LoopSetup}
 
 -- at most h loops, each inside the one before
-abbrev pub Shallow : ℕ → Net → Part → Type 0
+abbrev pub Shallow : ℕ → Net → Scope → Type 0
 Shallow zero g s = (j : LoopSetup) → s.loops j → ⊥
 Shallow (suc h) g s = (j : LoopSetup) → s.loops j → Shallow h g (body g j)
 

@@ -1,5 +1,6 @@
 -- Matrices of the largest sums between eight frame positions.
-use Rattle.std.specs.Prelude.{◌≡◌, ℕ, zero, suc, ◌+◌, ◌<◌, min, max, [], Option, Some, None, slice_index_or, nat_lt, ◌&&◌, if◌then◌else◌}
+use Rattle.std.specs.Prelude.{◌≡◌, ℕ, zero, suc, ◌+◌, ◌<◌, min, max, [], Option}
+use Rattle.std.specs.Prelude.{Some, None, slice_index_or, nat_lt, ◌&&◌, if◌then◌else◌}
 use Rattle.bound_calc.specs.declared.matrix.Matrix.{Matrix}
 use Rattle.bound_calc.specs.Best.{Entries, ceiling}
 
@@ -34,4 +35,5 @@ IsJoin a b m = (p q : ℕ) → p < 8 → q < 8 → cell m p q ≡ larger_of (cel
 
 -- each entry is the largest sum over the position between
 abbrev pub IsProduct : Matrix → Matrix → Matrix → Type 0
-IsProduct a b m = (p q : ℕ) → p < 8 → q < 8 → cell m p q ≡ over 8 (λ r. cell a p r) (λ r. cell b r q)
+IsProduct a b m =
+    (p q : ℕ) → p < 8 → q < 8 → cell m p q ≡ over 8 (λ r. cell a p r) (λ r. cell b r q)

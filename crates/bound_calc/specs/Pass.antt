@@ -1,7 +1,7 @@
 -- What a forward pass holds between two words.
 use Rattle.std.specs.Prelude.{◌≡◌, ℕ, ◌+◌, ◌<◌, ◌≤◌, ◌⊎◌, Option, Contains}
 use Rattle.bound_calc.specs.Best.{Costs, Stays}
-use Rattle.bound_calc.specs.Context.{Part, body}
+use Rattle.bound_calc.specs.Context.{Scope, body}
 use Rattle.bound_calc.specs.Section.{Field, net}
 use Rattle.bound_calc.specs.Ways.{Reaches}
 use Rattle.fp_setup.specs.declared.loop_list.LoopSetup.{LoopSetup}
@@ -24,7 +24,7 @@ abbrev pub AndTo : Edges → ℕ → Option ℕ → ℕ → Edges
 AndTo f v target lag u e = f u e ⊎ ((u ≡ v) × Contains (edge_to target lag) e)
 
 -- a walk of the part and then one of the edges, up to word w
-pub record Brings (x : Field) (s : Part) (f : Edges) (w p c q : ℕ) : Type 0 where
+pub record Brings (x : Field) (s : Scope) (f : Edges) (w p c q : ℕ) : Type 0 where
   pub from : ℕ
   pub at : ℕ
   pub one : ℕ
@@ -38,7 +38,7 @@ pub record Brings (x : Field) (s : Part) (f : Edges) (w p c q : ℕ) : Type 0 wh
   pub cost : c ≡ one + two
 
 -- what reaches a word of a part: nothing done at its first word, or what edges bring
-abbrev pub Comes : Field → Part → Edges → ℕ → Costs
+abbrev pub Comes : Field → Scope → Edges → ℕ → Costs
 Comes x s f w p c q = ((w ≡ s.low) × Stays x.own p c q) ⊎ Brings x s f w p c q
 
 -- a walk of a loop's own part and then one of the edges, back to the head

@@ -1,5 +1,6 @@
 -- What a walk does inside a loop, as rounds, and what rounds are as a walk.
-use Rattle.std.specs.Prelude.{◌≡◌, ◌≢◌, ℕ, ◌+◌, ◌≤◌, ◌&&◌, nat_le, nat_lt, List, [], ◌∷◌, ◌++◌, filter, Contains}
+use Rattle.std.specs.Prelude.{◌≡◌, ◌≢◌, ℕ, ◌+◌, ◌≤◌, ◌&&◌, nat_le, nat_lt}
+use Rattle.std.specs.Prelude.{List, [], ◌∷◌, ◌++◌, filter, Contains}
 use Rattle.fp_setup.specs.declared.loop_list.LoopSetup.{LoopSetup}
 use Rattle.region_tree.specs.Graph.{Holds, Reachable}
 use Rattle.region_tree.specs.Tree.{IsTree, Tree, graph}
@@ -45,7 +46,8 @@ IsRound x j p (t ∷ ts) q = AreSteps x j p (t ∷ ts) j.head q × Avoid j ts
 -- n whole rounds, each from where the one before it ended
 pub data AreRounds (x : Course) (j : LoopSetup) (p : ℕ) : ℕ → List Step → ℕ → Type 0 where
   none : AreRounds x j p 0 [] p
-  more : {n m q : ℕ} {ts : List Step} (ss : List Step) → AreRounds x j p n ts m → IsRound x j m ss q → AreRounds x j p (n + 1) (ss ++ ts) q
+  more : {n m q : ℕ} {ts : List Step} (ss : List Step) → AreRounds x j p n ts m →
+      IsRound x j m ss q → AreRounds x j p (n + 1) (ss ++ ts) q
 
 -- Steps in at most bound + 1 rounds: at most as many whole ones as the loop's bound, and a last one
 -- without a step to the head, which may have no step at all.
@@ -70,15 +72,19 @@ Enters j u (t ∷ ts) = (t.to ≡ j.head) × (Holds j t.from → ⊥)
 -- leaves it or to the walk's end.
 abbrev pub StaysInRounds : Type 0
 StaysInRounds =
-    (x : Course) (j : LoopSetup) (p v q : ℕ) (before during after : List Step) → Contains x.graph.loops j →
+    (x : Course) (j : LoopSetup) (p v q : ℕ) (before during after : List Step) →
+    Contains x.graph.loops j →
     IsWalk x p (after ++ (during ++ before)) v q → Enters j x.graph.from before → AreIn j during →
-    AreBounded x j (position_after p before) during (word_after j.head during) (position_after (position_after p before) during)
+    AreBounded x j (position_after p before) during (word_after j.head during)
+    (position_after (position_after p before) during)
 
 -- In a section that has a bound, at most bound + 1 rounds of a loop whose head is reachable are
 -- steps from the head that stay in the loop. Neither its counter nor one of a loop inside passes
 -- its bound, each being 0 at first.
 abbrev pub RoundsAreSteps : Type 0
 RoundsAreSteps =
-    (t : Tree) (slots thread : ℕ) (j : LoopSetup) (p v q : ℕ) (ts : List Step) → IsTree t → Contains t.loops j → Reachable (graph t) j.head →
+    (t : Tree) (slots thread : ℕ) (j : LoopSetup) (p v q : ℕ) (ts : List Step) →
+    IsTree t → Contains t.loops j → Reachable (graph t) j.head →
     AreBounded (course t slots thread) j p ts v q →
-    Leads (course t slots thread) j.head p ts v q × AreIn j ts × Keeps (j ∷ inner_loops t.loops j) (λ i. 0) ts
+    Leads (course t slots thread) j.head p ts v q × AreIn j ts
+    × Keeps (j ∷ inner_loops t.loops j) (λ i. 0) ts

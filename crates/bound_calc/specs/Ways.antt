@@ -1,18 +1,18 @@
 -- The sets of costs that the matrices hold.
 use Rattle.std.specs.Prelude.{◌≡◌, ℕ, ◌+◌, ◌<◌, ◌≤◌, ◌⊎◌}
 use Rattle.bound_calc.specs.Best.{Costs, Either, Power, Stays}
-use Rattle.bound_calc.specs.Context.{Net, Part, Walk, body}
+use Rattle.bound_calc.specs.Context.{Net, Scope, Walk, body}
 use Rattle.fp_setup.specs.declared.loop_list.LoopSetup.{LoopSetup}
 use Rattle.region_tree.specs.Graph.{Holds}
 
 -- a walk of the part to word v
-pub record Reaches (g : Net) (s : Part) (v p c q : ℕ) : Type 0 where
+pub record Reaches (g : Net) (s : Scope) (v p c q : ℕ) : Type 0 where
   pub steps : ℕ
   pub counters : LoopSetup → ℕ
   pub walk : Walk g s p steps v q c counters
 
 -- a walk of the part and then a step up to word v
-pub record Climbs (g : Net) (s : Part) (v p c q : ℕ) : Type 0 where
+pub record Climbs (g : Net) (s : Scope) (v p c q : ℕ) : Type 0 where
   pub from : ℕ
   pub at : ℕ
   pub one : ℕ
@@ -24,7 +24,7 @@ pub record Climbs (g : Net) (s : Part) (v p c q : ℕ) : Type 0 where
   pub cost : c ≡ one + two
 
 -- what comes to word v from below
-abbrev pub Enters : Net → Part → ℕ → Costs
+abbrev pub Enters : Net → Scope → ℕ → Costs
 Enters g s v p c q = ((v ≡ s.low) × Stays g.own p c q) ⊎ Climbs g s v p c q
 
 -- a walk of a loop's own part and then a step back to the head

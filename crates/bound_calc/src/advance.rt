@@ -1,6 +1,7 @@
 //! Matrices a step further.
 
-ghost use Rattle.std.specs.Prelude.{◌≡◌, ℕ, ◌+◌, ◌<◌, ◌≤◌, min, ◌⊎◌, max, List, [], length, Option, Some, None, slice_index_or};
+ghost use Rattle.std.specs.Prelude.{◌≡◌, ℕ, ◌+◌, ◌<◌, ◌≤◌, min, ◌⊎◌, max, List};
+ghost use Rattle.std.specs.Prelude.{[], length, Option, Some, None, slice_index_or};
 ghost use Rattle.bound_calc.specs.Best.{Either, In, IsBest, Then, ceiling};
 ghost use Rattle.bound_calc.specs.Hops.{Hops, IsFarthest, IsLargest, IsLeft, raised};
 ghost use Rattle.bound_calc.specs.Matrices.{cell, entry};

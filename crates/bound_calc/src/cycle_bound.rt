@@ -1,6 +1,7 @@
 //! The bound of a section.
 
-ghost use Rattle.std.specs.Prelude.{◌≡◌, ℕ, ◌<◌, ◌≤◌, ◌^◌, None, length, Contains, IfOk, IfErr, MatchResult};
+ghost use Rattle.std.specs.Prelude.{◌≡◌, ℕ, ◌<◌, ◌≤◌, ◌^◌, None, length};
+ghost use Rattle.std.specs.Prelude.{Contains, IfOk, IfErr, MatchResult};
 ghost use Rattle.rv_decode.specs.Lag.{redirect_lag};
 ghost use Rattle.slot_table.specs.Frame.{frame};
 ghost use Rattle.region_tree.specs.Tree.{IsTree};
@@ -8,13 +9,13 @@ ghost use Rattle.region_tree.specs.Walk.{IsOwn};
 ghost use Rattle.bound_calc.specs.Bound.{IsBound, IsTooLarge, course};
 ghost use Rattle.bound_calc.specs.declared.cycle_bound.BoundNo.TheVariants.{Overflow};
 ghost use Rattle.bound_calc.specs.Section.{whole};
-ghost use Rattle.bound_calc.specs.Passing.{IsMostFrom, IsOut, IsReady, leaves, over, walks};
+ghost use Rattle.bound_calc.specs.Propagation.{IsMostFrom, IsOut, IsReady, leaves, over, walks};
 
 use crate::advance::{largest, leave};
 use crate::fill::fill;
 use crate::front::Front;
 use crate::matrix::Matrix;
-use crate::pass::{begin, edges_at, go_over, is_straight, skip, span_of};
+use crate::pass::{begin, edges_at, is_straight, process_word, skip, span_of};
 use crate::steps::Steps;
 use crate::ways::Ways;
 use region_tree::{Edges, JUMP_LAG, LoopTree};
@@ -105,7 +106,7 @@ fn most(
             skip(steps, edges.next_lag, front);
         } else {
             let power = &powers[index];
-            go_over(alloc, tree, steps, None, power, &edges, index, last, front)?;
+            process_word(alloc, tree, steps, None, power, &edges, index, last, front)?;
             most = most_from(tree, steps, &front.base, &edges, most);
         }
     }

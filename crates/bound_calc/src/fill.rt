@@ -1,10 +1,12 @@
 //! The powers of all loops, from the last head to the first.
 
-ghost use Rattle.std.specs.Prelude.{◌≡◌, ◌≢◌, ℕ, ◌+◌, ◌<◌, ◌≤◌, length, MatchOption, Contains, OnOk, IfOk};
+ghost use Rattle.std.specs.Prelude.{◌≡◌, ◌≢◌, ℕ, ◌+◌, ◌<◌, ◌≤◌, length};
+ghost use Rattle.std.specs.Prelude.{MatchOption, Contains, OnOk, IfOk};
 ghost use Rattle.region_tree.specs.Graph.{Reachable};
 ghost use Rattle.region_tree.specs.Search.{address};
 ghost use Rattle.region_tree.specs.Tree.{IsTree, graph};
-ghost use Rattle.bound_calc.specs.Passing.{AreWays, IsFilled, index as index_of, over, power_at, ways_on};
+ghost use Rattle.bound_calc.specs.Propagation.{AreWays, IsFilled, index as index_of};
+ghost use Rattle.bound_calc.specs.Propagation.{over, power_at, ways_on};
 
 use crate::front::Front;
 use crate::matrix::Matrix;

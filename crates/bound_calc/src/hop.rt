@@ -1,7 +1,7 @@
 //! Steps from one turn of a thread to another.
 
 ghost use Rattle.std.specs.Prelude.{◌≡◌, ℕ, ◌<◌, ◌≤◌, ◌^◌, Some};
-ghost use Rattle.bound_calc.specs.Hops.{Hops, followed};
+ghost use Rattle.bound_calc.specs.Hops.{Hops, hop_chain};
 
 /// A step to a later turn of the thread: the cycles until then, and the turn's frame position.
 #[derive(Clone, Copy)]
@@ -17,7 +17,7 @@ fn follow(first: Option<Hop>, row: &HopRow) -> Option<Hop>
     requires position { (h : _) → first ≡ Some h → h.position < 8 }
     requires short { (h : _) → first ≡ Some h → h.cost ≤ 2 ^ 32 }
     requires short_row { (p d q : ℕ) → Hops row.now.hops p d q → d ≤ 2 ^ 32 }
-    ensures { result ≡ followed first row.now.hops }
+    ensures { result ≡ hop_chain first row.now.hops }
 {
     let first = first?;
     let second = row.hops[first.position]?;
@@ -36,7 +36,7 @@ pub struct HopRow {
 
 impl HopRow {
     ghost use Rattle.std.specs.Prelude.{◌≡◌, ℕ, ◌<◌, ◌≤◌, ◌^◌, None, length, slice_index_or};
-    ghost use Rattle.bound_calc.specs.Hops.{Hops, followed};
+    ghost use Rattle.bound_calc.specs.Hops.{Hops, hop_chain};
 
     /// No steps.
     pub const NONE: HopRow = HopRow { hops: [None; 8] };
@@ -47,7 +47,7 @@ impl HopRow {
         requires short { (p d q : ℕ) → Hops self.now.hops p d q → d ≤ 2 ^ 32 }
         requires short_row { (p d q : ℕ) → Hops row.now.hops p d q → d ≤ 2 ^ 32 }
         ensures each { (p : ℕ) → p < 8 → slice_index_or result.hops p None ≡
-            followed (slice_index_or self.now.hops p None) row.now.hops }
+            hop_chain (slice_index_or self.now.hops p None) row.now.hops }
         ensures long { (length self.now.hops ≡ 8) × (length result.hops ≡ 8) }
     {
         let mut hops = [None; 8];

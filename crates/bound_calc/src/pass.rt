@@ -1,16 +1,20 @@
 //! What reaches each word of a loop, or of a whole section.
 
-ghost use Rattle.std.specs.Prelude.{◌≡◌, ℕ, ◌+◌, ◌<◌, ◌≤◌, ◌^◌, ◌↔◌, length, Option, Some, None, Contains, IfOk, IfSome, IsTrue, OnOk};
+ghost use Rattle.std.specs.Prelude.{◌≡◌, ℕ, ◌+◌, ◌<◌, ◌≤◌, ◌^◌, ◌↔◌, length, Option};
+ghost use Rattle.std.specs.Prelude.{Some, None, Contains, IfOk, IfSome, IsTrue, OnOk};
 ghost use Rattle.std.specs.Option.{option_map};
 ghost use Rattle.rv_decode.specs.Lag.{redirect_lag};
 ghost use Rattle.region_tree.specs.Search.{address};
 ghost use Rattle.region_tree.specs.Tree.{IsTree};
 ghost use Rattle.bound_calc.specs.Best.{Either, In, IsBest, Then};
-ghost use Rattle.bound_calc.specs.Context.{IsPart};
+ghost use Rattle.bound_calc.specs.Context.{IsScope};
 ghost use Rattle.bound_calc.specs.Hops.{Hops};
 ghost use Rattle.bound_calc.specs.Section.{net};
 ghost use Rattle.bound_calc.specs.Matrices.{entry};
-ghost use Rattle.bound_calc.specs.Passing.{IsArrived, IsBrought, IsFront, IsGone, IsLed, IsSkipped, IsSpan, IsStraight, IsTaken, IsThrough, edges_at, held, moved, over, part_of, power_at, up_of};
+ghost use Rattle.bound_calc.specs.Propagation.{IsArrived, IsBrought, IsFront, IsGone};
+ghost use Rattle.bound_calc.specs.Propagation.{IsLed, IsSkipped, IsSpan, IsStraight};
+ghost use Rattle.bound_calc.specs.Propagation.{IsTaken, IsThrough, edges_at, abstract_front};
+ghost use Rattle.bound_calc.specs.Propagation.{move_costs, over, scope_of, power_at, up_of};
 
 use crate::advance::advance;
 use crate::front::Front;
@@ -36,7 +40,7 @@ pub struct Span {
 pub fn span_of(tree: &LoopTree, around: Option<LoopSetup>) -> Span
     requires { IfSome around (λ j. Contains tree.now.loops j) }
     ensures span { (s : _) → (ways : _) →
-        IsSpan tree.now (part_of (over tree.now s ways) around) result.first result.last }
+        IsSpan tree.now (scope_of (over tree.now s ways) around) result.first result.last }
     ensures order { result.first ≤ result.last }
     ensures inside { result.last < length tree.now.words }
     ensures rules { IsTree tree.now }
@@ -89,7 +93,8 @@ pub(crate) fn join_along(
 )
     requires lag { lag ≤ redirect_lag }
     ensures { IsBest (entry onto.new) (Either (In (entry onto.old))
-        (Then (In (entry here.now)) (moved steps.now (option_map (λ m. m.now) way.entry) lag))) }
+        (Then (In (entry here.now)) (move_costs steps.now (option_map
+        (λ m. m.now) way.entry) lag))) }
 {
     match way {
         None => advance(here, steps.hops(lag), onto),
@@ -102,7 +107,7 @@ pub(crate) fn join_along(
 pub fn along(steps: &Steps, way: Option<&Matrix>, here: &Matrix, lag: u64, onto: &Matrix) -> Matrix
     requires lag { lag ≤ redirect_lag }
     ensures { IsBest (entry result) (Either (In (entry onto.now)) (Then (In (entry here.now))
-        (moved steps.now (option_map (λ m. m.now) way.entry) lag))) }
+        (move_costs steps.now (option_map (λ m. m.now) way.entry) lag))) }
 {
     let mut joined = *onto;
     join_along(steps, way, here, lag, &mut joined);
@@ -146,7 +151,7 @@ fn take(
 }
 
 /// Takes what reaches a word through the rounds of the loop whose head it is, if it is one.
-fn go_round(power: &Option<Box<Matrix>>, here: &mut Matrix)
+fn apply_rounds(power: &Option<Box<Matrix>>, here: &mut Matrix)
     ensures { IsThrough (option_map (λ b. b.value) power.now) here.old here.new }
 {
     if let Some(power) = power {
@@ -166,9 +171,9 @@ fn bring(
     requires lag { lag ≤ redirect_lag }
     requires within { IfSome to (λ k. k < length front.old.waiting.items) }
     ensures { OnOk result (IsBrought to
-        (Then (In (entry (held front.old).base))
-        (moved steps.now (option_map (λ m. m.now) way.entry) lag))
-        (held front.old) (held front.new)) }
+        (Then (In (entry (abstract_front front.old).base))
+        (move_costs steps.now (option_map (λ m. m.now) way.entry) lag))
+        (abstract_front front.old) (abstract_front front.new)) }
 {
     let Some(to) = to else {
         return Ok(());
@@ -206,8 +211,8 @@ pub fn begin(
     requires known { IfSome around (λ j. Contains tree.now.loops j) }
     requires room { length front.old.waiting.items ≡ length tree.now.words }
     ensures { OnOk result ((ways : _) → let f = over tree.now steps.now ways in
-        let s = part_of f around in IsPart (net f) s → (k : ℕ) → s.low ≡ address tree.now k →
-        IsFront f tree.now s k (held front.new)) }
+        let s = scope_of f around in IsScope (net f) s → (k : ℕ) → s.low ≡ address tree.now k →
+        IsFront f tree.now s k (abstract_front front.new)) }
 {
     let span = span_of(tree, around);
     clear(span, front);
@@ -243,7 +248,8 @@ pub fn is_straight(
     requires edges { edges.now ≡ edges_at tree.now index }
     requires room { length front.now.waiting.items ≡ length tree.now.words }
     ensures { IsTrue result ↔ IsStraight tree.now (edges_at tree.now index) index last
-        (option_map (λ m. m.now) way.entry) (option_map (λ b. b.value) power.now) (held front.now) }
+        (option_map (λ m. m.now) way.entry) (option_map (λ b. b.value) power.now)
+        (abstract_front front.now) }
 {
     leads_on(tree, edges, index, last)
         && way.is_none()
@@ -254,9 +260,10 @@ pub fn is_straight(
 /// Goes past a word of straight code: its step is put behind those before it.
 pub fn skip(steps: &Steps, lag: u64, front: &mut Front)
     requires lag { lag ≤ redirect_lag }
-    requires positions { (p d q : ℕ) → Hops (held front.old).hops p d q → (p < 8) × (q < 8) }
-    requires short { (p d q : ℕ) → Hops (held front.old).hops p d q → d ≤ 2 ^ 31 }
-    ensures { IsSkipped steps.now lag (held front.old) (held front.new) }
+    requires positions { (p d q : ℕ) → Hops (abstract_front front.old).hops p d q → (p < 8) ×
+        (q < 8) }
+    requires short { (p d q : ℕ) → Hops (abstract_front front.old).hops p d q → d ≤ 2 ^ 31 }
+    ensures { IsSkipped steps.now lag (abstract_front front.old) (abstract_front front.new) }
 {
     front.hops = front.hops.then(steps.hops(lag));
 }
@@ -274,13 +281,14 @@ fn arrive(
     front: &mut Front,
 ) -> Result<(), AllocError>
     requires index { index < length front.old.waiting.items }
-    requires positions { (p d q : ℕ) → Hops (held front.old).hops p d q → (p < 8) × (q < 8) }
+    requires positions { (p d q : ℕ) → Hops (abstract_front front.old).hops p d q → (p < 8) ×
+        (q < 8) }
     ensures { OnOk result (IsArrived (option_map (λ b. b.value) power.now) index
-        (held front.old) (held front.new)) }
+        (abstract_front front.old) (abstract_front front.new)) }
 {
     let mut here = take(alloc, &mut front.waiting[index], &mut front.spare)?;
     advance(&front.base, &front.hops, &mut here);
-    go_round(power, &mut here);
+    apply_rounds(power, &mut here);
     front.spare = Some(mem::replace(&mut front.base, here));
     Ok(())
 }
@@ -300,7 +308,7 @@ fn lead(
     requires index { index < length front.old.waiting.items }
     requires within { IfSome next (λ k. k < length front.old.waiting.items) }
     ensures { OnOk result (IsLed steps.now (option_map (λ m. m.now) way.entry) next lag index
-        (held front.old) (held front.new)) }
+        (abstract_front front.old) (abstract_front front.new)) }
 {
     if way.is_none() && is_index(next, index + 1) {
         front.hops = *steps.hops(lag);
@@ -315,7 +323,7 @@ fn lead(
 /// # Errors
 ///
 /// Memory was refused.
-fn go_on(
+fn follow_edges(
     alloc: Global,
     tree: &LoopTree,
     steps: &Steps,
@@ -331,7 +339,8 @@ fn go_on(
     requires edges { edges.now ≡ edges_at tree.now index }
     requires room { length front.old.waiting.items ≡ length tree.now.words }
     ensures { OnOk result (IsGone tree.now steps.now (option_map (λ m. m.now) way.entry)
-        (edges_at tree.now index) index last (held front.old) (held front.new)) }
+        (edges_at tree.now index) index last (abstract_front front.old)
+        (abstract_front front.new)) }
 {
     let next = up_to(tree, index, last, edges.next);
     lead(alloc, steps, way, next, edges.next_lag, index, front)?;
@@ -345,7 +354,7 @@ fn go_on(
 /// # Errors
 ///
 /// Memory was refused.
-pub fn go_over(
+pub fn process_word(
     alloc: Global,
     tree: &LoopTree,
     steps: &Steps,
@@ -360,12 +369,13 @@ pub fn go_over(
     requires within { last < length tree.now.words }
     requires edges { edges.now ≡ edges_at tree.now index }
     requires room { length front.old.waiting.items ≡ length tree.now.words }
-    requires positions { (p d q : ℕ) → Hops (held front.old).hops p d q → (p < 8) × (q < 8) }
+    requires positions { (p d q : ℕ) → Hops (abstract_front front.old).hops p d q → (p < 8) ×
+        (q < 8) }
     ensures { OnOk result ((here : _) ×
-        IsArrived (option_map (λ b. b.value) power.now) index (held front.old) here ×
+        IsArrived (option_map (λ b. b.value) power.now) index (abstract_front front.old) here ×
         IsGone tree.now steps.now (option_map (λ m. m.now) way.entry)
-        (edges_at tree.now index) index last here (held front.new)) }
+        (edges_at tree.now index) index last here (abstract_front front.new)) }
 {
     arrive(alloc, power, index, front)?;
-    go_on(alloc, tree, steps, way, edges, index, last, front)
+    follow_edges(alloc, tree, steps, way, edges, index, last, front)
 }

@@ -2,13 +2,13 @@
 
 ghost use Rattle.std.specs.Prelude.{◌≡◌, length, IfOk};
 ghost use Rattle.region_tree.specs.Tree.{IsTree};
-ghost use Rattle.bound_calc.specs.Passing.{AreReached, AreWays, IsReady, over, ways_on};
+ghost use Rattle.bound_calc.specs.Propagation.{AreReached, AreWays, IsReady, over, ways_on};
 ghost use Rattle.bound_calc.specs.Section.{whole};
 
 use crate::fill::fill;
 use crate::front::Front;
 use crate::matrix::Matrix;
-use crate::pass::{begin, edges_at, go_over, span_of};
+use crate::pass::{begin, edges_at, process_word, span_of};
 use crate::steps::Steps;
 use crate::ways::Ways;
 use region_tree::LoopTree;
@@ -36,7 +36,7 @@ fn reach_in(
         let way = ways.at(index);
         let power = &powers[index];
         let edges = edges_at(tree, index);
-        go_over(alloc, tree, steps, way, power, &edges, index, last, front)?;
+        process_word(alloc, tree, steps, way, power, &edges, index, last, front)?;
         at.push(*front.base)?;
     }
     Ok(at)

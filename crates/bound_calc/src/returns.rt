@@ -4,7 +4,7 @@ ghost use Rattle.std.specs.Prelude.{◌≡◌, ℕ, ◌≤◌, length};
 ghost use Rattle.rv_decode.specs.Lag.{redirect_lag};
 ghost use Rattle.bound_calc.specs.Best.{IsBest};
 ghost use Rattle.bound_calc.specs.Matrices.{entry};
-ghost use Rattle.bound_calc.specs.Passing.{Ended, EndedHere};
+ghost use Rattle.bound_calc.specs.Propagation.{Ended, EndedHere};
 ghost use Rattle.bound_calc.specs.Section.{Steps as StepsAfter};
 
 use crate::advance::advance;

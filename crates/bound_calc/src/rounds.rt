@@ -10,11 +10,12 @@ ghost use Rattle.bound_calc.specs.Context.{body};
 ghost use Rattle.bound_calc.specs.Section.{net};
 ghost use Rattle.bound_calc.specs.Ways.{Round, Rounds};
 ghost use Rattle.bound_calc.specs.Matrices.{entry};
-ghost use Rattle.bound_calc.specs.Passing.{AreWays, IsReady, IsTurned, moved, over, ways_on};
+ghost use Rattle.bound_calc.specs.Propagation.{AreWays, IsReady, IsTurned};
+ghost use Rattle.bound_calc.specs.Propagation.{move_costs, over, ways_on};
 
 use crate::front::Front;
 use crate::matrix::Matrix;
-use crate::pass::{begin, edges_at, go_over, is_straight, join_along, skip, span_of};
+use crate::pass::{begin, edges_at, is_straight, join_along, process_word, skip, span_of};
 use crate::powers::power;
 use crate::steps::Steps;
 use crate::ways::Ways;
@@ -33,7 +34,7 @@ fn turn(
     head: u32,
 )
     requires lag { lag ≤ redirect_lag }
-    ensures { IsTurned (moved steps.now (option_map (λ m. m.now) way.entry) lag)
+    ensures { IsTurned (move_costs steps.now (option_map (λ m. m.now) way.entry) lag)
         back.old here.now target head back.new }
 {
     match target {
@@ -53,9 +54,9 @@ fn turn_edges(
 )
     requires lag { edges.now.next_lag ≤ redirect_lag }
     ensures { let way = option_map (λ m. m.now) way.entry in (mid : _) ×
-        IsTurned (moved steps.now way edges.now.next_lag)
+        IsTurned (move_costs steps.now way edges.now.next_lag)
         back.old here.now edges.now.next head mid ×
-        IsTurned (moved steps.now way redirect_lag) mid here.now edges.now.jump head back.new }
+        IsTurned (move_costs steps.now way redirect_lag) mid here.now edges.now.jump head back.new }
 {
     turn(steps, way, back, here, edges.next, edges.next_lag, head);
     turn(steps, way, back, here, edges.jump, JUMP_LAG, head);
@@ -91,7 +92,7 @@ fn back_at_head(
             skip(steps, edges.next_lag, front);
         } else {
             let power = &powers[index];
-            go_over(
+            process_word(
                 alloc, tree, steps, way, power, &edges, index, span.last, front,
             )?;
             turn_edges(steps, way, &mut back, &front.base, &edges, j.head);

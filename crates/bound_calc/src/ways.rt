@@ -14,7 +14,7 @@ pub struct Ways<'a> {
 }
 
 impl<'a> Model for Ways<'a> {
-    ghost use Rattle.bound_calc.specs.Passing.{WayTable};
+    ghost use Rattle.bound_calc.specs.Propagation.{WayTable};
 
     ghost Value = { WayTable };
 
@@ -24,7 +24,7 @@ impl<'a> Model for Ways<'a> {
 impl<'a> Ways<'a> {
     ghost use Rattle.std.specs.Prelude.{◌≡◌};
     ghost use Rattle.std.specs.Option.{option_map};
-    ghost use Rattle.bound_calc.specs.Passing.{ways_on};
+    ghost use Rattle.bound_calc.specs.Propagation.{ways_on};
 
     /// The ways by these indices into these matrices. An index that the indices don't reach, or
     /// whose index the matrices don't, has none.

@@ -1,12 +1,14 @@
 -- What is answered of a section with its routines.
 use Rattle.region_tree.specs.Refusals.{Nowhere}
 use Rattle.call_bounds.specs.CallRefusals.{EscapeAt, IsCallable}
-use Rattle.call_bounds.specs.CallRefused.{IsCallRefused, IsTreeRefused, AreCallsAllowed, ArePartsAllowed}
+use Rattle.call_bounds.specs.CallRefused.{IsCallRefused, IsTreeRefused}
+use Rattle.call_bounds.specs.CallRefused.{AreCallsAllowed, ArePartsAllowed}
 use Rattle.call_bounds.specs.Calls.{Calls}
 use Rattle.call_bounds.specs.declared.tree.CallNo.{CallNo}
 
 -- a part is refused by itself
-pub call-refused : (x : Calls) (c : CallNo) → AreCallsAllowed x → IsTreeRefused x c → IsCallRefused x c
+pub call-refused : (x : Calls) (c : CallNo) → AreCallsAllowed x → IsTreeRefused x c →
+    IsCallRefused x c
 call-refused x (CallNo.Nesting a) n h = (n, h)
 call-refused x (CallNo.IndirectJump a) n h = (n, h)
 call-refused x (CallNo.TimedWait a) n h = (n, h)
@@ -17,5 +19,14 @@ call-refused x (CallNo.Recursion a) n h = absurd h
 call-refused x (CallNo.Escape a) n h = absurd h
 
 -- nothing refuses
-pub callable : (x : Calls) → AreCallsAllowed x → ArePartsAllowed x → Nowhere (EscapeAt x) → IsCallable x
-callable x n t e = record { overlap = n.0; recursion = n.1; nesting = t.0; indirect = t.1; timed = t.2; unbounded = t.3; escape = e }
+pub callable : (x : Calls) → AreCallsAllowed x → ArePartsAllowed x →
+    Nowhere (EscapeAt x) → IsCallable x
+callable x n t e = record {
+  overlap = n.0;
+  recursion = n.1;
+  nesting = t.0;
+  indirect = t.1;
+  timed = t.2;
+  unbounded = t.3;
+  escape = e;
+}

@@ -1,5 +1,6 @@
 -- What a pass over a patched part holds is the best of the part's walks.
-use Rattle.std.proofs.Common.{◌≡◌, ℕ, ◌+◌, ◌%◌, arith, ap, sym, subst, Option, Some, None, [], ◌∷◌, slice_index_or, Contains}
+use Rattle.std.proofs.Common.{◌≡◌, ℕ, ◌+◌, ◌%◌, arith, ap, sym, subst, Option}
+use Rattle.std.proofs.Common.{Some, None, [], ◌∷◌, slice_index_or, Contains}
 use Rattle.fp_setup.specs.declared.loop_list.LoopSetup.{LoopSetup}
 use Rattle.region_tree.proofs.EdgeLaws.{edge-aligned}
 use Rattle.region_tree.specs.Edges.{edges_of}
@@ -7,11 +8,11 @@ use Rattle.region_tree.specs.Graph.{Edge, Reachable, edge_list}
 use Rattle.region_tree.specs.Tree.{IsSection, graph}
 use Rattle.bound_calc.proofs.BestLaws.{best-same}
 use Rattle.bound_calc.specs.Best.{Entries, IsBest}
-use Rattle.bound_calc.specs.Passing.{WaysOn, over, index}
+use Rattle.bound_calc.specs.Propagation.{WaysOn, over, index}
 use Rattle.bound_calc.specs.Section.{IsAccepted, net, whole}
 use Rattle.bound_calc.specs.Ways.{Reaches}
 use Rattle.call_bounds.specs.declared.routines.Routine.{Routine}
-use Rattle.call_bounds.specs.Calls.{Calls, Part, callee, onward, part, range}
+use Rattle.call_bounds.specs.Calls.{Calls, Part, callee, inner_edges, part, range}
 use Rattle.call_bounds.specs.CallWalk.{Route}
 use Rattle.call_bounds.specs.Field.{field}
 use Rattle.call_bounds.specs.Patched.{part_tree}
@@ -26,15 +27,19 @@ pub record RunsTo (x : Route) (a : Part) (v p c q : ℕ) : Type 0 where
   pub counters : LoopSetup → ℕ
   pub run : Run x a p v q c counters
 
-onward-aligned : (o : Option Routine) (w u : ℕ) (e : Edge) → u % 4 ≡ 0 → Contains (onward o u (edge_list (edges_of w u))) e → e.to % 4 ≡ 0
+onward-aligned : (o : Option Routine) (w u : ℕ) (e : Edge) → u % 4 ≡ 0 →
+    Contains (inner_edges o u (edge_list (edges_of w u))) e → e.to % 4 ≡ 0
 onward-aligned None w u e h c = edge-aligned w u e h c
 onward-aligned (Some t) w u e h c =
     let z : c.0 ≡ 0 = omega (arith, c.1) in
-    let same : record { to = u + 4; lag = 3 } ≡ e = subst (λ i. slice_index_or (record { to = u + 4; lag = 3 } ∷ []) i e ≡ e) z c.2 in
+    let same : record { to = u + 4; lag = 3 } ≡ e =
+    subst (λ i. slice_index_or (record { to = u + 4; lag = 3 } ∷ []) i e ≡ e) z c.2 in
     let to : u + 4 ≡ e.to = ap (λ (y : Edge). y.to) same in
     omega arith
 
-pub agrees-back : (x : Calls) (a : Part) → IsSection (range x a) → Agree (range x a).from (range x a).to (part x a).edges (graph (part_tree x a)).edges (part x a).stop (graph (part_tree x a)).stop
+pub agrees-back : (x : Calls) (a : Part) → IsSection (range x a) →
+    Agree (range x a).from (range x a).to (part x a).edges (graph (part_tree x a)).edges
+    (part x a).stop (graph (part_tree x a)).stop
 agrees-back x a is = let g = agrees x a is in record {
   start = g.start;
   order = g.order;
@@ -45,15 +50,26 @@ agrees-back x a is = let g = agrees x a is in record {
 
 -- the ways of a part's calls hold what their routines cost
 abbrev pub HoldsCalls : Route → Part → WaysOn → Type 0
-HoldsCalls x a ways = (u : ℕ) → Reachable (part x.calls a) u → IsWay x (callee x.calls u) (ways (index (part_tree x.calls a) u))
+HoldsCalls x a ways =
+    (u : ℕ) → Reachable (part x.calls a) u →
+    IsWay x (callee x.calls u) (ways (index (part_tree x.calls a) u))
 
-pub best-runs : (x : Route) (a : Part) (ways : WaysOn) (m : Entries) (v : ℕ) → IsSection (range x.calls a) → IsAccepted (part x.calls a) → HoldsCalls x a ways →
-    IsBest m (Reaches (net (over (part_tree x.calls a) x.positions ways)) (whole (over (part_tree x.calls a) x.positions ways)) v) → IsBest m (RunsTo x a v)
-best-runs x a ways m v is ok are best = best-same
+pub best-runs : (x : Route) (a : Part) (ways : WaysOn) (m : Entries) (v : ℕ) →
+    IsSection (range x.calls a) → IsAccepted (part x.calls a) → HoldsCalls x a ways →
+    IsBest m (Reaches (net (over (part_tree x.calls a) x.positions ways))
+    (whole (over (part_tree x.calls a) x.positions ways)) v) → IsBest m (RunsTo x a v)
+best-runs x a ways m v is ok are best =
+    best-same
     (λ p c q r. record { counters = r.counters; run = run_of x r.walk })
-    (λ p c q r. let n = netted x ok r.run in record { steps = n.steps; counters = r.counters; walk = n.walk })
+    (λ p c q r. let n = netted x ok r.run in
+    record { steps = n.steps; counters = r.counters; walk = n.walk })
     (ways-stand x a (λ u. ways (index (part_tree x.calls a) u)) (whole (field x a)) m v are
     (best-same
-    (λ p c q r. record { steps = r.steps; counters = r.counters; walk = walks (agrees x.calls a is) r.walk })
-    (λ p c q r. record { steps = r.steps; counters = r.counters; walk = walks (agrees-back x.calls a is) r.walk })
+    (λ p c q r.
+    record { steps = r.steps; counters = r.counters; walk = walks (agrees x.calls a is) r.walk })
+    (λ p c q r. record {
+      steps = r.steps;
+      counters = r.counters;
+      walk = walks (agrees-back x.calls a is) r.walk;
+    })
     best))

@@ -1,37 +1,45 @@
 -- The parts of a section with routines.
-use Rattle.std.proofs.Common.{◌≡◌, ℕ, ◌+◌, ◌<◌, refl, arith, subst, sym, Option, Some, None, List, Contains}
+use Rattle.std.proofs.Common.{◌≡◌, ℕ, ◌+◌, ◌<◌, refl, arith, subst}
+use Rattle.std.proofs.Common.{sym, Option, Some, None, List, Contains}
 use Rattle.fp_setup.specs.declared.loop_list.LoopSetup.{LoopSetup}
 use Rattle.region_tree.specs.Edges.{edges_of}
 use Rattle.region_tree.specs.Graph.{Edge, Lies, Reachable, edge_list}
 use Rattle.region_tree.specs.Graph.Reachable.{first, next}
 use Rattle.bound_calc.specs.Section.{IsAccepted}
 use Rattle.call_bounds.specs.declared.routines.Routine.{Routine}
-use Rattle.call_bounds.specs.Calls.{Calls, CallsLead, IsReached, Part, callee, onward, part, plain, plain_unless}
+use Rattle.call_bounds.specs.Calls.{Calls, CallsLead, IsReached, Part, callee}
+use Rattle.call_bounds.specs.Calls.{inner_edges, part, plain_edges, plain_unless}
 
 -- What is known of parts where nothing refuses.
 pub record AreParts (x : Calls) : Type 0 where
   pub some : (a : Part) → IsReached x a → (part x a).from < (part x a).to
-  pub same : (a b : Part) (v : ℕ) → IsReached x a → IsReached x b → Lies (part x a) v → Lies (part x b) v → a ≡ b
+  pub same : (a b : Part) (v : ℕ) → IsReached x a → IsReached x b → Lies (part x a) v →
+      Lies (part x b) v → a ≡ b
   pub once : (a : Part) → CallsLead x a a → ⊥
   pub accepted : (a : Part) → IsReached x a → IsAccepted (part x a)
 
-plain-in : (o : Option Routine) (u : ℕ) (edges : List Edge) (e : Edge) → Contains (plain_unless o edges) e → Contains (onward o u edges) e
+plain-in : (o : Option Routine) (u : ℕ) (edges : List Edge) (e : Edge) →
+    Contains (plain_unless o edges) e → Contains (inner_edges o u edges) e
 plain-in None u edges e h = h
 plain-in (Some r) u edges e h = absurd (omega (arith, h.1))
 
 -- plain edges are edges of the part
-pub plain-edge : (x : Calls) (a : Part) (u : ℕ) (e : Edge) → Contains (plain x u) e → Contains ((part x a).edges u) e
+pub plain-edge : (x : Calls) (a : Part) (u : ℕ) (e : Edge) → Contains (plain_edges x u) e →
+    Contains ((part x a).edges u) e
 plain-edge x a u e h = plain-in (callee x u) u (edge_list (edges_of (x.word u) u)) e h
 
-call-in : (o : Option Routine) (t : Routine) (u : ℕ) (edges : List Edge) → o ≡ Some t → Contains (onward o u edges) (record { to = u + 4; lag = 3 })
+call-in : (o : Option Routine) (t : Routine) (u : ℕ) (edges : List Edge) → o ≡ Some t →
+    Contains (inner_edges o u edges) (record { to = u + 4; lag = 3 })
 call-in None t u edges e = cc
 call-in (Some r) t u edges e = (0, omega arith, refl)
 
 -- a call leads on to the word after it
-pub call-edge : (x : Calls) (a : Part) (u : ℕ) (t : Routine) → callee x u ≡ Some t → Contains ((part x a).edges u) (record { to = u + 4; lag = 3 })
+pub call-edge : (x : Calls) (a : Part) (u : ℕ) (t : Routine) → callee x u ≡ Some t →
+    Contains ((part x a).edges u) (record { to = u + 4; lag = 3 })
 call-edge x a u t e = call-in (callee x u) t u (edge_list (edges_of (x.word u) u)) e
 
-pub word-lies : (x : Calls) (a : Part) (u : ℕ) → (part x a).from < (part x a).to → Reachable (part x a) u → Lies (part x a) u
+pub word-lies : (x : Calls) (a : Part) (u : ℕ) → (part x a).from < (part x a).to →
+    Reachable (part x a) u → Lies (part x a) u
 word-lies x a u some first = record { low = omega arith; high = some }
 word-lies x a u some (next e r h l) = l
 
@@ -45,9 +53,13 @@ lead-from x a b (CallsLead.one r w e) = r
 lead-from x a b (CallsLead.more l r w e) = lead-from x a _ l
 
 -- two parts of which one leads to the other share no word
-pub apart : (x : Calls) (a b : Part) (v : ℕ) → AreParts x → CallsLead x a b → Lies (part x a) v → Lies (part x b) v → ⊥
-apart x a b v is l la lb = is.once a (subst (λ b. CallsLead x a b) (sym (is.same a b v (lead-from x a b l) (lead-reached x a b l) la lb)) l)
+pub apart : (x : Calls) (a b : Part) (v : ℕ) → AreParts x → CallsLead x a b → Lies (part x a) v →
+    Lies (part x b) v → ⊥
+apart x a b v is l la lb =
+    is.once a (subst (λ b. CallsLead x a b)
+    (sym (is.same a b v (lead-from x a b l) (lead-reached x a b l) la lb)) l)
 
 -- a loop of a part has its head there
-pub head-lies : (x : Calls) (a : Part) (j : LoopSetup) → IsAccepted (part x a) → Contains (part x a).loops j → Lies (part x a) j.head
+pub head-lies : (x : Calls) (a : Part) (j : LoopSetup) → IsAccepted (part x a) →
+    Contains (part x a).loops j → Lies (part x a) j.head
 head-lies x a j is h = let o = is.ordered j h in record { low = o.0; high = omega arith }

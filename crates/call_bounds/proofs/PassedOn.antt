@@ -2,17 +2,21 @@
 use Rattle.std.proofs.Common.{◌≡◌, sym, subst, Result, Ok, Err, IfOk, IfErr, OnOk}
 use Rattle.std.specs.Result.{IsErrAnd}
 use Rattle.call_bounds.specs.declared.tree.CallNo.{CallNo}
-use Rattle.call_bounds.specs.declared.tree.CallNo.TheVariants.{Escape, IndirectJump, Nesting, NoMemory, Overlap, Recursion, TimedWait, UnboundedBackEdge}
+use Rattle.call_bounds.specs.declared.tree.CallNo.TheVariants.{Escape, IndirectJump, Nesting}
+use Rattle.call_bounds.specs.declared.tree.CallNo.TheVariants.{NoMemory, Overlap, Recursion}
+use Rattle.call_bounds.specs.declared.tree.CallNo.TheVariants.{TimedWait, UnboundedBackEdge}
 use Rattle.call_bounds.specs.Calls.{Calls}
 use Rattle.call_bounds.specs.CallRefused.{AreCallsAllowed, IsCallRefused, IsTreeRefused}
 
 -- nothing of a value
-pub no-value : {A E : Type 0} (r : Result A E) (P : A → Type 0) (Q : E → Type 0) → IsErrAnd r Q → IfOk r P
+pub no-value : {A E : Type 0} (r : Result A E) (P : A → Type 0) (Q : E → Type 0) →
+    IsErrAnd r Q → IfOk r P
 no-value (Ok value) P Q h = absurd h
 no-value (Err why) P Q h = tt
 
 -- nothing of there being one
-pub no-success : {A E : Type 0} (r : Result A E) (P : Type 0) (Q : E → Type 0) → IsErrAnd r Q → OnOk r P
+pub no-success : {A E : Type 0} (r : Result A E) (P : Type 0) (Q : E → Type 0) →
+    IsErrAnd r Q → OnOk r P
 no-success (Ok value) P Q h = absurd h
 no-success (Err why) P Q h = tt
 
@@ -22,16 +26,19 @@ any-success (Ok value) P p = p
 any-success (Err why) P p = tt
 
 -- an error is told as it was
-pub told-as : {A E : Type 0} (P : E → Type 0) (r : Result A E) (why : E) → IsErrAnd r (λ told. told ≡ why) → P why → IfErr r P
+pub told-as : {A E : Type 0} (P : E → Type 0) (r : Result A E) (why : E) →
+    IsErrAnd r (λ told. told ≡ why) → P why → IfErr r P
 told-as P (Ok value) why h is = absurd h
 told-as P (Err told) why h is = subst P (sym h) is
 
 -- that memory was refused is told whatever holds
-pub memory-refused : {A : Type 0} (x : Calls) (r : Result A CallNo) → IsErrAnd r (λ told. told ≡ NoMemory) → IfErr r (IsCallRefused x)
+pub memory-refused : {A : Type 0} (x : Calls) (r : Result A CallNo) →
+    IsErrAnd r (λ told. told ≡ NoMemory) → IfErr r (IsCallRefused x)
 memory-refused x r h = told-as (IsCallRefused x) r NoMemory h tt
 
 -- a refusal of a part is one of the whole, where nothing earlier holds
-pub tree-refused : (x : Calls) (why : CallNo) → AreCallsAllowed x → IsTreeRefused x why → IsCallRefused x why
+pub tree-refused : (x : Calls) (why : CallNo) → AreCallsAllowed x → IsTreeRefused x why →
+    IsCallRefused x why
 tree-refused x (Nesting a) allowed is = (allowed, is)
 tree-refused x (IndirectJump a) allowed is = (allowed, is)
 tree-refused x (TimedWait a) allowed is = (allowed, is)

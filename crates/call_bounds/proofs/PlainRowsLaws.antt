@@ -13,4 +13,7 @@ reached-section x None is r = is.section
 reached-section x (Some t) is r = routine-section t (is.routines.each t (reached-listed x t r))
 
 pub rows-name-plain-edges : RowsNamePlainEdges
-rows-name-plain-edges x is p r = ((λ a h. entered-plain x p a (reached-section x p is r) is.loops h), (λ u h. unbounded-plain x p u h))
+rows-name-plain-edges x is p r = (
+  (λ a h. entered-plain x p a (reached-section x p is r) is.loops h),
+  (λ u h. unbounded-plain x p u h),
+)

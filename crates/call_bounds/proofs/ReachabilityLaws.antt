@@ -1,8 +1,12 @@
 -- Meeting callees until nothing is new.
-use Rattle.std.proofs.Common.{◌≡◌, ◌≢◌, ℕ, zero, suc, ◌+◌, ◌<◌, ◌≤◌, ◌⊎◌, refl, arith, inl, inr, ap, sym, subst, ◌∙◌, cond, if◌then◌else◌, Bool, true, false, List, [], length, replicate, slice_index_or, slice_set, get_or-set_other, get_or-set_same, length-set}
+use Rattle.std.proofs.Common.{◌≡◌, ◌≢◌, ℕ, zero, suc, ◌+◌, ◌<◌, ◌≤◌, ◌⊎◌, refl, arith}
+use Rattle.std.proofs.Common.{inl, inr, ap, sym, subst, ◌∙◌, cond, if◌then◌else◌, Bool}
+use Rattle.std.proofs.Common.{true, false, List, [], length, replicate, slice_index_or}
+use Rattle.std.proofs.Common.{slice_set, get_or-set_other, get_or-set_same, length-set}
 use Rattle.std.proofs.lemmas.List.{get_or_default, get_or_past, length-replicate}
 use Rattle.std.proofs.lemmas.List.Sums.{sum_by-set}
-use Rattle.call_bounds.specs.Reachability.{DoesCall, IsClosed, IsExact, IsSound, Led, Spread, SpreadMet, Swept, is_met, unmet}
+use Rattle.call_bounds.specs.Reachability.{DoesCall, IsClosed, IsExact, IsSound, IsCalled}
+use Rattle.call_bounds.specs.Reachability.{Spread, SpreadMet, Swept, is_met, unmet_count}
 
 is_or_not : (a b : ℕ) → (a ≡ b) ⊎ (a ≢ b)
 is_or_not a b = grind arith
@@ -19,7 +23,8 @@ met-within met k h = go (let z : (k < length met) ⊎ (length met ≤ k) = grind
     go (inr past) = absurd (differ (is_met met k) h (get_or_past met k false past))
 
 -- a mark, as it is read
-pub mark-at : (met : List Bool) (k : ℕ) (b : Bool) → k < length met → b ≡ slice_index_or met k b → is_met met k ≡ b
+pub mark-at : (met : List Bool) (k : ℕ) (b : Bool) → k < length met → b ≡ slice_index_or met k b →
+    is_met met k ≡ b
 mark-at met k b within e = get_or_default met k false b within ∙ sym e
 
 none-at : (n k : ℕ) → is_met (replicate n false) k ≡ false
@@ -28,14 +33,27 @@ none-at (suc n) zero = refl
 none-at (suc n) (suc k) = none-at n k
 
 -- so many marks, of which none is set
-pub none-met : (n : ℕ) (met : List Bool) → met ≡ replicate n false → (length met ≡ n) × ((k : ℕ) → is_met met k ≡ false)
-none-met n met e = (ap length e ∙ length-replicate n false, λ k. ap (λ m. is_met m k) e ∙ none-at n k)
+pub none-met : (n : ℕ) (met : List Bool) → met ≡ replicate n false →
+    (length met ≡ n) × ((k : ℕ) → is_met met k ≡ false)
+none-met n met e =
+    (ap length e ∙ length-replicate n false, λ k. ap (λ m. is_met m k) e ∙ none-at n k)
 
-pub spread-start : (n : ℕ) (table : List Bool) (j : ℕ) (met : List Bool) → length met ≡ n → Spread n table j 0 met met false
-spread-start n table j met count = record { count = count; grows = λ k h. h; here = λ k lt h. absurd (omega arith); from = λ k h. inl h; same = λ e. refl; less = λ e. cc; fewer = omega arith }
+pub spread-start : (n : ℕ) (table : List Bool) (j : ℕ) (met : List Bool) → length met ≡ n →
+    Spread n table j 0 met met false
+spread-start n table j met count = record {
+  count = count;
+  grows = λ k h. h;
+  here = λ k lt h. absurd (omega arith);
+  from = λ k h. inl h;
+  same = λ e. refl;
+  less = λ e. cc;
+  fewer = omega arith;
+}
 
 -- a callee that is new
-pub spread-one : (n : ℕ) (table : List Bool) (j c : ℕ) (old new : List Bool) (changed : Bool) → DoesCall n table j c → is_met new c ≡ false → Spread n table j c old new changed → Spread n table j (c + 1) old (slice_set new c true) true
+pub spread-one : (n : ℕ) (table : List Bool) (j c : ℕ) (old new : List Bool) (changed : Bool) →
+    DoesCall n table j c → is_met new c ≡ false → Spread n table j c old new changed →
+    Spread n table j (c + 1) old (slice_set new c true) true
 spread-one n table j c old new changed call fresh s = record {
   count = length-set new c true ∙ s.count;
   grows = λ k h. grows k (s.grows k h) (is_or_not k c);
@@ -49,27 +67,37 @@ spread-one n table j c old new changed call fresh s = record {
     within : c < length new
     within = let w = call.1 in omega (arith, s.count)
 
-    drop : unmet (slice_set new c true) < unmet old
+    drop : unmet_count (slice_set new c true) < unmet_count old
     drop =
-        let one : unmet (slice_set new c true) + cond {A = ℕ} (is_met new c) 0 1 ≡ unmet new + 0 = sum_by-set (λ b. cond b 0 1) new c true false within in
+        let one : unmet_count (slice_set new c true) + cond {A = ℕ} (is_met new c) 0 1
+        ≡ unmet_count new + 0 = sum_by-set (λ b. cond b 0 1) new c true false within in
         let was : cond {A = ℕ} (is_met new c) 0 1 ≡ 1 = ap (λ b. cond b 0 1) fresh in
         let f = s.fewer in
         omega arith
 
-    grows : (k : ℕ) → is_met new k ≡ true → (k ≡ c) ⊎ (k ≢ c) → is_met (slice_set new c true) k ≡ true
-    grows k h (inl same) = subst (λ k. is_met (slice_set new c true) k ≡ true) (sym same) (get_or-set_same new c true false within)
+    grows : (k : ℕ) → is_met new k ≡ true → (k ≡ c) ⊎ (k ≢ c) →
+        is_met (slice_set new c true) k ≡ true
+    grows k h (inl same) =
+        subst (λ k. is_met (slice_set new c true) k ≡ true) (sym same)
+        (get_or-set_same new c true false within)
     grows k h (inr other) = get_or-set_other new c k true false other ∙ h
 
-    grows-here : (k : ℕ) → DoesCall n table j k → (k < c) ⊎ (k ≡ c) → is_met (slice_set new c true) k ≡ true
+    grows-here : (k : ℕ) → DoesCall n table j k → (k < c) ⊎ (k ≡ c) →
+        is_met (slice_set new c true) k ≡ true
     grows-here k h (inl below) = grows k (s.here k below h) (is_or_not k c)
-    grows-here k h (inr same) = subst (λ k. is_met (slice_set new c true) k ≡ true) (sym same) (get_or-set_same new c true false within)
+    grows-here k h (inr same) =
+        subst (λ k. is_met (slice_set new c true) k ≡ true) (sym same)
+        (get_or-set_same new c true false within)
 
-    came : (k : ℕ) → is_met (slice_set new c true) k ≡ true → (k ≡ c) ⊎ (k ≢ c) → (is_met old k ≡ true) ⊎ DoesCall n table j k
+    came : (k : ℕ) → is_met (slice_set new c true) k ≡ true → (k ≡ c) ⊎ (k ≢ c) →
+        (is_met old k ≡ true) ⊎ DoesCall n table j k
     came k h (inl same) = inr (subst (λ k. DoesCall n table j k) (sym same) call)
     came k h (inr other) = s.from k (sym (get_or-set_other new c k true false other) ∙ h)
 
 -- one that is none, or was met
-pub spread-same : (n : ℕ) (table : List Bool) (j c : ℕ) (old new : List Bool) (changed : Bool) → (DoesCall n table j c → is_met new c ≡ true) → Spread n table j c old new changed → Spread n table j (c + 1) old new changed
+pub spread-same : (n : ℕ) (table : List Bool) (j c : ℕ) (old new : List Bool) (changed : Bool) →
+    (DoesCall n table j c → is_met new c ≡ true) → Spread n table j c old new changed →
+    Spread n table j (c + 1) old new changed
 spread-same n table j c old new changed known s = record {
   count = s.count;
   grows = s.grows;
@@ -82,13 +110,23 @@ spread-same n table j c old new changed known s = record {
   where
     here : (k : ℕ) → DoesCall n table j k → (k < c) ⊎ (k ≡ c) → is_met new k ≡ true
     here k h (inl below) = s.here k below h
-    here k h (inr e) = subst (λ k. is_met new k ≡ true) (sym e) (known (subst (λ k. DoesCall n table j k) e h))
+    here k h (inr e) =
+        subst (λ k. is_met new k ≡ true) (sym e) (known (subst (λ k. DoesCall n table j k) e h))
 
 pub sweep-start : (n : ℕ) (table met : List Bool) → length met ≡ n → Swept n table 0 met met false
-sweep-start n table met count = record { count = count; grows = λ k h. h; sound = λ a h. h; closed = λ e j k lt h. absurd (omega arith); same = λ e. refl; less = λ e. cc; fewer = omega arith }
+sweep-start n table met count = record {
+  count = count;
+  grows = λ k h. h;
+  sound = λ a h. h;
+  closed = λ e j k lt h. absurd (omega arith);
+  same = λ e. refl;
+  less = λ e. cc;
+  fewer = omega arith;
+}
 
 -- a part that isn't met
-pub sweep-none : (n : ℕ) (table : List Bool) (c : ℕ) (old new : List Bool) (changed : Bool) → is_met new c ≡ false → Swept n table c old new changed → Swept n table (c + 1) old new changed
+pub sweep-none : (n : ℕ) (table : List Bool) (c : ℕ) (old new : List Bool) (changed : Bool) →
+    is_met new c ≡ false → Swept n table c old new changed → Swept n table (c + 1) old new changed
 sweep-none n table c old new changed out s = record {
   count = s.count;
   grows = s.grows;
@@ -99,15 +137,22 @@ sweep-none n table c old new changed out s = record {
   fewer = s.fewer;
 }
   where
-    closed : changed ≡ false → (j k : ℕ) → is_met new j ≡ true → DoesCall n table j k → (j < c) ⊎ (j ≡ c) → is_met new k ≡ true
+    closed : changed ≡ false → (j k : ℕ) → is_met new j ≡ true → DoesCall n table j k →
+        (j < c) ⊎ (j ≡ c) → is_met new k ≡ true
     closed e j k h call (inl below) = s.closed e j k below h call
-    closed e j k h call (inr same) = absurd (differ (is_met new c) (subst (λ j. is_met new j ≡ true) same h) out)
+    closed e j k h call (inr same) =
+        absurd (differ (is_met new c) (subst (λ j. is_met new j ≡ true) same h) out)
 
-sound-more : (n : ℕ) (table : List Bool) (c a : ℕ) (mid new : List Bool) (more : Bool) → is_met mid c ≡ true → Spread n table c n mid new more → IsSound n table a mid → IsSound n table a new
-sound-more n table c a mid new more here p sound k h = elim (p.from k h) [ inl old ↦ sound k old | inr call ↦ Led.more (sound c here) call ]
+sound-more : (n : ℕ) (table : List Bool) (c a : ℕ) (mid new : List Bool) (more : Bool) →
+    is_met mid c ≡ true → Spread n table c n mid new more → IsSound n table a mid →
+    IsSound n table a new
+sound-more n table c a mid new more here p sound k h =
+    elim (p.from k h) [ inl old ↦ sound k old | inr call ↦ IsCalled.more (sound c here) call ]
 
 -- a part that is met, with a callee that is new
-pub sweep-more : (n : ℕ) (table : List Bool) (c : ℕ) (old mid new : List Bool) (changed : Bool) → is_met mid c ≡ true → Swept n table c old mid changed → Spread n table c n mid new true → Swept n table (c + 1) old new true
+pub sweep-more : (n : ℕ) (table : List Bool) (c : ℕ) (old mid new : List Bool) (changed : Bool) →
+    is_met mid c ≡ true → Swept n table c old mid changed → Spread n table c n mid new true →
+    Swept n table (c + 1) old new true
 sweep-more n table c old mid new changed here s p = record {
   count = p.count;
   grows = λ k h. p.grows k (s.grows k h);
@@ -119,44 +164,63 @@ sweep-more n table c old mid new changed here s p = record {
 }
 
 -- a part that is met, with none
-pub sweep-same : (n : ℕ) (table : List Bool) (c : ℕ) (old mid new : List Bool) (changed : Bool) → is_met mid c ≡ true → Swept n table c old mid changed → Spread n table c n mid new false → Swept n table (c + 1) old new changed
-sweep-same n table c old mid new changed here s p = subst (λ m. Swept n table (c + 1) old m changed) (sym (p.same refl)) (record {
-  count = s.count;
-  grows = s.grows;
-  sound = s.sound;
-  closed = λ e j k lt h call. closed e j k h call (let z : (j < c) ⊎ (j ≡ c) = grind arith in z);
-  same = s.same;
-  less = s.less;
-  fewer = s.fewer;
-})
+pub sweep-same : (n : ℕ) (table : List Bool) (c : ℕ) (old mid new : List Bool) (changed : Bool) →
+    is_met mid c ≡ true → Swept n table c old mid changed → Spread n table c n mid new false →
+    Swept n table (c + 1) old new changed
+sweep-same n table c old mid new changed here s p =
+    subst (λ m. Swept n table (c + 1) old m changed) (sym (p.same refl)) (record {
+      count = s.count;
+      grows = s.grows;
+      sound = s.sound;
+      closed =
+          λ e j k lt h call. closed e j k h call (let z : (j < c) ⊎ (j ≡ c) = grind arith in z);
+      same = s.same;
+      less = s.less;
+      fewer = s.fewer;
+    })
   where
-    closed : changed ≡ false → (j k : ℕ) → is_met mid j ≡ true → DoesCall n table j k → (j < c) ⊎ (j ≡ c) → is_met mid k ≡ true
+    closed : changed ≡ false → (j k : ℕ) → is_met mid j ≡ true → DoesCall n table j k →
+        (j < c) ⊎ (j ≡ c) → is_met mid k ≡ true
     closed e j k h call (inl below) = s.closed e j k below h call
-    closed e j k h call (inr same) = subst (λ m. is_met m k ≡ true) (p.same refl) (p.here k call.1 (subst (λ j. DoesCall n table j k) same call))
+    closed e j k h call (inr same) =
+        subst (λ m. is_met m k ≡ true) (p.same refl)
+        (p.here k call.1 (subst (λ j. DoesCall n table j k) same call))
 
 -- one part more
-pub sweep-part : (n : ℕ) (table : List Bool) (c : ℕ) (old mid new : List Bool) (changed more : Bool) → Swept n table c old mid changed → SpreadMet n table c mid new more → Swept n table (c + 1) old new (if more then true else changed)
-sweep-part n table c old mid new changed more s (inl z) = subst (λ m. Swept n table (c + 1) old m (if more then true else changed)) (sym z.2)
-    (subst (λ b. Swept n table (c + 1) old mid (if b then true else changed)) (sym z.1) (sweep-none n table c old mid changed z.0 s))
-sweep-part n table c old mid new changed true s (inr z) = sweep-more n table c old mid new changed z.0 s z.1
-sweep-part n table c old mid new changed false s (inr z) = sweep-same n table c old mid new changed z.0 s z.1
+pub sweep-part : (n : ℕ) (table : List Bool) (c : ℕ) (old mid new : List Bool)
+    (changed more : Bool) → Swept n table c old mid changed → SpreadMet n table c mid new more →
+    Swept n table (c + 1) old new (if more then true else changed)
+sweep-part n table c old mid new changed more s (inl z) =
+    subst (λ m. Swept n table (c + 1) old m (if more then true else changed)) (sym z.2)
+    (subst (λ b. Swept n table (c + 1) old mid (if b then true else changed)) (sym z.1)
+    (sweep-none n table c old mid changed z.0 s))
+sweep-part n table c old mid new changed true s (inr z) =
+    sweep-more n table c old mid new changed z.0 s z.1
+sweep-part n table c old mid new changed false s (inr z) =
+    sweep-same n table c old mid new changed z.0 s z.1
 
 -- while the rounds go on
-pub record Goes (n : ℕ) (table : List Bool) (a : ℕ) (met : List Bool) (changed : Bool) : Type 0 where
+pub record Goes (n : ℕ) (table : List Bool) (a : ℕ) (met : List Bool)
+    (changed : Bool) : Type 0 where
   pub count : length met ≡ n
   pub sound : IsSound n table a met
   pub begun : (k : ℕ) → DoesCall n table a k → is_met met k ≡ true
   pub closed : changed ≡ false → IsClosed n table met
 
-pub goes-start : (n : ℕ) (table : List Bool) (a : ℕ) (old new : List Bool) (changed : Bool) → ((k : ℕ) → is_met old k ≡ false) → Spread n table a n old new changed → Goes n table a new true
+pub goes-start : (n : ℕ) (table : List Bool) (a : ℕ) (old new : List Bool) (changed : Bool) →
+    ((k : ℕ) → is_met old k ≡ false) → Spread n table a n old new changed → Goes n table a new true
 goes-start n table a old new changed none p = record {
   count = p.count;
-  sound = λ k h. elim (p.from k h) [ inl o ↦ absurd (differ (is_met old k) o (none k)) | inr call ↦ Led.one call ];
+  sound = λ k h. elim (p.from k h) [
+    | inl o ↦ absurd (differ (is_met old k) o (none k))
+    | inr call ↦ IsCalled.one call
+  ];
   begun = λ k call. p.here k call.1 call;
   closed = λ e. cc;
 }
 
-pub goes-on : (n : ℕ) (table : List Bool) (a : ℕ) (old new : List Bool) (before changed : Bool) → Goes n table a old before → Swept n table n old new changed → Goes n table a new changed
+pub goes-on : (n : ℕ) (table : List Bool) (a : ℕ) (old new : List Bool) (before changed : Bool) →
+    Goes n table a old before → Swept n table n old new changed → Goes n table a new changed
 goes-on n table a old new before changed g s = record {
   count = s.count;
   sound = s.sound a g.sound;
@@ -164,12 +228,13 @@ goes-on n table a old new before changed g s = record {
   closed = λ e j k h call. s.closed e j k call.0 h call;
 }
 
-pub exact : (n : ℕ) (table : List Bool) (a : ℕ) (met : List Bool) → Goes n table a met false → IsExact n table a met
+pub exact : (n : ℕ) (table : List Bool) (a : ℕ) (met : List Bool) → Goes n table a met false →
+    IsExact n table a met
 exact n table a met g = record { count = g.count; exact = λ k. (g.sound k, there k) }
   where
-    there : (k : ℕ) → Led n table a k → is_met met k ≡ true
+    there : (k : ℕ) → IsCalled n table a k → is_met met k ≡ true
     there k l = found l
       where
-        found : {k : ℕ} → Led n table a k → is_met met k ≡ true
-        found (Led.one call) = g.begun _ call
-        found (Led.more l call) = g.closed refl _ _ (found l) call
+        found : {k : ℕ} → IsCalled n table a k → is_met met k ≡ true
+        found (IsCalled.one call) = g.begun _ call
+        found (IsCalled.more l call) = g.closed refl _ _ (found l) call

@@ -1,8 +1,10 @@
 -- The definition of a file of routines, computed on some files.
 use Rattle.std.proofs.Common.{◌≡◌, ℕ, List, [], ◌∷◌, None, Result, Ok, Err, refl}
 use Rattle.std.specs.Prelude.{codes}
-use Rattle.call_bounds.specs.RoutinesFile.{lines_of, number_from, routine_at, routines_from, routines_of}
-use Rattle.call_bounds.specs.declared.routines_refusals.RoutinesNo.TheVariants.{TooMany, BadLine, BadPlace, Order}
+use Rattle.call_bounds.specs.RoutinesFile.{lines_of, number_from, routine_at}
+use Rattle.call_bounds.specs.RoutinesFile.{routines_from, routines_of}
+use Rattle.call_bounds.specs.declared.routines_refusals.RoutinesNo.TheVariants.{TooMany, BadLine}
+use Rattle.call_bounds.specs.declared.routines_refusals.RoutinesNo.TheVariants.{BadPlace, Order}
 use Rattle.call_bounds.specs.declared.routines_refusals.RoutinesRefused.{RoutinesRefused}
 use Rattle.call_bounds.specs.declared.routines_refusals.RoutinesRefused.TheVariants.{Fault}
 use Rattle.call_bounds.specs.declared.routines.Routine.{Routine}
@@ -19,7 +21,8 @@ one : read (codes "00000100 00000104\n") ≡ Ok (record { head = 0x100; last = 0
 unfolding routines_of routines_from lines_of routine_at number_from
 one = refl
 
-two : read (codes "00000100 00000104\n00000108 00003ffc\n") ≡ Ok (record { head = 0x100; last = 0x104 } ∷ record { head = 0x108; last = 0x3ffc } ∷ [])
+two : read (codes "00000100 00000104\n00000108 00003ffc\n")
+    ≡ Ok (record { head = 0x100; last = 0x104 } ∷ record { head = 0x108; last = 0x3ffc } ∷ [])
 unfolding routines_of routines_from lines_of routine_at number_from
 two = refl
 

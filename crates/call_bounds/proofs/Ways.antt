@@ -1,11 +1,12 @@
 -- What is best where calls cost what matrices say is best where they cost what their routines do.
-use Rattle.std.proofs.Common.{◌≡◌, ℕ, ◌≤◌, refl, arith, sym, subst, Option, Some, None, min, Contains}
+use Rattle.std.proofs.Common.{◌≡◌, ℕ, ◌≤◌, refl, arith, sym, subst}
+use Rattle.std.proofs.Common.{Option, Some, None, min, Contains}
 use Rattle.region_tree.specs.Graph.{Reachable}
 use Rattle.region_tree.specs.Walk.{IsOwn}
 use Rattle.bound_calc.specs.Best.{Costs, Entries, IsBest, Then, ceiling}
-use Rattle.bound_calc.specs.Context.{Part as Piece}
+use Rattle.bound_calc.specs.Context.{Scope as Piece}
 use Rattle.bound_calc.specs.Matrices.{entry}
-use Rattle.bound_calc.specs.Passing.{moved}
+use Rattle.bound_calc.specs.Propagation.{move_costs}
 use Rattle.bound_calc.specs.Section.{Arc, Field, Steps, net}
 use Rattle.bound_calc.specs.Ways.{Reaches}
 use Rattle.bound_calc.specs.declared.matrix.Matrix.{Matrix}
@@ -14,38 +15,80 @@ use Rattle.call_bounds.specs.Calls.{Part, callee, part}
 use Rattle.call_bounds.specs.CallWalk.{Route}
 use Rattle.call_bounds.specs.Field.{field, moves}
 use Rattle.call_bounds.specs.Runs.{Through}
-use Rattle.call_bounds.proofs.Dominance.{Stands, stands}
+use Rattle.call_bounds.proofs.Dominance.{CostsAgree, costs_agree}
 
--- the matrix of a word: none where it is no call, and else the best of the jump and what its routine costs
+-- the matrix of a word: none where it is no call, and else the best of the jump and what its
+-- routine costs
 abbrev pub IsWayOf : Route → (Routine → Costs) → Option Routine → Option Matrix → Type 0
 IsWayOf x f None w = w ≡ None
-IsWayOf x f (Some t) w = (m : Matrix) × (w ≡ Some m) × IsBest (entry m) (Then (Steps x.positions 3) (f t))
+IsWayOf x f (Some t) w =
+    (m : Matrix) × (w ≡ Some m) × IsBest (entry m) (Then (Steps x.positions 3) (f t))
 
 -- of going on to the word after it
 abbrev pub IsWay : Route → Option Routine → Option Matrix → Type 0
 IsWay x = IsWayOf x (Through x)
 
-pub covered : (x : Route) (o : Option Routine) (w : Option Matrix) (lag p d q : ℕ) → IsWay x o w → moves x o lag p d q → (e : ℕ) × moved x.positions w lag p e q × (min d ceiling ≤ e)
-covered x None w lag p d q is m = (d, subst (λ w. moved x.positions w lag p d q) (sym is) m, (let le : d ≤ d = omega arith in under d d ceiling le))
+pub covered : (x : Route) (o : Option Routine) (w : Option Matrix) (lag p d q : ℕ) → IsWay x o w →
+    moves x o lag p d q → (e : ℕ) × move_costs x.positions w lag p e q × (min d ceiling ≤ e)
+covered x None w lag p d q is m = (
+  d,
+  subst (λ w. move_costs x.positions w lag p d q) (sym is) m,
+  (let le : d ≤ d = omega arith in under d d ceiling le),
+)
   where
     under : (d e n : ℕ) → d ≤ e → min d n ≤ e
     under d e n h = omega arith
-covered x (Some t) w lag p d q is m = let z = is.2.0 p d q m in (z.0, subst (λ w. moved x.positions w lag p z.0 q) (sym is.1) z.1, z.2)
+covered x (Some t) w lag p d q is m =
+    let z = is.2.0 p d q m in
+    (z.0, subst (λ w. move_costs x.positions w lag p z.0 q) (sym is.1) z.1, z.2)
 
-pub found : (x : Route) (o : Option Routine) (w : Option Matrix) (lag p e q : ℕ) → IsWay x o w → moved x.positions w lag p e q → (d : ℕ) × moves x o lag p d q × (min e ceiling ≡ min d ceiling)
-found x None w lag p e q is m = (e, subst (λ w. moved x.positions w lag p e q) is m, refl)
-found x (Some t) w lag p e q is m = is.2.1 p e q (subst (λ w. moved x.positions w lag p e q) is.1 m)
+pub found : (x : Route) (o : Option Routine) (w : Option Matrix) (lag p e q : ℕ) →
+    IsWay x o w → move_costs x.positions w lag p e q →
+    (d : ℕ) × moves x o lag p d q × (min e ceiling ≡ min d ceiling)
+found x None w lag p e q is m = (e, subst (λ w. move_costs x.positions w lag p e q) is m, refl)
+found x (Some t) w lag p e q is m =
+    is.2.1 p e q (subst (λ w. move_costs x.positions w lag p e q) is.1 m)
 
 -- the part, gone over by its words' ways
 abbrev pub by_ways : Route → Part → (ℕ → Option Matrix) → Field
-by_ways x a ways = record { graph = part x.calls a; own = IsOwn x.positions; move = λ u lag. moved x.positions (ways u) lag }
+by_ways x a ways = record {
+  graph = part x.calls a;
+  own = IsOwn x.positions;
+  move = λ u lag. move_costs x.positions (ways u) lag;
+}
 
-pub ways-stand : (x : Route) (a : Part) (ways : ℕ → Option Matrix) (s : Piece) (m : Entries) (v : ℕ) → ((u : ℕ) → Reachable (part x.calls a) u → IsWay x (callee x.calls u) (ways u)) →
+pub ways-stand : (x : Route) (a : Part) (ways : ℕ → Option Matrix) (s : Piece) (m : Entries)
+    (v : ℕ) → ((u : ℕ) → Reachable (part x.calls a) u → IsWay x (callee x.calls u) (ways u)) →
     IsBest m (Reaches (net (by_ways x a ways)) s v) → IsBest m (Reaches (net (field x a)) s v)
-ways-stand x a ways s m v are best = stands st best
+ways-stand x a ways s m v are best = costs_agree st best
   where
-    st : Stands (IsOwn x.positions) (Contains (part x.calls a).loops) (Arc (field x a)) (Arc (by_ways x a ways))
+    st : CostsAgree (IsOwn x.positions) (Contains (part x.calls a).loops) (Arc (field x a))
+        (Arc (by_ways x a ways))
     st = record {
-      covers = λ u p d v q arc. let z = covered x (callee x.calls u) (ways u) arc.lag p d q (are u arc.reached) arc.move in (z.0, record { lag = arc.lag; edge = arc.edge; move = z.1; reached = arc.reached; lies = arc.lies }, z.2);
-      among = λ u p e v q arc. let z = found x (callee x.calls u) (ways u) arc.lag p e q (are u arc.reached) arc.move in (z.0, record { lag = arc.lag; edge = arc.edge; move = z.1; reached = arc.reached; lies = arc.lies }, z.2);
+      covers =
+          λ u p d v q arc. let z =
+          covered x (callee x.calls u) (ways u) arc.lag p d q (are u arc.reached) arc.move in (
+            z.0,
+            record {
+              lag = arc.lag;
+              edge = arc.edge;
+              move = z.1;
+              reached = arc.reached;
+              lies = arc.lies;
+            },
+            z.2,
+          );
+      among =
+          λ u p e v q arc. let z =
+          found x (callee x.calls u) (ways u) arc.lag p e q (are u arc.reached) arc.move in (
+            z.0,
+            record {
+              lag = arc.lag;
+              edge = arc.edge;
+              move = z.1;
+              reached = arc.reached;
+              lies = arc.lies;
+            },
+            z.2,
+          );
     }

@@ -1,16 +1,20 @@
 -- What the parts of a section with routines are found to be on the way to its tree.
-use Rattle.std.specs.Prelude.{◌≡◌, ℕ, ◌+◌, ◌*◌, ◌<◌, ◌≤◌, ◌⊎◌, ◌↔◌, Bool, true, false, Option, Some, None, List, length, count_by, slice_index_or, Contains}
+use Rattle.std.specs.Prelude.{◌≡◌, ℕ, ◌+◌, ◌*◌, ◌<◌, ◌≤◌, ◌⊎◌, ◌↔◌, Bool, true, false, Option}
+use Rattle.std.specs.Prelude.{Some, None, List, length, count_by, slice_index_or, Contains}
 use Rattle.call_bounds.specs.Reachability.{IsExact, is_met}
 use Rattle.region_tree.specs.Graph.{Edge, Graph, Lies, Reachable}
-use Rattle.region_tree.specs.Refusals.{IndirectAt, NestingAt, TimedAt, UnboundedAt}
+use Rattle.region_tree.specs.Refusals.{IndirectAt, TimedAt, UnboundedAt}
+use Rattle.region_tree.specs.Nesting.{NestingAt}
 use Rattle.region_tree.specs.Search.{Before, LowestOf, address, lower_of}
 use Rattle.region_tree.specs.Tree.{Tree, graph}
 use Rattle.region_tree.specs.declared.tree.TreeNo.{TreeNo}
 use Rattle.region_tree.specs.declared.section.Section.{Section}
 use Rattle.call_bounds.specs.declared.tree.CallNo.{CallNo}
-use Rattle.call_bounds.specs.declared.tree.CallNo.TheVariants.{IndirectJump, Nesting, TimedWait, UnboundedBackEdge}
+use Rattle.call_bounds.specs.declared.tree.CallNo.TheVariants.{IndirectJump, Nesting}
+use Rattle.call_bounds.specs.declared.tree.CallNo.TheVariants.{TimedWait, UnboundedBackEdge}
 use Rattle.call_bounds.specs.Calls.{IsReached, callee, part}
-use Rattle.call_bounds.specs.Listing.{DoesCall, IsTreeOf, Listing, calls, part_at, part_count, tree_at}
+use Rattle.call_bounds.specs.Listing.{DoesCall, IsTreeOf, Listing, calls}
+use Rattle.call_bounds.specs.Listing.{part_at, part_count, tree_at}
 use Rattle.call_bounds.specs.declared.causes.Causes.{Causes}
 
 -- the word at an index of a tree is reachable and calls a part
@@ -80,8 +84,8 @@ IsCauseOf (TreeNo.UnboundedBackEdge a) f = f ≡ record no_causes { unbounded = 
 IsCauseOf TreeNo.NoMemory f = ⊥
 
 -- the causes of two sets of parts: the lower address of each kind
-abbrev pub joined : Causes → Causes → Causes
-joined f g = record {
+abbrev pub join_causes : Causes → Causes → Causes
+join_causes f g = record {
   nesting = lower_of f.nesting g.nesting;
   indirect = lower_of f.indirect g.indirect;
   timed = lower_of f.timed g.timed;

@@ -3,7 +3,8 @@ use Rattle.std.specs.Prelude.{◌≡◌, ℕ, ◌<◌, ◌≤◌, Some, Contains
 use Rattle.fp_setup.specs.Loops.{AreLoops}
 use Rattle.region_tree.specs.Tree.{IsSection}
 use Rattle.region_tree.specs.Graph.{Edge, Graph, Lies, Reachable}
-use Rattle.region_tree.specs.Refusals.{IndirectAt, NestingAt, Nowhere, TimedAt, UnboundedAt}
+use Rattle.region_tree.specs.Refusals.{IndirectAt, Nowhere, TimedAt, UnboundedAt}
+use Rattle.region_tree.specs.Nesting.{NestingAt}
 use Rattle.call_bounds.specs.declared.routines.Routine.{Routine}
 use Rattle.call_bounds.specs.Routines.{AreRoutines}
 use Rattle.call_bounds.specs.Calls.{Calls, CallsLead, IsReached, Part, part}

@@ -1,9 +1,12 @@
 -- What is answered where a section with routines is refused.
-use Rattle.region_tree.specs.Refusals.{IndirectAt, IsLowest, NestingAt, Nowhere, TimedAt, UnboundedAt}
+use Rattle.region_tree.specs.Refusals.{IndirectAt, IsLowest, Nowhere, TimedAt, UnboundedAt}
+use Rattle.region_tree.specs.Nesting.{NestingAt}
 use Rattle.call_bounds.specs.CallRefusals.{EscapeAt, InParts, OverlapAt, RecursionAt}
 use Rattle.call_bounds.specs.Calls.{Calls}
 use Rattle.call_bounds.specs.declared.tree.CallNo.{CallNo}
-use Rattle.call_bounds.specs.declared.tree.CallNo.TheVariants.{Escape, IndirectJump, Nesting, NoMemory, Overlap, Recursion, TimedWait, UnboundedBackEdge}
+use Rattle.call_bounds.specs.declared.tree.CallNo.TheVariants.{Escape, IndirectJump, Nesting}
+use Rattle.call_bounds.specs.declared.tree.CallNo.TheVariants.{NoMemory, Overlap, Recursion}
+use Rattle.call_bounds.specs.declared.tree.CallNo.TheVariants.{TimedWait, UnboundedBackEdge}
 
 -- Neither of the first two rows holds anywhere.
 abbrev pub AreCallsAllowed : Calls → Type 0

@@ -1,15 +1,16 @@
 -- Walks through a section and the routines that it calls, which come back to where they were called
 -- from.
-use Rattle.std.specs.Prelude.{◌≡◌, ℕ, ◌+◌, ◌≤◌, ◌^◌, ◌==◌, if◌then◌else◌, true, Some, None, List, [], ◌∷◌, Contains}
+use Rattle.std.specs.Prelude.{◌≡◌, ℕ, ◌+◌, ◌≤◌, ◌^◌, ◌==◌, if◌then◌else◌}
+use Rattle.std.specs.Prelude.{true, Some, None, List, [], ◌∷◌, Contains}
 use Rattle.rv_decode.specs.Lag.{redirect_lag}
 use Rattle.bound_calc.specs.Bound.{positions}
 use Rattle.bound_calc.specs.declared.cycle_bound.BoundNo.{BoundNo}
 use Rattle.bound_calc.specs.declared.cycle_bound.BoundNo.TheVariants.{NoMemory, Overflow}
 use Rattle.fp_setup.specs.declared.loop_list.LoopSetup.{LoopSetup}
 use Rattle.region_tree.specs.Graph.{Edge, Lies}
-use Rattle.region_tree.specs.Walk.{IsNextTurn, IsOwn, Positions, counted}
+use Rattle.region_tree.specs.Walk.{IsNextTurn, IsOwn, Positions, counter_after}
 use Rattle.call_bounds.specs.declared.routines.Routine.{Routine}
-use Rattle.call_bounds.specs.Calls.{Calls, Counts, Part, callee, is_back, part, plain}
+use Rattle.call_bounds.specs.Calls.{Calls, Counts, Part, callee, is_back, part, plain_edges}
 
 -- what call walks go over
 pub record Route : Type 0 where
@@ -26,8 +27,8 @@ part_in x [] = None
 part_in x (w ∷ open_calls) = callee x w
 
 -- a loop's counter after a call of a routine: 0 where its head is the loop's
-unfoldable pub called : Routine → LoopSetup → ℕ → ℕ
-called r j n = if r.head == j.head then 0 else n
+unfoldable pub counter_after_call : Routine → LoopSetup → ℕ → ℕ
+counter_after_call r j n = if r.head == j.head then 0 else n
 
 -- no counter of a loop that counts is above its loop's bound
 abbrev pub WithinBounds : Calls → (LoopSetup → ℕ) → Type 0
@@ -39,29 +40,30 @@ WithinBounds x k = (j : LoopSetup) → Counts x j → k j ≤ j.limit
 pub data CallWalk (x : Route) (p : ℕ) : ℕ → ℕ → List ℕ → ℕ → (LoopSetup → ℕ) → Type 0 where
   start : IsOwn x.positions p → CallWalk x p x.calls.section.from p [] 0 (λ _. 0)
   along : {u q c d r : ℕ} {s : List ℕ} {k : LoopSetup → ℕ} (e : Edge) → CallWalk x p u q s c k →
-      Contains (plain x.calls u) e → Lies (part x.calls (part_in x.calls s)) e.to →
+      Contains (plain_edges x.calls u) e → Lies (part x.calls (part_in x.calls s)) e.to →
       IsNextTurn x.positions e.lag q d r →
-      WithinBounds x.calls (λ j. counted u e.to j (k j)) →
-      CallWalk x p e.to r s (c + d) (λ j. counted u e.to j (k j))
+      WithinBounds x.calls (λ j. counter_after u e.to j (k j)) →
+      CallWalk x p e.to r s (c + d) (λ j. counter_after u e.to j (k j))
   enter : {u q c d r : ℕ} {s : List ℕ} {k : LoopSetup → ℕ} {t : Routine} → CallWalk x p u q s c k →
       callee x.calls u ≡ Some t → IsNextTurn x.positions redirect_lag q d r →
-      CallWalk x p t.head r (u ∷ s) (c + d) (λ j. called t j (k j))
+      CallWalk x p t.head r (u ∷ s) (c + d) (λ j. counter_after_call t j (k j))
   come_back : {u q w c d r : ℕ} {s : List ℕ} {k : LoopSetup → ℕ} → CallWalk x p u q (w ∷ s) c k →
       is_back (x.calls.word u) ≡ true → Lies (part x.calls (part_in x.calls s)) (w + 4) →
       IsNextTurn x.positions redirect_lag q d r →
-      WithinBounds x.calls (λ j. counted w (w + 4) j (k j)) →
-      CallWalk x p (w + 4) r s (c + d) (λ j. counted w (w + 4) j (k j))
+      WithinBounds x.calls (λ j. counter_after w (w + 4) j (k j)) →
+      CallWalk x p (w + 4) r s (c + d) (λ j. counter_after w (w + 4) j (k j))
 
 -- What call walks cost: one may end anywhere, and a step out of the section ends it, also one that
 -- comes back to there.
 pub data CostsOf (x : Route) : ℕ → Type 0 where
   ends : {p u q c : ℕ} {s : List ℕ} {k : LoopSetup → ℕ} → CallWalk x p u q s c k → CostsOf x c
   leaves : {p u q c d r : ℕ} {k : LoopSetup → ℕ} (e : Edge) → CallWalk x p u q [] c k →
-      Contains (plain x.calls u) e →
+      Contains (plain_edges x.calls u) e →
       (Lies (part x.calls None) e.to → ⊥) → IsNextTurn x.positions e.lag q d r → CostsOf x (c + d)
   goes_back : {p u q w c d r : ℕ} {k : LoopSetup → ℕ} → CallWalk x p u q (w ∷ []) c k →
       is_back (x.calls.word u) ≡ true →
-      (Lies (part x.calls None) (w + 4) → ⊥) → IsNextTurn x.positions redirect_lag q d r → CostsOf x (c + d)
+      (Lies (part x.calls None) (w + 4) → ⊥) → IsNextTurn x.positions redirect_lag q d r →
+      CostsOf x (c + d)
 
 -- The largest cost of a call walk that keeps the bounds: some walk costs it, and none costs more.
 pub record IsCallBound (x : Route) (b : ℕ) : Type 0 where

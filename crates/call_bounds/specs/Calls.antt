@@ -1,11 +1,12 @@
 -- A section of code with the routines that it may call: its parts, and which of them are reached.
-use Rattle.std.specs.Prelude.{◌≡◌, ℕ, ◌+◌, ◌==◌, if◌then◌else◌, Bool, true, false, Option, Some, None, List, [], ◌∷◌, filter, Contains}
+use Rattle.std.specs.Prelude.{◌≡◌, ℕ, ◌+◌, ◌==◌, if◌then◌else◌, Bool, true, false}
+use Rattle.std.specs.Prelude.{Option, Some, None, List, [], ◌∷◌, filter, Contains}
 use Rattle.rv_decode.specs.Lag.{redirect_lag}
 use Rattle.fp_setup.specs.declared.loop_list.LoopSetup.{LoopSetup}
 use Rattle.rv_decode.specs.Table.{ins}
 use Rattle.rv_decode.specs.declared.instruction.Ins.{Ins}
 use Rattle.rv_decode.specs.declared.instruction.Ins.TheVariants.{Jal}
-use Rattle.region_tree.specs.Edges.{aligned, edges_of, offset}
+use Rattle.region_tree.specs.Edges.{aligned_target, edges_of, offset}
 use Rattle.region_tree.specs.Graph.{Edge, Graph, Reachable, edge_list}
 use Rattle.region_tree.specs.Tree.{counts}
 use Rattle.region_tree.specs.declared.edges.Stop.{Stop}
@@ -35,9 +36,9 @@ routine_at [] a = None
 routine_at (r ∷ rs) a = if r.head == a then Some r else routine_at rs a
 
 -- where a jump that keeps the address after it in register 1 leads, if it is one
-unfoldable pub linked : ℕ → Ins → Option ℕ
-linked address (Jal rd off) = if rd == 1 then aligned (offset address off) else None
-linked address i = None
+unfoldable pub link_target : ℕ → Ins → Option ℕ
+link_target address (Jal rd off) = if rd == 1 then aligned_target (offset address off) else None
+link_target address i = None
 
 -- the routine to whose head a jump leads, if there is one
 abbrev pub routine_to : List Routine → Option ℕ → Option Routine
@@ -46,7 +47,7 @@ routine_to routines (Some a) = routine_at routines a
 
 -- the routine that the word at an address calls, if it is a call
 abbrev pub callee : Calls → ℕ → Option Routine
-callee x u = routine_to x.routines (linked u (ins (x.word u)))
+callee x u = routine_to x.routines (link_target u (ins (x.word u)))
 
 -- the word that goes back to where its routine was called from
 abbrev pub is_back : ℕ → Bool
@@ -63,14 +64,14 @@ plain_unless None edges = edges
 plain_unless (Some r) edges = []
 
 -- the edges of the word at an address that are no calls
-abbrev pub plain : Calls → ℕ → List Edge
-plain x u = plain_unless (callee x u) (edge_list (edges_of (x.word u) u))
+abbrev pub plain_edges : Calls → ℕ → List Edge
+plain_edges x u = plain_unless (callee x u) (edge_list (edges_of (x.word u) u))
 
 -- The edges inside one part: a call leads on to the word after it, where it comes back; the lag
 -- says the jump alone.
-abbrev pub onward : Option Routine → ℕ → List Edge → List Edge
-onward None u edges = edges
-onward (Some r) u edges = record { to = u + 4; lag = redirect_lag } ∷ []
+abbrev pub inner_edges : Option Routine → ℕ → List Edge → List Edge
+inner_edges None u edges = edges
+inner_edges (Some r) u edges = record { to = u + 4; lag = redirect_lag } ∷ []
 
 -- a return stops nothing
 abbrev pub stop_unless : Bool → Stop → Stop
@@ -82,7 +83,7 @@ abbrev pub part : Calls → Part → Graph
 part x p = record {
   from = (range x p).from;
   to = (range x p).to;
-  edges = λ u. onward (callee x u) u (edge_list (edges_of (x.word u) u));
+  edges = λ u. inner_edges (callee x u) u (edge_list (edges_of (x.word u) u));
   stop = λ u. stop_unless (returns x p u) (edges_of (x.word u) u).stop;
   loops = filter (counts (range x p)) x.loops;
 }

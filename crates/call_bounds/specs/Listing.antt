@@ -1,9 +1,10 @@
 -- A section with its routines, words and loops, as plain data, and its parts by number.
-use Rattle.std.specs.Prelude.{◌≡◌, ℕ, ◌+◌, ◌/◌, ◌<◌, ◌≤◌, Option, Some, None, List, ◌∷◌, length, map, slice_index, slice_index_or}
+use Rattle.std.specs.Prelude.{◌≡◌, ℕ, ◌+◌, ◌/◌, ◌<◌, ◌≤◌, Option, Some, None}
+use Rattle.std.specs.Prelude.{List, ◌∷◌, length, map, slice_index, slice_index_or}
 use Rattle.region_guard.specs.MemoryMap.{large_size}
 use Rattle.fp_setup.specs.declared.loop_list.LoopSetup.{LoopSetup}
 use Rattle.region_tree.specs.Graph.{Reachable}
-use Rattle.region_tree.specs.Tree.{Tree, words_of}
+use Rattle.region_tree.specs.Tree.{Tree, section_words}
 use Rattle.region_tree.specs.declared.section.Section.{Section}
 use Rattle.call_bounds.specs.declared.routines.Routine.{Routine}
 use Rattle.call_bounds.specs.Calls.{Calls, IsReached, Part, callee, part}
@@ -24,7 +25,12 @@ scratchpad = record { from = 0; to = large_size }
 -- the listing of a memory that is told by its words
 abbrev pub listing_of : (ℕ → ℕ) → Section → List Routine → List LoopSetup → Listing
 listing_of memory s routines loops =
-    record { section = s; routines = routines; words = words_of memory scratchpad; loops = loops }
+    record {
+      section = s;
+      routines = routines;
+      words = section_words memory scratchpad;
+      loops = loops;
+    }
 
 -- the same as a section with routines, whose memory is told by its words
 abbrev pub calls : Listing → Calls

@@ -1,12 +1,12 @@
 -- What is answered of the parts of a section with routines.
 use Rattle.std.specs.Prelude.{◌≡◌, ℕ, ◌<◌, Option, None, MatchOption, List}
 use Rattle.fp_setup.specs.declared.loop_list.LoopSetup.{LoopSetup}
-use Rattle.region_tree.specs.Tree.{Tree, words_of}
+use Rattle.region_tree.specs.Tree.{Tree, section_words}
 use Rattle.region_tree.specs.declared.section.Section.{Section}
 use Rattle.call_bounds.specs.declared.routines.Routine.{Routine}
 use Rattle.call_bounds.specs.Calls.{Calls, IsReached, callee, range}
 use Rattle.call_bounds.specs.Listing.{Listing, calls, listing_of, part_at, part_count}
-use Rattle.call_bounds.specs.Patched.{part_tree, patched}
+use Rattle.call_bounds.specs.Patched.{part_tree, patched_word}
 
 -- whether the part with a number is reached
 abbrev pub IsPartReached : Listing → ℕ → Type 0
@@ -18,7 +18,7 @@ range_of_part l k = range (calls l) (part_at l k)
 
 -- a part's words, with its calls and returns replaced
 abbrev pub words_of_part : Listing → ℕ → List ℕ
-words_of_part l k = words_of (patched (calls l) (part_at l k)) (range_of_part l k)
+words_of_part l k = section_words (patched_word (calls l) (part_at l k)) (range_of_part l k)
 
 -- a part's tree
 abbrev pub tree_of_part : Listing → ℕ → Tree

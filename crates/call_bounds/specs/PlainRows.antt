@@ -1,12 +1,13 @@
 -- A part is refused because of plain edges alone.
 use Rattle.std.specs.Prelude.{ℕ, Contains}
-use Rattle.region_tree.specs.Refusals.{EnteredAt, UnboundedAt}
+use Rattle.region_tree.specs.Refusals.{UnboundedAt}
+use Rattle.region_tree.specs.Nesting.{EnteredAt}
 use Rattle.call_bounds.specs.CallRefusals.{IsListing}
-use Rattle.call_bounds.specs.Calls.{Calls, IsReached, Part, part, plain}
+use Rattle.call_bounds.specs.Calls.{Calls, IsReached, Part, part, plain_edges}
 
 -- An edge that enters a loop, but not at its head, and one that leads back without a bound are no
 -- calls.
 abbrev pub RowsNamePlainEdges : Type 0
 RowsNamePlainEdges = (x : Calls) → IsListing x → (p : Part) → IsReached x p →
-    ((a : ℕ) → (h : EnteredAt (part x p) a) → Contains (plain x h.from) h.by) ×
-    ((u : ℕ) → (h : UnboundedAt (part x p) u) → Contains (plain x u) h.by)
+    ((a : ℕ) → (h : EnteredAt (part x p) a) → Contains (plain_edges x h.from) h.by) ×
+    ((u : ℕ) → (h : UnboundedAt (part x p) u) → Contains (plain_edges x u) h.by)

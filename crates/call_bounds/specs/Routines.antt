@@ -1,6 +1,7 @@
 -- The rules of routines, for scratchpads of any size.
-use Rattle.std.specs.Prelude.{◌≡◌, ◌%◌, ◌<◌, ◌≤◌, List, [], ◌∷◌, length, Contains}
+use Rattle.std.specs.Prelude.{◌≡◌, ◌%◌, ◌<◌, ◌≤◌, List, [], ◌∷◌, length, Contains, ℕ, ◌-◌}
 use Rattle.call_bounds.specs.declared.routines.Routine.{Routine}
+use Rattle.region_guard.specs.MemoryMap.{large_size}
 
 -- each routine begins above the one before it
 abbrev pub Rise : List Routine → Type 0
@@ -12,10 +13,14 @@ pub record IsRoutine (r : Routine) : Type 0 where
   pub head_aligned : r.head % 4 ≡ 0
   pub last_aligned : r.last % 4 ≡ 0
   pub order : r.head ≤ r.last
-  pub end : r.last ≤ 65532
+  pub end : r.last ≤ large_size - 4
 
--- Routines that may be listed: at most 64, each by the rules, and each above the one before it.
+-- how many routines may be listed
+abbrev pub most_routines : ℕ
+most_routines = 64
+
+-- Routines that may be listed: each by the rules, and each above the one before it.
 pub record AreRoutines (rs : List Routine) : Type 0 where
-  pub few : length rs ≤ 64
+  pub few : length rs ≤ most_routines
   pub each : (r : Routine) → Contains rs r → IsRoutine r
   pub rise : Rise rs

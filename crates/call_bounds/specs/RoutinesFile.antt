@@ -1,9 +1,14 @@
 -- The file of routines: a line for each, with its head and the address of its last word. Source:
 -- this project's profile.
-use Rattle.std.specs.Prelude.{ℕ, suc, ◌+◌, ◌-◌, ◌*◌, ◌%◌, ◌==◌, nat_lt, nat_le, Bool, true, not, ◌&&◌, ◌||◌, if◌then◌else◌, List, [], ◌∷◌, length, take, drop, slice_index_or, Option, Some, None, Result, Ok, Err}
+use Rattle.std.specs.Prelude.{ℕ, suc, ◌+◌, ◌-◌, ◌*◌, ◌%◌, ◌==◌, nat_lt, nat_le, Bool}
+use Rattle.std.specs.Prelude.{true, not, ◌&&◌, ◌||◌, if◌then◌else◌, List, [], ◌∷◌, length}
+use Rattle.std.specs.Prelude.{take, drop, slice_index_or, Option, Some, None, Result, Ok}
 use Rattle.std.specs.List.{list_all}
+use Rattle.fp_image.specs.Checks.{Check, first_fault, unless, and_then}
+use Rattle.call_bounds.specs.Routines.{most_routines}
 use Rattle.call_bounds.specs.declared.routines_refusals.RoutinesNo.{RoutinesNo}
-use Rattle.call_bounds.specs.declared.routines_refusals.RoutinesNo.TheVariants.{TooMany, BadLine, BadPlace, Order}
+use Rattle.call_bounds.specs.declared.routines_refusals.RoutinesNo.TheVariants.{TooMany, BadLine}
+use Rattle.call_bounds.specs.declared.routines_refusals.RoutinesNo.TheVariants.{BadPlace, Order}
 use Rattle.call_bounds.specs.declared.routines_refusals.RoutinesRefused.{RoutinesRefused}
 use Rattle.call_bounds.specs.declared.routines_refusals.RoutinesRefused.TheVariants.{Fault}
 use Rattle.call_bounds.specs.declared.routines.Routine.{Routine}
@@ -14,13 +19,14 @@ in_front byte [] = (byte ∷ []) ∷ []
 in_front byte (line ∷ lines) = (byte ∷ line) ∷ lines
 
 -- the lines of a file: each ends with a line feed (10), and what stands after the last line feed is
--- a line too
+-- a line too. Those of a source leave the line feed out, so they have a definition of their own
 unfoldable pub lines_of : List ℕ → List (List ℕ)
 lines_of [] = []
 lines_of (byte ∷ bytes) =
     if byte == 10 then (byte ∷ []) ∷ lines_of bytes else in_front byte (lines_of bytes)
 
--- a hexadecimal digit: 0 (48) to 9, a (97) to f
+-- a hexadecimal digit: 0 (48) to 9, a (97) to f. In a source, and on the command line, A to F are
+-- digits too, so those have definitions of their own
 abbrev pub is_digit : ℕ → Bool
 is_digit byte = (nat_le 48 byte && nat_le byte 57) || (nat_le 97 byte && nat_le byte 102)
 
@@ -41,9 +47,13 @@ head_digits line = take 8 line
 abbrev pub last_digits : List ℕ → List ℕ
 last_digits line = take 8 (drop 9 line)
 
+-- the bytes of a line
+abbrev pub line_length : ℕ
+line_length = 18
+
 -- eight digits, a space (32), eight digits, and a line feed
 abbrev pub has_form : List ℕ → Bool
-has_form line = length line == 18
+has_form line = length line == line_length
     && list_all is_digit (head_digits line) && slice_index_or line 8 0 == 32
     && list_all is_digit (last_digits line) && slice_index_or line 17 0 == 10
 
@@ -62,45 +72,23 @@ abbrev pub is_above : Option Routine → Routine → Bool
 is_above None r = true
 is_above (Some before) r = nat_lt before.last r.head
 
--- A check of a line: whether it fails, and the fault that it then gives.
-pub record Check : Type 0 where
-  pub fails : Bool
-  pub code : RoutinesNo
-
--- a check by whether it fails and its fault
-abbrev pub check : Bool → RoutinesNo → Check
-check fails code = record { fails = fails; code = code }
-
--- the fault of the first check that fails
-abbrev pub first_fault : ℕ → List Check → Option RoutinesRefused
-first_fault number [] = None
-first_fault number (c ∷ more) =
-    if c.fails then Some (Fault number c.code) else first_fault number more
+-- a check of the line of a number, by whether it fails and its fault
+abbrev pub check : ℕ → Bool → RoutinesNo → Check RoutinesRefused
+check number fails code = record { fails = fails; fault = Fault number code }
 
 -- the checks of a line, in their order: lines are numbered from 1
-abbrev pub line_checks : ℕ → ℕ → Option Routine → List ℕ → List Check
+abbrev pub line_checks : ℕ → ℕ → Option Routine → List ℕ → List (Check RoutinesRefused)
 line_checks size number before line =
-    check (number == 65) TooMany
-    ∷ check (not (has_form line)) BadLine
-    ∷ check (not (is_placed size (routine_in line))) BadPlace
-    ∷ check (not (is_above before (routine_in line))) Order
+    check number (number == suc most_routines) TooMany
+    ∷ check number (not (has_form line)) BadLine
+    ∷ check number (not (is_placed size (routine_in line))) BadPlace
+    ∷ check number (not (is_above before (routine_in line))) Order
     ∷ []
-
--- a result where no check fails
-abbrev pub unless : {A : Type 0} → Option RoutinesRefused → A → Result A RoutinesRefused
-unless (Some fault) value = Err fault
-unless None value = Ok value
-
--- a result that goes on from another
-abbrev pub and_then : {A B : Type 0} → Result A RoutinesRefused → (A → Result B RoutinesRefused) →
-    Result B RoutinesRefused
-and_then (Ok value) next = next value
-and_then (Err fault) next = Err fault
 
 -- the routine of a line, or its fault
 unfoldable pub routine_at : ℕ → ℕ → Option Routine → List ℕ → Result Routine RoutinesRefused
 routine_at size number before line =
-    unless (first_fault number (line_checks size number before line)) (routine_in line)
+    unless (first_fault (line_checks size number before line)) (routine_in line)
 
 -- the routines of lines from this number on, or the first fault
 unfoldable pub routines_from : ℕ → ℕ → Option Routine → List (List ℕ) →

@@ -4,9 +4,9 @@ use Rattle.std.specs.Prelude.{◌≡◌, ℕ, ◌+◌, ◌≤◌, ◌⊎◌, tru
 use Rattle.rv_decode.specs.Lag.{redirect_lag}
 use Rattle.fp_setup.specs.declared.loop_list.LoopSetup.{LoopSetup}
 use Rattle.region_tree.specs.Graph.{Edge, Lies}
-use Rattle.region_tree.specs.Walk.{IsNextTurn, IsOwn, counted}
+use Rattle.region_tree.specs.Walk.{IsNextTurn, IsOwn, counter_after}
 use Rattle.call_bounds.specs.declared.routines.Routine.{Routine}
-use Rattle.call_bounds.specs.Calls.{Part, callee, is_back, part, plain, range}
+use Rattle.call_bounds.specs.Calls.{Part, callee, is_back, part, plain_edges, range}
 use Rattle.call_bounds.specs.CallWalk.{Route}
 
 -- A walk of a part that keeps the bounds of its loops, from its first word at position p: the word
@@ -14,15 +14,17 @@ use Rattle.call_bounds.specs.CallWalk.{Route}
 pub data Run (x : Route) : Part → ℕ → ℕ → ℕ → ℕ → (LoopSetup → ℕ) → Type 0 where
   start : {a : Part} {p : ℕ} → IsOwn x.positions p → Run x a p (range x.calls a).from p 0 (λ _. 0)
   along : {a : Part} {p u q c d r : ℕ} {k : LoopSetup → ℕ} (e : Edge) → Run x a p u q c k →
-      Contains (plain x.calls u) e → Lies (part x.calls a) e.to →
+      Contains (plain_edges x.calls u) e → Lies (part x.calls a) e.to →
       IsNextTurn x.positions e.lag q d r →
-      ((j : LoopSetup) → Contains (part x.calls a).loops j → counted u e.to j (k j) ≤ j.limit) →
-      Run x a p e.to r (c + d) (λ j. counted u e.to j (k j))
+      ((j : LoopSetup) → Contains (part x.calls a).loops j →
+      counter_after u e.to j (k j) ≤ j.limit) →
+      Run x a p e.to r (c + d) (λ j. counter_after u e.to j (k j))
   through : {a : Part} {p u q c d : ℕ} {k : LoopSetup → ℕ} {t : Routine} {m w n i f r : ℕ}
       {l : LoopSetup → ℕ} → Run x a p u q c k →
-      callee x.calls u ≡ Some t → Lies (part x.calls a) (u + 4) → IsNextTurn x.positions redirect_lag q d m →
-      Run x (Some t) m w n i l → is_back (x.calls.word w) ≡ true → IsNextTurn x.positions redirect_lag n f r →
-      Run x a p (u + 4) r (c + (d + (i + f))) (λ j. counted u (u + 4) j (k j))
+      callee x.calls u ≡ Some t → Lies (part x.calls a) (u + 4) →
+      IsNextTurn x.positions redirect_lag q d m → Run x (Some t) m w n i l →
+      is_back (x.calls.word w) ≡ true → IsNextTurn x.positions redirect_lag n f r →
+      Run x a p (u + 4) r (c + (d + (i + f))) (λ j. counter_after u (u + 4) j (k j))
 
 -- from a routine's head to the word after the call: the walk and the step back
 pub record Through (x : Route) (t : Routine) (p c q : ℕ) : Type 0 where
@@ -47,13 +49,13 @@ pub data Deep (x : Route) : Part → ℕ → ℕ → ℕ → Type 0 where
 -- what walks that leave the section cost, from one position to another
 pub data Leaving (x : Route) (p : ℕ) : ℕ → ℕ → Type 0 where
   leaves : {u q c d r : ℕ} {k : LoopSetup → ℕ} (e : Edge) → Run x None p u q c k →
-      Contains (plain x.calls u) e →
+      Contains (plain_edges x.calls u) e →
       (Lies (part x.calls None) e.to → ⊥) → IsNextTurn x.positions e.lag q d r →
       Leaving x p (c + d) r
   comes_out : {u q c d m i r : ℕ} {k : LoopSetup → ℕ} {t : Routine} → Run x None p u q c k →
       callee x.calls u ≡ Some t →
-      (Lies (part x.calls None) (u + 4) → ⊥) → IsNextTurn x.positions redirect_lag q d m → Through x t m i r →
-      Leaving x p (c + (d + i)) r
+      (Lies (part x.calls None) (u + 4) → ⊥) → IsNextTurn x.positions redirect_lag q d m →
+      Through x t m i r → Leaving x p (c + (d + i)) r
 
 -- what walks of the section cost, from one of the thread's own positions
 pub record Nested (x : Route) (c : ℕ) : Type 0 where

@@ -1,11 +1,12 @@
 -- What is worked out of parts: matrices of the largest costs between frame positions.
-use Rattle.std.specs.Prelude.{◌≡◌, ℕ, ◌+◌, ◌*◌, ◌<◌, ◌≤◌, Bool, true, false, Option, Some, None, List, length, slice_index_or, min}
+use Rattle.std.specs.Prelude.{◌≡◌, ℕ, ◌+◌, ◌*◌, ◌<◌, ◌≤◌, Bool, true, false}
+use Rattle.std.specs.Prelude.{Option, Some, None, List, length, slice_index_or, min}
 use Rattle.region_tree.specs.Tree.{Tree}
 use Rattle.region_tree.specs.Walk.{IsOwn, Positions}
 use Rattle.region_tree.specs.declared.section.Section.{Section}
 use Rattle.bound_calc.specs.Best.{Costs, Either, Entries, In, IsBest, Then, ceiling}
 use Rattle.bound_calc.specs.Matrices.{entry}
-use Rattle.bound_calc.specs.Passing.{WaysOn, edges_at, leaves, matrix_at, moved, no_matrix}
+use Rattle.bound_calc.specs.Propagation.{WaysOn, edges_at, leaves, matrix_at, move_costs, no_matrix}
 use Rattle.bound_calc.specs.Section.{Steps}
 use Rattle.bound_calc.specs.declared.matrix.Matrix.{Matrix}
 use Rattle.call_bounds.specs.declared.routines.Routine.{Routine}
@@ -50,8 +51,8 @@ When false f = λ p c q. ⊥
 abbrev pub LeavesAt : Tree → Positions → WaysOn → List Matrix → ℕ → Costs
 LeavesAt t s ways at k =
     let e = edges_at t k in
-    Either (When (leaves t e.next) (Then (In (matrix_at at k)) (moved s (ways k) e.next_lag)))
-    (When (leaves t e.jump) (Then (In (matrix_at at k)) (moved s (ways k) 3)))
+    Either (When (leaves t e.next) (Then (In (matrix_at at k)) (move_costs s (ways k) e.next_lag)))
+    (When (leaves t e.jump) (Then (In (matrix_at at k)) (move_costs s (ways k) 3)))
 
 -- calls of a listing, by the turns of a thread
 abbrev pub route : Listing → Positions → Route

@@ -1,6 +1,7 @@
 //! The bound of a section through its calls.
 
-ghost use Rattle.std.specs.Prelude.{◌≡◌, ℕ, ◌<◌, ◌≤◌, ◌^◌, length, None, Contains, IfOk, IfErr, MatchResult, OnOk};
+ghost use Rattle.std.specs.Prelude.{◌≡◌, ℕ, ◌<◌, ◌≤◌, ◌^◌, length, None};
+ghost use Rattle.std.specs.Prelude.{Contains, IfOk, IfErr, MatchResult, OnOk};
 ghost use Rattle.std.specs.Option.{option_map};
 ghost use Rattle.rv_decode.specs.Lag.{redirect_lag};
 ghost use Rattle.slot_table.specs.Frame.{frame};
@@ -9,12 +10,13 @@ ghost use Rattle.bound_calc.specs.Best.{Either, In, IsBest, Then};
 ghost use Rattle.bound_calc.specs.Bound.{positions};
 ghost use Rattle.bound_calc.specs.declared.cycle_bound.BoundNo.TheVariants.{Overflow};
 ghost use Rattle.bound_calc.specs.Matrices.{entry};
-ghost use Rattle.bound_calc.specs.Passing.{leaves, moved, ways_on};
+ghost use Rattle.bound_calc.specs.Propagation.{leaves, move_costs, ways_on};
 ghost use Rattle.call_bounds.specs.CallRefusals.{IsCallable, IsListing};
 ghost use Rattle.call_bounds.specs.CallWalk.{IsCallBound, IsTooCostly};
 ghost use Rattle.call_bounds.specs.Listing.{calls};
 ghost use Rattle.call_bounds.specs.Patched.{part_tree};
-ghost use Rattle.call_bounds.specs.Summaries.{Any, AreKnown, AreSummaries, IsMost, LeavesAt, When, route};
+ghost use Rattle.call_bounds.specs.Summaries.{Any, AreKnown, AreSummaries};
+ghost use Rattle.call_bounds.specs.Summaries.{IsMost, LeavesAt, When, route};
 
 use crate::summary::{Summaries, callees, deep, summaries_of};
 use crate::tree::CallTree;
@@ -37,7 +39,8 @@ fn leave_by(
     ensures { IsBest (entry result)
         (Either (In (entry onto.now))
         (When (leaves part.now target)
-        (Then (In (entry here.now)) (moved steps.now (option_map (λ m. m.now) way.entry) lag)))) }
+        (Then (In (entry here.now)) (move_costs steps.now (option_map
+        (λ m. m.now) way.entry) lag)))) }
 {
     if is_out(part, target) {
         along(steps, way, here, lag, onto)

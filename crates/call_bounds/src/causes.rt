@@ -1,7 +1,8 @@
 //! Why parts are refused.
 
 ghost use Rattle.std.specs.Prelude.{◌≡◌, ◌<◌, [], ◌∷◌, ◌++◌, IfOk, IfErr, OnOk, MatchResult};
-ghost use Rattle.call_bounds.specs.Build.{AreReached, AreTreesTo, IsCauseOf, IsFirst, IsTried, joined, no_causes};
+ghost use Rattle.call_bounds.specs.Build.{AreReached, AreTreesTo, IsCauseOf};
+ghost use Rattle.call_bounds.specs.Build.{IsFirst, IsTried, join_causes, no_causes};
 ghost use Rattle.call_bounds.specs.CallRefused.{ArePartsAllowed, IsTreeRefused};
 ghost use Rattle.call_bounds.specs.Listing.{ArePartTrees, calls, part_count};
 ghost use Rattle.call_bounds.specs.declared.tree.CallNo.TheVariants.{NoMemory};
@@ -62,7 +63,7 @@ impl Causes {
 
     /// The lower address of each.
     fn join(self, other: Causes) -> Causes
-        ensures { result ≡ joined self other }
+        ensures { result ≡ join_causes self other }
     {
         Causes {
             nesting: lower(self.nesting, other.nesting),

@@ -5,7 +5,7 @@ ghost use Rattle.rv_decode.specs.Table.{ins};
 ghost use Rattle.region_guard.specs.MemoryMap.{large_size};
 ghost use Rattle.fp_setup.specs.Loops.{AreLoops};
 ghost use Rattle.call_bounds.specs.Routines.{AreRoutines};
-ghost use Rattle.call_bounds.specs.Calls.{linked};
+ghost use Rattle.call_bounds.specs.Calls.{link_target};
 
 use crate::routines::{Routine, Routines};
 use fp_image::Image;
@@ -62,7 +62,7 @@ impl Model for Code {
 
 /// Where the word at an address jumps to, if it keeps the address after it in x1.
 fn linked(address: u32, word: u32) -> Option<u32>
-    ensures { result ≡ linked address (ins word) }
+    ensures { result ≡ link_target address (ins word) }
 {
     match decode(word) {
         Ins::Jal { rd, .. } => {
@@ -100,7 +100,8 @@ fn copied_loops(alloc: Global, loops: &Loops) -> Result<Loops, AllocError>
 }
 
 impl Code {
-    ghost use Rattle.std.specs.Prelude.{◌≡◌, ℕ, ◌+◌, ◌*◌, ◌/◌, ◌<◌, ◌≤◌, ◌%◌, length, IfOk, IfErr, OnOk};
+    ghost use Rattle.std.specs.Prelude.{◌≡◌, ℕ, ◌+◌, ◌*◌, ◌/◌, ◌<◌, ◌≤◌};
+    ghost use Rattle.std.specs.Prelude.{◌%◌, length, IfOk, IfErr, OnOk};
     ghost use Rattle.fp_image.specs.Rules.{word};
     ghost use Rattle.region_tree.specs.Refusals.{IsAllowed, IsRefused};
     ghost use Rattle.region_tree.specs.Tree.{IsSection, graph};
@@ -110,7 +111,7 @@ impl Code {
     ghost use Rattle.call_bounds.specs.Calls.{returns};
     ghost use Rattle.call_bounds.specs.Listing.{calls, listing_of, part_at, part_count};
     ghost use Rattle.call_bounds.specs.Parts.{IsCallee, range_of_part, tree_of_part, words_of_part};
-    ghost use Rattle.call_bounds.specs.Patched.{patched};
+    ghost use Rattle.call_bounds.specs.Patched.{patched_word};
 
     /// A section of an image with its routines and loops.
     ///
@@ -222,7 +223,7 @@ impl Code {
     fn patched(&self, part: usize, address: u32) -> u32
         requires part { part < part_count self.now }
         requires address { address < large_size }
-        ensures { result ≡ patched (calls self.now) (part_at self.now part) address }
+        ensures { result ≡ patched_word (calls self.now) (part_at self.now part) address }
     {
         if self.called(address).is_some() {
             return LEADS_ON;
@@ -234,7 +235,7 @@ impl Code {
     }
 
     /// The words of a part, with its calls and returns out of the way.
-    #[tactic(auto, unfolding(region_tree::specs::Tree::words_of))]
+    #[tactic(auto, unfolding(region_tree::specs::Tree::section_words))]
     fn part_words(&self, alloc: Global, part: usize) -> Result<Vec<u32>, AllocError>
         requires { part < part_count self.now }
         ensures { IfOk result (λ words. words.items ≡ words_of_part self.now part) }

@@ -1,7 +1,8 @@
 //! In which order parts call each other.
 
-ghost use Rattle.std.specs.Prelude.{◌≡◌, ℕ, ◌<◌, ◌↔◌, ◌≤◌, ◌*◌, length, true, IfOk, IfErr, IsTrue, OnOk};
-ghost use Rattle.call_bounds.specs.Reachability.{Led, is_met};
+ghost use Rattle.std.specs.Prelude.{◌≡◌, ℕ, ◌<◌, ◌↔◌, ◌≤◌, ◌*◌, length};
+ghost use Rattle.std.specs.Prelude.{true, IfOk, IfErr, IsTrue, OnOk};
+ghost use Rattle.call_bounds.specs.Reachability.{IsCalled, is_met};
 ghost use Rattle.region_tree.specs.Refusals.{Nowhere};
 ghost use Rattle.region_tree.specs.Search.{LowestOf};
 ghost use Rattle.call_bounds.specs.Build.{AreReached, IsRankOf, IsTable};
@@ -29,7 +30,7 @@ fn leads_back(alloc: Global, table: &[bool], count: usize, part: usize) -> Resul
     requires few { count ≤ 65 }
     requires part { part < count }
     requires table { length table.now ≡ count * count }
-    ensures { IfOk result (λ back. IsTrue back ↔ Led count table.now part part) }
+    ensures { IfOk result (λ back. IsTrue back ↔ IsCalled count table.now part part) }
 {
     let led = led_to(alloc, table, count, part)?;
     Ok(led[part])
@@ -49,7 +50,7 @@ fn recurs(
     requires reached { length reached.now ≡ count }
     ensures { IfOk result
         (λ back. IsTrue back
-        ↔ ((is_met reached.now part ≡ true) × Led count table.now part part)) }
+        ↔ ((is_met reached.now part ≡ true) × IsCalled count table.now part part)) }
 {
     if !reached[part] {
         return Ok(false);

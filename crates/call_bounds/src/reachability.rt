@@ -1,7 +1,9 @@
 //! Reachability in the call graph: to which parts calls lead.
 
-ghost use Rattle.std.specs.Prelude.{◌≡◌, ℕ, ◌+◌, ◌*◌, ◌<◌, ◌≤◌, ◌⊎◌, true, false, length, IfOk, slice_index_or};
-ghost use Rattle.call_bounds.specs.Reachability.{DoesCall, Led, IsClosed, IsSound, IsExact, Spread, SpreadMet, Swept, is_met, unmet};
+ghost use Rattle.std.specs.Prelude.{◌≡◌, ℕ, ◌+◌, ◌*◌, ◌<◌, ◌≤◌, ◌⊎◌, true};
+ghost use Rattle.std.specs.Prelude.{false, length, IfOk, slice_index_or};
+ghost use Rattle.call_bounds.specs.Reachability.{DoesCall, IsCalled, IsClosed, IsSound, IsExact};
+ghost use Rattle.call_bounds.specs.Reachability.{Spread, SpreadMet, Swept, is_met, unmet_count};
 
 use std::alloc::{AllocError, Global};
 

@@ -15,7 +15,7 @@ pub struct Routine {
 
 /// A list of routines: at most 64, each with head and last multiples of 4, head at most last, and
 /// last at most 65,532, and each with its head above the last of the one before it. Contracts see
-/// the list.
+/// the list. A type of its own, as the lists of a setup are: its rules are its invariant.
 #[derive(Drop)]
 pub struct Routines {
     items: Vec<Routine>,

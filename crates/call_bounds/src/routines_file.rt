@@ -3,7 +3,9 @@
 ghost use Rattle.std.specs.Prelude.{◌≡◌, ◌⊎◌, ◌≤◌, ◌<◌, ◌^◌, Err, length, drop, take, true, IfOk};
 ghost use Rattle.std.specs.List.{list_all};
 ghost use Rattle.region_guard.specs.Regions.{IsSize};
-ghost use Rattle.call_bounds.specs.RoutinesFile.{digit, has_form, head_digits, is_above, is_digit, is_placed, last_digits, number_from, routine_at, routines_of};
+ghost use Rattle.call_bounds.specs.RoutinesFile.{digit, has_form, head_digits, is_above};
+ghost use Rattle.call_bounds.specs.RoutinesFile.{is_digit, is_placed, last_digits};
+ghost use Rattle.call_bounds.specs.RoutinesFile.{number_from, routine_at, routines_of};
 
 use crate::routines::{Routine, Routines};
 use crate::routines_refusals::{RoutinesNo, RoutinesRefused, fault};

@@ -1,15 +1,17 @@
 //! What walks of routines cost, between the frame positions at which they begin and end.
 
-ghost use Rattle.std.specs.Prelude.{◌≡◌, ℕ, ◌+◌, ◌-◌, ◌*◌, ◌/◌, ◌<◌, ◌≤◌, None, length, replicate, IfOk, OnOk};
+ghost use Rattle.std.specs.Prelude.{◌≡◌, ℕ, ◌+◌, ◌-◌, ◌*◌, ◌/◌, ◌<◌, ◌≤◌};
+ghost use Rattle.std.specs.Prelude.{None, length, replicate, IfOk, OnOk};
 ghost use Rattle.std.specs.Option.{option_map};
 ghost use Rattle.region_tree.specs.Tree.{IsSection};
 ghost use Rattle.bound_calc.specs.Best.{Either, In, IsBest, Then};
 ghost use Rattle.bound_calc.specs.Matrices.{entry};
-ghost use Rattle.bound_calc.specs.Passing.{Ended, ways_on};
+ghost use Rattle.bound_calc.specs.Propagation.{Ended, ways_on};
 ghost use Rattle.call_bounds.specs.Calls.{IsReached};
 ghost use Rattle.call_bounds.specs.Listing.{AreRanks, calls, part_at, part_count, rank_at};
 ghost use Rattle.call_bounds.specs.Patched.{part_tree};
-ghost use Rattle.call_bounds.specs.Summaries.{AreCallees, AreKnown, AreReturns, AreSummaries, EndsAt, Ending, IsAdded, IsSummaryOf, KnowsCallees};
+ghost use Rattle.call_bounds.specs.Summaries.{AreCallees, AreKnown, AreReturns, AreSummaries};
+ghost use Rattle.call_bounds.specs.Summaries.{EndsAt, Ending, IsAdded, IsSummaryOf, KnowsCallees};
 
 use crate::tree::CallTree;
 use bound_calc::{Matrix, Steps, Ways, jump, reach, through};

@@ -1,10 +1,12 @@
 -- The answers where a section has no bound.
-use Rattle.std.proofs.Common.{◌≡◌, ◌<◌, ℕ, ◌==◌, Bool, true, false, Option, Some, None, List, [], ◌∷◌, filter, refl, sym, arith, ◌%◌, ◌≤◌, ◌^◌, ap₂, subst, not, ◌&&◌, ◌||◌, nat_le, nat_lt, if◌then◌else◌, inl, inr}
+use Rattle.std.proofs.Common.{◌≡◌, ◌<◌, ℕ, ◌==◌, Bool, true, false, Option, Some, None, List}
+use Rattle.std.proofs.Common.{[], ◌∷◌, filter, refl, sym, arith, ◌%◌, ◌≤◌, ◌^◌, ap₂, subst}
+use Rattle.std.proofs.Common.{not, ◌&&◌, ◌||◌, nat_le, nat_lt, if◌then◌else◌, inl, inr}
 use Rattle.std.proofs.lemmas.Bool.Decides.{nat_tests}
 use Rattle.std.proofs.lemmas.Bool.{cases_Bool}
 use Rattle.std.specs.List.{Contains, list_any}
 use Rattle.bound_calc.proofs.Outermost.{cons-first, cons-rest}
-use Rattle.nibble_word.specs.Nibbles.{nibbles}
+use Rattle.slot_table.specs.Nibbles.{nibbles}
 use Rattle.slot_table.specs.Frame.{is_used, frame}
 use Rattle.fp_setup.specs.Settings.{Settings, size_of}
 use Rattle.region_tree.specs.declared.section.Section.{Section}
@@ -26,46 +28,74 @@ use Rattle.command_files.specs.declared.stop.Stop.TheVariants.{Refused, Differs,
 use Rattle.command_files.specs.Stops.{IsAnswerStop}
 use Rattle.command_files.specs.BoundStops.{stop_of_bound, stop_of_tree}
 
-pub tree_stops : (t : Tree) (no : TreeNo) → IsRefused (graph t) no → IsAnswerStop (IsTreeRefused t) (stop_of_tree no)
-tree_stops t (in_tree.Nesting address) is = record { no = in_tree.Nesting address; is = is; line = refl }
-tree_stops t (in_tree.IndirectJump address) is = record { no = in_tree.IndirectJump address; is = is; line = refl }
-tree_stops t (in_tree.TimedWait address) is = record { no = in_tree.TimedWait address; is = is; line = refl }
-tree_stops t (in_tree.UnboundedBackEdge address) is = record { no = in_tree.UnboundedBackEdge address; is = is; line = refl }
+pub tree_stops : (t : Tree) (no : TreeNo) → IsRefused (graph t) no →
+    IsAnswerStop (IsTreeRefused t) (stop_of_tree no)
+tree_stops t (in_tree.Nesting address) is =
+    record { no = in_tree.Nesting address; is = is; line = refl }
+tree_stops t (in_tree.IndirectJump address) is =
+    record { no = in_tree.IndirectJump address; is = is; line = refl }
+tree_stops t (in_tree.TimedWait address) is =
+    record { no = in_tree.TimedWait address; is = is; line = refl }
+tree_stops t (in_tree.UnboundedBackEdge address) is =
+    record { no = in_tree.UnboundedBackEdge address; is = is; line = refl }
 tree_stops t in_tree.NoMemory is = tt
 
 -- a tree that is refused has this answer
-pub refused_stops : (t : Tree) (slots i : ℕ) (stop : Stop) → IsAnswerStop (IsTreeRefused t) stop → IsAnswerStop (IsTreeAnswer t slots i) stop
+pub refused_stops : (t : Tree) (slots i : ℕ) (stop : Stop) → IsAnswerStop (IsTreeRefused t) stop →
+    IsAnswerStop (IsTreeAnswer t slots i) stop
 refused_stops t slots i (Refused refusal) is = inl is
 refused_stops t slots i (Differs line) is = inl is
 refused_stops t slots i Read is = is
 refused_stops t slots i NoMemory is = tt
 
 -- the bound of a tree, by a word of the slots, is that of the section where these are the section's
-pub bound_told : (t section : Tree) (word slots i cycles : ℕ) → t ≡ section → word ≡ slots → IsTree section → cycles < 2 ^ 64 →
+pub bound_told : (t section : Tree) (word slots i cycles : ℕ) →
+    t ≡ section → word ≡ slots → IsTree section → cycles < 2 ^ 64 →
     IsBound (course t word i) cycles → IsTreeAnswer section slots i (Says 0 (bound_text cycles))
 bound_told t section word slots i cycles same_tree same_slots accepted small is =
     let same = ap₂ (λ (t : Tree) (w : ℕ). course t w i) same_tree same_slots in
-    inr (inr (record { accepted = accepted; cycles = cycles; is = subst (λ x. IsBound x cycles) same is; small = small; line = refl }))
+    inr (inr (record {
+      accepted = accepted;
+      cycles = cycles;
+      is = subst (λ x. IsBound x cycles) same is;
+      small = small;
+      line = refl;
+    }))
 
-pub bound_stops : (t section : Tree) (word slots i : ℕ) (no : BoundNo) → t ≡ section → word ≡ slots → IsTree section →
+pub bound_stops : (t section : Tree) (word slots i : ℕ) (no : BoundNo) →
+    t ≡ section → word ≡ slots → IsTree section →
     IsTooLarge (course t word i) no → IsAnswerStop (IsTreeAnswer section slots i) (stop_of_bound no)
 bound_stops t section word slots i (in_bound.Overflow value) same_tree same_slots accepted is =
     let same = ap₂ (λ (t : Tree) (w : ℕ). course t w i) same_tree same_slots in
-    inr (inl (record { accepted = accepted; cycles = value; is = subst (λ x. IsBound x value) same is.0; large = is.1; line = refl }))
+    inr (inl (record {
+      accepted = accepted;
+      cycles = value;
+      is = subst (λ x. IsBound x value) same is.0;
+      large = is.1;
+      line = refl;
+    }))
 bound_stops t section word slots i in_bound.NoMemory same_tree same_slots accepted is = tt
 
 -- a slot that names a thread is in the frame
-used-more : (slot : ℕ) (slots : List ℕ) (i : ℕ) (same used : Bool) → i < 8 → (slot == i) ≡ same → is_used slot ≡ used →
-    (list_any (λ slot. slot == i) slots ≡ true → Contains (filter is_used slots) i) → same || list_any (λ slot. slot == i) slots ≡ true →
+used-more : (slot : ℕ) (slots : List ℕ) (i : ℕ) (same used : Bool) →
+    i < 8 → (slot == i) ≡ same → is_used slot ≡ used →
+    (list_any (λ slot. slot == i) slots ≡ true → Contains (filter is_used slots) i) →
+    same || list_any (λ slot. slot == i) slots ≡ true →
     Contains (if used then slot ∷ filter is_used slots else filter is_used slots) i
-used-more slot slots i true true small same used rest e = let is : slot ≡ i = grind (arith, nat_tests, same) in rw (sym is) (cons-first slot (filter is_used slots))
-used-more slot slots i true false small same used rest e = absurd (grind (arith, nat_tests, same, used, small))
-used-more slot slots i false true small same used rest e = cons-rest slot (filter is_used slots) i (rest e)
+used-more slot slots i true true small same used rest e =
+    let is : slot ≡ i = grind (arith, nat_tests, same) in
+    rw (sym is) (cons-first slot (filter is_used slots))
+used-more slot slots i true false small same used rest e =
+    absurd (grind (arith, nat_tests, same, used, small))
+used-more slot slots i false true small same used rest e =
+    cons-rest slot (filter is_used slots) i (rest e)
 used-more slot slots i false false small same used rest e = rest e
 
-used-there : (slots : List ℕ) (i : ℕ) → i < 8 → list_any (λ slot. slot == i) slots ≡ true → Contains (filter is_used slots) i
+used-there : (slots : List ℕ) (i : ℕ) → i < 8 → list_any (λ slot. slot == i) slots ≡ true →
+    Contains (filter is_used slots) i
 used-there [] i small e = cc
-used-there (slot ∷ slots) i small e = used-more slot slots i (slot == i) (is_used slot) small refl refl (used-there slots i small) e
+used-there (slot ∷ slots) i small e =
+    used-more slot slots i (slot == i) (is_used slot) small refl refl (used-there slots i small) e
 
 pub named-there : (slots i : ℕ) → i < 8 → names slots i ≡ true → Contains (frame slots) i
 unfolding frame
@@ -74,7 +104,10 @@ named-there slots i small e = used-there (nibbles slots) i small e
 -- a section without a fault may be asked for, and the thread has a slot
 asked_by : (hard named order aligned outside : Bool) →
     let one : Option ℕ = Some 1 in
-    (if not hard then one else if not named then Some 2 else if order then Some 3 else if not aligned then Some 4 else if outside then Some 5 else None) ≡ None →
+    (if not hard then one
+    else if not named then Some 2
+    else if order then Some 3
+    else if not aligned then Some 4 else if outside then Some 5 else None) ≡ None →
     (named ≡ true) × (order ≡ false) × (aligned ≡ true) × (outside ≡ false)
 asked_by false named order aligned outside e = cc
 asked_by true false order aligned outside e = cc
@@ -84,12 +117,18 @@ asked_by true true false true true e = cc
 asked_by true true false true false e = (refl, refl, refl, refl)
 
 size_small : (version : ℕ) → size_of version ≤ 65536
-size_small version = elim (cases_Bool (version == 2)) [ inl is ↦ rw is (omega arith) | inr other ↦ rw other (omega arith) ]
+size_small version = elim (cases_Bool (version == 2)) [
+  | inl is ↦ rw is (omega arith)
+  | inr other ↦ rw other (omega arith)
+]
 
-pub asked_for : (s : Settings) (i : ℕ) (section : Section) → section_fault s i section ≡ None → (names s.slots i ≡ true) × IsSection section
+pub asked_for : (s : Settings) (i : ℕ) (section : Section) → section_fault s i section ≡ None →
+    (names s.slots i ≡ true) × IsSection section
 unfolding section_fault
 asked_for s i section e =
-    let (named, order, aligned, outside) = asked_by (mode_of s.modes i == 0) (names s.slots i) (nat_le section.to section.from) (section.from % 4 == 0 && section.to % 4 == 0) (nat_lt (size_of s.version) section.to) e in
+    let (named, order, aligned, outside) =
+    asked_by (mode_of s.modes i == 0) (names s.slots i) (nat_le section.to section.from)
+    (section.from % 4 == 0 && section.to % 4 == 0) (nat_lt (size_of s.version) section.to) e in
     let small = size_small s.version in (
       named,
       record {

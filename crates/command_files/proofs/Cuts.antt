@@ -1,5 +1,7 @@
 -- The first bytes of a file, one more than it may have, answer as the whole file does.
-use Rattle.std.proofs.Common.{refl, ◌≡◌, ℕ, ◌+◌, ◌<◌, ◌≤◌, nat_lt, true, List, length, take, min, Option, Some, None, Result, Ok, Err, arith, ap, sym, subst, ◌∙◌, inl, inr}
+use Rattle.std.proofs.Common.{refl, ◌≡◌, ℕ, ◌+◌, ◌<◌, ◌≤◌, nat_lt, true, List}
+use Rattle.std.proofs.Common.{length, take, min, Option, Some, None, Result}
+use Rattle.std.proofs.Common.{Ok, Err, arith, ap, sym, subst, ◌∙◌, inl, inr}
 use Rattle.std.specs.Prelude.{IfSome, IsSomeAnd, IfOk, IfErr}
 use Rattle.std.proofs.lemmas.Bool.{cases_lt}
 use Rattle.std.proofs.lemmas.Bool.Decides.{nat_tests}
@@ -8,13 +10,13 @@ use Rattle.fp_io.specs.Content.{FileMap, Fetched}
 use Rattle.fp_setup.specs.Setup.{setup}
 use Rattle.fp_setup.specs.Faults.{no_place}
 use Rattle.fp_image.specs.Format.{longest, image_of, count_of}
-use Rattle.fp_asm.specs.Source.{assembled}
+use Rattle.fp_asm.specs.Source.{assembly_of}
 use Rattle.fp_elf.specs.Elf.{elf_of, loads_of}
 use Rattle.fp_elf.specs.Loads.{count_of as header_count}
 use Rattle.trace_print.specs.declared.refusals.Refusal.TheVariants.{Setup, Image, Source}
 use Rattle.command_files.specs.declared.stop.Stop.{Stop}
 use Rattle.command_files.specs.declared.stop.Stop.TheVariants.{Refused, Differs, Read, NoMemory}
-use Rattle.command_files.specs.Answer.{Answer, refused, over_file}
+use Rattle.command_files.specs.Answer.{Answer, refusal_answer, over_file}
 use Rattle.command_files.specs.Assembled.{source_in}
 use Rattle.command_files.specs.Elf.{elf_in}
 use Rattle.command_files.specs.Program.{setup_in, image_in}
@@ -25,11 +27,13 @@ abbrev pub IsCut : {A : Type 0} → (List ℕ → A) → ℕ → Type 0
 IsCut over most = (whole : List ℕ) → over (take (most + 1) whole) ≡ over whole
 
 -- it is so where all that is too long has one answer
-pub cut-by : {A : Type 0} → (over : List ℕ → A) → (most : ℕ) → (long : A) → ((bytes : List ℕ) → most < length bytes → over bytes ≡ long) → IsCut over most
+pub cut-by : {A : Type 0} → (over : List ℕ → A) → (most : ℕ) → (long : A) →
+    ((bytes : List ℕ) → most < length bytes → over bytes ≡ long) → IsCut over most
 cut-by over most long same whole =
     elim (cases_lt most (length whole)) [
       | inl past ↦
-          let more : length (take (most + 1) whole) ≡ min (most + 1) (length whole) = length-take (most + 1) whole in
+          let more : length (take (most + 1) whole) ≡ min (most + 1) (length whole) =
+          length-take (most + 1) whole in
           let cut_long : most < length (take (most + 1) whole) = omega (arith, more, past) in
           same (take (most + 1) whole) cut_long ∙ sym (same whole past)
       | inr short ↦
@@ -37,61 +41,86 @@ cut-by over most long same whole =
           ap over (take_all (most + 1) whole all)
     ]
 
-setup-long : (bytes : List ℕ) → 262144 < length bytes → setup_in bytes ≡ Err (refused (Setup 1 no_place))
+setup-long : (bytes : List ℕ) → 262144 < length bytes →
+    setup_in bytes ≡ Err (refusal_answer (Setup 1 no_place))
 unfolding setup_in setup
-setup-long bytes past = let is : nat_lt 262144 (length bytes) ≡ true = grind (arith, nat_tests) in rw is refl
+setup-long bytes past =
+    let is : nat_lt 262144 (length bytes) ≡ true = grind (arith, nat_tests) in rw is refl
 
 pub setup-cut : IsCut setup_in 262144
-setup-cut = cut-by setup_in 262144 (Err (refused (Setup 1 no_place))) setup-long
+setup-cut = cut-by setup_in 262144 (Err (refusal_answer (Setup 1 no_place))) setup-long
 
-image-long : (size : ℕ) (bytes : List ℕ) → longest size < length bytes → image_in size bytes ≡ Err (refused (Image 1 0))
+image-long : (size : ℕ) (bytes : List ℕ) → longest size < length bytes →
+    image_in size bytes ≡ Err (refusal_answer (Image 1 0))
 unfolding image_in image_of count_of
-image-long size bytes past = let is : nat_lt (longest size) (length bytes) ≡ true = grind (arith, nat_tests, past) in rw is refl
+image-long size bytes past =
+    let is : nat_lt (longest size) (length bytes) ≡ true =
+    grind (arith, nat_tests, past) in rw is refl
 
 pub image-cut : (size : ℕ) → IsCut (image_in size) (longest size)
-image-cut size = cut-by (image_in size) (longest size) (Err (refused (Image 1 0))) (image-long size)
+image-cut size =
+    cut-by (image_in size) (longest size) (Err (refusal_answer (Image 1 0))) (image-long size)
 
-ok_over : {A : Type 0} → (over : List ℕ → Result A Answer) → (bytes : List ℕ) (most : ℕ) (r : Result A Answer) → IsCut over most → (o : Option (List ℕ)) →
+ok_over : {A : Type 0} → (over : List ℕ → Result A Answer) →
+    (bytes : List ℕ) (most : ℕ) (r : Result A Answer) → IsCut over most → (o : Option (List ℕ)) →
     IsSomeAnd o (λ whole. bytes ≡ take (most + 1) whole) → over bytes ≡ r → over_file over o ≡ r
 ok_over over bytes most r cut None found is = absurd found
 ok_over over bytes most r cut (Some whole) found is = sym (cut whole) ∙ sym (ap over found) ∙ is
 
 -- what holds over the bytes that were fetched holds over the file
-pub fetched-over : {A : Type 0} → (told : Option FileMap) (name : List ℕ) (over : List ℕ → Result A Answer) (bytes : List ℕ) (most : ℕ) (r : Result A Answer) →
-    IsCut over most → Fetched told name most bytes → over bytes ≡ r → IfSome told (λ files. over_file over (files name) ≡ r)
+pub fetched-over : {A : Type 0} → (told : Option FileMap) (name : List ℕ)
+    (over : List ℕ → Result A Answer) (bytes : List ℕ) (most : ℕ) (r : Result A Answer) →
+    IsCut over most → Fetched told name most bytes → over bytes ≡ r →
+    IfSome told (λ files. over_file over (files name) ≡ r)
 fetched-over None name over bytes most r cut fetched is = tt
-fetched-over (Some files) name over bytes most r cut fetched is = ok_over over bytes most r cut (files name) fetched is
+fetched-over (Some files) name over bytes most r cut fetched is =
+    ok_over over bytes most r cut (files name) fetched is
 
-pub fetched-stop : {A : Type 0} → (told : Option FileMap) (name : List ℕ) (over : List ℕ → Result A Answer) (bytes : List ℕ) (most before after : ℕ) (stop : Stop) →
-    IsCut over most → Fetched told name most bytes → IsStopOf (over bytes) stop → IsStop told (λ files x. over_file over (files name) ≡ Err x) before after stop
-fetched-stop told name over bytes most before after (Refused refusal) cut fetched is = fetched-over told name over bytes most _ cut fetched is
-fetched-stop told name over bytes most before after (Differs line) cut fetched is = fetched-over told name over bytes most _ cut fetched is
+pub fetched-stop : {A : Type 0} → (told : Option FileMap) (name : List ℕ)
+    (over : List ℕ → Result A Answer) (bytes : List ℕ) (most before after : ℕ) (stop : Stop) →
+    IsCut over most → Fetched told name most bytes → IsStopOf (over bytes) stop →
+    IsStop told (λ files x. over_file over (files name) ≡ Err x) before after stop
+fetched-stop told name over bytes most before after (Refused refusal) cut fetched is =
+    fetched-over told name over bytes most _ cut fetched is
+fetched-stop told name over bytes most before after (Differs line) cut fetched is =
+    fetched-over told name over bytes most _ cut fetched is
 fetched-stop told name over bytes most before after Read cut fetched is = absurd is
 fetched-stop told name over bytes most before after NoMemory cut fetched is = tt
 
 -- the same of an answer of the code
-pub ok-over : {A : Type 0} → (told : Option FileMap) (name : List ℕ) (over : List ℕ → Result A Answer) (bytes items : List ℕ) (most : ℕ) (r : Result A Stop) →
-    IsCut over most → Fetched told name most items → bytes ≡ items → IfOk r (λ x. over bytes ≡ Ok x) → IfOk r (λ x. IfSome told (λ files. over_file over (files name) ≡ Ok x))
-ok-over told name over bytes items most (Ok x) cut fetched same is = fetched-over told name over items most (Ok x) cut fetched (sym (ap over same) ∙ is)
+pub ok-over : {A : Type 0} → (told : Option FileMap) (name : List ℕ)
+    (over : List ℕ → Result A Answer) (bytes items : List ℕ) (most : ℕ) (r : Result A Stop) →
+    IsCut over most → Fetched told name most items →
+    bytes ≡ items → IfOk r (λ x. over bytes ≡ Ok x) →
+    IfOk r (λ x. IfSome told (λ files. over_file over (files name) ≡ Ok x))
+ok-over told name over bytes items most (Ok x) cut fetched same is =
+    fetched-over told name over items most (Ok x) cut fetched (sym (ap over same) ∙ is)
 ok-over told name over bytes items most (Err stop) cut fetched same is = tt
 
-pub stop-over : {A : Type 0} → (told : Option FileMap) (name : List ℕ) (over : List ℕ → Result A Answer) (bytes items : List ℕ) (most before after : ℕ) (r : Result A Stop) →
-    IsCut over most → Fetched told name most items → bytes ≡ items → IfErr r (IsStopOf (over bytes)) → IfErr r (IsStop told (λ files x. over_file over (files name) ≡ Err x) before after)
+pub stop-over : {A : Type 0} →
+    (told : Option FileMap) (name : List ℕ) (over : List ℕ → Result A Answer)
+    (bytes items : List ℕ) (most before after : ℕ) (r : Result A Stop) → IsCut over most →
+    Fetched told name most items → bytes ≡ items → IfErr r (IsStopOf (over bytes)) →
+    IfErr r (IsStop told (λ files x. over_file over (files name) ≡ Err x) before after)
 stop-over told name over bytes items most before after (Ok x) cut fetched same is = tt
 stop-over {A} told name over bytes items most before after (Err stop) cut fetched same is =
     let Stops : List ℕ → Type 0 = λ b. IsStopOf (over b) stop in
     fetched-stop told name over items most before after stop cut fetched (subst Stops same is)
 
-source-long : (bytes : List ℕ) → 1048576 < length bytes → source_in bytes ≡ Err (refused (Source 0 1))
-unfolding source_in assembled
-source-long bytes past = let is : nat_lt 1048576 (length bytes) ≡ true = grind (arith, nat_tests) in rw is refl
+source-long : (bytes : List ℕ) → 1048576 < length bytes →
+    source_in bytes ≡ Err (refusal_answer (Source 0 1))
+unfolding source_in assembly_of
+source-long bytes past =
+    let is : nat_lt 1048576 (length bytes) ≡ true = grind (arith, nat_tests) in rw is refl
 
 pub source-cut : IsCut source_in 1048576
-source-cut = cut-by source_in 1048576 (Err (refused (Source 0 1))) source-long
+source-cut = cut-by source_in 1048576 (Err (refusal_answer (Source 0 1))) source-long
 
-elf-long : (bytes : List ℕ) → 4194304 < length bytes → elf_in bytes ≡ Err (refused (Image 31 0))
+elf-long : (bytes : List ℕ) → 4194304 < length bytes →
+    elf_in bytes ≡ Err (refusal_answer (Image 31 0))
 unfolding elf_in elf_of loads_of header_count
-elf-long bytes past = let is : nat_lt 4194304 (length bytes) ≡ true = grind (arith, nat_tests) in rw is refl
+elf-long bytes past =
+    let is : nat_lt 4194304 (length bytes) ≡ true = grind (arith, nat_tests) in rw is refl
 
 pub elf-cut : IsCut elf_in 4194304
-elf-cut = cut-by elf_in 4194304 (Err (refused (Image 31 0))) elf-long
+elf-cut = cut-by elf_in 4194304 (Err (refusal_answer (Image 31 0))) elf-long

@@ -1,10 +1,12 @@
 -- What a command answers: its status and its text.
-use Rattle.std.specs.Prelude.{◌≡◌, ℕ, ◌++◌, List, Option, Some, None, Result, Ok, Err, codes, decimal}
+use Rattle.std.specs.Prelude.{◌≡◌, ℕ, ◌++◌, List, Option, Some}
+use Rattle.std.specs.Prelude.{None, Result, Ok, Err, codes, decimal}
 use Rattle.std.specs.Io.KnownBytes.{Appends}
 use Rattle.fp_io.specs.Content.{AppendsFront, FileMap}
 use Rattle.trace_print.specs.Refusals.{refusal_text}
 use Rattle.trace_print.specs.declared.refusals.Refusal.{Refusal}
-use Rattle.trace_print.specs.declared.refusals.Refusal.TheVariants.{Setup, Section, Image, Source, Bound, Routines}
+use Rattle.trace_print.specs.declared.refusals.Refusal.TheVariants.{Setup, Section, Image}
+use Rattle.trace_print.specs.declared.refusals.Refusal.TheVariants.{Source, Bound, Routines}
 
 pub data Answer : Type 0 where
   Says : ℕ → List ℕ → Answer  -- a status and a text
@@ -20,14 +22,16 @@ status_of (Bound code value) = 6
 status_of (Routines line code) = 10
 
 -- a refusal, with its line
-abbrev pub refused : Refusal → Answer
-refused refusal = Says (status_of refusal) (refusal_text refusal)
+abbrev pub refusal_answer : Refusal → Answer
+refusal_answer refusal = Says (status_of refusal) (refusal_text refusal)
 
--- the line of a trace that isn't the defined one: where it first differs, counted from 1, in decimal
+-- the line of a trace that isn't the defined one: where it first differs, counted from 1, in
+-- decimal
 unfoldable pub differs_text : ℕ → List ℕ
 differs_text line = codes "differs line " ++ (decimal line ++ codes "\n")
 
--- A step of a command gives a value, or the answer that ends the command. This is a step and then another one.
+-- A step of a command gives a value, or the answer that ends the command. This is a step and then
+-- another one.
 abbrev pub then_by : {A B : Type 0} → Result A Answer → (A → Result B Answer) → Result B Answer
 then_by (Ok value) next = next value
 then_by (Err answer) next = Err answer

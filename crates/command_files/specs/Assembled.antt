@@ -1,20 +1,20 @@
 -- The image that a source defines.
 use Rattle.std.specs.Prelude.{ℕ, List, [], Result, Ok, Err}
 use Rattle.fp_io.specs.Content.{FileMap, Request}
-use Rattle.fp_image.specs.Format.{written}
+use Rattle.fp_image.specs.Format.{file_of}
 use Rattle.fp_image.specs.declared.parts.Segment.{Segment}
-use Rattle.fp_asm.specs.Source.{assembled, most_source_bytes}
+use Rattle.fp_asm.specs.Source.{assembly_of, most_source_bytes}
 use Rattle.fp_asm.specs.declared.refusal.AsmRefused.{AsmRefused}
 use Rattle.fp_asm.specs.declared.refusal.AsmRefused.TheVariants.{Fault, NoMemory}
 use Rattle.trace_print.specs.declared.refusals.Refusal.TheVariants.{Source}
 use Rattle.command_files.specs.Codes.{source_code}
-use Rattle.command_files.specs.Answer.{Answer, refused, then_by, over_file, ends}
+use Rattle.command_files.specs.Answer.{Answer, refusal_answer, then_by, over_file, ends}
 use Rattle.command_files.specs.Answer.Answer.{Says}
 
 -- a source is never refused for want of memory by its definition
 abbrev pub of_assembled : Result (List Segment) AsmRefused → Result (List Segment) Answer
 of_assembled (Ok segments) = Ok segments
-of_assembled (Err (Fault line code)) = Err (refused (Source line (source_code code)))
+of_assembled (Err (Fault line code)) = Err (refusal_answer (Source line (source_code code)))
 of_assembled (Err NoMemory) = Err (Says 9 [])
 
 -- what is asked of the files for a source
@@ -23,8 +23,9 @@ source_request name = (name, most_source_bytes)
 
 -- the image of a source's bytes
 unfoldable pub source_in : List ℕ → Result (List Segment) Answer
-source_in bytes = of_assembled (assembled bytes)
+source_in bytes = of_assembled (assembly_of bytes)
 
 -- the bytes of the image of a source of this name
 abbrev pub asm_answer : FileMap → List ℕ → Answer
-asm_answer files name = ends (then_by (over_file source_in (files name)) (λ segments. Ok (written segments)))
+asm_answer files name =
+    ends (then_by (over_file source_in (files name)) (λ segments. Ok (file_of segments)))

@@ -1,7 +1,8 @@
 -- The answer to `bound`: why there is none, or the bound of a section of a program.
-use Rattle.std.specs.Prelude.{◌≡◌, ◌⊎◌, ◌<◌, ◌≤◌, ◌^◌, ℕ, ◌==◌, ◌%◌, nat_le, nat_lt, not, ◌&&◌, if◌then◌else◌, Bool, Option, Some, None, Result, Ok, Err, option_map}
+use Rattle.std.specs.Prelude.{◌≡◌, ◌⊎◌, ◌<◌, ◌≤◌, ◌^◌, ℕ, ◌==◌, ◌%◌, nat_le, nat_lt, not, ◌&&◌}
+use Rattle.std.specs.Prelude.{if◌then◌else◌, Bool, Option, Some, None, Result, Ok, Err, option_map}
 use Rattle.std.specs.List.{list_any}
-use Rattle.nibble_word.specs.Nibbles.{nibbles}
+use Rattle.slot_table.specs.Nibbles.{nibbles}
 use Rattle.slot_scheduler.specs.ModeWord.{mode_of}
 use Rattle.fp_setup.specs.Settings.{Settings, size_of}
 use Rattle.fp_image.specs.Rules.{word}
@@ -14,16 +15,16 @@ use Rattle.trace_print.specs.Bounds.{bound_text}
 use Rattle.trace_print.specs.declared.refusals.Refusal.TheVariants as refusal
 use Rattle.command_files.specs.declared.program.Program.{Program}
 use Rattle.command_files.specs.Codes.{tree_refusal}
-use Rattle.command_files.specs.Answer.{Answer, refused}
+use Rattle.command_files.specs.Answer.{Answer, refusal_answer}
 use Rattle.command_files.specs.Answer.Answer.{Says}
 
 -- whether a slot of the register names a thread
 abbrev pub names : ℕ → ℕ → Bool
 names slots i = list_any (λ slot. slot == i) (nibbles slots)
 
--- Why no bound is told of a section, if so: the thread isn't hard and awake, it has no slot, the section is empty or
--- ends before it begins, its ends aren't multiples of four, or it ends past the instruction scratchpad. The first that
--- holds counts.
+-- Why no bound is told of a section, if so: the thread isn't hard and awake, it has no slot, the
+-- section is empty or ends before it begins, its ends aren't multiples of four, or it ends past the
+-- instruction scratchpad. The first that holds counts.
 unfoldable pub section_fault : Settings → ℕ → Section → Option ℕ
 section_fault s i section =
     if not (mode_of s.modes i == 0) then Some 1
@@ -41,7 +42,7 @@ section_tree p section = tree_of (word p.image) section p.setup.loops
 pub record IsTreeRefused (t : Tree) (x : Answer) : Type 0 where
   pub no : TreeNo
   pub is : IsRefused (graph t) no
-  pub line : Some x ≡ option_map refused (tree_refusal no)
+  pub line : Some x ≡ option_map refusal_answer (tree_refusal no)
 
 -- it has a bound, but that has more than 64 bits
 pub record IsTooLarge (t : Tree) (slots i : ℕ) (x : Answer) : Type 0 where
@@ -49,9 +50,10 @@ pub record IsTooLarge (t : Tree) (slots i : ℕ) (x : Answer) : Type 0 where
   pub cycles : ℕ
   pub is : IsBound (course t slots i) cycles
   pub large : 2 ^ 64 ≤ cycles
-  pub line : x ≡ refused (refusal.Bound 6 cycles)
+  pub line : x ≡ refusal_answer (refusal.Bound 6 cycles)
 
--- it has a bound: the largest cost of a walk through it that keeps the loops' bounds, by the turns of the thread
+-- it has a bound: the largest cost of a walk through it that keeps the loops' bounds, by the turns
+-- of the thread
 pub record IsBounded (t : Tree) (slots i : ℕ) (x : Answer) : Type 0 where
   pub accepted : IsTree t
   pub cycles : ℕ
@@ -63,7 +65,7 @@ abbrev pub IsTreeAnswer : Tree → ℕ → ℕ → Answer → Type 0
 IsTreeAnswer t slots i x = IsTreeRefused t x ⊎ (IsTooLarge t slots i x ⊎ IsBounded t slots i x)
 
 abbrev pub IsSectionAnswer : Program → ℕ → Section → Option ℕ → Answer → Type 0
-IsSectionAnswer p i section (Some code) x = x ≡ refused (refusal.Section code)
+IsSectionAnswer p i section (Some code) x = x ≡ refusal_answer (refusal.Section code)
 IsSectionAnswer p i section None x = IsTreeAnswer (section_tree p section) p.setup.slots i x
 
 -- what is answered over a program, or over the answer that came before it

@@ -1,12 +1,16 @@
--- The answer to `calls`: why there is none, or the bound of a section of a program through the routines that a file lists.
-use Rattle.std.specs.Prelude.{◌≡◌, ◌⊎◌, ◌<◌, ◌≤◌, ◌^◌, ℕ, List, [], Option, Some, None, Result, Ok, Err, option_map}
+-- The answer to `calls`: why there is none, or the bound of a section of a program through the
+-- routines that a file lists.
+use Rattle.std.specs.Prelude.{◌≡◌, ◌⊎◌, ◌<◌, ◌≤◌, ◌^◌, ℕ, List, [], Option}
+use Rattle.std.specs.Prelude.{Some, None, Result, Ok, Err, option_map, ◌*◌}
 use Rattle.fp_io.specs.Content.{Request}
 use Rattle.fp_setup.specs.Settings.{size_of}
 use Rattle.fp_image.specs.Rules.{word}
 use Rattle.region_tree.specs.declared.section.Section.{Section}
-use Rattle.call_bounds.specs.RoutinesFile.{routines_of}
+use Rattle.call_bounds.specs.Routines.{most_routines}
+use Rattle.call_bounds.specs.RoutinesFile.{line_length, routines_of}
 use Rattle.call_bounds.specs.declared.routines_refusals.RoutinesRefused.{RoutinesRefused}
-use Rattle.call_bounds.specs.declared.routines_refusals.RoutinesRefused.TheVariants.{Fault, NoMemory}
+use Rattle.call_bounds.specs.declared.routines_refusals.RoutinesRefused.TheVariants.{Fault}
+use Rattle.call_bounds.specs.declared.routines_refusals.RoutinesRefused.TheVariants.{NoMemory}
 use Rattle.call_bounds.specs.declared.routines.Routine.{Routine}
 use Rattle.call_bounds.specs.CallRefusals.{IsCallable, IsListing}
 use Rattle.call_bounds.specs.CallRefused.{IsCallRefused}
@@ -17,19 +21,20 @@ use Rattle.trace_print.specs.Bounds.{bound_text}
 use Rattle.trace_print.specs.declared.refusals.Refusal.TheVariants as refusal
 use Rattle.command_files.specs.declared.program.Program.{Program}
 use Rattle.command_files.specs.Codes.{call_refusal, routines_code}
-use Rattle.command_files.specs.Answer.{Answer, over_file, refused}
+use Rattle.command_files.specs.Answer.{Answer, over_file, refusal_answer}
 use Rattle.command_files.specs.Answer.Answer.{Says}
 use Rattle.command_files.specs.BoundAnswer.{section_fault}
 
 -- a list of routines is never refused for want of memory by its definition
 abbrev pub of_routines : Result (List Routine) RoutinesRefused → Result (List Routine) Answer
 of_routines (Ok routines) = Ok routines
-of_routines (Err (Fault line code)) = Err (refused (refusal.Routines line (routines_code code)))
+of_routines (Err (Fault line code)) =
+    Err (refusal_answer (refusal.Routines line (routines_code code)))
 of_routines (Err NoMemory) = Err (Says 9 [])
 
--- what is asked of the files for a list of routines: 64 lines of 18 bytes
+-- what is asked of the files for a list of routines: the most lines that it may have
 abbrev pub routines_request : List ℕ → Request
-routines_request name = (name, 1152)
+routines_request name = (name, most_routines * line_length)
 
 -- the routines of a file's bytes, for scratchpads of a size
 unfoldable pub routines_in : ℕ → List ℕ → Result (List Routine) Answer
@@ -43,7 +48,7 @@ section_listing p section routines = listing_of (word p.image) section routines 
 pub record IsListingRefused (l : Listing) (x : Answer) : Type 0 where
   pub no : CallNo
   pub is : IsCallRefused (calls l) no
-  pub line : Some x ≡ option_map refused (call_refusal no)
+  pub line : Some x ≡ option_map refusal_answer (call_refusal no)
 
 -- a call walk through it that keeps the loops' bounds costs more cycles than 64 bits tell
 pub record IsTooLargeByCalls (l : Listing) (slots i : ℕ) (x : Answer) : Type 0 where
@@ -51,7 +56,7 @@ pub record IsTooLargeByCalls (l : Listing) (slots i : ℕ) (x : Answer) : Type 0
   pub cycles : ℕ
   pub is : CostsOf (route (calls l) slots i) cycles
   pub large : 2 ^ 64 ≤ cycles
-  pub line : x ≡ refused (refusal.Bound 6 (2 ^ 64))
+  pub line : x ≡ refusal_answer (refusal.Bound 6 (2 ^ 64))
 
 -- it has a bound: the largest cost of such a walk, by the turns of the thread
 pub record IsBoundedByCalls (l : Listing) (slots i : ℕ) (x : Answer) : Type 0 where
@@ -63,19 +68,24 @@ pub record IsBoundedByCalls (l : Listing) (slots i : ℕ) (x : Answer) : Type 0 
   pub line : x ≡ Says 0 (bound_text cycles)
 
 abbrev pub IsListingAnswer : Listing → ℕ → ℕ → Answer → Type 0
-IsListingAnswer l slots i x = IsListingRefused l x ⊎ (IsTooLargeByCalls l slots i x ⊎ IsBoundedByCalls l slots i x)
+IsListingAnswer l slots i x =
+    IsListingRefused l x ⊎ (IsTooLargeByCalls l slots i x ⊎ IsBoundedByCalls l slots i x)
 
 -- what is answered over the routines, or over the answer that came before them
 abbrev pub IsRoutinesAnswer : Program → ℕ → Section → Result (List Routine) Answer → Answer → Type 0
 IsRoutinesAnswer p i section (Err before) x = x ≡ before
-IsRoutinesAnswer p i section (Ok routines) x = IsListingAnswer (section_listing p section routines) p.setup.slots i x
+IsRoutinesAnswer p i section (Ok routines) x =
+    IsListingAnswer (section_listing p section routines) p.setup.slots i x
 
 -- the file of routines counts only where the section may be asked for
-abbrev pub IsSectionCallsAnswer : Program → ℕ → Section → Option (List ℕ) → Option ℕ → Answer → Type 0
-IsSectionCallsAnswer p i section file (Some code) x = x ≡ refused (refusal.Section code)
-IsSectionCallsAnswer p i section file None x = IsRoutinesAnswer p i section (over_file (routines_in (size_of p.setup.version)) file) x
+abbrev pub IsSectionCallsAnswer : Program → ℕ → Section → Option (List ℕ) → Option ℕ →
+    Answer → Type 0
+IsSectionCallsAnswer p i section file (Some code) x = x ≡ refusal_answer (refusal.Section code)
+IsSectionCallsAnswer p i section file None x =
+    IsRoutinesAnswer p i section (over_file (routines_in (size_of p.setup.version)) file) x
 
 -- what is answered over a program, or over the answer that came before it
 abbrev pub IsCallsAnswer : Result Program Answer → ℕ → Section → Option (List ℕ) → Answer → Type 0
 IsCallsAnswer (Err before) i section file x = x ≡ before
-IsCallsAnswer (Ok p) i section file x = IsSectionCallsAnswer p i section file (section_fault p.setup i section) x
+IsCallsAnswer (Ok p) i section file x =
+    IsSectionCallsAnswer p i section file (section_fault p.setup i section) x

@@ -4,18 +4,18 @@ use Rattle.fp_elf.specs.Elf.{elf_of}
 use Rattle.fp_elf.specs.Loads.{most_elf_bytes}
 use Rattle.fp_elf.specs.declared.refusals.ElfRefused.{ElfRefused}
 use Rattle.fp_elf.specs.declared.refusals.ElfRefused.TheVariants.{Fault, NoMemory}
-use Rattle.fp_image.specs.Format.{written}
+use Rattle.fp_image.specs.Format.{file_of}
 use Rattle.fp_image.specs.declared.parts.Segment.{Segment}
 use Rattle.fp_io.specs.Content.{FileMap, Request}
 use Rattle.trace_print.specs.declared.refusals.Refusal.TheVariants.{Image}
 use Rattle.command_files.specs.Codes.{elf_code}
-use Rattle.command_files.specs.Answer.{Answer, refused, then_by, over_file, ends}
+use Rattle.command_files.specs.Answer.{Answer, refusal_answer, then_by, over_file, ends}
 use Rattle.command_files.specs.Answer.Answer.{Says}
 
 -- an executable is never refused for want of memory by its definition
 abbrev pub of_elf : Result (List Segment) ElfRefused → Result (List Segment) Answer
 of_elf (Ok segments) = Ok segments
-of_elf (Err (Fault code offset)) = Err (refused (Image (elf_code code) offset))
+of_elf (Err (Fault code offset)) = Err (refusal_answer (Image (elf_code code) offset))
 of_elf (Err NoMemory) = Err (Says 9 [])
 
 -- what is asked of the files for an executable
@@ -28,4 +28,5 @@ elf_in bytes = of_elf (elf_of bytes)
 
 -- the bytes of the image of an executable of this name
 abbrev pub elf_answer : FileMap → List ℕ → Answer
-elf_answer files name = ends (then_by (over_file elf_in (files name)) (λ segments. Ok (written segments)))
+elf_answer files name =
+    ends (then_by (over_file elf_in (files name)) (λ segments. Ok (file_of segments)))

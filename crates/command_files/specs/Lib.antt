@@ -2,6 +2,7 @@ pub mod Codes
 pub mod Answer
 pub mod Program
 pub mod Stops
+pub mod Status
 pub mod Assembled
 pub mod Elf
 pub mod BoundAnswer

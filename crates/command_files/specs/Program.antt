@@ -11,12 +11,12 @@ use Rattle.fp_image.specs.declared.refusals.ImageRefused.TheVariants as image_no
 use Rattle.trace_print.specs.declared.refusals.Refusal.TheVariants.{Setup, Image}
 use Rattle.command_files.specs.declared.program.Program.{Program}
 use Rattle.command_files.specs.Codes.{setup_code, image_code}
-use Rattle.command_files.specs.Answer.{Answer, refused, then_by, over_file}
+use Rattle.command_files.specs.Answer.{Answer, refusal_answer, then_by, over_file}
 use Rattle.command_files.specs.Answer.Answer.{Says}
 
 abbrev pub of_setup : Result Settings Fault → Result Settings Answer
 of_setup (Ok s) = Ok s
-of_setup (Err fault) = Err (refused (Setup (setup_code fault.code) fault.place))
+of_setup (Err fault) = Err (refusal_answer (Setup (setup_code fault.code) fault.place))
 
 -- what is asked of the files for a setup, and for the image that it names
 abbrev pub setup_request : List ℕ → Request
@@ -32,7 +32,7 @@ setup_in bytes = of_setup (setup bytes)
 -- an image is never refused for want of memory by its definition
 abbrev pub of_image : Result (List Segment) ImageRefused → Result (List Segment) Answer
 of_image (Ok segments) = Ok segments
-of_image (Err (image_no.Fault code offset)) = Err (refused (Image (image_code code) offset))
+of_image (Err (image_no.Fault code offset)) = Err (refusal_answer (Image (image_code code) offset))
 of_image (Err image_no.NoMemory) = Err (Says 9 [])
 
 -- the image of a file's bytes, for scratchpads of a size
@@ -45,14 +45,18 @@ with_image s segments = Ok (record { setup = s; image = segments })
 -- the setup of a name, and then the image that it names
 abbrev pub program : FileMap → List ℕ → Result Program Answer
 program files name =
-    then_by (over_file setup_in (files name)) (λ s. then_by (over_file (image_in (size_of s.version)) (files s.image)) (with_image s))
+    then_by (over_file setup_in (files name))
+    (λ s. then_by (over_file (image_in (size_of s.version)) (files s.image)) (with_image s))
 
 -- the requests for both
 abbrev pub program_requests : List ℕ → Settings → List Request
 program_requests name s = setup_request name ∷ image_request s ∷ []
 
--- what is asked for a program, or for as much of it as came: the setup, and then, where that is accepted, its image
-abbrev pub IsProgramAsked : Option FileMap → List ℕ → Option (List Request) → Option (List Request) → Type 0
+-- what is asked for a program, or for as much of it as came: the setup, and then, where that is
+-- accepted, its image
+abbrev pub IsProgramAsked : Option FileMap → List ℕ → Option (List Request) →
+    Option (List Request) → Type 0
 IsProgramAsked told name before after =
     Asks before after (setup_request name ∷ [])
-    ⊎ ((s : Settings) × IfSome told (λ files. over_file setup_in (files name) ≡ Ok s) × Asks before after (program_requests name s))
+    ⊎ ((s : Settings) × IfSome told (λ files. over_file setup_in (files name) ≡ Ok s)
+    × Asks before after (program_requests name s))

@@ -1,10 +1,12 @@
 //! The bound of a section of a program.
 
-ghost use Rattle.std.specs.Prelude.{◌≡◌, ◌<◌, ◌≤◌, ◌↔◌, IsTrue, Some, Ok, IfOk, IfErr, OnOk, None, Contains, length};
+ghost use Rattle.std.specs.Prelude.{◌≡◌, ◌<◌, ◌≤◌, ◌↔◌, IsTrue, Some, Ok};
+ghost use Rattle.std.specs.Prelude.{IfOk, IfErr, OnOk, None, Contains, length};
 ghost use Rattle.region_tree.specs.Tree.{IsSection, IsTree};
 ghost use Rattle.command_files.specs.Answer.Answer.{Says};
 ghost use Rattle.trace_print.specs.Bounds.{bound_text};
-ghost use Rattle.command_files.specs.BoundAnswer.{IsBoundAnswer, IsTreeRefused, IsTreeAnswer, names, section_fault, section_tree};
+ghost use Rattle.command_files.specs.BoundAnswer.{IsBoundAnswer, IsTreeRefused, IsTreeAnswer};
+ghost use Rattle.command_files.specs.BoundAnswer.{names, section_fault, section_tree};
 ghost use Rattle.command_files.specs.Stops.{IsAnswerStop};
 ghost use Rattle.command_files.specs.BoundStops.{stop_of_tree, stop_of_bound};
 
@@ -12,10 +14,9 @@ use crate::program::Program;
 use crate::stop::Stop;
 use bound_calc::{BoundNo, bound};
 use fp_setup::Setup;
-use nibble_word::nibbles_of;
 use region_tree::{LoopTree, Section, TreeNo};
 use setup_model::{modes, slot_table};
-use slot_table::SlotTable;
+use slot_table::{SlotTable, nibbles_of};
 use std::alloc::Global;
 use trace_print::Refusal;
 

@@ -1,7 +1,8 @@
 //! The bound of a section of a program through the routines that a file lists.
 
-ghost use Rattle.std.specs.Prelude.{◌≡◌, ◌≢◌, ◌<◌, ◌≤◌, [], ◌∷◌, None, Ok, IfOk, IfErr, OnOk, IfSome};
-ghost use Rattle.fp_io.specs.Content.{Asks};
+ghost use Rattle.std.specs.Prelude.{◌≡◌, ◌≢◌, ◌<◌, ◌≤◌, [], ◌∷◌, None};
+ghost use Rattle.std.specs.Prelude.{Ok, Err, IfOk, IfErr, OnOk, IfSome};
+ghost use Rattle.fp_io.specs.Content.{Asks, Lacks};
 ghost use Rattle.region_guard.specs.Regions.{IsSize};
 ghost use Rattle.region_tree.specs.Tree.{IsSection};
 ghost use Rattle.call_bounds.specs.CallRefusals.{IsCallable};
@@ -10,7 +11,8 @@ ghost use Rattle.trace_print.specs.Bounds.{bound_text};
 ghost use Rattle.command_files.specs.Answer.{on_file};
 ghost use Rattle.command_files.specs.Answer.Answer.{Says};
 ghost use Rattle.command_files.specs.BoundAnswer.{section_fault};
-ghost use Rattle.command_files.specs.CallsAnswer.{IsCallsAnswer, IsListingAnswer, IsListingRefused, routines_in, routines_request, section_listing};
+ghost use Rattle.command_files.specs.CallsAnswer.{IsCallsAnswer, IsListingAnswer, IsListingRefused};
+ghost use Rattle.command_files.specs.CallsAnswer.{routines_in, routines_request, section_listing};
 ghost use Rattle.command_files.specs.Codes.{routines_code};
 ghost use Rattle.command_files.specs.Stops.{IsAnswerStop, IsStop, IsStopIn, IsStopOf, Makes};
 ghost use Rattle.command_files.specs.BoundStops.{stop_of_calls};
@@ -67,6 +69,7 @@ fn fetch_routines<F: Files>(
     ensures counted { F.faults files.old ≤ F.faults files.new }
     ensures request { Asks (F.requests files.old) (F.requests files.new)
         (routines_request name.now ∷ []) }
+    ensures missing { Lacks (F.told files.old) name.now → result ≡ Err Stop.Read }
     ensures ok { IfOk result (Makes (F.told files.old) (on_file (routines_in size) name.now)) }
     ensures stop { IfErr result (IsStopIn (F.told files.old) (on_file (routines_in size) name.now)
         (F.faults files.old) (F.faults files.new)) }
@@ -152,7 +155,8 @@ fn calls_in(
 /// # Errors
 ///
 /// Where no bound is told of the section; where the file isn't there, can't be read or has a
-/// fault; where the section with these routines has no bound, or one past 64 bits.
+/// fault; where the section with these routines has no bound, or one past 64 bits. NoMemory where
+/// memory was refused, but not where the files tell that the file isn't there.
 pub fn calls_bound<F: Files>(
     alloc: Global,
     program: &Program,
@@ -168,6 +172,8 @@ pub fn calls_bound<F: Files>(
         files.new ≡ files.old }
     ensures request { section_fault program.now.setup thread section ≡ None →
         Asks (F.requests files.old) (F.requests files.new) (routines_request routines.now ∷ []) }
+    ensures missing { section_fault program.now.setup thread section ≡ None →
+        Lacks (F.told files.old) routines.now → result ≡ Err Stop.Read }
     ensures ok { IfOk result (λ cycles. IfSome (F.told files.old) (λ told.
         IsCallsAnswer (Ok program.now) thread section (told routines.now)
         (Says 0 (bound_text cycles)))) }

@@ -1,7 +1,7 @@
 //! The image of an executable.
 
-ghost use Rattle.std.specs.Prelude.{◌≡◌, ◌≤◌, [], ◌∷◌, Ok, IfOk, IfErr, IfSome};
-ghost use Rattle.fp_io.specs.Content.{Asks};
+ghost use Rattle.std.specs.Prelude.{◌≡◌, ◌≤◌, [], ◌∷◌, Ok, Err, IfOk, IfErr, IfSome};
+ghost use Rattle.fp_io.specs.Content.{Asks, Lacks};
 ghost use Rattle.command_files.specs.Answer.{on_file};
 ghost use Rattle.command_files.specs.Answer.Answer.{Says};
 ghost use Rattle.command_files.specs.Codes.{elf_code};
@@ -46,6 +46,7 @@ fn fetch_executable<F: Files>(alloc: Global, name: &Name, files: &mut F) -> Resu
     ensures counted { F.faults files.old ≤ F.faults files.new }
     ensures request { Asks (F.requests files.old) (F.requests files.new)
         (executable_request name.now ∷ []) }
+    ensures missing { Lacks (F.told files.old) name.now → result ≡ Err Stop.Read }
     ensures ok { IfOk result (Makes (F.told files.old) (on_file elf_in name.now)) }
     ensures stop { IfErr result (IsStopIn (F.told files.old) (on_file elf_in name.now)
         (F.faults files.old) (F.faults files.new)) }
@@ -59,12 +60,13 @@ fn fetch_executable<F: Files>(alloc: Global, name: &Name, files: &mut F) -> Resu
 /// # Errors
 ///
 /// Where the executable isn't there, can't be read or has a fault; NoMemory where memory was
-/// refused.
+/// refused, but not where the files tell that the executable isn't there.
 pub fn imported_bytes<F: Files>(alloc: Global, name: &Name, files: &mut F) -> Result<Vec<u8>, Stop>
     ensures told { F.told files.new ≡ F.told files.old }
     ensures counted { F.faults files.old ≤ F.faults files.new }
     ensures request { Asks (F.requests files.old) (F.requests files.new)
         (executable_request name.now ∷ []) }
+    ensures missing { Lacks (F.told files.old) name.now → result ≡ Err Stop.Read }
     ensures ok { IfOk result (λ bytes. IfSome (F.told files.old) (λ told.
         Says 0 bytes.items ≡ elf_answer told name.now)) }
     ensures stop { IfErr result

@@ -1,6 +1,6 @@
-//! The files of a command: its setup and image, and why it ends before its text. Also what the
-//! commands answer that run no machine: the bound of a section, also through calls, and the image
-//! of a source or an executable.
+//! The files of a command: its setup and image, why it ends before its text, and its status. Also
+//! what the commands answer that run no machine: the bound of a section, also through calls, and
+//! the image of a source or an executable.
 #![tactic(auto)]
 
 mod assembling;
@@ -9,6 +9,7 @@ mod calls;
 mod difference;
 mod elf;
 mod program;
+mod status;
 mod stop;
 
 pub use assembling::image_bytes;
@@ -17,4 +18,5 @@ pub use calls::calls_bound;
 pub use difference::difference_line;
 pub use elf::imported_bytes;
 pub use program::{Program, fetch, load};
+pub use status::Status;
 pub use stop::Stop;

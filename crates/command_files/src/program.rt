@@ -1,13 +1,14 @@
 //! The setup and the image that a command reads.
 
-ghost use Rattle.std.specs.Prelude.{◌≡◌, ◌≤◌, ◌<◌, ◌^◌, ◌-◌, [], ◌∷◌, Ok, IfOk, IfErr};
-ghost use Rattle.fp_io.specs.Content.{Asks, Fetched};
+ghost use Rattle.std.specs.Prelude.{◌≡◌, ◌≤◌, ◌<◌, ◌^◌, ◌-◌, [], ◌∷◌, Ok, Err, IfOk, IfErr};
+ghost use Rattle.fp_io.specs.Content.{Asks, Fetched, Lacks};
 ghost use Rattle.fp_setup.specs.Settings.{size_of};
 ghost use Rattle.region_guard.specs.Regions.{IsSize};
 ghost use Rattle.fp_image.specs.Format.{longest};
 ghost use Rattle.command_files.specs.Answer.{on_file};
 ghost use Rattle.command_files.specs.Codes.{setup_code, image_code};
-ghost use Rattle.command_files.specs.Program.{IsProgramAsked, image_in, program, program_requests, setup_in, setup_request};
+ghost use Rattle.command_files.specs.Program.{IsProgramAsked, image_in, program};
+ghost use Rattle.command_files.specs.Program.{program_requests, setup_in, setup_request};
 ghost use Rattle.command_files.specs.Stops.{IsFetchStop, IsStopIn, IsStopOf, Makes, stop_of_fetch};
 
 use crate::stop::Stop;
@@ -41,7 +42,7 @@ fn stop_of_fetch(fault: FetchFault) -> Stop
 /// # Errors
 ///
 /// Read only where the files' count of faults rose, or where they tell that the file isn't there;
-/// NoMemory where memory was refused.
+/// NoMemory where memory was refused, and neither of these is so.
 pub fn fetch<F: Files>(
     alloc: Global,
     name: &Name,
@@ -53,6 +54,7 @@ pub fn fetch<F: Files>(
     ensures counted { F.faults files.old ≤ F.faults files.new }
     ensures request { Asks (F.requests files.old) (F.requests files.new) ((name.now, most) ∷ []) }
     ensures bytes { IfOk result (λ bytes. Fetched (F.told files.old) name.now most bytes.items) }
+    ensures missing { Lacks (F.told files.old) name.now → result ≡ Err Stop.Read }
     ensures stop { IfErr result (IsFetchStop (F.told files.old) name.now
         (F.faults files.old) (F.faults files.new)) }
 {
@@ -73,6 +75,9 @@ fn setup_refusal(code: SetupNo, place: Place) -> Refusal
 }
 
 /// The setup of a file's bytes.
+///
+/// Images, sources and executables have a function of this form each: a reader, its faults and its
+/// definition differ together, and one for all would take the three as parameters.
 #[tactic(auto, unfolding(crate::specs::Program::setup_in))]
 fn setup_in(alloc: Global, bytes: &[u8]) -> Result<Setup, Stop>
     ensures ok { IfOk result (λ s. setup_in bytes.now ≡ Ok s) }
@@ -119,6 +124,7 @@ fn fetch_setup<F: Files>(alloc: Global, name: &Name, files: &mut F) -> Result<Se
     ensures counted { F.faults files.old ≤ F.faults files.new }
     ensures request { Asks (F.requests files.old) (F.requests files.new)
         (setup_request name.now ∷ []) }
+    ensures missing { Lacks (F.told files.old) name.now → result ≡ Err Stop.Read }
     ensures ok { IfOk result (Makes (F.told files.old) (on_file setup_in name.now)) }
     ensures stop { IfErr result (IsStopIn (F.told files.old) (on_file setup_in name.now)
         (F.faults files.old) (F.faults files.new)) }
@@ -139,6 +145,7 @@ fn fetch_image<F: Files>(
     ensures counted { F.faults files.old ≤ F.faults files.new }
     ensures request { Asks (F.requests files.old) (F.requests files.new)
         ((name.now, longest size) ∷ []) }
+    ensures missing { Lacks (F.told files.old) name.now → result ≡ Err Stop.Read }
     ensures ok { IfOk result (Makes (F.told files.old) (on_file (image_in size) name.now)) }
     ensures stop { IfErr result (IsStopIn (F.told files.old) (on_file (image_in size) name.now)
         (F.faults files.old) (F.faults files.new)) }
@@ -153,7 +160,8 @@ fn fetch_image<F: Files>(
 /// # Errors
 ///
 /// The first of: the setup isn't there or can't be read; it has a fault; the image isn't there or
-/// can't be read; it has a fault. NoMemory where memory was refused.
+/// can't be read; it has a fault. NoMemory where memory was refused, but not where the files tell
+/// that the setup isn't there.
 pub fn load<F: Files>(alloc: Global, name: &Name, files: &mut F) -> Result<Program, Stop>
     ensures told { F.told files.new ≡ F.told files.old }
     ensures counted { F.faults files.old ≤ F.faults files.new }
@@ -161,6 +169,7 @@ pub fn load<F: Files>(alloc: Global, name: &Name, files: &mut F) -> Result<Progr
         (program_requests name.now p.setup)) }
     ensures asked { IsProgramAsked (F.told files.old) name.now
         (F.requests files.old) (F.requests files.new) }
+    ensures missing { Lacks (F.told files.old) name.now → result ≡ Err Stop.Read }
     ensures ok { IfOk result (Makes (F.told files.old) (λ told. program told name.now)) }
     ensures stop { IfErr result (IsStopIn (F.told files.old) (λ told. program told name.now)
         (F.faults files.old) (F.faults files.new)) }

@@ -130,10 +130,10 @@ macro_rules! plugged {
 }
 
 /// Runs a command beside devices of some kinds, and appends what it leaves there. The kinds have a
-/// space between two: `h` is a device that holds what it is fed, `wN` a square wave, `step` one that
-/// shows the cycle, `ramp` one that rises, `drop` one that counts its drops, `count` one whose calls
-/// are counted, `+` one that holds what it is fed and notes its calls, `+N` one that does so and can
-/// be fed N times, `-` none.
+/// space between two: `h` is a device that holds what it is fed, `wN` a square wave, `step` one
+/// that shows the cycle, `ramp` one that rises, `drop` one that counts its drops, `count` one whose
+/// calls are counted, `+` one that holds what it is fed and notes its calls, `+N` one that does so
+/// and can be fed N times, `-` none.
 fn run_beside(
     alloc: Global,
     kinds: &str,

@@ -42,7 +42,8 @@ const COMMANDS: [(&str, &str); 11] = [
         "calls.trace",
     ),
     (
-        "calls examples/calls.toml --thread 0 --from 0x8 --to 0x18 --routines examples/calls.routines",
+        "calls examples/calls.toml --thread 0 --from 0x8 --to 0x18 --routines \
+         examples/calls.routines",
         "calls.bound",
     ),
     ("elf examples/c/pid.elf", "pid.fpx"),

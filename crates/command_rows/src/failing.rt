@@ -5,6 +5,7 @@ use crate::agrees;
 use crate::answer::{Answer, answer_to};
 use crate::cases::{Case, Command, Fails, Wanted, cases};
 use crate::noted::Put;
+use flexpret_top::Status;
 use row_text::Tally;
 use std::{fs, io};
 
@@ -18,8 +19,8 @@ pub fn compare(rt: HostRuntime, name: &str, title: &str) -> io::Result<()> {
     tally.print(rt, title, "commands")
 }
 
-/// Counts the commands of a case with each of their calls failing. One in which a call fails already
-/// is left out.
+/// Counts the commands of a case with each of their calls failing. One in which a call fails
+/// already is left out.
 fn count(rt: HostRuntime, tally: &mut Tally, case: &Case<'_>) -> io::Result<()> {
     for command in &case.commands {
         if command.fails.fetch.is_none() && command.fails.put.is_none() {
@@ -40,7 +41,7 @@ fn count_fetches(
     whole: &Answer,
 ) -> io::Result<()> {
     for (call, end) in (0..u32::MAX).zip(whole.fetches.iter()) {
-        let wanted = stopped(Fails::at_fetch(call), 7, &[], front(whole, *end));
+        let wanted = stopped(Fails::at_fetch(call), Status::Read, &[], front(whole, *end));
         tally.count(agrees(rt, case, command, wanted)?);
     }
     Ok(())
@@ -62,8 +63,8 @@ fn count_puts(
     Ok(())
 }
 
-/// Counts a command with a put failing, before which so many bytes were written. It takes none, half
-/// or all of its own.
+/// Counts a command with a put failing, before which so many bytes were written. It takes none,
+/// half or all of its own.
 fn count_put(
     rt: HostRuntime,
     tally: &mut Tally,
@@ -79,7 +80,7 @@ fn count_put(
         let written = whole.text.get(..end).unwrap_or(&[]);
         let wanted = stopped(
             Fails::at_put(call, taken),
-            8,
+            Status::Write,
             written,
             front(whole, put.end),
         );
@@ -95,10 +96,10 @@ fn front(whole: &Answer, end: usize) -> &str {
 }
 
 /// What is wanted of a command that a failing call stops.
-fn stopped<'a>(fails: Fails, status: u8, text: &'a [u8], calls: &'a str) -> Wanted<'a> {
+fn stopped<'a>(fails: Fails, status: Status, text: &'a [u8], calls: &'a str) -> Wanted<'a> {
     Wanted {
         fails,
-        status,
+        status: status.number(),
         text,
         ports: None,
         calls: Some(calls),

@@ -2,9 +2,9 @@
 //! it: its status, what it writes, what is left of the devices at the ports, and the calls that it
 //! makes. `commands.txt` says at its head how the tables are written.
 //!
-//! The tables are in the folder where it runs, with copies of the files of the repository's examples
-//! and what commands over them write. Standard output has each command at which the two differ, and
-//! for each table how many there are and how many differ.
+//! The tables are in the folder where it runs, with copies of the files of the repository's
+//! examples and what commands over them write. Standard output has each command at which the two
+//! differ, and for each table how many there are and how many differ.
 #![tactic(auto)]
 
 mod answer;

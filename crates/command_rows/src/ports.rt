@@ -3,7 +3,7 @@
 ghost use Rattle.std.specs.Prelude.{◌<◌, ◌≡◌, vec_len};
 
 use crate::noted::Notes;
-use fp_ports::{Ports, latch_of, read_port};
+use fp_ports::{Ports, THREADS, latch_of, read_port};
 use row_text::RowText;
 
 /// The half of the period of a square wave, by its kind `wN`; 0 for other kinds.
@@ -39,7 +39,7 @@ fn push_port(text: &mut RowText, ports: &mut Ports, thread: u8)
 /// Appends what is left at the ports, and how many devices were dropped, before the rest is dropped
 /// and then.
 pub fn push_left(text: &mut RowText, mut ports: Ports, notes: &Notes) {
-    for thread in 0..8u8 {
+    for thread in 0..THREADS {
         if ports.len() == 8 {
             push_port(text, &mut ports, thread);
         }

@@ -7,7 +7,7 @@ use crate::cases::{Case, Command, Cut};
 use ask_words::{Ask, read_words};
 use fp_image::{Image, read_image};
 use fp_io::MemSink;
-use fp_ports::{HeldPort, Ports};
+use fp_ports::{HeldPort, Ports, THREADS};
 use fp_setup::{Setup, read_setup};
 use machine::{Machine, feed_inputs};
 use std::alloc::Global;
@@ -86,7 +86,7 @@ fn shown_by(
     requires limit { cycles ≤ most_cycles }
 {
     let mut ports: Ports = Vec::new(alloc);
-    for _thread in 0..8u8 {
+    for _thread in 0..THREADS {
         let port = Box::new(alloc, HeldPort::new(alloc)).ok()?;
         ports.push(Some(port)).ok()?;
     }

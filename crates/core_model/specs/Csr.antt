@@ -1,9 +1,11 @@
 -- Control and status registers: a thread's own, and those of the machine.
-use Rattle.std.specs.Prelude.{ℕ, ◌-◌, ◌*◌, ◌/◌, ◌^◌, ◌==◌, nat_le, Bool, true, false, ◌&&◌, ◌||◌, if◌then◌else◌, Option, Some, None}
+use Rattle.std.specs.Prelude.{ℕ, ◌-◌, ◌*◌, ◌/◌, ◌^◌, ◌==◌, nat_le, Bool, true}
+use Rattle.std.specs.Prelude.{false, ◌&&◌, ◌||◌, if◌then◌else◌, Option, Some, None}
 use Rattle.rv_decode.specs.declared.instruction.AluOp.TheVariants.{Or, And}
 use Rattle.rv_decode.specs.Lag.{redirect_lag}
-use Rattle.rv_decode.specs.CsrNumbers.{csr_mtvec, csr_mscratch, csr_mepc, csr_mcause, csr_mhartid, csr_slots, csr_modes, csr_dregions, csr_iregions}
-use Rattle.rv_exec.specs.Alu.{computed}
+use Rattle.rv_decode.specs.CsrNumbers.{csr_mtvec, csr_mscratch, csr_mepc, csr_mcause, csr_mhartid}
+use Rattle.rv_decode.specs.CsrNumbers.{csr_slots, csr_modes, csr_dregions, csr_iregions}
+use Rattle.rv_exec.specs.Alu.{alu_result}
 use Rattle.rv_exec.specs.declared.outcome.Effect.TheVariants.{Csr}
 use Rattle.rv_exec.specs.TrapCauses.{cause_illegal}
 use Rattle.region_guard.specs.RegionsWord.{is_regions}
@@ -12,9 +14,9 @@ use Rattle.slot_scheduler.specs.ModeWord.{is_modes}
 use Rattle.core_model.specs.declared.own.Own.{Own}
 use Rattle.core_model.specs.declared.own.CsrOp.{CsrOp}
 use Rattle.core_model.specs.declared.own.CsrOp.TheVariants.{Swap, Set, Clear}
-use Rattle.core_model.specs.Thread.{Did}
+use Rattle.core_model.specs.Thread.{Execution}
 use Rattle.core_model.specs.Traps.{trapped}
-use Rattle.core_model.specs.Outcomes.{plain, wrote}
+use Rattle.core_model.specs.Outcomes.{advance, write}
 
 -- the number is one of the machine's registers: slots, modes, dregions, iregions
 abbrev pub is_shared : ℕ → Bool
@@ -33,10 +35,10 @@ csr_value thread t csr shared =
     else None
 
 -- the new word, from the old one and the operand
-unfoldable pub changed : CsrOp → ℕ → ℕ → ℕ
-changed Swap old operand = operand
-changed Set old operand = computed Or old operand
-changed Clear old operand = computed And old (2 ^ 32 - 1 - operand)
+unfoldable pub csr_update : CsrOp → ℕ → ℕ → ℕ
+csr_update Swap old operand = operand
+csr_update Set old operand = alu_result Or old operand
+csr_update Clear old operand = alu_result And old (2 ^ 32 - 1 - operand)
 
 -- the words that may be written to a register; mhartid takes none
 unfoldable pub may_hold : ℕ → ℕ → Bool
@@ -47,9 +49,9 @@ may_hold csr value =
     else if csr == csr_dregions || csr == csr_iregions then is_regions value
     else true
 
--- the value as kept: mtvec and mepc keep their two low bits 0
-abbrev pub kept : ℕ → ℕ → ℕ
-kept csr value = if csr == csr_mtvec || csr == csr_mepc then value / 4 * 4 else value
+-- the legal value (WARL) of a register: mtvec and mepc keep their two low bits 0
+abbrev pub legal_value : ℕ → ℕ → ℕ
+legal_value csr value = if csr == csr_mtvec || csr == csr_mepc then value / 4 * 4 else value
 
 -- a thread with another value in one of its own registers
 abbrev pub with_csr : Own → ℕ → ℕ → Own
@@ -61,20 +63,24 @@ with_csr t csr value =
     else t
 
 -- a write that is done: the old value goes to `rd`
-abbrev pub csr_written : ℕ → Own → ℕ → ℕ → ℕ → ℕ → ℕ → Did
-csr_written pc t word rd csr value old = plain pc (with_csr t csr value) word redirect_lag (Csr csr value rd old)
+abbrev pub csr_write : ℕ → Own → ℕ → ℕ → ℕ → ℕ → ℕ → Execution
+csr_write pc t word rd csr value old =
+    advance pc (with_csr t csr value) word redirect_lag (Csr csr value rd old)
 
 -- a write, refused where the register may not hold the word
-abbrev pub csr_put : ℕ → Own → ℕ → ℕ → ℕ → ℕ → ℕ → Did
-csr_put pc t word rd csr new old = if may_hold csr new then csr_written pc t word rd csr (kept csr new) old else trapped pc t word cause_illegal
+abbrev pub csr_put : ℕ → Own → ℕ → ℕ → ℕ → ℕ → ℕ → Execution
+csr_put pc t word rd csr new old =
+    if may_hold csr new then csr_write pc t word rd csr (legal_value csr new) old
+    else trapped pc t word cause_illegal
 
 -- an access to a register whose value is known, refused where there is none
-abbrev pub csr_done : ℕ → Own → ℕ → ℕ → ℕ → CsrOp → ℕ → Bool → Option ℕ → Did
+abbrev pub csr_done : ℕ → Own → ℕ → ℕ → ℕ → CsrOp → ℕ → Bool → Option ℕ → Execution
 csr_done pc t word rd csr op operand writes None = trapped pc t word cause_illegal
 csr_done pc t word rd csr op operand writes (Some old) =
-    if writes then csr_put pc t word rd csr (changed op old operand) old else wrote pc t word redirect_lag rd old
+    if writes then csr_put pc t word rd csr (csr_update op old operand) old
+    else write pc t word redirect_lag rd old
 
 -- an access to a register; a refused one is an illegal instruction
-unfoldable pub csr_access : ℕ → ℕ → Own → ℕ → ℕ → ℕ → CsrOp → ℕ → Bool → Option ℕ → Did
+unfoldable pub csr_access : ℕ → ℕ → Own → ℕ → ℕ → ℕ → CsrOp → ℕ → Bool → Option ℕ → Execution
 csr_access thread pc t word rd csr op operand writes shared =
     csr_done pc t word rd csr op operand writes (csr_value thread t csr shared)

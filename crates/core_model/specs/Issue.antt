@@ -1,8 +1,12 @@
 -- One whole instruction of one thread, over what it asks of its surroundings.
-use Rattle.std.specs.Prelude.{ℕ, ◌+◌, ◌/◌, ◌%◌, ◌^◌, ◌==◌, Bool, true, false, not, if◌then◌else◌, List, Option, Some, None}
+use Rattle.std.specs.Prelude.{ℕ, ◌+◌, ◌/◌, ◌%◌, ◌^◌, ◌==◌, Bool, true, false}
+use Rattle.std.specs.Prelude.{not, if◌then◌else◌, List, Option, Some, None}
 use Rattle.rv_decode.specs.Table.{ins}
 use Rattle.rv_decode.specs.declared.instruction.Ins.{Ins}
-use Rattle.rv_decode.specs.declared.instruction.Ins.TheVariants.{Lui, Auipc, Jal, Jalr, Branch, Load, Store, OpImm, Shift, Op, Muldiv, Fence, Mret, Csr, Gt, Gth, Du, Wu, Ee, De}
+use Rattle.rv_decode.specs.declared.instruction.Ins.TheVariants.{Lui, Auipc, Jal, Jalr, Branch}
+use Rattle.rv_decode.specs.declared.instruction.Ins.TheVariants.{Load, Store, OpImm, Shift}
+use Rattle.rv_decode.specs.declared.instruction.Ins.TheVariants.{Op, Muldiv, Fence, Mret}
+use Rattle.rv_decode.specs.declared.instruction.Ins.TheVariants.{Csr, Gt, Gth, Du, Wu, Ee, De}
 use Rattle.rv_decode.specs.declared.instruction.CsrKind.{CsrKind}
 use Rattle.rv_decode.specs.declared.instruction.CsrKind.TheVariants.{Rw, Rs, Rc, Rwi, Rsi, Rci}
 use Rattle.rv_decode.specs.Lag.{plain_lag, late_lag, redirect_lag}
@@ -10,16 +14,18 @@ use Rattle.rv_exec.specs.declared.outcome.Effect.{Effect}
 use Rattle.rv_exec.specs.declared.outcome.Effect.TheVariants.{Nothing}
 use Rattle.rv_exec.specs.declared.outcome.Outcome.{Outcome}
 use Rattle.rv_exec.specs.Result.{result_of}
-use Rattle.rv_exec.specs.Alu.{multiplied}
-use Rattle.rv_exec.specs.Access.{load_size, store_size, loaded}
+use Rattle.rv_exec.specs.Alu.{mul_result}
+use Rattle.rv_exec.specs.Access.{load_size, store_size, loaded_value}
 use Rattle.rv_exec.specs.TrapCauses.{cause_illegal, cause_expiry, cause_fetch_fault}
 use Rattle.timer_unit.specs.Time.{moment, is_due}
 use Rattle.core_model.specs.declared.own.Own.{Own}
 use Rattle.core_model.specs.declared.own.CsrOp.{CsrOp}
 use Rattle.core_model.specs.declared.own.CsrOp.TheVariants.{Swap, Set, Clear}
-use Rattle.core_model.specs.Thread.{Thread, Around, Contents, Did, Done, reg_in, reg_effect, regs_after, filled}
-use Rattle.core_model.specs.Traps.{trapped, unless_trap}
-use Rattle.core_model.specs.Outcomes.{plain, wrote, load, store, go_to, branch, delay, wait, with_armed, with_high}
+use Rattle.core_model.specs.Thread.{Thread, Environment, Contents, Execution, Completion}
+use Rattle.core_model.specs.Thread.{reg_in, reg_effect, regs_after, with_late_value}
+use Rattle.core_model.specs.Traps.{trap_return, trapped, unless_trap}
+use Rattle.core_model.specs.Outcomes.{advance, write, load, store, go_to, branch}
+use Rattle.core_model.specs.Delays.{delay, wait, with_armed, with_high}
 use Rattle.core_model.specs.Csr.{csr_access}
 
 -- the register that a CSR instruction reads, x0 where it has an immediate
@@ -71,8 +77,8 @@ is_load _ = false
 
 -- that value, by the loaded word, its address and the values of the sources
 abbrev pub late_value : Ins → ℕ → ℕ → ℕ → ℕ → ℕ
-late_value (Load op rd rs1 imm) word address x y = loaded op address word
-late_value (Muldiv op rd rs1 rs2) word address x y = multiplied op x y
+late_value (Load op rd rs1 imm) word address x y = loaded_value op address word
+late_value (Muldiv op rd rs1 rs2) word address x y = mul_result op x y
 late_value _ word address x y = 0
 
 -- the six forms on control registers: what they do, with which operand, and whether they write
@@ -104,58 +110,76 @@ csr_writes Rci src = not (src == 0)
 
 -- an instruction whose result has no trap, by that result and the values of its sources. The last
 -- line stands for ECALL, EBREAK and an illegal word, whose result always has one
-unfoldable pub execute_untrapped : Around → ℕ → Own → ℕ → ℕ → ℕ → Outcome → Ins → Did
-execute_untrapped a pc t word x y o (Lui rd imm) = wrote pc t word plain_lag rd o.value
-execute_untrapped a pc t word x y o (Auipc rd imm) = wrote pc t word plain_lag rd o.value
+unfoldable pub execute_untrapped : Environment → ℕ → Own → ℕ → ℕ → ℕ → Outcome → Ins → Execution
+execute_untrapped a pc t word x y o (Lui rd imm) = write pc t word plain_lag rd o.value
+execute_untrapped a pc t word x y o (Auipc rd imm) = write pc t word plain_lag rd o.value
 execute_untrapped a pc t word x y o (Jal rd off) = go_to t word o.target (reg_effect rd o.value)
-execute_untrapped a pc t word x y o (Jalr rd rs1 imm) = go_to t word o.target (reg_effect rd o.value)
+execute_untrapped a pc t word x y o (Jalr rd rs1 imm) =
+    go_to t word o.target (reg_effect rd o.value)
 execute_untrapped a pc t word x y o (Branch op rs1 rs2 off) = branch pc t word o.taken o.target
-execute_untrapped a pc t word x y o (Load op rd rs1 imm) = load pc t word o.address (a.load o.address (load_size op))
-execute_untrapped a pc t word x y o (Store op rs1 rs2 imm) = store pc t word o.address (store_size op) (y % 256 ^ store_size op) (a.store o.address (store_size op))
-execute_untrapped a pc t word x y o (OpImm op rd rs1 imm) = wrote pc t word plain_lag rd o.value
-execute_untrapped a pc t word x y o (Shift op rd rs1 amount) = wrote pc t word plain_lag rd o.value
-execute_untrapped a pc t word x y o (Op op rd rs1 rs2) = wrote pc t word plain_lag rd o.value
-execute_untrapped a pc t word x y o (Muldiv op rd rs1 rs2) = plain pc t word late_lag Nothing
-execute_untrapped a pc t word x y o (Fence w) = plain pc t word plain_lag Nothing
-execute_untrapped a pc t word x y o Mret = go_to t word t.trap.mepc Nothing
-execute_untrapped a pc t word x y o (Csr op rd csr src) = csr_access a.thread pc t word rd csr (csr_op op) (csr_operand op src x) (csr_writes op src) (a.shared csr)
-execute_untrapped a pc t word x y o (Gt rd) = wrote pc (with_high t (a.now / 2 ^ 32)) word plain_lag rd (a.now % 2 ^ 32)
-execute_untrapped a pc t word x y o (Gth rd) = wrote pc t word plain_lag rd t.timer.high
+execute_untrapped a pc t word x y o (Load op rd rs1 imm) =
+    load pc t word o.address (a.load o.address (load_size op))
+execute_untrapped a pc t word x y o (Store op rs1 rs2 imm) =
+    store pc t word o.address (store_size op) (y % 256 ^ store_size op)
+    (a.store o.address (store_size op))
+execute_untrapped a pc t word x y o (OpImm op rd rs1 imm) = write pc t word plain_lag rd o.value
+execute_untrapped a pc t word x y o (Shift op rd rs1 amount) = write pc t word plain_lag rd o.value
+execute_untrapped a pc t word x y o (Op op rd rs1 rs2) = write pc t word plain_lag rd o.value
+execute_untrapped a pc t word x y o (Muldiv op rd rs1 rs2) = advance pc t word late_lag Nothing
+execute_untrapped a pc t word x y o (Fence w) = advance pc t word plain_lag Nothing
+execute_untrapped a pc t word x y o Mret = trap_return t word
+execute_untrapped a pc t word x y o (Csr op rd csr src) =
+    csr_access a.thread pc t word rd csr (csr_op op) (csr_operand op src x) (csr_writes op src)
+    (a.shared csr)
+execute_untrapped a pc t word x y o (Gt rd) =
+    write pc (with_high t (a.now / 2 ^ 32)) word plain_lag rd (a.now % 2 ^ 32)
+execute_untrapped a pc t word x y o (Gth rd) = write pc t word plain_lag rd t.timer.high
 execute_untrapped a pc t word x y o (Du rs1 rs2) = delay a.now pc t word (moment x y)
 execute_untrapped a pc t word x y o (Wu rs1 rs2) = wait a.now pc t word (moment x y)
-execute_untrapped a pc t word x y o (Ee rs1 rs2) = plain pc (with_armed t (Some (moment x y))) word redirect_lag Nothing
-execute_untrapped a pc t word x y o De = plain pc (with_armed t None) word redirect_lag Nothing
+execute_untrapped a pc t word x y o (Ee rs1 rs2) =
+    advance pc (with_armed t (Some (moment x y))) word redirect_lag Nothing
+execute_untrapped a pc t word x y o De = advance pc (with_armed t None) word redirect_lag Nothing
 execute_untrapped a pc t word x y o _ = trapped pc t word cause_illegal
 
 -- what an instruction does, with the values of its sources
-unfoldable pub run_at : Around → ℕ → Own → ℕ → ℕ → ℕ → Ins → Did
-run_at a pc t word x y i = let o = result_of i pc x y in unless_trap pc t word o.trap (execute_untrapped a pc t word x y o i)
+unfoldable pub run_at : Environment → ℕ → Own → ℕ → ℕ → ℕ → Ins → Execution
+run_at a pc t word x y i =
+    let o = result_of i pc x y in
+    unless_trap pc t word o.trap (execute_untrapped a pc t word x y o i)
 
 -- the instruction executed, but for a late value. An expiry comes before all else and disarms; then
 -- a fetch that is refused. Neither shows a word
-unfoldable pub execute_in : Around → ℕ → Own → Bool → ℕ → ℕ → ℕ → Did
+unfoldable pub execute_in : Environment → ℕ → Own → Bool → ℕ → ℕ → ℕ → Execution
 execute_in a pc t expired word x y =
     if expired then trapped pc (with_armed t None) 0 cause_expiry
     else if a.fetch pc then run_at a pc t word x y (ins word)
     else trapped pc t 0 cause_fetch_fault
 
 -- a word executed at the thread's pc, with the thread's own sources
-unfoldable pub execute_word : Around → ℕ → Thread → Did
+unfoldable pub execute_word : Environment → ℕ → Thread → Execution
 execute_word a word t =
-    execute_in a t.pc t.own (is_due t.own.timer.armed a.now) word (reg_in t.regs (source_1 (ins word))) (reg_in t.regs (source_2 (ins word)))
+    execute_in a t.pc t.own (is_due t.own.timer.armed a.now) word
+    (reg_in t.regs (source_1 (ins word))) (reg_in t.regs (source_2 (ins word)))
 
 -- the late value, by the registers and the words that the instruction finds
-abbrev pub value_in : Contents → List ℕ → Did → ℕ
-value_in m regs d = let i = ins d.word in late_value i (m.at d.address) d.address (reg_in regs (source_1 i)) (reg_in regs (source_2 i))
+abbrev pub value_in : Contents → List ℕ → Execution → ℕ
+value_in m regs d =
+    let i = ins d.word in
+    late_value i (m.at d.address) d.address (reg_in regs (source_1 i)) (reg_in regs (source_2 i))
 
 -- the whole effect: a late value stands in its place
-unfoldable pub effect_of : Contents → List ℕ → Did → Option Effect
-effect_of m regs d = filled (late_rd (ins d.word)) (value_in m regs d) d.effect
+unfoldable pub effect_of : Contents → List ℕ → Execution → Option Effect
+effect_of m regs d = with_late_value (late_rd (ins d.word)) (value_in m regs d) d.effect
 
 -- what the thread is once the instruction is done
-abbrev pub done_by : ℕ → List ℕ → Did → Option Effect → Done
-done_by c regs d e = record { thread = record { pc = d.pc; ready = c + d.lag; own = d.own; regs = regs_after e regs }; word = d.word; effect = e }
+abbrev pub completion_of : ℕ → List ℕ → Execution → Option Effect → Completion
+completion_of c regs d e = record {
+  thread = record { pc = d.pc; ready = c + d.lag; own = d.own; regs = regs_after e regs };
+  word = d.word;
+  effect = e;
+}
 
 -- one whole instruction, in cycle c
-unfoldable pub issue : Around → Contents → ℕ → Thread → Done
-issue a m c t = let d = execute_word a (m.code t.pc) t in done_by c t.regs d (effect_of m t.regs d)
+unfoldable pub issue : Environment → Contents → ℕ → Thread → Completion
+issue a m c t =
+    let d = execute_word a (m.code t.pc) t in completion_of c t.regs d (effect_of m t.regs d)

@@ -1,8 +1,16 @@
+pub mod Cycles
 pub mod Thread
 pub mod Traps
 pub mod Outcomes
+pub mod Delays
 pub mod Csr
 pub mod Issue
 pub mod Memory
 pub mod View
 pub mod Solo
+pub mod World
+pub mod Viewed
+pub mod NextWorld
+pub mod Phases
+pub mod Phased
+pub mod SettingLaws

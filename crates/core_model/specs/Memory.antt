@@ -1,6 +1,6 @@
 -- The words of the two scratchpads. size is that of each scratchpad, in bytes.
 use Rattle.std.specs.Prelude.{ℕ, List, slice_index_or, slice_set, if◌then◌else◌}
-use Rattle.rv_exec.specs.Access.{lanes_at, merged}
+use Rattle.rv_exec.specs.Access.{lanes_at, merged_word}
 use Rattle.region_guard.specs.Regions.{is_code, is_data, index_of}
 
 -- the word of a list of words at an address
@@ -8,9 +8,10 @@ abbrev pub word_at : ℕ → List ℕ → ℕ → ℕ
 word_at size words address = slice_index_or words (index_of size address) 0
 
 -- the words after a store
-abbrev pub stored : ℕ → List ℕ → ℕ → ℕ → ℕ → List ℕ
-stored size words address width value =
-    slice_set words (index_of size address) (merged (word_at size words address) (lanes_at width address value))
+abbrev pub words_with_store : ℕ → List ℕ → ℕ → ℕ → ℕ → List ℕ
+words_with_store size words address width value =
+    slice_set words (index_of size address)
+    (merged_word (word_at size words address) (lanes_at width address value))
 
 -- the word of the instruction scratchpad, 0 outside
 unfoldable pub code_at : ℕ → List ℕ → ℕ → ℕ

@@ -1,5 +1,6 @@
 -- A thread, what an instruction of it asks and finds, and what is known after each half of it.
-use Rattle.std.specs.Prelude.{ℕ, ◌-◌, ◌==◌, Bool, if◌then◌else◌, List, slice_index_or, slice_set, Option, Some, replicate}
+use Rattle.std.specs.Prelude.{ℕ, ◌-◌, ◌==◌, Bool, if◌then◌else◌, List}
+use Rattle.std.specs.Prelude.{slice_index_or, slice_set, Option, Some, replicate}
 use Rattle.rv_exec.specs.declared.outcome.Effect.{Effect}
 use Rattle.rv_exec.specs.declared.outcome.Effect.TheVariants.{Nothing, Reg, Csr}
 use Rattle.timer_unit.specs.Time.{no_timer}
@@ -13,7 +14,7 @@ pub record Thread : Type 0 where
   pub regs : List ℕ  -- x1 to x31
 
 -- what an instruction asks while it is executed
-pub record Around : Type 0 where
+pub record Environment : Type 0 where
   pub thread : ℕ
   pub now : ℕ  -- the time of its cycle, in nanoseconds
   pub fetch : ℕ → Bool  -- whether the word at a pc may be fetched
@@ -26,8 +27,8 @@ pub record Contents : Type 0 where
   pub code : ℕ → ℕ  -- at a pc
   pub at : ℕ → ℕ  -- the aligned word of the address of a load
 
--- what is known once it is executed: all but a late value, for which Nothing stands
-pub record Did : Type 0 where
+-- the result of the execute stage: all but a late value, in whose place the effect is Nothing
+pub record Execution : Type 0 where
   pub pc : ℕ
   pub own : Own
   pub lag : ℕ
@@ -35,8 +36,8 @@ pub record Did : Type 0 where
   pub address : ℕ  -- of a load or store that is allowed, else 0
   pub effect : Option Effect  -- none for a turn without an event
 
--- what an issue leaves: the thread, the word, and the effect if there is an event
-pub record Done : Type 0 where
+-- the result of a whole instruction: the thread, the word, and the effect if there is an event
+pub record Completion : Type 0 where
   pub thread : Thread
   pub word : ℕ
   pub effect : Option Effect
@@ -73,6 +74,6 @@ regs_after (Some (Csr csr value rd old)) regs = reg_set regs rd old
 regs_after _ regs = regs
 
 -- a late value goes to its register, where Nothing stands for it
-abbrev pub filled : Option ℕ → ℕ → Option Effect → Option Effect
-filled (Some rd) value (Some Nothing) = Some (reg_effect rd value)
-filled _ value effect = effect
+abbrev pub with_late_value : Option ℕ → ℕ → Option Effect → Option Effect
+with_late_value (Some rd) value (Some Nothing) = Some (reg_effect rd value)
+with_late_value _ value effect = effect

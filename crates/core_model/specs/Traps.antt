@@ -1,13 +1,13 @@
--- Traps: what one saves, and that one of an instruction's result comes before all else that the
--- instruction does.
+-- Traps: what one saves, where MRET goes, and that a trap of an instruction's result comes before
+-- all else that the instruction does.
 use Rattle.std.specs.Prelude.{ℕ, Option, Some, None}
 use Rattle.rv_decode.specs.Lag.{redirect_lag}
-use Rattle.rv_exec.specs.declared.outcome.Effect.TheVariants.{Trap}
+use Rattle.rv_exec.specs.declared.outcome.Effect.TheVariants.{Nothing, Trap}
 use Rattle.core_model.specs.declared.own.Own.{Own}
-use Rattle.core_model.specs.Thread.{Did}
+use Rattle.core_model.specs.Thread.{Execution}
 
 -- a trap saves pc and cause, and goes to mtvec (RISC-V privileged manual, "Machine-Level CSRs")
-abbrev pub trapped : ℕ → Own → ℕ → ℕ → Did
+abbrev pub trapped : ℕ → Own → ℕ → ℕ → Execution
 trapped pc t word cause =
     record {
       pc = t.trap.mtvec;
@@ -18,7 +18,19 @@ trapped pc t word cause =
       effect = Some (Trap cause t.trap.mtvec);
     }
 
+-- MRET goes to mepc (RISC-V privileged manual, "Trap-Return Instructions")
+abbrev pub trap_return : Own → ℕ → Execution
+trap_return t word =
+    record {
+      pc = t.trap.mepc;
+      own = t;
+      lag = redirect_lag;
+      word = word;
+      address = 0;
+      effect = Some Nothing;
+    }
+
 -- a result with a trap comes first
-abbrev pub unless_trap : ℕ → Own → ℕ → Option ℕ → Did → Did
+abbrev pub unless_trap : ℕ → Own → ℕ → Option ℕ → Execution → Execution
 unless_trap pc t word (Some cause) d = trapped pc t word cause
 unless_trap pc t word None d = d

@@ -1,9 +1,10 @@
 -- What a thread may depend on, and what its instructions may do by it.
 use Rattle.std.specs.Prelude.{ℕ, Bool, ◌&&◌, if◌then◌else◌, List, slice_index_or, None}
-use Rattle.region_guard.specs.Regions.{RegionKind, is_readable, is_writable, is_code, is_data, is_port, region_of}
+use Rattle.region_guard.specs.Regions.{RegionKind, is_readable, is_writable}
+use Rattle.region_guard.specs.Regions.{is_code, is_data, is_port, region_of}
 use Rattle.region_guard.specs.Regions.RegionKind.{Foreign}
 use Rattle.timer_unit.specs.Time.{time}
-use Rattle.core_model.specs.Thread.{Thread, Around}
+use Rattle.core_model.specs.Thread.{Thread, Environment}
 
 -- what stays through a run
 pub record Setting : Type 0 where
@@ -29,8 +30,8 @@ kind_at size kinds address = slice_index_or kinds (region_of size address) Forei
 -- what its instruction may do at a time, by what the regions are to it: it fetches and loads from
 -- regions that are its own or read only, and stores into regions that are its own or shared. At the
 -- port it may load and store whole words. The machine's own registers are refused
-unfoldable pub around_by : ℕ → ℕ → List RegionKind → List RegionKind → ℕ → Around
-around_by thread size i_kinds d_kinds now =
+unfoldable pub environment_by : ℕ → ℕ → List RegionKind → List RegionKind → ℕ → Environment
+environment_by thread size i_kinds d_kinds now =
     record {
       thread = thread;
       now = now;
@@ -46,5 +47,5 @@ around_by thread size i_kinds d_kinds now =
     }
 
 -- in cycle c
-abbrev pub around_alone : Setting → ℕ → Around
-around_alone s c = around_by s.thread s.size s.i_kinds s.d_kinds (time s.period c)
+abbrev pub solo_environment : Setting → ℕ → Environment
+solo_environment s c = environment_by s.thread s.size s.i_kinds s.d_kinds (time s.period c)

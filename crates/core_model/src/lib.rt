@@ -1,8 +1,15 @@
-//! The definitions of the machine: what one instruction of one thread does, over what it asks of
-//! its surroundings, and what a thread does by itself. They stand in specs/, below every engine.
+//! The definitions of the core: what one instruction of one thread does, what a thread does by
+//! itself, the machine cycle by cycle, and its settings of slots and modes. The definitions are in
+//! specs/, below every engine.
 
 #![tactic(auto)]
 
+mod cycles;
 mod own;
+mod phase;
+mod world;
 
+pub use cycles::CYCLES_TO_W;
 pub use own::{CsrOp, Own, Trapping};
+pub use phase::{Phase, has_own_turns, tells_picks, unretired_is_unseen};
+pub use world::goes_by_turns;

@@ -1,7 +1,5 @@
 //! What a thread has besides its pc and its registers x1 to x31.
 
-ghost use Rattle.std.specs.Prelude.{◌≡◌};
-
 use timer_unit::Timer;
 
 /// The thread's trap registers (RISC-V privileged manual, "Machine-Level CSRs"). The two low bits
@@ -27,29 +25,6 @@ pub struct Own {
     pub trap: Trapping,
     /// The moment in nanoseconds from which the thread is awake; 0 where it never slept.
     pub sleep: u64,
-}
-
-impl Own {
-    ghost use Rattle.core_model.specs.Thread.{no_own};
-
-    /// What a thread starts with: nothing is armed, it is awake, and every register is 0.
-    pub fn new() -> Self
-        ensures { result ≡ no_own }
-    {
-        Own {
-            timer: Timer {
-                armed: None,
-                high: 0,
-            },
-            trap: Trapping {
-                mtvec: 0,
-                mscratch: 0,
-                mepc: 0,
-                mcause: 0,
-            },
-            sleep: 0,
-        }
-    }
 }
 
 /// What a CSR instruction does with the old value and its operand (RISC-V unprivileged manual,

@@ -12,10 +12,9 @@ ghost use Rattle.std.specs.Prelude.{◌≡◌, vec_len};
 
 use crate::control_loop::ControlLoop;
 use crate::fixed::Fixed;
-use crate::{NO_MEMORY, WRITE};
-use command_files::{Program, Stop, load};
+use command_files::{Program, Status, Stop, load};
 use fp_io::RealFiles;
-use fp_ports::{HeldPort, Ports};
+use fp_ports::{HeldPort, Ports, THREADS};
 use fp_setup::Name;
 use std::io;
 
@@ -27,9 +26,6 @@ const PERIODS: u64 = 160;
 
 /// What the controller is to hold, as it is written there.
 const SET_POINT: Fixed = Fixed(16 * 0x1_0000);
-
-/// The status where the setup or its image can't be read, or has a fault.
-const READ: u8 = 7;
 
 /// The setup and its image.
 fn read_program(rt: HostRuntime) -> Result<Program, Stop> {
@@ -73,23 +69,22 @@ fn close_over(rt: HostRuntime, program: &Program, ports: Ports) -> io::Result<()
 fn run(rt: HostRuntime, program: &Program) -> io::Result<()> {
     let alloc = rt.alloc();
     let mut ports: Ports = Vec::new(alloc);
-    for _thread in 0..8u8 {
+    for _thread in 0..THREADS {
         ports.push(Some(Box::new(alloc, HeldPort::new(alloc))?))?;
     }
     close_over(rt, program, ports)
 }
 
-/// Closes the loop, and gives the status: that of `flexpret` where memory is refused, or what it
-/// prints can't be written.
-pub fn status(rt: HostRuntime) -> u8 {
+/// Closes the loop, and gives the status: Read also where the setup or its image has a fault.
+pub fn status(rt: HostRuntime) -> Status {
     let program = match read_program(rt) {
         Ok(program) => program,
-        Err(Stop::NoMemory) => return NO_MEMORY,
-        Err(_) => return READ,
+        Err(Stop::NoMemory) => return Status::NoMemory,
+        Err(_) => return Status::Read,
     };
     match run(rt, &program) {
-        Ok(()) => 0,
-        Err(error) if error.kind() == io::ErrorKind::OutOfMemory => NO_MEMORY,
-        Err(_) => WRITE,
+        Ok(()) => Status::Ok,
+        Err(error) if error.kind() == io::ErrorKind::OutOfMemory => Status::NoMemory,
+        Err(_) => Status::Write,
     }
 }

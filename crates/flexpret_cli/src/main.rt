@@ -3,43 +3,41 @@
 
 ghost use Rattle.std.specs.Prelude.{◌≡◌, vec_len};
 
-use flexpret_top::flexpret;
+use flexpret_top::{Status, flexpret};
 use fp_io::{Gathered, OutSink, PutFailed, RealFiles};
-use fp_ports::{HeldPort, Ports};
+use fp_ports::{HeldPort, Ports, THREADS};
 use std::alloc::AllocError;
 use std::process::ExitCode;
 use std::{env, io};
 
-/// The status where the words ask no command.
-const USAGE: u8 = 2;
-
-/// The status where a file can't be read.
-const READ: u8 = 7;
-
-/// The status where standard output can't be written.
-const WRITE: u8 = 8;
-
-/// The status where memory is refused.
-const NO_MEMORY: u8 = 9;
+/// The lines that standard error gets, by the status.
+const COMPLAINTS: [(Status, &str); 4] = [
+    (Status::Usage, "flexpret: usage"),
+    (Status::Read, "flexpret: read failed"),
+    (Status::Write, "flexpret: write failed"),
+    (Status::NoMemory, "flexpret: out of memory"),
+];
 
 /// The line that standard error gets for a status, if it gets one.
 fn complaint(status: u8) -> Option<&'static str> {
-    match status {
-        USAGE => Some("flexpret: usage"),
-        READ => Some("flexpret: read failed"),
-        WRITE => Some("flexpret: write failed"),
-        NO_MEMORY => Some("flexpret: out of memory"),
-        _ => None,
+    for (told, line) in COMPLAINTS {
+        if status == told.number() {
+            return Some(line);
+        }
     }
+    None
 }
 
 /// The words after the program's name, or the status where they can't be made. A word that isn't
 /// UTF-8 is no word of a command.
-fn read_args(rt: HostRuntime) -> Result<Vec<String>, u8> {
+fn read_args(rt: HostRuntime) -> Result<Vec<String>, Status> {
     match env::args(&rt) {
-        Ok(args) => args.skip(1).collect(rt.alloc()).map_err(|_| NO_MEMORY),
-        Err(error) if error.kind() == io::ErrorKind::InvalidData => Err(USAGE),
-        Err(_) => Err(NO_MEMORY),
+        Ok(args) => args
+            .skip(1)
+            .collect(rt.alloc())
+            .map_err(|_| Status::NoMemory),
+        Err(error) if error.kind() == io::ErrorKind::InvalidData => Err(Status::Usage),
+        Err(_) => Err(Status::NoMemory),
     }
 }
 
@@ -53,7 +51,7 @@ fn answer(rt: HostRuntime, words: &[String], ports: &mut Ports) -> u8
     let status = flexpret(rt.alloc(), words, &mut files, &mut out, ports);
     match out.flush() {
         Ok(()) => status,
-        Err(PutFailed) => WRITE,
+        Err(PutFailed) => Status::Write.number(),
     }
 }
 
@@ -62,7 +60,7 @@ fn answer(rt: HostRuntime, words: &[String], ports: &mut Ports) -> u8
 fn run(rt: HostRuntime, words: &[String]) -> Result<u8, AllocError> {
     let alloc = rt.alloc();
     let mut ports: Ports = Vec::new(alloc);
-    for _thread in 0..8u8 {
+    for _thread in 0..THREADS {
         ports.push(Some(Box::new(alloc, HeldPort::new(alloc))?))?;
     }
     Ok(answer(rt, words, &mut ports))
@@ -71,8 +69,8 @@ fn run(rt: HostRuntime, words: &[String]) -> Result<u8, AllocError> {
 /// The status of the program: that of the command, or that the words or the devices can't be made.
 fn status(rt: HostRuntime) -> u8 {
     match read_args(rt) {
-        Ok(words) => run(rt, &words).unwrap_or(NO_MEMORY),
-        Err(status) => status,
+        Ok(words) => run(rt, &words).unwrap_or(Status::NoMemory.number()),
+        Err(status) => status.number(),
     }
 }
 

@@ -3,112 +3,164 @@ use Rattle.std.proofs.Common.{◌≡◌, ℕ, List, Option, None, Result, Ok, Er
 use Rattle.std.specs.Prelude.{OnOk, OnErr}
 use Rattle.std.specs.Io.KnownBytes.{Appends}
 use Rattle.fp_io.specs.Content.{AppendsFront}
-use Rattle.fp_ports.specs.Rows.{Row}
+use Rattle.fp_ports.specs.PluggedPorts.{Row}
 use Rattle.trace_print.specs.Text.{text}
-use Rattle.world_model.specs.World.{Start, events}
+use Rattle.core_model.specs.World.{Start, events}
 use Rattle.machine.specs.declared.state.Machine.{Machine}
-use Rattle.machine.specs.WorldRelation.{StandsFor, HasRun, Stopped, AreLeft}
+use Rattle.machine.specs.WorldRelation.{Refines, HasRun, Stopped, AreLeft}
 use Rattle.machine.proofs.WordLemmas.{ports_after}
 use Rattle.machine.specs.DumpedState.{seen}
 use Rattle.flexpret_top.specs.declared.ready.Ready.{Ready}
 use Rattle.phase_log.specs.LoggedRuns.{HasLogged, LogStopped, StartsAs}
 use Rattle.phase_log.specs.Text.{phases_text}
-use Rattle.phase_model.specs.Phases.{phases}
+use Rattle.core_model.specs.Phases.{phases}
 use Rattle.flexpret_top.specs.Prepared.{Gone, LeavesPartOfRun, LeavesRun, Runs}
 
 abbrev pub Passes : Ready → List (Option Row) → Machine → List (Option Row) → Type 0
-Passes r first m rows = (s : Start) → StandsFor s 0 r.cycles r.machine first → Gone s r.cycles first m rows
+Passes r first m rows =
+    (s : Start) → Refines s 0 r.cycles r.machine first → Gone s r.cycles first m rows
 
-pub dump-ok : {A E : Type 0} → (r : Ready) (first rows : List (Option Row)) (m : Machine) (before after : Option (List ℕ)) (put : Result A E) → Passes r first m rows →
-    OnOk put ((s : Start) (c n : ℕ) → StandsFor s c n m rows → Appends before after (seen s c)) →
-    OnOk put ((written : List ℕ) → Runs r first (λ s. seen s r.cycles) written → Appends before after written)
+pub dump-ok : {A E : Type 0} → (r : Ready) (first rows : List (Option Row)) (m : Machine)
+    (before after : Option (List ℕ)) (put : Result A E) → Passes r first m rows →
+    OnOk put ((s : Start) (c n : ℕ) → Refines s c n m rows → Appends before after (seen s c)) →
+    OnOk put ((written : List ℕ) → Runs r first (λ s. seen s r.cycles) written →
+    Appends before after written)
 dump-ok r first rows m before after (Ok x) passes puts =
-    λ written runs. (let Told : List ℕ → Type 0 = Appends before after in subst Told (sym runs.text_is) (puts runs.start r.cycles r.cycles (passes runs.start runs.stands).stands))
+    λ written runs. (let Told : List ℕ → Type 0 = Appends before after in subst Told
+    (sym runs.text_is) (puts runs.start r.cycles r.cycles (passes runs.start runs.refines).refines))
 dump-ok r first rows m before after (Err e) passes puts = tt
 
-pub dump-err : {A E : Type 0} → (r : Ready) (first rows : List (Option Row)) (m : Machine) (before after : Option (List ℕ)) (put : Result A E) → Passes r first m rows →
-    OnErr put ((s : Start) (c n : ℕ) → StandsFor s c n m rows → AppendsFront before after (seen s c)) →
-    OnErr put ((written : List ℕ) → Runs r first (λ s. seen s r.cycles) written → AppendsFront before after written)
+pub dump-err : {A E : Type 0} → (r : Ready) (first rows : List (Option Row)) (m : Machine)
+    (before after : Option (List ℕ)) (put : Result A E) → Passes r first m rows →
+    OnErr put
+    ((s : Start) (c n : ℕ) → Refines s c n m rows → AppendsFront before after (seen s c)) →
+    OnErr put ((written : List ℕ) → Runs r first (λ s. seen s r.cycles) written →
+    AppendsFront before after written)
 dump-err r first rows m before after (Ok x) passes puts = tt
 dump-err r first rows m before after (Err e) passes puts =
-    λ written runs. (let Told : List ℕ → Type 0 = AppendsFront before after in subst Told (sym runs.text_is) (puts runs.start r.cycles r.cycles (passes runs.start runs.stands).stands))
+    λ written runs. (let Told : List ℕ → Type 0 = AppendsFront before after in subst Told
+    (sym runs.text_is) (puts runs.start r.cycles r.cycles (passes runs.start runs.refines).refines))
 
 -- a run that puts nothing has done its cycles
-pub gone-after : (s : Start) (k n : ℕ) (first : List (Option Row)) (m : Machine) (rows : List (Option Row)) → k ≡ n → HasRun s k n 0 first m rows None None → Gone s n first m rows
-gone-after s k n first m rows end run = let Run : ℕ → Type 0 = λ c. HasRun s c n 0 first m rows None None in let whole = subst Run end run in record { stands = whole.stands; left = whole.left }
+pub gone-after : (s : Start) (k n : ℕ) (first : List (Option Row)) (m : Machine)
+    (rows : List (Option Row)) → k ≡ n → HasRun s k n 0 first m rows None None →
+    Gone s n first m rows
+gone-after s k n first m rows end run =
+    let Run : ℕ → Type 0 = λ c. HasRun s c n 0 first m rows None None in
+    let whole = subst Run end run in record { refines = whole.refines; left = whole.left }
 
 -- what stands in the ports then
-pub ports-gone : (r : Ready) (first rows : List (Option Row)) (m : Machine) → Passes r first m rows → LeavesRun r first rows
-ports-gone r first rows m passes s st starts = let gone = passes s st in ports_after s r.cycles r.cycles m first rows gone.stands gone.left
+pub ports-gone : (r : Ready) (first rows : List (Option Row)) (m : Machine) →
+    Passes r first m rows → LeavesRun r first rows
+ports-gone r first rows m passes s st starts =
+    let gone = passes s st in ports_after s r.cycles r.cycles m first rows gone.refines gone.left
 
-pub ports-run : {A E : Type 0} → (r : Ready) (thread : ℕ) (first rows : List (Option Row)) (m : Machine) (before after : Option (List ℕ)) (put : Result A E) → AreLeft first rows →
-    OnOk put ((s : Start) → StandsFor s 0 r.cycles r.machine first → HasRun s r.cycles r.cycles thread first m rows before after) →
-    OnOk put (LeavesRun r first rows)
-ports-run r thread first rows m before after (Ok x) words runs = λ s st starts. ports_after s r.cycles r.cycles m first rows (runs s st).stands words
+pub ports-run : {A E : Type 0} → (r : Ready) (thread : ℕ) (first rows : List (Option Row))
+    (m : Machine) (before after : Option (List ℕ)) (put : Result A E) → AreLeft first rows →
+    OnOk put ((s : Start) → Refines s 0 r.cycles r.machine first →
+    HasRun s r.cycles r.cycles thread first m rows before after) → OnOk put (LeavesRun r first rows)
+ports-run r thread first rows m before after (Ok x) words runs =
+    λ s st starts. ports_after s r.cycles r.cycles m first rows (runs s st).refines words
 ports-run r thread first rows m before after (Err e) words runs = tt
 
 -- what a run puts
-pub trace-ok : {A E : Type 0} → (r : Ready) (thread : ℕ) (first rows : List (Option Row)) (m : Machine) (before after : Option (List ℕ)) (put : Result A E) →
-    OnOk put ((s : Start) → StandsFor s 0 r.cycles r.machine first → HasRun s r.cycles r.cycles thread first m rows before after) →
-    OnOk put ((written : List ℕ) → Runs r first (λ s. text (events s thread r.cycles)) written → Appends before after written)
+pub trace-ok : {A E : Type 0} → (r : Ready) (thread : ℕ) (first rows : List (Option Row))
+    (m : Machine) (before after : Option (List ℕ)) (put : Result A E) →
+    OnOk put ((s : Start) → Refines s 0 r.cycles r.machine first →
+    HasRun s r.cycles r.cycles thread first m rows before after) → OnOk put ((written : List ℕ) →
+    Runs r first (λ s. text (events s thread r.cycles)) written → Appends before after written)
 trace-ok r thread first rows m before after (Ok x) run =
-    λ written runs. (let Told : List ℕ → Type 0 = Appends before after in subst Told (sym runs.text_is) (run runs.start runs.stands).put)
+    λ written runs. (let Told : List ℕ → Type 0 = Appends before after in
+    subst Told (sym runs.text_is) (run runs.start runs.refines).put)
 trace-ok r thread first rows m before after (Err e) run = tt
 
-pub trace-err : {A E : Type 0} → (r : Ready) (thread : ℕ) (first rows : List (Option Row)) (m : Machine) (before after : Option (List ℕ)) (put : Result A E) →
-    OnErr put ((s : Start) → StandsFor s 0 r.cycles r.machine first → Stopped s r.cycles thread first m rows before after) →
-    OnErr put ((written : List ℕ) → Runs r first (λ s. text (events s thread r.cycles)) written → AppendsFront before after written)
+pub trace-err : {A E : Type 0} → (r : Ready) (thread : ℕ) (first rows : List (Option Row))
+    (m : Machine) (before after : Option (List ℕ)) (put : Result A E) → OnErr put ((s : Start) →
+    Refines s 0 r.cycles r.machine first → Stopped s r.cycles thread first m rows before after) →
+    OnErr put ((written : List ℕ) → Runs r first (λ s. text (events s thread r.cycles)) written →
+    AppendsFront before after written)
 trace-err r thread first rows m before after (Ok x) run = tt
 trace-err r thread first rows m before after (Err e) run =
-    λ written runs. (let Told : List ℕ → Type 0 = AppendsFront before after in subst Told (sym runs.text_is) (run runs.start runs.stands).put)
+    λ written runs. (let Told : List ℕ → Type 0 = AppendsFront before after in
+    subst Told (sym runs.text_is) (run runs.start runs.refines).put)
 
 -- what a run puts of its settings
-abbrev pub HasLoggedAll : Ready → List (Option Row) → Machine → List (Option Row) → Option (List ℕ) → Option (List ℕ) → Type 0
-HasLoggedAll r first m rows before after = (s : Start) → StartsAs s r.setup → StandsFor s 0 r.cycles r.machine first → HasLogged s r.cycles r.cycles first m rows before after
+abbrev pub HasLoggedAll : Ready → List (Option Row) → Machine → List (Option Row) →
+    Option (List ℕ) → Option (List ℕ) → Type 0
+HasLoggedAll r first m rows before after =
+    (s : Start) → StartsAs s r.setup → Refines s 0 r.cycles r.machine first →
+    HasLogged s r.cycles r.cycles first m rows before after
 
-pub phases-ok : {A E : Type 0} → (r : Ready) (first rows : List (Option Row)) (m : Machine) (before after : Option (List ℕ)) (put : Result A E) →
+pub phases-ok : {A E : Type 0} → (r : Ready) (first rows : List (Option Row))
+    (m : Machine) (before after : Option (List ℕ)) (put : Result A E) →
     OnOk put (HasLoggedAll r first m rows before after) →
-    OnOk put ((written : List ℕ) → Runs r first (λ s. phases_text (phases s r.cycles)) written → Appends before after written)
+    OnOk put ((written : List ℕ) → Runs r first (λ s. phases_text (phases s r.cycles)) written →
+    Appends before after written)
 phases-ok r first rows m before after (Ok x) logs =
-    λ written runs. (let Told : List ℕ → Type 0 = Appends before after in subst Told (sym runs.text_is) (logs runs.start runs.starts runs.stands).put)
+    λ written runs. (let Told : List ℕ → Type 0 = Appends before after in
+    subst Told (sym runs.text_is) (logs runs.start runs.starts runs.refines).put)
 phases-ok r first rows m before after (Err e) logs = tt
 
-pub phases-err : {A E : Type 0} → (r : Ready) (first rows : List (Option Row)) (m : Machine) (before after : Option (List ℕ)) (put : Result A E) →
-    OnErr put ((s : Start) → StartsAs s r.setup → StandsFor s 0 r.cycles r.machine first → LogStopped s r.cycles first m rows before after) →
-    OnErr put ((written : List ℕ) → Runs r first (λ s. phases_text (phases s r.cycles)) written → AppendsFront before after written)
+pub phases-err : {A E : Type 0} → (r : Ready) (first rows : List (Option Row))
+    (m : Machine) (before after : Option (List ℕ)) (put : Result A E) →
+    OnErr put ((s : Start) → StartsAs s r.setup → Refines s 0 r.cycles r.machine first →
+    LogStopped s r.cycles first m rows before after) → OnErr put ((written : List ℕ) →
+    Runs r first (λ s. phases_text (phases s r.cycles)) written → AppendsFront before after written)
 phases-err r first rows m before after (Ok x) logs = tt
 phases-err r first rows m before after (Err e) logs =
-    λ written runs. (let Told : List ℕ → Type 0 = AppendsFront before after in subst Told (sym runs.text_is) (logs runs.start runs.starts runs.stands).put)
+    λ written runs. (let Told : List ℕ → Type 0 = AppendsFront before after in
+    subst Told (sym runs.text_is) (logs runs.start runs.starts runs.refines).put)
 
-pub phases-left : {A E : Type 0} → (r : Ready) (first rows : List (Option Row)) (m : Machine) (before after : Option (List ℕ)) (put : Result A E) → AreLeft first rows →
+pub phases-left : {A E : Type 0} → (r : Ready) (first rows : List (Option Row))
+    (m : Machine) (before after : Option (List ℕ)) (put : Result A E) → AreLeft first rows →
     OnOk put (HasLoggedAll r first m rows before after) → OnOk put (LeavesRun r first rows)
-phases-left r first rows m before after (Ok x) words logs = λ s st starts. ports_after s r.cycles r.cycles m first rows (logs s starts st).stands words
+phases-left r first rows m before after (Ok x) words logs =
+    λ s st starts. ports_after s r.cycles r.cycles m first rows (logs s starts st).refines words
 phases-left r first rows m before after (Err e) words logs = tt
 
 -- and where the sink failed
-pub trace-part : {A E : Type 0} → (r : Ready) (thread : ℕ) (first rows : List (Option Row)) (m : Machine) (before after : Option (List ℕ)) (put : Result A E) →
-    OnErr put ((s : Start) → StandsFor s 0 r.cycles r.machine first → Stopped s r.cycles thread first m rows before after) → OnErr put (LeavesPartOfRun r first rows)
+pub trace-part : {A E : Type 0} → (r : Ready) (thread : ℕ) (first rows : List (Option Row))
+    (m : Machine) (before after : Option (List ℕ)) (put : Result A E) →
+    OnErr put ((s : Start) → Refines s 0 r.cycles r.machine first →
+    Stopped s r.cycles thread first m rows before after) → OnErr put (LeavesPartOfRun r first rows)
 trace-part r thread first rows m before after (Ok x) run = tt
 trace-part r thread first rows m before after (Err e) run =
-    λ s st starts. (let stopped = run s st in record { cycles = m.at; within = stopped.within; ports = ports_after s m.at r.cycles m first rows stopped.stands stopped.left })
+    λ s st starts. (let stopped = run s st in record {
+      cycles = m.at;
+      within = stopped.within;
+      ports = ports_after s m.at r.cycles m first rows stopped.refines stopped.left;
+    })
 
-pub phases-part : {A E : Type 0} → (r : Ready) (first rows : List (Option Row)) (m : Machine) (before after : Option (List ℕ)) (put : Result A E) →
-    OnErr put ((s : Start) → StartsAs s r.setup → StandsFor s 0 r.cycles r.machine first → LogStopped s r.cycles first m rows before after) → OnErr put (LeavesPartOfRun r first rows)
+pub phases-part : {A E : Type 0} → (r : Ready) (first rows : List (Option Row))
+    (m : Machine) (before after : Option (List ℕ)) (put : Result A E) →
+    OnErr put ((s : Start) → StartsAs s r.setup → Refines s 0 r.cycles r.machine first →
+    LogStopped s r.cycles first m rows before after) → OnErr put (LeavesPartOfRun r first rows)
 phases-part r first rows m before after (Ok x) logs = tt
 phases-part r first rows m before after (Err e) logs =
-    λ s st starts. (let stopped = logs s starts st in record { cycles = m.at; within = stopped.within; ports = ports_after s m.at r.cycles m first rows stopped.stands stopped.left })
+    λ s st starts. (let stopped = logs s starts st in record {
+      cycles = m.at;
+      within = stopped.within;
+      ports = ports_after s m.at r.cycles m first rows stopped.refines stopped.left;
+    })
 
-pub left-by : {A E : Type 0} → (put : Result A E) (r : Ready) (first rows : List (Option Row)) → LeavesRun r first rows → OnOk put (LeavesRun r first rows)
+pub left-by : {A E : Type 0} → (put : Result A E) (r : Ready) (first rows : List (Option Row)) →
+    LeavesRun r first rows → OnOk put (LeavesRun r first rows)
 left-by (Ok x) r first rows left = left
 left-by (Err e) r first rows left = tt
 
 -- what one put of a text puts
-pub put-ok : {A E : Type 0} → (put : Result A E) (before after : Option (List ℕ)) (bytes text : List ℕ) → bytes ≡ text → OnOk put (Appends before after bytes) →
+pub put-ok : {A E : Type 0} → (put : Result A E) (before after : Option (List ℕ))
+    (bytes text : List ℕ) → bytes ≡ text → OnOk put (Appends before after bytes) →
     OnOk put ((written : List ℕ) → written ≡ text → Appends before after written)
-put-ok (Ok x) before after bytes text same puts = λ written is. (let Told : List ℕ → Type 0 = Appends before after in subst Told (same ∙ sym is) puts)
+put-ok (Ok x) before after bytes text same puts =
+    λ written is.
+    (let Told : List ℕ → Type 0 = Appends before after in subst Told (same ∙ sym is) puts)
 put-ok (Err e) before after bytes text same puts = tt
 
-pub put-err : {A E : Type 0} → (put : Result A E) (before after : Option (List ℕ)) (bytes text : List ℕ) → bytes ≡ text → OnErr put (AppendsFront before after bytes) →
+pub put-err : {A E : Type 0} → (put : Result A E) (before after : Option (List ℕ))
+    (bytes text : List ℕ) → bytes ≡ text → OnErr put (AppendsFront before after bytes) →
     OnErr put ((written : List ℕ) → written ≡ text → AppendsFront before after written)
 put-err (Ok x) before after bytes text same puts = tt
-put-err (Err e) before after bytes text same puts = λ written is. (let Told : List ℕ → Type 0 = AppendsFront before after in subst Told (same ∙ sym is) puts)
+put-err (Err e) before after bytes text same puts =
+    λ written is.
+    (let Told : List ℕ → Type 0 = AppendsFront before after in subst Told (same ∙ sym is) puts)

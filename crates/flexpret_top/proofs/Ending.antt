@@ -1,60 +1,88 @@
 -- How a command ends, by what was prepared for it.
-use Rattle.std.proofs.Common.{◌≡◌, ◌⊎◌, ℕ, ◌<◌, ◌==◌, if◌then◌else◌, List, Option, Some, None, inl, inr, refl, ap, sym, subst, ◌∙◌, arith}
+use Rattle.std.proofs.Common.{◌≡◌, ◌⊎◌, ℕ, ◌<◌, ◌==◌, if◌then◌else◌, List, Option}
+use Rattle.std.proofs.Common.{Some, None, inl, inr, refl, ap, sym, subst, ◌∙◌, arith}
 use Rattle.std.specs.Prelude.{IfSome, IsSomeAnd}
 use Rattle.std.specs.Io.KnownBytes.{Appends}
 use Rattle.fp_io.specs.Causes.{Rose}
 use Rattle.fp_io.specs.Content.{FileMap, AppendsFront, Request}
-use Rattle.fp_ports.specs.Rows.{Row}
+use Rattle.fp_ports.specs.PluggedPorts.{Row}
 use Rattle.ask_words.specs.Commands.{ask}
 use Rattle.ask_words.specs.declared.asked.Ask.{Ask}
 use Rattle.ask_words.specs.declared.asked.Ask.TheVariants as asks
-use Rattle.ask_words.specs.declared.asked.Ask.TheVariants.{Run, Dump, Asm, Selfrun, Phases, Solo, Check, Elf, Calls}
+use Rattle.ask_words.specs.declared.asked.Ask.TheVariants.{Run, Dump, Asm, Selfrun}
+use Rattle.ask_words.specs.declared.asked.Ask.TheVariants.{Phases, Solo, Check, Elf, Calls}
 use Rattle.flexpret_top.specs.Requests.{IsAsked, IsAskedBy}
 use Rattle.flexpret_top.specs.declared.ready.Prepared.{Prepared}
-use Rattle.flexpret_top.specs.declared.status.Status.{Status}
-use Rattle.flexpret_top.specs.declared.status.Status.TheVariants.{Ok, Differs, Usage, Setup, Image, Source, Bound, Read, Write, NoMemory, Routines}
+use Rattle.command_files.specs.declared.status.Status.{Status}
+use Rattle.command_files.specs.declared.status.Status.TheVariants.{Ok, Differs, Usage, Setup}
+use Rattle.command_files.specs.declared.status.Status.TheVariants.{Image, Source, Bound, Read}
+use Rattle.command_files.specs.declared.status.Status.TheVariants.{Write, NoMemory, Routines}
 use Rattle.command_files.specs.Answer.{IsAnswered}
 use Rattle.command_files.specs.Answer.Answer.{Says, Missing}
-use Rattle.flexpret_top.specs.Command.{IsAnswer, IsAnswerIn, IsAnswerTo, IsApart, IsApartBy, OnlyReads, OnlyReadsBy, Leaves, LeavesBy, LeavesCutShort, LeavesUnrun, Said, Began, Answered}
+use Rattle.flexpret_top.specs.Command.{IsAnswer, IsAnswerIn, IsAnswerTo, UsesNoPort}
+use Rattle.flexpret_top.specs.Command.{UsesNoPortBy, OnlyReads, OnlyReadsBy, Leaves, LeavesBy}
+use Rattle.flexpret_top.specs.Command.{LeavesCutShort, LeavesUnrun, Said, Began, Answered}
 use Rattle.flexpret_top.specs.Prepared.{Delivers, LeavesPorts, LeavesPortsInPart, Prepares}
-use Rattle.flexpret_top.specs.Status.{IsStatus, number_of}
+use Rattle.command_files.specs.Status.{IsStatus, number_of}
 
 -- where the sink failed, a front of the answer was put
-pub front-of : (told : Option FileMap) (asked : Ask) (ports fed : List (Option Row)) (p : Prepared) (before after : Option (List ℕ)) →
-    IfSome told (λ files. Prepares asked files ports fed p) → ((written : List ℕ) → Delivers p fed written → AppendsFront before after written) →
+pub front-of : (told : Option FileMap) (asked : Ask) (ports fed : List (Option Row)) (p : Prepared)
+    (before after : Option (List ℕ)) → IfSome told (λ files. Prepares asked files ports fed p) →
+    ((written : List ℕ) → Delivers p fed written → AppendsFront before after written) →
     IfSome told (λ files. Began (IsAnswerIn asked ports files) before after)
 front-of None asked ports fed p before after prepares puts = tt
 front-of (Some files) asked ports fed p before after prepares puts =
-    record { answer = Says 0 prepares.written; is = prepares.is; front = puts prepares.written prepares.delivers }
+    record {
+      answer = Says 0 prepares.written;
+      is = prepares.is;
+      front = puts prepares.written prepares.delivers;
+    }
 
 -- where it did not, the whole answer was put
-pub all-of : (told : Option FileMap) (asked : Ask) (ports fed : List (Option Row)) (p : Prepared) (before after : Option (List ℕ)) →
-    IfSome told (λ files. Prepares asked files ports fed p) → ((written : List ℕ) → Delivers p fed written → Appends before after written) →
+pub all-of : (told : Option FileMap) (asked : Ask) (ports fed : List (Option Row)) (p : Prepared)
+    (before after : Option (List ℕ)) → IfSome told (λ files. Prepares asked files ports fed p) →
+    ((written : List ℕ) → Delivers p fed written → Appends before after written) →
     IfSome told (λ files. Said (IsAnswerIn asked ports files) 0 before after)
 all-of None asked ports fed p before after prepares puts = tt
 all-of (Some files) asked ports fed p before after prepares puts =
-    record { answer = Says 0 prepares.written; is = prepares.is; said = (refl, puts prepares.written prepares.delivers) }
+    record {
+      answer = Says 0 prepares.written;
+      is = prepares.is;
+      said = (refl, puts prepares.written prepares.delivers);
+    }
 
 -- and the ports are left as the command leaves them
-pub left-of : (told : Option FileMap) (asked : Ask) (ports fed last : List (Option Row)) (p : Prepared) → IfSome told (λ files. Prepares asked files ports fed p) → LeavesPorts p fed last →
-    IfSome told (λ files. Leaves asked files ports last)
+pub left-of : (told : Option FileMap) (asked : Ask) (ports fed last : List (Option Row))
+    (p : Prepared) → IfSome told (λ files. Prepares asked files ports fed p) →
+    LeavesPorts p fed last → IfSome told (λ files. Leaves asked files ports last)
 left-of None asked ports fed last p prepares left = tt
 left-of (Some files) asked ports fed last p prepares left = prepares.leaves last left
 
 -- and as far as it came where the sink failed
-pub part-of : (told : Option FileMap) (asked : Ask) (ports fed last : List (Option Row)) (p : Prepared) → IfSome told (λ files. Prepares asked files ports fed p) → LeavesPortsInPart p fed last →
+pub part-of : (told : Option FileMap) (asked : Ask)
+    (ports fed last : List (Option Row)) (p : Prepared) →
+    IfSome told (λ files. Prepares asked files ports fed p) → LeavesPortsInPart p fed last →
     IfSome told (λ files. LeavesCutShort (Some asked) files ports last)
 part-of None asked ports fed last p prepares left = tt
 part-of (Some files) asked ports fed last p prepares left = inr (prepares.leaves_part last left)
 
-pub same-cut-short : (told : Option FileMap) (asked : Ask) (ports last : List (Option Row)) → last ≡ ports → IfSome told (λ files. LeavesCutShort (Some asked) files ports last)
+pub same-cut-short : (told : Option FileMap) (asked : Ask) (ports last : List (Option Row)) →
+    last ≡ ports → IfSome told (λ files. LeavesCutShort (Some asked) files ports last)
 same-cut-short None asked ports last same = tt
 same-cut-short (Some files) asked ports last same = inl same
 
 -- a status by its number
 status_by : ℕ → Status
 status_by n =
-    if n == 0 then Ok else if n == 1 then Differs else if n == 2 then Usage else if n == 3 then Setup else if n == 4 then Image else if n == 5 then Source else if n == 6 then Bound else if n == 7 then Read else if n == 8 then Write else if n == 9 then NoMemory else Routines
+    if n == 0 then Ok
+    else if n == 1 then Differs
+    else if n == 2 then Usage
+    else if n == 3
+    then Setup
+    else if n == 4 then Image
+    else if n == 5 then Source
+    else if n == 6 then Bound
+    else if n == 7 then Read else if n == 8 then Write else if n == 9 then NoMemory else Routines
 
 by_number : (s : Status) → status_by (number_of s) ≡ s
 unfolding status_by
@@ -89,7 +117,8 @@ is_status Routines = inr (inr (inr (inr (inr (inr (inr (inr (inr (inr refl))))))
 pub number-of : (s : Status) (n : ℕ) → n ≡ number_of s → IsStatus n
 number-of s n is = let Is : ℕ → Type 0 = IsStatus in subst Is (sym is) (is_status s)
 
-pub nothing-of : (s : Status) → (s ≡ Usage → ⊥) → (number_of s ≡ 2) ⊎ ((number_of s ≡ 7) ⊎ (number_of s ≡ 9)) → (s ≡ Read) ⊎ (s ≡ NoMemory)
+pub nothing-of : (s : Status) → (s ≡ Usage → ⊥) →
+    (number_of s ≡ 2) ⊎ ((number_of s ≡ 7) ⊎ (number_of s ≡ 9)) → (s ≡ Read) ⊎ (s ≡ NoMemory)
 nothing-of s asked (inl e) = absurd (asked (status-of s Usage e))
 nothing-of s asked (inr (inl e)) = inl (status-of s Read e)
 nothing-of s asked (inr (inr e)) = inr (status-of s NoMemory e)
@@ -110,55 +139,91 @@ write-no_nothing (inl e) = cc
 write-no_nothing (inr e) = cc
 
 -- what was prepared is the answer of the command that is done
-pub answered-of : (told : Option FileMap) (asked : Ask) (ports fed : List (Option Row)) (p : Prepared) → IfSome told (λ files. Prepares asked files ports fed p) →
+pub answered-of : (told : Option FileMap) (asked : Ask) (ports fed : List (Option Row))
+    (p : Prepared) → IfSome told (λ files. Prepares asked files ports fed p) →
     IfSome told (λ files. (Ok ≡ NoMemory) ⊎ Answered (IsAnswerIn asked ports files) (number_of Ok))
 answered-of None asked ports fed p prepares = tt
-answered-of (Some files) asked ports fed p prepares = inr (record { answer = Says 0 prepares.written; is = prepares.is; answered = refl })
+answered-of (Some files) asked ports fed p prepares =
+    inr (record { answer = Says 0 prepares.written; is = prepares.is; answered = refl })
 
 -- what a command said is what the words that ask it say
-pub said-of : (told : Option FileMap) (words : List (List ℕ)) (asked : Ask) (ports : List (Option Row)) (s : Status) (n : ℕ) (before after : Option (List ℕ)) → ask words ≡ Some asked → n ≡ number_of s →
-    (n ≡ 7 → ⊥) → (n ≡ 8 → ⊥) → (n ≡ 9 → ⊥) → ((s ≡ Read → ⊥) → (s ≡ Write → ⊥) → (s ≡ NoMemory → ⊥) → IfSome told (λ files. Said (IsAnswerIn asked ports files) (number_of s) before after)) → IfSome told (λ files. Said (IsAnswer words files ports) n before after)
+pub said-of : (told : Option FileMap) (words : List (List ℕ)) (asked : Ask)
+    (ports : List (Option Row)) (s : Status) (n : ℕ) (before after : Option (List ℕ)) →
+    ask words ≡ Some asked → n ≡ number_of s → (n ≡ 7 → ⊥) → (n ≡ 8 → ⊥) → (n ≡ 9 → ⊥) →
+    ((s ≡ Read → ⊥) → (s ≡ Write → ⊥) → (s ≡ NoMemory → ⊥) →
+    IfSome told (λ files. Said (IsAnswerIn asked ports files) (number_of s) before after)) →
+    IfSome told (λ files. Said (IsAnswer words files ports) n before after)
 said-of told words asked ports s n before after is number read write memory said =
-    let told_by = said (λ e. read (number ∙ ap number_of e)) (λ e. write (number ∙ ap number_of e)) (λ e. memory (number ∙ ap number_of e)) in
-    let Of : ℕ → Type 0 = λ k. IfSome told (λ files. Said (IsAnswerIn asked ports files) k before after) in
-    let By : Option Ask → Type 0 = λ o. IfSome told (λ files. Said (IsAnswerTo o files ports) n before after) in
+    let told_by = said (λ e. read (number ∙ ap number_of e))
+    (λ e. write (number ∙ ap number_of e)) (λ e. memory (number ∙ ap number_of e)) in
+    let Of : ℕ → Type 0 =
+    λ k. IfSome told (λ files. Said (IsAnswerIn asked ports files) k before after) in
+    let By : Option Ask → Type 0 =
+    λ o. IfSome told (λ files. Said (IsAnswerTo o files ports) n before after) in
     subst By (sym is) (subst Of (sym number) told_by)
 
 -- the answer of a command is that of the words that ask it
-pub complete-of : (told : Option FileMap) (words : List (List ℕ)) (asked : Ask) (ports : List (Option Row)) (s : Status) (n : ℕ) → ask words ≡ Some asked → n ≡ number_of s →
-    IfSome told (λ files. (s ≡ NoMemory) ⊎ Answered (IsAnswerIn asked ports files) (number_of s)) → IfSome told (λ files. (n ≡ 9) ⊎ Answered (IsAnswer words files ports) n)
+pub complete-of : (told : Option FileMap) (words : List (List ℕ)) (asked : Ask)
+    (ports : List (Option Row)) (s : Status) (n : ℕ) → ask words ≡ Some asked → n ≡ number_of s →
+    IfSome told (λ files. (s ≡ NoMemory) ⊎ Answered (IsAnswerIn asked ports files) (number_of s)) →
+    IfSome told (λ files. (n ≡ 9) ⊎ Answered (IsAnswer words files ports) n)
 complete-of None words asked ports s n is number all = tt
-complete-of (Some files) words asked ports s n is number (inl memory) = inl (number ∙ ap number_of memory)
+complete-of (Some files) words asked ports s n is number (inl memory) =
+    inl (number ∙ ap number_of memory)
 complete-of (Some files) words asked ports s n is number (inr a) =
     let Is : Option Ask → Type 0 = λ o. IsAnswerTo o files ports a.answer in
     let Ends : ℕ → Type 0 = λ m. IsAnswered m a.answer in
-    inr (record { answer = a.answer; is = subst Is (sym is) a.is; answered = subst Ends (sym number) a.answered })
+    inr (record {
+      answer = a.answer;
+      is = subst Is (sym is) a.is;
+      answered = subst Ends (sym number) a.answered;
+    })
 
 -- what holds of a command holds of the words that ask it
-pub read-by : (told : Option FileMap) (words : List (List ℕ)) (asked : Ask) (ports : List (Option Row)) (s : Status) (n before after : ℕ) → ask words ≡ Some asked → n ≡ number_of s → n ≡ 7 →
-    (s ≡ Read → Rose before after ⊎ IsSomeAnd told (λ files. IsAnswerIn asked ports files Missing)) → Rose before after ⊎ IsSomeAnd told (λ files. IsAnswer words files ports Missing)
+pub read-by : (told : Option FileMap) (words : List (List ℕ)) (asked : Ask)
+    (ports : List (Option Row)) (s : Status) (n before after : ℕ) →
+    ask words ≡ Some asked → n ≡ number_of s → n ≡ 7 →
+    (s ≡ Read →
+    Rose before after ⊎ IsSomeAnd told (λ files. IsAnswerIn asked ports files Missing)) →
+    Rose before after ⊎ IsSomeAnd told (λ files. IsAnswer words files ports Missing)
 read-by told words asked ports s n before after is number seven read =
-    let By : Option Ask → Type 0 = λ o. Rose before after ⊎ IsSomeAnd told (λ files. IsAnswerTo o files ports Missing) in subst By (sym is) (read (status-of s Read (sym number ∙ seven)))
+    let By : Option Ask → Type 0 =
+    λ o. Rose before after ⊎ IsSomeAnd told (λ files. IsAnswerTo o files ports Missing) in
+    subst By (sym is) (read (status-of s Read (sym number ∙ seven)))
 
-pub front-by : (told : Option FileMap) (words : List (List ℕ)) (asked : Ask) (ports : List (Option Row)) (s : Status) (n : ℕ) (before after : Option (List ℕ)) → ask words ≡ Some asked → n ≡ number_of s → n ≡ 8 →
-    (s ≡ Write → IfSome told (λ files. Began (IsAnswerIn asked ports files) before after)) → IfSome told (λ files. Began (IsAnswer words files ports) before after)
+pub front-by : (told : Option FileMap) (words : List (List ℕ)) (asked : Ask)
+    (ports : List (Option Row)) (s : Status) (n : ℕ) (before after : Option (List ℕ)) →
+    ask words ≡ Some asked → n ≡ number_of s → n ≡ 8 →
+    (s ≡ Write → IfSome told (λ files. Began (IsAnswerIn asked ports files) before after)) →
+    IfSome told (λ files. Began (IsAnswer words files ports) before after)
 front-by told words asked ports s n before after is number eight front =
-    let By : Option Ask → Type 0 = λ o. IfSome told (λ files. Began (IsAnswerTo o files ports) before after) in subst By (sym is) (front (status-of s Write (sym number ∙ eight)))
+    let By : Option Ask → Type 0 =
+    λ o. IfSome told (λ files. Began (IsAnswerTo o files ports) before after) in
+    subst By (sym is) (front (status-of s Write (sym number ∙ eight)))
 
-pub leaves-by : (told : Option FileMap) (words : List (List ℕ)) (asked : Ask) (before after : List (Option Row)) (s : Status) (n : ℕ) → ask words ≡ Some asked → n ≡ number_of s → n ≡ 0 →
-    (s ≡ Ok → IfSome told (λ files. Leaves asked files before after)) → IfSome told (λ files. LeavesBy (ask words) files before after)
+pub leaves-by : (told : Option FileMap) (words : List (List ℕ)) (asked : Ask)
+    (before after : List (Option Row)) (s : Status) (n : ℕ) → ask words ≡ Some asked →
+    n ≡ number_of s → n ≡ 0 → (s ≡ Ok → IfSome told (λ files. Leaves asked files before after)) →
+    IfSome told (λ files. LeavesBy (ask words) files before after)
 leaves-by told words asked before after s n is number zero leaves =
-    let By : Option Ask → Type 0 = λ o. IfSome told (λ files. LeavesBy o files before after) in subst By (sym is) (leaves (status-of s Ok (sym number ∙ zero)))
+    let By : Option Ask → Type 0 = λ o. IfSome told (λ files. LeavesBy o files before after) in
+    subst By (sym is) (leaves (status-of s Ok (sym number ∙ zero)))
 
-pub asked-by : (told : Option FileMap) (words : List (List ℕ)) (asked : Ask) (before after : Option (List Request)) → ask words ≡ Some asked → IsAsked asked told before after → IsAskedBy (ask words) told before after
-asked-by told words asked before after is asks = let By : Option Ask → Type 0 = λ o. IsAskedBy o told before after in subst By (sym is) (inr asks)
+pub asked-by : (told : Option FileMap) (words : List (List ℕ)) (asked : Ask)
+    (before after : Option (List Request)) → ask words ≡ Some asked →
+    IsAsked asked told before after → IsAskedBy (ask words) told before after
+asked-by told words asked before after is asks =
+    let By : Option Ask → Type 0 = λ o. IsAskedBy o told before after in
+    subst By (sym is) (inr asks)
 
 -- nothing was asked, and the ports are as they were
-pub unasked : (o : Option Ask) (told : Option FileMap) (before : Option (List Request)) → IsAskedBy o told before before
+pub unasked : (o : Option Ask) (told : Option FileMap) (before : Option (List Request)) →
+    IsAskedBy o told before before
 unasked None told before = refl
 unasked (Some asked) told before = inl refl
 
-unrun-same : (o : Option Ask) (files : FileMap) (ports : List (Option Row)) → LeavesUnrun o files ports ports
+unrun-same : (o : Option Ask) (files : FileMap) (ports : List (Option Row)) →
+    LeavesUnrun o files ports ports
 unrun-same None files ports = refl
 unrun-same (Some (Run setup thread cycles)) files ports = inl refl
 unrun-same (Some (Dump setup cycles)) files ports = inl refl
@@ -171,27 +236,40 @@ unrun-same (Some (Check setup thread cycles trace)) files ports = refl
 unrun-same (Some (Elf file)) files ports = refl
 unrun-same (Some (Calls setup thread section routines)) files ports = refl
 
-pub unrun : (told : Option FileMap) (o : Option Ask) (ports : List (Option Row)) → IfSome told (λ files. LeavesUnrun o files ports ports)
+pub unrun : (told : Option FileMap) (o : Option Ask) (ports : List (Option Row)) →
+    IfSome told (λ files. LeavesUnrun o files ports ports)
 unrun None o ports = tt
 unrun (Some files) o ports = unrun-same o files ports
 
-pub cut-short-by : (told : Option FileMap) (words : List (List ℕ)) (asked : Ask) (before after : List (Option Row)) (s : Status) (n : ℕ) → ask words ≡ Some asked → n ≡ number_of s → n ≡ 8 →
-    (s ≡ Write → IfSome told (λ files. LeavesCutShort (Some asked) files before after)) → IfSome told (λ files. LeavesCutShort (ask words) files before after)
+pub cut-short-by : (told : Option FileMap) (words : List (List ℕ))
+    (asked : Ask) (before after : List (Option Row)) (s : Status) (n : ℕ) →
+    ask words ≡ Some asked → n ≡ number_of s → n ≡ 8 →
+    (s ≡ Write → IfSome told (λ files. LeavesCutShort (Some asked) files before after)) →
+    IfSome told (λ files. LeavesCutShort (ask words) files before after)
 cut-short-by told words asked before after s n is number eight leaves =
-    let By : Option Ask → Type 0 = λ o. IfSome told (λ files. LeavesCutShort o files before after) in subst By (sym is) (leaves (status-of s Write (sym number ∙ eight)))
+    let By : Option Ask → Type 0 =
+    λ o. IfSome told (λ files. LeavesCutShort o files before after) in
+    subst By (sym is) (leaves (status-of s Write (sym number ∙ eight)))
 
-pub unrun-by : (told : Option FileMap) (words : List (List ℕ)) (asked : Ask) (before after : List (Option Row)) (s : Status) (n : ℕ) → ask words ≡ Some asked → n ≡ number_of s → n ≡ 9 →
-    (s ≡ NoMemory → IfSome told (λ files. LeavesUnrun (Some asked) files before after)) → IfSome told (λ files. LeavesUnrun (ask words) files before after)
+pub unrun-by : (told : Option FileMap) (words : List (List ℕ))
+    (asked : Ask) (before after : List (Option Row)) (s : Status) (n : ℕ) →
+    ask words ≡ Some asked → n ≡ number_of s → n ≡ 9 →
+    (s ≡ NoMemory → IfSome told (λ files. LeavesUnrun (Some asked) files before after)) →
+    IfSome told (λ files. LeavesUnrun (ask words) files before after)
 unrun-by told words asked before after s n is number nine leaves =
-    let By : Option Ask → Type 0 = λ o. IfSome told (λ files. LeavesUnrun o files before after) in subst By (sym is) (leaves (status-of s NoMemory (sym number ∙ nine)))
+    let By : Option Ask → Type 0 = λ o. IfSome told (λ files. LeavesUnrun o files before after) in
+    subst By (sym is) (leaves (status-of s NoMemory (sym number ∙ nine)))
 
-pub apart-by : (words : List (List ℕ)) (asked : Ask) → ask words ≡ Some asked → IsApartBy (ask words) → IsApart asked
-apart-by words asked is apart = let By : Option Ask → Type 0 = IsApartBy in subst By is apart
+pub apart-by : (words : List (List ℕ)) (asked : Ask) → ask words ≡ Some asked →
+    UsesNoPortBy (ask words) → UsesNoPort asked
+apart-by words asked is apart = let By : Option Ask → Type 0 = UsesNoPortBy in subst By is apart
 
-pub asks-some : (words : List (List ℕ)) (asked : Ask) → ask words ≡ Some asked → ask words ≡ None → ⊥
+pub asks-some : (words : List (List ℕ)) (asked : Ask) → ask words ≡ Some asked →
+    ask words ≡ None → ⊥
 asks-some words asked is nothing = cc
 
-pub reads-by : (words : List (List ℕ)) (asked : Ask) → ask words ≡ Some asked → OnlyReadsBy (ask words) → OnlyReads asked
+pub reads-by : (words : List (List ℕ)) (asked : Ask) → ask words ≡ Some asked →
+    OnlyReadsBy (ask words) → OnlyReads asked
 reads-by words asked is reads = let By : Option Ask → Type 0 = OnlyReadsBy in subst By is reads
 
 pub ok-no_difference : Ok ≡ Differs → ⊥

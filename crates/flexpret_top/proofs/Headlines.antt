@@ -1,11 +1,14 @@
 -- The promises for one thread, from what a command said.
-use Rattle.std.proofs.Common.{◌≡◌, ℕ, ◌<◌, List, Option, Some, None, Result, Ok, Err, inl, inr, refl, ap, sym, subst, ◌∙◌, arith, nat_lt, eqb-true, Bool, true, false, not, if◌then◌else◌, ◌==◌}
+use Rattle.std.proofs.Common.{◌≡◌, ℕ, ◌<◌, List, Option, Some, None, Result, Ok, Err}
+use Rattle.std.proofs.Common.{inl, inr, refl, ap, sym, subst, ◌∙◌, arith, nat_lt}
+use Rattle.std.proofs.Common.{eqb-true, Bool, true, false, not, if◌then◌else◌, ◌==◌}
 use Rattle.std.specs.Prelude.{IfSome, option_map}
 use Rattle.std.specs.Io.KnownBytes.{Appends}
 use Rattle.fp_io.specs.Content.{FileMap}
-use Rattle.fp_ports.specs.Rows.{Row}
+use Rattle.fp_ports.specs.PluggedPorts.{Row}
 use Rattle.ask_words.specs.declared.asked.Ask.{Ask}
-use Rattle.ask_words.specs.declared.asked.Ask.TheVariants.{Run, Dump, Asm, Bound, Selfrun, Phases, Solo, Check, Elf, Calls}
+use Rattle.ask_words.specs.declared.asked.Ask.TheVariants.{Run, Dump, Asm, Bound, Selfrun}
+use Rattle.ask_words.specs.declared.asked.Ask.TheVariants.{Phases, Solo, Check, Elf, Calls}
 use Rattle.call_bounds.specs.RoutinesFile.{routines_of}
 use Rattle.call_bounds.specs.declared.routines_refusals.RoutinesRefused.{RoutinesRefused}
 use Rattle.call_bounds.specs.declared.routines_refusals.RoutinesRefused.TheVariants as in_list
@@ -17,7 +20,7 @@ use Rattle.fp_elf.specs.Elf.{elf_of}
 use Rattle.fp_elf.specs.Law.{ReadsBack}
 use Rattle.fp_elf.specs.declared.refusals.ElfRefused.{ElfRefused}
 use Rattle.fp_elf.specs.declared.refusals.ElfRefused.TheVariants as in_elf
-use Rattle.fp_image.specs.Format.{written}
+use Rattle.fp_image.specs.Format.{file_of}
 use Rattle.fp_image.specs.declared.parts.Segment.{Segment}
 use Rattle.region_tree.specs.Tree.{Tree}
 use Rattle.region_tree.specs.declared.section.Section.{Section}
@@ -30,25 +33,34 @@ use Rattle.fp_setup.specs.Rules.{KeepsRules}
 use Rattle.fp_setup.specs.Settings.{Settings, size_of}
 use Rattle.fp_setup.specs.Setup.{setup as setup_meant}
 use Rattle.fp_setup.specs.declared.refusal.Fault.{Fault}
-use Rattle.setup_model.specs.Start.{thread_of}
+use Rattle.setup_model.specs.Start.{thread_setup_of}
 use Rattle.slot_scheduler.specs.ModeWord.{mode_of}
 use Rattle.section_visits.specs.SetupCallVisitBound.{CallVisitsStayBounded}
-use Rattle.section_visits.specs.SetupInSettings.{CallVisitsStayBoundedInSettings, CallVisitsStayBoundedWhileScheduled, VisitsStayBoundedInSettings, VisitsStayBoundedWhileScheduled}
+use Rattle.section_visits.specs.SetupInSettings.{CallVisitsStayBoundedInSettings}
+use Rattle.section_visits.specs.SetupInSettings.{CallVisitsStayBoundedWhileScheduled}
+use Rattle.section_visits.specs.SetupInSettings.{VisitsStayBoundedInSettings}
+use Rattle.section_visits.specs.SetupInSettings.{VisitsStayBoundedWhileScheduled}
 use Rattle.section_visits.specs.SetupVisitBound.{VisitsStayBounded}
 use Rattle.trace_print.specs.declared.refusals.Refusal.TheVariants as refusal
-use Rattle.command_files.specs.BoundAnswer.{IsBoundAnswer, IsSectionAnswer, section_fault, section_tree}
-use Rattle.command_files.specs.CallsAnswer.{IsCallsAnswer, IsRoutinesAnswer, IsSectionCallsAnswer, of_routines, routines_in, section_listing}
+use Rattle.command_files.specs.BoundAnswer.{IsBoundAnswer, IsSectionAnswer}
+use Rattle.command_files.specs.BoundAnswer.{section_fault, section_tree}
+use Rattle.command_files.specs.CallsAnswer.{IsCallsAnswer, IsRoutinesAnswer, IsSectionCallsAnswer}
+use Rattle.command_files.specs.CallsAnswer.{of_routines, routines_in, section_listing}
 use Rattle.command_files.specs.Codes.{call_refusal, tree_refusal}
 use Rattle.command_files.specs.declared.program.Program.{Program}
-use Rattle.command_files.specs.Answer.{Answer, IsSaid, refused, then_by, over_file, ends}
-use Rattle.flexpret_top.specs.SoloAndCheck.{alone_fault, alone_in, alone_of, alone_text, unless_fault}
+use Rattle.command_files.specs.Answer.{Answer, IsSaid, refusal_answer, then_by, over_file, ends}
+use Rattle.flexpret_top.specs.SoloAndCheck.{alone_fault, alone_in, alone_of}
+use Rattle.flexpret_top.specs.SoloAndCheck.{alone_text, unless_fault}
 use Rattle.command_files.specs.Elf.{elf_in, of_elf}
 use Rattle.ask_words.specs.Commands.{ask}
-use Rattle.flexpret_top.specs.declared.status.Status.{Status}
-use Rattle.flexpret_top.specs.declared.status.Status.TheVariants.{Read, Write, NoMemory as OutOfMemory}
-use Rattle.flexpret_top.specs.Status.{number_of}
+use Rattle.command_files.specs.declared.status.Status.{Status}
+use Rattle.command_files.specs.declared.status.Status.TheVariants.{Read, Write}
+use Rattle.command_files.specs.declared.status.Status.TheVariants.{NoMemory as OutOfMemory}
+use Rattle.command_files.specs.Status.{number_of}
 use Rattle.flexpret_top.specs.Command.{IsAnswerIn, IsAnswerTo, Said}
-use Rattle.flexpret_top.specs.Headline.{BoundsCallVisits, BoundsVisits, IsImported, IsLongest, IsLongestByCalls, WritesAlone, WritesAsRun, WritesByPhases, WritesImage, WritesRetired, machine_of}
+use Rattle.flexpret_top.specs.Headline.{BoundsCallVisits, BoundsVisits, IsImported}
+use Rattle.flexpret_top.specs.Headline.{IsLongest, IsLongestByCalls, WritesAlone, WritesAsRun}
+use Rattle.flexpret_top.specs.Headline.{WritesByPhases, WritesImage, WritesRetired, machine_of}
 use Rattle.command_files.specs.Program.{image_in, of_setup, program, setup_in, with_image}
 use Rattle.flexpret_top.specs.Run.{trace_of}
 
@@ -57,26 +69,38 @@ no-zero : (status : ℕ) → 0 ≡ status → (nat_lt 0 status ≡ true) → ⊥
 no-zero status is more = let e : nat_lt 0 0 ≡ true = rw (sym is) at more in cc
 
 -- the setup of a program keeps the rules
-setup-made : (s : Settings) (r : Result (List Segment) Answer) (p : Program) → then_by r (with_image s) ≡ Ok p → s ≡ p.setup
-setup-made s (Ok image) p is = let same : ◌≡◌ {A = Program} (record { setup = s; image = image }) p = cc in ap (λ (q : Program). q.setup) same
+setup-made : (s : Settings) (r : Result (List Segment) Answer) (p : Program) →
+    then_by r (with_image s) ≡ Ok p → s ≡ p.setup
+setup-made s (Ok image) p is =
+    let same : ◌≡◌ {A = Program} (record { setup = s; image = image }) p = cc in
+    ap (λ (q : Program). q.setup) same
 setup-made s (Err answer) p is = cc
 
-read-keeps : AcceptedKeepRules → (files : FileMap) (bytes : List ℕ) (r : Result Settings Fault) (p : Program) → setup_meant bytes ≡ r →
-    then_by (of_setup r) (λ s. then_by (over_file (image_in (size_of s.version)) (files s.image)) (with_image s)) ≡ Ok p → KeepsRules p.setup
-read-keeps keep files bytes (Ok s) p read is = subst KeepsRules (setup-made s (over_file (image_in (size_of s.version)) (files s.image)) p is) (keep bytes s read)
+read-keeps : AcceptedKeepRules → (files : FileMap) (bytes : List ℕ)
+    (r : Result Settings Fault) (p : Program) → setup_meant bytes ≡ r → then_by (of_setup r)
+    (λ s. then_by (over_file (image_in (size_of s.version)) (files s.image)) (with_image s))
+    ≡ Ok p → KeepsRules p.setup
+read-keeps keep files bytes (Ok s) p read is =
+    subst KeepsRules (setup-made s (over_file (image_in (size_of s.version)) (files s.image)) p is)
+    (keep bytes s read)
 read-keeps keep files bytes (Err fault) p read is = absurd (let no : ⊥ = cc in no)
 
 file-keeps : AcceptedKeepRules → (files : FileMap) (file : Option (List ℕ)) (p : Program) →
-    then_by (over_file setup_in file) (λ s. then_by (over_file (image_in (size_of s.version)) (files s.image)) (with_image s)) ≡ Ok p → KeepsRules p.setup
+    then_by (over_file setup_in file)
+    (λ s. then_by (over_file (image_in (size_of s.version)) (files s.image)) (with_image s))
+    ≡ Ok p → KeepsRules p.setup
 unfolding setup_in
 file-keeps keep files None p is = absurd (let no : ⊥ = cc in no)
 file-keeps keep files (Some bytes) p is = read-keeps keep files bytes (setup_meant bytes) p refl is
 
-program-keeps : AcceptedKeepRules → (files : FileMap) (name : List ℕ) (p : Program) → program files name ≡ Ok p → KeepsRules p.setup
+program-keeps : AcceptedKeepRules → (files : FileMap) (name : List ℕ) (p : Program) →
+    program files name ≡ Ok p → KeepsRules p.setup
 program-keeps keep files name p is = file-keeps keep files (files name) p is
 
 -- over one map of files
-alone-over : TraceAlone → AcceptedKeepRules → (asked : Option Ask) (files : FileMap) (ports : List (Option Row)) (before after : Option (List ℕ)) → Said (IsAnswerTo asked files ports) 0 before after → WritesAlone asked files ports before after
+alone-over : TraceAlone → AcceptedKeepRules → (asked : Option Ask) (files : FileMap)
+    (ports : List (Option Row)) (before after : Option (List ℕ)) →
+    Said (IsAnswerTo asked files ports) 0 before after → WritesAlone asked files ports before after
 alone-over law keep None files ports before after said = tt
 alone-over law keep (Some (Run setup i n)) files ports before after said =
     λ p is hard quiet. (
@@ -84,7 +108,8 @@ alone-over law keep (Some (Run setup i n)) files ports before after said =
     let Tells : Answer → Type 0 = IsSaid 0 before after in
     let told = subst Tells (said.is ∙ answers) said.said in
     let Told : List ℕ → Type 0 = Appends before after in
-    subst Told (law (machine_of p ports) i n (program-keeps keep files setup p is) hard quiet) told.1)
+    subst Told
+    (law (machine_of p ports) i n (program-keeps keep files setup p is) hard quiet) told.1)
 alone-over law keep (Some (Dump setup n)) files ports before after said = tt
 alone-over law keep (Some (Asm source)) files ports before after said = tt
 alone-over law keep (Some (Bound setup i section)) files ports before after said = tt
@@ -95,12 +120,17 @@ alone-over law keep (Some (Check setup i n trace)) files ports before after said
 alone-over law keep (Some (Elf file)) files ports before after said = tt
 alone-over law keep (Some (Calls setup i section routines)) files ports before after said = tt
 
-pub alone-of : TraceAlone → AcceptedKeepRules → (told : Option FileMap) (asked : Option Ask) (ports : List (Option Row)) (before after : Option (List ℕ)) →
-    IfSome told (λ files. Said (IsAnswerTo asked files ports) 0 before after) → IfSome told (λ files. WritesAlone asked files ports before after)
+pub alone-of : TraceAlone → AcceptedKeepRules → (told : Option FileMap)
+    (asked : Option Ask) (ports : List (Option Row)) (before after : Option (List ℕ)) →
+    IfSome told (λ files. Said (IsAnswerTo asked files ports) 0 before after) →
+    IfSome told (λ files. WritesAlone asked files ports before after)
 alone-of law keep None asked ports before after said = tt
-alone-of law keep (Some files) asked ports before after said = alone-over law keep asked files ports before after said
+alone-of law keep (Some files) asked ports before after said =
+    alone-over law keep asked files ports before after said
 
-retired-over : RetiredTraceAlone → RetiredTraceByPhases → AcceptedKeepRules → (asked : Option Ask) (files : FileMap) (ports : List (Option Row)) (before after : Option (List ℕ)) → Said (IsAnswerTo asked files ports) 0 before after →
+retired-over : RetiredTraceAlone → RetiredTraceByPhases → AcceptedKeepRules →
+    (asked : Option Ask) (files : FileMap) (ports : List (Option Row))
+    (before after : Option (List ℕ)) → Said (IsAnswerTo asked files ports) 0 before after →
     WritesRetired asked files ports before after
 retired-over law phased keep None files ports before after said = tt
 retired-over law phased keep (Some (Run setup i n)) files ports before after said =
@@ -110,8 +140,12 @@ retired-over law phased keep (Some (Run setup i n)) files ports before after sai
     let told = subst Tells (said.is ∙ answers) said.said in
     let Told : List ℕ → Type 0 = Appends before after in
     record {
-      alone = λ hard quiet. subst Told (law (machine_of p ports) i n (program-keeps keep files setup p is) hard quiet) told.1;
-      phased = λ confined kept. subst Told (phased (machine_of p ports) i n (program-keeps keep files setup p is) confined kept) told.1;
+      alone =
+          λ hard quiet. subst Told
+          (law (machine_of p ports) i n (program-keeps keep files setup p is) hard quiet) told.1;
+      phased =
+          λ confined kept. subst Told (phased (machine_of p ports) i n
+          (program-keeps keep files setup p is) confined kept) told.1;
     })
 retired-over law phased keep (Some (Dump setup n)) files ports before after said = tt
 retired-over law phased keep (Some (Asm source)) files ports before after said = tt
@@ -121,37 +155,58 @@ retired-over law phased keep (Some (Phases setup n)) files ports before after sa
 retired-over law phased keep (Some (Solo setup i n)) files ports before after said = tt
 retired-over law phased keep (Some (Check setup i n trace)) files ports before after said = tt
 retired-over law phased keep (Some (Elf file)) files ports before after said = tt
-retired-over law phased keep (Some (Calls setup i section routines)) files ports before after said = tt
+retired-over law phased keep (Some (Calls setup i section routines)) files ports before after said =
+    tt
 
-pub retired-of : RetiredTraceAlone → RetiredTraceByPhases → AcceptedKeepRules → (told : Option FileMap) (asked : Option Ask) (ports : List (Option Row)) (before after : Option (List ℕ)) →
-    IfSome told (λ files. Said (IsAnswerTo asked files ports) 0 before after) → IfSome told (λ files. WritesRetired asked files ports before after)
+pub retired-of : RetiredTraceAlone → RetiredTraceByPhases →
+    AcceptedKeepRules → (told : Option FileMap) (asked : Option Ask)
+    (ports : List (Option Row)) (before after : Option (List ℕ)) →
+    IfSome told (λ files. Said (IsAnswerTo asked files ports) 0 before after) →
+    IfSome told (λ files. WritesRetired asked files ports before after)
 retired-of law phased keep None asked ports before after said = tt
-retired-of law phased keep (Some files) asked ports before after said = retired-over law phased keep asked files ports before after said
+retired-of law phased keep (Some files) asked ports before after said =
+    retired-over law phased keep asked files ports before after said
 
 -- what `solo` says with status 0 is the text of a hard and confined thread
-record IsSolo (p : Program) (i n : ℕ) (ports : List (Option Row)) (before after : Option (List ℕ)) : Type 0 where
+record IsSolo (p : Program) (i n : ℕ) (ports : List (Option Row))
+    (before after : Option (List ℕ)) : Type 0 where
   thread : IsConfinedHard (machine_of p ports) i
   wrote : Appends before after (alone_text ports i n p)
 
-solo-said : (p : Program) (i n : ℕ) (ports : List (Option Row)) (before after : Option (List ℕ)) → IsSaid 0 before after (ends (then_by (alone_in i p) (alone_of ports i n))) → IsSolo p i n ports before after
+solo-said : (p : Program) (i n : ℕ) (ports : List (Option Row)) (before after : Option (List ℕ)) →
+    IsSaid 0 before after (ends (then_by (alone_in i p) (alone_of ports i n))) →
+    IsSolo p i n ports before after
 unfolding alone_fault
-solo-said p i n ports before after said = go (mode_of p.setup.modes i == 0) refl (thread_of p.setup i).confined refl said
+solo-said p i n ports before after said =
+    go (mode_of p.setup.modes i == 0) refl (thread_setup_of p.setup i).confined refl said
   where
-    go : (hard : Bool) → (mode_of p.setup.modes i == 0) ≡ hard → (confined : Bool) → (thread_of p.setup i).confined ≡ confined →
-        IsSaid 0 before after (ends (then_by (unless_fault p (if not hard then Some 1 else if not confined then Some 6 else None)) (alone_of ports i n))) → IsSolo p i n ports before after
+    go : (hard : Bool) → (mode_of p.setup.modes i == 0) ≡ hard →
+        (confined : Bool) → (thread_setup_of p.setup i).confined ≡ confined →
+        IsSaid 0 before after (ends (then_by (unless_fault p (if not hard then Some 1
+        else if not confined then Some 6 else None)) (alone_of ports i n))) →
+        IsSolo p i n ports before after
     go false is_hard confined is_confined refusal = absurd (no-zero 3 refusal.0 refl)
     go true is_hard false is_confined refusal = absurd (no-zero 3 refusal.0 refl)
-    go true is_hard true is_confined text = record { thread = record { confined = is_confined; hard = eqb-true (mode_of p.setup.modes i) 0 is_hard }; wrote = text.1 }
+    go true is_hard true is_confined text = record {
+      thread =
+          record { confined = is_confined; hard = eqb-true (mode_of p.setup.modes i) 0 is_hard };
+      wrote = text.1;
+    }
 
-as-run-over : TraceAlone → AcceptedKeepRules → (asked : Option Ask) (files : FileMap) (ports : List (Option Row)) (before after : Option (List ℕ)) → Said (IsAnswerTo asked files ports) 0 before after → WritesAsRun asked files ports before after
+as-run-over : TraceAlone → AcceptedKeepRules → (asked : Option Ask)
+    (files : FileMap) (ports : List (Option Row)) (before after : Option (List ℕ)) →
+    Said (IsAnswerTo asked files ports) 0 before after → WritesAsRun asked files ports before after
 as-run-over law keep None files ports before after said = tt
 as-run-over law keep (Some (Solo setup i n)) files ports before after said =
     λ p is quiet. (
-    let answers = ap (λ (q : Result Program Answer). ends (then_by (then_by q (alone_in i)) (alone_of ports i n))) is in
+    let answers = ap (λ (q : Result Program Answer).
+    ends (then_by (then_by q (alone_in i)) (alone_of ports i n))) is in
     let Tells : Answer → Type 0 = IsSaid 0 before after in
-    let solo : IsSolo p i n ports before after = solo-said p i n ports before after (subst Tells (said.is ∙ answers) said.said) in
+    let solo : IsSolo p i n ports before after = solo-said p i n ports before after
+    (subst Tells (said.is ∙ answers) said.said) in
     let Told : List ℕ → Type 0 = Appends before after in
-    subst Told (sym (law (machine_of p ports) i n (program-keeps keep files setup p is) solo.thread quiet)) solo.wrote)
+    subst Told (sym (law (machine_of p ports) i n
+    (program-keeps keep files setup p is) solo.thread quiet)) solo.wrote)
 as-run-over law keep (Some (Run setup i n)) files ports before after said = tt
 as-run-over law keep (Some (Dump setup n)) files ports before after said = tt
 as-run-over law keep (Some (Asm source)) files ports before after said = tt
@@ -162,12 +217,18 @@ as-run-over law keep (Some (Check setup i n trace)) files ports before after sai
 as-run-over law keep (Some (Elf file)) files ports before after said = tt
 as-run-over law keep (Some (Calls setup i section routines)) files ports before after said = tt
 
-pub as-run-of : TraceAlone → AcceptedKeepRules → (told : Option FileMap) (asked : Option Ask) (ports : List (Option Row)) (before after : Option (List ℕ)) →
-    IfSome told (λ files. Said (IsAnswerTo asked files ports) 0 before after) → IfSome told (λ files. WritesAsRun asked files ports before after)
+pub as-run-of : TraceAlone → AcceptedKeepRules → (told : Option FileMap)
+    (asked : Option Ask) (ports : List (Option Row)) (before after : Option (List ℕ)) →
+    IfSome told (λ files. Said (IsAnswerTo asked files ports) 0 before after) →
+    IfSome told (λ files. WritesAsRun asked files ports before after)
 as-run-of law keep None asked ports before after said = tt
-as-run-of law keep (Some files) asked ports before after said = as-run-over law keep asked files ports before after said
+as-run-of law keep (Some files) asked ports before after said =
+    as-run-over law keep asked files ports before after said
 
-phased-over : TraceByPhases → AcceptedKeepRules → (asked : Option Ask) (files : FileMap) (ports : List (Option Row)) (before after : Option (List ℕ)) → Said (IsAnswerTo asked files ports) 0 before after → WritesByPhases asked files ports before after
+phased-over : TraceByPhases → AcceptedKeepRules → (asked : Option Ask)
+    (files : FileMap) (ports : List (Option Row)) (before after : Option (List ℕ)) →
+    Said (IsAnswerTo asked files ports) 0 before after →
+    WritesByPhases asked files ports before after
 phased-over law keep None files ports before after said = tt
 phased-over law keep (Some (Run setup i n)) files ports before after said =
     λ p is confined kept. (
@@ -175,7 +236,8 @@ phased-over law keep (Some (Run setup i n)) files ports before after said =
     let Tells : Answer → Type 0 = IsSaid 0 before after in
     let told = subst Tells (said.is ∙ answers) said.said in
     let Told : List ℕ → Type 0 = Appends before after in
-    subst Told (law (machine_of p ports) i n (program-keeps keep files setup p is) confined kept) told.1)
+    subst Told
+    (law (machine_of p ports) i n (program-keeps keep files setup p is) confined kept) told.1)
 phased-over law keep (Some (Dump setup n)) files ports before after said = tt
 phased-over law keep (Some (Asm source)) files ports before after said = tt
 phased-over law keep (Some (Bound setup i section)) files ports before after said = tt
@@ -186,23 +248,40 @@ phased-over law keep (Some (Check setup i n trace)) files ports before after sai
 phased-over law keep (Some (Elf file)) files ports before after said = tt
 phased-over law keep (Some (Calls setup i section routines)) files ports before after said = tt
 
-pub phased-of : TraceByPhases → AcceptedKeepRules → (told : Option FileMap) (asked : Option Ask) (ports : List (Option Row)) (before after : Option (List ℕ)) →
-    IfSome told (λ files. Said (IsAnswerTo asked files ports) 0 before after) → IfSome told (λ files. WritesByPhases asked files ports before after)
+pub phased-of : TraceByPhases → AcceptedKeepRules → (told : Option FileMap)
+    (asked : Option Ask) (ports : List (Option Row)) (before after : Option (List ℕ)) →
+    IfSome told (λ files. Said (IsAnswerTo asked files ports) 0 before after) →
+    IfSome told (λ files. WritesByPhases asked files ports before after)
 phased-of law keep None asked ports before after said = tt
-phased-of law keep (Some files) asked ports before after said = phased-over law keep asked files ports before after said
+phased-of law keep (Some files) asked ports before after said =
+    phased-over law keep asked files ports before after said
 
 -- the image of an executable, by what its definition gives
-elf-imported : ReadsBack → (file : List ℕ) (before after : Option (List ℕ)) (image : Result (List Segment) ElfRefused) → elf_of file ≡ image →
-    IsSaid 0 before after (ends (then_by (of_elf image) (λ segments. Ok (written segments)))) → IsImported file before after
-elf-imported law file before after (Ok image) is said = record { image = image; defined = is; bytes = written image; wrote = said.1; read_back = law file image is }
-elf-imported law file before after (Err (in_elf.Fault code offset)) is said = absurd (no-zero 4 said.0 refl)
+elf-imported : ReadsBack → (file : List ℕ) (before after : Option (List ℕ))
+    (image : Result (List Segment) ElfRefused) → elf_of file ≡ image →
+    IsSaid 0 before after (ends (then_by (of_elf image) (λ segments. Ok (file_of segments)))) →
+    IsImported file before after
+elf-imported law file before after (Ok image) is said = record {
+  image = image;
+  defined = is;
+  bytes = file_of image;
+  wrote = said.1;
+  read_back = law file image is;
+}
+elf-imported law file before after (Err (in_elf.Fault code offset)) is said =
+    absurd (no-zero 4 said.0 refl)
 elf-imported law file before after (Err in_elf.NoMemory) is said = absurd (no-zero 9 said.0 refl)
 
-file-imported : ReadsBack → (bytes : List ℕ) (before after : Option (List ℕ)) → IsSaid 0 before after (ends (then_by (elf_in bytes) (λ segments. Ok (written segments)))) → IsImported bytes before after
+file-imported : ReadsBack → (bytes : List ℕ) (before after : Option (List ℕ)) →
+    IsSaid 0 before after (ends (then_by (elf_in bytes) (λ segments. Ok (file_of segments)))) →
+    IsImported bytes before after
 unfolding elf_in
-file-imported law bytes before after said = elf-imported law bytes before after (elf_of bytes) refl said
+file-imported law bytes before after said =
+    elf-imported law bytes before after (elf_of bytes) refl said
 
-imported-over : ReadsBack → (asked : Option Ask) (files : FileMap) (ports : List (Option Row)) (before after : Option (List ℕ)) → Said (IsAnswerTo asked files ports) 0 before after → WritesImage asked files before after
+imported-over : ReadsBack → (asked : Option Ask) (files : FileMap) (ports : List (Option Row))
+    (before after : Option (List ℕ)) → Said (IsAnswerTo asked files ports) 0 before after →
+    WritesImage asked files before after
 imported-over law None files ports before after said = tt
 imported-over law (Some (Run setup i n)) files ports before after said = tt
 imported-over law (Some (Dump setup n)) files ports before after said = tt
@@ -215,26 +294,36 @@ imported-over law (Some (Check setup i n trace)) files ports before after said =
 imported-over law (Some (Calls setup i section routines)) files ports before after said = tt
 imported-over law (Some (Elf name)) files ports before after said =
     λ bytes there. (
-    let answers = ap (λ (file : Option (List ℕ)). ends (then_by (over_file elf_in file) (λ segments. Ok (written segments)))) there in
+    let answers = ap (λ (file : Option (List ℕ)).
+    ends (then_by (over_file elf_in file) (λ segments. Ok (file_of segments)))) there in
     let Tells : Answer → Type 0 = IsSaid 0 before after in
     file-imported law bytes before after (subst Tells (said.is ∙ answers) said.said))
 
-pub imported-of : ReadsBack → (told : Option FileMap) (asked : Option Ask) (ports : List (Option Row)) (before after : Option (List ℕ)) →
-    IfSome told (λ files. Said (IsAnswerTo asked files ports) 0 before after) → IfSome told (λ files. WritesImage asked files before after)
+pub imported-of : ReadsBack → (told : Option FileMap) (asked : Option Ask)
+    (ports : List (Option Row)) (before after : Option (List ℕ)) →
+    IfSome told (λ files. Said (IsAnswerTo asked files ports) 0 before after) →
+    IfSome told (λ files. WritesImage asked files before after)
 imported-of law None asked ports before after said = tt
-imported-of law (Some files) asked ports before after said = imported-over law asked files ports before after said
+imported-of law (Some files) asked ports before after said =
+    imported-over law asked files ports before after said
 
-refused-said : (x : Answer) (code address : ℕ) (before after : Option (List ℕ)) → Some x ≡ Some (refused (refusal.Bound code address)) → IsSaid 0 before after x → ⊥
+refused-said : (x : Answer) (code address : ℕ) (before after : Option (List ℕ)) →
+    Some x ≡ Some (refusal_answer (refusal.Bound code address)) → IsSaid 0 before after x → ⊥
 refused-said x code address before after line said =
-    let is : x ≡ refused (refusal.Bound code address) = cc in
+    let is : x ≡ refusal_answer (refusal.Bound code address) = cc in
     let Tells : Answer → Type 0 = IsSaid 0 before after in
     no-zero 6 (subst Tells is said).0 refl
 
-tree-refused : (t : Tree) (no : TreeNo) (x : Answer) (before after : Option (List ℕ)) → Some x ≡ option_map refused (tree_refusal no) → IsSaid 0 before after x → ⊥
-tree-refused t (in_tree.Nesting a) x before after line said = refused-said x 1 a before after line said
-tree-refused t (in_tree.IndirectJump a) x before after line said = refused-said x 2 a before after line said
-tree-refused t (in_tree.TimedWait a) x before after line said = refused-said x 3 a before after line said
-tree-refused t (in_tree.UnboundedBackEdge a) x before after line said = refused-said x 4 a before after line said
+tree-refused : (t : Tree) (no : TreeNo) (x : Answer) (before after : Option (List ℕ)) →
+    Some x ≡ option_map refusal_answer (tree_refusal no) → IsSaid 0 before after x → ⊥
+tree-refused t (in_tree.Nesting a) x before after line said =
+    refused-said x 1 a before after line said
+tree-refused t (in_tree.IndirectJump a) x before after line said =
+    refused-said x 2 a before after line said
+tree-refused t (in_tree.TimedWait a) x before after line said =
+    refused-said x 3 a before after line said
+tree-refused t (in_tree.UnboundedBackEdge a) x before after line said =
+    refused-said x 4 a before after line said
 tree-refused t in_tree.NoMemory x before after line said = cc
 
 -- the theorems on visits
@@ -249,28 +338,41 @@ pub record OnCallVisits : Type 0 where
   pub scheduled : CallVisitsStayBoundedWhileScheduled
   pub set : CallVisitsStayBoundedInSettings
 
-section-longest : OnVisits → (p : Program) (i : ℕ) (section : Section) (before after : Option (List ℕ)) (fault : Option ℕ) (x : Answer) → IsSectionAnswer p i section fault x → IsSaid 0 before after x →
+section-longest : OnVisits → (p : Program) (i : ℕ) (section : Section)
+    (before after : Option (List ℕ)) (fault : Option ℕ) (x : Answer) →
+    IsSectionAnswer p i section fault x → IsSaid 0 before after x →
     IsLongest p i section before after
 section-longest law p i section before after (Some code) x is said =
-    let Tells : Answer → Type 0 = IsSaid 0 before after in absurd (no-zero 3 (subst Tells is said).0 refl)
-section-longest law p i section before after None x (inl bad) said = absurd (tree-refused (section_tree p section) bad.no x before after bad.line said)
+    let Tells : Answer → Type 0 = IsSaid 0 before after in
+    absurd (no-zero 3 (subst Tells is said).0 refl)
+section-longest law p i section before after None x (inl bad) said =
+    absurd (tree-refused (section_tree p section) bad.no x before after bad.line said)
 section-longest law p i section before after None x (inr (inl large)) said =
-    let Tells : Answer → Type 0 = IsSaid 0 before after in absurd (no-zero 6 (subst Tells large.line said).0 refl)
+    let Tells : Answer → Type 0 = IsSaid 0 before after in
+    absurd (no-zero 6 (subst Tells large.line said).0 refl)
 section-longest law p i section before after None x (inr (inr bounded)) said =
     let Tells : Answer → Type 0 = IsSaid 0 before after in
     record {
       cycles = bounded.cycles;
       wrote = (subst Tells bounded.line said).1;
       met = bounded.is;
-      longest = λ m n rules alike quiet last earlier visit keeps.
-          law.quiet p.setup p.image section i bounded.cycles m n bounded.accepted bounded.is.kept rules alike quiet last earlier visit keeps;
-      while_scheduled = λ m n rules starts words kept last earlier visit keeps.
-          law.scheduled p.setup p.image section p.setup.slots i bounded.cycles m n bounded.accepted bounded.is.kept rules starts words kept last earlier visit keeps;
-      in_settings = λ m n rules words last earlier here visit keeps.
-          law.set p.setup p.image section p.setup.slots i bounded.cycles m n bounded.accepted bounded.is.kept rules words last earlier here visit keeps;
+      longest =
+          λ m n rules alike quiet last earlier visit keeps.
+          law.quiet p.setup p.image section i bounded.cycles m n bounded.accepted bounded.is.kept
+          rules alike quiet last earlier visit keeps;
+      while_scheduled =
+          λ m n rules starts words kept last earlier visit keeps.
+          law.scheduled p.setup p.image section p.setup.slots i bounded.cycles m n bounded.accepted
+          bounded.is.kept rules starts words kept last earlier visit keeps;
+      in_settings =
+          λ m n rules words last earlier here visit keeps.
+          law.set p.setup p.image section p.setup.slots i bounded.cycles m n bounded.accepted
+          bounded.is.kept rules words last earlier here visit keeps;
     }
 
-visits-over : OnVisits → (asked : Option Ask) (files : FileMap) (ports : List (Option Row)) (before after : Option (List ℕ)) → Said (IsAnswerTo asked files ports) 0 before after → BoundsVisits asked files before after
+visits-over : OnVisits → (asked : Option Ask) (files : FileMap) (ports : List (Option Row))
+    (before after : Option (List ℕ)) → Said (IsAnswerTo asked files ports) 0 before after →
+    BoundsVisits asked files before after
 visits-over law None files ports before after said = tt
 visits-over law (Some (Run setup i n)) files ports before after said = tt
 visits-over law (Some (Dump setup n)) files ports before after said = tt
@@ -284,29 +386,46 @@ visits-over law (Some (Calls setup i section routines)) files ports before after
 visits-over law (Some (Bound setup i section)) files ports before after said =
     λ p is. (
     let Answers : Result Program Answer → Type 0 = λ q. IsBoundAnswer q i section said.answer in
-    section-longest law p i section before after (section_fault p.setup i section) said.answer (subst Answers is said.is) said.said)
+    section-longest law p i section before after (section_fault p.setup i section) said.answer
+    (subst Answers is said.is) said.said)
 
-pub visits-of : OnVisits → (told : Option FileMap) (asked : Option Ask) (ports : List (Option Row)) (before after : Option (List ℕ)) →
-    IfSome told (λ files. Said (IsAnswerTo asked files ports) 0 before after) → IfSome told (λ files. BoundsVisits asked files before after)
+pub visits-of : OnVisits → (told : Option FileMap) (asked : Option Ask)
+    (ports : List (Option Row)) (before after : Option (List ℕ)) →
+    IfSome told (λ files. Said (IsAnswerTo asked files ports) 0 before after) →
+    IfSome told (λ files. BoundsVisits asked files before after)
 visits-of law None asked ports before after said = tt
-visits-of law (Some files) asked ports before after said = visits-over law asked files ports before after said
+visits-of law (Some files) asked ports before after said =
+    visits-over law asked files ports before after said
 
-call-refused : (no : CallNo) (x : Answer) (before after : Option (List ℕ)) → Some x ≡ option_map refused (call_refusal no) → IsSaid 0 before after x → ⊥
-call-refused (in_calls.Nesting a) x before after line said = refused-said x 1 a before after line said
-call-refused (in_calls.IndirectJump a) x before after line said = refused-said x 2 a before after line said
-call-refused (in_calls.TimedWait a) x before after line said = refused-said x 3 a before after line said
-call-refused (in_calls.UnboundedBackEdge a) x before after line said = refused-said x 4 a before after line said
-call-refused (in_calls.Overlap a) x before after line said = refused-said x 8 a before after line said
-call-refused (in_calls.Recursion a) x before after line said = refused-said x 9 a before after line said
-call-refused (in_calls.Escape a) x before after line said = refused-said x 10 a before after line said
+call-refused : (no : CallNo) (x : Answer) (before after : Option (List ℕ)) →
+    Some x ≡ option_map refusal_answer (call_refusal no) → IsSaid 0 before after x → ⊥
+call-refused (in_calls.Nesting a) x before after line said =
+    refused-said x 1 a before after line said
+call-refused (in_calls.IndirectJump a) x before after line said =
+    refused-said x 2 a before after line said
+call-refused (in_calls.TimedWait a) x before after line said =
+    refused-said x 3 a before after line said
+call-refused (in_calls.UnboundedBackEdge a) x before after line said =
+    refused-said x 4 a before after line said
+call-refused (in_calls.Overlap a) x before after line said =
+    refused-said x 8 a before after line said
+call-refused (in_calls.Recursion a) x before after line said =
+    refused-said x 9 a before after line said
+call-refused (in_calls.Escape a) x before after line said =
+    refused-said x 10 a before after line said
 call-refused in_calls.NoMemory x before after line said = cc
 
 -- over the routines of a file
-listed-longest : OnCallVisits → (p : Program) (i : ℕ) (section : Section) (file : List ℕ) (before after : Option (List ℕ)) (x : Answer) (r : Result (List Routine) RoutinesRefused) →
-    routines_of (size_of p.setup.version) file ≡ r → IsRoutinesAnswer p i section (of_routines r) x → IsSaid 0 before after x → IsLongestByCalls p i section file before after
-listed-longest law p i section file before after x (Ok routines) listed (inl bad) said = absurd (call-refused bad.no x before after bad.line said)
+listed-longest : OnCallVisits → (p : Program) (i : ℕ) (section : Section) (file : List ℕ)
+    (before after : Option (List ℕ)) (x : Answer) (r : Result (List Routine) RoutinesRefused) →
+    routines_of (size_of p.setup.version) file ≡ r →
+    IsRoutinesAnswer p i section (of_routines r) x → IsSaid 0 before after x →
+    IsLongestByCalls p i section file before after
+listed-longest law p i section file before after x (Ok routines) listed (inl bad) said =
+    absurd (call-refused bad.no x before after bad.line said)
 listed-longest law p i section file before after x (Ok routines) listed (inr (inl large)) said =
-    let Tells : Answer → Type 0 = IsSaid 0 before after in absurd (no-zero 6 (subst Tells large.line said).0 refl)
+    let Tells : Answer → Type 0 = IsSaid 0 before after in
+    absurd (no-zero 6 (subst Tells large.line said).0 refl)
 listed-longest law p i section file before after x (Ok routines) listed (inr (inr bounded)) said =
     let Tells : Answer → Type 0 = IsSaid 0 before after in
     record {
@@ -315,30 +434,52 @@ listed-longest law p i section file before after x (Ok routines) listed (inr (in
       cycles = bounded.cycles;
       wrote = (subst Tells bounded.line said).1;
       met = bounded.is;
-      longest = λ m n rules alike quiet last earlier visit returns keeps.
-          law.quiet (calls (section_listing p section routines)) p.setup.slots i bounded.cycles m n bounded.listing bounded.accepted bounded.is.kept rules alike quiet last earlier visit returns keeps;
-      while_scheduled = λ m n rules starts words kept last earlier visit returns keeps.
-          law.scheduled (calls (section_listing p section routines)) p.setup.slots i bounded.cycles m n bounded.listing bounded.accepted bounded.is.kept rules starts words kept last earlier visit returns keeps;
-      in_settings = λ m n rules words last earlier here visit returns keeps.
-          law.set (calls (section_listing p section routines)) p.setup.slots i bounded.cycles m n bounded.listing bounded.accepted bounded.is.kept rules words last earlier here visit returns keeps;
+      longest =
+          λ m n rules alike quiet last earlier visit returns keeps.
+          law.quiet (calls (section_listing p section routines)) p.setup.slots i bounded.cycles m
+          n bounded.listing bounded.accepted bounded.is.kept rules alike quiet last earlier visit
+          returns keeps;
+      while_scheduled =
+          λ m n rules starts words kept last earlier visit returns keeps.
+          law.scheduled (calls (section_listing p section routines)) p.setup.slots i bounded.cycles
+          m n bounded.listing bounded.accepted bounded.is.kept rules starts words kept last earlier
+          visit returns keeps;
+      in_settings =
+          λ m n rules words last earlier here visit returns keeps.
+          law.set (calls (section_listing p section routines)) p.setup.slots i bounded.cycles m
+          n bounded.listing bounded.accepted bounded.is.kept rules words last earlier here visit
+          returns keeps;
     }
-listed-longest law p i section file before after x (Err (in_list.Fault line code)) listed same said =
-    let Tells : Answer → Type 0 = IsSaid 0 before after in absurd (no-zero 10 (subst Tells same said).0 refl)
+listed-longest law p i section file before after x
+    (Err (in_list.Fault line code)) listed same said =
+    let Tells : Answer → Type 0 = IsSaid 0 before after in
+    absurd (no-zero 10 (subst Tells same said).0 refl)
 listed-longest law p i section file before after x (Err in_list.NoMemory) listed same said =
-    let Tells : Answer → Type 0 = IsSaid 0 before after in absurd (no-zero 9 (subst Tells same said).0 refl)
+    let Tells : Answer → Type 0 = IsSaid 0 before after in
+    absurd (no-zero 9 (subst Tells same said).0 refl)
 
-routines-longest : OnCallVisits → (p : Program) (i : ℕ) (section : Section) (file : List ℕ) (before after : Option (List ℕ)) (x : Answer) →
-    IsRoutinesAnswer p i section (routines_in (size_of p.setup.version) file) x → IsSaid 0 before after x → IsLongestByCalls p i section file before after
+routines-longest : OnCallVisits → (p : Program) (i : ℕ) (section : Section)
+    (file : List ℕ) (before after : Option (List ℕ)) (x : Answer) →
+    IsRoutinesAnswer p i section (routines_in (size_of p.setup.version) file) x →
+    IsSaid 0 before after x → IsLongestByCalls p i section file before after
 unfolding routines_in
-routines-longest law p i section file before after x is said = listed-longest law p i section file before after x (routines_of (size_of p.setup.version) file) refl is said
+routines-longest law p i section file before after x is said =
+    listed-longest law p i section file before after x
+    (routines_of (size_of p.setup.version) file) refl is said
 
-calls-longest : OnCallVisits → (p : Program) (i : ℕ) (section : Section) (file : List ℕ) (before after : Option (List ℕ)) (fault : Option ℕ) (x : Answer) →
-    IsSectionCallsAnswer p i section (Some file) fault x → IsSaid 0 before after x → IsLongestByCalls p i section file before after
+calls-longest : OnCallVisits → (p : Program) (i : ℕ) (section : Section)
+    (file : List ℕ) (before after : Option (List ℕ)) (fault : Option ℕ) (x : Answer) →
+    IsSectionCallsAnswer p i section (Some file) fault x → IsSaid 0 before after x →
+    IsLongestByCalls p i section file before after
 calls-longest law p i section file before after (Some code) x is said =
-    let Tells : Answer → Type 0 = IsSaid 0 before after in absurd (no-zero 3 (subst Tells is said).0 refl)
-calls-longest law p i section file before after None x is said = routines-longest law p i section file before after x is said
+    let Tells : Answer → Type 0 = IsSaid 0 before after in
+    absurd (no-zero 3 (subst Tells is said).0 refl)
+calls-longest law p i section file before after None x is said =
+    routines-longest law p i section file before after x is said
 
-call-visits-over : OnCallVisits → (asked : Option Ask) (files : FileMap) (ports : List (Option Row)) (before after : Option (List ℕ)) → Said (IsAnswerTo asked files ports) 0 before after → BoundsCallVisits asked files before after
+call-visits-over : OnCallVisits → (asked : Option Ask) (files : FileMap) (ports : List (Option Row))
+    (before after : Option (List ℕ)) → Said (IsAnswerTo asked files ports) 0 before after →
+    BoundsCallVisits asked files before after
 call-visits-over law None files ports before after said = tt
 call-visits-over law (Some (Run setup i n)) files ports before after said = tt
 call-visits-over law (Some (Dump setup n)) files ports before after said = tt
@@ -351,24 +492,34 @@ call-visits-over law (Some (Check setup i n trace)) files ports before after sai
 call-visits-over law (Some (Elf file)) files ports before after said = tt
 call-visits-over law (Some (Calls setup i section routines)) files ports before after said =
     λ p file is there. (
-    let Answers : Result Program Answer → Type 0 = λ q. IsCallsAnswer q i section (files routines) said.answer in
+    let Answers : Result Program Answer → Type 0 = λ q.
+    IsCallsAnswer q i section (files routines) said.answer in
     let In : Option (List ℕ) → Type 0 = λ o. IsCallsAnswer (Ok p) i section o said.answer in
-    calls-longest law p i section file before after (section_fault p.setup i section) said.answer (subst In there (subst Answers is said.is)) said.said)
+    calls-longest law p i section file before after (section_fault p.setup i section) said.answer
+    (subst In there (subst Answers is said.is)) said.said)
 
-pub call-visits-of : OnCallVisits → (told : Option FileMap) (asked : Option Ask) (ports : List (Option Row)) (before after : Option (List ℕ)) →
-    IfSome told (λ files. Said (IsAnswerTo asked files ports) 0 before after) → IfSome told (λ files. BoundsCallVisits asked files before after)
+pub call-visits-of : OnCallVisits → (told : Option FileMap) (asked : Option Ask)
+    (ports : List (Option Row)) (before after : Option (List ℕ)) →
+    IfSome told (λ files. Said (IsAnswerTo asked files ports) 0 before after) →
+    IfSome told (λ files. BoundsCallVisits asked files before after)
 call-visits-of law None asked ports before after said = tt
-call-visits-of law (Some files) asked ports before after said = call-visits-over law asked files ports before after said
+call-visits-of law (Some files) asked ports before after said =
+    call-visits-over law asked files ports before after said
 
 -- what the words' command said with status 0
-pub said-zero : (told : Option FileMap) (words : List (List ℕ)) (asked : Ask) (ports : List (Option Row)) (s : Status) (n : ℕ) (before after : Option (List ℕ)) → ask words ≡ Some asked → n ≡ number_of s → n ≡ 0 →
-    ((s ≡ Read → ⊥) → (s ≡ Write → ⊥) → (s ≡ OutOfMemory → ⊥) → IfSome told (λ files. Said (IsAnswerIn asked ports files) (number_of s) before after)) →
+pub said-zero : (told : Option FileMap) (words : List (List ℕ)) (asked : Ask)
+    (ports : List (Option Row)) (s : Status) (n : ℕ) (before after : Option (List ℕ)) →
+    ask words ≡ Some asked → n ≡ number_of s → n ≡ 0 →
+    ((s ≡ Read → ⊥) → (s ≡ Write → ⊥) → (s ≡ OutOfMemory → ⊥) →
+    IfSome told (λ files. Said (IsAnswerIn asked ports files) (number_of s) before after)) →
     IfSome told (λ files. Said (IsAnswerTo (ask words) files ports) 0 before after)
 said-zero told words asked ports s n before after is number zero said =
     let nought : number_of s ≡ 0 = sym number ∙ zero in
     let read : s ≡ Read → ⊥ = λ e. (let n = ap number_of e in omega (arith, nought, n)) in
     let write : s ≡ Write → ⊥ = λ e. (let n = ap number_of e in omega (arith, nought, n)) in
     let memory : s ≡ OutOfMemory → ⊥ = λ e. (let n = ap number_of e in omega (arith, nought, n)) in
-    let First : ℕ → Type 0 = λ k. IfSome told (λ files. Said (IsAnswerIn asked ports files) k before after) in
-    let Then : Option Ask → Type 0 = λ o. IfSome told (λ files. Said (IsAnswerTo o files ports) 0 before after) in
+    let First : ℕ → Type 0 =
+    λ k. IfSome told (λ files. Said (IsAnswerIn asked ports files) k before after) in
+    let Then : Option Ask → Type 0 =
+    λ o. IfSome told (λ files. Said (IsAnswerTo o files ports) 0 before after) in
     subst Then (sym is) (subst First nought (said read write memory))

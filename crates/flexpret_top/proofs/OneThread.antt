@@ -1,5 +1,9 @@
 -- What a run of one thread alone has to do with the definition of its command.
-use Rattle.std.proofs.Common.{◌≡◌, ℕ, zero, suc, ◌+◌, ◌-◌, ◌*◌, ◌<◌, ◌≤◌, Bool, true, false, cond, nat_eq, if◌then◌else◌, List, [], ◌∷◌, ◌++◌, length, take, drop, map, get_or, set, take-append-drop, find, is_some, nat_le, option_map, reverse, ap₂, Option, Some, None, Result, Ok, Err, refl, ap, sym, subst, ◌∙◌, arith, inl, inr}
+use Rattle.std.proofs.Common.{◌≡◌, ℕ, zero, suc, ◌+◌, ◌-◌, ◌*◌, ◌<◌, ◌≤◌, Bool, true}
+use Rattle.std.proofs.Common.{false, cond, nat_eq, if◌then◌else◌, List, [], ◌∷◌, ◌++◌}
+use Rattle.std.proofs.Common.{length, take, drop, map, get_or, set, take-append-drop, find}
+use Rattle.std.proofs.Common.{is_some, nat_le, option_map, reverse, ap₂, Option, Some, None}
+use Rattle.std.proofs.Common.{Result, Ok, Err, refl, ap, sym, subst, ◌∙◌, arith, inl, inr}
 use Rattle.std.specs.Prelude.{IfSome, IsSomeAnd, IfErr, OnOk}
 use Rattle.std.specs.List.{AllWithin, slice_get}
 use Rattle.std.specs.List.Sorted.{IsNonDecreasingBy}
@@ -14,13 +18,13 @@ use Rattle.std.proofs.lemmas.List.{reverse-append, set-set}
 use Rattle.std.proofs.lemmas.List.Folds.{find-append}
 use Rattle.std.specs.Option.{option_or}
 use Rattle.core_model.specs.View.{View}
-use Rattle.fp_ports.specs.Rows.{row_of, rows_of, word_seen}
+use Rattle.fp_ports.specs.PluggedPorts.{row_of, rows_of, word_seen}
 use Rattle.fp_ports.specs.ShownWords.{input_at, is_gone, shown_at}
 use Rattle.fp_setup.specs.declared.input_list.Input.{Input}
 use Rattle.fp_setup.specs.Inputs.{AreInputs}
 use Rattle.fp_image.specs.declared.parts.Segment.{Segment}
 use Rattle.fp_io.specs.Content.{FileMap, Fetched}
-use Rattle.fp_ports.specs.Rows.{Row}
+use Rattle.fp_ports.specs.PluggedPorts.{Row}
 use Rattle.fp_setup.specs.SetupOfTables.{the_threads}
 use Rattle.fp_setup.specs.Settings.{Settings}
 use Rattle.setup_model.specs.Start.{start, shown_to}
@@ -29,11 +33,11 @@ use Rattle.solo_run.specs.declared.checked.Checked.{Checked}
 use Rattle.solo_run.specs.declared.checked.Checked.TheVariants.{Same, Differs}
 use Rattle.solo_run.specs.Setup.{setup_view}
 use Rattle.solo_run.proofs.Compare.{front}
-use Rattle.world_model.specs.Viewed.{view, setting_of}
-use Rattle.solo_run.specs.View.{view_as_defined}
+use Rattle.core_model.specs.Viewed.{view, setting_of}
+use Rattle.solo_run.specs.View.{abstract_view}
 use Rattle.solo_run.specs.declared.view.SoloView.{SoloView}
 use Rattle.command_files.specs.Answer.{Answer, differs_text, over_file}
-use Rattle.flexpret_top.specs.SoloAndCheck.{compared, said_by, same_text}
+use Rattle.flexpret_top.specs.SoloAndCheck.{comparison_of, said_by, same_text}
 use Rattle.command_files.specs.declared.stop.Stop.{Stop}
 use Rattle.command_files.specs.declared.stop.Stop.TheVariants as in_stop
 use Rattle.command_files.specs.Stops.{IsStop, IsStopOf, is_difference}
@@ -44,15 +48,18 @@ thread-at : (i : ℕ) → i < 8 → get_or the_threads i 0 ≡ i
 thread-at i small = get_or-range_with_len 0 8 i 0 small ∙ omega arith
 
 -- the view of a setup's thread beside ports is the one that the code makes, with what it is shown
-pub view-beside : (s : Settings) (image : List Segment) (ports : List (Option Row)) (i n : ℕ) → i < 8 → setup_view s image i (shown_to s ports n i) ≡ view (start s image ports n) i
+pub view-beside : (s : Settings) (image : List Segment) (ports : List (Option Row)) (i n : ℕ) →
+    i < 8 → setup_view s image i (shown_to s ports n i) ≡ view (start s image ports n) i
 unfolding setup_view start view setting_of
 view-beside s image ports i n small =
     let shown : get_or (map (shown_to s ports n) the_threads) i [] ≡ shown_to s ports n i =
-    get_or-map (shown_to s ports n) the_threads i 0 [] small ∙ ap (shown_to s ports n) (thread-at i small) in
+    get_or-map (shown_to s ports n) the_threads i 0 [] small
+    ∙ ap (shown_to s ports n) (thread-at i small) in
     ap (λ shown. record (view (start s image ports n) i) { shown = shown }) (sym shown)
 
 -- a view of a setup's thread is that thread's
-pub view-thread : (v : SoloView) (s : Settings) (image : List Segment) (i : ℕ) → ((shown : List ℕ) → view_as_defined v shown ≡ setup_view s image i shown) → v.thread ≡ i
+pub view-thread : (v : SoloView) (s : Settings) (image : List Segment) (i : ℕ) →
+    ((shown : List ℕ) → abstract_view v shown ≡ setup_view s image i shown) → v.thread ≡ i
 unfolding setup_view view setting_of
 view-thread v s image i views = ap (λ (v : View). v.setting.thread) (views [])
 
@@ -65,7 +72,9 @@ front-left [] rest xs l = absurd (omega (arith, l))
 front-left (y ∷ e) rest [] l = refl
 front-left (y ∷ e) rest (x ∷ xs) l = go (nat_eq y x) (λ k. front-left e rest xs k) l
   where
-    go : (b : Bool) → (front e xs < length e → front (e ++ rest) xs ≡ front e xs) → cond b (1 + front e xs) 0 < length (y ∷ e) → cond b (1 + front (e ++ rest) xs) 0 ≡ cond b (1 + front e xs) 0
+    go : (b : Bool) → (front e xs < length e → front (e ++ rest) xs ≡ front e xs) →
+        cond b (1 + front e xs) 0 < length (y ∷ e) →
+        cond b (1 + front (e ++ rest) xs) 0 ≡ cond b (1 + front e xs) 0
     go true on l = let less : front e xs < length e = omega arith in ap (λ n. 1 + n) (on less)
     go false on l = refl
 
@@ -73,71 +82,109 @@ front-same : (xs : List ℕ) → front xs xs ≡ length xs
 front-same [] = refl
 front-same (x ∷ xs) = rw (itself x, front-same xs) (omega arith)
 
--- the answer over the first bytes is that over the file, where these agree with the text no further than within them
-checked-long : (file given text rest : List ℕ) (answer : Checked) → file ≡ given ++ rest → front given text < length given → length given < length file → IsChecked given text answer → IsChecked file text answer
+-- the answer over the first bytes is that over the file, where these agree with the text no further
+-- than within them
+checked-long : (file given text rest : List ℕ) (answer : Checked) → file ≡ given ++ rest →
+    front given text < length given → length given < length file → IsChecked given text answer →
+    IsChecked file text answer
 checked-long file given text rest Same whole less longer is =
-    absurd (let all : front given text ≡ length given = ap (front given) (sym is) ∙ front-same given in omega (arith, all, less))
+    absurd (let all : front given text ≡ length given = ap (front given) (sym is)
+    ∙ front-same given in omega (arith, all, less))
 checked-long file given text rest (Differs line) whole less longer is =
-    let at : front file text ≡ front given text = ap (λ xs. front xs text) whole ∙ front-left given rest text less in
+    let at : front file text ≡ front given text =
+    ap (λ xs. front xs text) whole ∙ front-left given rest text less in
     let within : front given text ≤ length given = omega (arith, less) in
     let same : take (front file text) file ≡ take (front given text) given =
-    ap (λ n. take n file) at ∙ ap (take (front given text)) whole ∙ take-append-le (front given text) given rest within in (
-      λ equal. (let all : front file text ≡ length file = ap (front file) (sym equal) ∙ front-same file in absurd (omega (arith, all, at, less, longer))),
+    ap (λ n. take n file) at ∙ ap (take (front given text)) whole
+    ∙ take-append-le (front given text) given rest within in (
+      λ equal. (let all : front file text ≡ length file = ap (front file) (sym equal)
+          ∙ front-same file in absurd (omega (arith, all, at, less, longer))),
       is.1 ∙ ap (λ bytes. 1 + line_feeds bytes) (sym same),
     )
 
-pub checked-file : (file given text : List ℕ) (n : ℕ) (answer : Checked) → given ≡ take (60 * n + 1) file → front given text ≤ 59 * n → IsChecked given text answer → IsChecked file text answer
+pub checked-file : (file given text : List ℕ) (n : ℕ) (answer : Checked) →
+    given ≡ take (60 * n + 1) file → front given text ≤ 59 * n → IsChecked given text answer →
+    IsChecked file text answer
 checked-file file given text n answer cut few is =
     elim (cases_lt (60 * n + 1) (length file)) [
       | inl past ↦
-          let long : length given ≡ 60 * n + 1 = ap length cut ∙ (let part = length-take (60 * n + 1) file in omega (arith, part, past)) in
-          let whole : file ≡ given ++ drop (60 * n + 1) file = sym (take-append-drop (60 * n + 1) file) ∙ ap (λ bytes. bytes ++ drop (60 * n + 1) file) (sym cut) in
-          checked-long file given text (drop (60 * n + 1) file) answer whole (omega (arith, few, long)) (omega (arith, long, past)) is
-      | inr short ↦ (let Is : List ℕ → Type 0 = λ bytes. IsChecked bytes text answer in subst Is (cut ∙ take_all (60 * n + 1) file short) is)
+          let long : length given ≡ 60 * n + 1 =
+          ap length cut ∙ (let part = length-take (60 * n + 1) file in omega (arith, part, past)) in
+          let whole : file ≡ given ++ drop (60 * n + 1) file =
+          sym (take-append-drop (60 * n + 1) file)
+          ∙ ap (λ bytes. bytes ++ drop (60 * n + 1) file) (sym cut) in
+          checked-long file given text (drop (60 * n + 1) file) answer whole
+          (omega (arith, few, long)) (omega (arith, long, past)) is
+      | inr short ↦
+          (let Is : List ℕ → Type 0 = λ bytes. IsChecked bytes text answer in
+          subst Is (cut ∙ take_all (60 * n + 1) file short) is)
     ]
 
 not-true : (b : Bool) → (b ≡ true → ⊥) → b ≡ false
 not-true true never = absurd (never refl)
 not-true false never = refl
 
-compared-by : (file text : List ℕ) (b : Bool) (answer : Result (List ℕ) Answer) → bytes_eq file text ≡ b →
-    (if b then Ok same_text else Err (Says 1 (differs_text (first_differing_line file text)))) ≡ answer → compared text file ≡ answer
+compared-by : (file text : List ℕ) (b : Bool) (answer : Result (List ℕ) Answer) →
+    bytes_eq file text ≡ b →
+    (if b then Ok same_text else Err (Says 1 (differs_text (first_differing_line file text))))
+    ≡ answer → comparison_of text file ≡ answer
 compared-by file text b answer is by =
-    ap (λ (b : Bool). if b then Ok same_text else Err (Says 1 (differs_text (first_differing_line file text)))) is ∙ by
+    ap (λ (b : Bool). if b then Ok same_text
+    else Err (Says 1 (differs_text (first_differing_line file text)))) is ∙ by
 
-compared-is : (file text : List ℕ) (answer : Checked) → IsChecked file text answer → compared text file ≡ said_by answer
-compared-is file text Same is = compared-by file text true (Ok same_text) ((bytes_eq-Decides file text).1 is) refl
+compared-is : (file text : List ℕ) (answer : Checked) → IsChecked file text answer →
+    comparison_of text file ≡ said_by answer
+compared-is file text Same is =
+    compared-by file text true (Ok same_text) ((bytes_eq-Decides file text).1 is) refl
 compared-is file text (Differs line) is =
-    compared-by file text false (Err (Says 1 (differs_text line))) (not-true (bytes_eq file text) (λ equal. is.0 ((bytes_eq-Decides file text).0 equal)))
+    compared-by file text false (Err (Says 1 (differs_text line)))
+    (not-true (bytes_eq file text) (λ equal. is.0 ((bytes_eq-Decides file text).0 equal)))
     (ap (λ (l : ℕ). Err (Says 1 (differs_text l))) (sym is.1))
 
 -- over the file that the bytes were fetched of
-pub compared-file : (told : Option FileMap) (name bytes items text : List ℕ) (n most : ℕ) (answer : Checked) → most ≡ 60 * n → Fetched told name most items → bytes ≡ items →
-    front bytes text ≤ 59 * n → IsChecked bytes text answer → IfSome told (λ files. over_file (compared text) (files name) ≡ said_by answer)
+pub compared-file : (told : Option FileMap) (name bytes items text : List ℕ) (n most : ℕ)
+    (answer : Checked) → most ≡ 60 * n → Fetched told name most items → bytes ≡ items →
+    front bytes text ≤ 59 * n → IsChecked bytes text answer →
+    IfSome told (λ files. over_file (comparison_of text) (files name) ≡ said_by answer)
 compared-file None name bytes items text n most answer limit fetched same few is = tt
-compared-file (Some files) name bytes items text n most answer limit fetched same few is = found (files name) fetched
+compared-file (Some files) name bytes items text n most answer limit fetched same few is =
+    found (files name) fetched
   where
-    found : (o : Option (List ℕ)) → IsSomeAnd o (λ whole. items ≡ take (most + 1) whole) → over_file (compared text) o ≡ said_by answer
+    found : (o : Option (List ℕ)) → IsSomeAnd o (λ whole. items ≡ take (most + 1) whole) →
+        over_file (comparison_of text) o ≡ said_by answer
     found None there = absurd there
-    found (Some whole) there = compared-is whole text answer (checked-file whole bytes text n answer (same ∙ there ∙ ap (λ m. take (m + 1) whole) limit) few is)
+    found (Some whole) there =
+        compared-is whole text answer (checked-file whole bytes text n answer
+        (same ∙ there ∙ ap (λ m. take (m + 1) whole) limit) few is)
 
 -- and so what the command answers is that of the comparison, if it goes on and if it ends
-pub compared-ok : (told : Option FileMap) (name text : List ℕ) (answer : Checked) (r : Result Unit Stop) → IfSome told (λ files. over_file (compared text) (files name) ≡ said_by answer) →
-    OnOk r (said_by answer ≡ Ok same_text) → OnOk r (IfSome told (λ files. over_file (compared text) (files name) ≡ Ok same_text))
+pub compared-ok : (told : Option FileMap) (name text : List ℕ)
+    (answer : Checked) (r : Result Unit Stop) →
+    IfSome told (λ files. over_file (comparison_of text) (files name) ≡ said_by answer) →
+    OnOk r (said_by answer ≡ Ok same_text) →
+    OnOk r (IfSome told (λ files. over_file (comparison_of text) (files name) ≡ Ok same_text))
 compared-ok told name text answer (Ok done) is same = over told is
   where
-    over : (told : Option FileMap) → IfSome told (λ files. over_file (compared text) (files name) ≡ said_by answer) → IfSome told (λ files. over_file (compared text) (files name) ≡ Ok same_text)
+    over : (told : Option FileMap) →
+        IfSome told (λ files. over_file (comparison_of text) (files name) ≡ said_by answer) →
+        IfSome told (λ files. over_file (comparison_of text) (files name) ≡ Ok same_text)
     over None is = tt
     over (Some files) is = is ∙ same
 compared-ok told name text answer (Err stop) is same = tt
 
-pub compared-stop : (told : Option FileMap) (name text : List ℕ) (answer : Checked) (before after : ℕ) (r : Result Unit Stop) → IfSome told (λ files. over_file (compared text) (files name) ≡ said_by answer) →
-    IfErr r (IsStopOf (said_by answer)) → IfErr r (IsStop told (λ files x. over_file (compared text) (files name) ≡ Err x) before after)
+pub compared-stop : (told : Option FileMap) (name text : List ℕ)
+    (answer : Checked) (before after : ℕ) (r : Result Unit Stop) →
+    IfSome told (λ files. over_file (comparison_of text) (files name) ≡ said_by answer) →
+    IfErr r (IsStopOf (said_by answer)) → IfErr r
+    (IsStop told (λ files x. over_file (comparison_of text) (files name) ≡ Err x) before after)
 compared-stop told name text answer before after (Ok done) is stops = tt
 compared-stop told name text answer before after (Err stop) is stops = over told stop is stops
   where
-    over : (told : Option FileMap) (stop : Stop) → IfSome told (λ files. over_file (compared text) (files name) ≡ said_by answer) → IsStopOf (said_by answer) stop →
-        IsStop told (λ files x. over_file (compared text) (files name) ≡ Err x) before after stop
+    over : (told : Option FileMap) (stop : Stop) →
+        IfSome told (λ files. over_file (comparison_of text) (files name) ≡ said_by answer) →
+        IsStopOf (said_by answer) stop →
+        IsStop told
+        (λ files x. over_file (comparison_of text) (files name) ≡ Err x) before after stop
     over None (in_stop.Refused refusal) is stops = tt
     over None (in_stop.Differs line) is stops = tt
     over None in_stop.Read is stops = absurd stops
@@ -148,16 +195,20 @@ compared-stop told name text answer before after (Err stop) is stops = over told
     over (Some files) in_stop.NoMemory is stops = tt
 
 -- what ends by a difference has no other way to end
-pub difference-kept : (r : Result Unit Stop) (Kept : Type 0) → IfErr r (λ stop. is_difference stop ≡ true) → IfErr r (λ stop. is_difference stop ≡ false → Kept)
+pub difference-kept : (r : Result Unit Stop) (Kept : Type 0) →
+    IfErr r (λ stop. is_difference stop ≡ true) →
+    IfErr r (λ stop. is_difference stop ≡ false → Kept)
 difference-kept (Ok done) Kept is = tt
 difference-kept (Err stop) Kept is = λ none. absurd (cc)
 
-or-map : {A B : Type 0} → (g : A → B) (o p : Option A) → option_map g (option_or o p) ≡ option_or (option_map g o) (option_map g p)
+or-map : {A B : Type 0} → (g : A → B) (o p : Option A) →
+    option_map g (option_or o p) ≡ option_or (option_map g o) (option_map g p)
 or-map g None p = refl
 or-map g (Some x) p = refl
 
 -- the last input's word
-pub last-word : (inputs : List Input) (c : ℕ) → option_map (λ (input : Input). input.word) (find (λ (input : Input). nat_le input.at c) (reverse inputs)) ≡
+pub last-word : (inputs : List Input) (c : ℕ) → option_map (λ (input : Input). input.word)
+    (find (λ (input : Input). nat_le input.at c) (reverse inputs)) ≡
     input_at (map (λ (input : Input). (input.at, input.word)) inputs) c
 last-word [] c = refl
 last-word (x ∷ inputs) c =
@@ -166,46 +217,60 @@ last-word (x ∷ inputs) c =
     let soon : ℕ × ℕ → Bool = λ input. nat_le input.0 c in
     let word : Input → ℕ = λ input. input.word in
     let second : ℕ × ℕ → ℕ = λ input. input.1 in
-    let one : option_map word (find early (x ∷ [])) ≡ option_map second (find soon (pair x ∷ [])) = same_found (nat_le x.at c) in
+    let one : option_map word (find early (x ∷ [])) ≡ option_map second (find soon (pair x ∷ [])) =
+    same_found (nat_le x.at c) in
     ap (λ xs. option_map word (find early xs)) (reverse-append (x ∷ []) inputs)
     ∙ ap (option_map word) (find-append early (reverse inputs) (x ∷ []))
     ∙ or-map word (find early (reverse inputs)) (find early (x ∷ []))
     ∙ ap₂ (λ (o p : Option ℕ). option_or o p) (last-word inputs c) one
     ∙ sym (or-map second (find soon (reverse (map pair inputs))) (find soon (pair x ∷ [])))
     ∙ sym (ap (option_map second) (find-append soon (reverse (map pair inputs)) (pair x ∷ [])))
-    ∙ sym (ap (λ xs. option_map second (find soon xs)) (reverse-append (pair x ∷ []) (map pair inputs)))
+    ∙ sym
+    (ap (λ xs. option_map second (find soon xs)) (reverse-append (pair x ∷ []) (map pair inputs)))
   where
-    same_found : (b : Bool) → option_map (λ (input : Input). input.word) (cond b (Some x) None) ≡ option_map (λ (input : ℕ × ℕ). input.1) (cond b (Some (x.at, x.word)) None)
+    same_found : (b : Bool) → option_map (λ (input : Input). input.word) (cond b (Some x) None)
+        ≡ option_map (λ (input : ℕ × ℕ). input.1) (cond b (Some (x.at, x.word)) None)
     same_found true = refl
     same_found false = refl
 
 -- later inputs come at later cycles
-pub no-later : (inputs : List Input) → AreInputs inputs → IsNonDecreasingBy (λ (input : Input). input.at) inputs
+pub no-later : (inputs : List Input) → AreInputs inputs →
+    IsNonDecreasingBy (λ (input : Input). input.at) inputs
 no-later inputs are i j d from within =
     elim (cases_lt i j) [
       | inl before ↦ (let later = are.rising i j d before within in omega (arith, later))
       | inr past ↦ (let same : i ≡ j = omega (arith, from, past) in rw same (omega arith))
     ]
 
-last-there : {A : Type 0} → (x : A) (xs : List A) → (last : A) × (slice_get (x ∷ xs) (length xs) ≡ Some last)
+last-there : {A : Type 0} → (x : A) (xs : List A) →
+    (last : A) × (slice_get (x ∷ xs) (length xs) ≡ Some last)
 last-there x [] = (x, refl)
 last-there x (y ∷ xs) = last-there y xs
 
 -- the last element that passes a test, where those that pass it stand before those that don't
-pub last-found : {A : Type 0} → (p : A → Bool) (xs : List A) (i : ℕ) → i ≤ length xs → AllWithin (λ x. p x ≡ true) xs 0 i → AllWithin (λ x. p x ≡ false) xs i (length xs) →
+pub last-found : {A : Type 0} → (p : A → Bool) (xs : List A) (i : ℕ) → i ≤ length xs →
+    AllWithin (λ x. p x ≡ true) xs 0 i → AllWithin (λ x. p x ≡ false) xs i (length xs) →
     slice_get (take i xs) (length (take i xs) - 1) ≡ find p (reverse xs)
 last-found p [] zero within pass fail = refl
 last-found p [] (suc i) within pass fail = refl
 last-found p (x ∷ xs) zero within pass fail =
-    let none : find p (x ∷ []) ≡ None = ap (λ b. cond b (Some x) None) (fail 0 x (omega arith) (omega arith)) in
-    let before = last-found p xs zero (omega arith) (λ k d low high. absurd (omega (arith, high))) (λ k d low high. fail (suc k) d (omega arith) (omega (arith, high))) in
-    sym (ap (find p) (reverse-append (x ∷ []) xs) ∙ find-append p (reverse xs) (x ∷ []) ∙ ap₂ option_or (sym before) none)
+    let none : find p (x ∷ []) ≡ None =
+    ap (λ b. cond b (Some x) None) (fail 0 x (omega arith) (omega arith)) in
+    let before = last-found p xs zero (omega arith) (λ k d low high. absurd (omega (arith, high)))
+    (λ k d low high. fail (suc k) d (omega arith) (omega (arith, high))) in
+    sym (ap (find p) (reverse-append (x ∷ []) xs) ∙ find-append p (reverse xs) (x ∷ [])
+    ∙ ap₂ option_or (sym before) none)
 last-found {A = A} p (x ∷ xs) (suc i) within pass fail =
-    let one : find p (x ∷ []) ≡ Some x = ap (λ b. cond b (Some x) None) (pass 0 x (omega arith) (omega arith)) in
-    let after = last-found p xs i (omega (arith, within)) (λ k d low high. pass (suc k) d (omega arith) (omega (arith, high))) (λ k d low high. fail (suc k) d (omega (arith, low)) (omega (arith, high))) in
-    sym (ap (find p) (reverse-append (x ∷ []) xs) ∙ find-append p (reverse xs) (x ∷ []) ∙ ap₂ option_or (sym after) one ∙ go (take i xs))
+    let one : find p (x ∷ []) ≡ Some x =
+    ap (λ b. cond b (Some x) None) (pass 0 x (omega arith) (omega arith)) in
+    let after = last-found p xs i (omega (arith, within))
+    (λ k d low high. pass (suc k) d (omega arith) (omega (arith, high)))
+    (λ k d low high. fail (suc k) d (omega (arith, low)) (omega (arith, high))) in
+    sym (ap (find p) (reverse-append (x ∷ []) xs) ∙ find-append p (reverse xs) (x ∷ [])
+    ∙ ap₂ option_or (sym after) one ∙ go (take i xs))
   where
-    go : (ys : List A) → option_or (slice_get ys (length ys - 1)) (Some x) ≡ slice_get (x ∷ ys) (length (x ∷ ys) - 1)
+    go : (ys : List A) →
+        option_or (slice_get ys (length ys - 1)) (Some x) ≡ slice_get (x ∷ ys) (length (x ∷ ys) - 1)
     go [] = refl
     go (y ∷ ys) =
         let (last, is) = last-there y ys in
@@ -214,7 +279,10 @@ last-found {A = A} p (x ∷ xs) (suc i) within pass fail =
         rw (here, more, is) refl
 
 -- a port that was taken out and is put back as it was leaves all as they were
-pub rows-back : {B : Type 0} → (latched : B → ℕ) (word_at : B → ℕ → ℕ) (ports : List (Option B)) (thread : ℕ) (gone x taken y : Option B) → x ≡ get_or ports thread x → thread < length ports → taken ≡ x →
-    row_of latched word_at y ≡ row_of latched word_at taken → rows_of latched word_at (set (set ports thread gone) thread y) ≡ rows_of latched word_at ports
+pub rows-back : {B : Type 0} → (latched : B → ℕ) (word_at : B → ℕ → ℕ) (ports : List (Option B))
+    (thread : ℕ) (gone x taken y : Option B) → x ≡ get_or ports thread x →
+    thread < length ports → taken ≡ x → row_of latched word_at y ≡ row_of latched word_at taken →
+    rows_of latched word_at (set (set ports thread gone) thread y) ≡ rows_of latched word_at ports
 rows-back latched word_at ports thread gone x taken y read inside is same =
-    ap (rows_of latched word_at) (set-set ports thread gone y) ∙ rows_stay latched word_at ports thread x y read inside (same ∙ ap (row_of latched word_at) is)
+    ap (rows_of latched word_at) (set-set ports thread gone y)
+    ∙ rows_stay latched word_at ports thread x y read inside (same ∙ ap (row_of latched word_at) is)

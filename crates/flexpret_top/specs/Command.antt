@@ -6,7 +6,8 @@ use Rattle.command_files.specs.declared.program.Program.{Program}
 use Rattle.fp_io.specs.Content.{FileMap}
 use Rattle.ask_words.specs.Commands.{ask}
 use Rattle.ask_words.specs.declared.asked.Ask.{Ask}
-use Rattle.ask_words.specs.declared.asked.Ask.TheVariants.{Run, Dump, Asm, Bound, Selfrun, Phases, Solo, Check, Elf, Calls}
+use Rattle.ask_words.specs.declared.asked.Ask.TheVariants.{Run, Dump, Asm, Bound, Selfrun}
+use Rattle.ask_words.specs.declared.asked.Ask.TheVariants.{Phases, Solo, Check, Elf, Calls}
 use Rattle.selfrun.specs.Text.{selfrun_text}
 use Rattle.command_files.specs.Answer.{Answer, IsSaid, WritesFront, IsAnswered}
 use Rattle.command_files.specs.Answer.Answer.{Says}
@@ -17,19 +18,22 @@ use Rattle.command_files.specs.CallsAnswer.{IsCallsAnswer}
 use Rattle.command_files.specs.Elf.{elf_answer}
 use Rattle.command_files.specs.Program.{program}
 use Rattle.flexpret_top.specs.Run.{start_of, run_answer, dump_answer, phases_answer}
-use Rattle.fp_ports.specs.Rows.{Row}
+use Rattle.fp_ports.specs.PluggedPorts.{Row}
 
--- The answer of a command over the files and the ports as they are handed in. That of `bound` is a relation, and that of
--- `calls`: a bound is the largest cost of a walk.
+-- The answer of a command over the files and the ports as they are handed in. That of `bound` is a
+-- relation, and that of `calls`: a bound is the largest cost of a walk.
 abbrev pub IsAnswerOf : Ask → FileMap → List (Option Row) → Answer → Type 0
 IsAnswerOf (Run setup thread cycles) files ports x = x ≡ run_answer files ports setup thread cycles
 IsAnswerOf (Dump setup cycles) files ports x = x ≡ dump_answer files ports setup cycles
 IsAnswerOf (Asm source) files ports x = x ≡ asm_answer files source
-IsAnswerOf (Bound setup thread section) files ports x = IsBoundAnswer (program files setup) thread section x
+IsAnswerOf (Bound setup thread section) files ports x =
+    IsBoundAnswer (program files setup) thread section x
 IsAnswerOf (Selfrun number) files ports x = x ≡ Says 0 (selfrun_text number)
 IsAnswerOf (Phases setup cycles) files ports x = x ≡ phases_answer files ports setup cycles
-IsAnswerOf (Solo setup thread cycles) files ports x = x ≡ solo_answer files ports setup thread cycles
-IsAnswerOf (Check setup thread cycles trace) files ports x = x ≡ check_answer files ports setup thread cycles trace
+IsAnswerOf (Solo setup thread cycles) files ports x =
+    x ≡ solo_answer files ports setup thread cycles
+IsAnswerOf (Check setup thread cycles trace) files ports x =
+    x ≡ check_answer files ports setup thread cycles trace
 IsAnswerOf (Elf file) files ports x = x ≡ elf_answer files file
 IsAnswerOf (Calls setup thread section routines) files ports x =
     IsCallsAnswer (program files setup) thread section (files routines) x
@@ -45,9 +49,10 @@ IsAnswerTo (Some asked) files ports x = IsAnswerOf asked files ports x
 abbrev pub IsAnswer : List (List ℕ) → FileMap → List (Option Row) → Answer → Type 0
 IsAnswer words files ports x = IsAnswerTo (ask words) files ports x
 
--- After so many cycles a port is there where it was handed in and isn't unplugged yet; it has the latch of the world, and
--- shows what it showed when it was handed in, with the setup's inputs fed.
-pub record LeavesMachine (files : FileMap) (name : List ℕ) (n : ℕ) (before after : List (Option Row)) : Type 0 where
+-- After so many cycles a port is there where it was handed in and isn't unplugged yet; it has the
+-- latch of the world, and shows what it showed when it was handed in, with the setup's inputs fed.
+pub record LeavesMachine (files : FileMap) (name : List ℕ) (n : ℕ)
+    (before after : List (Option Row)) : Type 0 where
   pub made : Program
   pub is : program files name ≡ Ok made
   pub ports : PortsAfter (start_of made before n) n (fed_all made.setup before) after
@@ -66,7 +71,8 @@ Leaves (Elf file) files before after = after ≡ before
 Leaves (Calls setup thread section routines) files before after = after ≡ before
 
 -- The same where the sink failed within the text: the ports are those after some of the cycles.
-pub record LeavesPartOfRun (files : FileMap) (name : List ℕ) (n : ℕ) (before after : List (Option Row)) : Type 0 where
+pub record LeavesPartOfRun (files : FileMap) (name : List ℕ) (n : ℕ)
+    (before after : List (Option Row)) : Type 0 where
   pub made : Program
   pub is : program files name ≡ Ok made
   pub cycles : ℕ
@@ -75,18 +81,22 @@ pub record LeavesPartOfRun (files : FileMap) (name : List ℕ) (n : ℕ) (before
 
 -- what stands in the ports after a text that was cut short
 abbrev pub LeavesInPart : Ask → FileMap → List (Option Row) → List (Option Row) → Type 0
-LeavesInPart (Run setup thread cycles) files before after = LeavesPartOfRun files setup cycles before after
+LeavesInPart (Run setup thread cycles) files before after =
+    LeavesPartOfRun files setup cycles before after
 LeavesInPart (Dump setup cycles) files before after = LeavesMachine files setup cycles before after
-LeavesInPart (Phases setup cycles) files before after = LeavesPartOfRun files setup cycles before after
+LeavesInPart (Phases setup cycles) files before after =
+    LeavesPartOfRun files setup cycles before after
 LeavesInPart _ files before after = after ≡ before
 
 -- after status 8: a refusal's line leaves the ports as they were
 abbrev pub LeavesCutShort : Option Ask → FileMap → List (Option Row) → List (Option Row) → Type 0
 LeavesCutShort None files before after = after ≡ before
-LeavesCutShort (Some asked) files before after = (after ≡ before) ⊎ LeavesInPart asked files before after
+LeavesCutShort (Some asked) files before after =
+    (after ≡ before) ⊎ LeavesInPart asked files before after
 
 -- Some of the inputs of a setup were fed.
-pub record IsFedInPart (files : FileMap) (name : List ℕ) (before after : List (Option Row)) : Type 0 where
+pub record IsFedInPart (files : FileMap) (name : List ℕ)
+    (before after : List (Option Row)) : Type 0 where
   pub made : Program
   pub is : program files name ≡ Ok made
   pub fed : IsFedFront made.setup before after
@@ -112,13 +122,13 @@ LeavesBy None files before after = after ≡ before
 LeavesBy (Some asked) files before after = Leaves asked files before after
 
 -- a command in which no port plays a part
-abbrev pub IsApart : Ask → Type 0
-IsApart (Run setup thread cycles) = ⊥
-IsApart (Dump setup cycles) = ⊥
-IsApart (Phases setup cycles) = ⊥
-IsApart (Solo setup thread cycles) = ⊥
-IsApart (Check setup thread cycles trace) = ⊥
-IsApart _ = Unit {0}
+abbrev pub UsesNoPort : Ask → Type 0
+UsesNoPort (Run setup thread cycles) = ⊥
+UsesNoPort (Dump setup cycles) = ⊥
+UsesNoPort (Phases setup cycles) = ⊥
+UsesNoPort (Solo setup thread cycles) = ⊥
+UsesNoPort (Check setup thread cycles trace) = ⊥
+UsesNoPort _ = Unit {0}
 
 -- a command that only reads a port
 abbrev pub OnlyReads : Ask → Type 0
@@ -130,9 +140,9 @@ abbrev pub OnlyReadsBy : Option Ask → Type 0
 OnlyReadsBy None = ⊥
 OnlyReadsBy (Some asked) = OnlyReads asked
 
-abbrev pub IsApartBy : Option Ask → Type 0
-IsApartBy None = Unit {0}
-IsApartBy (Some asked) = IsApart asked
+abbrev pub UsesNoPortBy : Option Ask → Type 0
+UsesNoPortBy None = Unit {0}
+UsesNoPortBy (Some asked) = UsesNoPort asked
 
 -- a status is that of such an answer, and its whole text was written
 pub record Said (Is : Answer → Type 0) (status : ℕ) (before after : Option (List ℕ)) : Type 0 where

@@ -3,7 +3,7 @@ use Rattle.std.specs.Prelude.{◌≡◌, ℕ, ◌-◌, ◌≤◌, List, Option, 
 use Rattle.std.specs.Io.KnownBytes.{Appends}
 use Rattle.fp_io.specs.Content.{FileMap}
 use Rattle.region_guard.specs.MemoryMap.{large_size}
-use Rattle.fp_ports.specs.Rows.{Row}
+use Rattle.fp_ports.specs.PluggedPorts.{Row}
 use Rattle.ask_words.specs.declared.asked.Ask.{Ask}
 use Rattle.ask_words.specs.declared.asked.Ask.TheVariants.{Run, Bound, Solo, Elf, Calls}
 use Rattle.bound_calc.specs.Bound.{IsBound, course}
@@ -11,7 +11,8 @@ use Rattle.call_bounds.specs.RoutinesFile.{routines_of}
 use Rattle.call_bounds.specs.declared.routines.Routine.{Routine}
 use Rattle.call_bounds.specs.CallWalk.{IsCallBound, route}
 use Rattle.call_bounds.specs.Listing.{calls}
-use Rattle.section_visits.specs.CallVisits.{IsCallVisit, KeepsReturns, KeepsBounds as KeepsCallBounds}
+use Rattle.section_visits.specs.CallVisits.{IsCallVisit, KeepsReturns}
+use Rattle.section_visits.specs.CallVisits.{KeepsBounds as KeepsCallBounds}
 use Rattle.core_model.specs.Solo.{solo}
 use Rattle.fp_elf.specs.Elf.{elf_of}
 use Rattle.fp_setup.specs.Rules.{KeepsRules}
@@ -20,11 +21,13 @@ use Rattle.fp_image.specs.Format.{image_of}
 use Rattle.fp_image.specs.declared.parts.Segment.{Segment}
 use Rattle.region_tree.specs.Tree.{graph}
 use Rattle.region_tree.specs.declared.section.Section.{Section}
-use Rattle.phase_model.specs.Phased.{phased}
+use Rattle.core_model.specs.Phased.{phased}
 use Rattle.run_laws.specs.RetiredTraces.{IsRetiredQuiet, KeepsRetiredRegions}
-use Rattle.run_laws.specs.TraceLaws.{Machine, IsConfinedHard, IsConfinedThrough, IsQuiet, KeepsRegions, phases_in, trace, view_of}
+use Rattle.run_laws.specs.TraceLaws.{Machine, IsConfinedHard, IsConfinedThrough}
+use Rattle.run_laws.specs.TraceLaws.{IsQuiet, KeepsRegions, phases_in, trace, view_of}
 use Rattle.section_visits.specs.InSettings.{Throughout}
-use Rattle.section_visits.specs.SetupInSettings.{HasSameWords, HasSameWordsOfParts, IsSetIn, KeepsScheduling, StartsHard}
+use Rattle.section_visits.specs.SetupInSettings.{HasSameWords, HasSameWordsOfParts}
+use Rattle.section_visits.specs.SetupInSettings.{IsSetIn, KeepsScheduling, StartsHard}
 use Rattle.section_visits.specs.SetupCallVisitBound.{IsAlikeInParts}
 use Rattle.section_visits.specs.SetupVisitBound.{IsAlike, issues}
 use Rattle.trace_print.specs.Bounds.{bound_text}
@@ -39,60 +42,80 @@ use Rattle.command_files.specs.Program.{program}
 abbrev pub machine_of : Program → List (Option Row) → Machine
 machine_of p ports = record { setup = p.setup; image = p.image; ports = ports }
 
--- For every confined hard thread, in a run that writes none of the machine's own registers, what `run` wrote is the
--- text of the one-thread definition over the thread's view: its own code, slots, private memory and inputs.
-abbrev pub WritesAlone : Option Ask → FileMap → List (Option Row) → Option (List ℕ) → Option (List ℕ) → Type 0
+-- For every confined hard thread, in a run that writes none of the machine's own registers, what
+-- `run` wrote is the text of the one-thread definition over the thread's view: its own code, slots,
+-- private memory and inputs.
+abbrev pub WritesAlone : Option Ask → FileMap → List (Option Row) → Option (List ℕ) →
+    Option (List ℕ) → Type 0
 WritesAlone (Some (Run setup i n)) files ports before after =
-    (p : Program) → program files setup ≡ Ok p → IsConfinedHard (machine_of p ports) i → IsQuiet (machine_of p ports) n →
+    (p : Program) → program files setup ≡ Ok p →
+    IsConfinedHard (machine_of p ports) i → IsQuiet (machine_of p ports) n →
     Appends before after (text (solo (view_of (machine_of p ports) i n) n))
 WritesAlone _ files ports before after = Unit {0}
 
--- What `run` wrote of a confined thread, where only issues that have retired leave registers unwritten: those in flight
--- after n cycles may write them. The two clauses before and after follow from it.
+-- What `run` wrote of a confined thread, where only issues that have retired leave registers
+-- unwritten: those in flight after n cycles may write them. The two clauses before and after follow
+-- from it.
 pub record IsWrittenAlone (m : Machine) (i n : ℕ) (before after : Option (List ℕ)) : Type 0 where
-  pub alone : IsConfinedHard m i → IsRetiredQuiet m n → Appends before after (text (solo (view_of m i n) n))
-  pub phased : IsConfinedThrough m i n → KeepsRetiredRegions m n → Appends before after (text (phased (view_of m i n) (phases_in m n) n))
+  pub alone : IsConfinedHard m i → IsRetiredQuiet m n →
+      Appends before after (text (solo (view_of m i n) n))
+  pub phased : IsConfinedThrough m i n → KeepsRetiredRegions m n →
+      Appends before after (text (phased (view_of m i n) (phases_in m n) n))
 
-abbrev pub WritesRetired : Option Ask → FileMap → List (Option Row) → Option (List ℕ) → Option (List ℕ) → Type 0
+abbrev pub WritesRetired : Option Ask → FileMap → List (Option Row) → Option (List ℕ) →
+    Option (List ℕ) → Type 0
 WritesRetired (Some (Run setup i n)) files ports before after =
-    (p : Program) → program files setup ≡ Ok p → IsWrittenAlone (machine_of p ports) i n before after
+    (p : Program) → program files setup ≡ Ok p →
+    IsWrittenAlone (machine_of p ports) i n before after
 WritesRetired _ files ports before after = Unit {0}
 
--- In a run that writes none of the machine's own registers, what `solo` wrote is the trace that the machine has, which
--- `run` writes.
-abbrev pub WritesAsRun : Option Ask → FileMap → List (Option Row) → Option (List ℕ) → Option (List ℕ) → Type 0
+-- In a run that writes none of the machine's own registers, what `solo` wrote is the trace that the
+-- machine has, which `run` writes.
+abbrev pub WritesAsRun : Option Ask → FileMap → List (Option Row) → Option (List ℕ) →
+    Option (List ℕ) → Type 0
 WritesAsRun (Some (Solo setup i n)) files ports before after =
-    (p : Program) → program files setup ≡ Ok p → IsQuiet (machine_of p ports) n → Appends before after (trace (machine_of p ports) i n)
+    (p : Program) → program files setup ≡ Ok p → IsQuiet (machine_of p ports) n →
+    Appends before after (trace (machine_of p ports) i n)
 WritesAsRun _ files ports before after = Unit {0}
 
--- For every confined thread that no setting of the run makes soft active, in a run that writes no region register, what
--- `run` wrote is the text of the one-thread definition over the thread's view and these settings, whose lines `phases`
--- writes.
-abbrev pub WritesByPhases : Option Ask → FileMap → List (Option Row) → Option (List ℕ) → Option (List ℕ) → Type 0
+-- For every confined thread that no setting of the run makes soft active, in a run that writes no
+-- region register, what `run` wrote is the text of the one-thread definition over the thread's view
+-- and these settings, whose lines `phases` writes.
+abbrev pub WritesByPhases : Option Ask → FileMap → List (Option Row) → Option (List ℕ) →
+    Option (List ℕ) → Type 0
 WritesByPhases (Some (Run setup i n)) files ports before after =
-    (p : Program) → program files setup ≡ Ok p → IsConfinedThrough (machine_of p ports) i n → KeepsRegions (machine_of p ports) n →
-    Appends before after (text (phased (view_of (machine_of p ports) i n) (phases_in (machine_of p ports) n) n))
+    (p : Program) → program files setup ≡ Ok p →
+    IsConfinedThrough (machine_of p ports) i n → KeepsRegions (machine_of p ports) n →
+    Appends before after
+    (text (phased (view_of (machine_of p ports) i n) (phases_in (machine_of p ports) n) n))
 WritesByPhases _ files ports before after = Unit {0}
 
--- What `bound` wrote is the line of a number of cycles which some walk through the section costs, and which no visit of
--- the section takes longer than: in no quiet run of any machine whose setup keeps the rules, as each accepted one does,
--- with the thread hard, the same slots and the same words in the section, while the visit keeps the stated loop bounds.
--- It is enough that no issue writes slots or modes, and that the words are the same which the section can reach; and for
--- one visit, that picking uses these slots throughout, and that the thread is hard and active.
-pub record IsLongest (p : Program) (i : ℕ) (section : Section) (before after : Option (List ℕ)) : Type 0 where
+-- What `bound` wrote is the line of a number of cycles which some walk through the section costs,
+-- and which no visit of the section takes longer than: in no quiet run of any machine whose setup
+-- keeps the rules, as each accepted one does, with the thread hard, the same slots and the same
+-- words in the section, while the visit keeps the stated loop bounds. It is enough that no issue
+-- writes slots or modes, and that the words are the same which the section can reach; and for one
+-- visit, that picking uses these slots throughout, and that the thread is hard and active.
+pub record IsLongest (p : Program) (i : ℕ) (section : Section)
+    (before after : Option (List ℕ)) : Type 0 where
   pub cycles : ℕ
   pub wrote : Appends before after (bound_text cycles)
   pub met : IsBound (course (section_tree p section) p.setup.slots i) cycles
-  pub longest : (m : Machine) (n : ℕ) → KeepsRules m.setup → IsAlike m i p.setup.slots p.image section → IsQuiet m n →
-      (last : Issued) (earlier : List Issued) → IsVisit (graph (section_tree p section)) (issues m i n) last earlier → KeepsBounds (section_tree p section).loops last earlier →
+  pub longest : (m : Machine) (n : ℕ) → KeepsRules m.setup →
+      IsAlike m i p.setup.slots p.image section → IsQuiet m n →
+      (last : Issued) (earlier : List Issued) → IsVisit (graph (section_tree p section))
+      (issues m i n) last earlier → KeepsBounds (section_tree p section).loops last earlier →
       last.cycle - (first_of last earlier).cycle ≤ cycles
   pub while_scheduled : (m : Machine) (n : ℕ) → KeepsRules m.setup → StartsHard m i p.setup.slots →
       HasSameWords m (section_tree p section) p.image → KeepsScheduling m n →
-      (last : Issued) (earlier : List Issued) → IsVisit (graph (section_tree p section)) (issues m i n) last earlier → KeepsBounds (section_tree p section).loops last earlier →
+      (last : Issued) (earlier : List Issued) → IsVisit (graph (section_tree p section))
+      (issues m i n) last earlier → KeepsBounds (section_tree p section).loops last earlier →
       last.cycle - (first_of last earlier).cycle ≤ cycles
-  pub in_settings : (m : Machine) (n : ℕ) → KeepsRules m.setup → HasSameWords m (section_tree p section) p.image →
-      (last : Issued) (earlier : List Issued) → Throughout (IsSetIn m i p.setup.slots n) (first_of last earlier).cycle last.cycle →
-      IsVisit (graph (section_tree p section)) (issues m i n) last earlier → KeepsBounds (section_tree p section).loops last earlier →
+  pub in_settings : (m : Machine) (n : ℕ) → KeepsRules m.setup →
+      HasSameWords m (section_tree p section) p.image → (last : Issued) (earlier : List Issued) →
+      Throughout (IsSetIn m i p.setup.slots n) (first_of last earlier).cycle last.cycle →
+      IsVisit (graph (section_tree p section)) (issues m i n) last earlier →
+      KeepsBounds (section_tree p section).loops last earlier →
       last.cycle - (first_of last earlier).cycle ≤ cycles
 
 abbrev pub BoundsVisits : Option Ask → FileMap → Option (List ℕ) → Option (List ℕ) → Type 0
@@ -100,30 +123,40 @@ BoundsVisits (Some (Bound setup i section)) files before after =
     (p : Program) → program files setup ≡ Ok p → IsLongest p i section before after
 BoundsVisits _ files before after = Unit {0}
 
--- What `calls` wrote is the line of a number of cycles which some call walk through the section and its routines costs that
--- keeps the loops' bounds, and which no call visit of the section takes longer than: in no quiet run of any machine whose
--- setup keeps the rules, as each accepted one does, with the thread hard, the same slots and the same words in all reached
--- parts, while the visit keeps returns and the stated loop bounds. As for `bound`, less is enough.
-pub record IsLongestByCalls (p : Program) (i : ℕ) (section : Section) (file : List ℕ) (before after : Option (List ℕ)) : Type 0 where
+-- What `calls` wrote is the line of a number of cycles which some call walk through the section and
+-- its routines costs that keeps the loops' bounds, and which no call visit of the section takes
+-- longer than: in no quiet run of any machine whose setup keeps the rules, as each accepted one
+-- does, with the thread hard, the same slots and the same words in all reached parts, while the
+-- visit keeps returns and the stated loop bounds. As for `bound`, less is enough.
+pub record IsLongestByCalls (p : Program) (i : ℕ) (section : Section) (file : List ℕ)
+    (before after : Option (List ℕ)) : Type 0 where
   pub routines : List Routine
   pub listed : routines_of (size_of p.setup.version) file ≡ Ok routines
   pub cycles : ℕ
   pub wrote : Appends before after (bound_text cycles)
   pub met : IsCallBound (route (calls (section_listing p section routines)) p.setup.slots i) cycles
-  pub longest : (m : Machine) (n : ℕ) → KeepsRules m.setup → IsAlikeInParts m i p.setup.slots (calls (section_listing p section routines)) →
-      IsQuiet m n → (last : Issued) (earlier : List Issued) → IsCallVisit (calls (section_listing p section routines)) (issues m i n) last earlier →
-      KeepsReturns (calls (section_listing p section routines)) last earlier →
-      KeepsCallBounds (calls (section_listing p section routines)) last earlier → last.cycle - (first_of last earlier).cycle ≤ cycles
-  pub while_scheduled : (m : Machine) (n : ℕ) → KeepsRules m.setup → StartsHard m i p.setup.slots →
-      HasSameWordsOfParts m (calls (section_listing p section routines)) → KeepsScheduling m n →
-      (last : Issued) (earlier : List Issued) → IsCallVisit (calls (section_listing p section routines)) (issues m i n) last earlier →
-      KeepsReturns (calls (section_listing p section routines)) last earlier →
-      KeepsCallBounds (calls (section_listing p section routines)) last earlier → last.cycle - (first_of last earlier).cycle ≤ cycles
-  pub in_settings : (m : Machine) (n : ℕ) → KeepsRules m.setup → HasSameWordsOfParts m (calls (section_listing p section routines)) →
-      (last : Issued) (earlier : List Issued) → Throughout (IsSetIn m i p.setup.slots n) (first_of last earlier).cycle last.cycle →
+  pub longest : (m : Machine) (n : ℕ) → KeepsRules m.setup →
+      IsAlikeInParts m i p.setup.slots (calls (section_listing p section routines)) →
+      IsQuiet m n → (last : Issued) (earlier : List Issued) →
       IsCallVisit (calls (section_listing p section routines)) (issues m i n) last earlier →
       KeepsReturns (calls (section_listing p section routines)) last earlier →
-      KeepsCallBounds (calls (section_listing p section routines)) last earlier → last.cycle - (first_of last earlier).cycle ≤ cycles
+      KeepsCallBounds (calls (section_listing p section routines)) last earlier →
+      last.cycle - (first_of last earlier).cycle ≤ cycles
+  pub while_scheduled : (m : Machine) (n : ℕ) → KeepsRules m.setup → StartsHard m i p.setup.slots →
+      HasSameWordsOfParts m (calls (section_listing p section routines)) → KeepsScheduling m n →
+      (last : Issued) (earlier : List Issued) →
+      IsCallVisit (calls (section_listing p section routines)) (issues m i n) last earlier →
+      KeepsReturns (calls (section_listing p section routines)) last earlier →
+      KeepsCallBounds (calls (section_listing p section routines)) last earlier →
+      last.cycle - (first_of last earlier).cycle ≤ cycles
+  pub in_settings : (m : Machine) (n : ℕ) → KeepsRules m.setup →
+      HasSameWordsOfParts m (calls (section_listing p section routines)) →
+      (last : Issued) (earlier : List Issued) →
+      Throughout (IsSetIn m i p.setup.slots n) (first_of last earlier).cycle last.cycle →
+      IsCallVisit (calls (section_listing p section routines)) (issues m i n) last earlier →
+      KeepsReturns (calls (section_listing p section routines)) last earlier →
+      KeepsCallBounds (calls (section_listing p section routines)) last earlier →
+      last.cycle - (first_of last earlier).cycle ≤ cycles
 
 abbrev pub BoundsCallVisits : Option Ask → FileMap → Option (List ℕ) → Option (List ℕ) → Type 0
 BoundsCallVisits (Some (Calls setup i section routines)) files before after =
@@ -131,7 +164,8 @@ BoundsCallVisits (Some (Calls setup i section routines)) files before after =
     IsLongestByCalls p i section file before after
 BoundsCallVisits _ files before after = Unit {0}
 
--- What `elf` wrote is a file that is read, for scratchpads of 65,536 bytes, as the image that the executable defines.
+-- What `elf` wrote is a file that is read, for scratchpads of 65,536 bytes, as the image that the
+-- executable defines.
 pub record IsImported (file : List ℕ) (before after : Option (List ℕ)) : Type 0 where
   pub image : List Segment
   pub defined : elf_of file ≡ Ok image
@@ -140,5 +174,6 @@ pub record IsImported (file : List ℕ) (before after : Option (List ℕ)) : Typ
   pub read_back : image_of large_size bytes ≡ Ok image
 
 abbrev pub WritesImage : Option Ask → FileMap → Option (List ℕ) → Option (List ℕ) → Type 0
-WritesImage (Some (Elf name)) files before after = (file : List ℕ) → files name ≡ Some file → IsImported file before after
+WritesImage (Some (Elf name)) files before after =
+    (file : List ℕ) → files name ≡ Some file → IsImported file before after
 WritesImage _ files before after = Unit {0}

@@ -5,7 +5,6 @@ pub mod Requests
 pub mod Endings
 pub mod Prepared
 pub mod Headline
-pub mod Status
 pub use Rattle.ask_words.specs.Commands
 pub use Rattle.ask_words.specs.Limits
 pub use Rattle.ask_words.specs.declared.asked.Ask
@@ -28,7 +27,7 @@ pub use Rattle.fp_image.specs.declared.parts.Segment
 pub use Rattle.fp_io.specs.Causes
 pub use Rattle.fp_io.specs.Content
 pub use Rattle.fp_io.specs.Memory
-pub use Rattle.fp_ports.specs.Rows
+pub use Rattle.fp_ports.specs.PluggedPorts
 pub use Rattle.fp_ports.specs.ShownWords
 pub use Rattle.call_bounds.specs.RoutinesFile
 pub use Rattle.call_bounds.specs.declared.routines.Routine
@@ -41,14 +40,16 @@ pub use Rattle.machine.specs.WorldRelation
 pub use Rattle.machine.specs.declared.state.Machine
 pub use Rattle.phase_log.specs.LoggedRuns
 pub use Rattle.phase_log.specs.Text as PhasesText
-pub use Rattle.phase_model.specs.Phased
-pub use Rattle.phase_model.specs.Phases
-pub use Rattle.phase_model.specs.SettingLaws
-pub use Rattle.phase_model.specs.declared.phase.Phase
+pub use Rattle.core_model.specs.Phased
+pub use Rattle.core_model.specs.Phases
+pub use Rattle.core_model.specs.SettingLaws
+pub use Rattle.core_model.specs.declared.phase.Phase
 pub use Rattle.command_files.specs.Answer
 pub use Rattle.command_files.specs.Program
+pub use Rattle.command_files.specs.Status
 pub use Rattle.command_files.specs.Stops
 pub use Rattle.command_files.specs.declared.program.Program as LoadedProgram
+pub use Rattle.command_files.specs.declared.status.Status as StatusType
 pub use Rattle.command_files.specs.declared.stop.Stop
 pub use Rattle.region_guard.specs.MemoryMap
 pub use Rattle.region_tree.specs.Graph
@@ -80,5 +81,5 @@ pub use Rattle.trace_print.specs.Bounds
 pub use Rattle.trace_print.specs.Refusals
 pub use Rattle.trace_print.specs.Text
 pub use Rattle.trace_print.specs.declared.refusals.Refusal
-pub use Rattle.world_model.specs.Viewed
-pub use Rattle.world_model.specs.World
+pub use Rattle.core_model.specs.Viewed
+pub use Rattle.core_model.specs.World

@@ -2,22 +2,23 @@
 use Rattle.std.specs.Io.KnownBytes.{Appends}
 use Rattle.std.specs.Prelude.{◌≡◌, ◌<◌, ◌≤◌, ℕ, List, Option, IfSome}
 use Rattle.fp_io.specs.Content.{AppendsFront, FileMap}
-use Rattle.fp_ports.specs.Rows.{Row}
+use Rattle.fp_ports.specs.PluggedPorts.{Row}
 use Rattle.ask_words.specs.declared.asked.Ask.{Ask}
-use Rattle.machine.specs.WorldRelation.{StandsFor, AreLeft, PortsAfter}
+use Rattle.machine.specs.WorldRelation.{Refines, AreLeft, PortsAfter}
 use Rattle.machine.specs.Feeding.{fed_all}
 use Rattle.machine.specs.declared.state.Machine.{Machine}
 use Rattle.machine.specs.DumpedState.{seen}
 use Rattle.phase_log.specs.LoggedRuns.{StartsAs}
 use Rattle.phase_log.specs.Text.{phases_text}
-use Rattle.phase_model.specs.Phases.{phases}
+use Rattle.core_model.specs.Phases.{phases}
 use Rattle.trace_print.specs.Bounds.{bound_text}
 use Rattle.trace_print.specs.Text.{text}
-use Rattle.world_model.specs.World.{Start, events}
+use Rattle.core_model.specs.World.{Start, events}
 use Rattle.command_files.specs.declared.program.Program.{Program}
 use Rattle.flexpret_top.specs.declared.ready.Ready.{Ready}
 use Rattle.flexpret_top.specs.declared.ready.Prepared.{Prepared}
-use Rattle.flexpret_top.specs.declared.ready.Prepared.TheVariants.{Trace, Dump, Phases, Solo, Same, Image, Bound, Selfrun}
+use Rattle.flexpret_top.specs.declared.ready.Prepared.TheVariants.{Trace, Dump, Phases, Solo}
+use Rattle.flexpret_top.specs.declared.ready.Prepared.TheVariants.{Same, Image, Bound, Selfrun}
 use Rattle.selfrun.specs.Text.{tallies_text}
 use Rattle.flexpret_top.specs.SoloAndCheck.{same_text, told_alone}
 use Rattle.command_files.specs.Answer.Answer.{Says}
@@ -26,24 +27,28 @@ use Rattle.command_files.specs.Program.{program}
 use Rattle.flexpret_top.specs.Run.{start_of}
 use Rattle.std.specs.Prelude.{Ok}
 
--- a machine at its start that stands, beside the ports that were fed, for the world of a program and the ports as they
--- were handed in; that world starts with the slots and modes of the setup
-pub record IsReady (files : FileMap) (name : List ℕ) (before after : List (Option Row)) (r : Ready) : Type 0 where
+-- a machine at its start that stands, beside the ports that were fed, for the world of a program
+-- and the ports as they were handed in; that world starts with the slots and modes of the setup
+pub record IsReady (files : FileMap) (name : List ℕ) (before after : List (Option Row))
+    (r : Ready) : Type 0 where
   pub made : Program
   pub is : program files name ≡ Ok made
   pub fed : after ≡ fed_all made.setup before
-  pub stands : StandsFor (start_of made before r.cycles) 0 r.cycles r.machine after
+  pub refines : Refines (start_of made before r.cycles) 0 r.cycles r.machine after
   pub starts : StartsAs (start_of made before r.cycles) r.setup
 
--- a machine at its start, which stands for a world of its setup beside these ports, and a text that this world defines
-pub record Runs (r : Ready) (ports : List (Option Row)) (told : Start → List ℕ) (written : List ℕ) : Type 0 where
+-- a machine at its start, which refines a world of its setup beside these ports, and a text that
+-- this world defines
+pub record Runs (r : Ready) (ports : List (Option Row)) (told : Start → List ℕ)
+    (written : List ℕ) : Type 0 where
   pub start : Start
-  pub stands : StandsFor start 0 r.cycles r.machine ports
+  pub refines : Refines start 0 r.cycles r.machine ports
   pub starts : StartsAs start r.setup
   pub text_is : written ≡ told start
 
 abbrev pub Delivers : Prepared → List (Option Row) → List ℕ → Type 0
-Delivers (Trace r thread) ports written = Runs r ports (λ s. text (events s thread r.cycles)) written
+Delivers (Trace r thread) ports written =
+    Runs r ports (λ s. text (events s thread r.cycles)) written
 Delivers (Dump r) ports written = Runs r ports (λ s. seen s r.cycles) written
 Delivers (Phases r) ports written = Runs r ports (λ s. phases_text (phases s r.cycles)) written
 Delivers (Solo alone) ports written = written ≡ told_alone alone ports
@@ -59,7 +64,9 @@ IsThread _ = Unit {0}
 
 -- what a run of a machine leaves in the ports
 abbrev pub LeavesRun : Ready → List (Option Row) → List (Option Row) → Type 0
-LeavesRun r before after = (s : Start) → StandsFor s 0 r.cycles r.machine before → StartsAs s r.setup → PortsAfter s r.cycles before after
+LeavesRun r before after =
+    (s : Start) → Refines s 0 r.cycles r.machine before → StartsAs s r.setup →
+    PortsAfter s r.cycles before after
 
 -- what stands in the ports once it was written
 abbrev pub LeavesPorts : Prepared → List (Option Row) → List (Option Row) → Type 0
@@ -72,14 +79,17 @@ LeavesPorts (Image bytes) before after = after ≡ before
 LeavesPorts (Bound cycles) before after = after ≡ before
 LeavesPorts (Selfrun run) before after = after ≡ before
 
--- what a run of a machine that the sink cut short leaves in the ports: those after some of its cycles
+-- what a run of a machine that the sink cut short leaves in the ports: those after some of its
+-- cycles
 pub record LeavesSome (s : Start) (n : ℕ) (before after : List (Option Row)) : Type 0 where
   pub cycles : ℕ
   pub within : cycles ≤ n
   pub ports : PortsAfter s cycles before after
 
 abbrev pub LeavesPartOfRun : Ready → List (Option Row) → List (Option Row) → Type 0
-LeavesPartOfRun r before after = (s : Start) → StandsFor s 0 r.cycles r.machine before → StartsAs s r.setup → LeavesSome s r.cycles before after
+LeavesPartOfRun r before after =
+    (s : Start) → Refines s 0 r.cycles r.machine before → StartsAs s r.setup →
+    LeavesSome s r.cycles before after
 
 -- what stands in the ports where the sink failed
 abbrev pub LeavesPortsInPart : Prepared → List (Option Row) → List (Option Row) → Type 0
@@ -89,12 +99,12 @@ LeavesPortsInPart (Phases r) before after = LeavesPartOfRun r before after
 LeavesPortsInPart _ before after = after ≡ before
 
 -- no port plays a part in it
-abbrev pub IsApartFrom : Prepared → Type 0
-IsApartFrom (Trace r thread) = ⊥
-IsApartFrom (Dump r) = ⊥
-IsApartFrom (Phases r) = ⊥
-IsApartFrom (Solo alone) = ⊥
-IsApartFrom _ = Unit {0}
+abbrev pub IsWithoutPort : Prepared → Type 0
+IsWithoutPort (Trace r thread) = ⊥
+IsWithoutPort (Dump r) = ⊥
+IsWithoutPort (Phases r) = ⊥
+IsWithoutPort (Solo alone) = ⊥
+IsWithoutPort _ = Unit {0}
 
 -- it does no more to a port than read it
 abbrev pub OnlyReadsFor : Prepared → Type 0
@@ -103,31 +113,39 @@ OnlyReadsFor Same = Unit {0}
 OnlyReadsFor _ = ⊥
 
 -- it will write a text that answers the command, and leave the ports as the command does
-pub record Prepares (asked : Ask) (files : FileMap) (before after : List (Option Row)) (p : Prepared) : Type 0 where
+pub record Prepares (asked : Ask) (files : FileMap) (before after : List (Option Row))
+    (p : Prepared) : Type 0 where
   pub written : List ℕ
   pub delivers : Delivers p after written
   pub is : IsAnswerOf asked files before (Says 0 written)
-  pub leaves : (last : List (Option Row)) → LeavesPorts p after last → Leaves asked files before last
-  pub leaves_part : (last : List (Option Row)) → LeavesPortsInPart p after last → LeavesInPart asked files before last
+  pub leaves : (last : List (Option Row)) → LeavesPorts p after last →
+      Leaves asked files before last
+  pub leaves_part : (last : List (Option Row)) → LeavesPortsInPart p after last →
+      LeavesInPart asked files before last
 
 -- the same where the files tell what they hold
-abbrev pub IsPrepared : Ask → Option FileMap → List (Option Row) → List (Option Row) → Prepared → Type 0
+abbrev pub IsPrepared : Ask → Option FileMap → List (Option Row) → List (Option Row) →
+    Prepared → Type 0
 IsPrepared asked told before after p = IfSome told (λ files. Prepares asked files before after p)
 
 -- and whatever the ports are, which it leaves alone
 abbrev pub IsPreparedApart : Ask → Option FileMap → Prepared → Type 0
-IsPreparedApart asked told p = IfSome told (λ files. (ports : List (Option Row)) → Prepares asked files ports ports p)
+IsPreparedApart asked told p =
+    IfSome told (λ files. (ports : List (Option Row)) → Prepares asked files ports ports p)
 
 -- the text that it will write was appended whole
 abbrev pub WritesAll : Prepared → List (Option Row) → Option (List ℕ) → Option (List ℕ) → Type 0
-WritesAll p ports before after = (written : List ℕ) → Delivers p ports written → Appends before after written
+WritesAll p ports before after =
+    (written : List ℕ) → Delivers p ports written → Appends before after written
 
 -- the first part of it was
 abbrev pub WritesPart : Prepared → List (Option Row) → Option (List ℕ) → Option (List ℕ) → Type 0
-WritesPart p ports before after = (written : List ℕ) → Delivers p ports written → AppendsFront before after written
+WritesPart p ports before after =
+    (written : List ℕ) → Delivers p ports written → AppendsFront before after written
 
--- after so many cycles, machine and ports stand for that cycle of the world, and the ports that are left show what they
--- showed
-pub record Gone (s : Start) (n : ℕ) (first : List (Option Row)) (m : Machine) (ports : List (Option Row)) : Type 0 where
-  pub stands : StandsFor s n n m ports
+-- after so many cycles, machine and ports refine that cycle of the world, and the ports that are
+-- left show what they showed
+pub record Gone (s : Start) (n : ℕ) (first : List (Option Row)) (m : Machine)
+    (ports : List (Option Row)) : Type 0 where
+  pub refines : Refines s n n m ports
   pub left : AreLeft first ports

@@ -1,8 +1,9 @@
 -- What a command asks of the files, in which order and with which limits.
 use Rattle.std.specs.Prelude.{◌≡◌, ◌⊎◌, ℕ, ◌*◌, List, [], ◌∷◌, ◌++◌, Option, Some, None}
-use Rattle.fp_io.specs.Content.{Asks, FileMap, Request}
+use Rattle.fp_io.specs.Content.{Asks, FileMap, Lacks, Request}
 use Rattle.ask_words.specs.declared.asked.Ask.{Ask}
-use Rattle.ask_words.specs.declared.asked.Ask.TheVariants.{Run, Dump, Asm, Bound, Selfrun, Phases, Solo, Check, Elf, Calls}
+use Rattle.ask_words.specs.declared.asked.Ask.TheVariants.{Run, Dump, Asm, Bound, Selfrun}
+use Rattle.ask_words.specs.declared.asked.Ask.TheVariants.{Phases, Solo, Check, Elf, Calls}
 use Rattle.region_tree.specs.declared.section.Section.{Section}
 use Rattle.command_files.specs.declared.program.Program.{Program}
 use Rattle.command_files.specs.Program.{IsProgramAsked, program, program_requests}
@@ -18,17 +19,21 @@ abbrev pub trace_request : List ℕ → ℕ → Request
 trace_request name cycles = (name, 60 * cycles)
 
 -- a program, and then a recorded trace of a thread that can be run by itself
-pub record IsTraceAsked (told : Option FileMap) (setup : List ℕ) (thread cycles : ℕ) (trace : List ℕ) (before after : Option (List Request)) : Type 0 where
+pub record IsTraceAsked (told : Option FileMap) (setup : List ℕ) (thread cycles : ℕ)
+    (trace : List ℕ) (before after : Option (List Request)) : Type 0 where
   pub made : Program
   pub is : Makes told (λ files. alone_program files setup thread) made
-  pub asks : Asks before after (program_requests setup made.setup ++ (trace_request trace cycles ∷ []))
+  pub asks : Asks before after
+      (program_requests setup made.setup ++ (trace_request trace cycles ∷ []))
 
 -- a program, and then the routines of a section that can be asked for
-pub record AreRoutinesAsked (told : Option FileMap) (setup : List ℕ) (thread : ℕ) (section : Section) (routines : List ℕ) (before after : Option (List Request)) : Type 0 where
+pub record AreRoutinesAsked (told : Option FileMap) (setup : List ℕ) (thread : ℕ)
+    (section : Section) (routines : List ℕ) (before after : Option (List Request)) : Type 0 where
   pub made : Program
   pub is : Makes told (λ files. program files setup) made
   pub right : section_fault made.setup thread section ≡ None
-  pub asks : Asks before after (program_requests setup made.setup ++ (routines_request routines ∷ []))
+  pub asks : Asks before after
+      (program_requests setup made.setup ++ (routines_request routines ∷ []))
 
 abbrev pub IsAsked : Ask → Option FileMap → Option (List Request) → Option (List Request) → Type 0
 IsAsked (Run setup thread cycles) told before after = IsProgramAsked told setup before after
@@ -39,12 +44,28 @@ IsAsked (Selfrun number) told before after = after ≡ before
 IsAsked (Phases setup cycles) told before after = IsProgramAsked told setup before after
 IsAsked (Solo setup thread cycles) told before after = IsProgramAsked told setup before after
 IsAsked (Check setup thread cycles trace) told before after =
-    IsProgramAsked told setup before after ⊎ IsTraceAsked told setup thread cycles trace before after
+    IsProgramAsked told setup before after
+    ⊎ IsTraceAsked told setup thread cycles trace before after
 IsAsked (Elf file) told before after = Asks before after (executable_request file ∷ [])
 IsAsked (Calls setup thread section routines) told before after =
-    IsProgramAsked told setup before after ⊎ AreRoutinesAsked told setup thread section routines before after
+    IsProgramAsked told setup before after
+    ⊎ AreRoutinesAsked told setup thread section routines before after
 
 -- by a command line: nothing at all, where it asks no command or memory is refused for its words
-abbrev pub IsAskedBy : Option Ask → Option FileMap → Option (List Request) → Option (List Request) → Type 0
+abbrev pub IsAskedBy : Option Ask → Option FileMap → Option (List Request) →
+    Option (List Request) → Type 0
 IsAskedBy None told before after = after ≡ before
 IsAskedBy (Some asked) told before after = (after ≡ before) ⊎ IsAsked asked told before after
+
+-- the files are told, and have none of the name that a command asks for first
+abbrev pub LacksFirst : Ask → Option FileMap → Type 0
+LacksFirst (Run setup thread cycles) told = Lacks told setup
+LacksFirst (Dump setup cycles) told = Lacks told setup
+LacksFirst (Asm source) told = Lacks told source
+LacksFirst (Bound setup thread section) told = Lacks told setup
+LacksFirst (Selfrun number) told = ⊥
+LacksFirst (Phases setup cycles) told = Lacks told setup
+LacksFirst (Solo setup thread cycles) told = Lacks told setup
+LacksFirst (Check setup thread cycles trace) told = Lacks told setup
+LacksFirst (Elf file) told = Lacks told file
+LacksFirst (Calls setup thread section routines) told = Lacks told setup

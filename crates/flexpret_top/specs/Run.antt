@@ -1,12 +1,13 @@
--- The trace of a thread, the dump, and the settings of the scheduling, over a setup, an image and eight ports.
+-- The trace of a thread, the dump, and the settings of the scheduling, over a setup, an image and
+-- eight ports.
 use Rattle.std.specs.Prelude.{ℕ, List, Option, Result, Ok}
 use Rattle.fp_io.specs.Content.{FileMap}
-use Rattle.fp_ports.specs.Rows.{Row}
+use Rattle.fp_ports.specs.PluggedPorts.{Row}
 use Rattle.machine.specs.DumpedState.{seen}
 use Rattle.phase_log.specs.Text.{phases_text}
-use Rattle.phase_model.specs.Phases.{phases}
+use Rattle.core_model.specs.Phases.{phases}
 use Rattle.trace_print.specs.Text.{text}
-use Rattle.world_model.specs.World.{Start, events}
+use Rattle.core_model.specs.World.{Start, events}
 use Rattle.setup_model.specs.Start.{start}
 use Rattle.command_files.specs.declared.program.Program.{Program}
 use Rattle.command_files.specs.Answer.{Answer, then_by, ends}

@@ -1,37 +1,41 @@
--- The answers to `solo` and `check`: one thread of a program from its view alone, and a recorded trace beside the text of it.
-use Rattle.std.specs.Prelude.{◌≡◌, ℕ, ◌==◌, not, if◌then◌else◌, List, Option, Some, None, Result, Ok, Err, codes}
+-- The answers to `solo` and `check`: one thread of a program from its view alone, and a recorded
+-- trace beside the text of it.
+use Rattle.std.specs.Prelude.{◌≡◌, ℕ, ◌==◌, not, if◌then◌else◌, List}
+use Rattle.std.specs.Prelude.{Option, Some, None, Result, Ok, Err, codes}
 use Rattle.std.specs.Str.{bytes_eq}
 use Rattle.core_model.specs.Solo.{solo}
 use Rattle.fp_io.specs.Content.{FileMap}
-use Rattle.fp_ports.specs.Rows.{Row}
+use Rattle.fp_ports.specs.PluggedPorts.{Row}
 use Rattle.fp_setup.specs.Settings.{Settings}
-use Rattle.setup_model.specs.Start.{shown_to, thread_of}
+use Rattle.setup_model.specs.Start.{shown_to, thread_setup_of}
 use Rattle.slot_scheduler.specs.ModeWord.{mode_of}
 use Rattle.solo_run.specs.FirstDifference.{first_differing_line}
 use Rattle.solo_run.specs.declared.checked.Checked.{Checked}
 use Rattle.solo_run.specs.declared.checked.Checked.TheVariants.{Same, Differs}
 use Rattle.solo_run.specs.Setup.{setup_view}
-use Rattle.solo_run.specs.View.{view_as_defined}
+use Rattle.solo_run.specs.View.{abstract_view}
 use Rattle.trace_print.specs.Text.{text}
 use Rattle.trace_print.specs.declared.refusals.Refusal.TheVariants.{Section}
-use Rattle.world_model.specs.Viewed.{view}
+use Rattle.core_model.specs.Viewed.{view}
 use Rattle.flexpret_top.specs.declared.ready.Alone.{Alone}
 use Rattle.command_files.specs.declared.program.Program.{Program}
-use Rattle.command_files.specs.Answer.{Answer, differs_text, refused, then_by, over_file, ends}
+use Rattle.command_files.specs.Answer.{Answer, differs_text, refusal_answer}
+use Rattle.command_files.specs.Answer.{then_by, over_file, ends}
 use Rattle.command_files.specs.Answer.Answer.{Says}
 use Rattle.command_files.specs.Program.{program}
 use Rattle.flexpret_top.specs.Run.{start_of}
 
--- why a thread isn't run from its view alone, if so: it isn't hard and awake, or else it isn't confined
+-- why a thread isn't run from its view alone, if so: it isn't hard and awake, or else it isn't
+-- confined
 unfoldable pub alone_fault : Settings → ℕ → Option ℕ
 alone_fault s i =
     if not (mode_of s.modes i == 0) then Some 1
-    else if not (thread_of s i).confined then Some 6
+    else if not (thread_setup_of s i).confined then Some 6
     else None
 
 abbrev pub unless_fault : Program → Option ℕ → Result Program Answer
 unless_fault p None = Ok p
-unless_fault p (Some code) = Err (refused (Section code))
+unless_fault p (Some code) = Err (refusal_answer (Section code))
 
 -- a program whose thread i is run from its view alone
 abbrev pub alone_in : ℕ → Program → Result Program Answer
@@ -54,27 +58,31 @@ abbrev pub same_text : List ℕ
 same_text = codes "same\n"
 
 -- whether a recorded trace is the text, and else in which line they first differ
-abbrev pub compared : List ℕ → List ℕ → Result (List ℕ) Answer
-compared text given =
-    if bytes_eq given text then Ok same_text else Err (Says 1 (differs_text (first_differing_line given text)))
+abbrev pub comparison_of : List ℕ → List ℕ → Result (List ℕ) Answer
+comparison_of text given =
+    if bytes_eq given text then Ok same_text
+    else Err (Says 1 (differs_text (first_differing_line given text)))
 
 -- what a comparison answers
 abbrev pub said_by : Checked → Result (List ℕ) Answer
 said_by Same = Ok same_text
 said_by (Differs line) = Err (Says 1 (differs_text line))
 
-abbrev pub checked_of : FileMap → List (Option Row) → ℕ → ℕ → List ℕ → Program → Result (List ℕ) Answer
-checked_of files ports i n trace p = over_file (compared (alone_text ports i n p)) (files trace)
+abbrev pub checked_of : FileMap → List (Option Row) → ℕ → ℕ → List ℕ → Program →
+    Result (List ℕ) Answer
+checked_of files ports i n trace p =
+    over_file (comparison_of (alone_text ports i n p)) (files trace)
 
 abbrev pub check_answer : FileMap → List (Option Row) → List ℕ → ℕ → ℕ → List ℕ → Answer
-check_answer files ports name i n trace = ends (then_by (alone_program files name i) (checked_of files ports i n trace))
+check_answer files ports name i n trace =
+    ends (then_by (alone_program files name i) (checked_of files ports i n trace))
 
 -- a view of the thread in the machine of a program, but for the words of its port
 pub record IsAloneOf (p : Program) (i n : ℕ) (a : Alone) : Type 0 where
   pub setup : a.setup ≡ p.setup
   pub thread : a.view.thread ≡ i
   pub cycles : a.cycles ≡ n
-  pub views : (shown : List ℕ) → view_as_defined a.view shown ≡ setup_view p.setup p.image i shown
+  pub views : (shown : List ℕ) → abstract_view a.view shown ≡ setup_view p.setup p.image i shown
 
 pub record IsAlone (files : FileMap) (name : List ℕ) (i n : ℕ) (a : Alone) : Type 0 where
   pub made : Program
@@ -83,4 +91,5 @@ pub record IsAlone (files : FileMap) (name : List ℕ) (i n : ℕ) (a : Alone) :
 
 -- the text of its run beside the ports
 abbrev pub told_alone : Alone → List (Option Row) → List ℕ
-told_alone a ports = text (solo (view_as_defined a.view (shown_to a.setup ports a.cycles a.view.thread)) a.cycles)
+told_alone a ports =
+    text (solo (abstract_view a.view (shown_to a.setup ports a.cycles a.view.thread)) a.cycles)

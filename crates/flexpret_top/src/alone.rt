@@ -1,18 +1,22 @@
 //! One thread of a program from its view alone.
 
-ghost use Rattle.std.specs.Prelude.{◌≡◌, ◌*◌, ◌<◌, ◌≤◌, [], ◌∷◌, nat_eq, false, true, Ok, Err, OnOk, OnErr, IfOk, IfErr, IfSome, vec_len};
+ghost use Rattle.std.specs.Prelude.{◌≡◌, ◌*◌, ◌<◌, ◌≤◌, [], ◌∷◌, nat_eq, false, true};
+ghost use Rattle.std.specs.Prelude.{Ok, Err, OnOk, OnErr, IfOk, IfErr, IfSome, vec_len};
 ghost use Rattle.std.specs.Io.KnownBytes.{Appends};
 ghost use Rattle.std.specs.List.{common_prefix_len};
 ghost use Rattle.fp_io.specs.Causes.{Rose};
-ghost use Rattle.fp_io.specs.Content.{AppendsFront, Asks};
+ghost use Rattle.fp_io.specs.Content.{AppendsFront, Asks, Lacks};
 ghost use Rattle.timer_unit.specs.Time.{most_cycles};
-ghost use Rattle.fp_ports.specs.Rows.{rows_of};
+ghost use Rattle.fp_ports.specs.PluggedPorts.{rows_of};
 ghost use Rattle.solo_run.specs.FirstDifference.{IsChecked};
-ghost use Rattle.flexpret_top.specs.SoloAndCheck.{IsAlone, IsAloneOf, alone_fault, alone_in, alone_program, compared, said_by, same_text, told_alone};
+ghost use Rattle.flexpret_top.specs.SoloAndCheck.{IsAlone, IsAloneOf, alone_fault};
+ghost use Rattle.flexpret_top.specs.SoloAndCheck.{alone_in, alone_program, comparison_of};
+ghost use Rattle.flexpret_top.specs.SoloAndCheck.{said_by, same_text, told_alone};
 ghost use Rattle.flexpret_top.specs.Requests.{trace_request};
 ghost use Rattle.command_files.specs.Answer.{on_file};
 ghost use Rattle.command_files.specs.Program.{IsProgramAsked, program_requests};
 ghost use Rattle.command_files.specs.Stops.{IsAnswerStop, IsStopIn, IsStopOf, Makes, is_difference};
+ghost use Rattle.command_files.specs.declared.stop.Stop.{Stop};
 
 use crate::ready::Alone;
 use crate::shown::ReadPort;
@@ -75,6 +79,7 @@ pub fn load_alone<F: Files>(
     requires limit { cycles ≤ most_cycles }
     ensures told { F.told files.new ≡ F.told files.old }
     ensures counted { F.faults files.old ≤ F.faults files.new }
+    ensures missing { Lacks (F.told files.old) name.now → result ≡ Err Stop.Read }
     ensures asked { IsProgramAsked (F.told files.old) name.now
         (F.requests files.old) (F.requests files.new) }
     ensures requests { IfOk result (λ a. Asks (F.requests files.old) (F.requests files.new)
@@ -173,13 +178,16 @@ pub fn compare_alone<F: Files>(
     requires { vec_len ports.old ≡ 8 }
     ensures told { F.told files.new ≡ F.told files.old }
     ensures counted { F.faults files.old ≤ F.faults files.new }
+    ensures missing { Lacks (F.told files.old) trace.now → result ≡ Err Stop.Read }
     ensures request { Asks (F.requests files.old) (F.requests files.new)
         (trace_request trace.now alone.cycles ∷ []) }
     ensures ok { OnOk result (Makes (F.told files.old)
-        (on_file (compared (told_alone alone (rows_of latched word_at ports.old.items))) trace.now)
+        (on_file (comparison_of (told_alone alone (rows_of latched word_at ports.old.items)))
+        trace.now)
         same_text) }
     ensures stop { IfErr result (IsStopIn (F.told files.old)
-        (on_file (compared (told_alone alone (rows_of latched word_at ports.old.items))) trace.now)
+        (on_file (comparison_of (told_alone alone (rows_of latched word_at ports.old.items)))
+        trace.now)
         (F.faults files.old) (F.faults files.new)) }
     ensures kept { IfErr result
         (λ stop. is_difference stop ≡ false → ports.new ≡ ports.old) }

@@ -1,31 +1,38 @@
 //! The command over files, a sink and the ports.
 
-ghost use Rattle.std.specs.Prelude.{◌≡◌, ◌≢◌, ◌⊎◌, ◌<◌, ◌≤◌, None, Some, IfSome, IsSomeAnd, map, string_bytes, vec_len};
+ghost use Rattle.std.specs.Prelude.{◌≡◌, ◌≢◌, ◌⊎◌, ◌<◌, ◌≤◌, None, Some, IfSome};
+ghost use Rattle.std.specs.Prelude.{IsSomeAnd, map, string_bytes, vec_len};
 ghost use Rattle.fp_io.specs.Causes.{Rose};
-ghost use Rattle.fp_ports.specs.Rows.{rows_of};
+ghost use Rattle.fp_ports.specs.PluggedPorts.{rows_of};
 ghost use Rattle.fp_elf.specs.Law.{ReadsBack};
 ghost use Rattle.fp_setup.specs.AcceptedSetups.{AcceptedKeepRules};
 ghost use Rattle.run_laws.specs.RetiredTraces.{RetiredTraceAlone, RetiredTraceByPhases};
 ghost use Rattle.run_laws.specs.TraceLaws.{TraceAlone, TraceByPhases};
 ghost use Rattle.section_visits.specs.SetupCallVisitBound.{CallVisitsStayBounded};
-ghost use Rattle.section_visits.specs.SetupInSettings.{CallVisitsStayBoundedInSettings, CallVisitsStayBoundedWhileScheduled, VisitsStayBoundedInSettings, VisitsStayBoundedWhileScheduled};
+ghost use Rattle.section_visits.specs.SetupInSettings.{CallVisitsStayBoundedInSettings};
+ghost use Rattle.section_visits.specs.SetupInSettings.{CallVisitsStayBoundedWhileScheduled};
+ghost use Rattle.section_visits.specs.SetupInSettings.{VisitsStayBoundedInSettings};
+ghost use Rattle.section_visits.specs.SetupInSettings.{VisitsStayBoundedWhileScheduled};
 ghost use Rattle.section_visits.specs.SetupVisitBound.{VisitsStayBounded};
 ghost use Rattle.ask_words.specs.Commands.{ask};
 ghost use Rattle.ask_words.specs.Limits.{IsWithinLimits};
 ghost use Rattle.command_files.specs.Answer.Answer.{Missing};
-ghost use Rattle.flexpret_top.specs.Command.{IsAnswer, IsAnswerIn, IsApart, IsApartBy, Leaves, LeavesBy, LeavesCutShort, LeavesUnrun, OnlyReads, OnlyReadsBy, Said, Began, Answered};
-ghost use Rattle.flexpret_top.specs.Headline.{BoundsCallVisits, BoundsVisits, WritesAlone, WritesAsRun, WritesByPhases, WritesImage, WritesRetired};
+ghost use Rattle.flexpret_top.specs.Command.{IsAnswer, IsAnswerIn, UsesNoPort, UsesNoPortBy};
+ghost use Rattle.flexpret_top.specs.Command.{Leaves, LeavesBy, LeavesCutShort, LeavesUnrun};
+ghost use Rattle.flexpret_top.specs.Command.{OnlyReads, OnlyReadsBy, Said, Began, Answered};
+ghost use Rattle.flexpret_top.specs.Headline.{BoundsCallVisits, BoundsVisits};
+ghost use Rattle.flexpret_top.specs.Headline.{WritesAlone, WritesAsRun, WritesByPhases};
+ghost use Rattle.flexpret_top.specs.Headline.{WritesImage, WritesRetired};
 ghost use Rattle.flexpret_top.specs.Requests.{IsAsked, IsAskedBy};
-ghost use Rattle.flexpret_top.specs.Status.{IsStatus, number_of};
+ghost use Rattle.command_files.specs.Status.{IsStatus, number_of};
 ghost use Rattle.command_files.specs.declared.stop.Stop.{Stop};
 ghost use Rattle.command_files.specs.Answer.{status_of};
 ghost use Rattle.flexpret_top.specs.Endings.{Ends};
 
 use crate::deliver::deliver;
 use crate::prepare::prepare;
-use crate::status::Status;
 use ask_words::{Ask, WordsNo, read_words};
-use command_files::{Stop, difference_line};
+use command_files::{Status, Stop, difference_line};
 use fp_elf::reads_back;
 use fp_io::{Files, PutFailed, Sink};
 use fp_ports::Ports;
@@ -129,7 +136,7 @@ fn answer<F: Files, K: Sink>(
         rows_of latched word_at ports.new.items ≡ rows_of latched word_at ports.old.items }
     ensures differs { result ≡ Status.Differs →
         rows_of latched word_at ports.new.items ≡ rows_of latched word_at ports.old.items }
-    ensures apart { IsApart ask.now → ports.new ≡ ports.old }
+    ensures apart { UsesNoPort ask.now → ports.new ≡ ports.old }
     ensures eight { vec_len ports.new ≡ 8 }
 {
     match prepare(alloc, ask, files, ports) {
@@ -275,7 +282,7 @@ pub fn flexpret<F: Files, K: Sink>(
     ensures as_run { result ≡ 0 → IfSome (F.told files.old) (λ told.
         WritesAsRun (ask (map string_bytes words.now)) told
         (rows_of latched word_at ports.old.items) (K.taken out.old) (K.taken out.new)) }
-    ensures apart { IsApartBy (ask (map string_bytes words.now)) → ports.new ≡ ports.old }
+    ensures apart { UsesNoPortBy (ask (map string_bytes words.now)) → ports.new ≡ ports.old }
     ensures eight { vec_len ports.new ≡ 8 }
 {
     laws();

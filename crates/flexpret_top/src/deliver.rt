@@ -3,12 +3,12 @@
 ghost use Rattle.std.specs.Prelude.{◌≡◌, ◌⊎◌, ◌≤◌, ◌<◌, OnOk, OnErr, vec_len};
 ghost use Rattle.fp_io.specs.Causes.{Rose};
 ghost use Rattle.timer_unit.specs.Time.{most_cycles};
-ghost use Rattle.fp_ports.specs.Rows.{rows_of};
-ghost use Rattle.world_model.specs.World.{Start};
-ghost use Rattle.machine.specs.WorldRelation.{StandsFor};
+ghost use Rattle.fp_ports.specs.PluggedPorts.{rows_of};
+ghost use Rattle.core_model.specs.World.{Start};
+ghost use Rattle.machine.specs.WorldRelation.{Refines};
 ghost use Rattle.flexpret_top.specs.Prepared.{
   Gone,
-  IsApartFrom,
+  IsWithoutPort,
   IsThread,
   LeavesPorts,
   LeavesPortsInPart,
@@ -32,7 +32,7 @@ fn go(machine: &mut Machine, cycles: u64, ports: &mut Ports)
     requires limit { cycles ≤ most_cycles }
     requires eight { vec_len ports.old ≡ 8 }
     ensures gone { (s : Start) →
-        StandsFor s 0 cycles machine.old (rows_of latched word_at ports.old.items) →
+        Refines s 0 cycles machine.old (rows_of latched word_at ports.old.items) →
         Gone s cycles (rows_of latched word_at ports.old.items) machine.new
         (rows_of latched word_at ports.new.items) }
     ensures eight { vec_len ports.new ≡ 8 }
@@ -119,7 +119,7 @@ pub fn deliver<K: Sink>(prepared: Prepared, ports: &mut Ports, out: &mut K) -> R
         (rows_of latched word_at ports.old.items) (rows_of latched word_at ports.new.items)) }
     ensures part { OnErr result (LeavesPortsInPart prepared
         (rows_of latched word_at ports.old.items) (rows_of latched word_at ports.new.items)) }
-    ensures apart { IsApartFrom prepared → ports.new ≡ ports.old }
+    ensures apart { IsWithoutPort prepared → ports.new ≡ ports.old }
     ensures reads { OnlyReadsFor prepared →
         rows_of latched word_at ports.new.items ≡ rows_of latched word_at ports.old.items }
     ensures eight { vec_len ports.new ≡ 8 }

@@ -11,16 +11,16 @@ mod deliver;
 mod prepare;
 mod ready;
 mod shown;
-mod status;
 
 pub use ask_words::{Ask, WordsNo, read_words};
 pub use command::flexpret;
+pub use command_files::Status;
+pub use core_model::{has_own_turns, tells_picks, unretired_is_unseen};
 pub use fp_io::{
     FetchFault, Files, Gathered, MemFiles, MemSink, OutSink, PutFailed, RealFiles, Sink,
 };
-pub use fp_ports::{HeldPort, Port, Ports, WavePort};
+pub use fp_ports::{HeldPort, Port, Ports, THREADS, WavePort};
 pub use fp_setup::accepted_keep_rules;
-pub use phase_model::{has_own_turns, tells_picks, unretired_is_unseen};
 pub use run_laws as isolation_theorems;
 pub use section_visits as visit_theorems;
 pub use solo_run::setup_views_are_views;

@@ -1,24 +1,26 @@
 //! What a command will write, before the first byte of it is written.
 
-ghost use Rattle.std.specs.Prelude.{◌≡◌, ◌≢◌, ◌⊎◌, ◌≤◌, ◌<◌, ℕ, false, [], ◌∷◌, IfOk, IfErr, OnOk, OnErr, IfSome, List, Option, length, vec_len};
-ghost use Rattle.fp_io.specs.Content.{Asks, FileMap};
+ghost use Rattle.std.specs.Prelude.{◌≡◌, ◌≢◌, ◌⊎◌, ◌≤◌, ◌<◌, ℕ, false, [], ◌∷◌, Err, IfOk};
+ghost use Rattle.std.specs.Prelude.{IfErr, OnOk, OnErr, IfSome, List, Option, length, vec_len};
+ghost use Rattle.fp_io.specs.Content.{Asks, FileMap, Lacks};
 ghost use Rattle.timer_unit.specs.Time.{most_cycles};
-ghost use Rattle.fp_ports.specs.Rows.{Row, rows_of};
+ghost use Rattle.fp_ports.specs.PluggedPorts.{Row, rows_of};
 ghost use Rattle.ask_words.specs.Limits.{IsWithinLimits};
 ghost use Rattle.ask_words.specs.declared.asked.Ask.{Ask};
 ghost use Rattle.machine.specs.Feeding.{IsFedFront, fed_all};
-ghost use Rattle.machine.specs.WorldRelation.{StandsFor, start_beside};
+ghost use Rattle.machine.specs.WorldRelation.{Refines, start_beside};
 ghost use Rattle.flexpret_top.specs.SoloAndCheck.{alone_program};
 ghost use Rattle.flexpret_top.specs.declared.ready.Prepared.{Prepared};
 ghost use Rattle.command_files.specs.Assembled.{asm_answer, source_request};
 ghost use Rattle.command_files.specs.BoundAnswer.{IsBoundAnswer};
 ghost use Rattle.command_files.specs.CallsAnswer.{IsCallsAnswer};
-ghost use Rattle.flexpret_top.specs.Command.{IsAnswerIn, IsApart, IsUnrun, LeavesFedInPart, OnlyReads};
-ghost use Rattle.flexpret_top.specs.Requests.{IsAsked};
+ghost use Rattle.flexpret_top.specs.Command.{IsAnswerIn, UsesNoPort, IsUnrun};
+ghost use Rattle.flexpret_top.specs.Command.{LeavesFedInPart, OnlyReads};
+ghost use Rattle.flexpret_top.specs.Requests.{IsAsked, LacksFirst};
 ghost use Rattle.command_files.specs.Elf.{elf_answer, executable_request};
 ghost use Rattle.command_files.specs.Program.{IsProgramAsked, program};
 ghost use Rattle.flexpret_top.specs.Prepared.{
-  IsApartFrom,
+  IsWithoutPort,
   IsPrepared,
   IsPreparedApart,
   IsReady,
@@ -27,6 +29,7 @@ ghost use Rattle.flexpret_top.specs.Prepared.{
   Prepares,
 };
 ghost use Rattle.command_files.specs.Stops.{IsStop, IsStopIn, is_difference};
+ghost use Rattle.command_files.specs.declared.stop.Stop.{Stop};
 ghost use Rattle.command_files.specs.declared.stop.Stop.TheVariants.{NoMemory};
 
 use crate::alone::{compare_alone, load_alone};
@@ -48,9 +51,9 @@ fn machine_beside(
     ports: &mut Ports,
 ) -> Result<Machine, AllocError>
     requires eight { vec_len ports.old ≡ 8 }
-    ensures stands { IfOk result
+    ensures refines { IfOk result
         (λ m. (ports : List (Option Row)) (n : ℕ) → length ports ≡ 8 →
-        StandsFor (start_beside program.now.setup program.now.image ports n) 0 n m ports) }
+        Refines (start_beside program.now.setup program.now.image ports n) 0 n m ports) }
     ensures start { IfOk result (λ m. m.at ≡ 0) }
     ensures fed { OnOk result (rows_of latched word_at ports.new.items ≡
         fed_all program.now.setup (rows_of latched word_at ports.old.items)) }
@@ -81,6 +84,7 @@ fn ready<F: Files>(
     ensures asked { IsProgramAsked (F.told files.old) setup.now
         (F.requests files.old) (F.requests files.new) }
     ensures counted { F.faults files.old ≤ F.faults files.new }
+    ensures missing { Lacks (F.told files.old) setup.now → result ≡ Err Stop.Read }
     ensures ok { IfOk result (λ r. IfSome (F.told files.old) (λ told. IsReady told setup.now
         (rows_of latched word_at ports.old.items) (rows_of latched word_at ports.new.items) r)) }
     ensures cycles { IfOk result (λ r. r.cycles ≡ cycles) }
@@ -105,6 +109,9 @@ fn ready<F: Files>(
 }
 
 /// `run SETUP --thread i --cycles n`
+///
+/// `dump` and `phases` differ from it in the command that their clauses name. One function for the
+/// three would take the command and what to make of the machine, and match on both.
 fn trace<F: Files>(
     alloc: Global,
     setup: &Name,
@@ -120,6 +127,7 @@ fn trace<F: Files>(
     ensures asked { IsProgramAsked (F.told files.old) setup.now
         (F.requests files.old) (F.requests files.new) }
     ensures counted { F.faults files.old ≤ F.faults files.new }
+    ensures missing { Lacks (F.told files.old) setup.now → result ≡ Err Stop.Read }
     ensures ok { IfOk result (IsPrepared (Ask.Run setup.now thread cycles) (F.told files.old)
         (rows_of latched word_at ports.old.items) (rows_of latched word_at ports.new.items)) }
     ensures thread { IfOk result IsThread }
@@ -149,6 +157,7 @@ fn dump<F: Files>(
     ensures asked { IsProgramAsked (F.told files.old) setup.now
         (F.requests files.old) (F.requests files.new) }
     ensures counted { F.faults files.old ≤ F.faults files.new }
+    ensures missing { Lacks (F.told files.old) setup.now → result ≡ Err Stop.Read }
     ensures ok { IfOk result (IsPrepared (Ask.Dump setup.now cycles) (F.told files.old)
         (rows_of latched word_at ports.old.items) (rows_of latched word_at ports.new.items)) }
     ensures thread { IfOk result IsThread }
@@ -177,6 +186,7 @@ fn phases<F: Files>(
     ensures asked { IsProgramAsked (F.told files.old) setup.now
         (F.requests files.old) (F.requests files.new) }
     ensures counted { F.faults files.old ≤ F.faults files.new }
+    ensures missing { Lacks (F.told files.old) setup.now → result ≡ Err Stop.Read }
     ensures ok { IfOk result (IsPrepared (Ask.Phases setup.now cycles) (F.told files.old)
         (rows_of latched word_at ports.old.items) (rows_of latched word_at ports.new.items)) }
     ensures thread { IfOk result IsThread }
@@ -197,9 +207,10 @@ fn image<F: Files>(alloc: Global, source: &Name, files: &mut F) -> Result<Prepar
     ensures asked { Asks (F.requests files.old) (F.requests files.new)
         (source_request source.now ∷ []) }
     ensures counted { F.faults files.old ≤ F.faults files.new }
+    ensures missing { Lacks (F.told files.old) source.now → result ≡ Err Stop.Read }
     ensures ok { IfOk result (IsPreparedApart (Ask.Asm source.now) (F.told files.old)) }
     ensures thread { IfOk result IsThread }
-    ensures apart { IfOk result IsApartFrom }
+    ensures apart { IfOk result IsWithoutPort }
     ensures stop { IfErr result (IsStop (F.told files.old)
         (λ told x. x ≡ asm_answer told source.now)
         (F.faults files.old) (F.faults files.new)) }
@@ -213,9 +224,10 @@ fn imported<F: Files>(alloc: Global, file: &Name, files: &mut F) -> Result<Prepa
     ensures asked { Asks (F.requests files.old) (F.requests files.new)
         (executable_request file.now ∷ []) }
     ensures counted { F.faults files.old ≤ F.faults files.new }
+    ensures missing { Lacks (F.told files.old) file.now → result ≡ Err Stop.Read }
     ensures ok { IfOk result (IsPreparedApart (Ask.Elf file.now) (F.told files.old)) }
     ensures thread { IfOk result IsThread }
-    ensures apart { IfOk result IsApartFrom }
+    ensures apart { IfOk result IsWithoutPort }
     ensures stop { IfErr result (IsStop (F.told files.old)
         (λ told x. x ≡ elf_answer told file.now)
         (F.faults files.old) (F.faults files.new)) }
@@ -237,6 +249,7 @@ fn solo<F: Files>(
     ensures asked { IsProgramAsked (F.told files.old) setup.now
         (F.requests files.old) (F.requests files.new) }
     ensures counted { F.faults files.old ≤ F.faults files.new }
+    ensures missing { Lacks (F.told files.old) setup.now → result ≡ Err Stop.Read }
     ensures ok { IfOk result
         (IsPreparedApart (Ask.Solo setup.now thread cycles) (F.told files.old)) }
     ensures thread { IfOk result IsThread }
@@ -267,6 +280,7 @@ fn check<F: Files>(
     ensures asked { IsAsked (Ask.Check setup.now thread cycles trace.now) (F.told files.old)
         (F.requests files.old) (F.requests files.new) }
     ensures counted { F.faults files.old ≤ F.faults files.new }
+    ensures missing { Lacks (F.told files.old) setup.now → result ≡ Err Stop.Read }
     ensures ok { IfOk result
         (IsPrepared (Ask.Check setup.now thread cycles trace.now) (F.told files.old)
         (rows_of latched word_at ports.old.items) (rows_of latched word_at ports.new.items)) }
@@ -304,10 +318,11 @@ fn bound<F: Files>(
     ensures asked { IsProgramAsked (F.told files.old) setup.now
         (F.requests files.old) (F.requests files.new) }
     ensures counted { F.faults files.old ≤ F.faults files.new }
+    ensures missing { Lacks (F.told files.old) setup.now → result ≡ Err Stop.Read }
     ensures ok { IfOk result
         (IsPreparedApart (Ask.Bound setup.now thread section) (F.told files.old)) }
     ensures thread { IfOk result IsThread }
-    ensures apart { IfOk result IsApartFrom }
+    ensures apart { IfOk result IsWithoutPort }
     ensures stop { IfErr result (IsStop (F.told files.old)
         (λ told x. IsBoundAnswer (program told setup.now) thread section x)
         (F.faults files.old) (F.faults files.new)) }
@@ -335,10 +350,11 @@ fn calls<F: Files>(
     ensures asked { IsAsked (Ask.Calls setup.now thread section routines.now) (F.told files.old)
         (F.requests files.old) (F.requests files.new) }
     ensures counted { F.faults files.old ≤ F.faults files.new }
+    ensures missing { Lacks (F.told files.old) setup.now → result ≡ Err Stop.Read }
     ensures ok { IfOk result
         (IsPreparedApart (Ask.Calls setup.now thread section routines.now) (F.told files.old)) }
     ensures thread { IfOk result IsThread }
-    ensures apart { IfOk result IsApartFrom }
+    ensures apart { IfOk result IsWithoutPort }
     ensures stop { IfErr result (IsStop (F.told files.old)
         (λ told x. IsCallsAnswer (program told setup.now) thread section (told routines.now) x)
         (F.faults files.old) (F.faults files.new)) }
@@ -357,7 +373,7 @@ fn own_run(alloc: Global, number: u32) -> Result<Prepared, Stop>
     ensures ok { IfOk result (λ p. (told : FileMap) (ports : List (Option Row)) →
         Prepares (Ask.Selfrun number) told ports ports p) }
     ensures thread { IfOk result IsThread }
-    ensures apart { IfOk result IsApartFrom }
+    ensures apart { IfOk result IsWithoutPort }
     ensures memory { IfErr result (λ stop. stop ≡ NoMemory) }
 {
     Ok(Prepared::Selfrun(Selfrun::new(alloc, number)?))
@@ -376,6 +392,7 @@ pub fn prepare<F: Files>(
     ensures asked { IsAsked ask.now (F.told files.old)
         (F.requests files.old) (F.requests files.new) }
     ensures counted { F.faults files.old ≤ F.faults files.new }
+    ensures missing { LacksFirst ask.now (F.told files.old) → result ≡ Err Stop.Read }
     ensures ok { IfOk result (IsPrepared ask.now (F.told files.old)
         (rows_of latched word_at ports.old.items) (rows_of latched word_at ports.new.items)) }
     ensures thread { IfOk result IsThread }
@@ -391,8 +408,8 @@ pub fn prepare<F: Files>(
     ensures reads { OnlyReads ask.now →
         rows_of latched word_at ports.new.items ≡ rows_of latched word_at ports.old.items }
     ensures reads_for { IfOk result (λ p. OnlyReads ask.now → OnlyReadsFor p) }
-    ensures apart { IsApart ask.now → ports.new ≡ ports.old }
-    ensures apart_from { IfOk result (λ p. IsApart ask.now → IsApartFrom p) }
+    ensures apart { UsesNoPort ask.now → ports.new ≡ ports.old }
+    ensures apart_from { IfOk result (λ p. UsesNoPort ask.now → IsWithoutPort p) }
     ensures eight { vec_len ports.new ≡ 8 }
 {
     match ask {

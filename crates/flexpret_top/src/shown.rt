@@ -1,12 +1,12 @@
 //! What a run of one thread alone finds at the thread's port.
 
 ghost use Rattle.std.specs.Prelude.{◌≡◌, Option, List, find, map, nat_le, option_copied, reverse};
-ghost use Rattle.fp_ports.specs.Rows.{Row, row_of, word_seen};
+ghost use Rattle.fp_ports.specs.PluggedPorts.{Row, row_of, word_seen};
 ghost use Rattle.fp_ports.specs.ShownWords.{input_at, is_gone, shown_at};
 ghost use Rattle.fp_setup.specs.declared.input_list.Input.{Input};
 ghost use Rattle.setup_model.specs.Start.{inputs_of};
 
-use fp_ports::Port;
+use fp_ports::{ABSENT_WORD, Port};
 use fp_setup::{Input, Inputs, ThreadSetup};
 use solo_run::Shown;
 
@@ -42,10 +42,10 @@ fn word_beside(device: &mut Option<Box<dyn Port>>, thread: &ThreadSetup, at: u64
     ensures row { row_of latched word_at device.new ≡ row_of latched word_at device.old }
 {
     if is_gone(thread.unplug, at) {
-        return u32::MAX;
+        return ABSENT_WORD;
     }
     match input_at(&thread.inputs, at) {
-        Some(word) => { if device.is_some() { word } else { u32::MAX } }
+        Some(word) => { if device.is_some() { word } else { ABSENT_WORD } }
         None => read_device(device, at),
     }
 }
@@ -76,13 +76,13 @@ fn input_at(inputs: &Inputs, at: u64) -> Option<u32>
     last_input(inputs, at).map(|input| input.word)
 }
 
-/// The word that a device shows in a cycle; one that isn't there shows ones.
+/// The word that a device shows in a cycle, or that of an absent one.
 fn read_device(device: &mut Option<Box<dyn Port>>, at: u64) -> u32
     ensures value { result ≡ word_seen (row_of latched word_at device.old) at }
     ensures row { row_of latched word_at device.new ≡ row_of latched word_at device.old }
 {
     match device {
         Some(device) => device.read(at),
-        None => u32::MAX,
+        None => ABSENT_WORD,
     }
 }

@@ -1,6 +1,6 @@
 //! Why nothing, or not all, was shown.
 
-use command_files::Stop;
+use command_files::{Status, Stop};
 use std::alloc::{AllocError, AllocFailed};
 use std::io;
 use trace_print::Refusal;
@@ -28,14 +28,13 @@ pub enum Fault {
 
 impl Fault {
     /// The status of the program, which is that of `flexpret` for the same fault.
-    pub fn status(&self) -> u8 {
+    pub fn status(&self) -> Status {
         match self {
-            Fault::Usage | Fault::Told | Fault::EmptyWindow | Fault::WidePicture => 2,
-            Fault::Refused(Refusal::Image { .. }) => 4,
-            Fault::Refused(_) => 3,
-            Fault::Read => 7,
-            Fault::Write => 8,
-            Fault::NoMemory => 9,
+            Fault::Usage | Fault::Told | Fault::EmptyWindow | Fault::WidePicture => Status::Usage,
+            Fault::Refused(refusal) => Status::of_refusal(refusal),
+            Fault::Read => Status::Read,
+            Fault::Write => Status::Write,
+            Fault::NoMemory => Status::NoMemory,
         }
     }
 

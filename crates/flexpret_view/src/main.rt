@@ -12,9 +12,9 @@ mod words;
 use crate::fault::Fault;
 use crate::progress::ProgressLine;
 use crate::words::{Ask, STANDARD_OUTPUT, WordsNo, read_words};
-use command_files::{Program, Stop, load};
+use command_files::{Program, Status, Stop, load};
 use fp_io::RealFiles;
-use fp_ports::{HeldPort, Ports};
+use fp_ports::{HeldPort, Ports, THREADS};
 use fp_setup::Name;
 use machine::{Machine, feed_inputs};
 use pipe_view::put_view;
@@ -23,8 +23,8 @@ use std::process::ExitCode;
 use std::{env, fs, io};
 use trace_print::refusal_line;
 
-/// The words of the command line, the program's name among them. A word that isn't UTF-8 is no word
-/// of a command.
+/// The words of the command line. A word that isn't UTF-8 is no word of a command. Unlike those of
+/// `flexpret_cli` they have the program's name, which the parser's texts show.
 fn read_args(rt: HostRuntime) -> Result<Vec<String>, Fault> {
     match env::args(&rt) {
         Ok(args) => Ok(args.collect(rt.alloc())?),
@@ -117,7 +117,7 @@ fn answer_beside(rt: HostRuntime, ask: &Ask<'_>, ports: &mut Ports) -> Result<()
 fn answer(rt: HostRuntime, ask: &Ask<'_>) -> Result<(), Fault> {
     let alloc = rt.alloc();
     let mut ports: Ports = Vec::new(alloc);
-    for _thread in 0..8u8 {
+    for _thread in 0..THREADS {
         ports.push(Some(Box::new(alloc, HeldPort::new(alloc))?))?;
     }
     answer_beside(rt, ask, &mut ports)
@@ -151,7 +151,7 @@ fn run(rt: HostRuntime) -> Result<(), Fault> {
 }
 
 /// Tells a fault: a refusal on standard output, as `flexpret` does, and others on standard error.
-fn tell(rt: HostRuntime, fault: &Fault) -> u8 {
+fn tell(rt: HostRuntime, fault: &Fault) -> Status {
     if let Fault::Refused(refusal) = fault {
         if rt.print(refusal_line(refusal).as_str()).is_err() {
             return Fault::Write.status();
@@ -165,7 +165,7 @@ fn tell(rt: HostRuntime, fault: &Fault) -> u8 {
 
 fn main(rt: HostRuntime) -> ExitCode {
     match run(rt) {
-        Ok(()) => ExitCode::from(0),
-        Err(fault) => ExitCode::from(tell(rt, &fault)),
+        Ok(()) => ExitCode::from(Status::Ok.number()),
+        Err(fault) => ExitCode::from(tell(rt, &fault).number()),
     }
 }

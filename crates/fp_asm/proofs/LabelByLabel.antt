@@ -1,5 +1,7 @@
 -- Labels, label by label.
-use Rattle.std.proofs.Common.{◌≡◌, ℕ, List, [], ◌∷◌, Result, Ok, Err, Bor, Ordering, true, false, refl, ap, ◌∙◌, map, is_some, take, drop, length, length-drop, drop-drop, ◌-◌, ◌+◌, arith, true≢false}
+use Rattle.std.proofs.Common.{◌≡◌, ℕ, List, [], ◌∷◌, Result, Ok, Err, Bor, Ordering}
+use Rattle.std.proofs.Common.{true, false, refl, ap, ◌∙◌, map, is_some, take, drop}
+use Rattle.std.proofs.Common.{length, length-drop, drop-drop, ◌-◌, ◌+◌, arith, true≢false}
 use Rattle.std.specs.declared.cmp.Ordering.TheVariants.{Less, Equal, Greater}
 use Rattle.std.specs.Ordering.{nat_cmp, match_ordering}
 use Rattle.std.specs.Cmp.Lexicographic.{slice_cmp}
@@ -7,7 +9,7 @@ use Rattle.std.specs.BTreeMap.{insert_entry, is_at}
 use Rattle.std.specs.Map.{lookup}
 use Rattle.std.proofs.lemmas.List.{take_all}
 use Rattle.fp_asm.specs.Pieces.{Piece, name, number, comma, colon, opening, closing, plus, minus}
-use Rattle.fp_asm.specs.First.{Labels, location_of, with_label, labelled, has_label}
+use Rattle.fp_asm.specs.First.{Labels, location_of, with_label, with_labels, has_label}
 use Rattle.fp_asm.specs.Second.{after_labels}
 use Rattle.fp_asm.specs.Faults.{IsStopOf}
 use Rattle.fp_asm.specs.declared.refusal.AsmNo.{AsmNo}
@@ -19,37 +21,57 @@ use Rattle.fp_asm.specs.declared.refusal.Stop.TheVariants as stop
 abbrev pub seen : List (Bor (List ℕ) × ℕ) → Labels
 seen es = map (λ e. (e.0.now, e.1)) es
 
-pub location_seen : (es : List (Bor (List ℕ) × ℕ)) (x : List ℕ) → location_of (seen es) x ≡ lookup (λ k. is_at (slice_cmp nat_cmp x) k.now) es
+pub location_seen : (es : List (Bor (List ℕ) × ℕ)) (x : List ℕ) →
+    location_of (seen es) x ≡ lookup (λ k. is_at (slice_cmp nat_cmp x) k.now) es
 location_seen [] x = refl
 location_seen (e ∷ es) x = rw (location_seen es x) refl
 
-insert_seen : (es : List (Bor (List ℕ) × ℕ)) (x : Bor (List ℕ)) (p : ℕ) → seen (insert_entry (λ a b. slice_cmp nat_cmp a.now b.now) es x p) ≡ insert_entry (slice_cmp nat_cmp) (seen es) x.now p
+insert_seen : (es : List (Bor (List ℕ) × ℕ)) (x : Bor (List ℕ)) (p : ℕ) →
+    seen (insert_entry (λ a b. slice_cmp nat_cmp a.now b.now) es x p)
+    ≡ insert_entry (slice_cmp nat_cmp) (seen es) x.now p
 insert_seen [] x p = refl
 insert_seen (e ∷ es) x p = go (insert_seen es x p) (slice_cmp nat_cmp x.now e.0.now)
   where
-    go : seen (insert_entry (λ a b. slice_cmp nat_cmp a.now b.now) es x p) ≡ insert_entry (slice_cmp nat_cmp) (seen es) x.now p → (o : Ordering) → seen (match_ordering o ((x, p) ∷ e ∷ es) ((e.0, p) ∷ es) (e ∷ insert_entry (λ a b. slice_cmp nat_cmp a.now b.now) es x p)) ≡ match_ordering o ((x.now, p) ∷ seen (e ∷ es)) ((e.0.now, p) ∷ seen es) ((e.0.now, e.1) ∷ insert_entry (slice_cmp nat_cmp) (seen es) x.now p)
+    go : seen (insert_entry (λ a b. slice_cmp nat_cmp a.now b.now) es x p)
+        ≡ insert_entry (slice_cmp nat_cmp) (seen es) x.now p → (o : Ordering) →
+        seen (match_ordering o ((x, p) ∷ e ∷ es) ((e.0, p) ∷ es)
+        (e ∷ insert_entry (λ a b. slice_cmp nat_cmp a.now b.now) es x p))
+        ≡ match_ordering o ((x.now, p) ∷ seen (e ∷ es)) ((e.0.now, p) ∷ seen es)
+        ((e.0.now, e.1) ∷ insert_entry (slice_cmp nat_cmp) (seen es) x.now p)
     go h Less = refl
     go h Equal = refl
     go h Greater = ap (λ rest. (e.0.now, e.1) ∷ rest) h
 
-pub label_there : (es : List (Bor (List ℕ) × ℕ)) (x : List ℕ) (p : ℕ) → is_some (lookup (λ k. is_at (slice_cmp nat_cmp x) k.now) es) ≡ true → with_label p (seen es) x ≡ Err no.DoubleLabel
+pub label_there : (es : List (Bor (List ℕ) × ℕ)) (x : List ℕ) (p : ℕ) →
+    is_some (lookup (λ k. is_at (slice_cmp nat_cmp x) k.now) es) ≡ true →
+    with_label p (seen es) x ≡ Err no.DoubleLabel
 unfolding with_label
 label_there es x p h = rw (location_seen es x, h) refl
 
-pub label_new : (es : List (Bor (List ℕ) × ℕ)) (x : Bor (List ℕ)) (p : ℕ) → is_some (lookup (λ k. is_at (slice_cmp nat_cmp x.now) k.now) es) ≡ false → with_label p (seen es) x.now ≡ Ok (seen (insert_entry (λ a b. slice_cmp nat_cmp a.now b.now) es x p))
+pub label_new : (es : List (Bor (List ℕ) × ℕ)) (x : Bor (List ℕ)) (p : ℕ) →
+    is_some (lookup (λ k. is_at (slice_cmp nat_cmp x.now) k.now) es) ≡ false →
+    with_label p (seen es) x.now
+    ≡ Ok (seen (insert_entry (λ a b. slice_cmp nat_cmp a.now b.now) es x p))
 unfolding with_label
 label_new es x p h = rw (location_seen es x.now, h, insert_seen es x p) refl
 
-pub labelled_step : (location : ℕ) (labels more : Labels) (x : List ℕ) (ps rest : List Piece) → ps ≡ name x ∷ (colon ∷ rest) → with_label location labels x ≡ Ok more → labelled location labels ps ≡ labelled location more rest
-unfolding labelled
+pub labelled_step : (location : ℕ) (labels more : Labels) (x : List ℕ) (ps rest : List Piece) →
+    ps ≡ name x ∷ (colon ∷ rest) → with_label location labels x ≡ Ok more →
+    with_labels location labels ps ≡ with_labels location more rest
+unfolding with_labels
 labelled_step location labels more x ps rest e h = rw (e, h) refl
 
-labelled_fault : (location : ℕ) (labels : Labels) (x : List ℕ) (ps rest : List Piece) (c : AsmNo) → ps ≡ name x ∷ (colon ∷ rest) → with_label location labels x ≡ Err c → labelled location labels ps ≡ Err c
-unfolding labelled
+labelled_fault : (location : ℕ) (labels : Labels) (x : List ℕ) (ps rest : List Piece) (c : AsmNo) →
+    ps ≡ name x ∷ (colon ∷ rest) → with_label location labels x ≡ Err c →
+    with_labels location labels ps ≡ Err c
+unfolding with_labels
 labelled_fault location labels x ps rest c e h = rw (e, h) refl
 
-pub stop_step : (whole : Result (Labels × List Piece) AsmNo) (location : ℕ) (labels : Labels) (x : List ℕ) (ps rest : List Piece) (s : Stop) → whole ≡ labelled location labels ps → ps ≡ name x ∷ (colon ∷ rest) → IsStopOf (with_label location labels x) s → IsStopOf whole s
-stop_step whole location labels x ps rest (stop.Fault code) so e h = so ∙ labelled_fault location labels x ps rest code e h
+pub stop_step : (whole : Result (Labels × List Piece) AsmNo) (location : ℕ) (labels : Labels)
+    (x : List ℕ) (ps rest : List Piece) (s : Stop) → whole ≡ with_labels location labels ps →
+    ps ≡ name x ∷ (colon ∷ rest) → IsStopOf (with_label location labels x) s → IsStopOf whole s
+stop_step whole location labels x ps rest (stop.Fault code) so e h =
+    so ∙ labelled_fault location labels x ps rest code e h
 stop_step whole location labels x ps rest stop.NoMemory so e h = tt
 
 pub rest_all : {A : Type 0} (xs : List A) (n : ℕ) → take (length xs - n) (drop n xs) ≡ drop n xs
@@ -59,8 +81,9 @@ pub two_more : {A : Type 0} (xs : List A) (n : ℕ) → drop 2 (drop n xs) ≡ d
 two_more xs n = drop-drop 2 n xs
 
 -- pieces that begin with no label
-pub labelled_none : (location : ℕ) (labels : Labels) (ps : List Piece) → has_label ps ≡ false → labelled location labels ps ≡ Ok (labels, ps)
-unfolding labelled has_label
+pub labelled_none : (location : ℕ) (labels : Labels) (ps : List Piece) → has_label ps ≡ false →
+    with_labels location labels ps ≡ Ok (labels, ps)
+unfolding with_labels has_label
 labelled_none location labels [] h = refl
 labelled_none location labels (name x ∷ []) h = refl
 labelled_none location labels (name x ∷ name y ∷ ps) h = refl
@@ -79,7 +102,8 @@ labelled_none location labels (closing ∷ ps) h = refl
 labelled_none location labels (plus ∷ ps) h = refl
 labelled_none location labels (minus ∷ ps) h = refl
 
-pub after_step : (x : List ℕ) (ps rest : List Piece) → ps ≡ name x ∷ (colon ∷ rest) → after_labels ps ≡ after_labels rest
+pub after_step : (x : List ℕ) (ps rest : List Piece) → ps ≡ name x ∷ (colon ∷ rest) →
+    after_labels ps ≡ after_labels rest
 unfolding after_labels
 after_step x ps rest e = rw e refl
 
@@ -102,3 +126,12 @@ after_none (opening ∷ ps) h = refl
 after_none (closing ∷ ps) h = refl
 after_none (plus ∷ ps) h = refl
 after_none (minus ∷ ps) h = refl
+
+-- a label that is added
+pub ruleset added = (label_there, label_new)
+
+-- one label more, or none
+pub ruleset labelling = (labelled_step, stop_step, labelled_none)
+
+-- one label more that is skipped, or none
+pub ruleset skipping = (after_step, after_none)

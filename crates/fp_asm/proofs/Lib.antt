@@ -1,3 +1,4 @@
+pub mod Opened
 pub mod Rows
 mod Worked
 pub mod Between

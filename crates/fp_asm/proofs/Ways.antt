@@ -1,5 +1,6 @@
 -- Ways between multiples of four.
-use Rattle.std.proofs.Common.{◌≡◌, ℕ, ◌<◌, ◌+◌, ◌-◌, ◌/◌, ◌%◌, ◌^◌, pos, ◌-ℤ◌, arith, Bool, true, false, cond, nat_lt}
+use Rattle.std.proofs.Common.{◌≡◌, ℕ, ◌<◌, ◌+◌, ◌-◌, ◌/◌, ◌%◌, ◌^◌, pos}
+use Rattle.std.proofs.Common.{◌-ℤ◌, arith, Bool, true, false, cond, nat_lt}
 use Rattle.std.proofs.lemmas.Int.{ints}
 use Rattle.rv_decode.specs.Fields.{sign_extended}
 use Rattle.rv_decode.specs.Range.{IsEven}
@@ -13,5 +14,7 @@ even_signed w h = go (nat_lt w (2 ^ 31))
     go false = (pos (w / 2) -ℤ pos (2 ^ 31), omega (arith, ints, h))
 
 -- the way from one multiple of four to another is even
-pub way_even : (location to : ℕ) → location < 2 ^ 32 → to < 2 ^ 32 → location % 4 ≡ 0 → to % 4 ≡ 0 → IsEven (way location to)
-way_even location to a b h k = even_signed ((to + (2 ^ 32 - location)) % 2 ^ 32) (omega (arith, a, b, h, k))
+pub way_even : (location to : ℕ) → location < 2 ^ 32 → to < 2 ^ 32 → location % 4 ≡ 0 → to % 4 ≡ 0 →
+    IsEven (way location to)
+way_even location to a b h k =
+    even_signed ((to + (2 ^ 32 - location)) % 2 ^ 32) (omega (arith, a, b, h, k))

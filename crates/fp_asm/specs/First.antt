@@ -1,5 +1,7 @@
 -- The first pass: labels and locations.
-use Rattle.std.specs.Prelude.{ℕ, zero, suc, ◌+◌, ◌^◌, ◌%◌, ◌&&◌, ◌||◌, not, Bool, true, false, List, [], ◌∷◌, Option, Some, None, is_some, Result, Ok, Err, if◌then◌else◌, nat_lt, nat_le, option_map}
+use Rattle.std.specs.Prelude.{ℕ, zero, suc, ◌+◌, ◌^◌, ◌%◌, ◌&&◌, ◌||◌, not, Bool, true}
+use Rattle.std.specs.Prelude.{false, List, [], ◌∷◌, Option, Some, None, is_some, Result}
+use Rattle.std.specs.Prelude.{Ok, Err, if◌then◌else◌, nat_lt, nat_le, option_map}
 use Rattle.std.specs.List.{list_any, list_all}
 use Rattle.std.specs.Ordering.{nat_cmp}
 use Rattle.std.specs.Cmp.Lexicographic.{slice_cmp}
@@ -24,7 +26,9 @@ location_of labels x = lookup (is_at (slice_cmp nat_cmp x)) labels
 
 -- with one more label at a location, which must be new
 unfoldable pub with_label : ℕ → Labels → Text → Result Labels AsmNo
-with_label location labels x = if is_some (location_of labels x) then Err no.DoubleLabel else Ok (insert_entry (slice_cmp nat_cmp) labels x location)
+with_label location labels x =
+    if is_some (location_of labels x) then Err no.DoubleLabel
+    else Ok (insert_entry (slice_cmp nat_cmp) labels x location)
 
 -- the pieces begin with a label
 unfoldable pub has_label : List Piece → Bool
@@ -32,9 +36,10 @@ has_label (name x ∷ colon ∷ ps) = true
 has_label _ = false
 
 -- with the labels at the head of the pieces, and the pieces after them
-unfoldable pub labelled : ℕ → Labels → List Piece → Result (Labels × List Piece) AsmNo
-labelled location labels (name x ∷ colon ∷ ps) = next (with_label location labels x) (λ more. labelled location more ps)
-labelled location labels ps = Ok (labels, ps)
+unfoldable pub with_labels : ℕ → Labels → List Piece → Result (Labels × List Piece) AsmNo
+with_labels location labels (name x ∷ colon ∷ ps) =
+    next (with_label location labels x) (λ more. with_labels location more ps)
+with_labels location labels ps = Ok (labels, ps)
 
 -- a scratchpad of the small size has the address
 abbrev pub is_inside : ℕ → Bool
@@ -56,7 +61,9 @@ with_taken taken (a ∷ more) = with_taken (insert_key nat_cmp taken a) more
 
 -- with these addresses, which must be in scratchpads and new
 unfoldable pub take_addresses : List ℕ → List ℕ → Result (List ℕ) AsmNo
-take_addresses taken more = holds (list_all is_inside more) no.OutsideMemory (holds (list_all (λ a. not (is_taken taken a)) more) no.Overlap (Ok (with_taken taken more)))
+take_addresses taken more =
+    holds (list_all is_inside more) no.OutsideMemory
+    (holds (list_all (λ a. not (is_taken taken a)) more) no.Overlap (Ok (with_taken taken more)))
 
 -- What the first pass knows: the location, the labels, and the addresses that were placed.
 pub record Placed : Type 0 where
@@ -69,22 +76,26 @@ abbrev pub start : Placed
 start = record { location = 0; labels = []; taken = [] }
 
 -- how many words the statement that follows the labels places, and the location after it
-unfoldable pub sized : ℕ → List Piece → Result (Option (ℕ × ℕ)) AsmNo
-sized location ps = next (statement_of ps) (λ s. Ok (option_map (λ s. (size_of s, location_after location s)) s))
+unfoldable pub placed_size : ℕ → List Piece → Result (Option (ℕ × ℕ)) AsmNo
+placed_size location ps =
+    next (statement_of ps) (λ s. Ok (option_map (λ s. (size_of s, location_after location s)) s))
 
 -- with the words of a statement, if there is one
 unfoldable pub placed_by : Placed → Option (ℕ × ℕ) → Result Placed AsmNo
 placed_by p None = Ok p
-placed_by p (Some s) = next (take_addresses p.taken (addresses p.location s.0)) (λ taken. Ok (record { location = s.1; labels = p.labels; taken = taken }))
+placed_by p (Some s) =
+    next (take_addresses p.taken (addresses p.location s.0))
+    (λ taken. Ok (record { location = s.1; labels = p.labels; taken = taken }))
 
 -- the first pass over a line
 unfoldable pub first_line : Placed → Text → Result Placed AsmNo
 first_line p line =
     next (pieces_of line) (λ ps.
-    next (labelled p.location p.labels ps) (λ l.
-    next (sized p.location l.1) (placed_by (record p { labels = l.0 }))))
+    next (with_labels p.location p.labels ps) (λ l.
+    next (placed_size p.location l.1) (placed_by (record p { labels = l.0 }))))
 
 -- the first pass from line number n on
 unfoldable pub first_pass : ℕ → Placed → List Text → Result Placed AsmRefused
 first_pass n p [] = Ok p
-first_pass n p (line ∷ lines) = next (in_line n (first_line p line)) (λ p. first_pass (n + 1) p lines)
+first_pass n p (line ∷ lines) =
+    next (in_line n (first_line p line)) (λ p. first_pass (n + 1) p lines)

@@ -11,6 +11,6 @@ pub mod First
 pub mod Second
 pub mod Runs
 pub mod Source
-pub mod PiecesAsDefined
-pub mod OperandsAsDefined
-pub mod PassesAsDefined
+pub mod AbstractPieces
+pub mod AbstractOperands
+pub mod AbstractPasses

@@ -4,7 +4,10 @@ use Rattle.fp_asm.specs.Between.{between}
 
 -- a line without the carriage return before its line feed
 unfoldable pub without_return : List ℕ → List ℕ
-without_return line = if nat_lt 0 (length line) && get_or line (length line - 1) 0 == 13 then take (length line - 1) line else line
+without_return line =
+    if nat_lt 0 (length line) && get_or line (length line - 1) 0 == 13
+    then take (length line - 1) line
+    else line
 
 -- The lines: what stands between line feeds, where one carriage return before a line feed is
 -- dropped. What follows the last line feed is a line too; where it is empty it has no effect.

@@ -1,7 +1,8 @@
 -- The operands of a mnemonic.
-use Rattle.std.specs.Prelude.{ℕ, ◌<◌, ℤ, pos, neg_ℤ, List, [], ◌∷◌, Option, Some, None, option_map, option_and_then}
+use Rattle.std.specs.Prelude.{ℕ, ◌<◌, ℤ, pos, neg_ℤ, List, [], ◌∷◌, Option}
+use Rattle.std.specs.Prelude.{Some, None, option_map, option_and_then}
 use Rattle.fp_asm.specs.Pieces.{Text, Piece, name, number, opening, closing, plus, minus}
-use Rattle.fp_asm.specs.Names.{register, csr}
+use Rattle.fp_asm.specs.Names.{register_number, csr}
 use Rattle.fp_asm.specs.declared.table.Slot.{Slot}
 use Rattle.fp_asm.specs.declared.table.Slot.TheVariants.{Rd, Rs1, Rs2, Csr, Number, Memory, Value}
 
@@ -21,7 +22,8 @@ pub record Operands : Type 0 where
 
 -- no operand: register 0 and the number 0
 abbrev pub nothing_given : Operands
-nothing_given = record { rd = 0; rs1 = 0; rs2 = 0; csr_number = 0; given = pos 0; target = plain (pos 0) }
+nothing_given =
+    record { rd = 0; rs1 = 0; rs2 = 0; csr_number = 0; given = pos 0; target = plain (pos 0) }
 
 -- registers are numbers below 32
 abbrev pub HasRegisters : Operands → Type 0
@@ -29,7 +31,7 @@ HasRegisters o = (o.rd < 32) × (o.rs1 < 32) × (o.rs2 < 32)
 
 -- an operand that is a register
 unfoldable pub register_in : List Piece → Option ℕ
-register_in (name x ∷ []) = register x
+register_in (name x ∷ []) = register_number x
 register_in _ = None
 
 -- a number with an optional `-`
@@ -53,27 +55,31 @@ csr_in _ = None
 
 -- an offset and a base: `N(rs1)`
 unfoldable pub memory_in : List Piece → Option (ℤ × ℕ)
-memory_in (number n ∷ opening ∷ name x ∷ closing ∷ []) = option_map (λ base. (pos n, base)) (register x)
-memory_in (minus ∷ number n ∷ opening ∷ name x ∷ closing ∷ []) = option_map (λ base. (neg_ℤ (pos n), base)) (register x)
+memory_in (number n ∷ opening ∷ name x ∷ closing ∷ []) =
+    option_map (λ base. (pos n, base)) (register_number x)
+memory_in (minus ∷ number n ∷ opening ∷ name x ∷ closing ∷ []) =
+    option_map (λ base. (neg_ℤ (pos n), base)) (register_number x)
 memory_in _ = None
 
 -- with one more operand
-unfoldable pub filled : Slot → List Piece → Operands → Option Operands
-filled Rd ps o = option_map (λ r. record o { rd = r }) (register_in ps)
-filled Rs1 ps o = option_map (λ r. record o { rs1 = r }) (register_in ps)
-filled Rs2 ps o = option_map (λ r. record o { rs2 = r }) (register_in ps)
-filled Csr ps o = option_map (λ n. record o { csr_number = n }) (csr_in ps)
-filled Number ps o = option_map (λ n. record o { given = n }) (number_in ps)
-filled Memory ps o = option_map (λ m. record o { given = m.0; rs1 = m.1 }) (memory_in ps)
-filled Value ps o = option_map (λ v. record o { target = v }) (target_in ps)
+unfoldable pub with_operand : Slot → List Piece → Operands → Option Operands
+with_operand Rd ps o = option_map (λ r. record o { rd = r }) (register_in ps)
+with_operand Rs1 ps o = option_map (λ r. record o { rs1 = r }) (register_in ps)
+with_operand Rs2 ps o = option_map (λ r. record o { rs2 = r }) (register_in ps)
+with_operand Csr ps o = option_map (λ n. record o { csr_number = n }) (csr_in ps)
+with_operand Number ps o = option_map (λ n. record o { given = n }) (number_in ps)
+with_operand Memory ps o = option_map (λ m. record o { given = m.0; rs1 = m.1 }) (memory_in ps)
+with_operand Value ps o = option_map (λ v. record o { target = v }) (target_in ps)
 
 -- with one operand for each slot
 unfoldable pub all_filled : List Slot → List (List Piece) → Operands → Option Operands
 all_filled [] [] o = Some o
-all_filled (slot ∷ slots) (ps ∷ rest) o = option_and_then (all_filled slots rest) (filled slot ps o)
+all_filled (slot ∷ slots) (ps ∷ rest) o =
+    option_and_then (all_filled slots rest) (with_operand slot ps o)
 all_filled _ _ o = None
 
 -- each operand as a target
 unfoldable pub all_targets : List (List Piece) → Option (List Target)
 all_targets [] = Some []
-all_targets (ps ∷ rest) = option_and_then (λ v. option_map (λ vs. v ∷ vs) (all_targets rest)) (target_in ps)
+all_targets (ps ∷ rest) =
+    option_and_then (λ v. option_map (λ vs. v ∷ vs) (all_targets rest)) (target_in ps)

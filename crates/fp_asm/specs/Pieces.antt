@@ -1,5 +1,6 @@
 -- The tokens of a line with their texts, and its operands.
-use Rattle.std.specs.Prelude.{Bool, true, false, ℕ, ◌==◌, List, [], ◌∷◌, Result, Ok, Err, if◌then◌else◌, map, slice_range}
+use Rattle.std.specs.Prelude.{Bool, true, false, ℕ, ◌==◌, List, [], ◌∷◌}
+use Rattle.std.specs.Prelude.{Result, Ok, Err, if◌then◌else◌, map, slice_range}
 use Rattle.fp_lex.specs.Tokens.{tokens_of}
 use Rattle.fp_lex.specs.declared.token.Token.{Token}
 use Rattle.fp_lex.specs.declared.token.LexNo.{LexNo}
@@ -25,7 +26,13 @@ pub data Piece : Type 0 where
 
 -- `,` `:` `(` `)` `+` and else `-`
 abbrev pub mark : ℕ → Piece
-mark b = if b == 44 then comma else if b == 58 then colon else if b == 40 then opening else if b == 41 then closing else if b == 43 then plus else minus
+mark b =
+    if b == 44 then comma
+    else if b == 58 then colon
+    else if b == 40 then opening
+    else if b == 41
+    then closing
+    else if b == 43 then plus else minus
 
 -- the piece of a token, by its kind, text and value
 abbrev pub piece_of : kind.the_data → Text → ℕ → Piece

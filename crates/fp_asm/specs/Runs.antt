@@ -1,5 +1,6 @@
 -- The maximal runs of placed addresses, and their words.
-use Rattle.std.specs.Prelude.{◌≡◌, ℕ, zero, suc, ◌==◌, ◌+◌, ◌*◌, ◌/◌, ◌%◌, ◌≤◌, List, [], ◌∷◌, ◌++◌, if◌then◌else◌, unwrap_or, IsTrue}
+use Rattle.std.specs.Prelude.{◌≡◌, ℕ, zero, suc, ◌==◌, ◌+◌, ◌*◌, ◌/◌, ◌%◌, ◌≤◌}
+use Rattle.std.specs.Prelude.{List, [], ◌∷◌, ◌++◌, if◌then◌else◌, unwrap_or, IsTrue}
 use Rattle.std.specs.Ordering.{nat_cmp}
 use Rattle.std.specs.BTreeMap.{is_at}
 use Rattle.std.specs.Map.{lookup}
@@ -11,7 +12,9 @@ use Rattle.fp_asm.specs.declared.runs.Run.{Run}
 -- the maximal runs of rising addresses, where one of n words from a on stands before the list
 unfoldable pub runs_from : ℕ → ℕ → List ℕ → List Run
 runs_from a n [] = record { first = a; count = n } ∷ []
-runs_from a n (b ∷ bs) = if b == a + 4 * n then runs_from a (n + 1) bs else record { first = a; count = n } ∷ runs_from b 1 bs
+runs_from a n (b ∷ bs) =
+    if b == a + 4 * n then runs_from a (n + 1) bs
+    else record { first = a; count = n } ∷ runs_from b 1 bs
 
 -- the maximal runs of rising addresses
 unfoldable pub runs_of : List ℕ → List Run

@@ -1,5 +1,7 @@
 -- The statement of a line, and what it places.
-use Rattle.std.specs.Prelude.{ℕ, ◌==◌, ◌+◌, ◌*◌, ◌^◌, ◌/◌, ◌%◌, ◌-◌, ℤ, pos, neg_ℤ, nat_abs, Bool, true, false, List, [], ◌∷◌, Option, Some, None, Result, Ok, Err, if◌then◌else◌, option_map, length}
+use Rattle.std.specs.Prelude.{ℕ, ◌==◌, ◌+◌, ◌*◌, ◌^◌, ◌/◌, ◌%◌, ◌-◌, ℤ, pos, neg_ℤ}
+use Rattle.std.specs.Prelude.{nat_abs, Bool, true, false, List, [], ◌∷◌, Option, Some}
+use Rattle.std.specs.Prelude.{None, Result, Ok, Err, if◌then◌else◌, option_map, length}
 use Rattle.rv_decode.specs.Encoding.{low_bits}
 use Rattle.region_guard.specs.MemoryMap.{small_size}
 use Rattle.fp_asm.specs.Pieces.{Text, Piece, name, operands_of}
@@ -31,28 +33,35 @@ some_targets (ps ∷ rest) = all_targets (ps ∷ rest)
 -- the statement of a mnemonic with its operands; None where their number or form is wrong
 unfoldable pub statement_in : Mnemonic → List (List Piece) → Option Statement
 statement_in m operands =
-    if is_words m.makes then option_map (λ vs. record { makes = m.makes; operands = nothing_given; values = vs }) (some_targets operands)
-    else option_map (λ o. record { makes = m.makes; operands = o; values = [] }) (all_filled m.form operands nothing_given)
+    if is_words m.makes
+    then option_map (λ vs. record { makes = m.makes; operands = nothing_given; values = vs })
+    (some_targets operands)
+    else option_map (λ o. record { makes = m.makes; operands = o; values = [] })
+    (all_filled m.form operands nothing_given)
 
 -- a number from 0 to a limit that must be a multiple of four
 unfoldable pub aligned_to : ℕ → ℤ → Result (Unit {0}) AsmNo
-aligned_to most n = holds (is_within (pos 0) (pos most) n) no.OutOfRange (holds (nat_abs n % 4 == 0) no.Misaligned (Ok tt))
+aligned_to most n =
+    holds (is_within (pos 0) (pos most) n) no.OutOfRange
+    (holds (nat_abs n % 4 == 0) no.Misaligned (Ok tt))
 
 -- the check by what is made: `.org`, `.space` and LI have one
 abbrev pub checked_as : Makes → ℤ → Result (Unit {0}) AsmNo
 checked_as Org n = aligned_to (2 ^ 32 - 4) n
 checked_as Space n = aligned_to small_size n
-checked_as Li n = holds (is_within (neg_ℤ (pos (2 ^ 31))) (pos (2 ^ 32 - 1)) n) no.OutOfRange (Ok tt)
+checked_as Li n =
+    holds (is_within (neg_ℤ (pos (2 ^ 31))) (pos (2 ^ 32 - 1)) n) no.OutOfRange (Ok tt)
 checked_as _ n = Ok tt
 
 -- the checks of a statement's number that come before any label is known
-unfoldable pub checked : Statement → Result (Unit {0}) AsmNo
-checked s = checked_as s.makes s.operands.given
+unfoldable pub statement_check : Statement → Result (Unit {0}) AsmNo
+statement_check s = checked_as s.makes s.operands.given
 
 -- the statement of a name and what follows it
 unfoldable pub statement_named : Text → List Piece → Result Statement AsmNo
 statement_named x ps =
-    next (present no.UnknownName (mnemonic x)) (λ m. next (present no.Operands (statement_in m (operands_of ps))) (λ s. next (checked s) (λ _. Ok s)))
+    next (present no.UnknownName (mnemonic x)) (λ m. next (present no.Operands
+    (statement_in m (operands_of ps))) (λ s. next (statement_check s) (λ _. Ok s)))
 
 -- The statement that follows the labels, where there is one. What follows them begins with a name.
 unfoldable pub statement_of : List Piece → Result (Option Statement) AsmNo

@@ -1,9 +1,13 @@
 -- The instructions that mnemonics make.
-use Rattle.std.specs.Prelude.{ℕ, ◌==◌, ◌+◌, ◌^◌, ◌/◌, ◌%◌, ◌&&◌, ℤ, pos, negsuc, neg_ℤ, nat_abs, Bool, List, [], ◌∷◌, Option, Some, None, if◌then◌else◌}
+use Rattle.std.specs.Prelude.{ℕ, ◌==◌, ◌+◌, ◌^◌, ◌/◌, ◌%◌, ◌&&◌, ℤ, pos, negsuc, neg_ℤ}
+use Rattle.std.specs.Prelude.{nat_abs, Bool, List, [], ◌∷◌, Option, Some, None, if◌then◌else◌}
 use Rattle.std.specs.Int.Signed.{le_z}
 use Rattle.rv_decode.specs.Fields.{sign_extended}
 use Rattle.rv_decode.specs.declared.instruction.Ins.{Ins}
-use Rattle.rv_decode.specs.declared.instruction.Ins.TheVariants.{Lui, Auipc, Jalr, Load, Store, OpImm, Shift, Op, Muldiv, Fence, Ecall, Ebreak, Mret, Csr, Gt, Gth, Du, Wu, Ee, De}
+use Rattle.rv_decode.specs.declared.instruction.Ins.TheVariants.{Lui, Auipc, Jalr, Load, Store}
+use Rattle.rv_decode.specs.declared.instruction.Ins.TheVariants.{OpImm, Shift, Op, Muldiv}
+use Rattle.rv_decode.specs.declared.instruction.Ins.TheVariants.{Fence, Ecall, Ebreak, Mret}
+use Rattle.rv_decode.specs.declared.instruction.Ins.TheVariants.{Csr, Gt, Gth, Du, Wu, Ee, De}
 use Rattle.rv_decode.specs.declared.instruction.ImmOp.TheVariants.{Addi, Xori}
 use Rattle.fp_asm.specs.Operands.{Operands}
 use Rattle.fp_asm.specs.declared.table.Plain.{Plain}
@@ -40,14 +44,17 @@ unfoldable pub instruction : Plain → Operands → Option Ins
 instruction (plain.Op op) o = Some (Op op o.rd o.rs1 o.rs2)
 instruction (plain.Muldiv op) o = Some (Muldiv op o.rd o.rs1 o.rs2)
 instruction (plain.OpImm op) o = with_number (signed_12 o.given) (λ imm. OpImm op o.rd o.rs1 imm)
-instruction (plain.Shift op) o = with_number (up_to 31 o.given) (λ amount. Shift op o.rd o.rs1 amount)
+instruction (plain.Shift op) o =
+    with_number (up_to 31 o.given) (λ amount. Shift op o.rd o.rs1 amount)
 instruction (plain.Load op) o = with_number (signed_12 o.given) (λ imm. Load op o.rd o.rs1 imm)
 instruction (plain.Store op) o = with_number (signed_12 o.given) (λ imm. Store op o.rs1 o.rs2 imm)
 instruction plain.Jalr o = with_number (signed_12 o.given) (λ imm. Jalr o.rd o.rs1 imm)
 instruction plain.Lui o = with_number (up_to 1048575 o.given) (λ imm. Lui o.rd imm)
 instruction plain.Auipc o = with_number (up_to 1048575 o.given) (λ imm. Auipc o.rd imm)
-instruction (plain.Csr op) o = with_number (up_to 4095 (pos o.csr_number)) (λ csr. Csr op o.rd csr o.rs1)
-instruction (plain.CsrImm op) o = with_both (up_to 4095 (pos o.csr_number)) (up_to 31 o.given) (λ csr src. Csr op o.rd csr src)
+instruction (plain.Csr op) o =
+    with_number (up_to 4095 (pos o.csr_number)) (λ csr. Csr op o.rd csr o.rs1)
+instruction (plain.CsrImm op) o =
+    with_both (up_to 4095 (pos o.csr_number)) (up_to 31 o.given) (λ csr src. Csr op o.rd csr src)
 instruction plain.Gt o = Some (Gt o.rd)
 instruction plain.Gth o = Some (Gth o.rd)
 instruction plain.Du o = Some (Du o.rs1 o.rs2)
@@ -78,6 +85,7 @@ halves rd v = Lui rd (upper v) ∷ OpImm Addi rd rd (rest v) ∷ []
 -- low twelve bits are 0
 unfoldable pub load_instructions : ℕ → ℕ → List Ins
 load_instructions rd v =
-    if is_within (neg_ℤ (pos 2048)) (pos 2047) (sign_extended 32 v) then OpImm Addi rd 0 (sign_extended 32 v) ∷ []
+    if is_within (neg_ℤ (pos 2048)) (pos 2047) (sign_extended 32 v)
+    then OpImm Addi rd 0 (sign_extended 32 v) ∷ []
     else if v % 4096 == 0 then Lui rd (upper v) ∷ []
     else halves rd v

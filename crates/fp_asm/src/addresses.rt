@@ -2,7 +2,8 @@
 
 ghost use Rattle.std.specs.Prelude.{◌≡◌, ◌≤◌, IfErr, OnOk, Ok, not};
 ghost use Rattle.std.specs.List.{list_all};
-ghost use Rattle.fp_asm.specs.First.{is_inside as is_inside_of, addresses, is_taken, with_taken, take_addresses as take_addresses_of};
+ghost use Rattle.fp_asm.specs.First.{is_inside as is_inside_of, addresses, is_taken};
+ghost use Rattle.fp_asm.specs.First.{with_taken, take_addresses as take_addresses_of};
 ghost use Rattle.fp_asm.specs.Faults.{IsStopOf};
 
 use super::refusal::{AsmNo, Stop};
@@ -17,7 +18,7 @@ fn is_inside(a: u32) -> bool
 }
 
 // Whether the scratchpads have n words from a location on.
-#[tactic(auto, using(crate::proofs::WordByWord::addresses_here, crate::proofs::WordByWord::addresses_end))]
+#[tactic(auto, using(crate::proofs::WordByWord::counting))]
 fn are_inside(location: u32, n: u32) -> bool
     ensures { result ≡ list_all is_inside_of (addresses location n) }
 {
@@ -34,7 +35,7 @@ fn are_inside(location: u32, n: u32) -> bool
 }
 
 // Whether none of n words from a location on was placed.
-#[tactic(auto, using(crate::proofs::WordByWord::addresses_here, crate::proofs::WordByWord::addresses_end))]
+#[tactic(auto, using(crate::proofs::WordByWord::counting))]
 fn are_free(taken: &BTreeSet<u32>, location: u32, n: u32) -> bool
     ensures { result ≡ list_all (λ a. not (is_taken taken.now.keys a)) (addresses location n) }
 {
@@ -50,7 +51,7 @@ fn are_free(taken: &BTreeSet<u32>, location: u32, n: u32) -> bool
     true
 }
 
-#[tactic(auto, using(crate::proofs::WordByWord::addresses_here, crate::proofs::WordByWord::addresses_end))]
+#[tactic(auto, using(crate::proofs::WordByWord::counting))]
 fn take(taken: &mut BTreeSet<u32>, location: u32, n: u32) -> Result<(), AllocError>
     ensures { OnOk result (taken.new.keys ≡ with_taken taken.old.keys (addresses location n)) }
 {

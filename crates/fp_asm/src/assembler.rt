@@ -1,7 +1,7 @@
 //! From a source to an image.
 
 ghost use Rattle.std.specs.Prelude.{◌≡◌, ◌≤◌, ◌<◌, ◌^◌, IfOk, IfErr, Ok, map, length, All};
-ghost use Rattle.fp_asm.specs.Source.{assembled, assembled_lines, segments_at};
+ghost use Rattle.fp_asm.specs.Source.{assembly_of, assembled_lines, segments_at};
 ghost use Rattle.fp_asm.specs.Faults.{IsFaultOf};
 ghost use Rattle.fp_asm.specs.Runs.{ArePlaced};
 
@@ -18,7 +18,10 @@ use std::collections::{BTreeMap, BTreeSet};
 /// How many bytes a source may have.
 pub const MOST_SOURCE_BYTES: usize = 1_048_576;
 
-// The image of the words at the addresses that were taken, of 16 runs at most.
+/// How many runs of words an image may have.
+const MOST_SEGMENTS: usize = fp_image::MOST_SEGMENTS as usize;
+
+// The image of the words at the addresses that were taken, of at most MOST_SEGMENTS runs.
 #[tactic(auto, unfolding(crate::specs::Source::segments_at))]
 fn image_at(
     alloc: Global,
@@ -32,7 +35,7 @@ fn image_at(
 {
     let addresses = rising(alloc, taken)?;
     let runs = runs_of(alloc, addresses.as_slice())?;
-    if runs.len() > 16 {
+    if runs.len() > MOST_SEGMENTS {
         return Err(AsmRefused::Fault {
             line: 0,
             code: AsmNo::TooManySegments,
@@ -63,11 +66,11 @@ fn assemble_lines(alloc: Global, lines: &[&[u8]]) -> Result<Image, AsmRefused>
 ///
 /// The first fault of the source, in this order: a source that is too long; the faults of a first
 /// pass over the lines, which knows locations and labels; those of a second pass, which knows all
-/// labels; more than 16 segments. `NoMemory` where memory was refused.
-#[tactic(auto, unfolding(crate::specs::Source::assembled))]
+/// labels; more segments than an image may have. `NoMemory` where memory was refused.
+#[tactic(auto, unfolding(crate::specs::Source::assembly_of))]
 pub fn assemble(alloc: Global, source: &[u8]) -> Result<Image, AsmRefused>
-    ensures image { IfOk result (λ image. assembled source.now ≡ Ok image) }
-    ensures refused { IfErr result (IsFaultOf (assembled source.now)) }
+    ensures image { IfOk result (λ image. assembly_of source.now ≡ Ok image) }
+    ensures refused { IfErr result (IsFaultOf (assembly_of source.now)) }
 {
     if source.len() > MOST_SOURCE_BYTES {
         return Err(AsmRefused::Fault {

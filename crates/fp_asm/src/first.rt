@@ -1,9 +1,11 @@
 //! The first pass: labels and locations.
 
-ghost use Rattle.std.specs.Prelude.{◌≡◌, ◌≤◌, ◌<◌, ◌^◌, IfOk, IfErr, OnOk, Ok, option_map, map, length, All};
-ghost use Rattle.fp_asm.specs.First.{sized as sized_of, first_line, first_pass as first_pass_of};
+ghost use Rattle.std.specs.Prelude.{◌≡◌, ◌≤◌, ◌<◌, ◌^◌, IfOk, IfErr, OnOk};
+ghost use Rattle.std.specs.Prelude.{Ok, option_map, map, length, All};
+ghost use Rattle.fp_asm.specs.First.{placed_size as sized_of, first_line};
+ghost use Rattle.fp_asm.specs.First.{first_pass as first_pass_of};
 ghost use Rattle.fp_asm.specs.Faults.{IsStopOf, IsFaultOf};
-ghost use Rattle.fp_asm.specs.PiecesAsDefined.{piece_as_defined};
+ghost use Rattle.fp_asm.specs.AbstractPieces.{abstract_piece};
 
 use super::addresses::take_addresses;
 use super::labels::{Labels, add_labels};
@@ -26,12 +28,12 @@ pub(crate) struct First<'a> {
 }
 
 // How many words the statement that follows the labels places, and the location after it.
-#[tactic(auto, unfolding(crate::specs::First::sized))]
+#[tactic(auto, unfolding(crate::specs::First::placed_size))]
 fn sized(alloc: Global, location: u32, pieces: &[Piece]) -> Result<Option<(u32, u32)>, Stop>
     requires { length pieces.now ≤ 64 }
-    ensures ok { IfOk result (λ s. sized_of location (map piece_as_defined pieces.now) ≡ Ok s) }
+    ensures ok { IfOk result (λ s. sized_of location (map abstract_piece pieces.now) ≡ Ok s) }
     ensures refused { IfErr result
-        (IsStopOf (sized_of location (map piece_as_defined pieces.now))) }
+        (IsStopOf (sized_of location (map abstract_piece pieces.now))) }
 {
     match statement_after(alloc, pieces)? {
         Some(statement) => Ok(Some((size(&statement), location_after(location, &statement)))),
@@ -41,11 +43,11 @@ fn sized(alloc: Global, location: u32, pieces: &[Piece]) -> Result<Option<(u32, 
 
 impl<'a> First<'a> {
     ghost use Rattle.fp_asm.specs.First.{start};
-    ghost use Rattle.fp_asm.specs.PassesAsDefined.{placed_as_defined};
+    ghost use Rattle.fp_asm.specs.AbstractPasses.{abstract_first};
 
     /// Before the first line: the location is 0, and there is no label and no word.
     pub(crate) fn new(alloc: Global) -> First<'a>
-        ensures { placed_as_defined result ≡ start }
+        ensures { abstract_first result ≡ start }
     {
         First {
             location: 0,
@@ -57,10 +59,10 @@ impl<'a> First<'a> {
     #[tactic(auto, unfolding(crate::specs::First::first_line, crate::specs::First::placed_by))]
     fn line(&mut self, alloc: Global, line: &'a [u8]) -> Result<(), Stop>
         requires { length line.now < 2 ^ 32 }
-        ensures ok { OnOk result (first_line (placed_as_defined self.old) line.now
-            ≡ Ok (placed_as_defined self.new)) }
+        ensures ok { OnOk result (first_line (abstract_first self.old) line.now
+            ≡ Ok (abstract_first self.new)) }
         ensures refused { IfErr result
-            (IsStopOf (first_line (placed_as_defined self.old) line.now)) }
+            (IsStopOf (first_line (abstract_first self.old) line.now)) }
     {
         let pieces = pieces(alloc, line)?;
         let n = add_labels(&mut self.labels, self.location, &pieces)?;
@@ -81,11 +83,11 @@ impl<'a> First<'a> {
     pub(crate) fn pass(&mut self, alloc: Global, lines: &[&'a [u8]]) -> Result<(), AsmRefused>
         requires short { All (λ l. length l.now < 2 ^ 32) lines.now }
         requires few { length lines.now < 2 ^ 31 }
-        ensures ok { OnOk result (first_pass_of 1 (placed_as_defined self.old)
-            (map (λ l. l.now) lines.now) ≡ Ok (placed_as_defined self.new)) }
+        ensures ok { OnOk result (first_pass_of 1 (abstract_first self.old)
+            (map (λ l. l.now) lines.now) ≡ Ok (abstract_first self.new)) }
         ensures refused { IfErr result
             (IsFaultOf
-            (first_pass_of 1 (placed_as_defined self.old) (map (λ l. l.now) lines.now))) }
+            (first_pass_of 1 (abstract_first self.old) (map (λ l. l.now) lines.now))) }
     {
         for (i, line) in lines.iter().enumerate() {
             match self.line(alloc, *line) {

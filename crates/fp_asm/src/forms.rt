@@ -1,9 +1,14 @@
 //! The forms of operands.
 
-ghost use Rattle.std.specs.Prelude.{◌≡◌, ◌<◌, ◌^◌, IfOk, IfSome, Some, None, option_map, map, length};
-ghost use Rattle.fp_asm.specs.Operands.{register_in as register_in_of, number_in as number_in_of, target_in as target_in_of, csr_in as csr_in_of, memory_in as memory_in_of, plain, filled, all_filled, all_targets, nothing_given as nothing_given_of, HasRegisters};
-ghost use Rattle.fp_asm.specs.PiecesAsDefined.{piece_as_defined, operand_as_defined};
-ghost use Rattle.fp_asm.specs.OperandsAsDefined.{target_as_defined, operands_as_defined};
+ghost use Rattle.std.specs.Prelude.{◌≡◌, ◌<◌, ◌^◌, IfOk, IfSome, Some};
+ghost use Rattle.std.specs.Prelude.{None, option_map, map, length};
+ghost use Rattle.fp_asm.specs.Operands.{register_in as register_in_of};
+ghost use Rattle.fp_asm.specs.Operands.{number_in as number_in_of, target_in as target_in_of};
+ghost use Rattle.fp_asm.specs.Operands.{csr_in as csr_in_of, memory_in as memory_in_of};
+ghost use Rattle.fp_asm.specs.Operands.{plain, with_operand, all_filled, all_targets};
+ghost use Rattle.fp_asm.specs.Operands.{nothing_given as nothing_given_of, HasRegisters};
+ghost use Rattle.fp_asm.specs.AbstractPieces.{abstract_piece, abstract_operand};
+ghost use Rattle.fp_asm.specs.AbstractOperands.{abstract_target, abstract_operands};
 
 use super::names::{csr, register};
 use super::operands::{Operands, Target};
@@ -13,7 +18,7 @@ use std::alloc::{AllocError, Global};
 
 /// The operands before any is read.
 pub(crate) fn nothing_given<'a>() -> Operands<'a>
-    ensures { operands_as_defined result ≡ nothing_given_of }
+    ensures { abstract_operands result ≡ nothing_given_of }
 {
     Operands {
         rd: 0,
@@ -27,7 +32,7 @@ pub(crate) fn nothing_given<'a>() -> Operands<'a>
 
 #[tactic(auto, unfolding(crate::specs::Operands::register_in))]
 fn register_in(pieces: &[Piece]) -> Option<u8>
-    ensures number { result ≡ register_in_of (map piece_as_defined pieces.now) }
+    ensures number { result ≡ register_in_of (map abstract_piece pieces.now) }
     ensures small { IfSome result (λ n. n < 32) }
 {
     match pieces {
@@ -38,7 +43,7 @@ fn register_in(pieces: &[Piece]) -> Option<u8>
 
 #[tactic(auto, unfolding(crate::specs::Operands::number_in))]
 fn number_in(pieces: &[Piece]) -> Option<i64>
-    ensures { result ≡ number_in_of (map piece_as_defined pieces.now) }
+    ensures { result ≡ number_in_of (map abstract_piece pieces.now) }
 {
     match pieces {
         [Piece::Number { value }] => Some(i64::from(*value)),
@@ -49,8 +54,8 @@ fn number_in(pieces: &[Piece]) -> Option<i64>
 
 // A number as a target.
 fn plain_in<'a>(pieces: &[Piece<'a>]) -> Option<Target<'a>>
-    ensures { option_map target_as_defined result
-        ≡ option_map plain (number_in_of (map piece_as_defined pieces.now)) }
+    ensures { option_map abstract_target result
+        ≡ option_map plain (number_in_of (map abstract_piece pieces.now)) }
 {
     match number_in(pieces) {
         Some(number) => Some(Target::Plain { number }),
@@ -60,8 +65,8 @@ fn plain_in<'a>(pieces: &[Piece<'a>]) -> Option<Target<'a>>
 
 #[tactic(auto, unfolding(crate::specs::Operands::target_in))]
 fn target_in<'a>(pieces: &[Piece<'a>]) -> Option<Target<'a>>
-    ensures { option_map target_as_defined result
-        ≡ target_in_of (map piece_as_defined pieces.now) }
+    ensures { option_map abstract_target result
+        ≡ target_in_of (map abstract_piece pieces.now) }
 {
     match pieces {
         [Piece::Name { text }] => Some(Target::Label {
@@ -82,7 +87,7 @@ fn target_in<'a>(pieces: &[Piece<'a>]) -> Option<Target<'a>>
 
 #[tactic(auto, unfolding(crate::specs::Operands::csr_in))]
 fn csr_in(pieces: &[Piece]) -> Option<u32>
-    ensures { result ≡ csr_in_of (map piece_as_defined pieces.now) }
+    ensures { result ≡ csr_in_of (map abstract_piece pieces.now) }
 {
     match pieces {
         [Piece::Number { value }] => Some(*value),
@@ -93,7 +98,7 @@ fn csr_in(pieces: &[Piece]) -> Option<u32>
 
 #[tactic(auto, unfolding(crate::specs::Operands::memory_in))]
 fn memory_in(pieces: &[Piece]) -> Option<(i64, u8)>
-    ensures memory { result ≡ memory_in_of (map piece_as_defined pieces.now) }
+    ensures memory { result ≡ memory_in_of (map abstract_piece pieces.now) }
     ensures small { IfSome result (λ m. m.1 < 32) }
 {
     match pieces {
@@ -121,12 +126,12 @@ fn memory_in(pieces: &[Piece]) -> Option<(i64, u8)>
 }
 
 /// The operands with one more.
-#[tactic(auto, unfolding(crate::specs::Operands::filled))]
+#[tactic(auto, unfolding(crate::specs::Operands::with_operand))]
 fn fill<'a>(slot: Slot, pieces: &[Piece<'a>], operands: &Operands<'a>) -> Option<Operands<'a>>
-    requires { HasRegisters (operands_as_defined operands.now) }
-    ensures filled { option_map operands_as_defined result
-        ≡ filled slot (map piece_as_defined pieces.now) (operands_as_defined operands.now) }
-    ensures registers { IfSome result (λ o. HasRegisters (operands_as_defined o)) }
+    requires { HasRegisters (abstract_operands operands.now) }
+    ensures filled { option_map abstract_operands result
+        ≡ with_operand slot (map abstract_piece pieces.now) (abstract_operands operands.now) }
+    ensures registers { IfSome result (λ o. HasRegisters (abstract_operands o)) }
 {
     match slot {
         Slot::Rd => match register_in(pieces) {
@@ -171,17 +176,17 @@ fn fill<'a>(slot: Slot, pieces: &[Piece<'a>], operands: &Operands<'a>) -> Option
 }
 
 /// The operands with one more for each slot of a form.
-#[tactic(auto, using(crate::proofs::Filling::fill_short), unfolding(crate::specs::Operands::all_filled))]
+#[tactic(auto, using(crate::proofs::Filling::fill_short), unfolding(crate::proofs::Opened::filled))]
 pub(crate) fn fill_all<'a>(
     form: &[Slot],
     operands: &[&[Piece<'a>]],
     given: &Operands<'a>,
 ) -> Option<Operands<'a>>
-    requires { HasRegisters (operands_as_defined given.now) }
-    ensures filled { option_map operands_as_defined result
-        ≡ all_filled form.now (map operand_as_defined operands.now)
-        (operands_as_defined given.now) }
-    ensures registers { IfSome result (λ o. HasRegisters (operands_as_defined o)) }
+    requires { HasRegisters (abstract_operands given.now) }
+    ensures filled { option_map abstract_operands result
+        ≡ all_filled form.now (map abstract_operand operands.now)
+        (abstract_operands given.now) }
+    ensures registers { IfSome result (λ o. HasRegisters (abstract_operands o)) }
 {
     match (form, operands) {
         ([], []) => Some(*given),
@@ -206,8 +211,8 @@ pub(crate) fn targets<'a>(
     operands: &[&[Piece<'a>]],
 ) -> Result<Option<Vec<Target<'a>>>, AllocError>
     ensures targets { IfOk result
-        (λ found. option_map (λ v. map target_as_defined v.items) found
-        ≡ all_targets (map operand_as_defined operands.now)) }
+        (λ found. option_map (λ v. map abstract_target v.items) found
+        ≡ all_targets (map abstract_operand operands.now)) }
     ensures few { IfOk result
         (λ found. IfSome found (λ v. length v.items ≡ length operands.now)) }
 {

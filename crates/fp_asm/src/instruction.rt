@@ -1,11 +1,13 @@
 //! The instructions that mnemonics make.
 
 ghost use Rattle.std.specs.Prelude.{◌≡◌, ◌≤◌, ◌<◌, ◌^◌, IfOk, IfSome, map, length, pos, neg_ℤ};
-ghost use Rattle.rv_decode.specs.Encoding.{low_bits, encoded};
+ghost use Rattle.rv_decode.specs.Encoding.{low_bits, encoding_of};
 ghost use Rattle.rv_decode.specs.Range.{InRange, IsSigned};
 ghost use Rattle.fp_asm.specs.Operands.{HasRegisters};
-ghost use Rattle.fp_asm.specs.Words.{signed_12 as signed_12_of, up_to as up_to_of, instruction as instruction_of, upper as upper_of, rest as rest_of, halves as halves_of, load_instructions};
-ghost use Rattle.fp_asm.specs.OperandsAsDefined.{operands_as_defined};
+ghost use Rattle.fp_asm.specs.Words.{signed_12 as signed_12_of, up_to as up_to_of};
+ghost use Rattle.fp_asm.specs.Words.{instruction as instruction_of, upper as upper_of};
+ghost use Rattle.fp_asm.specs.Words.{rest as rest_of, halves as halves_of, load_instructions};
+ghost use Rattle.fp_asm.specs.AbstractOperands.{abstract_operands};
 
 use super::operands::Operands;
 use super::table::Plain;
@@ -40,9 +42,9 @@ fn up_to(most: u32, number: i64) -> Option<u32>
 
 #[tactic(auto, unfolding(crate::specs::Words::instruction))]
 fn op_imm(op: ImmOp, operands: &Operands) -> Option<Ins>
-    requires { HasRegisters (operands_as_defined operands.now) }
+    requires { HasRegisters (abstract_operands operands.now) }
     ensures instruction { result ≡ instruction_of (Plain.OpImm op)
-        (operands_as_defined operands.now) }
+        (abstract_operands operands.now) }
     ensures in_range { IfSome result InRange }
 {
     let imm = signed_12(operands.given)?;
@@ -56,9 +58,9 @@ fn op_imm(op: ImmOp, operands: &Operands) -> Option<Ins>
 
 #[tactic(auto, unfolding(crate::specs::Words::instruction))]
 fn shift(op: ShiftOp, operands: &Operands) -> Option<Ins>
-    requires { HasRegisters (operands_as_defined operands.now) }
+    requires { HasRegisters (abstract_operands operands.now) }
     ensures instruction { result ≡ instruction_of (Plain.Shift op)
-        (operands_as_defined operands.now) }
+        (abstract_operands operands.now) }
     ensures in_range { IfSome result InRange }
 {
     let amount = up_to(31, operands.given)?;
@@ -72,9 +74,9 @@ fn shift(op: ShiftOp, operands: &Operands) -> Option<Ins>
 
 #[tactic(auto, unfolding(crate::specs::Words::instruction))]
 fn load(op: LoadOp, operands: &Operands) -> Option<Ins>
-    requires { HasRegisters (operands_as_defined operands.now) }
+    requires { HasRegisters (abstract_operands operands.now) }
     ensures instruction { result ≡ instruction_of (Plain.Load op)
-        (operands_as_defined operands.now) }
+        (abstract_operands operands.now) }
     ensures in_range { IfSome result InRange }
 {
     let imm = signed_12(operands.given)?;
@@ -88,9 +90,9 @@ fn load(op: LoadOp, operands: &Operands) -> Option<Ins>
 
 #[tactic(auto, unfolding(crate::specs::Words::instruction))]
 fn store(op: StoreOp, operands: &Operands) -> Option<Ins>
-    requires { HasRegisters (operands_as_defined operands.now) }
+    requires { HasRegisters (abstract_operands operands.now) }
     ensures instruction { result ≡ instruction_of (Plain.Store op)
-        (operands_as_defined operands.now) }
+        (abstract_operands operands.now) }
     ensures in_range { IfSome result InRange }
 {
     let imm = signed_12(operands.given)?;
@@ -104,8 +106,8 @@ fn store(op: StoreOp, operands: &Operands) -> Option<Ins>
 
 #[tactic(auto, unfolding(crate::specs::Words::instruction))]
 fn jalr(operands: &Operands) -> Option<Ins>
-    requires { HasRegisters (operands_as_defined operands.now) }
-    ensures instruction { result ≡ instruction_of Plain.Jalr (operands_as_defined operands.now) }
+    requires { HasRegisters (abstract_operands operands.now) }
+    ensures instruction { result ≡ instruction_of Plain.Jalr (abstract_operands operands.now) }
     ensures in_range { IfSome result InRange }
 {
     let imm = signed_12(operands.given)?;
@@ -118,8 +120,8 @@ fn jalr(operands: &Operands) -> Option<Ins>
 
 #[tactic(auto, unfolding(crate::specs::Words::instruction))]
 fn lui(operands: &Operands) -> Option<Ins>
-    requires { HasRegisters (operands_as_defined operands.now) }
-    ensures instruction { result ≡ instruction_of Plain.Lui (operands_as_defined operands.now) }
+    requires { HasRegisters (abstract_operands operands.now) }
+    ensures instruction { result ≡ instruction_of Plain.Lui (abstract_operands operands.now) }
     ensures in_range { IfSome result InRange }
 {
     let imm = up_to(1_048_575, operands.given)?;
@@ -131,8 +133,8 @@ fn lui(operands: &Operands) -> Option<Ins>
 
 #[tactic(auto, unfolding(crate::specs::Words::instruction))]
 fn auipc(operands: &Operands) -> Option<Ins>
-    requires { HasRegisters (operands_as_defined operands.now) }
-    ensures instruction { result ≡ instruction_of Plain.Auipc (operands_as_defined operands.now) }
+    requires { HasRegisters (abstract_operands operands.now) }
+    ensures instruction { result ≡ instruction_of Plain.Auipc (abstract_operands operands.now) }
     ensures in_range { IfSome result InRange }
 {
     let imm = up_to(1_048_575, operands.given)?;
@@ -144,9 +146,9 @@ fn auipc(operands: &Operands) -> Option<Ins>
 
 #[tactic(auto, unfolding(crate::specs::Words::instruction))]
 fn csr(op: CsrKind, operands: &Operands) -> Option<Ins>
-    requires { HasRegisters (operands_as_defined operands.now) }
+    requires { HasRegisters (abstract_operands operands.now) }
     ensures instruction { result ≡ instruction_of (Plain.Csr op)
-        (operands_as_defined operands.now) }
+        (abstract_operands operands.now) }
     ensures in_range { IfSome result InRange }
 {
     let csr = up_to(4095, i64::from(operands.csr_number))?;
@@ -160,9 +162,9 @@ fn csr(op: CsrKind, operands: &Operands) -> Option<Ins>
 
 #[tactic(auto, unfolding(crate::specs::Words::instruction))]
 fn csr_imm(op: CsrKind, operands: &Operands) -> Option<Ins>
-    requires { HasRegisters (operands_as_defined operands.now) }
+    requires { HasRegisters (abstract_operands operands.now) }
     ensures instruction { result ≡ instruction_of (Plain.CsrImm op)
-        (operands_as_defined operands.now) }
+        (abstract_operands operands.now) }
     ensures in_range { IfSome result InRange }
 {
     let csr = up_to(4095, i64::from(operands.csr_number))?;
@@ -178,8 +180,8 @@ fn csr_imm(op: CsrKind, operands: &Operands) -> Option<Ins>
 /// The instruction of a row that names no address, where each number is in its range.
 #[tactic(auto, unfolding(crate::specs::Words::instruction))]
 pub(crate) fn instruction(plain: Plain, operands: &Operands) -> Option<Ins>
-    requires { HasRegisters (operands_as_defined operands.now) }
-    ensures instruction { result ≡ instruction_of plain (operands_as_defined operands.now) }
+    requires { HasRegisters (abstract_operands operands.now) }
+    ensures instruction { result ≡ instruction_of plain (abstract_operands operands.now) }
     ensures in_range { IfSome result InRange }
 {
     let rd = operands.rd;
@@ -254,7 +256,7 @@ fn rest(v: u32) -> i32
 #[tactic(auto, unfolding(crate::specs::Words::halves))]
 pub(crate) fn halves(alloc: Global, rd: u8, v: u32) -> Result<Vec<u32>, AllocError>
     requires { rd < 32 }
-    ensures { IfOk result (λ words. words.items ≡ map encoded (halves_of rd v)) }
+    ensures { IfOk result (λ words. words.items ≡ map encoding_of (halves_of rd v)) }
 {
     let lui = encode(&Ins::Lui { rd, imm: upper(v) });
     let addi = encode(&Ins::OpImm {
@@ -274,7 +276,7 @@ pub(crate) fn halves(alloc: Global, rd: u8, v: u32) -> Result<Vec<u32>, AllocErr
 #[tactic(auto, unfolding(crate::specs::Words::load_instructions))]
 pub(crate) fn load_words(alloc: Global, rd: u8, v: u32) -> Result<Vec<u32>, AllocError>
     requires { rd < 32 }
-    ensures { IfOk result (λ words. words.items ≡ map encoded (load_instructions rd v)) }
+    ensures { IfOk result (λ words. words.items ≡ map encoding_of (load_instructions rd v)) }
 {
     let signed = v.cast_signed();
     if signed >= -2048 && signed <= 2047 {

@@ -3,8 +3,9 @@
 ghost use Rattle.std.specs.Prelude.{◌≡◌, ◌<◌, ◌^◌, IfSome, map, option_map, find};
 ghost use Rattle.std.specs.Option.{option_copied};
 ghost use Rattle.std.specs.Str.{bytes_eq};
-ghost use Rattle.fp_asm.specs.Names.{registers, register as register_of, csrs, csr as csr_of, named};
-ghost use Rattle.fp_asm.specs.PiecesAsDefined.{name_as_defined};
+ghost use Rattle.fp_asm.specs.Names.{registers, register_number as register_of};
+ghost use Rattle.fp_asm.specs.Names.{csrs, csr as csr_of, value_named};
+ghost use Rattle.fp_asm.specs.AbstractPieces.{abstract_name};
 
 use rv_decode::csr;
 
@@ -93,14 +94,14 @@ static CSRS: [Name; 9] = [
 
 #[tactic(auto, unfolding(crate::specs::Names::registers))]
 fn register_names() -> &'static [Name]
-    ensures { map name_as_defined result.now ≡ registers }
+    ensures { map abstract_name result.now ≡ registers }
 {
     &REGISTERS
 }
 
 #[tactic(auto, unfolding(crate::specs::Names::csrs))]
 fn csr_names() -> &'static [Name]
-    ensures { map name_as_defined result.now ≡ csrs }
+    ensures { map abstract_name result.now ≡ csrs }
 {
     &CSRS
 }
@@ -113,14 +114,14 @@ fn row_of(names: &'static [Name], text: &[u8]) -> Option<&'static Name>
 
 #[tactic(auto, using(crate::proofs::Rows::found_number))]
 fn number_of(names: &'static [Name], text: &[u8]) -> Option<u32>
-    ensures { result ≡ named (map name_as_defined names.now) text.now }
+    ensures { result ≡ value_named (map abstract_name names.now) text.now }
 {
     let row = row_of(names, text)?;
     Some(row.1)
 }
 
 /// The number of a register, by its name.
-#[tactic(auto, using(crate::proofs::Rows::register_small), unfolding(crate::specs::Names::register))]
+#[tactic(auto, using(crate::proofs::Rows::register_fits), unfolding(crate::proofs::Opened::number))]
 pub(crate) fn register(text: &[u8]) -> Option<u8>
     ensures number { result ≡ register_of text.now }
     ensures small { IfSome result (λ n. n < 32) }

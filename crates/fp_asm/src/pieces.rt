@@ -2,9 +2,11 @@
 
 ghost use Rattle.std.specs.Prelude.{◌≡◌, ◌<◌, ◌≤◌, ◌+◌, ◌^◌, IfOk, IfErr, Ok, map, length, All};
 ghost use Rattle.fp_lex.specs.Tokens.{tokens_of};
-ghost use Rattle.fp_asm.specs.Pieces.{mark as mark_of, piece as piece_of, pieces_of, pieces_or_fault, is_comma as is_comma_of, commas, operands_of};
+ghost use Rattle.fp_asm.specs.Pieces.{mark as mark_of, piece as piece_of};
+ghost use Rattle.fp_asm.specs.Pieces.{pieces_of, pieces_or_fault};
+ghost use Rattle.fp_asm.specs.Pieces.{is_comma as is_comma_of, commas, operands_of};
 ghost use Rattle.fp_asm.specs.Faults.{IsStopOf};
-ghost use Rattle.fp_asm.specs.PiecesAsDefined.{piece_as_defined, operand_as_defined};
+ghost use Rattle.fp_asm.specs.AbstractPieces.{abstract_piece, abstract_operand};
 
 use super::refusal::{AsmNo, Stop};
 use fp_lex::{Kind, LexNo, Token, Tokens, tokens};
@@ -32,7 +34,7 @@ pub(crate) enum Piece<'a> {
 }
 
 fn mark<'a>(byte: u32) -> Piece<'a>
-    ensures { piece_as_defined result ≡ mark_of byte }
+    ensures { abstract_piece result ≡ mark_of byte }
 {
     match byte {
         44 => Piece::Comma,
@@ -48,7 +50,7 @@ fn mark<'a>(byte: u32) -> Piece<'a>
 fn piece_at<'a>(line: &'a [u8], token: &Token) -> Piece<'a>
     requires order { token.now.start ≤ token.now.end }
     requires inside { token.now.end ≤ length line.now }
-    ensures { piece_as_defined result ≡ piece_of line.now token.now }
+    ensures { abstract_piece result ≡ piece_of line.now token.now }
 {
     match token.kind {
         Kind::Name => Piece::Name {
@@ -81,7 +83,7 @@ fn pieces_at<'a>(
 ) -> Result<Vec<Piece<'a>>, AllocError>
     requires { All (λ t. (t.start ≤ t.end) × (t.end ≤ length line.now)) tokens.now }
     ensures { IfOk result
-        (λ ps. map piece_as_defined ps.items ≡ map (piece_of line.now) tokens.now) }
+        (λ ps. map abstract_piece ps.items ≡ map (piece_of line.now) tokens.now) }
 {
     let mut list = Vec::with_capacity(alloc, tokens.len())?;
     for token in tokens {
@@ -98,7 +100,7 @@ fn pieces_at<'a>(
 pub(crate) fn pieces<'a>(alloc: Global, line: &'a [u8]) -> Result<Vec<Piece<'a>>, Stop>
     requires { length line.now < 2 ^ 32 }
     ensures pieces { IfOk result
-        (λ ps. pieces_of line.now ≡ Ok (map piece_as_defined ps.items)) }
+        (λ ps. pieces_of line.now ≡ Ok (map abstract_piece ps.items)) }
     ensures few { IfOk result (λ ps. length ps.items ≤ 64) }
     ensures refused { IfErr result (IsStopOf (pieces_of line.now)) }
 {
@@ -107,7 +109,7 @@ pub(crate) fn pieces<'a>(alloc: Global, line: &'a [u8]) -> Result<Vec<Piece<'a>>
 }
 
 fn is_comma(piece: &Piece) -> bool
-    ensures { result ≡ is_comma_of (piece_as_defined piece.now) }
+    ensures { result ≡ is_comma_of (abstract_piece piece.now) }
 {
     matches!(piece, Piece::Comma)
 }
@@ -117,7 +119,7 @@ fn between_commas<'p, 'a>(
     pieces: &'p [Piece<'a>],
 ) -> Result<Vec<&'p [Piece<'a>]>, AllocError>
     ensures operands { IfOk result
-        (λ os. map operand_as_defined os.items ≡ commas (map piece_as_defined pieces.now)) }
+        (λ os. map abstract_operand os.items ≡ commas (map abstract_piece pieces.now)) }
     ensures few { IfOk result (λ os. length os.items ≤ length pieces.now + 1) }
 {
     let mut list = Vec::new(alloc);
@@ -144,7 +146,7 @@ pub(crate) fn operands<'p, 'a>(
     pieces: &'p [Piece<'a>],
 ) -> Result<Vec<&'p [Piece<'a>]>, AllocError>
     ensures operands { IfOk result
-        (λ os. map operand_as_defined os.items ≡ operands_of (map piece_as_defined pieces.now)) }
+        (λ os. map abstract_operand os.items ≡ operands_of (map abstract_piece pieces.now)) }
     ensures few { IfOk result (λ os. length os.items ≤ length pieces.now + 1) }
 {
     match pieces {

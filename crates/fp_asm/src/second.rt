@@ -1,12 +1,14 @@
 //! The second pass: words.
 
-ghost use Rattle.std.specs.Prelude.{◌≡◌, ◌≤◌, ◌<◌, ◌^◌, ◌%◌, IfOk, IfErr, IfSome, OnOk, Ok, option_map, map, length, All};
-ghost use Rattle.fp_asm.specs.Second.{second_line, second_pass as second_pass_of, written_by, after_labels};
-ghost use Rattle.fp_asm.specs.Statements.{statement_of, checked};
+ghost use Rattle.std.specs.Prelude.{◌≡◌, ◌≤◌, ◌<◌, ◌^◌, ◌%◌, IfOk, IfErr, IfSome};
+ghost use Rattle.std.specs.Prelude.{OnOk, Ok, option_map, map, length, All};
+ghost use Rattle.fp_asm.specs.Second.{second_line, second_pass as second_pass_of};
+ghost use Rattle.fp_asm.specs.Second.{written_by, after_labels};
+ghost use Rattle.fp_asm.specs.Statements.{statement_of, statement_check};
 ghost use Rattle.fp_asm.specs.Operands.{HasRegisters};
 ghost use Rattle.fp_asm.specs.Faults.{IsStopOf, IsFaultOf};
-ghost use Rattle.fp_asm.specs.PiecesAsDefined.{piece_as_defined, labels_as_defined};
-ghost use Rattle.fp_asm.specs.OperandsAsDefined.{statement_as_defined, operands_as_defined};
+ghost use Rattle.fp_asm.specs.AbstractPieces.{abstract_piece, abstract_labels};
+ghost use Rattle.fp_asm.specs.AbstractOperands.{abstract_statement, abstract_operands};
 
 use super::labels::{Labels, skip_labels};
 use super::memory::write_words;
@@ -29,11 +31,11 @@ pub(crate) struct Second {
 
 impl Second {
     ghost use Rattle.fp_asm.specs.Second.{nothing_written};
-    ghost use Rattle.fp_asm.specs.PassesAsDefined.{written_as_defined};
+    ghost use Rattle.fp_asm.specs.AbstractPasses.{abstract_second};
 
     /// Before the first line: the location is 0, and there is no word.
     pub(crate) fn new(alloc: Global) -> Second
-        ensures { written_as_defined result ≡ nothing_written }
+        ensures { abstract_second result ≡ nothing_written }
     {
         Second {
             location: 0,
@@ -42,7 +44,7 @@ impl Second {
     }
 
     // Writes the words of a statement.
-    #[tactic(auto, using(crate::proofs::Checks::after_aligned), unfolding(crate::specs::Second::written_by))]
+    #[tactic(auto, using(crate::proofs::Checks::after_four), unfolding(crate::proofs::Opened::put))]
     fn write(
         &mut self,
         alloc: Global,
@@ -50,17 +52,18 @@ impl Second {
         statement: &Option<Statement>,
     ) -> Result<(), Stop>
         requires registers { IfSome statement.now
-            (λ s. HasRegisters (operands_as_defined s.operands)) }
-        requires checked { IfSome statement.now (λ s. checked (statement_as_defined s) ≡ Ok tt) }
+            (λ s. HasRegisters (abstract_operands s.operands)) }
+        requires checked { IfSome statement.now (λ s. statement_check
+            (abstract_statement s) ≡ Ok tt) }
         requires few { IfSome statement.now (λ s. length s.values.items ≤ 64) }
         requires aligned { self.old.location % 4 ≡ 0 }
         ensures ok { OnOk result
-            (written_by (labels_as_defined labels.now) (written_as_defined self.old)
-            (option_map statement_as_defined statement.now) ≡ Ok (written_as_defined self.new)) }
+            (written_by (abstract_labels labels.now) (abstract_second self.old)
+            (option_map abstract_statement statement.now) ≡ Ok (abstract_second self.new)) }
         ensures aligned { OnOk result (self.new.location % 4 ≡ 0) }
         ensures refused { IfErr result
-            (IsStopOf (written_by (labels_as_defined labels.now) (written_as_defined self.old)
-            (option_map statement_as_defined statement.now))) }
+            (IsStopOf (written_by (abstract_labels labels.now) (abstract_second self.old)
+            (option_map abstract_statement statement.now))) }
     {
         if let Some(statement) = statement {
             let words = words_of(alloc, labels, self.location, statement)?;
@@ -75,12 +78,12 @@ impl Second {
         requires short { length line.now < 2 ^ 32 }
         requires aligned { self.old.location % 4 ≡ 0 }
         ensures ok { OnOk result
-            (second_line (labels_as_defined labels.now) (written_as_defined self.old)
-            line.now ≡ Ok (written_as_defined self.new)) }
+            (second_line (abstract_labels labels.now) (abstract_second self.old)
+            line.now ≡ Ok (abstract_second self.new)) }
         ensures aligned { OnOk result (self.new.location % 4 ≡ 0) }
         ensures refused { IfErr result
             (IsStopOf
-            (second_line (labels_as_defined labels.now) (written_as_defined self.old) line.now)) }
+            (second_line (abstract_labels labels.now) (abstract_second self.old) line.now)) }
     {
         let pieces = pieces(alloc, line)?;
         let n = skip_labels(&pieces);
@@ -105,11 +108,11 @@ impl Second {
         requires few { length lines.now < 2 ^ 31 }
         requires aligned { self.old.location % 4 ≡ 0 }
         ensures ok { OnOk result
-            (second_pass_of 1 (labels_as_defined labels.now) (written_as_defined self.old)
-            (map (λ l. l.now) lines.now) ≡ Ok (written_as_defined self.new)) }
+            (second_pass_of 1 (abstract_labels labels.now) (abstract_second self.old)
+            (map (λ l. l.now) lines.now) ≡ Ok (abstract_second self.new)) }
         ensures refused { IfErr result
             (IsFaultOf
-            (second_pass_of 1 (labels_as_defined labels.now) (written_as_defined self.old)
+            (second_pass_of 1 (abstract_labels labels.now) (abstract_second self.old)
             (map (λ l. l.now) lines.now))) }
     {
         for (i, line) in lines.iter().enumerate() {

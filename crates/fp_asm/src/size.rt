@@ -1,8 +1,9 @@
 //! How many words a statement places, and the location after it.
 
 ghost use Rattle.std.specs.Prelude.{◌≡◌, ◌≤◌, ◌<◌, ◌%◌, ◌^◌, Ok, length, nat_abs};
-ghost use Rattle.fp_asm.specs.Statements.{checked, size_of, location_after as location_after_of};
-ghost use Rattle.fp_asm.specs.OperandsAsDefined.{statement_as_defined};
+ghost use Rattle.fp_asm.specs.Statements.{statement_check, size_of};
+ghost use Rattle.fp_asm.specs.Statements.{location_after as location_after_of};
+ghost use Rattle.fp_asm.specs.AbstractOperands.{abstract_statement};
 
 use super::instruction::{load_size, low_word};
 use super::operands::Operands;
@@ -16,11 +17,11 @@ fn magnitude(operands: &Operands) -> u64
 }
 
 /// How many words the statement places.
-#[tactic(auto, using(crate::proofs::Checks::values_count), unfolding(crate::specs::Statements::size_of))]
+#[tactic(auto, using(crate::proofs::Checks::values_count), unfolding(crate::proofs::Opened::sizes))]
 pub(crate) fn size(statement: &Statement) -> u32
-    requires checked { checked (statement_as_defined statement.now) ≡ Ok tt }
+    requires checked { statement_check (abstract_statement statement.now) ≡ Ok tt }
     requires few { length statement.now.values.items ≤ 64 }
-    ensures size { result ≡ size_of (statement_as_defined statement.now) }
+    ensures size { result ≡ size_of (abstract_statement statement.now) }
     ensures small { result ≤ 4096 }
 {
     match statement.makes {
@@ -36,9 +37,9 @@ pub(crate) fn size(statement: &Statement) -> u32
 /// The location after the statement.
 #[tactic(auto, unfolding(crate::specs::Statements::location_after))]
 pub(crate) fn location_after(location: u32, statement: &Statement) -> u32
-    requires checked { checked (statement_as_defined statement.now) ≡ Ok tt }
+    requires checked { statement_check (abstract_statement statement.now) ≡ Ok tt }
     requires few { length statement.now.values.items ≤ 64 }
-    ensures location { result ≡ location_after_of location (statement_as_defined statement.now) }
+    ensures location { result ≡ location_after_of location (abstract_statement statement.now) }
 {
     match statement.makes {
         Makes::Org => magnitude(&statement.operands) as u32,

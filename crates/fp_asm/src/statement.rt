@@ -1,11 +1,16 @@
 //! The statement of a line.
 
-ghost use Rattle.std.specs.Prelude.{◌≡◌, ◌+◌, ◌≤◌, IfOk, IfErr, IfSome, Ok, option_map, map, length};
+ghost use Rattle.std.specs.Prelude.{◌≡◌, ◌+◌, ◌≤◌, IfOk, IfErr, IfSome};
+ghost use Rattle.std.specs.Prelude.{Ok, option_map, map, length};
 ghost use Rattle.fp_asm.specs.Operands.{HasRegisters};
-ghost use Rattle.fp_asm.specs.Statements.{is_words as is_words_of, some_targets as some_targets_of, statement_in as statement_in_of, aligned_to as aligned_to_of, checked, statement_named, statement_of};
+ghost use Rattle.fp_asm.specs.Statements.{is_words as is_words_of, some_targets as some_targets_of};
+ghost use Rattle.fp_asm.specs.Statements.{statement_in as statement_in_of};
+ghost use Rattle.fp_asm.specs.Statements.{aligned_to as aligned_to_of, statement_check};
+ghost use Rattle.fp_asm.specs.Statements.{statement_named, statement_of};
 ghost use Rattle.fp_asm.specs.Faults.{IsStopOf};
-ghost use Rattle.fp_asm.specs.PiecesAsDefined.{piece_as_defined, operand_as_defined, mnemonic_as_defined};
-ghost use Rattle.fp_asm.specs.OperandsAsDefined.{target_as_defined, operands_as_defined, statement_as_defined};
+ghost use Rattle.fp_asm.specs.AbstractPieces.{abstract_piece, abstract_operand, abstract_mnemonic};
+ghost use Rattle.fp_asm.specs.AbstractOperands.{abstract_target, abstract_operands};
+ghost use Rattle.fp_asm.specs.AbstractOperands.{abstract_statement};
 
 use super::forms::{fill_all, nothing_given, targets};
 use super::operands::{Operands, Target};
@@ -39,8 +44,8 @@ fn some_targets<'a>(
     operands: &[&[Piece<'a>]],
 ) -> Result<Option<Vec<Target<'a>>>, AllocError>
     ensures targets { IfOk result
-        (λ found. option_map (λ v. map target_as_defined v.items) found
-        ≡ some_targets_of (map operand_as_defined operands.now)) }
+        (λ found. option_map (λ v. map abstract_target v.items) found
+        ≡ some_targets_of (map abstract_operand operands.now)) }
     ensures few { IfOk result
         (λ found. IfSome found (λ v. length v.items ≡ length operands.now)) }
 {
@@ -58,10 +63,10 @@ fn statement_in<'a>(
     operands: &[&[Piece<'a>]],
 ) -> Result<Option<Statement<'a>>, AllocError>
     ensures statement { IfOk result
-        (λ s. option_map statement_as_defined s
-        ≡ statement_in_of (mnemonic_as_defined row.now) (map operand_as_defined operands.now)) }
+        (λ s. option_map abstract_statement s
+        ≡ statement_in_of (abstract_mnemonic row.now) (map abstract_operand operands.now)) }
     ensures registers { IfOk result
-        (λ s. IfSome s (λ s. HasRegisters (operands_as_defined s.operands))) }
+        (λ s. IfSome s (λ s. HasRegisters (abstract_operands s.operands))) }
     ensures few { IfOk result
         (λ s. IfSome s (λ s. length s.values.items ≤ length operands.now)) }
 {
@@ -101,9 +106,9 @@ fn aligned_to(most: u32, number: i64) -> Result<(), AsmNo>
 }
 
 // The checks of a number that come before any label is known.
-#[tactic(auto, unfolding(crate::specs::Statements::checked))]
+#[tactic(auto, unfolding(crate::specs::Statements::statement_check))]
 fn check(statement: &Statement) -> Result<(), AsmNo>
-    ensures { result ≡ checked (statement_as_defined statement.now) }
+    ensures { result ≡ statement_check (abstract_statement statement.now) }
 {
     let number = statement.operands.given;
     match statement.makes {
@@ -124,13 +129,13 @@ fn check(statement: &Statement) -> Result<(), AsmNo>
 #[tactic(auto, unfolding(crate::specs::Statements::statement_named))]
 fn named<'a>(alloc: Global, text: &[u8], pieces: &[Piece<'a>]) -> Result<Statement<'a>, Stop>
     ensures statement { IfOk result
-        (λ s. statement_named text.now (map piece_as_defined pieces.now)
-        ≡ Ok (statement_as_defined s)) }
-    ensures registers { IfOk result (λ s. HasRegisters (operands_as_defined s.operands)) }
-    ensures checked { IfOk result (λ s. checked (statement_as_defined s) ≡ Ok tt) }
+        (λ s. statement_named text.now (map abstract_piece pieces.now)
+        ≡ Ok (abstract_statement s)) }
+    ensures registers { IfOk result (λ s. HasRegisters (abstract_operands s.operands)) }
+    ensures checked { IfOk result (λ s. statement_check (abstract_statement s) ≡ Ok tt) }
     ensures few { IfOk result (λ s. length s.values.items ≤ length pieces.now + 1) }
     ensures refused { IfErr result
-        (IsStopOf (statement_named text.now (map piece_as_defined pieces.now))) }
+        (IsStopOf (statement_named text.now (map abstract_piece pieces.now))) }
 {
     let Some(row) = mnemonic(text) else {
         return Err(Stop::Fault {
@@ -159,14 +164,14 @@ pub(crate) fn statement_after<'a>(
     pieces: &[Piece<'a>],
 ) -> Result<Option<Statement<'a>>, Stop>
     ensures statement { IfOk result
-        (λ s. statement_of (map piece_as_defined pieces.now)
-        ≡ Ok (option_map statement_as_defined s)) }
+        (λ s. statement_of (map abstract_piece pieces.now)
+        ≡ Ok (option_map abstract_statement s)) }
     ensures registers { IfOk result
-        (λ s. IfSome s (λ s. HasRegisters (operands_as_defined s.operands))) }
+        (λ s. IfSome s (λ s. HasRegisters (abstract_operands s.operands))) }
     ensures checked { IfOk result
-        (λ s. IfSome s (λ s. checked (statement_as_defined s) ≡ Ok tt)) }
+        (λ s. IfSome s (λ s. statement_check (abstract_statement s) ≡ Ok tt)) }
     ensures few { IfOk result (λ s. IfSome s (λ s. length s.values.items ≤ length pieces.now)) }
-    ensures refused { IfErr result (IsStopOf (statement_of (map piece_as_defined pieces.now))) }
+    ensures refused { IfErr result (IsStopOf (statement_of (map abstract_piece pieces.now))) }
 {
     match pieces {
         [] => Ok(None),

@@ -4,7 +4,7 @@ ghost use Rattle.std.specs.Prelude.{◌≡◌, find, map, option_map, take, drop
 ghost use Rattle.std.specs.Option.{option_copied};
 ghost use Rattle.std.specs.Str.{bytes_eq};
 ghost use Rattle.fp_asm.specs.Mnemonics.{mnemonics, mnemonic as mnemonic_of};
-ghost use Rattle.fp_asm.specs.PiecesAsDefined.{mnemonic_as_defined};
+ghost use Rattle.fp_asm.specs.AbstractPieces.{abstract_mnemonic};
 
 use rv_decode::{AluOp, BranchOp, CsrKind, ImmOp, LoadOp, MulOp, ShiftOp, StoreOp};
 
@@ -217,21 +217,21 @@ static SHORTHANDS: [Row; 16] = [
 
 #[tactic(auto, unfolding(crate::specs::Mnemonics::mnemonics))]
 fn computing() -> &'static [Row]
-    ensures { map mnemonic_as_defined result.now ≡ take 27 mnemonics }
+    ensures { map abstract_mnemonic result.now ≡ take 27 mnemonics }
 {
     &COMPUTING
 }
 
 #[tactic(auto, unfolding(crate::specs::Mnemonics::mnemonics))]
 fn acting() -> &'static [Row]
-    ensures { map mnemonic_as_defined result.now ≡ take 35 (drop 27 mnemonics) }
+    ensures { map abstract_mnemonic result.now ≡ take 35 (drop 27 mnemonics) }
 {
     &ACTING
 }
 
 #[tactic(auto, unfolding(crate::specs::Mnemonics::mnemonics))]
 fn shorthands() -> &'static [Row]
-    ensures { map mnemonic_as_defined result.now ≡ drop 62 mnemonics }
+    ensures { map abstract_mnemonic result.now ≡ drop 62 mnemonics }
 {
     &SHORTHANDS
 }
@@ -244,7 +244,7 @@ fn row_of(rows: &'static [Row], text: &[u8]) -> Option<&'static Row>
 
 /// The row of a name.
 pub(crate) fn mnemonic(text: &[u8]) -> Option<&'static Row>
-    ensures { option_map mnemonic_as_defined (option_copied result) ≡ mnemonic_of text.now }
+    ensures { option_map abstract_mnemonic (option_copied result) ≡ mnemonic_of text.now }
 {
     if let Some(row) = row_of(computing(), text) {
         return Some(row);

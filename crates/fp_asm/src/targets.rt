@@ -2,11 +2,11 @@
 
 ghost use Rattle.std.specs.Prelude.{◌≡◌, IfOk, IfErr, Ok, map, pos, neg_ℤ};
 ghost use Rattle.fp_asm.specs.First.{location_of as location_of_label};
-ghost use Rattle.fp_asm.specs.Second.{resolved, all_resolved, fits_word as fits_word_of};
+ghost use Rattle.fp_asm.specs.Second.{target_word, all_resolved, fits_word as fits_word_of};
 ghost use Rattle.std.specs.List.{list_all};
 ghost use Rattle.fp_asm.specs.Faults.{IsStopOf};
-ghost use Rattle.fp_asm.specs.PiecesAsDefined.{labels_as_defined};
-ghost use Rattle.fp_asm.specs.OperandsAsDefined.{target_as_defined};
+ghost use Rattle.fp_asm.specs.AbstractPieces.{abstract_labels};
+ghost use Rattle.fp_asm.specs.AbstractOperands.{abstract_target};
 
 use super::instruction::low_word;
 use super::labels::Labels;
@@ -17,7 +17,7 @@ use std::alloc::Global;
 // The location of a label.
 #[tactic(auto, using(crate::proofs::LabelByLabel::location_seen))]
 fn location_of(labels: &Labels, name: &[u8]) -> Option<u32>
-    ensures { result ≡ location_of_label (labels_as_defined labels.now) name.now }
+    ensures { result ≡ location_of_label (abstract_labels labels.now) name.now }
 {
     labels.get(name).copied()
 }
@@ -27,9 +27,9 @@ fn location_of(labels: &Labels, name: &[u8]) -> Option<u32>
 /// # Errors
 ///
 /// [`AsmNo::NoLabel`] where the label is nowhere.
-#[tactic(auto, unfolding(crate::specs::Second::resolved))]
+#[tactic(auto, unfolding(crate::specs::Second::target_word))]
 pub(crate) fn resolve(labels: &Labels, target: &Target) -> Result<u32, AsmNo>
-    ensures { result ≡ resolved (labels_as_defined labels.now) (target_as_defined target.now) }
+    ensures { result ≡ target_word (abstract_labels labels.now) (abstract_target target.now) }
 {
     match target {
         Target::Plain { number } => Ok(low_word(*number)),
@@ -50,11 +50,11 @@ pub(crate) fn resolve_all(
     labels: &Labels,
     targets: &[Target],
 ) -> Result<Vec<u32>, Stop>
-    ensures words { IfOk result (λ words. all_resolved (labels_as_defined labels.now)
-        (map target_as_defined targets.now) ≡ Ok words.items) }
+    ensures words { IfOk result (λ words. all_resolved (abstract_labels labels.now)
+        (map abstract_target targets.now) ≡ Ok words.items) }
     ensures refused { IfErr result
         (IsStopOf
-        (all_resolved (labels_as_defined labels.now) (map target_as_defined targets.now))) }
+        (all_resolved (abstract_labels labels.now) (map abstract_target targets.now))) }
 {
     let mut list = Vec::with_capacity(alloc, targets.len())?;
     for target in targets {
@@ -66,7 +66,7 @@ pub(crate) fn resolve_all(
 
 /// Whether a word holds the target.
 pub(crate) fn fits_word(target: &Target) -> bool
-    ensures { result ≡ fits_word_of (target_as_defined target.now) }
+    ensures { result ≡ fits_word_of (abstract_target target.now) }
 {
     match target {
         Target::Plain { number } => -2_147_483_648 <= *number && *number <= 4_294_967_295,
@@ -75,7 +75,7 @@ pub(crate) fn fits_word(target: &Target) -> bool
 }
 
 fn each_fits(targets: &[Target]) -> bool
-    ensures { result ≡ list_all (λ target. fits_word_of (target_as_defined target)) targets.now }
+    ensures { result ≡ list_all (λ target. fits_word_of (abstract_target target)) targets.now }
 {
     targets.iter().all(|target| fits_word(target))
 }
@@ -83,7 +83,7 @@ fn each_fits(targets: &[Target]) -> bool
 /// Whether a word holds each target.
 #[tactic(auto, using(crate::proofs::TargetByTarget::all_fit))]
 pub(crate) fn all_fit(targets: &[Target]) -> bool
-    ensures { result ≡ list_all fits_word_of (map target_as_defined targets.now) }
+    ensures { result ≡ list_all fits_word_of (map abstract_target targets.now) }
 {
     each_fits(targets)
 }

@@ -1,15 +1,20 @@
 //! The words that a statement makes.
 
-ghost use Rattle.std.specs.Prelude.{◌≡◌, ◌≤◌, ◌<◌, ◌%◌, ◌^◌, IfOk, IfErr, Ok, Err, map, length, pos, neg_ℤ, ◌∷◌, [], replicate, ◌/◌, nat_abs, ◌≤ℤ◌};
-ghost use Rattle.rv_decode.specs.Encoding.{encoded};
+ghost use Rattle.std.specs.Prelude.{◌≡◌, ◌≤◌, ◌<◌, ◌%◌, ◌^◌, IfOk, IfErr, Ok, Err, map};
+ghost use Rattle.std.specs.Prelude.{length, pos, neg_ℤ, ◌∷◌, [], replicate, ◌/◌, nat_abs, ◌≤ℤ◌};
+ghost use Rattle.rv_decode.specs.Encoding.{encoding_of};
 ghost use Rattle.rv_decode.specs.Range.{IsEven};
 ghost use Rattle.rv_decode.specs.declared.instruction.Ins.TheVariants as made;
 ghost use Rattle.fp_asm.specs.Operands.{HasRegisters};
-ghost use Rattle.fp_asm.specs.Statements.{checked};
-ghost use Rattle.fp_asm.specs.Second.{way as way_of, jump as jump_of, words_of as words_of_statement, one_word as one_word_of, plain_word, branch_word, jal_word, address_words, value_words};
+ghost use Rattle.fp_asm.specs.Statements.{statement_check};
+ghost use Rattle.fp_asm.specs.Second.{way as way_of, jump as jump_of};
+ghost use Rattle.fp_asm.specs.Second.{statement_words as words_of_statement};
+ghost use Rattle.fp_asm.specs.Second.{one_word as one_word_of, plain_word, branch_word};
+ghost use Rattle.fp_asm.specs.Second.{jal_word, address_words, value_words};
 ghost use Rattle.fp_asm.specs.Faults.{IsStopOf};
-ghost use Rattle.fp_asm.specs.PiecesAsDefined.{labels_as_defined};
-ghost use Rattle.fp_asm.specs.OperandsAsDefined.{target_as_defined, operands_as_defined, statement_as_defined};
+ghost use Rattle.fp_asm.specs.AbstractPieces.{abstract_labels};
+ghost use Rattle.fp_asm.specs.AbstractOperands.{abstract_target, abstract_operands};
+ghost use Rattle.fp_asm.specs.AbstractOperands.{abstract_statement};
 
 use super::instruction::{halves, instruction, load_words, low_word};
 use super::labels::Labels;
@@ -48,8 +53,8 @@ fn jump(low: i32, high: i32, location: u32, to: u32) -> Result<i32, AsmNo>
 
 #[tactic(auto, unfolding(crate::specs::Second::plain_word))]
 fn plain(plain: Plain, operands: &Operands) -> Result<u32, AsmNo>
-    requires { HasRegisters (operands_as_defined operands.now) }
-    ensures { result ≡ plain_word plain (operands_as_defined operands.now) }
+    requires { HasRegisters (abstract_operands operands.now) }
+    ensures { result ≡ plain_word plain (abstract_operands operands.now) }
 {
     match instruction(plain, operands) {
         Some(ins) => Ok(encode(&ins)),
@@ -59,10 +64,10 @@ fn plain(plain: Plain, operands: &Operands) -> Result<u32, AsmNo>
 
 #[tactic(auto, unfolding(crate::specs::Second::branch_word))]
 fn branch(op: BranchOp, labels: &Labels, location: u32, operands: &Operands) -> Result<u32, AsmNo>
-    requires registers { HasRegisters (operands_as_defined operands.now) }
+    requires registers { HasRegisters (abstract_operands operands.now) }
     requires aligned { location % 4 ≡ 0 }
-    ensures { result ≡ branch_word op (labels_as_defined labels.now) location
-        (operands_as_defined operands.now) }
+    ensures { result ≡ branch_word op (abstract_labels labels.now) location
+        (abstract_operands operands.now) }
 {
     let to = resolve(labels, &operands.target)?;
     let off = jump(-4096, 4094, location, to)?;
@@ -76,10 +81,10 @@ fn branch(op: BranchOp, labels: &Labels, location: u32, operands: &Operands) -> 
 
 #[tactic(auto, unfolding(crate::specs::Second::jal_word))]
 fn jal(labels: &Labels, location: u32, operands: &Operands) -> Result<u32, AsmNo>
-    requires registers { HasRegisters (operands_as_defined operands.now) }
+    requires registers { HasRegisters (abstract_operands operands.now) }
     requires aligned { location % 4 ≡ 0 }
-    ensures { result ≡ jal_word (labels_as_defined labels.now) location
-        (operands_as_defined operands.now) }
+    ensures { result ≡ jal_word (abstract_labels labels.now) location
+        (abstract_operands operands.now) }
 {
     let to = resolve(labels, &operands.target)?;
     let off = jump(-1_048_576, 1_048_574, location, to)?;
@@ -91,12 +96,12 @@ fn jal(labels: &Labels, location: u32, operands: &Operands) -> Result<u32, AsmNo
 
 #[tactic(auto, unfolding(crate::specs::Second::address_words))]
 fn address(alloc: Global, labels: &Labels, operands: &Operands) -> Result<Vec<u32>, Stop>
-    requires { HasRegisters (operands_as_defined operands.now) }
-    ensures words { IfOk result (λ words. address_words (labels_as_defined labels.now)
-        (operands_as_defined operands.now) ≡ Ok words.items) }
+    requires { HasRegisters (abstract_operands operands.now) }
+    ensures words { IfOk result (λ words. address_words (abstract_labels labels.now)
+        (abstract_operands operands.now) ≡ Ok words.items) }
     ensures refused { IfErr result
         (IsStopOf
-        (address_words (labels_as_defined labels.now) (operands_as_defined operands.now))) }
+        (address_words (abstract_labels labels.now) (abstract_operands operands.now))) }
 {
     let v = resolve(labels, &operands.target)?;
     if !fits_word(&operands.target) {
@@ -109,11 +114,11 @@ fn address(alloc: Global, labels: &Labels, operands: &Operands) -> Result<Vec<u3
 
 #[tactic(auto, unfolding(crate::specs::Second::value_words))]
 fn values(alloc: Global, labels: &Labels, targets: &[Target]) -> Result<Vec<u32>, Stop>
-    ensures words { IfOk result (λ words. value_words (labels_as_defined labels.now)
-        (map target_as_defined targets.now) ≡ Ok words.items) }
+    ensures words { IfOk result (λ words. value_words (abstract_labels labels.now)
+        (map abstract_target targets.now) ≡ Ok words.items) }
     ensures refused { IfErr result
         (IsStopOf
-        (value_words (labels_as_defined labels.now) (map target_as_defined targets.now))) }
+        (value_words (abstract_labels labels.now) (map abstract_target targets.now))) }
 {
     let words = resolve_all(alloc, labels, targets)?;
     if !all_fit(targets) {
@@ -139,23 +144,23 @@ fn one_word(alloc: Global, word: Result<u32, AsmNo>) -> Result<Vec<u32>, Stop>
 ///
 /// A label that is nowhere, a branch or jump to an address that is no multiple of four, or a number
 /// or a way outside its range; or memory was refused.
-#[tactic(auto, unfolding(crate::specs::Second::words_of))]
+#[tactic(auto, unfolding(crate::specs::Second::statement_words))]
 pub(crate) fn words_of(
     alloc: Global,
     labels: &Labels,
     location: u32,
     statement: &Statement,
 ) -> Result<Vec<u32>, Stop>
-    requires registers { HasRegisters (operands_as_defined statement.now.operands) }
-    requires checked { checked (statement_as_defined statement.now) ≡ Ok tt }
+    requires registers { HasRegisters (abstract_operands statement.now.operands) }
+    requires checked { statement_check (abstract_statement statement.now) ≡ Ok tt }
     requires few { length statement.now.values.items ≤ 64 }
     requires aligned { location % 4 ≡ 0 }
     ensures words { IfOk result
-        (λ words. words_of_statement (labels_as_defined labels.now) location
-        (statement_as_defined statement.now) ≡ Ok words.items) }
+        (λ words. words_of_statement (abstract_labels labels.now) location
+        (abstract_statement statement.now) ≡ Ok words.items) }
     ensures refused { IfErr result
-        (IsStopOf (words_of_statement (labels_as_defined labels.now) location
-        (statement_as_defined statement.now))) }
+        (IsStopOf (words_of_statement (abstract_labels labels.now) location
+        (abstract_statement statement.now))) }
 {
     let operands = &statement.operands;
     match statement.makes {

@@ -1,20 +1,24 @@
 -- The image file FPX1: the four bytes of its name, the number of segments, and for each segment its
 -- address, its length and its bytes. Numbers are four bytes, the lowest first. Source: this
 -- project's profile.
-use Rattle.std.specs.Prelude.{◌≡◌, ◌⊎◌, ℕ, zero, suc, ◌+◌, ◌-◌, ◌==◌, nat_lt, nat_eq, Bool, not, if◌then◌else◌, List, [], ◌∷◌, ◌++◌, length, take, drop, codes, Option, Some, None, Result, Ok, Err}
+use Rattle.std.specs.Prelude.{◌≡◌, ◌⊎◌, ℕ, zero, suc, ◌+◌, ◌-◌, ◌==◌, nat_lt}
+use Rattle.std.specs.Prelude.{nat_eq, Bool, not, if◌then◌else◌, List, [], ◌∷◌}
+use Rattle.std.specs.Prelude.{◌++◌, length, take, drop, codes, Result, Ok, Err}
 use Rattle.std.specs.List.{starts_with, flat_map}
 use Rattle.byteorder.specs.Endian.{little_number, little_bytes}
 use Rattle.region_guard.specs.Regions.{IsSize}
 use Rattle.region_guard.specs.MemoryMap.{small_size}
-use Rattle.fp_image.specs.Rules.{IsImage, is_placed}
+use Rattle.fp_image.specs.Checks.{Check, first_fault, unless, and_then}
+use Rattle.fp_image.specs.Rules.{IsImage, is_placed, most_segments}
 use Rattle.fp_image.specs.declared.parts.Segment.{Segment}
 use Rattle.fp_image.specs.declared.refusals.ImageNo.{ImageNo}
-use Rattle.fp_image.specs.declared.refusals.ImageNo.TheVariants.{TooLong, Magic, Truncated, BadSegment, Overlap, Trailing}
+use Rattle.fp_image.specs.declared.refusals.ImageNo.TheVariants.{TooLong, Magic, Truncated}
+use Rattle.fp_image.specs.declared.refusals.ImageNo.TheVariants.{BadSegment, Overlap, Trailing}
 use Rattle.fp_image.specs.declared.refusals.ImageRefused.{ImageRefused}
 use Rattle.fp_image.specs.declared.refusals.ImageRefused.TheVariants.{Fault, NoMemory}
 
--- the longest file, by the size of a scratchpad: the bytes of both, and an eighth of one of them for
--- what stands around the segments, which is more than they need
+-- the longest file, by the size of a scratchpad: the bytes of both, and an eighth of one of them
+-- for what stands around the segments, which is more than they need
 abbrev pub longest : ℕ → ℕ
 longest size = if size == small_size then 34816 else 139264
 
@@ -22,52 +26,31 @@ longest size = if size == small_size then 34816 else 139264
 abbrev pub number_at : ℕ → List ℕ → ℕ
 number_at offset bytes = little_number 4 (drop offset bytes)
 
--- A check of the file: whether it fails, and the fault and the offset in the file that it then
--- gives.
-pub record Check : Type 0 where
-  pub fails : Bool
-  pub code : ImageNo
-  pub offset : ℕ
-
 -- a check by whether it fails, its fault and the offset that tells it
-abbrev pub check : Bool → ImageNo → ℕ → Check
-check fails code offset = record { fails = fails; code = code; offset = offset }
-
--- the fault of the first check that fails
-abbrev pub first_fault : List Check → Option ImageRefused
-first_fault [] = None
-first_fault (c ∷ more) = if c.fails then Some (Fault c.code c.offset) else first_fault more
+abbrev pub check : Bool → ImageNo → ℕ → Check ImageRefused
+check fails code offset = record { fails = fails; fault = Fault code offset }
 
 -- the checks before the segments, in their order
-abbrev pub header_checks : ℕ → List ℕ → List Check
+abbrev pub header_checks : ℕ → List ℕ → List (Check ImageRefused)
 header_checks size file = check (nat_lt (longest size) (length file)) TooLong 0
     ∷ check (not (starts_with nat_eq file (codes "FPX1"))) Magic 0
     ∷ check (nat_lt (length file) 8) Truncated (length file)
-    ∷ check (nat_lt 16 (number_at 4 file)) BadSegment 4
+    ∷ check (nat_lt most_segments (number_at 4 file)) BadSegment 4
     ∷ []
 
 -- the checks of a segment, in their order: of a file of so many bytes in all, `rest` is what stands
 -- from the segment's address field on, and the segment before ends at `from`
-abbrev pub segment_checks : ℕ → ℕ → ℕ → List ℕ → List Check
-segment_checks size total from rest = check (nat_lt (length rest) 8) Truncated total
-    ∷ check (not (is_placed size (number_at 0 rest) (number_at 4 rest))) BadSegment (total - length rest)
-    ∷ check (nat_lt (number_at 0 rest) from) Overlap (total - length rest)
+abbrev pub segment_checks : ℕ → ℕ → ℕ → List ℕ → List (Check ImageRefused)
+segment_checks size total from rest =
+    check (nat_lt (length rest) 8) Truncated total
+    ∷ check (not (is_placed size (number_at 0 rest) (number_at 4 rest))) BadSegment
+    (total - length rest) ∷ check (nat_lt (number_at 0 rest) from) Overlap (total - length rest)
     ∷ check (nat_lt (length rest) (8 + number_at 4 rest)) Truncated total
     ∷ []
 
 -- the check after the segments
-abbrev pub end_checks : ℕ → List ℕ → List Check
+abbrev pub end_checks : ℕ → List ℕ → List (Check ImageRefused)
 end_checks total rest = check (nat_lt 0 (length rest)) Trailing (total - length rest) ∷ []
-
--- a result where no check fails
-abbrev pub unless : {A : Type 0} → Option ImageRefused → A → Result A ImageRefused
-unless (Some fault) value = Err fault
-unless None value = Ok value
-
--- a result that goes on from another
-abbrev pub and_then : {A B : Type 0} → Result A ImageRefused → (A → Result B ImageRefused) → Result B ImageRefused
-and_then (Ok value) next = next value
-and_then (Err fault) next = Err fault
 
 -- a result that is the defined one, unless memory was refused
 abbrev pub IsUnlessMemory : {A : Type 0} → Result A ImageRefused → Result A ImageRefused → Type 0
@@ -87,21 +70,24 @@ unfoldable pub segments_of : ℕ → ℕ → ℕ → ℕ → List ℕ → Result
 segments_of size total zero from rest = unless (first_fault (end_checks total rest)) []
 segments_of size total (suc n) from rest =
     and_then (segment_of size total from rest) (λ s.
-    and_then (segments_of size total n (s.address + length s.bytes) (drop (8 + length s.bytes) rest)) (λ more.
-    Ok (s ∷ more)))
+    and_then (segments_of size total n (s.address + length s.bytes)
+    (drop (8 + length s.bytes) rest)) (λ more. Ok (s ∷ more)))
 
 -- The segments of an image file for scratchpads of this size, or its first fault.
 unfoldable pub image_of : ℕ → List ℕ → Result (List Segment) ImageRefused
-image_of size file = and_then (count_of size file) (λ count. segments_of size (length file) count 0 (drop 8 file))
+image_of size file =
+    and_then (count_of size file) (λ count. segments_of size (length file) count 0 (drop 8 file))
 
 -- a segment in the file: its address, its length and its bytes
 abbrev pub segment_written : Segment → List ℕ
 segment_written s = little_bytes 4 s.address ++ (little_bytes 4 (length s.bytes) ++ s.bytes)
 
 -- the bytes of a whole file
-unfoldable pub written : List Segment → List ℕ
-written segments = codes "FPX1" ++ (little_bytes 4 (length segments) ++ flat_map segment_written segments)
+unfoldable pub file_of : List Segment → List ℕ
+file_of segments =
+    codes "FPX1" ++ (little_bytes 4 (length segments) ++ flat_map segment_written segments)
 
 -- The file is read as these segments, for each size whose scratchpads they lie inside.
 abbrev pub IsReadBack : List ℕ → List Segment → Type 0
-IsReadBack file segments = (size : ℕ) → IsSize size → IsImage size segments → image_of size file ≡ Ok segments
+IsReadBack file segments =
+    (size : ℕ) → IsSize size → IsImage size segments → image_of size file ≡ Ok segments

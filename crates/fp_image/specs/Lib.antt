@@ -1,3 +1,4 @@
+pub mod Checks
 pub mod Rules
 pub mod Format
 pub use Rattle.region_guard.specs.MemoryMap

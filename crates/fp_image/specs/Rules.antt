@@ -1,6 +1,8 @@
 -- The rules that the segments of an image keep, and the words that they hold. Source: this
 -- project's profile (the memory map and the image format).
-use Rattle.std.specs.Prelude.{◌≤◌, ℕ, ◌+◌, ◌-◌, ◌%◌, ◌==◌, nat_lt, nat_le, Bool, ◌&&◌, ◌||◌, if◌then◌else◌, IsTrue, List, [], ◌∷◌, length, drop, Option, Some, None, unwrap_or}
+use Rattle.std.specs.Prelude.{◌≤◌, ℕ, ◌+◌, ◌-◌, ◌%◌, ◌==◌, nat_lt, nat_le}
+use Rattle.std.specs.Prelude.{Bool, ◌&&◌, ◌||◌, if◌then◌else◌, IsTrue, List, []}
+use Rattle.std.specs.Prelude.{◌∷◌, length, drop, Option, Some, None, unwrap_or}
 use Rattle.byteorder.specs.Endian.{little_number}
 use Rattle.region_guard.specs.MemoryMap.{data_start}
 use Rattle.fp_image.specs.declared.parts.Segment.{Segment}
@@ -8,8 +10,10 @@ use Rattle.fp_image.specs.declared.parts.Segment.{Segment}
 -- Whether so many bytes from the address on may be a segment: whole words, at least one, inside the
 -- instruction scratchpad or the data scratchpad.
 abbrev pub is_placed : ℕ → ℕ → ℕ → Bool
-is_placed size address len = (address % 4 == 0) && (len % 4 == 0) && nat_lt 0 len
-    && (nat_le (address + len) size || (nat_le data_start address && nat_le (address + len) (data_start + size)))
+is_placed size address len =
+    (address % 4 == 0) && (len % 4 == 0) && nat_lt 0 len
+    && (nat_le (address + len) size
+    || (nat_le data_start address && nat_le (address + len) (data_start + size)))
 
 -- the first address after a segment
 abbrev pub end_of : Segment → ℕ
@@ -19,11 +23,17 @@ end_of s = s.address + length s.bytes
 -- at or after `from`
 abbrev pub Rises : ℕ → ℕ → List Segment → Type 0
 Rises size from [] = Unit {0}
-Rises size from (s ∷ more) = IsTrue (is_placed size s.address (length s.bytes)) × (from ≤ s.address) × Rises size (end_of s) more
+Rises size from (s ∷ more) =
+    IsTrue (is_placed size s.address (length s.bytes)) × (from ≤ s.address)
+    × Rises size (end_of s) more
+
+-- how many segments an image may have
+abbrev pub most_segments : ℕ
+most_segments = 16
 
 -- An image for scratchpads of this size.
 pub record IsImage (size : ℕ) (segments : List Segment) : Type 0 where
-  pub few : length segments ≤ 16
+  pub few : length segments ≤ most_segments
   pub rising : Rises size 0 segments
 
 -- the word of a segment at an address, where the segment has all its bytes

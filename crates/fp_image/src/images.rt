@@ -9,8 +9,8 @@ use byteorder::{ByteOrder, LittleEndian};
 use std::alloc::{AllocError, Global};
 use std::marker::Model;
 
-/// At most 16 segments, which rise without overlap, each of whole words and inside one scratchpad
-/// of 65,536 bytes.
+/// At most [`MOST_SEGMENTS`](crate::MOST_SEGMENTS) segments, which rise without overlap, each of
+/// whole words and inside one scratchpad of 65,536 bytes.
 #[derive(Drop)]
 pub struct Image {
     segments: Vec<Segment>,

@@ -10,6 +10,6 @@ mod writer;
 
 pub use images::Image;
 pub use parts::{Bytes, Segment};
-pub use reader::{longest, read_image};
+pub use reader::{MOST_SEGMENTS, longest, read_image};
 pub use refusals::{ImageNo, ImageRefused};
 pub use writer::write_image;

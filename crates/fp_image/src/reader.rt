@@ -1,8 +1,9 @@
 //! From files to images.
 
 ghost use Rattle.std.specs.Prelude.{◌≡◌, ◌⊎◌, ◌≤◌, ◌+◌, length, IsTrue, IfOk};
-ghost use Rattle.fp_image.specs.Format.{count_of, longest, segment_of, segments_of, image_of, IsUnlessMemory};
-ghost use Rattle.fp_image.specs.Rules.{IsImage, is_placed};
+ghost use Rattle.fp_image.specs.Format.{count_of, longest, segment_of};
+ghost use Rattle.fp_image.specs.Format.{segments_of, image_of, IsUnlessMemory};
+ghost use Rattle.fp_image.specs.Rules.{IsImage, is_placed, most_segments};
 ghost use Rattle.region_guard.specs.Regions.{IsSize};
 
 use crate::images::Image;
@@ -29,14 +30,14 @@ pub fn read_image(alloc: Global, bytes: &[u8], size: u32) -> Result<Image, Image
 }
 
 /// How many segments an image may have.
-const MOST_SEGMENTS: u32 = 16;
+pub const MOST_SEGMENTS: u32 = 16;
 
 /// The number of segments of a file.
 #[tactic(auto, unfolding(crate::specs::Format::count_of))]
 fn count_of(bytes: &[u8], size: u32) -> Result<u32, ImageRefused>
     requires { IsSize size }
     ensures value { result ≡ count_of size bytes.now }
-    ensures few { IfOk result (λ count. count ≤ 16) }
+    ensures few { IfOk result (λ count. count ≤ most_segments) }
     ensures whole { IfOk result (λ count. 8 ≤ length bytes.now) }
     ensures short { IfOk result (λ count. length bytes.now ≤ 139264) }
 {
@@ -73,7 +74,7 @@ fn read_segments(
     total: u32,
 ) -> Result<Image, ImageRefused>
     requires size { IsSize size }
-    requires few { count ≤ 16 }
+    requires few { count ≤ most_segments }
     requires total { length bytes.now ≤ total }
     ensures value { IsUnlessMemory result (segments_of size total count 0 bytes.now) }
     ensures rules { IfOk result (IsImage size) }

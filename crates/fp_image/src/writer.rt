@@ -1,8 +1,9 @@
 //! From images to files.
 
-ghost use Rattle.std.specs.Prelude.{◌≡◌, ◌<◌, ◌^◌, ◌++◌, ℕ, length, Ok, OnOk, IfOk, is_ok, if◌then◌else◌};
+ghost use Rattle.std.specs.Prelude.{◌≡◌, ◌<◌, ◌^◌, ◌++◌, ℕ, length, Ok};
+ghost use Rattle.std.specs.Prelude.{OnOk, IfOk, is_ok, if◌then◌else◌};
 ghost use Rattle.byteorder.specs.Endian.{little_bytes};
-ghost use Rattle.fp_image.specs.Format.{IsReadBack, segment_written, written};
+ghost use Rattle.fp_image.specs.Format.{IsReadBack, segment_written, file_of};
 ghost use Rattle.fp_image.specs.Rules.{IsImage};
 ghost use Rattle.region_guard.specs.Regions.{IsSize};
 
@@ -18,7 +19,7 @@ use std::alloc::{AllocError, Global};
 ///
 /// `AllocError` where memory was refused.
 pub fn write_image(alloc: Global, image: &Image) -> Result<Vec<u8>, AllocError>
-    ensures bytes { IfOk result (λ v. v.items ≡ written image.now) }
+    ensures bytes { IfOk result (λ v. v.items ≡ file_of image.now) }
     ensures read_back { IfOk result (λ v. IsReadBack v.items image.now) }
 {
     let segments = image.segments();

@@ -1,5 +1,7 @@
 -- What a sink or a writer has taken of pieces, one after another.
-use Rattle.std.proofs.Common.{◌≡◌, ℕ, ◌+◌, true, false, true≢false, Result, Ok, Err, is_ok, OnOk, OnErr, List, [], ◌++◌, length, take, Option, Some, None, arith, ap, sym, ◌∙◌, append_assoc}
+use Rattle.std.proofs.Common.{◌≡◌, ℕ, ◌+◌, true, false, true≢false, Result, Ok}
+use Rattle.std.proofs.Common.{Err, is_ok, OnOk, OnErr, List, [], ◌++◌, length, take}
+use Rattle.std.proofs.Common.{Option, Some, None, arith, ap, sym, ◌∙◌, append_assoc}
 use Rattle.std.proofs.lemmas.List.{append-nil, length-append, take-append-le}
 use Rattle.std.proofs.Math.Seq.{take-append-add}
 use Rattle.std.specs.Io.KnownBytes.{Appends}
@@ -10,48 +12,65 @@ pub appends_nothing : (taken : Option (List ℕ)) → Appends taken taken []
 appends_nothing None = tt
 appends_nothing (Some xs) = sym (append-nil xs)
 
-pub appends_more : (before between after : Option (List ℕ)) (xs ys : List ℕ) → Appends before between xs → Appends between after ys → Appends before after (xs ++ ys)
+pub appends_more : (before between after : Option (List ℕ)) (xs ys : List ℕ) →
+    Appends before between xs → Appends between after ys → Appends before after (xs ++ ys)
 appends_more None between after xs ys first second = tt
 appends_more (Some told) None after xs ys first second = absurd first
 appends_more (Some told) (Some more) None xs ys first second = absurd second
-appends_more (Some told) (Some more) (Some most) xs ys first second = second ∙ ap (λ zs. zs ++ ys) first ∙ append_assoc told xs ys
+appends_more (Some told) (Some more) (Some most) xs ys first second =
+    second ∙ ap (λ zs. zs ++ ys) first ∙ append_assoc told xs ys
 
 -- the first of a piece, after another piece, is the first of a whole that begins with both
 pub appends_front : (before between after : Option (List ℕ)) (xs ys rest whole : List ℕ) →
-    whole ≡ (xs ++ ys) ++ rest → Appends before between xs → AppendsFront between after ys → AppendsFront before after whole
+    whole ≡ (xs ++ ys) ++ rest → Appends before between xs → AppendsFront between after ys →
+    AppendsFront before after whole
 appends_front None between after xs ys rest whole is first second = tt
 appends_front (Some told) None after xs ys rest whole is first second = absurd first
 appends_front (Some told) (Some more) None xs ys rest whole is first second = absurd second
 appends_front (Some told) (Some more) (Some most) xs ys rest whole is first (n, within, taken) =
     let is_right : whole ≡ xs ++ (ys ++ rest) = is ∙ append_assoc xs ys rest in
-    let long : length whole ≡ length xs + (length ys + length rest) = ap length is_right ∙ length-append xs (ys ++ rest) ∙ ap (λ k. length xs + k) (length-append ys rest) in
+    let long : length whole ≡ length xs + (length ys + length rest) = ap length is_right
+    ∙ length-append xs (ys ++ rest) ∙ ap (λ k. length xs + k) (length-append ys rest) in
     let front : take (length xs + n) whole ≡ xs ++ take n ys =
-    ap (λ zs. take (length xs + n) zs) is_right ∙ take-append-add xs (ys ++ rest) n ∙ ap (λ zs. xs ++ zs) (take-append-le n ys rest within) in (
+    ap (λ zs. take (length xs + n) zs) is_right ∙ take-append-add xs (ys ++ rest) n
+    ∙ ap (λ zs. xs ++ zs) (take-append-le n ys rest within) in (
       length xs + n,
       omega (arith, long, within),
-      taken ∙ ap (λ zs. zs ++ take n ys) first ∙ append_assoc told xs (take n ys) ∙ ap (λ zs. told ++ zs) (sym front),
+      taken ∙ ap (λ zs. zs ++ take n ys) first ∙ append_assoc told xs (take n ys)
+          ∙ ap (λ zs. told ++ zs) (sym front),
     )
 
 -- a piece after another piece
-pub front_after : (before between after : Option (List ℕ)) (xs ys : List ℕ) → Appends before between xs → AppendsFront between after ys → AppendsFront before after (xs ++ ys)
-front_after before between after xs ys first second = appends_front before between after xs ys [] (xs ++ ys) (sym (append-nil (xs ++ ys))) first second
+pub front_after : (before between after : Option (List ℕ)) (xs ys : List ℕ) →
+    Appends before between xs → AppendsFront between after ys → AppendsFront before after (xs ++ ys)
+front_after before between after xs ys first second =
+    appends_front before between after xs ys [] (xs ++ ys)
+    (sym (append-nil (xs ++ ys))) first second
 
 -- the first of a piece is the first of that piece and another
-pub front_of_more : (before after : Option (List ℕ)) (xs ys : List ℕ) → AppendsFront before after xs → AppendsFront before after (xs ++ ys)
+pub front_of_more : (before after : Option (List ℕ)) (xs ys : List ℕ) →
+    AppendsFront before after xs → AppendsFront before after (xs ++ ys)
 front_of_more None after xs ys front = tt
 front_of_more (Some told) None xs ys front = absurd front
-front_of_more (Some told) (Some more) xs ys (n, within, taken) =
-    (n, omega (arith, length-append xs ys, within), taken ∙ ap (λ zs. told ++ zs) (sym (take-append-le n xs ys within)))
+front_of_more (Some told) (Some more) xs ys (n, within, taken) = (
+  n,
+  omega (arith, length-append xs ys, within),
+  taken ∙ ap (λ zs. told ++ zs) (sym (take-append-le n xs ys within)),
+)
 
 -- bytes that are gathered, and others after them, all of which were written
-pub written_after : (before between after : Option (List ℕ)) (xs ys : List ℕ) → Appends before between xs → Appends between after ys → Appends (followed before xs) (followed after []) ys
+pub written_after : (before between after : Option (List ℕ)) (xs ys : List ℕ) →
+    Appends before between xs → Appends between after ys →
+    Appends (followed before xs) (followed after []) ys
 written_after None between after xs ys first second = tt
 written_after (Some told) None after xs ys first second = absurd first
 written_after (Some told) (Some more) None xs ys first second = absurd second
-written_after (Some told) (Some more) (Some most) xs ys first second = append-nil most ∙ second ∙ ap (λ zs. zs ++ ys) first
+written_after (Some told) (Some more) (Some most) xs ys first second =
+    append-nil most ∙ second ∙ ap (λ zs. zs ++ ys) first
 
 -- bytes that are gathered after others
-pub gathered_after : (told : Option (List ℕ)) (xs ys : List ℕ) → Appends (followed told xs) (followed told (xs ++ ys)) ys
+pub gathered_after : (told : Option (List ℕ)) (xs ys : List ℕ) →
+    Appends (followed told xs) (followed told (xs ++ ys)) ys
 gathered_after None xs ys = tt
 gathered_after (Some told) xs ys = sym (append_assoc told xs ys)
 

@@ -1,6 +1,7 @@
 -- What files and sinks tell of their content, and what a call may do with it.
 -- Where all bytes are appended, `Appends` of the standard library says so.
-use Rattle.std.specs.Prelude.{◌≡◌, ℕ, ◌+◌, ◌≤◌, List, ◌++◌, length, take, Option, Some, None, ⊤, IfSome, IsSomeAnd, IsNone}
+use Rattle.std.specs.Prelude.{◌≡◌, ℕ, ◌+◌, ◌≤◌, List, ◌++◌, length, take}
+use Rattle.std.specs.Prelude.{Option, Some, None, ⊤, IfSome, IsSomeAnd, IsNone}
 
 -- the bytes of each name that has a file
 abbrev pub FileMap : Type 0
@@ -9,7 +10,8 @@ FileMap = List ℕ → Option (List ℕ)
 -- where the files are told, the name has one, and these bytes are its first `most + 1`, or the
 -- whole file where it is shorter
 abbrev pub Fetched : Option FileMap → List ℕ → ℕ → List ℕ → Type 0
-Fetched told name most bytes = IfSome told (λ files. IsSomeAnd (files name) (λ whole. bytes ≡ take (most + 1) whole))
+Fetched told name most bytes =
+    IfSome told (λ files. IsSomeAnd (files name) (λ whole. bytes ≡ take (most + 1) whole))
 
 -- the files are told, and the name has none
 abbrev pub Lacks : Option FileMap → List ℕ → Type 0

@@ -1,5 +1,6 @@
 -- Calls that are listed as failing, by their number, counted from 0.
-use Rattle.std.specs.Prelude.{◌≡◌, ℕ, zero, suc, ◌+◌, ◌<◌, ◌==◌, Bool, true, List, Option, option_map, is_some, find, if◌then◌else◌}
+use Rattle.std.specs.Prelude.{◌≡◌, ℕ, zero, suc, ◌+◌, ◌<◌, ◌==◌, Bool, true, List}
+use Rattle.std.specs.Prelude.{Option, option_map, is_some, find, if◌then◌else◌}
 use Rattle.std.specs.List.{list_any}
 use Rattle.fp_io.specs.declared.memory_sink.Cut.{Cut}
 use Rattle.fp_io.specs.Causes.{last_count}

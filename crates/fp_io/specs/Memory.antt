@@ -1,5 +1,6 @@
 -- What files and a sink in memory hold, and what a call leaves of it.
-use Rattle.std.specs.Prelude.{ℕ, ◌-◌, ◌≤◌, ◌<◌, ◌||◌, Bool, List, [], ◌++◌, length, take, min, nat_lt, Option, Some, None, refl}
+use Rattle.std.specs.Prelude.{ℕ, ◌-◌, ◌≤◌, ◌<◌, ◌||◌, Bool, List, [], ◌++◌}
+use Rattle.std.specs.Prelude.{length, take, min, nat_lt, Option, Some, None, refl}
 use Rattle.std.specs.Ordering.{nat_cmp}
 use Rattle.std.specs.Cmp.Lexicographic.{slice_cmp}
 use Rattle.std.specs.FinMap as map
@@ -23,8 +24,11 @@ pub record MemoryFiles : Type 0 where
 -- the files in memory as plain data: a map from names to contents, and the counts
 abbrev pub memory_files_code : Coded MemoryFiles
 memory_files_code =
-    code_by (Named × (List ℕ × (ℕ × ℕ))) (coded× (map.code {R = slice_cmp nat_cmp} (coded_list coded_ℕ) (coded_list coded_ℕ)) (coded× (coded_list coded_ℕ) (coded× coded_ℕ coded_ℕ)))
-    (λ m. (m.named, (m.failing, (m.calls, m.faults)))) (λ p. record { named = p.0; failing = p.1.0; calls = p.1.1.0; faults = p.1.1.1 }) (λ _. refl)
+    code_by (Named × (List ℕ × (ℕ × ℕ)))
+    (coded× (map.code {R = slice_cmp nat_cmp} (coded_list coded_ℕ) (coded_list coded_ℕ))
+    (coded× (coded_list coded_ℕ) (coded× coded_ℕ coded_ℕ)))
+    (λ m. (m.named, (m.failing, (m.calls, m.faults))))
+    (λ p. record { named = p.0; failing = p.1.0; calls = p.1.1.0; faults = p.1.1.1 }) (λ _. refl)
 
 -- no file, and no call
 abbrev pub no_files : MemoryFiles
@@ -87,7 +91,8 @@ FaultsAreCut s = length s.bytes < s.room → s.faults ≤ listed_before (is_cut 
 
 -- what a sink keeps: the bytes are within its room, for which the memory is there, and the same of
 -- its calls while there is room
-pub record SinkIsSound (bytes : List ℕ) (room capacity : ℕ) (cuts : List Cut) (calls faults : ℕ) : Type 0 where
+pub record SinkIsSound (bytes : List ℕ) (room capacity : ℕ) (cuts : List Cut)
+    (calls faults : ℕ) : Type 0 where
   pub within : length bytes ≤ room
   pub reserved : room ≤ capacity
   pub below : AreBelowLast (is_cut cuts)

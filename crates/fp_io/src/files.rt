@@ -1,6 +1,7 @@
 //! Files that are read whole, by name.
 
-ghost use Rattle.std.specs.Prelude.{◌≡◌, ℕ, ◌+◌, ◌-◌, ◌^◌, ◌<◌, ◌≤◌, List, [], ◌∷◌, Option, IfOk, vec_len};
+ghost use Rattle.std.specs.Prelude.{◌≡◌, ℕ, ◌+◌, ◌-◌, ◌^◌, ◌<◌, ◌≤◌};
+ghost use Rattle.std.specs.Prelude.{List, [], ◌∷◌, Option, IfOk, vec_len};
 ghost use Rattle.fp_io.specs.Causes.{Rose};
 ghost use Rattle.fp_io.specs.Content.{Asks, FileMap, Fetched, Lacks, Request};
 
@@ -40,7 +41,8 @@ pub trait Files {
     /// # Errors
     ///
     /// `Missing` where the object tells its map and no file has the name, `Failed` where a fault
-    /// was counted in this call, `NoMemory` where memory was refused.
+    /// was counted in this call, `NoMemory` where memory was refused. With `NoMemory` no fault was
+    /// counted in this call, and the object doesn't tell that the file is missing.
     fn fetch(&mut self, alloc: Global, name: &str, most: usize) -> Result<Vec<u8>, FetchFault>
         requires { most < 2 ^ 64 - 1 }
         ensures request { Asks (requests self.old) (requests self.new) ((name.now, most) ∷ []) }
@@ -51,5 +53,7 @@ pub trait Files {
         ensures missing { result ≡ Err FetchFault.Missing
             → Lacks (told self.old) name.now × (faults self.new ≡ faults self.old) }
         ensures failed { result ≡ Err FetchFault.Failed
-            → Rose (faults self.old) (faults self.new) };
+            → Rose (faults self.old) (faults self.new) }
+        ensures out_of_memory { result ≡ Err FetchFault.NoMemory
+            → (faults self.new ≡ faults self.old) × ¬ (Lacks (told self.old) name.now) };
 }

@@ -1,6 +1,8 @@
 //! Files in memory.
 
-ghost use Rattle.std.specs.Prelude.{◌≡◌, ℕ, ◌+◌, ◌-◌, ◌^◌, ◌<◌, ◌≤◌, ◌↔◌, [], ◌∷◌, ◌++◌, take, Some, None, IsTrue, IfOk, IsSomeAnd, is_ok, option_map, if◌then◌else◌, vec_len};
+ghost use Rattle.std.specs.Prelude.{◌≡◌, ℕ, ◌+◌, ◌-◌, ◌^◌, ◌<◌, ◌≤◌, ◌↔◌, [], ◌∷◌};
+ghost use Rattle.std.specs.Prelude.{◌++◌, take, Some, None, IsTrue, IfOk, IsSomeAnd};
+ghost use Rattle.std.specs.Prelude.{is_ok, option_map, if◌then◌else◌, vec_len};
 ghost use Rattle.std.specs.FinMap as map;
 ghost use Rattle.fp_io.specs.Memory.{no_files, next_fails, fetched_from, FaultsAreListed};
 

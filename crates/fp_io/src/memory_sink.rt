@@ -1,6 +1,7 @@
 //! A sink in memory.
 
-ghost use Rattle.std.specs.Prelude.{◌≡◌, ℕ, ◌-◌, ◌^◌, ◌<◌, ◌≤◌, ◌↔◌, [], ◌∷◌, ◌++◌, Some, IsTrue, IsErr, IfOk, is_ok, if◌then◌else◌};
+ghost use Rattle.std.specs.Prelude.{◌≡◌, ℕ, ◌-◌, ◌^◌, ◌<◌, ◌≤◌, ◌↔◌, [], ◌∷◌, ◌++◌};
+ghost use Rattle.std.specs.Prelude.{Some, IsTrue, IsErr, IfOk, is_ok, if◌then◌else◌};
 ghost use Rattle.fp_io.specs.Listed.{cut_of};
 ghost use Rattle.fp_io.specs.Memory.{empty_sink, put_fails, put_into, FaultsAreCut};
 

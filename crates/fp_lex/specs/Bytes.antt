@@ -1,5 +1,6 @@
 -- The kinds of bytes of a line, and numbers of digits.
-use Rattle.std.specs.Prelude.{ℕ, ◌==◌, ◌&&◌, ◌||◌, ◌+◌, ◌-◌, ◌*◌, ◌^◌, nat_lt, nat_le, Bool, false, Option, Some, None, List, [], ◌∷◌, if◌then◌else◌, take_while, length}
+use Rattle.std.specs.Prelude.{ℕ, ◌==◌, ◌&&◌, ◌||◌, ◌+◌, ◌-◌, ◌*◌, ◌^◌, nat_lt, nat_le, Bool, false}
+use Rattle.std.specs.Prelude.{Option, Some, None, List, [], ◌∷◌, if◌then◌else◌, take_while, length}
 
 -- from one code to another
 abbrev pub is_between : ℕ → ℕ → ℕ → Bool

@@ -1,5 +1,6 @@
 -- The texts of tokens, and the order of their spans.
-use Rattle.std.specs.Prelude.{◌≡◌, ℕ, ◌<◌, ◌≤◌, List, [], ◌∷◌, Bool, IsTrue, MatchBool, length, drop, slice_range}
+use Rattle.std.specs.Prelude.{◌≡◌, ℕ, ◌<◌, ◌≤◌, List, [], ◌∷◌, Bool}
+use Rattle.std.specs.Prelude.{IsTrue, MatchBool, length, drop, slice_range}
 use Rattle.std.specs.List.{AllPass}
 use Rattle.fp_lex.specs.Bytes.{is_digit, is_hex, is_head, is_rest, is_mark, starts, number_of}
 use Rattle.fp_lex.specs.Tokens.{is_prefixed}
@@ -27,7 +28,9 @@ pub record IsMark (text : List ℕ) (value : ℕ) : Type 0 where
 -- what the text of a token is, by its kind and value
 abbrev pub IsText : Kind → List ℕ → ℕ → Type 0
 IsText Name text value = IsName text value
-IsText Number text value = MatchBool (is_prefixed text) (IsNumeral is_hex 16 (drop 2 text) value) (IsNumeral is_digit 10 text value)
+IsText Number text value =
+    MatchBool (is_prefixed text) (IsNumeral is_hex 16 (drop 2 text) value)
+    (IsNumeral is_digit 10 text value)
 IsText Mark text value = IsMark text value
 
 -- a token of a line: its span is inside and not empty, and its text is the line's slice there

@@ -1,6 +1,8 @@
 -- The tokens of a line, or its leftmost fault.
-use Rattle.std.specs.Prelude.{◌≡◌, ℕ, zero, suc, ◌==◌, ◌+◌, ◌-◌, ◌^◌, ◌&&◌, ◌||◌, Bool, false, List, [], ◌∷◌, Result, Ok, Err, if◌then◌else◌, nat_lt, take, drop, get_or}
-use Rattle.fp_lex.specs.Bytes.{is_digit, is_hex, is_head, is_rest, is_blank, is_mark, run, starts, number_of}
+use Rattle.std.specs.Prelude.{◌≡◌, ℕ, zero, suc, ◌==◌, ◌+◌, ◌-◌, ◌^◌, ◌&&◌, ◌||◌, Bool, false, List}
+use Rattle.std.specs.Prelude.{[], ◌∷◌, Result, Ok, Err, if◌then◌else◌, nat_lt, take, drop, get_or}
+use Rattle.fp_lex.specs.Bytes.{is_digit, is_hex, is_head, is_rest}
+use Rattle.fp_lex.specs.Bytes.{is_blank, is_mark, run, starts, number_of}
 use Rattle.fp_lex.specs.declared.token.Token.{Token}
 use Rattle.fp_lex.specs.declared.token.Kind.TheVariants.{Name, Number, Mark}
 use Rattle.fp_lex.specs.declared.token.LexNo.{LexNo}
@@ -21,12 +23,15 @@ is_prefixed _ = false
 unfoldable pub digits_at : ℕ → ℕ → ℕ → ℕ → List ℕ → Result Token LexNo
 digits_at i skip base count bs =
     let value = number_of base (take count (drop skip bs)) in
-    if count == 0 || (nat_lt (2 ^ 32 - 1) value || starts is_head (drop (skip + count) bs)) then Err (no.BadNumber i)
+    if count == 0 || (nat_lt (2 ^ 32 - 1) value || starts is_head (drop (skip + count) bs))
+    then Err (no.BadNumber i)
     else Ok (record { kind = Number; start = i; end = i + (skip + count); value = value })
 
 -- a number at column i: hexadecimal after `0x`, else decimal
 unfoldable pub number_at : ℕ → List ℕ → Result Token LexNo
-number_at i bs = if is_prefixed bs then digits_at i 2 16 (run is_hex (drop 2 bs)) bs else digits_at i 0 10 (run is_digit bs) bs
+number_at i bs =
+    if is_prefixed bs then digits_at i 2 16 (run is_hex (drop 2 bs)) bs
+    else digits_at i 0 10 (run is_digit bs) bs
 
 -- the name that begins at a column
 abbrev pub name_at : ℕ → List ℕ → Token
@@ -60,7 +65,8 @@ tokens_from (suc passed) i n (b ∷ bs) = tokens_from passed (i + 1) n bs
 tokens_from zero i n (b ∷ bs) =
     if b == 35 then Ok []
     else if is_blank b then tokens_from 0 (i + 1) n bs
-    else next (next (token_at i b bs) (counted n)) (λ t. next (tokens_from (t.end - (i + 1)) (i + 1) (n + 1) bs) (λ ts. Ok (t ∷ ts)))
+    else next (next (token_at i b bs) (counted n))
+    (λ t. next (tokens_from (t.end - (i + 1)) (i + 1) (n + 1) bs) (λ ts. Ok (t ∷ ts)))
 
 -- The tokens of a line. The answer is never that memory was refused.
 unfoldable pub tokens_of : List ℕ → Result (List Token) LexNo

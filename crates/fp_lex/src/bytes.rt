@@ -1,7 +1,9 @@
 //! The kinds of bytes.
 
 ghost use Rattle.std.specs.Prelude.{◌≡◌};
-ghost use Rattle.fp_lex.specs.Bytes.{is_digit as is_digit_of, is_hex as is_hex_of, is_head as is_head_of, is_rest as is_rest_of, is_blank as is_blank_of, is_mark as is_mark_of};
+ghost use Rattle.fp_lex.specs.Bytes.{is_digit as is_digit_of, is_hex as is_hex_of};
+ghost use Rattle.fp_lex.specs.Bytes.{is_head as is_head_of, is_rest as is_rest_of};
+ghost use Rattle.fp_lex.specs.Bytes.{is_blank as is_blank_of, is_mark as is_mark_of};
 
 /// Whether the byte is a decimal digit.
 pub(crate) fn is_digit(b: u8) -> bool

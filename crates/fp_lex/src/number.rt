@@ -26,7 +26,7 @@ fn longer(base: u32, n: u32, b: u8) -> Option<u32>
 }
 
 /// The number of digits, where 32 bits hold it.
-#[tactic(auto, using(crate::proofs::Runs::fit_over, crate::proofs::Runs::fit_end, crate::proofs::Runs::number_here, crate::proofs::Runs::number_end, crate::proofs::Runs::number_grows), unfolding(crate::specs::Bytes::number_of))]
+#[tactic(auto, using(crate::proofs::Runs::counting), unfolding(crate::specs::Bytes::number_of))]
 pub(crate) fn number(base: u32, digits: &[u8]) -> Option<u32>
     requires { 0 < base }
     ensures { result ≡ fit (number_of base digits.now) }

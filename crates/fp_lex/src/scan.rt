@@ -1,8 +1,11 @@
 //! The token at an index of a line.
 
 ghost use Rattle.std.specs.Prelude.{◌≡◌, ◌+◌, ◌≤◌, ◌<◌, ◌^◌, IfOk, length, drop, get_or};
-ghost use Rattle.fp_lex.specs.Bytes.{is_digit as is_digit_of, is_hex as is_hex_of, is_head as is_head_of, is_rest as is_rest_of, run, starts};
-ghost use Rattle.fp_lex.specs.Tokens.{is_prefixed as is_prefixed_of, digits_at as digits_of, number_at as number_token, token_at as token_of, counted as counted_of, token_in as token_of_index};
+ghost use Rattle.fp_lex.specs.Bytes.{is_digit as is_digit_of, is_hex as is_hex_of};
+ghost use Rattle.fp_lex.specs.Bytes.{is_head as is_head_of, is_rest as is_rest_of, run, starts};
+ghost use Rattle.fp_lex.specs.Tokens.{is_prefixed as is_prefixed_of, digits_at as digits_of};
+ghost use Rattle.fp_lex.specs.Tokens.{number_at as number_token, token_at as token_of};
+ghost use Rattle.fp_lex.specs.Tokens.{counted as counted_of, token_in as token_of_index};
 
 use super::bytes::{is_digit, is_head, is_hex, is_mark, is_rest};
 use super::number::number;

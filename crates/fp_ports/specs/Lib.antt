@@ -1,5 +1,5 @@
 pub mod PortWords
-pub mod Rows
+pub mod PluggedPorts
 pub mod ShownWords
 pub mod Kinds
 pub mod Ramp

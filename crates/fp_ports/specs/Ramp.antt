@@ -1,13 +1,14 @@
 -- A ramp at a port.
-use Rattle.std.specs.Prelude.{ℕ, ◌/◌, ◌%◌, ◌^◌, Bool, false, Option, Some, None, nat_le, if◌then◌else◌}
-use Rattle.fp_ports.specs.Kinds.{Held, new_held, held_word}
+use Rattle.std.specs.Prelude.{ℕ, ◌/◌, ◌%◌, ◌^◌, Bool, false, Option}
+use Rattle.std.specs.Prelude.{Some, None, nat_le, if◌then◌else◌}
+use Rattle.fp_ports.specs.Kinds.{HeldModel, new_held, held_word}
 
 -- a port that shows a ramp until it is fed: for how many cycles each word of the ramp stands, the
 -- first fed cycle, and what was fed
 pub record Ramp : Type 0 where
   pub every : ℕ
   pub first : Option ℕ
-  pub held : Held
+  pub held : HeldModel
 
 -- nothing was fed
 abbrev pub new_ramp : ℕ → Ramp

@@ -1,6 +1,7 @@
 //! The words that were fed to a device.
 
-ghost use Rattle.std.specs.Prelude.{◌≡◌, ◌≤◌, [], ◌∷◌, is_ok, drop, length, reverse, find, nat_le, option_copied, if◌then◌else◌};
+ghost use Rattle.std.specs.Prelude.{◌≡◌, ◌≤◌, [], ◌∷◌, is_ok, drop, length, reverse};
+ghost use Rattle.std.specs.Prelude.{find, nat_le, option_copied, if◌then◌else◌};
 ghost use Rattle.fp_ports.specs.Kinds.{fed_word, kept_from};
 
 use std::alloc::{AllocError, Global};

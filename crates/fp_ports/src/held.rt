@@ -16,9 +16,9 @@ pub struct HeldPort {
 }
 
 impl Model for HeldPort {
-    ghost use Rattle.fp_ports.specs.Kinds.{Held};
+    ghost use Rattle.fp_ports.specs.Kinds.{HeldModel};
 
-    ghost Value = { Held };
+    ghost Value = { HeldModel };
 
     ghost view = { λ port. record { feeds = port.feeds; latch = port.latch } };
 }

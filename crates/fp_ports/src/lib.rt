@@ -11,6 +11,8 @@ mod wave;
 
 pub use held::HeldPort;
 pub use port::Port;
-pub use ports::{Ports, feed_port, forget_port, latch_of, read_port, unplug, write_port};
+pub use ports::{
+    ABSENT_WORD, Ports, THREADS, feed_port, forget_port, latch_of, read_port, unplug, write_port,
+};
 pub use ramp::RampPort;
 pub use wave::WavePort;

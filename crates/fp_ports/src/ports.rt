@@ -3,17 +3,28 @@
 //! A contract sees them as eight rows, one for each thread. Each call states the new row of its
 //! thread, and keeps the other seven.
 
-ghost use Rattle.std.specs.Prelude.{◌≡◌, ◌≢◌, ℕ, ◌<◌, None, true, is_ok, if◌then◌else◌, slice_set, vec_len, OnOk, OnErr};
-ghost use Rattle.fp_ports.specs.Rows.{row_of, rows_of, row_at, word_seen, latch_seen, written, fed, Forgot};
+ghost use Rattle.std.specs.Prelude.{◌≡◌, ◌≢◌, ℕ, ◌<◌, None, true, is_ok};
+ghost use Rattle.std.specs.Prelude.{if◌then◌else◌, slice_set, vec_len, OnOk, OnErr};
+ghost use Rattle.fp_ports.specs.PluggedPorts.{row_of, rows_of, row_at, word_seen};
+ghost use Rattle.fp_ports.specs.PluggedPorts.{latch_seen, row_with_word, fed, Forgot};
 ghost use Rattle.fp_ports.specs.PortWords.{SameWords, fed_words};
 
 use crate::port::Port;
 use std::alloc::AllocError;
 
+/// How many hardware threads there are, each with a port.
+pub const THREADS: u8 = 8;
+
 /// The devices at the ports of the eight threads, in the threads' order. A port may be empty.
+///
+/// Each program fills its own list: the prover's gate refuses a function that makes boxed devices
+/// and returns them.
 pub type Ports = Vec<Option<Box<dyn Port>>>;
 
-/// The word that a thread's device shows in the cycle `at`. An empty port shows 0xFFFFFFFF.
+/// The word that an empty port shows: all ones.
+pub const ABSENT_WORD: u32 = 0xFFFF_FFFF;
+
+/// The word that a thread's device shows in the cycle `at`. An empty port shows [`ABSENT_WORD`].
 pub fn read_port(ports: &mut Ports, thread: u8, at: u64) -> u32
     requires eight { vec_len ports.old ≡ 8 }
     requires thread { thread < 8 }
@@ -32,7 +43,7 @@ pub fn write_port(ports: &mut Ports, thread: u8, word: u32)
     requires thread { thread < 8 }
     ensures rows { let rows = rows_of latched word_at ports.old.items in
         rows_of latched word_at ports.new.items
-        ≡ slice_set rows thread (written (row_at rows thread) word) }
+        ≡ slice_set rows thread (row_with_word (row_at rows thread) word) }
     ensures eight { vec_len ports.new ≡ 8 }
 {
     write_entry(&mut ports[thread as usize], word);
@@ -57,8 +68,8 @@ pub fn feed_port(ports: &mut Ports, thread: u8, at: u64, word: u32) -> Result<()
     feed_entry(&mut ports[thread as usize], at, word)
 }
 
-/// Lets a thread's device forget its words of the cycles before `before`. Its latch stays, and so do
-/// its words from that cycle on. At an empty port nothing happens.
+/// Lets a thread's device forget its words of the cycles before `before`. Its latch stays, and so
+/// do its words from that cycle on. At an empty port nothing happens.
 pub fn forget_port(ports: &mut Ports, thread: u8, before: u64)
     requires eight { vec_len ports.old ≡ 8 }
     requires thread { thread < 8 }
@@ -97,12 +108,13 @@ fn read_entry(entry: &mut Option<Box<dyn Port>>, at: u64) -> u32
 {
     match entry {
         Some(port) => port.read(at),
-        None => u32::MAX,
+        None => ABSENT_WORD,
     }
 }
 
 fn write_entry(entry: &mut Option<Box<dyn Port>>, word: u32)
-    ensures { row_of latched word_at entry.new ≡ written (row_of latched word_at entry.old) word }
+    ensures { row_of latched word_at entry.new ≡ row_with_word
+        (row_of latched word_at entry.old) word }
 {
     if let Some(port) = entry {
         port.write(word);

@@ -18,9 +18,9 @@ pub struct WavePort {
 
 impl Model for WavePort {
     ghost use Rattle.std.specs.Prelude.{◌<◌};
-    ghost use Rattle.fp_ports.specs.Kinds.{Wave};
+    ghost use Rattle.fp_ports.specs.Kinds.{WaveModel};
 
-    ghost Value = { Wave };
+    ghost Value = { WaveModel };
 
     ghost view = { λ port. record { half = port.half; feeds = port.feeds; latch = port.latch } };
 

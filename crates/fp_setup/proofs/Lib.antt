@@ -1,3 +1,4 @@
+pub mod Opened
 pub mod Digits
 pub mod Lists
 pub mod RowPut

@@ -5,9 +5,11 @@ use Rattle.fp_setup.specs.Loops.{IsLoop}
 use Rattle.fp_setup.specs.FaultOrder.{integers, addresses}
 
 -- what the ranges of the keys tell
-pub is_loop : (size head last limit : ℕ) → is_in (addresses 0 size) head ≡ true → is_in (addresses head size) last ≡ true
-    → is_in (integers 0 1048576) limit ≡ true → IsLoop (record { head = head; last = last; limit = limit })
+pub is_loop : (size head last limit : ℕ) → is_in (addresses 0 size) head ≡ true →
+    is_in (addresses head size) last ≡ true → is_in (integers 0 1048576) limit ≡ true →
+    IsLoop (record { head = head; last = last; limit = limit })
 is_loop size head last limit is_head is_last is_limit = search rules
 
-pub last_inside : (size head last : ℕ) → 4 ≤ size → is_in (addresses head size) last ≡ true → last < size
+pub last_inside : (size head last : ℕ) → 4 ≤ size →
+    is_in (addresses head size) last ≡ true → last < size
 last_inside size head last low is_last = search rules

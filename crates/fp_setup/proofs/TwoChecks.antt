@@ -11,9 +11,11 @@ pub past : {all here later : Option Fault} → all ≡ first here later → here
 past e h = rw h at e
 
 -- and else what the first finds
-pub found : {all here : Option Fault} (later : Option Fault) {f : Fault} → all ≡ first here later → here ≡ Some f → all ≡ Some f
+pub found : {all here : Option Fault} (later : Option Fault) {f : Fault} → all ≡ first here later →
+    here ≡ Some f → all ≡ Some f
 found later e h = rw h at e
 
-pub found_in_memory : (e : SetupRefused) (all here later : Option Fault) → all ≡ first here later → IsFound e here → IsFound e all
+pub found_in_memory : (e : SetupRefused) (all here later : Option Fault) → all ≡ first here later →
+    IsFound e here → IsFound e all
 found_in_memory (refused.Fault code place) all here later e h = found later e h
 found_in_memory refused.NoMemory all here later e h = tt

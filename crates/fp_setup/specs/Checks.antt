@@ -1,5 +1,7 @@
 -- The checks of one value, at its place: the first fault, or none.
-use Rattle.std.specs.Prelude.{ℕ, ℤ, pos, negsuc, ◌+◌, ◌%◌, ◌==◌, ◌&&◌, Bool, true, false, nat_le, nat_lt, List, [], ◌∷◌, length, Option, Some, None, is_some, if◌then◌else◌}
+use Rattle.std.specs.Prelude.{ℕ, ℤ, pos, negsuc, ◌+◌, ◌%◌, ◌==◌, ◌&&◌, Bool}
+use Rattle.std.specs.Prelude.{true, false, nat_le, nat_lt, List, [], ◌∷◌}
+use Rattle.std.specs.Prelude.{length, Option, Some, None, is_some, if◌then◌else◌}
 use Rattle.std.specs.List.{list_any}
 use Rattle.toml.specs.Data.{Data, as_integer, as_str, as_bool}
 use Rattle.timer_unit.specs.Time.{most_cycles}
@@ -34,10 +36,12 @@ integer_check range place d = typed place (as_integer d) (integer_fault range pl
 
 -- an integer in a range that isn't taken yet
 abbrev pub taken_fault : List ℕ → Place → ℕ → Option Fault
-taken_fault taken place n = if list_any (λ k. k == n) taken then fault no.DoubleThread place else None
+taken_fault taken place n =
+    if list_any (λ k. k == n) taken then fault no.DoubleThread place else None
 
 unfoldable pub fresh_check : Range → List ℕ → Check
-fresh_check range taken place d = first (integer_check range place d) (taken_fault taken place (number d))
+fresh_check range taken place d =
+    first (integer_check range place d) (taken_fault taken place (number d))
 
 -- a text of so many bytes
 abbrev pub bytes_fault : ℕ → ℕ → Place → Text → Option Fault
@@ -60,12 +64,14 @@ truth_check place d = typed place (as_bool d) (λ (b : Bool). None)
 
 unfoldable pub permit_check : Bool → Check
 permit_check confined place d =
-    typed place (as_bool d) (λ (b : Bool). if confined && b then fault no.ConfinedPermit place else None)
+    typed place (as_bool d)
+    (λ (b : Bool). if confined && b then fault no.ConfinedPermit place else None)
 
 -- the elements of a list in their order, the first of them with that index
 abbrev pub each_fault : Check → Place → ℕ → List Data → Option Fault
 each_fault check place index [] = None
-each_fault check place index (d ∷ ds) = first (check (element_of place index) d) (each_fault check place (index + 1) ds)
+each_fault check place index (d ∷ ds) =
+    first (check (element_of place index) d) (each_fault check place (index + 1) ds)
 
 -- eight texts of a list
 abbrev pub eight_fault : Words → Place → List Data → Option Fault
@@ -81,25 +87,29 @@ is_after None at = true
 is_after (Some before) at = nat_lt before at
 
 abbrev pub is_input : Option ℕ → ℤ → ℤ → Bool
-is_input before (pos at) (pos word) = (nat_le at most_cycles && is_after before at) && nat_le word 4294967295
+is_input before (pos at) (pos word) =
+    (nat_le at most_cycles && is_after before at) && nat_le word 4294967295
 is_input before _ _ = false
 
 unfoldable pub input_check : Option ℕ → Check
 input_check before place d =
-    typed place (pair d) (λ (p : ℤ × ℤ). if is_input before p.0 p.1 then None else fault no.OutOfRange place)
+    typed place (pair d)
+    (λ (p : ℤ × ℤ). if is_input before p.0 p.1 then None else fault no.OutOfRange place)
 
 -- inputs in their order, the first of them with that index
 abbrev pub inputs_from : Place → ℕ → Option ℕ → List Data → Option Fault
 inputs_from place index before [] = None
 inputs_from place index before (d ∷ ds) =
-    first (input_check before (element_of place index) d) (inputs_from place (index + 1) (Some (input_of d).at) ds)
+    first (input_check before (element_of place index) d)
+    (inputs_from place (index + 1) (Some (input_of d).at) ds)
 
 abbrev pub inputs_fault : Place → List Data → Option Fault
 inputs_fault place ds = inputs_from place 0 None ds
 
 -- a list of at most so many elements, and the check of the elements
 abbrev pub few_fault : ℕ → (Place → List Data → Option Fault) → Place → List Data → Option Fault
-few_fault most check place ds = if nat_lt most (length ds) then fault no.TooMany place else check place ds
+few_fault most check place ds =
+    if nat_lt most (length ds) then fault no.TooMany place else check place ds
 
 unfoldable pub list_check : ℕ → (Place → List Data → Option Fault) → Check
 list_check most check place d = typed place (as_list d) (few_fault most check place)

@@ -23,7 +23,8 @@ abbrev pub key_of : Place → ℕ → Place
 key_of table n = record { table = table.table; row = table.row; key = n; item = 0 }
 
 abbrev pub element_of : Place → ℕ → Place
-element_of value index = record { table = value.table; row = value.row; key = value.key; item = index + 1 }
+element_of value index =
+    record { table = value.table; row = value.row; key = value.key; item = index + 1 }
 
 -- a fault with its place, and the answer of a check that finds it
 abbrev pub fault_at : SetupNo → Place → Fault

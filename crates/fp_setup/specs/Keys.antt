@@ -5,7 +5,7 @@ use Rattle.fp_setup.specs.declared.vocabulary.Words.{Words}
 use Rattle.fp_setup.specs.declared.vocabulary.Words.TheVariants.{Slots, Owners, Modes}
 use Rattle.fp_setup.specs.Vocabulary.{Text}
 use Rattle.fp_setup.specs.Inputs.{most_inputs}
-use Rattle.fp_setup.specs.Loops.{most_turns}
+use Rattle.fp_setup.specs.Loops.{most_rounds}
 
 -- what a key's value is
 pub data Kind : Type 0 where
@@ -73,7 +73,7 @@ abbrev pub loop_keys : List Key
 loop_keys =
     needed (codes "head") Address
     ∷ needed (codes "last") (AddressFrom (codes "head"))
-    ∷ needed (codes "bound") (Integer 0 most_turns)
+    ∷ needed (codes "bound") (Integer 0 most_rounds)
     ∷ []
 
 abbrev pub names : List Key → List Text

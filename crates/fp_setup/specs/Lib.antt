@@ -16,7 +16,7 @@ pub mod Rows
 pub mod Plain
 pub mod Places
 pub mod AcceptedSetups
-pub use Rattle.nibble_word.specs.Nibbles
+pub use Rattle.slot_table.specs.Nibbles
 pub use Rattle.region_guard.specs.Regions
 pub use Rattle.region_guard.specs.RegionsWord
 pub use Rattle.slot_table.specs.Table

@@ -4,14 +4,14 @@ use Rattle.std.specs.List.{All}
 use Rattle.fp_setup.specs.declared.loop_list.LoopSetup.{LoopSetup}
 
 -- the largest bound of a loop: how often it may go back to its head for one entry
-abbrev pub most_turns : ℕ
-most_turns = 1048576
+abbrev pub most_rounds : ℕ
+most_rounds = 1048576
 
 pub record IsLoop (l : LoopSetup) : Type 0 where
   pub head_aligned : l.head % 4 ≡ 0
   pub last_aligned : l.last % 4 ≡ 0
   pub ordered : l.head ≤ l.last
-  pub limited : l.limit ≤ most_turns
+  pub limited : l.limit ≤ most_rounds
 
 pub record AreLoops (loops : List LoopSetup) : Type 0 where
   pub few : length loops ≤ 256

@@ -1,5 +1,6 @@
 -- The setup that the bytes of a file mean, or its first fault.
-use Rattle.std.specs.Prelude.{◌≡◌, ℕ, List, length, nat_lt, Option, Some, None, Result, Ok, Err, if◌then◌else◌}
+use Rattle.std.specs.Prelude.{◌≡◌, ℕ, List, length, nat_lt, Option}
+use Rattle.std.specs.Prelude.{Some, None, Result, Ok, Err, if◌then◌else◌}
 use Rattle.std.specs.Str.{is_utf8}
 use Rattle.toml.specs.Data.{Members}
 use Rattle.toml.specs.Parse.{parse_document}
@@ -35,7 +36,9 @@ most_setup_bytes = 262144
 
 -- the setup that the bytes mean, or its first fault
 unfoldable pub setup : List ℕ → Result Settings Fault
-setup bytes = if nat_lt most_setup_bytes (length bytes) then Err (fault_at no.TooLong no_place) else setup_in (document bytes)
+setup bytes =
+    if nat_lt most_setup_bytes (length bytes) then Err (fault_at no.TooLong no_place)
+    else setup_in (document bytes)
 
 -- a refusal for another cause than memory is that fault
 abbrev pub IsFaultOf : {A : Type 0} → Result A Fault → SetupRefused → Type 0

@@ -1,5 +1,6 @@
 -- What the tables of an accepted setup say.
-use Rattle.std.specs.Prelude.{ℕ, ◌+◌, ◌*◌, ◌==◌, false, List, [], ◌∷◌, Option, None, map, find, unwrap_or, option_map, codes}
+use Rattle.std.specs.Prelude.{ℕ, ◌+◌, ◌*◌, ◌==◌, false, List, [], ◌∷◌, Option}
+use Rattle.std.specs.Prelude.{None, map, find, unwrap_or, option_map, codes}
 use Rattle.std.specs.Option.{option_map_or}
 use Rattle.toml.specs.Data.{Data, Members, get_member}
 use Rattle.fp_setup.specs.declared.thread_list.ThreadSetup.{ThreadSetup}
@@ -8,7 +9,8 @@ use Rattle.fp_setup.specs.declared.vocabulary.Words.{Words}
 use Rattle.fp_setup.specs.declared.vocabulary.Words.TheVariants.{Slots, Owners, Modes}
 use Rattle.fp_setup.specs.Settings.{Settings}
 use Rattle.fp_setup.specs.Vocabulary.{Text, number_of}
-use Rattle.fp_setup.specs.Values.{number, text, members, number_at, text_at, truth_at, elements_at, input_of}
+use Rattle.fp_setup.specs.Values.{number, text, members, number_at}
+use Rattle.fp_setup.specs.Values.{text_at, truth_at, elements_at, input_of}
 
 -- the number of digits in a base, the lowest first
 abbrev pub word_of : ℕ → List ℕ → ℕ
@@ -16,12 +18,12 @@ word_of base [] = 0
 word_of base (digit ∷ digits) = digit + base * word_of base digits
 
 -- the number that a text of a list stands for
-unfoldable pub named : Words → Text → ℕ
-named words t = unwrap_or (number_of words t) 0
+unfoldable pub number_of_name : Words → Text → ℕ
+number_of_name words t = unwrap_or (number_of words t) 0
 
 -- a word of eight nibbles, the lowest first, each by its text
 unfoldable pub nibble_word : Words → List Data → ℕ
-nibble_word words ds = word_of 16 (map (λ d. named words (text d)) ds)
+nibble_word words ds = word_of 16 (map (λ d. number_of_name words (text d)) ds)
 
 -- the table of a loop
 unfoldable pub loop_of : Members → LoopSetup
@@ -36,10 +38,10 @@ abbrev pub id_at : Members → ℕ
 id_at row = number_at (codes "id") row
 
 abbrev pub mode_at : Members → ℕ
-mode_at row = named Modes (text_at (codes "mode") row)
+mode_at row = number_of_name Modes (text_at (codes "mode") row)
 
-unfoldable pub thread_of : Members → ThreadSetup
-thread_of row = record {
+unfoldable pub thread_setup : Members → ThreadSetup
+thread_setup row = record {
   entry = number_at (codes "entry") row;
   confined = truth_at (codes "confined") row;
   permit = truth_at (codes "permit") row;
@@ -48,8 +50,8 @@ thread_of row = record {
 }
 
 -- a thread that no table names: soft and asleep, from address 0 on
-abbrev pub unnamed : ThreadSetup
-unnamed = record { entry = 0; confined = false; permit = false; unplug = None; inputs = [] }
+abbrev pub default_thread : ThreadSetup
+default_thread = record { entry = 0; confined = false; permit = false; unplug = None; inputs = [] }
 
 abbrev pub unnamed_mode : ℕ
 unnamed_mode = 3
@@ -65,7 +67,7 @@ abbrev pub said_of : {X : Type 0} → (Members → X) → X → List Members →
 said_of say other rows thread = option_map_or say (table_of rows thread) other
 
 unfoldable pub threads_of : List Members → List ThreadSetup
-threads_of rows = map (said_of thread_of unnamed rows) the_threads
+threads_of rows = map (said_of thread_setup default_thread rows) the_threads
 
 unfoldable pub modes_of : List Members → List ℕ
 modes_of rows = map (said_of mode_at unnamed_mode rows) the_threads

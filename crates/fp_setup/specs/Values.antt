@@ -1,8 +1,10 @@
 -- What a value of a TOML document is, as a number, a text, a truth value or a list. One of another
 -- type, or none, counts as 0, empty or false: the checks refuse it.
-use Rattle.std.specs.Prelude.{ℕ, ℤ, pos, negsuc, Option, option_map, Bool, false, List, [], ◌∷◌, unwrap_or, Some, None, option_and_then}
+use Rattle.std.specs.Prelude.{ℕ, ℤ, pos, negsuc, Option, option_map, Bool, false}
+use Rattle.std.specs.Prelude.{List, [], ◌∷◌, unwrap_or, Some, None, option_and_then}
 use Rattle.std.specs.Option.{option_map_or}
-use Rattle.toml.specs.Data.{Data, Items, no_items, item, Members, no_members, as_integer, as_str, as_bool, as_array, as_table, get_member}
+use Rattle.toml.specs.Data.{Data, Items, no_items, item, Members, no_members}
+use Rattle.toml.specs.Data.{as_integer, as_str, as_bool, as_array, as_table, get_member}
 use Rattle.fp_setup.specs.declared.input_list.Input.{Input}
 use Rattle.fp_setup.specs.Vocabulary.{Text}
 

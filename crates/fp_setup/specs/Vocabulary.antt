@@ -1,9 +1,10 @@
 -- The texts that stand for slots, owners of regions and modes, with their numbers.
-use Rattle.std.specs.Prelude.{ℕ, Bool, true, nat_lt, List, [], ◌∷◌, ◌++◌, Option, Some, None, if◌then◌else◌, codes}
+use Rattle.std.specs.Prelude.{ℕ, Bool, true, nat_lt, List, [], ◌∷◌, ◌++◌}
+use Rattle.std.specs.Prelude.{Option, Some, None, if◌then◌else◌, codes}
 use Rattle.std.specs.Str.{bytes_eq}
-use Rattle.slot_table.specs.Frame.{is_slot}
+use Rattle.slot_table.specs.Frame.{disabled_slot, is_slot, soft_slot}
 use Rattle.slot_table.specs.Table.{is_table}
-use Rattle.region_guard.specs.Regions.{is_owner}
+use Rattle.region_guard.specs.Regions.{is_owner, read_only_region, shared_region}
 use Rattle.region_guard.specs.RegionsWord.{is_regions}
 use Rattle.fp_setup.specs.declared.vocabulary.Words.{Words}
 use Rattle.fp_setup.specs.declared.vocabulary.Words.TheVariants.{Slots, Owners, Modes}
@@ -20,9 +21,11 @@ threads =
 
 -- a slot is a thread's, the soft threads', or disabled; a region is a thread's, shared or read only
 abbrev pub entries : Words → List (Text × ℕ)
-entries Slots = threads ++ (codes "S", 14) ∷ (codes "D", 15) ∷ []
-entries Owners = threads ++ (codes "shared", 8) ∷ (codes "readonly", 12) ∷ []
-entries Modes = (codes "hard", 0) ∷ (codes "hard-asleep", 1) ∷ (codes "soft", 2) ∷ (codes "soft-asleep", 3) ∷ []
+entries Slots = threads ++ (codes "S", soft_slot) ∷ (codes "D", disabled_slot) ∷ []
+entries Owners =
+    threads ++ (codes "shared", shared_region) ∷ (codes "readonly", read_only_region) ∷ []
+entries Modes =
+    (codes "hard", 0) ∷ (codes "hard-asleep", 1) ∷ (codes "soft", 2) ∷ (codes "soft-asleep", 3) ∷ []
 
 -- the refusal of a text that isn't among them
 abbrev pub refusal : Words → SetupNo

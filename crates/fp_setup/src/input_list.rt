@@ -14,7 +14,10 @@ pub struct Input {
 }
 
 /// The words that are fed to a thread's port: at most 4,096, their cycles strictly rising and at
-/// most 4,000,000,000. Contracts see the list.
+/// most 4,000,000,000. Contracts see the list. Each list with rules, as this one and [`Loops`], is
+/// a type of its own: its rules are its invariant, which a type parameter can't give.
+///
+/// [`Loops`]: crate::Loops
 #[derive(Drop)]
 pub struct Inputs {
     items: Vec<Input>,

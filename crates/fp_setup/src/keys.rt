@@ -1,17 +1,20 @@
 //! The values of a table's keys, each checked at its place.
 
-ghost use Rattle.std.specs.Prelude.{◌≡◌, ◌<◌, ◌≤◌, ◌==◌, ◌&&◌, ℕ, List, true, false, map, option_map, unwrap_or, Option, Some, None, IfOk, IfSome, IsTrue, length};
+ghost use Rattle.std.specs.Prelude.{◌≡◌, ◌<◌, ◌≤◌, ◌==◌, ◌&&◌, ℕ, List, true};
+ghost use Rattle.std.specs.Prelude.{false, map, option_map, unwrap_or, Option};
+ghost use Rattle.std.specs.Prelude.{Some, None, IfOk, IfSome, IsTrue, length};
 ghost use Rattle.std.specs.Option.{option_map_or};
 ghost use Rattle.std.specs.Str.{bytes_eq};
 ghost use Rattle.toml.specs.Data.{get_member};
 ghost use Rattle.toml.specs.View.{view, table_view};
-ghost use Rattle.nibble_word.specs.Nibbles.{nibbles};
+ghost use Rattle.slot_table.specs.Nibbles.{nibbles};
 ghost use Rattle.std.specs.List.{list_all, list_any};
 ghost use Rattle.fp_setup.specs.Vocabulary.{is_value, is_word};
 ghost use Rattle.fp_setup.specs.Values.{elements_at, number, number_at, text_at, truth_at};
-ghost use Rattle.fp_setup.specs.Checks.{bytes_check, eight_check, fresh_check, integer_check, is_in, permit_check, truth_check, word_check};
+ghost use Rattle.fp_setup.specs.Checks.{bytes_check, eight_check, fresh_check, integer_check};
+ghost use Rattle.fp_setup.specs.Checks.{is_in, permit_check, truth_check, word_check};
 ghost use Rattle.fp_setup.specs.FaultOrder.{has_other_key, key_fault, unknown_fault};
-ghost use Rattle.fp_setup.specs.SetupOfTables.{named, nibble_word};
+ghost use Rattle.fp_setup.specs.SetupOfTables.{number_of_name, nibble_word};
 ghost use Rattle.fp_setup.specs.Reading.{IsRead, IsReadInMemory};
 
 use crate::bounds::Range;
@@ -126,7 +129,7 @@ pub(crate) fn needed_eight(
 pub(crate) fn needed_word(table: &Table, key: &str, words: Words, place: Place) -> Result<u8, Fault>
     ensures read { IsRead result
         (key_fault (word_check words) true place (get_member key.now (table_view table.now)))
-        (named words (text_at key.now (table_view table.now))) }
+        (number_of_name words (text_at key.now (table_view table.now))) }
     ensures value { IfOk result (λ n. is_value words n ≡ true) }
 {
     match member(table, key) {

@@ -9,7 +9,8 @@ ghost use Rattle.fp_setup.specs.Loops.{AreLoops, IsLoop};
 ghost use Rattle.fp_setup.specs.Faults.{loop_row};
 ghost use Rattle.fp_setup.specs.Values.{elements, elements_at, members};
 ghost use Rattle.fp_setup.specs.Checks.{list_check};
-ghost use Rattle.fp_setup.specs.FaultOrder.{key_fault, loop_fault, loop_table_fault, loops_fault, loops_from};
+ghost use Rattle.fp_setup.specs.FaultOrder.{key_fault, loop_fault, loop_table_fault};
+ghost use Rattle.fp_setup.specs.FaultOrder.{loops_fault, loops_from};
 ghost use Rattle.fp_setup.specs.SetupOfTables.{loop_of};
 ghost use Rattle.fp_setup.specs.Reading.{IsRead, IsReadInMemory};
 
@@ -31,7 +32,7 @@ const MOST_TURNS: u32 = 1_048_576;
 const KEYS: [&str; 3] = ["head", "last", "bound"];
 
 /// The loop of a table, for scratchpads of a size in bytes.
-#[tactic(auto, unfolding(crate::specs::FaultOrder::loop_table_fault, crate::specs::SetupOfTables::loop_of))]
+#[tactic(auto, unfolding(crate::proofs::Opened::loop_table))]
 fn loop_table(table: &Table, size: u32, row: Place) -> Result<LoopSetup, Fault>
     requires low { 4 ≤ size }
     ensures read { IsRead result

@@ -2,11 +2,11 @@
 
 ghost use Rattle.std.specs.Prelude.{◌≡◌, ◌<◌, ◌≤◌, ◌^◌, IfOk, length, map, true, nat_lt, IsTrue};
 ghost use Rattle.std.specs.List.{list_all};
-ghost use Rattle.nibble_word.specs.Nibbles.{nibbles};
+ghost use Rattle.slot_table.specs.Nibbles.{nibbles};
 ghost use Rattle.toml.specs.View.{view};
 ghost use Rattle.fp_setup.specs.Checks.{each_fault, eight_check, word_check};
 ghost use Rattle.fp_setup.specs.Values.{elements, text};
-ghost use Rattle.fp_setup.specs.SetupOfTables.{named, nibble_word, word_of};
+ghost use Rattle.fp_setup.specs.SetupOfTables.{number_of_name, nibble_word, word_of};
 ghost use Rattle.fp_setup.specs.Vocabulary.{is_value, is_word};
 ghost use Rattle.fp_setup.specs.Reading.{IsRead};
 
@@ -20,7 +20,7 @@ fn eight_numbers(items: &[Value], words: Words, place: Place) -> Result<[u8; 8],
     requires { length items.now ≡ 8 }
     ensures read { IsRead result
         (each_fault (word_check words) place 0 (map view items.now))
-        (map (λ d. named words (text d)) (map view items.now)) }
+        (map (λ d. number_of_name words (text d)) (map view items.now)) }
     ensures values { IfOk result (λ ns. list_all (is_value words) ns ≡ true) }
 {
     let mut numbers = [0; 8];
@@ -64,7 +64,7 @@ pub(crate) fn word_of_modes(modes: &[u8; 8]) -> u32
 }
 
 /// The word that eight texts of a list stand for.
-#[tactic(auto, using(crate::proofs::Digits::small_values, crate::proofs::Digits::accepted), unfolding(crate::specs::Checks::eight_check, crate::specs::SetupOfTables::nibble_word))]
+#[tactic(auto, using(crate::proofs::Digits::eight), unfolding(crate::proofs::Opened::eight))]
 pub(crate) fn eight(value: &Value, words: Words, place: Place) -> Result<u32, Fault>
     ensures read { IsRead result
         (eight_check words place (view value.now))

@@ -48,7 +48,8 @@ pub struct Place {
 
 impl Place {
     ghost use Rattle.std.specs.Prelude.{◌≡◌, ◌+◌, ◌<◌, ◌^◌};
-    ghost use Rattle.fp_setup.specs.Faults.{no_place, top, thread_row, loop_row, key_of, element_of};
+    ghost use Rattle.fp_setup.specs.Faults.{no_place, top, thread_row};
+    ghost use Rattle.fp_setup.specs.Faults.{loop_row, key_of, element_of};
 
     /// The file as a whole.
     pub(crate) fn none() -> Place

@@ -24,7 +24,7 @@ pub struct ThreadSetup {
 }
 
 impl ThreadSetup {
-    ghost use Rattle.fp_setup.specs.SetupOfTables.{unnamed};
+    ghost use Rattle.fp_setup.specs.SetupOfTables.{default_thread};
     ghost use Rattle.fp_setup.specs.Plain.{plain_thread};
 
     /// A thread with no permit, no unplug and no inputs.
@@ -42,7 +42,7 @@ impl ThreadSetup {
 
     /// A thread that no table names.
     pub(crate) fn unnamed(alloc: Global) -> ThreadSetup
-        ensures { result ≡ unnamed }
+        ensures { result ≡ default_thread }
     {
         ThreadSetup::plain(alloc, 0, false)
     }
@@ -72,12 +72,12 @@ impl Threads {
     ghost use Rattle.std.specs.List.{All, list_all};
     ghost use Rattle.fp_setup.specs.declared.thread_list.ThreadSetup.{ThreadSetup};
     ghost use Rattle.fp_setup.specs.Threads.{AreThreads, IsThread};
-    ghost use Rattle.fp_setup.specs.SetupOfTables.{unnamed};
+    ghost use Rattle.fp_setup.specs.SetupOfTables.{default_thread};
     ghost use Rattle.fp_setup.specs.Plain.{is_entry, plain_threads};
 
     /// Eight threads that no table names.
     pub(crate) fn unnamed(alloc: Global) -> Threads
-        ensures { result ≡ replicate 8 unnamed }
+        ensures { result ≡ replicate 8 default_thread }
     {
         Threads {
             items: [

@@ -1,6 +1,7 @@
 //! The tables of threads.
 
-ghost use Rattle.std.specs.Prelude.{◌≡◌, ◌<◌, ◌≤◌, ◌==◌, length, map, true, false, nat_lt, IfOk, [], slice_set, replicate};
+ghost use Rattle.std.specs.Prelude.{◌≡◌, ◌<◌, ◌≤◌, ◌==◌, length, map, true};
+ghost use Rattle.std.specs.Prelude.{false, nat_lt, IfOk, [], slice_set, replicate};
 ghost use Rattle.std.specs.List.{All, list_all, list_any};
 ghost use Rattle.toml.specs.Data.{Data, as_table, get_member};
 ghost use Rattle.toml.specs.View.{table_view, view};
@@ -10,8 +11,10 @@ ghost use Rattle.fp_setup.specs.declared.thread_list.ThreadSetup.{ThreadSetup};
 ghost use Rattle.fp_setup.specs.Threads.{AreThreads, IsThread};
 ghost use Rattle.fp_setup.specs.Values.{as_list, elements, elements_at, members};
 ghost use Rattle.fp_setup.specs.Checks.{list_check};
-ghost use Rattle.fp_setup.specs.FaultOrder.{key_fault, thread_fault, thread_table_fault, threads_fault, threads_from};
-ghost use Rattle.fp_setup.specs.SetupOfTables.{id_at, mode_at, modes_of, thread_of, threads_of, unnamed, unnamed_mode};
+ghost use Rattle.fp_setup.specs.FaultOrder.{key_fault, thread_fault, thread_table_fault};
+ghost use Rattle.fp_setup.specs.FaultOrder.{threads_fault, threads_from};
+ghost use Rattle.fp_setup.specs.SetupOfTables.{id_at, mode_at, modes_of, thread_setup};
+ghost use Rattle.fp_setup.specs.SetupOfTables.{threads_of, default_thread, unnamed_mode};
 ghost use Rattle.fp_setup.specs.Rows.{row_of, rows_of};
 ghost use Rattle.fp_setup.specs.Reading.{IsReadInMemory};
 
@@ -59,7 +62,7 @@ impl ThreadRows {
     /// Before any table: no thread is named.
     fn unnamed(alloc: Global) -> ThreadRows
         ensures modes { result.modes ≡ replicate 8 unnamed_mode }
-        ensures threads { result.threads ≡ replicate 8 unnamed }
+        ensures threads { result.threads ≡ replicate 8 default_thread }
     {
         ThreadRows {
             modes: [UNNAMED_MODE; 8],
@@ -193,7 +196,7 @@ fn threads_in(alloc: Global, items: &[Value], size: u32) -> Result<ThreadRows, S
 }
 
 /// What the rows that a value lists say of the threads.
-#[tactic(auto, unfolding(crate::specs::Checks::list_check, crate::specs::FaultOrder::threads_fault))]
+#[tactic(auto, unfolding(crate::proofs::Opened::threads))]
 fn threads(
     alloc: Global,
     value: &Value,
@@ -225,7 +228,7 @@ fn threads(
 }
 
 /// No table names a thread.
-#[tactic(auto, unfolding(crate::specs::SetupOfTables::threads_of, crate::specs::SetupOfTables::modes_of))]
+#[tactic(auto, unfolding(crate::proofs::Opened::no_threads))]
 fn no_threads(alloc: Global) -> ThreadRows
     ensures read { result ≡ rows_of [] }
     ensures modes { list_all (λ n. nat_lt n 4) result.modes ≡ true }

@@ -1,11 +1,13 @@
 //! One value of a document, checked at its place.
 
-ghost use Rattle.std.specs.Prelude.{◌≡◌, ◌<◌, ◌≤◌, ◌==◌, length, ◌&&◌, false, IfOk, true, map, option_map};
+ghost use Rattle.std.specs.Prelude.{◌≡◌, ◌<◌, ◌≤◌, ◌==◌, length, ◌&&◌};
+ghost use Rattle.std.specs.Prelude.{false, IfOk, true, map, option_map};
 ghost use Rattle.std.specs.List.{list_any};
 ghost use Rattle.toml.specs.View.{view};
-ghost use Rattle.fp_setup.specs.Checks.{bytes_check, fresh_check, integer_check, word_check, truth_check, permit_check, is_in};
+ghost use Rattle.fp_setup.specs.Checks.{bytes_check, fresh_check, integer_check};
+ghost use Rattle.fp_setup.specs.Checks.{word_check, truth_check, permit_check, is_in};
 ghost use Rattle.fp_setup.specs.Values.{as_list, number, text, truth};
-ghost use Rattle.fp_setup.specs.SetupOfTables.{named};
+ghost use Rattle.fp_setup.specs.SetupOfTables.{number_of_name};
 ghost use Rattle.fp_setup.specs.Vocabulary.{is_value};
 ghost use Rattle.fp_setup.specs.Reading.{IsRead, IsReadInMemory};
 
@@ -64,11 +66,11 @@ pub(crate) fn fresh(value: &Value, range: Range, taken: &[u8], place: Place) -> 
 }
 
 /// The number of a text of a list.
-#[tactic(auto, unfolding(crate::specs::Checks::word_check, crate::specs::SetupOfTables::named))]
+#[tactic(auto, unfolding(crate::proofs::Opened::word))]
 pub(crate) fn word(value: &Value, words: Words, place: Place) -> Result<u8, Fault>
     ensures read { IsRead result
         (word_check words place (view value.now))
-        (named words (text (view value.now))) }
+        (number_of_name words (text (view value.now))) }
     ensures value { IfOk result (λ n. is_value words n ≡ true) }
 {
     let Some(text) = value.as_str() else {

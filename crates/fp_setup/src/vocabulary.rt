@@ -4,6 +4,8 @@ ghost use Rattle.std.specs.Prelude.{◌≡◌, ◌<◌, IfSome, true};
 ghost use Rattle.fp_setup.specs.Vocabulary.{is_value, number_in, number_of, refusal, threads};
 
 use crate::refusal::SetupNo;
+use region_guard::{READ_ONLY, SHARED};
+use slot_table::{DISABLED, SOFT};
 
 /// A list of texts, each of which stands for a number.
 #[derive(Clone, Copy)]
@@ -25,13 +27,13 @@ impl Words {
     {
         match self {
             Words::Slots => match text {
-                "S" => Some(14),
-                "D" => Some(15),
+                "S" => Some(SOFT),
+                "D" => Some(DISABLED),
                 _ => thread_number(text),
             },
             Words::Owners => match text {
-                "shared" => Some(8),
-                "readonly" => Some(12),
+                "shared" => Some(SHARED),
+                "readonly" => Some(READ_ONLY),
                 _ => thread_number(text),
             },
             Words::Modes => match text {

@@ -1,3 +1,4 @@
+pub mod Opened
 pub mod Zero
 pub mod WordSources
 pub mod Targets

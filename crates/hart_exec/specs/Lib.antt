@@ -1,7 +1,8 @@
-pub mod AsDefined
+pub mod Effects
 pub mod Units
 pub use Rattle.core_model.specs.Csr
 pub use Rattle.core_model.specs.Issue
+pub use Rattle.core_model.specs.Delays
 pub use Rattle.core_model.specs.Outcomes
 pub use Rattle.core_model.specs.Thread
 pub use Rattle.core_model.specs.Traps

@@ -1,19 +1,20 @@
 -- What an instruction of a thread reads and leaves in the units.
-use Rattle.std.specs.Prelude.{◌≡◌, ℕ, ◌-◌, if◌then◌else◌, List, slice_index_or, slice_set, Option, Some, None}
+use Rattle.std.specs.Prelude.{◌≡◌, ℕ, Bool, if◌then◌else◌, List}
+use Rattle.std.specs.Prelude.{slice_index_or, slice_set, Option, Some, None}
 use Rattle.rv_exec.specs.declared.outcome.Effect.{Effect}
 use Rattle.rv_exec.specs.declared.outcome.Effect.TheVariants.{Csr}
 use Rattle.region_guard.specs.declared.access.Guard.{Guard}
 use Rattle.region_guard.specs.Regions.{may_fetch, may_load, may_store}
 use Rattle.slot_scheduler.specs.declared.picking.Sched.{Sched}
 use Rattle.timer_unit.specs.declared.row.Timer.{Timer}
-use Rattle.timer_unit.specs.Time.{time, timer_of}
+use Rattle.timer_unit.specs.Time.{timer_of}
 use Rattle.core_model.specs.declared.own.Own.{Own}
 use Rattle.core_model.specs.declared.own.Trapping.{Trapping}
-use Rattle.core_model.specs.Thread.{Around, Did}
+use Rattle.core_model.specs.Thread.{Environment, Execution}
 use Rattle.trap_unit.specs.Access.{shared_value, sched_after, guard_after}
 use Rattle.trap_unit.specs.Rows.{trap_of}
 use Rattle.hart_exec.specs.declared.hart.Hart.{Hart}
-use Rattle.hart_exec.specs.declared.outcome.Executed.{Executed}
+use Rattle.hart_exec.specs.declared.outcome.ExecResult.{ExecResult}
 
 -- the units as plain values
 pub record Units : Type 0 where
@@ -23,25 +24,26 @@ pub record Units : Type 0 where
   pub guard : Guard
 
 abbrev pub units_of : Hart → Units
-units_of h = record { timers = h.timers.now; traps = h.traps.now; sched = h.sched.now; guard = h.guard.now }
+units_of h =
+    record { timers = h.timers.now; traps = h.traps.now; sched = h.sched.now; guard = h.guard.now }
 
 -- what the units hold of a thread
 abbrev pub row_of : ℕ → Units → Own
-row_of k u = record { timer = timer_of u.timers k; trap = trap_of u.traps k; sleep = slice_index_or u.sched.sleep k 0 }
+row_of k u = record {
+  timer = timer_of u.timers k;
+  trap = trap_of u.traps k;
+  sleep = slice_index_or u.sched.sleep k 0;
+}
 
 abbrev pub own_of : Hart → Own
 own_of h = row_of h.thread (units_of h)
 
--- the time of the cycle of its issue
-abbrev pub time_of : Hart → ℕ
-time_of h = time h.clock (h.cycle - h.since_issue)
-
 -- what the thread's instruction may do, by the units as they stand
-unfoldable pub asked : Hart → Around
-asked h =
+unfoldable pub environment_of : Hart → Environment
+environment_of h =
     record {
       thread = h.thread;
-      now = time_of h;
+      now = h.time;
       fetch = λ pc. may_fetch h.thread h.guard.now.size h.confined h.guard.now.i pc;
       load = λ address width.
           may_load h.thread h.guard.now.size h.confined h.guard.now.i h.guard.now.d address width;
@@ -59,7 +61,7 @@ guard_by (Some (Csr csr value rd old)) g = guard_after g csr (Some value)
 guard_by _ g = g
 
 -- the units after an instruction of thread k
-abbrev pub units_after : ℕ → Did → Units → Units
+abbrev pub units_after : ℕ → Execution → Units → Units
 units_after k d u =
     record {
       timers = slice_set u.timers k d.own.timer;
@@ -69,22 +71,29 @@ units_after k d u =
     }
 
 -- what is known of an executed instruction, with what the units then hold of its thread
-abbrev pub executed_as_defined : Own → Executed → Did
-executed_as_defined own x =
-    record { pc = x.pc; own = own; lag = x.lag; word = x.word; address = x.address; effect = x.effect }
+abbrev pub abstract_result : Own → ExecResult → Execution
+abstract_result own x =
+    record {
+      pc = x.pc;
+      own = own;
+      lag = x.lag;
+      word = x.word;
+      address = x.address;
+      effect = x.effect;
+    }
 
 -- an executed instruction refines the defined one: in what is known of it, and in what it leaves
-pub record Refines (before after : Hart) (x : Executed) (d : Did) : Type 0 where
-  pub did : executed_as_defined d.own x ≡ d
+pub record Refines (before after : Hart) (x : ExecResult) (d : Execution) : Type 0 where
+  pub did : abstract_result d.own x ≡ d
   pub units : units_of after ≡ units_after before.thread d (units_of before)
 
 -- and changes nothing of its thread
-abbrev pub RefinesInPlace : Executed → (Own → Did) → Type 0
+abbrev pub RefinesInPlace : ExecResult → (Own → Execution) → Type 0
 RefinesInPlace x d = (h : Hart) → Refines h h x (d (own_of h))
 
 -- the same thread with the same units, be they changed
 abbrev pub Holds : Hart → Hart → Type 0
 Holds a b =
-    (b.thread ≡ a.thread) × (b.clock ≡ a.clock) × (b.cycle ≡ a.cycle) × (b.since_issue ≡ a.since_issue) × (b.confined ≡ a.confined) × (b.permit ≡ a.permit)
+    (b.thread ≡ a.thread) × (b.time ≡ a.time) × (b.confined ≡ a.confined) × (b.permit ≡ a.permit)
     × (b.guard.ghost_name ≡ a.guard.ghost_name) × (b.sched.ghost_name ≡ a.sched.ghost_name)
     × (b.timers.ghost_name ≡ a.timers.ghost_name) × (b.traps.ghost_name ≡ a.traps.ghost_name)

@@ -3,12 +3,12 @@
 ghost use Rattle.std.specs.Prelude.{◌≡◌, ◌<◌, ◌%◌, false};
 ghost use Rattle.rv_decode.specs.Lag.{lag, redirect_lag};
 ghost use Rattle.core_model.specs.Csr.{csr_access};
-ghost use Rattle.hart_exec.specs.AsDefined.{IsShowable, IsAlignedStore};
-ghost use Rattle.hart_exec.specs.Units.{Holds, Refines, asked, own_of};
+ghost use Rattle.hart_exec.specs.Effects.{IsPrintableEffect, IsAlignedStore};
+ghost use Rattle.hart_exec.specs.Units.{Holds, Refines, environment_of, own_of};
 
 use crate::hart::Hart;
-use crate::outcome::{Executed, PcWord};
-use crate::parts::{go_on, trap, write};
+use crate::outcome::{ExecResult, PcWord};
+use crate::parts::{advance, trap, write};
 use rv_decode::{CsrKind, Ins, lag_of};
 use rv_exec::{Effect, cause};
 use trap_unit::CsrOp;
@@ -25,7 +25,7 @@ pub struct Access {
 }
 
 impl Access {
-    ghost use Rattle.hart_exec.specs.AsDefined.{access_of};
+    ghost use Rattle.hart_exec.specs.Effects.{access_of};
 
     /// What an instruction of a kind wants, with its field `src` and the value of its register.
     pub fn of(kind: CsrKind, src: u8, a: u32) -> Access
@@ -58,7 +58,7 @@ pub fn access_csr(
     rd: u8,
     csr: u16,
     wanted: Access,
-) -> Executed
+) -> ExecResult
     requires rd { rd < 32 }
     requires csr { csr < 4096 }
     requires pc { at.pc % 4 ≡ 0 }
@@ -66,9 +66,9 @@ pub fn access_csr(
     ensures holds { Holds hart.old hart.new }
     ensures refines { Refines hart.old hart.new result (csr_access hart.old.thread at.pc
         (own_of hart.old) at.word rd csr wanted.op wanted.operand wanted.writes
-        ((asked hart.old).shared csr)) }
+        ((environment_of hart.old).shared csr)) }
     ensures pc { result.pc % 4 ≡ 0 }
-    ensures showable { IsShowable result.effect }
+    ensures printable { IsPrintableEffect result.effect }
     ensures store { IsAlignedStore result.effect }
     ensures word { result.word ≡ at.word }
     ensures address { result.address ≡ 0 }
@@ -87,7 +87,7 @@ pub fn access_csr(
         return trap(hart, at, cause::ILLEGAL);
     };
     match done.written {
-        Some(value) => go_on(
+        Some(value) => advance(
             at,
             lag_of(i, false, false),
             Effect::Csr {

@@ -1,10 +1,10 @@
 //! A thread with the units that its instructions read and change.
 
-ghost use Rattle.std.specs.Prelude.{◌≡◌, ◌<◌, ◌≤◌};
+ghost use Rattle.std.specs.Prelude.{◌<◌};
 
 use region_guard::Guard;
 use slot_scheduler::Sched;
-use timer_unit::{Clock, Timers};
+use timer_unit::Timers;
 use trap_unit::Traps;
 
 /// A hardware thread in the cycle of an issue of it, with the units that the instruction reads and
@@ -13,12 +13,8 @@ use trap_unit::Traps;
 pub struct Hart<'a> {
     /// The thread's number, 0 to 7.
     pub thread: u8,
-    /// The length of a cycle.
-    pub clock: Clock,
-    /// The cycle in which the instruction is executed.
-    pub cycle: u64,
-    /// How many cycles before it was issued: an instruction sees the time of its issue.
-    pub since_issue: u64,
+    /// The time of the cycle of the issue, in nanoseconds.
+    pub time: u64,
     /// Whether the thread is confined to the regions that it owns or that are read only.
     pub confined: bool,
     /// Whether it may access slots, modes and regions, 0x7C0 to 0x7C3.
@@ -32,18 +28,4 @@ pub struct Hart<'a> {
     /// The trap registers of each thread.
     pub traps: &'a mut Traps,
     ghost eight: { thread < 8 },
-    ghost early: { cycle ≤ 4000000010 },
-}
-
-impl Hart<'_> {
-    ghost use Rattle.hart_exec.specs.Units.{time_of};
-
-    /// The time of the cycle of the issue, in nanoseconds. It is worked out where an instruction
-    /// asks it, which few do.
-    #[inline(always)]
-    pub fn now(&self) -> u64
-        ensures { result ≡ time_of self.now }
-    {
-        self.clock.now(self.cycle.saturating_sub(self.since_issue))
-    }
 }

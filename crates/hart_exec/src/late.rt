@@ -3,8 +3,8 @@
 ghost use Rattle.std.specs.Prelude.{◌≡◌, ◌<◌, Some};
 ghost use Rattle.rv_exec.specs.Access.{IsAligned};
 ghost use Rattle.rv_decode.specs.Range.{InRange};
-ghost use Rattle.core_model.specs.Thread.{filled};
-ghost use Rattle.hart_exec.specs.AsDefined.{IsShowable, IsAlignedStore};
+ghost use Rattle.core_model.specs.Thread.{with_late_value};
+ghost use Rattle.hart_exec.specs.Effects.{IsPrintableEffect, IsAlignedStore};
 ghost use Rattle.core_model.specs.Issue.{late_rd, late_value};
 
 use crate::outcome::Sources;
@@ -16,10 +16,10 @@ use rv_exec::{Effect, load_value, multiply};
 #[inline(always)]
 fn fill(effect: Option<Effect>, rd: u8, value: u32) -> Option<Effect>
     requires rd { rd < 32 }
-    requires showable { IsShowable effect }
+    requires printable { IsPrintableEffect effect }
     requires store { IsAlignedStore effect }
-    ensures effect { result ≡ filled (Some rd) value effect }
-    ensures showable { IsShowable result }
+    ensures effect { result ≡ with_late_value (Some rd) value effect }
+    ensures printable { IsPrintableEffect result }
     ensures store { IsAlignedStore result }
 {
     match effect {
@@ -41,11 +41,12 @@ pub fn finish(
 ) -> Option<Effect>
     requires range { InRange i.now }
     requires aligned { IsAligned i.now address }
-    requires showable { IsShowable effect }
+    requires printable { IsPrintableEffect effect }
     requires store { IsAlignedStore effect }
-    ensures effect { result ≡ filled (late_rd i.now) (late_value i.now loaded address s.a s.b)
+    ensures effect { result ≡ with_late_value (late_rd i.now)
+        (late_value i.now loaded address s.a s.b)
         effect }
-    ensures showable { IsShowable result }
+    ensures printable { IsPrintableEffect result }
     ensures store { IsAlignedStore result }
 {
     match *i {

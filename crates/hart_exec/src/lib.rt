@@ -14,9 +14,9 @@ mod sources;
 mod timing;
 mod word_sources;
 
-pub use execute::execute_in;
+pub use execute::{execute_frequent, execute_in};
 pub use hart::Hart;
 pub use late::finish;
-pub use outcome::{Executed, PcWord, Sources};
+pub use outcome::{ExecResult, PcWord, Sources};
 pub use sources::sources_of;
 pub use word_sources::sources_in;

@@ -22,7 +22,7 @@ pub struct Sources {
 
 /// What is known of an instruction once it is executed, besides what it did to the units.
 #[derive(Clone, Copy, Debug)]
-pub struct Executed {
+pub struct ExecResult {
     /// Where the thread goes on: the address of its next word, in bytes.
     pub pc: u32,
     /// The least number of cycles from the issue of the instruction to that of the thread's next

@@ -1,17 +1,18 @@
 //! The outcomes of an instruction.
 
-ghost use Rattle.std.specs.Prelude.{◌≡◌, ◌<◌, ◌%◌, Some, true, false, if◌then◌else◌};
+ghost use Rattle.std.specs.Prelude.{◌≡◌, ◌<◌, ◌%◌, IfSome, Some, None};
+ghost use Rattle.std.specs.Prelude.{is_some, true, false, if◌then◌else◌};
 ghost use Rattle.rv_decode.specs.Lag.{lag, plain_lag, redirect_lag};
 ghost use Rattle.core_model.specs.Thread.{reg_effect};
 ghost use Rattle.core_model.specs.Traps.{trapped};
-ghost use Rattle.core_model.specs.Outcomes.{plus, plain, wrote, go_to, branch};
+ghost use Rattle.core_model.specs.Outcomes.{plus, advance, write, go_to, branch};
 ghost use Rattle.rv_exec.specs.Line.{IsPrintable};
 ghost use Rattle.rv_exec.specs.declared.outcome.Effect.TheVariants.{Nothing};
-ghost use Rattle.hart_exec.specs.AsDefined.{IsShowable, IsAlignedStore, IsShown};
-ghost use Rattle.hart_exec.specs.Units.{Holds, Refines, RefinesInPlace, own_of};
+ghost use Rattle.hart_exec.specs.Effects.{IsPrintableEffect, IsAlignedStore, HasWord};
+ghost use Rattle.hart_exec.specs.Units.{Holds, Refines, RefinesInPlace, own_of, units_of};
 
 use crate::hart::Hart;
-use crate::outcome::{Executed, PcWord};
+use crate::outcome::{ExecResult, PcWord};
 use rv_decode::{Ins, REDIRECT_LAG, lag_of};
 use rv_exec::Effect;
 
@@ -20,7 +21,7 @@ use rv_exec::Effect;
 pub fn write_to(rd: u8, value: u32) -> Effect
     requires { rd < 32 }
     ensures effect { result ≡ reg_effect rd value }
-    ensures showable { IsPrintable result }
+    ensures printable { IsPrintable result }
 {
     if rd == 0 {
         Effect::Nothing
@@ -31,7 +32,7 @@ pub fn write_to(rd: u8, value: u32) -> Effect
 
 /// The thread goes on to the next word.
 #[inline(always)]
-pub fn go_on(at: PcWord, lag: u64, effect: Effect) -> Executed
+pub fn advance(at: PcWord, lag: u64, effect: Effect) -> ExecResult
     ensures { result ≡ record {
       pc = plus at.pc 4;
       lag = lag;
@@ -40,7 +41,7 @@ pub fn go_on(at: PcWord, lag: u64, effect: Effect) -> Executed
       effect = Some effect;
     } }
 {
-    Executed {
+    ExecResult {
         pc: at.pc.wrapping_add(4),
         lag,
         word: at.word,
@@ -51,20 +52,20 @@ pub fn go_on(at: PcWord, lag: u64, effect: Effect) -> Executed
 
 /// A trap: it saves pc and cause, and goes to mtvec.
 #[inline(always)]
-pub fn trap(hart: &mut Hart<'_>, at: PcWord, cause: u8) -> Executed
+pub fn trap(hart: &mut Hart<'_>, at: PcWord, cause: u8) -> ExecResult
     requires { at.pc % 4 ≡ 0 }
     ensures holds { Holds hart.old hart.new }
     ensures refines { Refines hart.old hart.new result (trapped at.pc (own_of hart.old) at.word
         cause) }
     ensures pc { result.pc % 4 ≡ 0 }
-    ensures showable { IsShowable result.effect }
+    ensures printable { IsPrintableEffect result.effect }
     ensures store { IsAlignedStore result.effect }
-    ensures shown { IsShown result.effect result.word }
+    ensures shown { HasWord result.effect result.word }
     ensures word { result.word ≡ at.word }
     ensures address { result.address ≡ 0 }
 {
     let target = hart.traps.enter(hart.thread, cause, at.pc);
-    Executed {
+    ExecResult {
         pc: target,
         lag: REDIRECT_LAG,
         word: at.word,
@@ -73,52 +74,75 @@ pub fn trap(hart: &mut Hart<'_>, at: PcWord, cause: u8) -> Executed
     }
 }
 
+/// Traps with `RARE`. Without it, returns None and changes nothing.
+#[inline(always)]
+pub fn trap_if_rare<const RARE: bool>(hart: &mut Hart<'_>, at: PcWord, cause: u8) -> Option<ExecResult>
+    requires { at.pc % 4 ≡ 0 }
+    ensures all { RARE ≡ true → is_some result ≡ true }
+    ensures left { result ≡ None → units_of hart.new ≡ units_of hart.old }
+    ensures holds { Holds hart.old hart.new }
+    ensures refines { IfSome result (λ x. Refines hart.old hart.new x
+        (trapped at.pc (own_of hart.old) at.word cause)) }
+    ensures pc { IfSome result (λ x. x.pc % 4 ≡ 0) }
+    ensures printable { IfSome result (λ x. IsPrintableEffect x.effect) }
+    ensures store { IfSome result (λ x. IsAlignedStore x.effect) }
+    ensures shown { IfSome result (λ x. HasWord x.effect x.word) }
+    ensures word { IfSome result (λ x. x.word ≡ at.word) }
+    ensures address { IfSome result (λ x. x.address ≡ 0) }
+{
+    if RARE {
+        Some(trap(hart, at, cause))
+    } else {
+        None
+    }
+}
+
 /// An instruction that does nothing but go on to the next word.
 #[inline(always)]
-pub fn pass(at: PcWord, i: &Ins) -> Executed
+pub fn pass(at: PcWord, i: &Ins) -> ExecResult
     requires { at.pc % 4 ≡ 0 }
-    ensures refines { RefinesInPlace result (λ own. plain at.pc own at.word
+    ensures refines { RefinesInPlace result (λ own. advance at.pc own at.word
         (lag i.now false false) Nothing) }
     ensures pc { result.pc % 4 ≡ 0 }
-    ensures showable { IsShowable result.effect }
+    ensures printable { IsPrintableEffect result.effect }
     ensures store { IsAlignedStore result.effect }
     ensures word { result.word ≡ at.word }
     ensures address { result.address ≡ 0 }
 {
-    go_on(at, lag_of(i, false, false), Effect::Nothing)
+    advance(at, lag_of(i, false, false), Effect::Nothing)
 }
 
 /// A value for a register.
 #[inline(always)]
-pub fn write(at: PcWord, i: &Ins, rd: u8, value: u32) -> Executed
+pub fn write(at: PcWord, i: &Ins, rd: u8, value: u32) -> ExecResult
     requires rd { rd < 32 }
     requires pc { at.pc % 4 ≡ 0 }
-    ensures refines { RefinesInPlace result (λ own. wrote at.pc own at.word
+    ensures refines { RefinesInPlace result (λ own. write at.pc own at.word
         (lag i.now false false) rd value) }
     ensures pc { result.pc % 4 ≡ 0 }
-    ensures showable { IsShowable result.effect }
+    ensures printable { IsPrintableEffect result.effect }
     ensures store { IsAlignedStore result.effect }
     ensures word { result.word ≡ at.word }
     ensures address { result.address ≡ 0 }
 {
-    go_on(at, lag_of(i, false, false), write_to(rd, value))
+    advance(at, lag_of(i, false, false), write_to(rd, value))
 }
 
 /// A jump, with its value for a register.
 #[inline(always)]
-pub fn jump(at: PcWord, i: &Ins, target: u32, rd: u8, value: u32) -> Executed
+pub fn jump(at: PcWord, i: &Ins, target: u32, rd: u8, value: u32) -> ExecResult
     requires rd { rd < 32 }
     requires target { target % 4 ≡ 0 }
     requires lag { lag i.now false false ≡ redirect_lag }
     ensures refines { RefinesInPlace result (λ own. go_to own at.word target
         (reg_effect rd value)) }
     ensures pc { result.pc % 4 ≡ 0 }
-    ensures showable { IsShowable result.effect }
+    ensures printable { IsPrintableEffect result.effect }
     ensures store { IsAlignedStore result.effect }
     ensures word { result.word ≡ at.word }
     ensures address { result.address ≡ 0 }
 {
-    Executed {
+    ExecResult {
         pc: target,
         lag: lag_of(i, false, false),
         word: at.word,
@@ -130,18 +154,18 @@ pub fn jump(at: PcWord, i: &Ins, target: u32, rd: u8, value: u32) -> Executed
 /// A branch, taken or not.
 #[tactic(auto, unfolding(core_model::specs::Outcomes::branch))]
 #[inline(always)]
-pub fn branch_on(at: PcWord, i: &Ins, taken: bool, target: u32) -> Executed
+pub fn branch_on(at: PcWord, i: &Ins, taken: bool, target: u32) -> ExecResult
     requires pc { at.pc % 4 ≡ 0 }
     requires target { taken ≡ true → target % 4 ≡ 0 }
     requires lag { lag i.now taken false ≡ (if taken then redirect_lag else plain_lag) }
     ensures refines { RefinesInPlace result (λ own. branch at.pc own at.word taken target) }
     ensures pc { result.pc % 4 ≡ 0 }
-    ensures showable { IsShowable result.effect }
+    ensures printable { IsPrintableEffect result.effect }
     ensures store { IsAlignedStore result.effect }
     ensures word { result.word ≡ at.word }
     ensures address { result.address ≡ 0 }
 {
-    Executed {
+    ExecResult {
         pc: if taken { target } else { at.pc.wrapping_add(4) },
         lag: lag_of(i, taken, false),
         word: at.word,
@@ -152,17 +176,17 @@ pub fn branch_on(at: PcWord, i: &Ins, taken: bool, target: u32) -> Executed
 
 /// MRET: the thread goes back to where its last trap was taken.
 #[inline(always)]
-pub fn return_from_trap(hart: &Hart<'_>, at: PcWord, i: &Ins) -> Executed
+pub fn return_from_trap(hart: &Hart<'_>, at: PcWord, i: &Ins) -> ExecResult
     requires { lag i.now false false ≡ redirect_lag }
     ensures refines { Refines hart.now hart.now result (go_to (own_of hart.now) at.word
         (own_of hart.now).trap.mepc Nothing) }
     ensures pc { result.pc % 4 ≡ 0 }
-    ensures showable { IsShowable result.effect }
+    ensures printable { IsPrintableEffect result.effect }
     ensures store { IsAlignedStore result.effect }
     ensures word { result.word ≡ at.word }
     ensures address { result.address ≡ 0 }
 {
-    Executed {
+    ExecResult {
         pc: hart.traps.leave(hart.thread),
         lag: lag_of(i, false, false),
         word: at.word,

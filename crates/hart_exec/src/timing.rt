@@ -2,46 +2,46 @@
 
 ghost use Rattle.std.specs.Prelude.{◌≡◌, ◌<◌, ◌%◌, ◌/◌, ◌^◌, Some, None, false};
 ghost use Rattle.rv_decode.specs.Lag.{lag, redirect_lag};
-ghost use Rattle.core_model.specs.Outcomes.{plain, wrote, delay, wait, with_armed, with_high};
+ghost use Rattle.core_model.specs.Outcomes.{advance, write};
+ghost use Rattle.core_model.specs.Delays.{delay, wait, with_armed, with_high};
 ghost use Rattle.rv_exec.specs.declared.outcome.Effect.TheVariants.{Nothing};
-ghost use Rattle.hart_exec.specs.AsDefined.{IsShowable, IsAlignedStore};
-ghost use Rattle.hart_exec.specs.Units.{Holds, Refines, RefinesInPlace, own_of, time_of};
+ghost use Rattle.hart_exec.specs.Effects.{IsPrintableEffect, IsAlignedStore};
+ghost use Rattle.hart_exec.specs.Units.{Holds, Refines, RefinesInPlace, own_of};
 
 use crate::hart::Hart;
-use crate::outcome::{Executed, PcWord};
-use crate::parts::{go_on, pass, write};
+use crate::outcome::{ExecResult, PcWord};
+use crate::parts::{advance, pass, write};
 use rv_decode::{Ins, lag_of};
 use rv_exec::Effect;
 
 /// GT: the low word of the time goes to a register, and the high word is latched.
 #[inline(always)]
-pub fn read_low(hart: &mut Hart<'_>, at: PcWord, i: &Ins, rd: u8) -> Executed
+pub fn read_low(hart: &mut Hart<'_>, at: PcWord, i: &Ins, rd: u8) -> ExecResult
     requires rd { rd < 32 }
     requires pc { at.pc % 4 ≡ 0 }
     ensures holds { Holds hart.old hart.new }
-    ensures refines { Refines hart.old hart.new result (wrote at.pc
-        (with_high (own_of hart.old) (time_of hart.old / 2 ^ 32)) at.word (lag i.now false false) rd
-        (time_of hart.old % 2 ^ 32)) }
+    ensures refines { Refines hart.old hart.new result (write at.pc
+        (with_high (own_of hart.old) (hart.old.time / 2 ^ 32)) at.word (lag i.now false false) rd
+        (hart.old.time % 2 ^ 32)) }
     ensures pc { result.pc % 4 ≡ 0 }
-    ensures showable { IsShowable result.effect }
+    ensures printable { IsPrintableEffect result.effect }
     ensures store { IsAlignedStore result.effect }
     ensures word { result.word ≡ at.word }
     ensures address { result.address ≡ 0 }
 {
-    let now = hart.now();
-    let low = hart.timers.get_low(hart.thread, now);
+    let low = hart.timers.get_low(hart.thread, hart.time);
     write(at, i, rd, low)
 }
 
 /// GTH: the latched high word goes to a register.
 #[inline(always)]
-pub fn read_high(hart: &Hart<'_>, at: PcWord, i: &Ins, rd: u8) -> Executed
+pub fn read_high(hart: &Hart<'_>, at: PcWord, i: &Ins, rd: u8) -> ExecResult
     requires rd { rd < 32 }
     requires pc { at.pc % 4 ≡ 0 }
-    ensures refines { Refines hart.now hart.now result (wrote at.pc (own_of hart.now) at.word
+    ensures refines { Refines hart.now hart.now result (write at.pc (own_of hart.now) at.word
         (lag i.now false false) rd (own_of hart.now).timer.high) }
     ensures pc { result.pc % 4 ≡ 0 }
-    ensures showable { IsShowable result.effect }
+    ensures printable { IsPrintableEffect result.effect }
     ensures store { IsAlignedStore result.effect }
     ensures word { result.word ≡ at.word }
     ensures address { result.address ≡ 0 }
@@ -50,14 +50,14 @@ pub fn read_high(hart: &Hart<'_>, at: PcWord, i: &Ins, rd: u8) -> Executed
 }
 
 /// DU: the thread stays at its word until the moment.
-#[tactic(auto, unfolding(core_model::specs::Outcomes::delay))]
+#[tactic(auto, unfolding(core_model::specs::Delays::delay))]
 #[inline(always)]
-pub fn delay_until(at: PcWord, i: &Ins, now: u64, until: u64) -> Executed
+pub fn delay_until(at: PcWord, i: &Ins, now: u64, until: u64) -> ExecResult
     requires pc { at.pc % 4 ≡ 0 }
     requires lag { lag i.now false false ≡ redirect_lag }
     ensures refines { RefinesInPlace result (λ own. delay now at.pc own at.word until) }
     ensures pc { result.pc % 4 ≡ 0 }
-    ensures showable { IsShowable result.effect }
+    ensures printable { IsPrintableEffect result.effect }
     ensures store { IsAlignedStore result.effect }
     ensures word { result.word ≡ at.word }
     ensures address { result.address ≡ 0 }
@@ -65,7 +65,7 @@ pub fn delay_until(at: PcWord, i: &Ins, now: u64, until: u64) -> Executed
     if until <= now {
         return pass(at, i);
     }
-    Executed {
+    ExecResult {
         pc: at.pc,
         lag: lag_of(i, false, false),
         word: at.word,
@@ -75,21 +75,21 @@ pub fn delay_until(at: PcWord, i: &Ins, now: u64, until: u64) -> Executed
 }
 
 /// WU: the thread sleeps until the moment, or until its armed one where that is earlier.
-#[tactic(auto, unfolding(core_model::specs::Outcomes::wait))]
+#[tactic(auto, unfolding(core_model::specs::Delays::wait))]
 #[inline(always)]
-pub fn wait_until(hart: &mut Hart<'_>, at: PcWord, i: &Ins, until: u64) -> Executed
+pub fn wait_until(hart: &mut Hart<'_>, at: PcWord, i: &Ins, until: u64) -> ExecResult
     requires pc { at.pc % 4 ≡ 0 }
     requires lag { lag i.now false false ≡ redirect_lag }
     ensures holds { Holds hart.old hart.new }
-    ensures refines { Refines hart.old hart.new result (wait (time_of hart.old) at.pc
+    ensures refines { Refines hart.old hart.new result (wait hart.old.time at.pc
         (own_of hart.old) at.word until) }
     ensures pc { result.pc % 4 ≡ 0 }
-    ensures showable { IsShowable result.effect }
+    ensures printable { IsPrintableEffect result.effect }
     ensures store { IsAlignedStore result.effect }
     ensures word { result.word ≡ at.word }
     ensures address { result.address ≡ 0 }
 {
-    if until <= hart.now() {
+    if until <= hart.time {
         return pass(at, i);
     }
     let moment = match hart.timers.armed(hart.thread) {
@@ -97,19 +97,19 @@ pub fn wait_until(hart: &mut Hart<'_>, at: PcWord, i: &Ins, until: u64) -> Execu
         None => until,
     };
     hart.sched.sleep[hart.thread as usize] = moment;
-    go_on(at, lag_of(i, false, false), Effect::Wait)
+    advance(at, lag_of(i, false, false), Effect::Wait)
 }
 
 /// EE: the moment is armed, in place of one that was armed before.
 #[inline(always)]
-pub fn arm(hart: &mut Hart<'_>, at: PcWord, i: &Ins, moment: u64) -> Executed
+pub fn arm(hart: &mut Hart<'_>, at: PcWord, i: &Ins, moment: u64) -> ExecResult
     requires pc { at.pc % 4 ≡ 0 }
     requires lag { lag i.now false false ≡ redirect_lag }
     ensures holds { Holds hart.old hart.new }
-    ensures refines { Refines hart.old hart.new result (plain at.pc
+    ensures refines { Refines hart.old hart.new result (advance at.pc
         (with_armed (own_of hart.old) (Some moment)) at.word redirect_lag Nothing) }
     ensures pc { result.pc % 4 ≡ 0 }
-    ensures showable { IsShowable result.effect }
+    ensures printable { IsPrintableEffect result.effect }
     ensures store { IsAlignedStore result.effect }
     ensures word { result.word ≡ at.word }
     ensures address { result.address ≡ 0 }
@@ -120,14 +120,14 @@ pub fn arm(hart: &mut Hart<'_>, at: PcWord, i: &Ins, moment: u64) -> Executed
 
 /// DE: nothing is armed any more.
 #[inline(always)]
-pub fn disarm(hart: &mut Hart<'_>, at: PcWord, i: &Ins) -> Executed
+pub fn disarm(hart: &mut Hart<'_>, at: PcWord, i: &Ins) -> ExecResult
     requires pc { at.pc % 4 ≡ 0 }
     requires lag { lag i.now false false ≡ redirect_lag }
     ensures holds { Holds hart.old hart.new }
-    ensures refines { Refines hart.old hart.new result (plain at.pc
+    ensures refines { Refines hart.old hart.new result (advance at.pc
         (with_armed (own_of hart.old) None) at.word redirect_lag Nothing) }
     ensures pc { result.pc % 4 ≡ 0 }
-    ensures showable { IsShowable result.effect }
+    ensures printable { IsPrintableEffect result.effect }
     ensures store { IsAlignedStore result.effect }
     ensures word { result.word ≡ at.word }
     ensures address { result.address ≡ 0 }

@@ -1,9 +1,11 @@
 -- Plants at the ports of the machine's threads.
-use Rattle.std.specs.Prelude.{◌≡◌, ℕ, zero, suc, ◌<◌, ◌==◌, if◌then◌else◌, List, [], ◌∷◌, ◌++◌, map, slice_index_or, slice_set}
+use Rattle.std.specs.Prelude.{◌≡◌, ℕ, zero, suc, ◌<◌, ◌==◌, if◌then◌else◌, List}
+use Rattle.std.specs.Prelude.{[], ◌∷◌, ◌++◌, map, slice_index_or, slice_set}
 use Rattle.std.specs.List.{range_with_len}
-use Rattle.world_model.specs.World.{Start, events_of, port_word, world}
-use Rattle.world_model.specs.Viewed.{view}
-use Rattle.loop_laws.specs.Loop.{LoopView, Plant, PortStore, input_plant, port_stores, without_port_words}
+use Rattle.core_model.specs.World.{Start, events_of, port_word, world}
+use Rattle.core_model.specs.Viewed.{view}
+use Rattle.loop_laws.specs.Loop.{LoopView, Plant, PortStore, input_plant}
+use Rattle.loop_laws.specs.Loop.{port_stores, without_port_words}
 
 -- the stores that thread i issued at its port before cycle c
 abbrev pub stores_before : Start → ℕ → ℕ → List PortStore

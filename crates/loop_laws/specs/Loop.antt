@@ -1,15 +1,17 @@
 -- One thread in a closed loop: in each cycle its port shows the response of a plant to the thread's
 -- own earlier stores at the port.
-use Rattle.std.specs.Prelude.{ℕ, zero, suc, ◌-◌, ◌==◌, Bool, if◌then◌else◌, List, [], ◌∷◌, ◌++◌, filter, slice_index_or}
+use Rattle.std.specs.Prelude.{ℕ, zero, suc, ◌-◌, ◌==◌, Bool, if◌then◌else◌}
+use Rattle.std.specs.Prelude.{List, [], ◌∷◌, ◌++◌, filter, slice_index_or}
 use Rattle.rv_exec.specs.declared.outcome.Effect.{Effect}
 use Rattle.rv_exec.specs.declared.outcome.Effect.TheVariants.{Store}
 use Rattle.rv_exec.specs.declared.outcome.Event.{Event}
 use Rattle.region_guard.specs.MemoryMap.{port_address}
 use Rattle.core_model.specs.Thread.{Thread}
 use Rattle.core_model.specs.View.{Setting, View}
-use Rattle.core_model.specs.Solo.{Past, past_and, solo_turn, oldest_first}
-use Rattle.phase_model.specs.declared.phase.Phase.{Phase}
-use Rattle.phase_model.specs.Phased.{phase_at, setting_in}
+use Rattle.core_model.specs.Solo.{Past, add_turn, solo_turn, oldest_first}
+use Rattle.core_model.specs.declared.phase.Phase.{Phase}
+use Rattle.core_model.specs.Phased.{phase_at, setting_in}
+use Rattle.core_model.specs.Cycles.{cycles_to_w}
 
 -- a store of a thread at its port
 pub record PortStore : Type 0 where
@@ -41,7 +43,8 @@ abbrev pub port_stores : List Event → List PortStore
 port_stores [] = []
 port_stores (e ∷ events) = port_store e.cycle e.effect ++ port_stores events
 
--- all that a thread in a closed loop depends on, except its plant: its view without the port's words
+-- all that a thread in a closed loop depends on, except its plant: its view without the port's
+-- words
 pub record LoopView : Type 0 where
   pub setting : Setting
   pub first : Thread
@@ -56,14 +59,15 @@ plant_word plant past c = plant (port_stores (oldest_first past.events)) c
 
 -- the cycles before c: each is a turn of the thread, whose port shows the plant's word
 unfoldable pub loop_at : LoopView → Plant → ℕ → Past
-loop_at v plant zero = record { alone = record { thread = v.first; words = v.d_words }; events = [] }
+loop_at v plant zero =
+    record { alone = record { thread = v.first; words = v.d_words }; events = [] }
 loop_at v plant (suc c) =
     let past = loop_at v plant c in
-    past_and past (solo_turn v.setting c (plant_word plant past c) past.alone)
+    add_turn past (solo_turn v.setting c (plant_word plant past c) past.alone)
 
--- the thread's events that have retired after n cycles: those of the cycles c with c + 4 < n
+-- the thread's events that have retired after n cycles
 abbrev pub solo_in_loop : LoopView → Plant → ℕ → List Event
-solo_in_loop v plant n = oldest_first (loop_at v plant (n - 4)).events
+solo_in_loop v plant n = oldest_first (loop_at v plant (n - cycles_to_w)).events
 
 -- the same over settings of the scheduling
 unfoldable pub phased_loop_at : LoopView → Plant → List Phase → ℕ → Past
@@ -72,7 +76,8 @@ phased_loop_at v plant phases zero =
 phased_loop_at v plant phases (suc c) =
     let past = phased_loop_at v plant phases c in
     let setting = setting_in v.setting (phase_at phases c) in
-    past_and past (solo_turn setting c (plant_word plant past c) past.alone)
+    add_turn past (solo_turn setting c (plant_word plant past c) past.alone)
 
 abbrev pub phased_in_loop : LoopView → Plant → List Phase → ℕ → List Event
-phased_in_loop v plant phases n = oldest_first (phased_loop_at v plant phases (n - 4)).events
+phased_in_loop v plant phases n =
+    oldest_first (phased_loop_at v plant phases (n - cycles_to_w)).events

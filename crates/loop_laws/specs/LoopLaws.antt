@@ -3,31 +3,33 @@ use Rattle.std.specs.Prelude.{◌≡◌, ℕ, ◌<◌, true, false, List, slice_
 use Rattle.std.specs.List.{list_all}
 use Rattle.core_model.specs.View.{View}
 use Rattle.core_model.specs.Solo.{solo}
-use Rattle.world_model.specs.World.{Start, events, is_quiet, port_word, world}
-use Rattle.phase_model.specs.Phases.{phases, keeps_regions, is_never_soft}
-use Rattle.phase_model.specs.Phased.{phased}
-use Rattle.phase_model.specs.declared.phase.Phase.{Phase}
-use Rattle.run_laws.specs.Isolation.{IsApart, IsConfined}
-use Rattle.loop_laws.specs.Loop.{Plant, input_plant, phased_in_loop, solo_in_loop, without_port_words}
+use Rattle.core_model.specs.World.{Start, events, is_quiet, port_word, world}
+use Rattle.core_model.specs.Phases.{phases, keeps_regions, is_never_soft}
+use Rattle.core_model.specs.Phased.{phased}
+use Rattle.core_model.specs.declared.phase.Phase.{Phase}
+use Rattle.run_laws.specs.Isolation.{StartsConfined, StartsConfinedHard}
+use Rattle.loop_laws.specs.Loop.{Plant, input_plant, phased_in_loop}
+use Rattle.loop_laws.specs.Loop.{solo_in_loop, without_port_words}
 use Rattle.loop_laws.specs.Answered.{IsAnswered, closed_start, inputs_of, loop_view, with_all_shown}
 
 -- in a quiet run, whatever the other threads run, the events of a confined hard thread that a plant
 -- answers are those of the thread alone in the loop with the plant
 abbrev pub LoopIsolation : Type 0
-LoopIsolation = (plant : Plant) (s : Start) (i n : ℕ) → IsConfined s i → is_quiet s n ≡ true
+LoopIsolation = (plant : Plant) (s : Start) (i n : ℕ) → StartsConfinedHard s i → is_quiet s n ≡ true
     → IsAnswered plant s i n → events s i n ≡ solo_in_loop (loop_view s i) plant n
 
 -- two machines give equal events of a thread that has in both the same plant, and the same view
 -- without its port's words
 abbrev pub EqualLoops : Type 0
-EqualLoops = (plant : Plant) (s t : Start) (i n : ℕ) → IsConfined s i → IsConfined t i
-    → is_quiet s n ≡ true → is_quiet t n ≡ true → loop_view s i ≡ loop_view t i
+EqualLoops =
+    (plant : Plant) (s t : Start) (i n : ℕ) → StartsConfinedHard s i → StartsConfinedHard t i →
+    is_quiet s n ≡ true → is_quiet t n ≡ true → loop_view s i ≡ loop_view t i
     → IsAnswered plant s i n → IsAnswered plant t i n → events s i n ≡ events t i n
 
 -- the same while slots and modes change: no region register is written, and no setting makes the
 -- thread soft active
 abbrev pub PhasedLoops : Type 0
-PhasedLoops = (plant : Plant) (s : Start) (i n : ℕ) → IsApart s i
+PhasedLoops = (plant : Plant) (s : Start) (i n : ℕ) → StartsConfined s i
     → list_all (is_never_soft i) (phases s n) ≡ true → keeps_regions s n ≡ true
     → IsAnswered plant s i n → events s i n ≡ phased_in_loop (loop_view s i) plant (phases s n) n
 
@@ -39,7 +41,7 @@ LoopsExist = (plants : ℕ → Plant) (s : Start) (i n : ℕ) → i < 8
 -- where no thread has a permit, that run is quiet: each confined hard thread runs as if it were
 -- alone in the loop with its plant
 abbrev pub LoopsWithoutPermits : Type 0
-LoopsWithoutPermits = (plants : ℕ → Plant) (s : Start) (i n : ℕ) → IsConfined s i
+LoopsWithoutPermits = (plants : ℕ → Plant) (s : Start) (i n : ℕ) → StartsConfinedHard s i
     → ((k : ℕ) → slice_index_or s.permit k false ≡ false)
     → events (closed_start plants s n) i n ≡ solo_in_loop (loop_view s i) (plants i) n
 

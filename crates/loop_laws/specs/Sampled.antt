@@ -1,7 +1,8 @@
--- A plant that is sampled: each so many cycles it takes the latch of its port, and it shows one word
--- until the next sample.
-use Rattle.std.specs.Prelude.{◌≡◌, ℕ, zero, suc, ◌+◌, ◌*◌, ◌-◌, ◌/◌, ◌<◌, ◌≤◌, nat_lt, true, List, [], ◌∷◌, ◌++◌, filter, length, slice_index_or, Option, Some, None}
-use Rattle.world_model.specs.World.{Start, has_port, port_word, world}
+-- A plant that is sampled: each so many cycles it takes the latch of its port, and it shows one
+-- word until the next sample.
+use Rattle.std.specs.Prelude.{◌≡◌, ℕ, zero, suc, ◌+◌, ◌*◌, ◌-◌, ◌/◌, ◌<◌, ◌≤◌, nat_lt, true, List}
+use Rattle.std.specs.Prelude.{[], ◌∷◌, ◌++◌, filter, length, slice_index_or, Option, Some, None}
+use Rattle.core_model.specs.World.{Start, has_port, port_word, world}
 use Rattle.loop_laws.specs.Loop.{Plant, PortStore, plant_behind_port}
 use Rattle.loop_laws.specs.Answered.{closed_start, inputs_of, stores_before}
 

@@ -6,7 +6,8 @@
 
 ghost use Rattle.run_laws.specs.Isolation.{Isolation};
 ghost use Rattle.loop_laws.specs.LoopLaws.{EqualLoops, InputsAnswer, InputsAreLoops, LoopIsolation};
-ghost use Rattle.loop_laws.specs.LoopLaws.{LoopsExist, LoopsWithoutPermits, PastWords, PhasedInputsAreLoops, PhasedLoops};
+ghost use Rattle.loop_laws.specs.LoopLaws.{LoopsExist, LoopsWithoutPermits, PastWords};
+ghost use Rattle.loop_laws.specs.LoopLaws.{PhasedInputsAreLoops, PhasedLoops};
 ghost use Rattle.loop_laws.specs.Sampled.{LatchOfStores, SampledWords, StoreDelay};
 
 /// A confined hard thread in a closed loop runs as if it were alone with its plant: in a quiet run
@@ -68,8 +69,8 @@ pub fn runs_alone_without_permits()
     run_laws::isolation::stays_quiet();
 }
 
-/// The latch of a port is the word of the last store that its thread issued there while the port was
-/// present.
+/// The latch of a port is the word of the last store that its thread issued there while the port
+/// was present.
 pub fn latches_last_store()
     ensures { LatchOfStores }
 {}

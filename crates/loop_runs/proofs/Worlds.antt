@@ -1,11 +1,12 @@
--- What stands for a cycle of a world stands for that cycle of each start with the same worlds so far.
+-- What refines a cycle of a world refines that cycle of each start with the same worlds so far.
 use Rattle.std.proofs.Common.{◌≡◌, ℕ, ◌-◌, ◌≤◌, List, get_or, Option, ap, ap₂, ◌∙◌, subst, arith}
 use Rattle.std.specs.Prelude.{IfSome}
-use Rattle.fp_ports.specs.Rows.{Row, row_at}
-use Rattle.world_model.specs.World.{Start, World, world}
-use Rattle.world_model.specs.World.Took.{Idle}
+use Rattle.fp_ports.specs.PluggedPorts.{Row, row_at}
+use Rattle.core_model.specs.World.{Start, World, world}
+use Rattle.core_model.specs.World.Took.{Idle}
 use Rattle.pipe_model.specs.Stages.{StageRegisters, State}
-use Rattle.pipe_model.specs.Relation.{HasLatches, Stands, bank_in, control_in, in_decode, in_execute, in_fetch, in_memory, in_write, next_of, pick_in}
+use Rattle.pipe_model.specs.Relation.{HasLatches, Refines, bank_in, control_in, in_decode}
+use Rattle.pipe_model.specs.Relation.{in_execute, in_fetch, in_memory, in_write, next_of, pick_in}
 use Rattle.loop_laws.specs.Answered.{with_all_shown}
 
 -- what the stage registers hold, by the worlds
@@ -37,7 +38,8 @@ units_in s now two three four ports =
     }
 
 -- other words at the ports, and the same worlds up to cycle c
-module _ (s : Start) (shown : List (List ℕ)) (c : ℕ) (same : (d : ℕ) → d ≤ c → world s d ≡ world (with_all_shown s shown) d) where
+module _ (s : Start) (shown : List (List ℕ)) (c : ℕ)
+    (same : (d : ℕ) → d ≤ c → world s d ≡ world (with_all_shown s shown) d) where
   now : world s c ≡ world (with_all_shown s shown) c
   now = same c (omega arith)
 
@@ -50,26 +52,37 @@ module _ (s : Start) (shown : List (List ℕ)) (c : ℕ) (same : (d : ℕ) → d
   four : world s (c - 4) ≡ world (with_all_shown s shown) (c - 4)
   four = same (c - 4) (omega arith)
 
-  stages-same : (p : StageRegisters) → p ≡ stages_in s c (world s c) (world s (c - 2)) (world s (c - 3)) p.next
-      → p ≡ stages_in s c (world (with_all_shown s shown) c) (world (with_all_shown s shown) (c - 2)) (world (with_all_shown s shown) (c - 3)) p.next
+  stages-same : (p : StageRegisters) → p ≡ stages_in s c (world s c) (world s (c - 2))
+      (world s (c - 3)) p.next → p ≡ stages_in s c (world (with_all_shown s shown) c)
+      (world (with_all_shown s shown) (c - 2)) (world (with_all_shown s shown) (c - 3)) p.next
   stages-same p h =
       h ∙ ap₂ (λ (v w : World). stages_in s c v w (world s (c - 3)) p.next) now two
-      ∙ ap (λ (w : World). stages_in s c (world (with_all_shown s shown) c) (world (with_all_shown s shown) (c - 2)) w p.next) three
+      ∙ ap (λ (w : World). stages_in s c (world (with_all_shown s shown) c)
+      (world (with_all_shown s shown) (c - 2)) w p.next) three
 
-  units-same : (u : State) (ports : List (Option Row)) → u ≡ units_in s (world s c) (world s (c - 2)) (world s (c - 3)) (world s (c - 4)) u.ports
-      → record u { ports = ports } ≡ units_in s (world (with_all_shown s shown) c) (world (with_all_shown s shown) (c - 2)) (world (with_all_shown s shown) (c - 3)) (world (with_all_shown s shown) (c - 4)) ports
+  units-same : (u : State) (ports : List (Option Row)) → u ≡ units_in s (world s c)
+      (world s (c - 2)) (world s (c - 3)) (world s (c - 4)) u.ports → record u { ports = ports }
+      ≡ units_in s (world (with_all_shown s shown) c) (world (with_all_shown s shown) (c - 2))
+      (world (with_all_shown s shown) (c - 3)) (world (with_all_shown s shown) (c - 4)) ports
   units-same u ports h =
       ap (λ (v : State). let x : State = record v { ports = ports } in x) h
       ∙ ap₂ (λ (v w : World). units_in s v w (world s (c - 3)) (world s (c - 4)) ports) now two
-      ∙ ap₂ (λ (v w : World). units_in s (world (with_all_shown s shown) c) (world (with_all_shown s shown) (c - 2)) v w ports) three four
+      ∙ ap₂ (λ (v w : World). units_in s (world (with_all_shown s shown) c)
+      (world (with_all_shown s shown) (c - 2)) v w ports) three four
 
-  pub stands-same : (p : StageRegisters) (u : State) (ports : List (Option Row)) → Stands s c p u → HasLatches (world s (c - 3)) ports → Stands (with_all_shown s shown) c p (record u { ports = ports })
-  stands-same p u ports st latches = record {
+  pub refines-same : (p : StageRegisters) (u : State) (ports : List (Option Row)) →
+      Refines s c p u → HasLatches (world s (c - 3)) ports →
+      Refines (with_all_shown s shown) c p (record u { ports = ports })
+  refines-same p u ports st latches = record {
     stage_registers = stages-same p st.stage_registers;
     fronts = record {
       count = st.fronts.count;
-      next = λ k below. st.fronts.next k below ∙ ap₂ (λ (v w : World). next_of v (get_or w.turns 1 Idle) p.f k) two now;
+      next =
+          λ k below. st.fronts.next k below
+          ∙ ap₂ (λ (v w : World). next_of v (get_or w.turns 1 Idle) p.f k) two now;
     };
     units = units-same u ports st.units;
-    ports = λ k below. subst (λ (w : World). IfSome (row_at ports k) (λ (row : Row). row.latch ≡ get_or w.latches k 0)) three (latches k below);
+    ports =
+        λ k below. subst (λ (w : World). IfSome (row_at ports k)
+        (λ (row : Row). row.latch ≡ get_or w.latches k 0)) three (latches k below);
   }

@@ -1,13 +1,14 @@
 -- A machine whose ports are fed while it runs.
-use Rattle.std.specs.Prelude.{ℕ, ◌^◌, ◌-◌, ◌≡◌, ◌<◌, ◌≤◌, nat_le, ◌&&◌, if◌then◌else◌, ⊤, List, [], ◌∷◌, length, map, slice_set, Option}
+use Rattle.std.specs.Prelude.{ℕ, ◌^◌, ◌-◌, ◌≡◌, ◌<◌, ◌≤◌, nat_le, ◌&&◌, if◌then◌else◌}
+use Rattle.std.specs.Prelude.{⊤, List, [], ◌∷◌, length, map, slice_set, Option}
 use Rattle.std.specs.List.{range_with_len}
 use Rattle.fp_ports.specs.declared.feeds.Feed.{Feed}
 use Rattle.fp_ports.specs.Kinds.{kept_from}
-use Rattle.fp_ports.specs.Rows.{Row, Forgot, row_at, fed}
-use Rattle.world_model.specs.World.{Start, has_port, port_word}
+use Rattle.fp_ports.specs.PluggedPorts.{Row, Forgot, row_at, fed}
+use Rattle.core_model.specs.World.{Start, has_port, port_word}
 use Rattle.loop_laws.specs.Answered.{with_shown}
 use Rattle.machine.specs.declared.state.Machine.{Machine}
-use Rattle.machine.specs.WorldRelation.{StandsFor}
+use Rattle.machine.specs.WorldRelation.{Refines}
 
 -- the words of thread i's port in n cycles, once it is fed at a cycle: the fed word from that cycle
 -- on, while the port is present, and the earlier words in all other cycles
@@ -28,8 +29,8 @@ fed_ports ports i at word = slice_set ports i (fed (row_at ports i) at word)
 -- which are still in flight, find the earlier words
 abbrev pub FeedsRunning : Type 0
 FeedsRunning = (s : Start) (c n : ℕ) (m : Machine) (ports : List (Option Row)) (i at word : ℕ)
-    → StandsFor s c n m ports → length ports ≡ 8 → i < 8 → i < length s.shown → n ≤ 2 ^ 64
-    → c ≤ n → c ≤ at → StandsFor (fed_start s i at word n) c n m (fed_ports ports i at word)
+    → Refines s c n m ports → length ports ≡ 8 → i < 8 → i < length s.shown → n ≤ 2 ^ 64
+    → c ≤ n → c ≤ at → Refines (fed_start s i at word n) c n m (fed_ports ports i at word)
 
 -- each port forgot its words of the cycles before `first`, and kept its other words and its latch
 abbrev pub AllForgot : ℕ → List (Option Row) → List (Option Row) → Type 0
@@ -39,7 +40,7 @@ AllForgot first before after = (k : ℕ) → k < 8 → Forgot first (row_at befo
 -- the cycles before c - 3. The loads in flight were issued in cycles c - 3 to c - 1
 abbrev pub ForgetsRunning : Type 0
 ForgetsRunning = (s : Start) (c n : ℕ) (m : Machine) (before after : List (Option Row))
-    → StandsFor s c n m before → AllForgot (c - 3) before after → StandsFor s c n m after
+    → Refines s c n m before → AllForgot (c - 3) before after → Refines s c n m after
 
 -- feeds, the newest first: each is of an earlier cycle than the one before it, and all are before c
 abbrev pub FallsBelow : ℕ → List Feed → Type 0

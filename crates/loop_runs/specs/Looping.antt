@@ -1,11 +1,12 @@
 -- A machine in loops with sampled plants.
-use Rattle.std.specs.Prelude.{◌≡◌, ℕ, suc, ◌-◌, ◌*◌, ◌<◌, nat_lt, true, if◌then◌else◌, List, length, Option, None, is_some}
+use Rattle.std.specs.Prelude.{◌≡◌, ℕ, suc, ◌-◌, ◌*◌, ◌<◌, nat_lt, true}
+use Rattle.std.specs.Prelude.{if◌then◌else◌, List, length, Option, None, is_some}
 use Rattle.std.specs.Io.KnownBytes.{Appends}
-use Rattle.fp_ports.specs.Rows.{Row, row_at}
+use Rattle.fp_ports.specs.PluggedPorts.{Row, row_at}
 use Rattle.trace_print.specs.Text.{text}
-use Rattle.world_model.specs.World.{Start, events, port_word}
+use Rattle.core_model.specs.World.{Start, events, port_word}
 use Rattle.machine.specs.declared.state.Machine.{Machine}
-use Rattle.machine.specs.WorldRelation.{StandsFor}
+use Rattle.machine.specs.WorldRelation.{Refines}
 use Rattle.loop_laws.specs.Answered.{with_all_shown}
 use Rattle.loop_laws.specs.Sampled.{latch_samples}
 use Rattle.loop_runs.specs.Plants.{Continues, Response, loop_start, response_at}
@@ -25,7 +26,7 @@ pub record Looping (first now : List (Option Response)) (every : ℕ) (s : Start
     (m : Machine) (ports : List (Option Row)) : Type 0 where
   pub shown : List (List ℕ)
   pub eight : length shown ≡ 8
-  pub stands : StandsFor (with_all_shown s shown) c n m ports
+  pub refines : Refines (with_all_shown s shown) c n m ports
   pub words : (a j : ℕ) → j < 8 → a < n → a < words_end every q i j
       → port_word (with_all_shown s shown) a j ≡ port_word (loop_start first every s n) a j
   pub inputs : (a j : ℕ) → j < 8 → a < n → response_at first j ≡ None
@@ -35,7 +36,8 @@ pub record Looping (first now : List (Option Response)) (every : ℕ) (s : Start
       (latch_samples (loop_start first every s n) j every (samples_taken q i j))
 
 -- and it has put the text of a thread's events in the closed run so far
-pub record HasLooped (first now : List (Option Response)) (every : ℕ) (s : Start) (n q i c thread : ℕ)
+pub record HasLooped (first now : List (Option Response))
+    (every : ℕ) (s : Start) (n q i c thread : ℕ)
     (m : Machine) (ports : List (Option Row)) (before after : Option (List ℕ)) : Type 0 where
   pub looping : Looping first now every s n q i c m ports
   pub put : Appends before after (text (events (loop_start first every s n) thread c))

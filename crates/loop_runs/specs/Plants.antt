@@ -1,7 +1,8 @@
--- The plants of the eight threads, seen as their responses. A response is the plant's word after some
--- steps, by the words that the steps take.
-use Rattle.std.specs.Prelude.{◌≡◌, ◌≢◌, ℕ, List, [], ◌∷◌, ◌++◌, map, Option, Some, None, slice_index_or, ⊤}
-use Rattle.world_model.specs.World.{Start}
+-- The plants of the eight threads, seen as their responses. A response is the plant's word after
+-- some steps, by the words that the steps take.
+use Rattle.std.specs.Prelude.{◌≡◌, ◌≢◌, ℕ, List, [], ◌∷◌, ◌++◌, map}
+use Rattle.std.specs.Prelude.{Option, Some, None, slice_index_or, ⊤}
+use Rattle.core_model.specs.World.{Start}
 use Rattle.loop_laws.specs.Sampled.{sampled_start}
 
 abbrev pub Response : Type 0
@@ -36,7 +37,8 @@ IsWord (Some response) words None = ⊥
 
 -- the plant of a thread has done one step, which took a word and returned a word; the others are
 -- unchanged
-pub record HasStepped (before after : List (Option Response)) (thread taken : ℕ) (word : Option ℕ) : Type 0 where
+pub record HasStepped (before after : List (Option Response)) (thread taken : ℕ)
+    (word : Option ℕ) : Type 0 where
   pub continues : Continues (response_at before thread) (response_at after thread) (taken ∷ [])
   pub word_is : IsWord (response_at before thread) (taken ∷ []) word
   pub others : (k : ℕ) → k ≢ thread → response_at after k ≡ response_at before k

@@ -1,9 +1,9 @@
 -- What a thread does in loops with sampled plants.
 use Rattle.std.specs.Prelude.{◌≡◌, ℕ, ◌≤◌, true, false, List, Option, slice_index_or}
 use Rattle.std.specs.List.{list_all}
-use Rattle.world_model.specs.World.{Start, events, is_quiet}
-use Rattle.phase_model.specs.Phases.{phases, keeps_regions, is_never_soft}
-use Rattle.run_laws.specs.Isolation.{IsApart, IsConfined}
+use Rattle.core_model.specs.World.{Start, events, is_quiet}
+use Rattle.core_model.specs.Phases.{phases, keeps_regions, is_never_soft}
+use Rattle.run_laws.specs.Isolation.{StartsConfined, StartsConfinedHard}
 use Rattle.loop_laws.specs.Loop.{Plant, phased_in_loop, solo_in_loop}
 use Rattle.loop_laws.specs.Answered.{loop_view}
 use Rattle.loop_laws.specs.Sampled.{plant_of}
@@ -16,21 +16,21 @@ plant_at responses every s i = plant_of s every i (response_at responses i)
 -- in a quiet run a confined hard thread does what it does alone in the loop with its plant
 abbrev pub SampledAlone : Type 0
 SampledAlone = (responses : List (Option Response)) (every : ℕ) (s : Start) (n i c : ℕ)
-    → IsConfined s i → c ≤ n → is_quiet (loop_start responses every s n) c ≡ true
+    → StartsConfinedHard s i → c ≤ n → is_quiet (loop_start responses every s n) c ≡ true
     → events (loop_start responses every s n) i c
     ≡ solo_in_loop (loop_view s i) (plant_at responses every s i) c
 
 -- a run is quiet if no thread has a permit
 abbrev pub SampledUnpermitted : Type 0
 SampledUnpermitted = (responses : List (Option Response)) (every : ℕ) (s : Start) (n i c : ℕ)
-    → IsConfined s i → c ≤ n → ((k : ℕ) → slice_index_or s.permit k false ≡ false)
+    → StartsConfinedHard s i → c ≤ n → ((k : ℕ) → slice_index_or s.permit k false ≡ false)
     → events (loop_start responses every s n) i c
     ≡ solo_in_loop (loop_view s i) (plant_at responses every s i) c
 
 -- the same while slots and modes change
 abbrev pub SampledPhased : Type 0
 SampledPhased = (responses : List (Option Response)) (every : ℕ) (s : Start) (n i c : ℕ)
-    → IsApart s i → c ≤ n → (let t = loop_start responses every s n in
+    → StartsConfined s i → c ≤ n → (let t = loop_start responses every s n in
     list_all (is_never_soft i) (phases t c) ≡ true → keeps_regions t c ≡ true
     → events t i c
     ≡ phased_in_loop (loop_view s i) (plant_at responses every s i) (phases t c) c)

@@ -1,18 +1,19 @@
 //! The machine in loops with its plants. Each `every` cycles the driver samples the latches of the
 //! ports, steps the plants, and feeds their words to the ports.
 
-ghost use Rattle.std.specs.Prelude.{◌≡◌, ℕ, suc, ◌+◌, ◌*◌, ◌^◌, ◌<◌, ◌≤◌, true, false, Err, List, Option, OnOk, OnErr, slice_index_or, vec_len};
+ghost use Rattle.std.specs.Prelude.{◌≡◌, ℕ, suc, ◌+◌, ◌*◌, ◌^◌, ◌<◌, ◌≤◌, true, false, Err};
+ghost use Rattle.std.specs.Prelude.{List, Option, OnOk, OnErr, slice_index_or, vec_len};
 ghost use Rattle.std.specs.List.{list_all};
 ghost use Rattle.std.specs.Io.KnownBytes.{Appends};
 ghost use Rattle.fp_io.specs.Causes.{Rose};
 ghost use Rattle.fp_io.specs.Content.{AppendsFront};
 ghost use Rattle.timer_unit.specs.Time.{most_cycles};
-ghost use Rattle.fp_ports.specs.Rows.{rows_of};
+ghost use Rattle.fp_ports.specs.PluggedPorts.{rows_of};
 ghost use Rattle.trace_print.specs.Text.{text};
-ghost use Rattle.world_model.specs.World.{Start, events, is_quiet};
-ghost use Rattle.phase_model.specs.Phases.{phases, keeps_regions, is_never_soft};
-ghost use Rattle.run_laws.specs.Isolation.{IsApart, IsConfined};
-ghost use Rattle.machine.specs.WorldRelation.{StandsFor};
+ghost use Rattle.core_model.specs.World.{Start, events, is_quiet};
+ghost use Rattle.core_model.specs.Phases.{phases, keeps_regions, is_never_soft};
+ghost use Rattle.run_laws.specs.Isolation.{StartsConfined, StartsConfinedHard};
+ghost use Rattle.machine.specs.WorldRelation.{Refines};
 ghost use Rattle.loop_laws.specs.Loop.{phased_in_loop, solo_in_loop};
 ghost use Rattle.loop_laws.specs.Answered.{loop_view};
 ghost use Rattle.loop_runs.specs.Plants.{Response, loop_start, responses_of};
@@ -122,7 +123,7 @@ fn begin_all(machine: &Machine, ports: &mut Ports, plants: &Plants) -> Result<()
     requires plants { vec_len plants.now ≡ 8 }
     requires start { machine.now.at ≡ 0 }
     ensures looping { (every : ℕ) (s : Start) (n : ℕ) → 0 < every → n ≤ 2 ^ 64
-        → StandsFor s 0 n machine.now (rows_of latched word_at ports.old.items)
+        → Refines s 0 n machine.now (rows_of latched word_at ports.old.items)
         → OnOk result (Looping (responses_of response plants.now.items)
         (responses_of response plants.now.items) every s n 0 8 machine.now.at machine.now
         (rows_of latched word_at ports.new.items)) }
@@ -208,7 +209,7 @@ pub fn begin_loops(machine: &Machine, ports: &mut Ports, plants: &Plants) -> Res
     requires start { machine.now.at ≡ 0 }
     ensures looped { (every : ℕ) (s : Start) (n thread : ℕ) (told : Option (List ℕ))
         → 0 < every → n ≤ 2 ^ 64
-        → StandsFor s 0 n machine.now (rows_of latched word_at ports.old.items)
+        → Refines s 0 n machine.now (rows_of latched word_at ports.old.items)
         → OnOk result (HasLooped (responses_of response plants.now.items)
         (responses_of response plants.now.items) every s n 0 8 machine.now.at thread machine.now
         (rows_of latched word_at ports.new.items) told told) }
@@ -287,33 +288,33 @@ pub fn run_loops<K: Sink>(
     requires limit { cycles ≤ most_cycles }
     requires eight { vec_len ports.old ≡ 8 }
     requires plants { vec_len plants.old ≡ 8 }
-    ensures text { (s : Start) → StandsFor s 0 cycles machine.old
+    ensures text { (s : Start) → Refines s 0 cycles machine.old
         (rows_of latched word_at ports.old.items)
         → OnOk result (Appends (K.taken out.old) (K.taken out.new) (text (events
         (loop_start (responses_of response plants.old.items) every s cycles) thread cycles))) }
-    ensures alone { (s : Start) → StandsFor s 0 cycles machine.old
+    ensures alone { (s : Start) → Refines s 0 cycles machine.old
         (rows_of latched word_at ports.old.items)
-        → IsConfined s thread
+        → StartsConfinedHard s thread
         → is_quiet (loop_start (responses_of response plants.old.items) every s cycles) cycles
         ≡ true → OnOk result (Appends (K.taken out.old) (K.taken out.new)
         (text (solo_in_loop (loop_view s thread)
         (plant_at (responses_of response plants.old.items) every s thread) cycles))) }
-    ensures unpermitted { (s : Start) → StandsFor s 0 cycles machine.old
+    ensures unpermitted { (s : Start) → Refines s 0 cycles machine.old
         (rows_of latched word_at ports.old.items)
-        → IsConfined s thread → ((k : ℕ) → slice_index_or s.permit k false ≡ false)
+        → StartsConfinedHard s thread → ((k : ℕ) → slice_index_or s.permit k false ≡ false)
         → OnOk result (Appends (K.taken out.old) (K.taken out.new)
         (text (solo_in_loop (loop_view s thread)
         (plant_at (responses_of response plants.old.items) every s thread) cycles))) }
-    ensures phased { (s : Start) → StandsFor s 0 cycles machine.old
+    ensures phased { (s : Start) → Refines s 0 cycles machine.old
         (rows_of latched word_at ports.old.items)
-        → IsApart s thread
+        → StartsConfined s thread
         → (let t = loop_start (responses_of response plants.old.items) every s cycles in
         list_all (is_never_soft thread) (phases t cycles) ≡ true → keeps_regions t cycles ≡ true
         → OnOk result (Appends (K.taken out.old) (K.taken out.new)
         (text (phased_in_loop (loop_view s thread)
         (plant_at (responses_of response plants.old.items) every s thread) (phases t cycles)
         cycles)))) }
-    ensures stopped { (s : Start) → StandsFor s 0 cycles machine.old
+    ensures stopped { (s : Start) → Refines s 0 cycles machine.old
         (rows_of latched word_at ports.old.items)
         → OnErr result (AppendsFront (K.taken out.old) (K.taken out.new) (text (events
         (loop_start (responses_of response plants.old.items) every s cycles) thread cycles))) }

@@ -1,10 +1,11 @@
 //! A machine whose ports are fed while it runs.
 
 ghost use Rattle.std.specs.Prelude.{◌≡◌, ℕ, ◌^◌, ◌-◌, ◌<◌, ◌≤◌, length, vec_len, OnOk, OnErr};
-ghost use Rattle.fp_ports.specs.Rows.{rows_of};
-ghost use Rattle.world_model.specs.World.{Start};
-ghost use Rattle.machine.specs.WorldRelation.{StandsFor};
-ghost use Rattle.loop_runs.specs.FedRuns.{AllForgot, FeedsRunning, ForgetsRunning, KeepsThree, fed_start};
+ghost use Rattle.fp_ports.specs.PluggedPorts.{rows_of};
+ghost use Rattle.core_model.specs.World.{Start};
+ghost use Rattle.machine.specs.WorldRelation.{Refines};
+ghost use Rattle.loop_runs.specs.FedRuns.{AllForgot, FeedsRunning};
+ghost use Rattle.loop_runs.specs.FedRuns.{ForgetsRunning, KeepsThree, fed_start};
 
 use fp_ports::{Ports, feed_port, forget_port};
 use machine::Machine;
@@ -31,8 +32,8 @@ pub fn feed_now(
     requires thread { thread < 8 }
     ensures fed { (s : Start) (n : ℕ) → thread < length s.shown → n ≤ 2 ^ 64
         → machine.now.at ≤ n
-        → StandsFor s machine.now.at n machine.now (rows_of latched word_at ports.old.items)
-        → OnOk result (StandsFor (fed_start s thread machine.now.at word n) machine.now.at n
+        → Refines s machine.now.at n machine.now (rows_of latched word_at ports.old.items)
+        → OnOk result (Refines (fed_start s thread machine.now.at word n) machine.now.at n
         machine.now (rows_of latched word_at ports.new.items)) }
     ensures unfed { OnErr result (rows_of latched word_at ports.new.items
         ≡ rows_of latched word_at ports.old.items) }
@@ -42,14 +43,14 @@ pub fn feed_now(
     feed_port(ports, thread, machine.cycle(), word)
 }
 
-/// A machine whose ports forget the words that no load in flight finds refines the same cycle of the
-/// same world. The contract is the theorem; the call does nothing.
+/// A machine whose ports forget the words that no load in flight finds refines the same cycle of
+/// the same world. The contract is the theorem; the call does nothing.
 pub fn forgets_running()
     ensures { ForgetsRunning }
 {}
 
-/// A device of fp_ports that is fed for rising cycles keeps at most three feeds of the cycles before
-/// the machine's, once it forgets. The contract is the theorem; the call does nothing.
+/// A device of fp_ports that is fed for rising cycles keeps at most three feeds of the cycles
+/// before the machine's, once it forgets. The contract is the theorem; the call does nothing.
 pub fn keeps_three()
     ensures { KeepsThree }
 {}
@@ -60,9 +61,9 @@ pub fn forget_past(machine: &Machine, ports: &mut Ports)
     requires eight { vec_len ports.old ≡ 8 }
     ensures forgot { AllForgot (machine.now.at - 3) (rows_of latched word_at ports.old.items)
         (rows_of latched word_at ports.new.items) }
-    ensures stands { (s : Start) (n : ℕ)
-        → StandsFor s machine.now.at n machine.now (rows_of latched word_at ports.old.items)
-        → StandsFor s machine.now.at n machine.now (rows_of latched word_at ports.new.items) }
+    ensures refines { (s : Start) (n : ℕ)
+        → Refines s machine.now.at n machine.now (rows_of latched word_at ports.old.items)
+        → Refines s machine.now.at n machine.now (rows_of latched word_at ports.new.items) }
     ensures eight { vec_len ports.new ≡ 8 }
 {
     forgets_running();

@@ -1,5 +1,5 @@
-//! Closed loops of the machine. Up to eight plants, one at each thread's port, are sampled while the
-//! machine runs, and their words are fed to the ports.
+//! Closed loops of the machine. Up to eight plants, one at each thread's port, are sampled while
+//! the machine runs, and their words are fed to the ports.
 
 #![tactic(auto)]
 

@@ -1,7 +1,8 @@
 //! The plants of the eight threads, each a boxed plant or none.
 
 ghost use Rattle.std.specs.Prelude.{◌≡◌, ℕ, ◌<◌, List, [], ◌∷◌, vec_len};
-ghost use Rattle.loop_runs.specs.Plants.{Continues, HasStepped, IsWord, response_at, response_of, responses_of};
+ghost use Rattle.loop_runs.specs.Plants.{Continues, HasStepped, IsWord};
+ghost use Rattle.loop_runs.specs.Plants.{response_at, response_of, responses_of};
 
 /// A plant in steps: each step takes the word that the controller stored last, and returns the word
 /// that the controller's port shows until the next step.

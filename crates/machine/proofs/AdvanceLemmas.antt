@@ -1,19 +1,20 @@
 -- Cycles up to a line.
-use Rattle.std.proofs.Common.{◌≡◌, ℕ, ◌+◌, ◌-◌, ◌<◌, ◌≤◌, Bool, true, false, List, [], ◌++◌, length, Option, refl, ap, sym, subst, ◌∙◌, arith, add-one}
+use Rattle.std.proofs.Common.{◌≡◌, ℕ, ◌+◌, ◌-◌, ◌<◌, ◌≤◌, Bool, true, false, List, [], ◌++◌}
+use Rattle.std.proofs.Common.{length, Option, refl, ap, sym, subst, ◌∙◌, arith, add-one}
 use Rattle.std.proofs.lemmas.List.{append-nil}
-use Rattle.fp_ports.specs.Rows.{Row}
+use Rattle.fp_ports.specs.PluggedPorts.{Row}
 use Rattle.rv_exec.specs.declared.outcome.Event.{Event}
 use Rattle.trace_print.specs.Text.{text}
-use Rattle.world_model.specs.World.{Start, events}
-use Rattle.pipe_model.specs.Stages.{retired, step}
+use Rattle.core_model.specs.World.{Start, events}
+use Rattle.pipe_model.specs.Stages.{retired_event, step}
 use Rattle.pipe_model.specs.Relation.{event_in, of_thread, turn_at}
 use Rattle.pipe_model.specs.PipelineLaws.{EventsGrow}
 use Rattle.pipe_model.proofs.Keeping.{keeps}
-use Rattle.pipeline_core.specs.AsDefined.{stage_registers_as_defined, state_as_defined}
+use Rattle.pipeline_core.specs.Abstraction.{abstract_stages, abstract_state}
 use Rattle.machine.specs.declared.state.Machine.{Machine}
 use Rattle.machine.specs.Advancing.{Advanced}
-use Rattle.machine.specs.FieldLaws.{Unplugged, with_kept}
-use Rattle.machine.specs.WorldRelation.{AreLeft, StandsFor, Ticks}
+use Rattle.machine.specs.FieldLaws.{Unplugged, with_ports_left}
+use Rattle.machine.specs.WorldRelation.{AreLeft, Refines, Ticks}
 use Rattle.machine.specs.Sleeping.{PassedOver}
 use Rattle.machine.proofs.PortLemmas.{unplugs}
 use Rattle.machine.proofs.RunLemmas.{text-next}
@@ -41,75 +42,112 @@ stop_within at stop end is low = omega arith
 pub as_within : (stop old limit : ℕ) → stop ≡ old → old ≤ limit → stop ≤ limit
 as_within stop old limit is within = omega arith
 
-pub goes_forth : (start at after later : ℕ) → start ≤ at → after ≡ at + 1 → after ≤ later → start ≤ later
+pub goes_forth : (start at after later : ℕ) → start ≤ at → after ≡ at + 1 →
+    after ≤ later → start ≤ later
 goes_forth start at after later forth next on = omega arith
 
-pub stays_here : (at stop after later : ℕ) → stop ≡ at + 1 → after ≡ at + 1 → after ≤ later → later ≤ stop → later ≡ after
+pub stays_here : (at stop after later : ℕ) → stop ≡ at + 1 → after ≡ at + 1 → after ≤ later →
+    later ≤ stop → later ≡ after
 stays_here at stop after later is next on end = omega arith
 
 -- a cycle was done
-pub begun_no_more : (start at after later x y : ℕ) → later ≡ start → start ≤ at → after ≡ at + 1 → after ≤ later → x ≡ y
+pub begun_no_more : (start at after later x y : ℕ) → later ≡ start → start ≤ at → after ≡ at + 1 →
+    after ≤ later → x ≡ y
 begun_no_more start at after later x y h forth next on = absurd (omega arith)
 
-pub shown_as : {s : Start} {c n thread : ℕ} {m : Machine} {rows : List (Option Row)} {a b : Bool} {line : List ℕ} → a ≡ b → Advanced s c n thread m rows a line → Advanced s c n thread m rows b line
-shown_as {s} {c} {n} {thread} {m} {rows} {a} {b} {line} same gone = subst (λ (x : Bool). Advanced s c n thread m rows x line) same gone
+pub shown_as : {s : Start} {c n thread : ℕ} {m : Machine} {rows : List (Option Row)}
+    {a b : Bool} {line : List ℕ} → a ≡ b → Advanced s c n thread m rows a line →
+    Advanced s c n thread m rows b line
+shown_as {s} {c} {n} {thread} {m} {rows} {a} {b} {line} same gone =
+    subst (λ (x : Bool). Advanced s c n thread m rows x line) same gone
 
 -- no cycle is done yet
-pub advance_begins : (s : Start) (n thread : ℕ) (m : Machine) (rows : List (Option Row)) (line : List ℕ) → StandsFor s m.at n m rows → Advanced s m.at n thread m rows false line
-advance_begins s n thread m rows line st = record { stands = st; last = sym (append-nil (text (events s thread m.at))); quiet = λ h. cc }
+pub advance_begins : (s : Start) (n thread : ℕ) (m : Machine) (rows : List (Option Row))
+    (line : List ℕ) → Refines s m.at n m rows → Advanced s m.at n thread m rows false line
+advance_begins s n thread m rows line st =
+    record { refines = st; last = sym (append-nil (text (events s thread m.at))); quiet = λ h. cc }
 
 -- the text after a cycle and those that are passed over behind it
-text_after : EventsGrow → (s : Start) (n thread : ℕ) (m after later : Machine) (rows new : List (Option Row)) (event : Option Event) → Ticks s m.at n rows after new event → after.at ≡ m.at + 1 → after.at ≤ later.at →
-    PassedOver s after.at n later new → text (events s thread later.at) ≡ text (events s thread m.at) ++ text (of_thread thread event)
+text_after : EventsGrow → (s : Start) (n thread : ℕ) (m after later : Machine)
+    (rows new : List (Option Row)) (event : Option Event) → Ticks s m.at n rows after new event →
+    after.at ≡ m.at + 1 → after.at ≤ later.at → PassedOver s after.at n later new →
+    text (events s thread later.at) ≡ text (events s thread m.at) ++ text (of_thread thread event)
 text_after grows s n thread m after later rows new event ticked at forth passed =
-    ap text (no_events_passed grows s thread after.at n later new forth passed) ∙ ap (λ c. text (events s thread c)) (at ∙ add-one m.at)
+    ap text (no_events_passed grows s thread after.at n later new forth passed)
+    ∙ ap (λ c. text (events s thread c)) (at ∙ add-one m.at)
     ∙ text-next grows s thread m.at event ticked.event_is
 
 -- what stands after a cycle
-stands_after : (s : Start) (n : ℕ) (m after : Machine) (rows new : List (Option Row)) (event : Option Event) → Ticks s m.at n rows after new event → after.at ≡ m.at + 1 → StandsFor s after.at n after new
+stands_after : (s : Start) (n : ℕ) (m after : Machine) (rows new : List (Option Row))
+    (event : Option Event) → Ticks s m.at n rows after new event → after.at ≡ m.at + 1 →
+    Refines s after.at n after new
 stands_after s n m after rows new event ticked at =
-    let At : ℕ → Type 0 = λ c. StandsFor s c n after new in
-    subst At (sym (at ∙ add-one m.at)) ticked.stands
+    let At : ℕ → Type 0 = λ c. Refines s c n after new in
+    subst At (sym (at ∙ add-one m.at)) ticked.refines
 
 -- one cycle more, with none of the thread's events, and those that are passed over behind it
-pub advance_on : EventsGrow → (s : Start) (c n thread : ℕ) (m after later : Machine) (rows new : List (Option Row)) (event : Option Event) (old line : List ℕ) → Advanced s c n thread m rows false old →
-    (StandsFor s m.at n m rows → Ticks s m.at n rows after new event) → after.at ≡ m.at + 1 → after.at ≤ later.at → (StandsFor s after.at n after new → PassedOver s after.at n later new) →
+pub advance_on : EventsGrow → (s : Start) (c n thread : ℕ) (m after later : Machine)
+    (rows new : List (Option Row)) (event : Option Event) (old line : List ℕ) →
+    Advanced s c n thread m rows false old →
+    (Refines s m.at n m rows → Ticks s m.at n rows after new event) → after.at ≡ m.at + 1 →
+    after.at ≤ later.at → (Refines s after.at n after new → PassedOver s after.at n later new) →
     of_thread thread event ≡ [] → Advanced s c n thread later new false line
-advance_on grows s c n thread m after later rows new event old line so_far tick at forth passes none =
-    let ticked : Ticks s m.at n rows after new event = tick so_far.stands in
-    let passed : PassedOver s after.at n later new = passes (stands_after s n m after rows new event ticked at) in
+advance_on grows s c n thread m after later rows new
+    event old line so_far tick at forth passes none =
+    let ticked : Ticks s m.at n rows after new event = tick so_far.refines in
+    let passed : PassedOver s after.at n later new =
+    passes (stands_after s n m after rows new event ticked at) in
     record {
-      stands = passed.stands;
-      last = text_after grows s n thread m after later rows new event ticked at forth passed ∙ ap (λ (es : List Event). text (events s thread m.at) ++ text es) none ∙ append-nil (text (events s thread m.at)) ∙ so_far.last;
+      refines = passed.refines;
+      last =
+          text_after grows s n thread m after later rows new event ticked at forth passed
+          ∙ ap (λ (es : List Event). text (events s thread m.at) ++ text es) none
+          ∙ append-nil (text (events s thread m.at)) ∙ so_far.last;
       quiet = λ h. cc;
     }
 
 -- the cycle of a line
-pub advance_to_line : EventsGrow → (s : Start) (c n thread : ℕ) (m after later : Machine) (rows new : List (Option Row)) (event : Option Event) (old line : List ℕ) → Advanced s c n thread m rows false old →
-    (StandsFor s m.at n m rows → Ticks s m.at n rows after new event) → after.at ≡ m.at + 1 → later.at ≡ after.at → (StandsFor s after.at n after new → PassedOver s after.at n later new) →
+pub advance_to_line : EventsGrow → (s : Start) (c n thread : ℕ) (m after later : Machine)
+    (rows new : List (Option Row)) (event : Option Event) (old line : List ℕ) →
+    Advanced s c n thread m rows false old →
+    (Refines s m.at n m rows → Ticks s m.at n rows after new event) → after.at ≡ m.at + 1 →
+    later.at ≡ after.at → (Refines s after.at n after new → PassedOver s after.at n later new) →
     line ≡ text (of_thread thread event) → Advanced s c n thread later new true line
-advance_to_line grows s c n thread m after later rows new event old line so_far tick at here passes shown =
-    let ticked : Ticks s m.at n rows after new event = tick so_far.stands in
-    let passed : PassedOver s after.at n later new = passes (stands_after s n m after rows new event ticked at) in
-    let before : text (events s thread m.at) ≡ text (events s thread c) = so_far.last ∙ append-nil (text (events s thread c)) in
+advance_to_line grows s c n thread m after later rows new
+    event old line so_far tick at here passes shown =
+    let ticked : Ticks s m.at n rows after new event = tick so_far.refines in
+    let passed : PassedOver s after.at n later new =
+    passes (stands_after s n m after rows new event ticked at) in
+    let before : text (events s thread m.at) ≡ text (events s thread c) =
+    so_far.last ∙ append-nil (text (events s thread c)) in
     let forth : after.at ≤ later.at = omega (arith, here) in
     let last : later.at - 1 ≡ m.at = omega (arith, here, at) in
     record {
-      stands = passed.stands;
-      last = text_after grows s n thread m after later rows new event ticked at forth passed ∙ ap (λ xs. xs ++ text (of_thread thread event)) before ∙ ap (λ xs. text (events s thread c) ++ xs) (sym shown);
+      refines = passed.refines;
+      last =
+          text_after grows s n thread m after later rows new event ticked at forth passed
+          ∙ ap (λ xs. xs ++ text (of_thread thread event)) before
+          ∙ ap (λ xs. text (events s thread c) ++ xs) (sym shown);
       quiet = λ h. ap (λ d. text (events s thread d)) last ∙ before;
     }
 
 -- the turn in M is the one whose event retires
-pub retires_as : (s : Start) (n : ℕ) (m : Machine) (rows : List (Option Row)) → length rows ≡ 8 → m.at < n + 3 → StandsFor s m.at n m rows → retired (m.at - 4) m.pipe.m ≡ event_in (m.at - 4) (turn_at s m.at 3)
+pub retires_as : (s : Start) (n : ℕ) (m : Machine) (rows : List (Option Row)) →
+    length rows ≡ 8 → m.at < n + 3 → Refines s m.at n m rows →
+    retired_event (m.at - 4) m.pipe.m ≡ event_in (m.at - 4) (turn_at s m.at 3)
 unfolding step
 retires_as s n m rows eight within st =
-    let left : Unplugged s m.at (stage_registers_as_defined m.pipe) (with_kept (state_as_defined m.units rows) m.at m.unplugs) = unplugs s m.at n (stage_registers_as_defined m.pipe) (state_as_defined m.units rows) m.at m.unplugs st within eight in
-    (keeps s m.at (stage_registers_as_defined m.pipe) (with_kept (state_as_defined m.units rows) m.at m.unplugs) st.begins left.shows left.stands).event
+    let left : Unplugged s m.at (abstract_stages m.pipe)
+    (with_ports_left (abstract_state m.units rows) m.at m.unplugs) = unplugs s m.at n
+    (abstract_stages m.pipe) (abstract_state m.units rows) m.at m.unplugs st within eight in
+    (keeps s m.at (abstract_stages m.pipe) (with_ports_left (abstract_state m.units rows) m.at
+    m.unplugs) st.begins left.shows left.refines).event
 
 -- a cycle alone
-pub ticks_alone : (s : Start) (n thread : ℕ) (m after : Machine) (rows new : List (Option Row)) (shown : Bool) (line : List ℕ) (event : Option Event) → after.at ≡ m.at + 1 → event ≡ event_in (m.at - 4) (turn_at s m.at 3) →
-    Advanced s m.at n thread after new shown line → AreLeft rows new → Ticks s m.at n rows after new event
+pub ticks_alone : (s : Start) (n thread : ℕ) (m after : Machine) (rows new : List (Option Row))
+    (shown : Bool) (line : List ℕ) (event : Option Event) → after.at ≡ m.at + 1 →
+    event ≡ event_in (m.at - 4) (turn_at s m.at 3) → Advanced s m.at n thread after new shown line →
+    AreLeft rows new → Ticks s m.at n rows after new event
 ticks_alone s n thread m after rows new shown line event at is gone left =
-    let At : ℕ → Type 0 = λ c. StandsFor s c n after new in
-    record { stands = subst At (at ∙ add-one m.at) gone.stands; event_is = is; left = left }
+    let At : ℕ → Type 0 = λ c. Refines s c n after new in
+    record { refines = subst At (at ∙ add-one m.at) gone.refines; event_is = is; left = left }

@@ -4,27 +4,33 @@ use Rattle.std.specs.Prelude.{Result, OnOk, OnErr}
 use Rattle.std.specs.Io.KnownBytes.{Appends}
 use Rattle.fp_io.specs.Content.{AppendsFront}
 use Rattle.fp_io.specs.declared.sink.PutFailed.{PutFailed}
-use Rattle.fp_ports.specs.Rows.{Row}
-use Rattle.world_model.specs.World.{Start}
+use Rattle.fp_ports.specs.PluggedPorts.{Row}
+use Rattle.core_model.specs.World.{Start}
 use Rattle.machine.specs.DumpedState.{seen}
-use Rattle.machine.specs.Fields.{dumped}
+use Rattle.machine.specs.Fields.{dump_of}
 use Rattle.machine.proofs.FieldLines.{dumps}
-use Rattle.pipeline_core.specs.AsDefined.{stage_registers_as_defined, state_as_defined}
+use Rattle.pipeline_core.specs.Abstraction.{abstract_stages, abstract_state}
 use Rattle.machine.specs.declared.state.Machine.{Machine}
-use Rattle.machine.specs.WorldRelation.{StandsFor}
+use Rattle.machine.specs.WorldRelation.{Refines}
 
-pub dump_ok : (r : Result (Unit {0}) PutFailed) (before after : Option (List ℕ)) (m : Machine) (rows : List (Option Row)) → OnOk r (Appends before after (dumped (stage_registers_as_defined m.pipe) (state_as_defined m.units rows) m.at)) →
-    OnOk r ((s : Start) (c n : ℕ) → StandsFor s c n m rows → Appends before after (seen s c))
+pub dump_ok : (r : Result (Unit {0}) PutFailed) (before after : Option (List ℕ))
+    (m : Machine) (rows : List (Option Row)) → OnOk r
+    (Appends before after (dump_of (abstract_stages m.pipe) (abstract_state m.units rows) m.at)) →
+    OnOk r ((s : Start) (c n : ℕ) → Refines s c n m rows → Appends before after (seen s c))
 dump_ok (Ok x) before after m rows told =
-    λ s c n stands.
+    λ s c n refines.
     let Told : List ℕ → Type 0 = λ text. Appends before after text in
-    subst Told (dumps s c n (stage_registers_as_defined m.pipe) (state_as_defined m.units rows) m.at m.unplugs stands) told
+    subst Told
+    (dumps s c n (abstract_stages m.pipe) (abstract_state m.units rows) m.at m.unplugs refines) told
 dump_ok (Err e) before after m rows told = told
 
-pub dump_err : (r : Result (Unit {0}) PutFailed) (before after : Option (List ℕ)) (m : Machine) (rows : List (Option Row)) → OnErr r (AppendsFront before after (dumped (stage_registers_as_defined m.pipe) (state_as_defined m.units rows) m.at)) →
-    OnErr r ((s : Start) (c n : ℕ) → StandsFor s c n m rows → AppendsFront before after (seen s c))
+pub dump_err : (r : Result (Unit {0}) PutFailed) (before after : Option (List ℕ))
+    (m : Machine) (rows : List (Option Row)) → OnErr r (AppendsFront before after
+    (dump_of (abstract_stages m.pipe) (abstract_state m.units rows) m.at)) →
+    OnErr r ((s : Start) (c n : ℕ) → Refines s c n m rows → AppendsFront before after (seen s c))
 dump_err (Ok x) before after m rows told = told
 dump_err (Err e) before after m rows told =
-    λ s c n stands.
+    λ s c n refines.
     let Told : List ℕ → Type 0 = λ text. AppendsFront before after text in
-    subst Told (dumps s c n (stage_registers_as_defined m.pipe) (state_as_defined m.units rows) m.at m.unplugs stands) told
+    subst Told
+    (dumps s c n (abstract_stages m.pipe) (abstract_state m.units rows) m.at m.unplugs refines) told

@@ -1,3 +1,4 @@
+pub mod Opened
 mod PortLemmas
 mod FieldLines
 pub mod FeedLemmas

@@ -1,36 +1,46 @@
 -- Turns of other threads put nothing, and where no port is ever taken away none is due.
-use Rattle.std.proofs.Common.{◌≡◌, ℕ, zero, suc, ◌+◌, List, [], ◌∷◌, get_or, false, Some, None, Option, refl, subst, ap, ◌∙◌, add-one}
+use Rattle.std.proofs.Common.{◌≡◌, ℕ, zero, suc, ◌+◌, List, [], ◌∷◌, get_or, false}
+use Rattle.std.proofs.Common.{Some, None, Option, refl, subst, ap, ◌∙◌, add-one}
 use Rattle.std.specs.Prelude.{◌==◌, is_some, if◌then◌else◌, slice_index_or, slice_set}
 use Rattle.std.specs.List.{list_any}
-use Rattle.fp_ports.specs.Rows.{Row}
+use Rattle.fp_ports.specs.PluggedPorts.{Row}
 use Rattle.rv_exec.specs.declared.outcome.Effect.{Effect}
 use Rattle.rv_exec.specs.declared.outcome.Event.{Event}
-use Rattle.world_model.specs.World.{Start}
+use Rattle.core_model.specs.World.{Start}
 use Rattle.pipe_model.specs.Stages.{event_at}
 use Rattle.pipe_model.specs.Relation.{of_thread, stays_in}
-use Rattle.machine.specs.FieldRelation.{kept_in}
+use Rattle.machine.specs.FieldRelation.{ports_left_in}
 use Rattle.machine.specs.declared.state.Machine.{Machine}
 use Rattle.machine.specs.WorldRelation.{Ticks}
 
-pub of_others : (i cycle k pc word : ℕ) (effect : Option Effect) → (k == i) ≡ false → of_thread i (event_at cycle k pc word effect) ≡ []
-of_others i cycle k pc word None other = refl
-of_others i cycle k pc word (Some effect) other = rw other refl
+pub others : (i cycle k pc word : ℕ) (effect : Option Effect) → (k == i) ≡ false →
+    of_thread i (event_at cycle k pc word effect) ≡ []
+others i cycle k pc word None other = refl
+others i cycle k pc word (Some effect) other = rw other refl
 
-none_at : (unplugs : List (Option ℕ)) (k : ℕ) → list_any is_some unplugs ≡ false → get_or unplugs k None ≡ None
+none_at : (unplugs : List (Option ℕ)) (k : ℕ) → list_any is_some unplugs ≡ false →
+    get_or unplugs k None ≡ None
 none_at [] k h = refl
 none_at (None ∷ more) zero h = refl
 none_at (None ∷ more) (suc k) h = none_at more k h
 none_at (Some unplug ∷ more) k h = cc
 
-pub none_due : (unplugs : List (Option ℕ)) (cycle : ℕ) (rows : List (Option Row)) (k : ℕ) → list_any is_some unplugs ≡ false → kept_in unplugs cycle rows k ≡ rows
+pub none_due : (unplugs : List (Option ℕ)) (cycle : ℕ) (rows : List (Option Row)) (k : ℕ) →
+    list_any is_some unplugs ≡ false → ports_left_in unplugs cycle rows k ≡ rows
 none_due unplugs cycle rows zero h = refl
 none_due unplugs cycle rows (suc k) h = rw (none_at unplugs k h) (none_due unplugs cycle rows k h)
 
 -- one thread more
-pub kept_more : (unplugs : List (Option ℕ)) (cycle : ℕ) (first now after : List (Option Row)) (k : ℕ) → now ≡ kept_in unplugs cycle first k →
-    after ≡ (if stays_in (slice_index_or unplugs k None) cycle then now else slice_set now k None) → after ≡ kept_in unplugs cycle first (k + 1)
+pub kept_more : (unplugs : List (Option ℕ)) (cycle : ℕ) (first now after : List (Option Row))
+    (k : ℕ) → now ≡ ports_left_in unplugs cycle first k →
+    after ≡ (if stays_in (slice_index_or unplugs k None) cycle then now else slice_set now k None) →
+    after ≡ ports_left_in unplugs cycle first (k + 1)
 kept_more unplugs cycle first now after k is step =
-    rw (add-one k) (step ∙ ap (λ (rows : List (Option Row)). if stays_in (slice_index_or unplugs k None) cycle then rows else slice_set rows k None) is)
+    rw (add-one k) (step ∙ ap (λ (rows : List (Option Row)).
+    if stays_in (slice_index_or unplugs k None) cycle then rows else slice_set rows k None) is)
 
-pub ticks_by : (s : Start) (c n : ℕ) (before : List (Option Row)) (m : Machine) (ports : List (Option Row)) (a b : Option Event) → a ≡ b → Ticks s c n before m ports a → Ticks s c n before m ports b
-ticks_by s c n before m ports a b same ticks = subst (λ (e : Option Event). Ticks s c n before m ports e) same ticks
+pub ticks_by : (s : Start) (c n : ℕ) (before : List (Option Row)) (m : Machine)
+    (ports : List (Option Row)) (a b : Option Event) → a ≡ b → Ticks s c n before m ports a →
+    Ticks s c n before m ports b
+ticks_by s c n before m ports a b same ticks =
+    subst (λ (e : Option Event). Ticks s c n before m ports e) same ticks

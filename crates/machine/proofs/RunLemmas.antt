@@ -1,36 +1,45 @@
 -- A cycle of the machine, and the text of a run.
-use Rattle.std.proofs.Common.{◌≡◌, ℕ, zero, suc, ◌+◌, ◌-◌, ◌<◌, ◌≤◌, List, [], ◌++◌, get_or, take, length, Bool, true, false, Option, Some, None, arith, refl, ap, sym, subst, ◌∙◌, add-one, add-zero, append_assoc}
+use Rattle.std.proofs.Common.{◌≡◌, ℕ, zero, suc, ◌+◌, ◌-◌, ◌<◌, ◌≤◌, List, [], ◌++◌, get_or}
+use Rattle.std.proofs.Common.{take, length, Bool, true, false, Option, Some, None, arith}
+use Rattle.std.proofs.Common.{refl, ap, sym, subst, ◌∙◌, add-one, add-zero, append_assoc}
 use Rattle.std.specs.Prelude.{if◌then◌else◌}
 use Rattle.std.proofs.lemmas.List.{append-nil}
 use Rattle.std.proofs.lemmas.Grind.{flat_map-append}
 use Rattle.std.specs.Io.KnownBytes.{Appends}
 use Rattle.fp_io.specs.Content.{AppendsFront}
-use Rattle.fp_ports.specs.Rows.{Row, row_at}
+use Rattle.fp_ports.specs.PluggedPorts.{Row, row_at}
 use Rattle.rv_exec.specs.declared.outcome.Event.{Event}
 use Rattle.trace_print.specs.Text.{line_text, text}
-use Rattle.world_model.specs.World.{Start, recent, world, events}
+use Rattle.core_model.specs.World.{Start, recent, world, events}
 use Rattle.pipe_model.specs.Stages.{Ticked}
-use Rattle.pipe_model.specs.Relation.{Begins, Shows, Stands, Kept, event_in, turn_at, of_thread, words_of, stays_in}
+use Rattle.pipe_model.specs.Relation.{Begins, PortsRefine, Refines as PipelineRefines, RefinesNext}
+use Rattle.pipe_model.specs.Relation.{event_in, turn_at, of_thread, port_words, stays_in}
 use Rattle.pipe_model.specs.PipelineLaws.{EventsGrow}
-use Rattle.pipeline_core.specs.AsDefined.{stage_registers_as_defined, state_as_defined, ticked_as_defined}
+use Rattle.pipeline_core.specs.Abstraction.{abstract_stages, abstract_state, abstract_ticked}
 use Rattle.machine.specs.Advancing.{Advanced}
-use Rattle.machine.specs.FieldRelation.{Standing, kept_in}
-use Rattle.machine.specs.FieldLaws.{Unplugged, with_kept}
+use Rattle.machine.specs.FieldRelation.{FieldsRefine, ports_left_in}
+use Rattle.machine.specs.FieldLaws.{Unplugged, with_ports_left}
 use Rattle.machine.proofs.PortLemmas.{unplugs, goes_on, kept-row}
 use Rattle.machine.specs.declared.state.Machine.{Machine}
-use Rattle.machine.specs.WorldRelation.{StandsFor, IsLeft, AreLeft, Ticks, AppendsBeyond, HasRun, Stopped}
+use Rattle.machine.specs.WorldRelation.{Refines, IsLeft, AreLeft, Ticks}
+use Rattle.machine.specs.WorldRelation.{AppendsBeyond, HasRun, Stopped}
 use Rattle.fp_io.proofs.Fronts.{appends_nothing, appends_more, appends_front, front_after}
 
-left_words : (before after : Option Row) (stays : Bool) → words_of after ≡ words_of (if stays then before else None) → IsLeft before after
+left_words : (before after : Option Row) (stays : Bool) →
+    port_words after ≡ port_words (if stays then before else None) → IsLeft before after
 left_words before None stays h = tt
 left_words before (Some r) true h = sym h
 left_words before (Some r) false h = cc
 
 -- a port that shows in a cycle what it showed, unless it was due
-pub left_is : (before after left : Option Row) (unplug : Option ℕ) (c : ℕ) → words_of after ≡ words_of left → left ≡ (if stays_in unplug c then before else None) → IsLeft before after
-left_is before after left unplug c same is = left_words before after (stays_in unplug c) (same ∙ ap words_of is)
+pub left_is : (before after left : Option Row) (unplug : Option ℕ) (c : ℕ) →
+    port_words after ≡ port_words left → left ≡ (if stays_in unplug c then before else None) →
+    IsLeft before after
+left_is before after left unplug c same is =
+    left_words before after (stays_in unplug c) (same ∙ ap port_words is)
 
-pub left_more : (before between after : Option Row) → IsLeft before between → IsLeft between after → IsLeft before after
+pub left_more : (before between after : Option Row) → IsLeft before between → IsLeft between after →
+    IsLeft before after
 left_more before between None first second = tt
 left_more before (Some r) (Some q) first second = first ∙ second
 left_more before None (Some q) first second = cc
@@ -43,20 +52,39 @@ left_all ports k below = go (row_at ports k)
     go (Some r) = refl
 
 -- a cycle, by the ports that are left in it
-pub ticks : (s : Start) (n : ℕ) (m after : Machine) (rows between new : List (Option Row)) (event : Option Event) → length rows ≡ 8 → between ≡ kept_in m.unplugs m.at rows 8 → m.at < n + 3 → StandsFor s m.at n m rows →
-    (Begins s → Shows s m.at between → Stands s m.at (stage_registers_as_defined m.pipe) (state_as_defined m.units between) → Kept s m.at between (ticked_as_defined after.pipe after.units new event)) →
+pub ticks : (s : Start) (n : ℕ) (m after : Machine)
+    (rows between new : List (Option Row)) (event : Option Event) → length rows ≡ 8 →
+    between ≡ ports_left_in m.unplugs m.at rows 8 → m.at < n + 3 → Refines s m.at n m rows →
+    (Begins s → PortsRefine s m.at between →
+    PipelineRefines s m.at (abstract_stages m.pipe) (abstract_state m.units between) →
+    RefinesNext s m.at between (abstract_ticked after.pipe after.units new event)) →
     after.at ≡ m.at + 1 → after.unplugs ≡ m.unplugs → Ticks s m.at n rows after new event
 ticks s n m after rows between new event eight is within st keeps at plan =
-    let t : Ticked = ticked_as_defined after.pipe after.units new event in
-    let left : Unplugged s m.at (stage_registers_as_defined m.pipe) (with_kept (state_as_defined m.units rows) m.at m.unplugs) = unplugs s m.at n (stage_registers_as_defined m.pipe) (state_as_defined m.units rows) m.at m.unplugs st within eight in
-    let P : List (Option Row) → Type 0 = λ x. Shows s m.at x in
-    let Q : List (Option Row) → Type 0 = λ x. Stands s m.at (stage_registers_as_defined m.pipe) (state_as_defined m.units x) in
-    let R : List (Option Row) → Type 0 = λ x. Kept s m.at x t in
-    let kept : Kept s m.at (kept_in m.unplugs m.at rows 8) t = subst R is (keeps st.begins (subst P (sym is) left.shows) (subst Q (sym is) left.stands)) in
-    let next : Standing s (suc m.at) n (stage_registers_as_defined after.pipe) (state_as_defined after.units new) (suc m.at) m.unplugs = goes_on s m.at n (stage_registers_as_defined m.pipe) (state_as_defined m.units rows) m.at m.unplugs t st eight kept in
-    let A : ℕ → Type 0 = λ k. Standing s (suc m.at) n (stage_registers_as_defined after.pipe) (state_as_defined after.units new) k m.unplugs in
-    let B : List (Option ℕ) → Type 0 = λ xs. Standing s (suc m.at) n (stage_registers_as_defined after.pipe) (state_as_defined after.units new) after.at xs in
-    record { stands = subst B (sym plan) (subst A (sym (add-one m.at) ∙ sym at) next); event_is = kept.event; left = λ k below. left_is (row_at rows k) (row_at new k) (row_at (kept_in m.unplugs m.at rows 8) k) (get_or m.unplugs k None) m.at (kept.ports k) (kept-row m.unplugs m.at rows k eight below) }
+    let t : Ticked = abstract_ticked after.pipe after.units new event in
+    let left : Unplugged s m.at (abstract_stages m.pipe)
+    (with_ports_left (abstract_state m.units rows) m.at m.unplugs) = unplugs s m.at n
+    (abstract_stages m.pipe) (abstract_state m.units rows) m.at m.unplugs st within eight in
+    let P : List (Option Row) → Type 0 = λ x. PortsRefine s m.at x in
+    let Q : List (Option Row) → Type 0 =
+    λ x. PipelineRefines s m.at (abstract_stages m.pipe) (abstract_state m.units x) in
+    let R : List (Option Row) → Type 0 = λ x. RefinesNext s m.at x t in
+    let kept : RefinesNext s m.at (ports_left_in m.unplugs m.at rows 8) t =
+    subst R is (keeps st.begins (subst P (sym is) left.shows) (subst Q (sym is) left.refines)) in
+    let next : FieldsRefine s (suc m.at) n (abstract_stages after.pipe)
+    (abstract_state after.units new) (suc m.at) m.unplugs = goes_on s m.at n
+    (abstract_stages m.pipe) (abstract_state m.units rows) m.at m.unplugs t st eight kept in
+    let A : ℕ → Type 0 = λ k. FieldsRefine s (suc m.at) n
+    (abstract_stages after.pipe) (abstract_state after.units new) k m.unplugs in
+    let B : List (Option ℕ) → Type 0 = λ xs. FieldsRefine s (suc m.at) n
+    (abstract_stages after.pipe) (abstract_state after.units new) after.at xs in
+    record {
+      refines = subst B (sym plan) (subst A (sym (add-one m.at) ∙ sym at) next);
+      event_is = kept.event;
+      left =
+          λ k below. left_is (row_at rows k) (row_at new k)
+          (row_at (ports_left_in m.unplugs m.at rows 8) k) (get_or m.unplugs k None) m.at
+          (kept.ports k) (kept-row m.unplugs m.at rows k eight below);
+    }
 
 no_events : (s : Start) (i : ℕ) → events s i 0 ≡ []
 unfolding world recent
@@ -65,93 +93,142 @@ no_events s i = refl
 text-append : (xs ys : List Event) → text (xs ++ ys) ≡ text xs ++ text ys
 text-append xs ys = flat_map-append line_text xs ys
 
-pub text-next : EventsGrow → (s : Start) (i c : ℕ) (event : Option Event) → event ≡ event_in (c - 4) (turn_at s c 3) → text (events s i (suc c)) ≡ text (events s i c) ++ text (of_thread i event)
+pub text-next : EventsGrow → (s : Start) (i c : ℕ) (event : Option Event) → event ≡ event_in (c - 4)
+    (turn_at s c 3) → text (events s i (suc c)) ≡ text (events s i c) ++ text (of_thread i event)
 text-next grows s i c event e =
-    ap text (grows s i c) ∙ text-append (events s i c) (of_thread i (event_in (c - 4) (turn_at s c 3))) ∙ ap (λ x. text (events s i c) ++ text (of_thread i x)) (sym e)
+    ap text (grows s i c)
+    ∙ text-append (events s i c) (of_thread i (event_in (c - 4) (turn_at s c 3)))
+    ∙ ap (λ x. text (events s i c) ++ text (of_thread i x)) (sym e)
 
 -- later cycles leave the text of earlier ones
-text_goes_on : EventsGrow → (s : Start) (i c more : ℕ) → (rest : List ℕ) × (text (events s i (c + more)) ≡ text (events s i c) ++ rest)
+text_goes_on : EventsGrow → (s : Start) (i c more : ℕ) →
+    (rest : List ℕ) × (text (events s i (c + more)) ≡ text (events s i c) ++ rest)
 text_goes_on grows s i c zero = ([], rw (add-zero c) (sym (append-nil (text (events s i c)))))
 text_goes_on grows s i c (suc more) =
     let (rest, is) = text_goes_on grows s i c more in
     let e : Option Event = event_in (c + more - 4) (turn_at s (c + more) 3) in
-    let next : c + suc more ≡ suc (c + more) = omega arith in
-    (rest ++ text (of_thread i e), ap (λ k. text (events s i k)) next ∙ text-next grows s i (c + more) e refl ∙ ap (λ zs. zs ++ text (of_thread i e)) is ∙ append_assoc (text (events s i c)) rest (text (of_thread i e)))
+    let next : c + suc more ≡ suc (c + more) = omega arith in (
+      rest ++ text (of_thread i e),
+      ap (λ k. text (events s i k)) next ∙ text-next grows s i (c + more) e refl
+          ∙ ap (λ zs. zs ++ text (of_thread i e)) is
+          ∙ append_assoc (text (events s i c)) rest (text (of_thread i e)),
+    )
 
-pub run_begins : (s : Start) (n thread : ℕ) (m : Machine) (rows : List (Option Row)) (told : Option (List ℕ)) → StandsFor s 0 n m rows → HasRun s 0 n thread rows m rows told told
+pub run_begins : (s : Start) (n thread : ℕ) (m : Machine) (rows : List (Option Row))
+    (told : Option (List ℕ)) → Refines s 0 n m rows → HasRun s 0 n thread rows m rows told told
 run_begins s n thread m rows told st =
     let Told : List Event → Type 0 = λ es. Appends told told (text es) in
-    record { put = subst Told (sym (no_events s thread)) (appends_nothing told); stands = st; left = left_all rows }
+    record {
+      put = subst Told (sym (no_events s thread)) (appends_nothing told);
+      refines = st;
+      left = left_all rows;
+    }
 
 -- one more cycle of a run
-pub run_on : EventsGrow → (s : Start) (k n thread : ℕ) (first : List (Option Row)) (m after : Machine) (rows new : List (Option Row)) (before between now : Option (List ℕ)) (event : Option Event) → HasRun s k n thread first m rows before between → m.at ≡ k →
-    (StandsFor s m.at n m rows → Ticks s m.at n rows after new event) → Appends between now (text (of_thread thread event)) → HasRun s (k + 1) n thread first after new before now
+pub run_on : EventsGrow → (s : Start) (k n thread : ℕ) (first : List (Option Row))
+    (m after : Machine) (rows new : List (Option Row)) (before between now : Option (List ℕ))
+    (event : Option Event) → HasRun s k n thread first m rows before between → m.at ≡ k →
+    (Refines s m.at n m rows → Ticks s m.at n rows after new event) →
+    Appends between now (text (of_thread thread event)) →
+    HasRun s (k + 1) n thread first after new before now
 run_on grows s k n thread first m after rows new before between now event run at tick put =
-    let At : ℕ → Type 0 = λ c. StandsFor s c n m rows in
+    let At : ℕ → Type 0 = λ c. Refines s c n m rows in
     let After : ℕ → Type 0 = λ c. Ticks s c n rows after new event in
-    let ticked : Ticks s k n rows after new event = subst After at (tick (subst At (sym at) run.stands)) in
+    let ticked : Ticks s k n rows after new event =
+    subst After at (tick (subst At (sym at) run.refines)) in
     let Told : List ℕ → Type 0 = λ x. Appends before now x in
     let done : HasRun s (suc k) n thread first after new before now = record {
-      put = subst Told (sym (text-next grows s thread k event ticked.event_is)) (appends_more before between now (text (events s thread k)) (text (of_thread thread event)) run.put put);
-      stands = ticked.stands;
-      left = λ i below. left_more (row_at first i) (row_at rows i) (row_at new i) (run.left i below) (ticked.left i below);
+      put =
+          subst Told (sym (text-next grows s thread k event ticked.event_is)) (appends_more before
+          between now (text (events s thread k)) (text (of_thread thread event)) run.put put);
+      refines = ticked.refines;
+      left =
+          λ i below. left_more (row_at first i) (row_at rows i) (row_at new i) (run.left i below)
+          (ticked.left i below);
     } in
     let Run : ℕ → Type 0 = λ c. HasRun s c n thread first after new before now in
     subst Run (sym (add-one k)) done
 
 -- a run goes on over cycles that have no event of the thread's
-pub run_goes : (s : Start) (n thread : ℕ) (first : List (Option Row)) (m after : Machine) (rows new : List (Option Row)) (before now : Option (List ℕ)) (line : List ℕ) → HasRun s m.at n thread first m rows before now →
-    (StandsFor s m.at n m rows → Advanced s m.at n thread after new false line) → AreLeft rows new → HasRun s after.at n thread first after new before now
+pub run_goes : (s : Start) (n thread : ℕ) (first : List (Option Row)) (m after : Machine)
+    (rows new : List (Option Row)) (before now : Option (List ℕ)) (line : List ℕ) →
+    HasRun s m.at n thread first m rows before now →
+    (Refines s m.at n m rows → Advanced s m.at n thread after new false line) → AreLeft rows new →
+    HasRun s after.at n thread first after new before now
 run_goes s n thread first m after rows new before now line run ahead left =
-    let gone : Advanced s m.at n thread after new false line = ahead run.stands in
+    let gone : Advanced s m.at n thread after new false line = ahead run.refines in
     let Told : List ℕ → Type 0 = λ x. Appends before now x in
     record {
       put = subst Told (sym (gone.last ∙ append-nil (text (events s thread m.at)))) run.put;
-      stands = gone.stands;
-      left = λ i below. left_more (row_at first i) (row_at rows i) (row_at new i) (run.left i below) (left i below);
+      refines = gone.refines;
+      left =
+          λ i below. left_more (row_at first i) (row_at rows i) (row_at new i) (run.left i below)
+          (left i below);
     }
 
 -- and over those up to a line, which was put
-pub run_shows : (s : Start) (n thread : ℕ) (first : List (Option Row)) (m after : Machine) (rows new : List (Option Row)) (before between now : Option (List ℕ)) (line : List ℕ) → HasRun s m.at n thread first m rows before between →
-    (StandsFor s m.at n m rows → Advanced s m.at n thread after new true line) → AreLeft rows new → Appends between now line → HasRun s after.at n thread first after new before now
+pub run_shows : (s : Start) (n thread : ℕ) (first : List (Option Row)) (m after : Machine)
+    (rows new : List (Option Row)) (before between now : Option (List ℕ)) (line : List ℕ) →
+    HasRun s m.at n thread first m rows before between →
+    (Refines s m.at n m rows → Advanced s m.at n thread after new true line) → AreLeft rows new →
+    Appends between now line → HasRun s after.at n thread first after new before now
 run_shows s n thread first m after rows new before between now line run ahead left put =
-    let gone : Advanced s m.at n thread after new true line = ahead run.stands in
+    let gone : Advanced s m.at n thread after new true line = ahead run.refines in
     let Told : List ℕ → Type 0 = λ x. Appends before now x in
     record {
-      put = subst Told (sym gone.last) (appends_more before between now (text (events s thread m.at)) line run.put put);
-      stands = gone.stands;
-      left = λ i below. left_more (row_at first i) (row_at rows i) (row_at new i) (run.left i below) (left i below);
+      put =
+          subst Told (sym gone.last)
+          (appends_more before between now (text (events s thread m.at)) line run.put put);
+      refines = gone.refines;
+      left =
+          λ i below. left_more (row_at first i) (row_at rows i) (row_at new i) (run.left i below)
+          (left i below);
     }
 
 -- bytes, and then a front of others
-pub beyond : (before between now : Option (List ℕ)) (xs ys : List ℕ) → Appends before between xs → AppendsFront between now ys → AppendsBeyond before now xs
+pub beyond : (before between now : Option (List ℕ)) (xs ys : List ℕ) → Appends before between xs →
+    AppendsFront between now ys → AppendsBeyond before now xs
 beyond None between now xs ys first second = tt
 beyond (Some told) None now xs ys first second = absurd first
 beyond (Some told) (Some more) None xs ys first second = absurd second
-beyond (Some told) (Some more) (Some most) xs ys first (n, within, taken) = (take n ys, taken ∙ ap (λ zs. zs ++ take n ys) first)
+beyond (Some told) (Some more) (Some most) xs ys first (n, within, taken) =
+    (take n ys, taken ∙ ap (λ zs. zs ++ take n ys) first)
 
 -- a run that stops at a line, of which a front was put
-pub run_stops : EventsGrow → (s : Start) (n thread : ℕ) (first : List (Option Row)) (m after : Machine) (rows new : List (Option Row)) (before between now : Option (List ℕ)) (line : List ℕ) → after.at ≤ n →
-    HasRun s m.at n thread first m rows before between → (StandsFor s m.at n m rows → Advanced s m.at n thread after new true line) → AreLeft rows new → AppendsFront between now line → Stopped s n thread first after new before now
-run_stops grows s n thread first m after rows new before between now line within run ahead left put =
-    let gone : Advanced s m.at n thread after new true line = ahead run.stands in
+pub run_stops : EventsGrow → (s : Start) (n thread : ℕ) (first : List (Option Row))
+    (m after : Machine) (rows new : List (Option Row)) (before between now : Option (List ℕ))
+    (line : List ℕ) → after.at ≤ n → HasRun s m.at n thread first m rows before between →
+    (Refines s m.at n m rows → Advanced s m.at n thread after new true line) → AreLeft rows new →
+    AppendsFront between now line → Stopped s n thread first after new before now
+run_stops grows s n thread first m after rows new
+    before between now line within run ahead left put =
+    let gone : Advanced s m.at n thread after new true line = ahead run.refines in
     let told : List ℕ = text (events s thread m.at) in
     let (rest, goes) = text_goes_on grows s thread after.at (n - after.at) in
     let end : n ≡ after.at + (n - after.at) = omega (arith, within) in
-    let whole : text (events s thread n) ≡ (told ++ line) ++ rest = ap (λ c. text (events s thread c)) end ∙ goes ∙ ap (λ zs. zs ++ rest) gone.last in
+    let whole : text (events s thread n) ≡ (told ++ line) ++ rest =
+    ap (λ c. text (events s thread c)) end ∙ goes ∙ ap (λ zs. zs ++ rest) gone.last in
     let Beyond : List ℕ → Type 0 = λ x. AppendsBeyond before now x in
     let Front : List ℕ → Type 0 = λ x. AppendsFront before now x in
     record {
-      put = appends_front before between now told line rest (text (events s thread n)) whole run.put put;
-      before_last = subst Beyond (sym (gone.quiet refl)) (beyond before between now told line run.put put);
-      with_last = subst Front (sym gone.last) (front_after before between now told line run.put put);
+      put =
+          appends_front before between now told line rest
+          (text (events s thread n)) whole run.put put;
+      before_last =
+          subst Beyond (sym (gone.quiet refl)) (beyond before between now told line run.put put);
+      with_last =
+          subst Front (sym gone.last) (front_after before between now told line run.put put);
       within = within;
-      stands = gone.stands;
-      left = λ i below. left_more (row_at first i) (row_at rows i) (row_at new i) (run.left i below) (left i below);
+      refines = gone.refines;
+      left =
+          λ i below. left_more (row_at first i) (row_at rows i) (row_at new i) (run.left i below)
+          (left i below);
     }
 
 -- a run, by an equal number of cycles
-pub run_comes_to : {s : Start} {k c n thread : ℕ} {first : List (Option Row)} {m : Machine} {rows : List (Option Row)} {before now : Option (List ℕ)} → k ≡ c → HasRun s k n thread first m rows before now → HasRun s c n thread first m rows before now
+pub run_comes_to : {s : Start} {k c n thread : ℕ} {first : List (Option Row)}
+    {m : Machine} {rows : List (Option Row)} {before now : Option (List ℕ)} → k ≡ c →
+    HasRun s k n thread first m rows before now → HasRun s c n thread first m rows before now
 run_comes_to {s} {k} {c} {n} {thread} {first} {m} {rows} {before} {now} same run =
     let Run : ℕ → Type 0 = λ a. HasRun s a n thread first m rows before now in
     subst Run same run

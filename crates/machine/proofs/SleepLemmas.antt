@@ -1,5 +1,7 @@
 -- Cycles in which nobody is awake and nothing is in the pipeline.
-use Rattle.std.proofs.Common.{◌≡◌, ℕ, zero, suc, ◌+◌, ◌-◌, ◌*◌, ◌<◌, ◌≤◌, ◌%◌, inl, inr, Bool, true, false, List, [], ◌∷◌, ◌++◌, get_or, length, map, find, None, Option, refl, ap, sym, subst, ◌∙◌, arith, add-one, add-zero}
+use Rattle.std.proofs.Common.{◌≡◌, ℕ, zero, suc, ◌+◌, ◌-◌, ◌*◌, ◌<◌, ◌≤◌, ◌%◌, inl, inr, Bool}
+use Rattle.std.proofs.Common.{true, false, List, [], ◌∷◌, ◌++◌, get_or, length, map, find}
+use Rattle.std.proofs.Common.{None, Option, refl, ap, sym, subst, ◌∙◌, arith, add-one, add-zero}
 use Rattle.std.specs.Prelude.{◌==◌, ◌&&◌, nat_le, is_some}
 use Rattle.std.specs.List.{list_any}
 use Rattle.std.specs.Int.{div_ceil}
@@ -9,27 +11,32 @@ use Rattle.std.proofs.lemmas.Grind.{div_ceil_times}
 use Rattle.std.proofs.lemmas.Bool.{cases_lt}
 use Rattle.std.proofs.lemmas.Bool.Decides.{nat_tests}
 use Rattle.std.proofs.lemmas.List.{append-nil}
-use Rattle.fp_ports.specs.Rows.{Row}
+use Rattle.fp_ports.specs.PluggedPorts.{Row}
 use Rattle.rv_exec.specs.declared.outcome.Event.{Event}
 use Rattle.slot_table.specs.Frame.{IsTurn, turn}
 use Rattle.slot_table.specs.declared.frame.Turn.{Turn}
 use Rattle.slot_table.specs.declared.frame.Turn.TheVariants.{Thread, Soft, Nobody}
 use Rattle.slot_table.proofs.Turns.{IsTurn-turn}
 use Rattle.slot_scheduler.specs.ModeWord.{is_active, mode_of}
-use Rattle.slot_scheduler.specs.Picking.{Picked, after_last, donated, found, is_awake, pick, pick_in, takes_donated}
+use Rattle.slot_scheduler.specs.Picking.{Picked, after_last, donation, pick_of_search}
+use Rattle.slot_scheduler.specs.Picking.{is_awake, pick, pick_in, takes_donated}
 use Rattle.slot_scheduler.specs.declared.picking.Pick.TheVariants as chosen
 use Rattle.slot_scheduler.specs.declared.picking.Sched.{Sched}
 use Rattle.timer_unit.specs.Time.{time}
 use Rattle.trace_print.specs.Text.{text}
-use Rattle.world_model.specs.World.{Start, events, sched_by}
+use Rattle.core_model.specs.World.{Start, events, sched_by}
 use Rattle.pipe_model.specs.declared.stage_registers.Held.TheVariants as stage
-use Rattle.pipe_model.specs.Stages.{After, StageRegisters, Ticked, advanced, bank_after, decode_stage, execute_stage, fetch_stage, finish, memory_stage, ports_stored, redirected, retired, step, words_stored, writeback_stage}
-use Rattle.pipe_model.specs.Relation.{Begins, Kept, Shows, Stands, event_in, of_thread, turn_at}
+use Rattle.pipe_model.specs.Stages.{After, StageRegisters, Ticked, next_after_fetch}
+use Rattle.pipe_model.specs.Stages.{bank_after, decode_stage, execute_stage, fetch_stage}
+use Rattle.pipe_model.specs.Stages.{finish, memory_stage, ports_stored, next_after_redirect}
+use Rattle.pipe_model.specs.Stages.{retired_event, step, words_stored, writeback_stage}
+use Rattle.pipe_model.specs.Relation.{Begins, RefinesNext, PortsRefine}
+use Rattle.pipe_model.specs.Relation.{Refines as PipelineRefines, event_in, of_thread, turn_at}
 use Rattle.pipe_model.specs.PipelineLaws.{EventsGrow, empty}
 use Rattle.pipe_model.proofs.Keeping.{keeps}
-use Rattle.pipeline_core.specs.AsDefined.{stage_registers_as_defined, state_as_defined, ticked_as_defined}
+use Rattle.pipeline_core.specs.Abstraction.{abstract_stages, abstract_state, abstract_ticked}
 use Rattle.machine.specs.declared.state.Machine.{Machine}
-use Rattle.machine.specs.WorldRelation.{HasRun, StandsFor, Ticks}
+use Rattle.machine.specs.WorldRelation.{HasRun, Refines, Ticks}
 use Rattle.machine.specs.Sleeping.{NobodyAwake, PassedOver, SleepsOn}
 use Rattle.machine.proofs.Retiring.{none_due}
 use Rattle.machine.proofs.RunLemmas.{run_begins, ticks}
@@ -39,19 +46,24 @@ false-right true = refl
 false-right false = refl
 
 -- a search among threads of which none passes
-nobody_found : (p : ℕ → Bool) (last : ℕ) (steps : List ℕ) → ((thread : ℕ) → thread < 8 → p thread ≡ false) → find p (map (λ d. (last + d) % 8) steps) ≡ None
+nobody_found : (p : ℕ → Bool) (last : ℕ) (steps : List ℕ) →
+    ((thread : ℕ) → thread < 8 → p thread ≡ false) → find p (map (λ d. (last + d) % 8) steps) ≡ None
 nobody_found p last [] none = refl
 nobody_found p last (d ∷ steps) none =
     let small : (last + d) % 8 < 8 = omega arith in
     rw (none ((last + d) % 8) small) (nobody_found p last steps none)
 
-none_donated : (s : Sched) (now last : ℕ) → NobodyAwake s now → donated s now last ≡ record { pick = chosen.Bubble; last = last }
-unfolding donated after_last
+none_donated : (s : Sched) (now last : ℕ) → NobodyAwake s now →
+    donation s now last ≡ record { pick = chosen.Bubble; last = last }
+unfolding donation after_last
 none_donated s now last asleep =
-    let none : (thread : ℕ) → thread < 8 → takes_donated s now thread ≡ false = λ thread below. rw (asleep thread below) (false-right (mode_of s.modes thread == 2)) in
-    ap (λ (o : Option ℕ). found o last) (nobody_found (takes_donated s now) last (1 ∷ 2 ∷ 3 ∷ 4 ∷ 5 ∷ 6 ∷ 7 ∷ 8 ∷ []) none)
+    let none : (thread : ℕ) → thread < 8 → takes_donated s now thread ≡ false =
+    λ thread below. rw (asleep thread below) (false-right (mode_of s.modes thread == 2)) in
+    ap (λ (o : Option ℕ). pick_of_search o last)
+    (nobody_found (takes_donated s now) last (1 ∷ 2 ∷ 3 ∷ 4 ∷ 5 ∷ 6 ∷ 7 ∷ 8 ∷ []) none)
 
-nobody_picked : (s : Sched) (cycle now last : ℕ) → NobodyAwake s now → pick s cycle now last ≡ record { pick = chosen.Bubble; last = last }
+nobody_picked : (s : Sched) (cycle now last : ℕ) → NobodyAwake s now →
+    pick s cycle now last ≡ record { pick = chosen.Bubble; last = last }
 unfolding pick
 nobody_picked s cycle now last asleep = go (turn s.slots cycle) (IsTurn-turn s.slots cycle)
   where
@@ -61,108 +73,151 @@ nobody_picked s cycle now last asleep = go (turn s.slots cycle) (IsTurn-turn s.s
     go (Thread k) is = rw (asleep k is) (none_donated s now last asleep)
 
 pub sleeps_on : SleepsOn
-unfolding step bank_after writeback_stage retired memory_stage words_stored ports_stored execute_stage decode_stage redirected fetch_stage advanced
+unfolding step bank_after writeback_stage retired_event memory_stage words_stored ports_stored
+    execute_stage decode_stage next_after_redirect fetch_stage next_after_fetch
 sleeps_on next u c asleep =
     let left : After = record { e = stage.Bubble; control = u.control; redirect = None } in
-    ap (λ (picked : Picked). finish (empty next) u c picked stage.Bubble left) (nobody_picked (sched_by u.control.registers u.control.sleeps) c (time u.period c) u.last asleep)
+    ap (λ (picked : Picked). finish (empty next) u c picked stage.Bubble left) (nobody_picked
+    (sched_by u.control.registers u.control.sleeps) c (time u.period c) u.last asleep)
 
 -- the machine, come to another cycle
 abbrev pub come_to : Machine → ℕ → Machine
 come_to m c = record m { at = c }
 
 -- one cycle that is passed over
-slept : (s : Start) (c n : ℕ) (m : Machine) (rows : List (Option Row)) → length rows ≡ 8 → list_any is_some m.unplugs ≡ false → stage_registers_as_defined m.pipe ≡ empty m.pipe.next →
-    NobodyAwake m.units.sched (time m.units.clock c) → c < n + 3 → StandsFor s c n (come_to m c) rows → Ticks s c n rows (come_to m (suc c)) rows None
+slept : (s : Start) (c n : ℕ) (m : Machine) (rows : List (Option Row)) → length rows ≡ 8 →
+    list_any is_some m.unplugs ≡ false → abstract_stages m.pipe ≡ empty m.pipe.next →
+    NobodyAwake m.units.sched (time m.units.clock c) → c < n + 3 →
+    Refines s c n (come_to m c) rows → Ticks s c n rows (come_to m (suc c)) rows None
 slept s c n m rows eight none is asleep within st =
-    ticks s n (come_to m c) (come_to m (suc c)) rows rows rows None eight (sym (none_due m.unplugs c rows 8 none)) within st kept (sym (add-one c)) refl
+    ticks s n (come_to m c) (come_to m (suc c)) rows rows rows None eight
+    (sym (none_due m.unplugs c rows 8 none)) within st kept (sym (add-one c)) refl
   where
-    same : step (stage_registers_as_defined m.pipe) (state_as_defined m.units rows) c ≡ ticked_as_defined m.pipe m.units rows None
+    same : step (abstract_stages m.pipe) (abstract_state m.units rows) c
+        ≡ abstract_ticked m.pipe m.units rows None
     same =
-        ap (λ (p : StageRegisters). step p (state_as_defined m.units rows) c) is ∙ sleeps_on m.pipe.next (state_as_defined m.units rows) c asleep
-        ∙ ap (λ (p : StageRegisters). let t : Ticked = record { stage_registers = p; state = state_as_defined m.units rows; event = None } in t) (sym is)
+        ap (λ (p : StageRegisters). step p (abstract_state m.units rows) c) is
+        ∙ sleeps_on m.pipe.next (abstract_state m.units rows) c asleep
+        ∙ ap (λ (p : StageRegisters). let t : Ticked = record {
+          stage_registers = p;
+          state = abstract_state m.units rows;
+          event = None;
+        } in t) (sym is)
 
-    kept : Begins s → Shows s c rows → Stands s c (stage_registers_as_defined m.pipe) (state_as_defined m.units rows) → Kept s c rows (ticked_as_defined m.pipe m.units rows None)
-    kept begins shows stands = subst (λ (t : Ticked). Kept s c rows t) same (keeps s c (stage_registers_as_defined m.pipe) (state_as_defined m.units rows) begins shows stands)
+    kept : Begins s → PortsRefine s c rows →
+        PipelineRefines s c (abstract_stages m.pipe) (abstract_state m.units rows) →
+        RefinesNext s c rows (abstract_ticked m.pipe m.units rows None)
+    kept begins shows refines =
+        subst (λ (t : Ticked). RefinesNext s c rows t) same
+        (keeps s c (abstract_stages m.pipe) (abstract_state m.units rows) begins shows refines)
 
 -- where the machine stays no cycle is passed over
-pub stays : (s : Start) (n : ℕ) (m : Machine) (rows : List (Option Row)) → StandsFor s m.at n m rows → PassedOver s m.at n m rows
-stays s n m rows st = record { stands = st; quiet = λ k low below. absurd (omega arith) }
+pub stays : (s : Start) (n : ℕ) (m : Machine) (rows : List (Option Row)) → Refines s m.at n m rows →
+    PassedOver s m.at n m rows
+stays s n m rows st = record { refines = st; quiet = λ k low below. absurd (omega arith) }
 
-passes : (s : Start) (c n j : ℕ) (m : Machine) (rows : List (Option Row)) → length rows ≡ 8 → list_any is_some m.unplugs ≡ false → stage_registers_as_defined m.pipe ≡ empty m.pipe.next →
-    ((k : ℕ) → c ≤ k → k < c + j → NobodyAwake m.units.sched (time m.units.clock k)) → c + j ≤ n + 3 → StandsFor s c n (come_to m c) rows → PassedOver s c n (come_to m (c + j)) rows
+passes : (s : Start) (c n j : ℕ) (m : Machine) (rows : List (Option Row)) → length rows ≡ 8 →
+    list_any is_some m.unplugs ≡ false → abstract_stages m.pipe ≡ empty m.pipe.next →
+    ((k : ℕ) → c ≤ k → k < c + j → NobodyAwake m.units.sched (time m.units.clock k)) →
+    c + j ≤ n + 3 → Refines s c n (come_to m c) rows → PassedOver s c n (come_to m (c + j)) rows
 passes s c n zero m rows eight none is asleep within st =
-    subst (λ (d : ℕ). PassedOver s c n (come_to m d) rows) (sym (add-zero c)) (stays s n (come_to m c) rows st)
+    subst (λ (d : ℕ). PassedOver s c n (come_to m d) rows) (sym (add-zero c))
+    (stays s n (come_to m c) rows st)
 passes s c n (suc j) m rows eight none is asleep within st =
     let next : c + suc j ≡ suc (c + j) = omega arith in
-    let before : PassedOver s c n (come_to m (c + j)) rows = passes s c n j m rows eight none is (λ k low below. asleep k low (omega arith)) (omega arith) st in
-    let ticked : Ticks s (c + j) n rows (come_to m (suc (c + j))) rows None = slept s (c + j) n m rows eight none is (asleep (c + j) (omega arith) (omega arith)) (omega arith) before.stands in
-    let quiet : (k : ℕ) → c ≤ k → k < suc (c + j) → event_in (k - 4) (turn_at s k 3) ≡ None = λ k low below.
-    elim (cases_lt k (c + j)) [
+    let before : PassedOver s c n (come_to m (c + j)) rows = passes s c n j m rows eight none is
+    (λ k low below. asleep k low (omega arith)) (omega arith) st in
+    let ticked : Ticks s (c + j) n rows (come_to m (suc (c + j))) rows None = slept s (c + j) n m
+    rows eight none is (asleep (c + j) (omega arith) (omega arith)) (omega arith) before.refines in
+    let quiet : (k : ℕ) → c ≤ k → k < suc (c + j) → event_in (k - 4) (turn_at s k 3) ≡ None =
+    λ k low below. elim (cases_lt k (c + j)) [
       | inl sooner ↦ before.quiet k low sooner
-      | inr last ↦ (let here : c + j ≡ k = omega arith in subst (λ (d : ℕ). event_in (d - 4) (turn_at s d 3) ≡ None) here (sym ticked.event_is))
+      | inr last ↦
+          (let here : c + j ≡ k = omega arith in
+          subst (λ (d : ℕ). event_in (d - 4) (turn_at s d 3) ≡ None) here (sym ticked.event_is))
     ] in
-    let done : PassedOver s c n (come_to m (suc (c + j))) rows = record { stands = ticked.stands; quiet = quiet } in
+    let done : PassedOver s c n (come_to m (suc (c + j))) rows =
+    record { refines = ticked.refines; quiet = quiet } in
     subst (λ (d : ℕ). PassedOver s c n (come_to m d) rows) (sym next) done
 
 -- the cycles up to d are passed over
-pub passed_over : (s : Start) (n d : ℕ) (m : Machine) (rows : List (Option Row)) → length rows ≡ 8 → list_any is_some m.unplugs ≡ false → stage_registers_as_defined m.pipe ≡ empty m.pipe.next → m.at ≤ d →
-    ((k : ℕ) → m.at ≤ k → k < d → NobodyAwake m.units.sched (time m.units.clock k)) → d ≤ n + 3 → StandsFor s m.at n m rows → PassedOver s m.at n (come_to m d) rows
+pub passed_over : (s : Start) (n d : ℕ) (m : Machine) (rows : List (Option Row)) → length rows ≡ 8 →
+    list_any is_some m.unplugs ≡ false → abstract_stages m.pipe ≡ empty m.pipe.next → m.at ≤ d →
+    ((k : ℕ) → m.at ≤ k → k < d → NobodyAwake m.units.sched (time m.units.clock k)) → d ≤ n + 3 →
+    Refines s m.at n m rows → PassedOver s m.at n (come_to m d) rows
 passed_over s n d m rows eight none is forth asleep within st =
     let there : m.at + (d - m.at) ≡ d = omega (arith, forth) in
     subst (λ (e : ℕ). PassedOver s m.at n (come_to m e) rows) there
-    (passes s m.at n (d - m.at) m rows eight none is (λ k low below. asleep k low (omega (arith, forth, below))) (omega (arith, forth, within)) st)
+    (passes s m.at n (d - m.at) m rows eight none is
+    (λ k low below. asleep k low (omega (arith, forth, below))) (omega (arith, forth, within)) st)
 
 -- a cycle before the first one that reaches a moment
-sooner : (moment length cycles period c : ℕ) → cycles * length < moment + length → c < cycles → period ≤ length → period * c < moment
+sooner : (moment length cycles period c : ℕ) → cycles * length < moment + length → c < cycles →
+    period ≤ length → period * c < moment
 sooner moment length cycles period c short below long =
     let up : (c + 1) * length ≤ cycles * length = grind arith in
     let slower : c * period ≤ c * length = mul-le-mul_left c long in
     omega arith
 
-pub before_moment : (moment length cycles period c : ℕ) → cycles ≡ div_ceil moment length → 0 < length → period ≤ length → c < cycles → time period c < moment
+pub before_moment : (moment length cycles period c : ℕ) → cycles ≡ div_ceil moment length →
+    0 < length → period ≤ length → c < cycles → time period c < moment
 before_moment moment length cycles period c are some long below =
     let short : cycles * length < moment + length = rw are (div_ceil_times moment length some).1 in
     sooner moment length cycles period c short below long
 
 -- before the least sleep moment of the active threads nobody is awake
-pub before_waking : (s : Sched) (wakes now : ℕ) → ((thread : ℕ) → thread < 8 → is_active (mode_of s.modes thread) ≡ true → wakes ≤ get_or s.sleep thread 0) → now < wakes → NobodyAwake s now
+pub before_waking : (s : Sched) (wakes now : ℕ) →
+    ((thread : ℕ) → thread < 8 → is_active (mode_of s.modes thread) ≡ true →
+    wakes ≤ get_or s.sleep thread 0) → now < wakes → NobodyAwake s now
 unfolding is_awake
 before_waking s wakes now least before thread below = go (is_active (mode_of s.modes thread)) refl
   where
     late : (moment : ℕ) → wakes ≤ moment → nat_le moment now ≡ false
     late moment h = grind (arith, nat_tests)
 
-    go : (active : Bool) → is_active (mode_of s.modes thread) ≡ active → (active && nat_le (get_or s.sleep thread 0) now) ≡ false
+    go : (active : Bool) → is_active (mode_of s.modes thread) ≡ active →
+        (active && nat_le (get_or s.sleep thread 0) now) ≡ false
     go false e = refl
     go true e = late (get_or s.sleep thread 0) (least thread below e)
 
 -- a thread has no event more after cycles in which none retires
-quiet_events : EventsGrow → (s : Start) (i c j : ℕ) → ((k : ℕ) → c ≤ k → k < c + j → event_in (k - 4) (turn_at s k 3) ≡ None) → events s i (c + j) ≡ events s i c
+quiet_events : EventsGrow → (s : Start) (i c j : ℕ) →
+    ((k : ℕ) → c ≤ k → k < c + j → event_in (k - 4) (turn_at s k 3) ≡ None) →
+    events s i (c + j) ≡ events s i c
 quiet_events grows s i c zero quiet = ap (λ d. events s i d) (add-zero c)
 quiet_events grows s i c (suc j) quiet =
     let next : c + suc j ≡ suc (c + j) = omega arith in
     ap (λ d. events s i d) next ∙ grows s i (c + j)
-    ∙ ap (λ (e : Option Event). events s i (c + j) ++ of_thread i e) (quiet (c + j) (omega arith) (omega arith))
-    ∙ append-nil (events s i (c + j))
+    ∙ ap (λ (e : Option Event). events s i (c + j) ++ of_thread i e)
+    (quiet (c + j) (omega arith) (omega arith)) ∙ append-nil (events s i (c + j))
     ∙ quiet_events grows s i c j (λ k low below. quiet k low (omega arith))
 
-pub no_events_passed : EventsGrow → (s : Start) (i c n : ℕ) (m : Machine) (rows : List (Option Row)) → c ≤ m.at → PassedOver s c n m rows → events s i m.at ≡ events s i c
+pub no_events_passed : EventsGrow → (s : Start) (i c n : ℕ) (m : Machine)
+    (rows : List (Option Row)) → c ≤ m.at → PassedOver s c n m rows → events s i m.at ≡ events s i c
 no_events_passed grows s i c n m rows forth passed =
     let there : c + (m.at - c) ≡ m.at = omega (arith, forth) in
-    ap (λ d. events s i d) (sym there) ∙ quiet_events grows s i c (m.at - c) (λ k low below. passed.quiet k low (omega (arith, forth, below)))
+    ap (λ d. events s i d) (sym there) ∙ quiet_events grows s i c (m.at - c)
+    (λ k low below. passed.quiet k low (omega (arith, forth, below)))
 
 -- a run goes on over cycles that are passed over
-pub run_passes : EventsGrow → (s : Start) (k n thread : ℕ) (first : List (Option Row)) (m after : Machine) (rows : List (Option Row)) (before now : Option (List ℕ)) → m.at ≡ k → m.at ≤ after.at →
-    (StandsFor s m.at n m rows → PassedOver s m.at n after rows) → HasRun s k n thread first m rows before now → HasRun s after.at n thread first after rows before now
+pub run_passes : EventsGrow → (s : Start) (k n thread : ℕ) (first : List (Option Row))
+    (m after : Machine) (rows : List (Option Row)) (before now : Option (List ℕ)) →
+    m.at ≡ k → m.at ≤ after.at → (Refines s m.at n m rows → PassedOver s m.at n after rows) →
+    HasRun s k n thread first m rows before now →
+    HasRun s after.at n thread first after rows before now
 run_passes grows s k n thread first m after rows before now at forth passes run =
-    let Stand : ℕ → Type 0 = λ c. StandsFor s c n m rows in
-    let passed : PassedOver s m.at n after rows = passes (subst Stand (sym at) run.stands) in
-    let same : events s thread after.at ≡ events s thread k = no_events_passed grows s thread m.at n after rows forth passed ∙ ap (λ c. events s thread c) at in
+    let Stand : ℕ → Type 0 = λ c. Refines s c n m rows in
+    let passed : PassedOver s m.at n after rows = passes (subst Stand (sym at) run.refines) in
+    let same : events s thread after.at ≡ events s thread k =
+    no_events_passed grows s thread m.at n after rows forth passed
+    ∙ ap (λ c. events s thread c) at in
     let Told : List Event → Type 0 = λ es. Appends before now (text es) in
-    record { put = subst Told (sym same) run.put; stands = passed.stands; left = run.left }
+    record { put = subst Told (sym same) run.put; refines = passed.refines; left = run.left }
 
 -- the run of a machine that has done no cycle
-pub run_begins_at : (s : Start) (n thread : ℕ) (m : Machine) (rows : List (Option Row)) (told : Option (List ℕ)) → m.at ≡ 0 → StandsFor s 0 n m rows → HasRun s m.at n thread rows m rows told told
+pub run_begins_at : (s : Start) (n thread : ℕ) (m : Machine) (rows : List (Option Row))
+    (told : Option (List ℕ)) → m.at ≡ 0 → Refines s 0 n m rows →
+    HasRun s m.at n thread rows m rows told told
 run_begins_at s n thread m rows told start st =
     let Run : ℕ → Type 0 = λ c. HasRun s c n thread rows m rows told told in
     subst Run (sym start) (run_begins s n thread m rows told st)

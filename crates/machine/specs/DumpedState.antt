@@ -3,30 +3,35 @@
 -- issues up to cycle n - 5, memory and latches those up to n - 4, timers, trap registers, sleep
 -- moments and the machine's own registers those up to n - 3. Before cycle 0 stands the start.
 -- Source: this project's format of dumps.
-use Rattle.std.specs.Prelude.{ℕ, ◌+◌, ◌-◌, ◌*◌, ◌/◌, ◌==◌, nat_lt, Bool, true, false, ◌&&◌, if◌then◌else◌, List, [], ◌∷◌, ◌++◌, flat_map, slice_index_or, Option, Some, None, codes}
+use Rattle.std.specs.Prelude.{ℕ, ◌+◌, ◌-◌, ◌*◌, ◌/◌, ◌==◌, nat_lt, Bool, true}
+use Rattle.std.specs.Prelude.{false, ◌&&◌, if◌then◌else◌, List, [], ◌∷◌, ◌++◌}
+use Rattle.std.specs.Prelude.{flat_map, slice_index_or, Option, Some, None, codes}
 use Rattle.std.specs.List.{list_all, range_with_len}
 use Rattle.region_guard.specs.MemoryMap.{data_start}
 use Rattle.core_model.specs.declared.own.Trapping.{Trapping}
 use Rattle.core_model.specs.Thread.{reg_in}
-use Rattle.trace_print.specs.declared.dump_lines.Held.{Held}
-use Rattle.trace_print.specs.declared.dump_lines.Held.TheVariants.{Nothing, Picked, Flushed, Issue}
-use Rattle.trace_print.specs.DumpLines.{cycles_text, stage_text, word_text, thread_words_text, timer_text, latch_text, memory_text}
+use Rattle.trace_print.specs.declared.dump_lines.StageContent.{StageContent}
+use Rattle.trace_print.specs.declared.dump_lines.StageContent.TheVariants.{Nothing, Picked}
+use Rattle.trace_print.specs.declared.dump_lines.StageContent.TheVariants.{Flushed, Issue}
+use Rattle.trace_print.specs.DumpLines.{cycles_text, stage_text, word_text, thread_words_text}
+use Rattle.trace_print.specs.DumpLines.{timer_text, latch_text, memory_text}
 use Rattle.timer_unit.specs.declared.row.Timer.{Timer}
-use Rattle.world_model.specs.World.{Start, Took, Registers, thread_of, world}
-use Rattle.world_model.specs.World.Took.{Idle, Lost, Ran}
+use Rattle.core_model.specs.World.{Start, Took, Registers, thread_of, world}
+use Rattle.core_model.specs.World.Took.{Idle, Lost, Ran}
+use Rattle.core_model.specs.Cycles.{cycles_to_w}
 
 -- the turn of cycle n - 1 - e, nobody's before cycle 0
 abbrev pub turn_before : Start → ℕ → ℕ → Took
 turn_before s n e = slice_index_or (world s n).turns e Idle
 
 -- what the first stage shows of a turn, and the later ones
-abbrev pub picked_in : Took → Held
+abbrev pub picked_in : Took → StageContent
 picked_in Idle = Nothing
 picked_in (Lost k) = Picked k
 picked_in (Ran k pc word effect) = Picked k
 
 -- what a later stage shows
-abbrev pub held_in : Took → Held
+abbrev pub held_in : Took → StageContent
 held_in Idle = Nothing
 held_in (Lost k) = Flushed k
 held_in (Ran k pc word effect) = Issue k pc word
@@ -50,7 +55,8 @@ shared_seen r =
 
 -- eight values in a row
 abbrev pub eight_from : (ℕ → ℕ) → ℕ → List ℕ
-eight_from f k = f k ∷ f (k + 1) ∷ f (k + 2) ∷ f (k + 3) ∷ f (k + 4) ∷ f (k + 5) ∷ f (k + 6) ∷ f (k + 7) ∷ []
+eight_from f k =
+    f k ∷ f (k + 1) ∷ f (k + 2) ∷ f (k + 3) ∷ f (k + 4) ∷ f (k + 5) ∷ f (k + 6) ∷ f (k + 7) ∷ []
 
 -- the registers of a thread, eight a line
 abbrev pub registers_seen : ℕ → List ℕ → List ℕ
@@ -70,14 +76,14 @@ timer_seen i t sleep = timer_text i t.armed sleep t.high
 
 -- whether a port that was handed in is still there after n cycles: the issues from its unplugging
 -- on find none, and they come to it three cycles later
-abbrev pub is_kept : Option ℕ → ℕ → Bool
-is_kept None n = true
-is_kept (Some unplug) n = nat_lt n (unplug + 4)
+abbrev pub is_port_left : Option ℕ → ℕ → Bool
+is_port_left None n = true
+is_port_left (Some unplug) n = nat_lt n (unplug + cycles_to_w)
 
 -- its latch, where it is there
 abbrev pub latch_seen : Start → ℕ → ℕ → Option ℕ
 latch_seen s n i =
-    if slice_index_or s.handed i false && is_kept (slice_index_or s.unplugs i None) n
+    if slice_index_or s.handed i false && is_port_left (slice_index_or s.unplugs i None) n
     then Some (slice_index_or (world s (n - 3)).latches i 0)
     else None
 
@@ -85,8 +91,9 @@ latch_seen s n i =
 abbrev pub thread_seen : Start → ℕ → ℕ → List ℕ
 thread_seen s n i =
     let own = (thread_of (world s (n - 2)) i).own in
-    registers_seen i (thread_of (world s (n - 4)) i).regs
-    ++ (traps_seen i own.trap ++ (timer_seen i own.timer own.sleep ++ latch_text i (latch_seen s n i)))
+    registers_seen i (thread_of (world s (n - cycles_to_w)) i).regs
+    ++ (traps_seen i own.trap
+    ++ (timer_seen i own.timer own.sleep ++ latch_text i (latch_seen s n i)))
 
 -- eight words of the data scratchpad, by the number of the line, where they aren't all 0
 unfoldable pub words_seen : List ℕ → ℕ → List ℕ

@@ -1,9 +1,9 @@
 -- The inputs of a setup, fed to the ports.
 use Rattle.std.specs.Prelude.{◌≡◌, ℕ, zero, suc, List, take, fold, slice_set, Option}
-use Rattle.fp_ports.specs.Rows.{Row, row_at, fed}
+use Rattle.fp_ports.specs.PluggedPorts.{Row, row_at, fed}
 use Rattle.fp_setup.specs.declared.input_list.Input.{Input}
 use Rattle.fp_setup.specs.Settings.{Settings}
-use Rattle.setup_model.specs.Start.{thread_of}
+use Rattle.setup_model.specs.Start.{thread_setup_of}
 
 -- one word fed to a thread's port, and words fed in order
 abbrev pub fed_word : ℕ → List (Option Row) → Input → List (Option Row)
@@ -15,7 +15,7 @@ fed_words thread ports inputs = fold (fed_word thread) ports inputs
 -- the inputs of the first k threads, threads rising
 abbrev pub fed_first : Settings → List (Option Row) → ℕ → List (Option Row)
 fed_first s ports zero = ports
-fed_first s ports (suc k) = fed_words k (fed_first s ports k) (thread_of s k).inputs
+fed_first s ports (suc k) = fed_words k (fed_first s ports k) (thread_setup_of s k).inputs
 
 -- all inputs
 abbrev pub fed_all : Settings → List (Option Row) → List (Option Row)
@@ -23,4 +23,6 @@ fed_all s ports = fed_first s ports 8
 
 -- some of them: those of the first threads, and of the next one the first inputs
 abbrev pub IsFedFront : Settings → List (Option Row) → List (Option Row) → Type 0
-IsFedFront s before after = (k : ℕ) × (j : ℕ) × (after ≡ fed_words k (fed_first s before k) (take j (thread_of s k).inputs))
+IsFedFront s before after =
+    (k : ℕ) × (j : ℕ)
+    × (after ≡ fed_words k (fed_first s before k) (take j (thread_setup_of s k).inputs))

@@ -1,12 +1,15 @@
 -- The lines of a dump by the machine's fields, each by its number.
-use Rattle.std.specs.Prelude.{ℕ, ◌+◌, ◌-◌, ◌/◌, ◌%◌, ◌==◌, nat_lt, not, ◌||◌, if◌then◌else◌, List, [], flat_map, slice_index_or, Bool, true, codes}
+use Rattle.std.specs.Prelude.{ℕ, ◌+◌, ◌-◌, ◌/◌, ◌%◌, ◌==◌, nat_lt, not, ◌||◌, if◌then◌else◌}
+use Rattle.std.specs.Prelude.{List, [], flat_map, slice_index_or, Bool, true, codes}
 use Rattle.std.specs.List.{range_with_len}
 use Rattle.region_guard.specs.Regions.{may_fetch}
 use Rattle.core_model.specs.Thread.{no_own}
-use Rattle.fp_ports.specs.Rows as rows
-use Rattle.trace_print.specs.declared.dump_lines.Held.{Held}
-use Rattle.trace_print.specs.declared.dump_lines.Held.TheVariants.{Nothing, Picked, Flushed, Issue}
-use Rattle.trace_print.specs.DumpLines.{cycles_text, stage_text, word_text, thread_words_text, latch_text}
+use Rattle.fp_ports.specs.PluggedPorts as rows
+use Rattle.trace_print.specs.declared.dump_lines.StageContent.{StageContent}
+use Rattle.trace_print.specs.declared.dump_lines.StageContent.TheVariants.{Nothing, Picked}
+use Rattle.trace_print.specs.declared.dump_lines.StageContent.TheVariants.{Flushed, Issue}
+use Rattle.trace_print.specs.DumpLines.{cycles_text, stage_text, word_text}
+use Rattle.trace_print.specs.DumpLines.{thread_words_text, latch_text}
 use Rattle.pipe_model.specs.declared.stage_registers.Held.{Held as InStage}
 use Rattle.pipe_model.specs.declared.stage_registers.Held.TheVariants as stage
 use Rattle.pipe_model.specs.declared.stage_registers.Fetched.{Fetched}
@@ -14,13 +17,13 @@ use Rattle.pipe_model.specs.declared.stage_registers.Decoded.{Decoded}
 use Rattle.pipe_model.specs.declared.stage_registers.Executed.{Executed}
 use Rattle.pipe_model.specs.declared.stage_registers.Stored.{Stored}
 use Rattle.pipe_model.specs.declared.stage_registers.Written.{Written}
-use Rattle.world_model.specs.World.{Registers}
+use Rattle.core_model.specs.World.{Registers}
 use Rattle.pipe_model.specs.Stages.{StageRegisters, State}
 use Rattle.machine.specs.DumpedState.{eight_from, traps_seen, timer_seen, words_seen}
 use Rattle.core_model.specs.Thread.{reg_in}
 
 -- what a stage register shows
-abbrev pub fetched_held : InStage Fetched → Held
+abbrev pub fetched_held : InStage Fetched → StageContent
 fetched_held stage.Bubble = Nothing
 fetched_held (stage.Flushed k) = Picked k
 fetched_held (stage.Issue k x) = Picked k
@@ -28,28 +31,31 @@ fetched_held (stage.Issue k x) = Picked k
 -- the word isn't shown where an expiry or a refused fetch will take the turn
 abbrev pub shown_word : ℕ → List Bool → ℕ → ℕ → Decoded → ℕ
 shown_word size confined iregions k x =
-    if x.expired || not (may_fetch k size (slice_index_or confined k true) iregions x.pc) then 0 else x.word
+    if x.expired || not (may_fetch k size (slice_index_or confined k true) iregions x.pc)
+    then 0
+    else x.word
 
 -- what the second stage shows
-abbrev pub decoded_held : ℕ → List Bool → ℕ → InStage Decoded → Held
+abbrev pub decoded_held : ℕ → List Bool → ℕ → InStage Decoded → StageContent
 decoded_held size confined iregions stage.Bubble = Nothing
 decoded_held size confined iregions (stage.Flushed k) = Flushed k
-decoded_held size confined iregions (stage.Issue k x) = Issue k x.pc (shown_word size confined iregions k x)
+decoded_held size confined iregions (stage.Issue k x) =
+    Issue k x.pc (shown_word size confined iregions k x)
 
 -- what the third stage shows
-abbrev pub executed_held : InStage Executed → Held
+abbrev pub executed_held : InStage Executed → StageContent
 executed_held stage.Bubble = Nothing
 executed_held (stage.Flushed k) = Flushed k
 executed_held (stage.Issue k x) = Issue k x.pc x.word
 
 -- what the fourth stage shows
-abbrev pub stored_held : InStage Stored → Held
+abbrev pub stored_held : InStage Stored → StageContent
 stored_held stage.Bubble = Nothing
 stored_held (stage.Flushed k) = Flushed k
 stored_held (stage.Issue k x) = Issue k x.pc x.word
 
 -- what the fifth stage shows
-abbrev pub written_held : InStage Written → Held
+abbrev pub written_held : InStage Written → StageContent
 written_held stage.Bubble = Nothing
 written_held (stage.Flushed k) = Flushed k
 written_held (stage.Issue k x) = Issue k x.pc x.word
@@ -71,12 +77,18 @@ head_line p size confined registers at k =
 -- the seven lines of a thread
 unfoldable pub thread_line : State → ℕ → ℕ → List ℕ
 thread_line u i k =
-    if k == 0 then thread_words_text i (codes "x00") (eight_from (reg_in (slice_index_or u.bank i [])) 0)
-    else if k == 1 then thread_words_text i (codes "x08") (eight_from (reg_in (slice_index_or u.bank i [])) 8)
-    else if k == 2 then thread_words_text i (codes "x16") (eight_from (reg_in (slice_index_or u.bank i [])) 16)
-    else if k == 3 then thread_words_text i (codes "x24") (eight_from (reg_in (slice_index_or u.bank i [])) 24)
+    if k == 0
+    then thread_words_text i (codes "x00") (eight_from (reg_in (slice_index_or u.bank i [])) 0)
+    else if k == 1
+    then thread_words_text i (codes "x08") (eight_from (reg_in (slice_index_or u.bank i [])) 8)
+    else if k == 2
+    then thread_words_text i (codes "x16") (eight_from (reg_in (slice_index_or u.bank i [])) 16)
+    else if k == 3
+    then thread_words_text i (codes "x24") (eight_from (reg_in (slice_index_or u.bank i [])) 24)
     else if k == 4 then traps_seen i (slice_index_or u.control.traps i no_own.trap)
-    else if k == 5 then timer_seen i (slice_index_or u.control.timers i no_own.timer) (slice_index_or u.control.sleeps i 0)
+    else if k == 5
+    then timer_seen i (slice_index_or u.control.timers i no_own.timer)
+    (slice_index_or u.control.sleeps i 0)
     else latch_text i (rows.latch_seen (rows.row_at u.ports i))
 
 -- any line; from number 66 on those of the data scratchpad
@@ -91,5 +103,5 @@ abbrev pub lines_before : StageRegisters → State → ℕ → ℕ → List ℕ
 lines_before p u at k = flat_map (dump_line p u at) (range_with_len 0 k)
 
 -- the whole dump, by the fields of a machine
-abbrev pub dumped : StageRegisters → State → ℕ → List ℕ
-dumped p u at = lines_before p u at (66 + u.size / 32)
+abbrev pub dump_of : StageRegisters → State → ℕ → List ℕ
+dump_of p u at = lines_before p u at (66 + u.size / 32)

@@ -7,12 +7,13 @@ pub mod Advancing
 pub mod Sleeping
 pub mod Feeding
 pub mod PortLaws
+pub use Rattle.core_model.specs.Cycles
 pub use Rattle.fp_io.specs.Causes
 pub use Rattle.fp_io.specs.Content
-pub use Rattle.fp_ports.specs.Rows
+pub use Rattle.fp_ports.specs.PluggedPorts
 pub use Rattle.pipe_model.specs.Stages
 pub use Rattle.pipeline_core.specs.StageFacts
 pub use Rattle.run_laws.specs.TraceLaws
 pub use Rattle.timer_unit.specs.Time
 pub use Rattle.trace_print.specs.Text
-pub use Rattle.world_model.specs.World
+pub use Rattle.core_model.specs.World

@@ -1,21 +1,24 @@
 -- The laws of feeding, and of the ports that are left.
 use Rattle.std.specs.Prelude.{◌≡◌, ℕ, ◌^◌, ◌≤◌, List, length, Option}
 use Rattle.fp_image.specs.declared.parts.Segment.{Segment}
-use Rattle.fp_ports.specs.Rows.{Row}
+use Rattle.fp_ports.specs.PluggedPorts.{Row}
 use Rattle.fp_setup.specs.Settings.{Settings}
 use Rattle.setup_model.specs.Start.{start}
-use Rattle.world_model.specs.World.{Start}
+use Rattle.core_model.specs.World.{Start}
 use Rattle.machine.specs.declared.state.Machine.{Machine}
 use Rattle.machine.specs.Feeding.{fed_all}
-use Rattle.machine.specs.WorldRelation.{StandsFor, AreLeft, PortsAfter, start_beside}
+use Rattle.machine.specs.WorldRelation.{Refines, AreLeft, PortsAfter, start_beside}
 
--- the start beside ports that were fed with the setup's inputs is the start of the setup beside the ports as
--- they were handed in
+-- the start beside ports that were fed with the setup's inputs is the start of the setup beside the
+-- ports as they were handed in
 abbrev pub FeedsStart : Type 0
-FeedsStart = (s : Settings) (image : List Segment) (ports : List (Option Row)) (n : ℕ) → length ports ≡ 8 → n ≤ 2 ^ 64 →
-    start_beside s image (fed_all s ports) n ≡ start s image ports n
+FeedsStart =
+    (s : Settings) (image : List Segment) (ports : List (Option Row)) (n : ℕ) → length ports ≡ 8 →
+    n ≤ 2 ^ 64 → start_beside s image (fed_all s ports) n ≡ start s image ports n
 
--- ports that stand for cycle c of a world, and show the words that those before showed, are those before with
--- the world's latches, but for the ones that are gone
+-- ports that refine cycle c of a world, and show the words that those before showed, are those
+-- before with the world's latches, but for the ones that are gone
 abbrev pub LeavesPorts : Type 0
-LeavesPorts = (s : Start) (c n : ℕ) (m : Machine) (before after : List (Option Row)) → StandsFor s c n m after → AreLeft before after → PortsAfter s c before after
+LeavesPorts =
+    (s : Start) (c n : ℕ) (m : Machine) (before after : List (Option Row)) → Refines s c n m after →
+    AreLeft before after → PortsAfter s c before after

@@ -1,31 +1,34 @@
 -- Cycles in which nobody is awake and nothing is in the pipeline.
 use Rattle.std.specs.Prelude.{◌≡◌, ℕ, ◌-◌, ◌<◌, ◌≤◌, false, List, Option, None}
-use Rattle.fp_ports.specs.Rows.{Row}
+use Rattle.fp_ports.specs.PluggedPorts.{Row}
 use Rattle.slot_scheduler.specs.declared.picking.Sched.{Sched}
 use Rattle.slot_scheduler.specs.Picking.{is_awake}
 use Rattle.timer_unit.specs.Time.{time}
-use Rattle.world_model.specs.World.{Start, sched_by}
+use Rattle.core_model.specs.World.{Start, sched_by}
 use Rattle.pipe_model.specs.Stages.{State, Ticked, step}
 use Rattle.pipe_model.specs.Relation.{event_in, turn_at}
 use Rattle.pipe_model.specs.PipelineLaws.{empty}
 use Rattle.machine.specs.declared.state.Machine.{Machine}
-use Rattle.machine.specs.WorldRelation.{StandsFor}
+use Rattle.machine.specs.WorldRelation.{Refines}
+use Rattle.core_model.specs.Cycles.{cycles_to_w}
 
 -- no thread is awake at a time
 abbrev pub NobodyAwake : Sched → ℕ → Type 0
 NobodyAwake s now = (thread : ℕ) → thread < 8 → is_awake s now thread ≡ false
 
 -- an empty pipeline and its units as they were, and no event
-abbrev pub unchanged : List ℕ → State → Ticked
-unchanged next u = record { stage_registers = empty next; state = u; event = None }
+abbrev pub idle_tick : List ℕ → State → Ticked
+idle_tick next u = record { stage_registers = empty next; state = u; event = None }
 
 -- so a cycle leaves them in which nobody is awake
 abbrev pub SleepsOn : Type 0
-SleepsOn = (next : List ℕ) (u : State) (c : ℕ) → NobodyAwake (sched_by u.control.registers u.control.sleeps) (time u.period c) →
-    step (empty next) u c ≡ unchanged next u
+SleepsOn =
+    (next : List ℕ) (u : State) (c : ℕ) →
+    NobodyAwake (sched_by u.control.registers u.control.sleeps) (time u.period c) →
+    step (empty next) u c ≡ idle_tick next u
 
--- the machine and the ports stand for the cycle that the machine has come to, and in the cycles from c on to it no event
--- retired
+-- the machine and the ports refine the cycle that the machine has come to, and in the cycles from c
+-- on to it no event retired
 pub record PassedOver (s : Start) (c n : ℕ) (m : Machine) (ports : List (Option Row)) : Type 0 where
-  pub stands : StandsFor s m.at n m ports
-  pub quiet : (k : ℕ) → c ≤ k → k < m.at → event_in (k - 4) (turn_at s k 3) ≡ None
+  pub refines : Refines s m.at n m ports
+  pub quiet : (k : ℕ) → c ≤ k → k < m.at → event_in (k - cycles_to_w) (turn_at s k 3) ≡ None

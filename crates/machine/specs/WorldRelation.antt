@@ -1,54 +1,61 @@
--- The machine and the ports as what stands for a cycle of a world.
-use Rattle.std.specs.Prelude.{◌≡◌, ℕ, suc, ◌-◌, ◌<◌, ◌≤◌, false, ◌&&◌, if◌then◌else◌, List, [], ◌++◌, slice_index_or, map, replicate, Option, Some, None, ⊤}
+-- When a machine and its ports refine a cycle of a world.
+use Rattle.std.specs.Prelude.{◌≡◌, ℕ, suc, ◌-◌, ◌<◌, ◌≤◌, false, ◌&&◌, if◌then◌else◌, List}
+use Rattle.std.specs.Prelude.{[], ◌++◌, slice_index_or, map, replicate, Option, Some, None, ⊤}
 use Rattle.std.specs.Io.KnownBytes.{Appends}
 use Rattle.fp_io.specs.Content.{AppendsFront}
 use Rattle.trace_print.specs.Text.{text}
 use Rattle.rv_exec.specs.declared.outcome.Event.{Event}
 use Rattle.fp_image.specs.declared.parts.Segment.{Segment}
-use Rattle.fp_ports.specs.Rows.{Row, row_at, written}
+use Rattle.fp_ports.specs.PluggedPorts.{Row, row_at, row_with_word}
 use Rattle.fp_ports.specs.ShownWords.{shown}
 use Rattle.fp_setup.specs.SetupOfTables.{the_threads}
 use Rattle.fp_setup.specs.Settings.{Settings, size_of}
 use Rattle.fp_setup.specs.declared.thread_list.ThreadSetup.{ThreadSetup}
 use Rattle.timer_unit.specs.Time.{no_timer}
 use Rattle.trap_unit.specs.Rows.{no_trap}
-use Rattle.world_model.specs.World.{Start, world, events}
-use Rattle.setup_model.specs.Start.{start, thread_of, i_words_of, d_words_of}
+use Rattle.core_model.specs.World.{Start, world, events}
+use Rattle.setup_model.specs.Start.{start, thread_setup_of, i_words_of, d_words_of}
 use Rattle.pipe_model.specs.Stages.{State}
-use Rattle.pipe_model.specs.Relation.{event_in, turn_at, words_of}
-use Rattle.pipeline_core.specs.AsDefined.{stage_registers_as_defined, state_as_defined}
-use Rattle.machine.specs.FieldRelation.{Standing}
-use Rattle.machine.specs.DumpedState.{is_kept}
+use Rattle.pipe_model.specs.Relation.{event_in, turn_at, port_words}
+use Rattle.pipeline_core.specs.Abstraction.{abstract_stages, abstract_state}
+use Rattle.machine.specs.FieldRelation.{FieldsRefine}
+use Rattle.machine.specs.DumpedState.{is_port_left}
 use Rattle.machine.specs.declared.state.Machine.{Machine}
+use Rattle.core_model.specs.Cycles.{cycles_to_w}
 
--- the machine and the ports stand for cycle c of the world; its lists of shown words have n entries
-abbrev pub StandsFor : Start → ℕ → ℕ → Machine → List (Option Row) → Type 0
-StandsFor s c n m ports = Standing s c n (stage_registers_as_defined m.pipe) (state_as_defined m.units ports) m.at m.unplugs
+-- the machine and the ports refine cycle c of the world; its lists of shown words have n entries
+abbrev pub Refines : Start → ℕ → ℕ → Machine → List (Option Row) → Type 0
+Refines s c n m ports =
+    FieldsRefine s c n (abstract_stages m.pipe) (abstract_state m.units ports) m.at m.unplugs
 
 -- the start of a run of n cycles beside ports that were fed already
 abbrev pub start_beside : Settings → List Segment → List (Option Row) → ℕ → Start
-start_beside s image ports n = record (start s image ports n) { shown = map (λ i. shown (row_at ports i) [] (thread_of s i).unplug n) the_threads }
+start_beside s image ports n = record (start s image ports n) {
+  shown = map (λ i. shown (row_at ports i) [] (thread_setup_of s i).unplug n) the_threads;
+}
 
 -- a port that is left shows the words that it showed before
 abbrev pub IsLeft : Option Row → Option Row → Type 0
 IsLeft before None = Unit {0}
-IsLeft before (Some row) = words_of before ≡ Some row.words
+IsLeft before (Some row) = port_words before ≡ Some row.words
 
 -- the same of the ports of all threads
 abbrev pub AreLeft : List (Option Row) → List (Option Row) → Type 0
 AreLeft before after = (k : ℕ) → k < 8 → IsLeft (row_at before k) (row_at after k)
 
--- what a cycle left stands for the next one, and its answer is the event of the issue of c - 4
-pub record Ticks (s : Start) (c n : ℕ) (before : List (Option Row)) (m : Machine) (ports : List (Option Row)) (event : Option Event) : Type 0 where
-  pub stands : StandsFor s (suc c) n m ports
-  pub event_is : event ≡ event_in (c - 4) (turn_at s c 3)
+-- what a cycle left refines the next one, and its answer is the event that retires
+pub record Ticks (s : Start) (c n : ℕ) (before : List (Option Row)) (m : Machine)
+    (ports : List (Option Row)) (event : Option Event) : Type 0 where
+  pub refines : Refines s (suc c) n m ports
+  pub event_is : event ≡ event_in (c - cycles_to_w) (turn_at s c 3)
   pub left : AreLeft before ports
 
--- k cycles of a run of n have put the text of the thread's events so far, and machine and ports stand for
--- cycle k
-pub record HasRun (s : Start) (k n thread : ℕ) (first : List (Option Row)) (m : Machine) (ports : List (Option Row)) (before after : Option (List ℕ)) : Type 0 where
+-- k cycles of a run of n have put the text of the thread's events so far, and machine and ports
+-- refine cycle k
+pub record HasRun (s : Start) (k n thread : ℕ) (first : List (Option Row)) (m : Machine)
+    (ports : List (Option Row)) (before after : Option (List ℕ)) : Type 0 where
   pub put : Appends before after (text (events s thread k))
-  pub stands : StandsFor s k n m ports
+  pub refines : Refines s k n m ports
   pub left : AreLeft first ports
 
 -- bytes were appended that begin with these
@@ -57,22 +64,24 @@ AppendsBeyond None after bytes = ⊤
 AppendsBeyond (Some xs) None bytes = ⊥
 AppendsBeyond (Some xs) (Some ys) bytes = (rest : List ℕ) × (ys ≡ (xs ++ bytes) ++ rest)
 
--- a run that was stopped has put a front of the text of all, and machine and ports stand for the cycles done: what was put
--- begins with the text of all of them but the last one, and is a front of the text of all of them
-pub record Stopped (s : Start) (n thread : ℕ) (first : List (Option Row)) (m : Machine) (ports : List (Option Row)) (before after : Option (List ℕ)) : Type 0 where
+-- a run that was stopped has put a front of the text of all, and machine and ports refine the
+-- cycles done: what was put begins with the text of all of them but the last one, and is a front of
+-- the text of all of them
+pub record Stopped (s : Start) (n thread : ℕ) (first : List (Option Row)) (m : Machine)
+    (ports : List (Option Row)) (before after : Option (List ℕ)) : Type 0 where
   pub put : AppendsFront before after (text (events s thread n))
   pub before_last : AppendsBeyond before after (text (events s thread (m.at - 1)))
   pub with_last : AppendsFront before after (text (events s thread m.at))
   pub within : m.at ≤ n
-  pub stands : StandsFor s m.at n m ports
+  pub refines : Refines s m.at n m ports
   pub left : AreLeft first ports
 
--- what is left of a thread's row after n cycles of a world: the port with the world's latch, and with its
--- words as they were; none where none was handed in or it is gone
+-- what is left of a thread's row after n cycles of a world: the port with the world's latch, and
+-- with its words as they were; none where none was handed in or it is gone
 abbrev pub row_after : Start → ℕ → ℕ → Option Row → Option Row
 row_after s n k row =
-    if slice_index_or s.handed k false && is_kept (slice_index_or s.unplugs k None) n
-    then written row (slice_index_or (world s (n - 3)).latches k 0)
+    if slice_index_or s.handed k false && is_port_left (slice_index_or s.unplugs k None) n
+    then row_with_word row (slice_index_or (world s (n - 3)).latches k 0)
     else None
 
 -- the ports after n cycles of a world
@@ -87,7 +96,12 @@ units_at_start s image ports =
       i_words = i_words_of s image;
       d_words = d_words_of s image;
       control = record {
-        registers = record { slots = s.slots; modes = s.modes; dregions = s.dregions; iregions = s.iregions };
+        registers = record {
+          slots = s.slots;
+          modes = s.modes;
+          dregions = s.dregions;
+          iregions = s.iregions;
+        };
         timers = replicate 8 no_timer;
         traps = replicate 8 no_trap;
         sleeps = replicate 8 0;

@@ -4,12 +4,12 @@ ghost use Rattle.std.specs.Prelude.{◌≡◌, ℕ, ◌+◌, ◌/◌, ◌<◌, �
 ghost use Rattle.std.specs.Io.KnownBytes.{Appends};
 ghost use Rattle.fp_io.specs.Causes.{Rose};
 ghost use Rattle.fp_io.specs.Content.{AppendsFront};
-ghost use Rattle.fp_ports.specs.Rows.{rows_of};
-ghost use Rattle.world_model.specs.World.{Start};
+ghost use Rattle.fp_ports.specs.PluggedPorts.{rows_of};
+ghost use Rattle.core_model.specs.World.{Start};
 ghost use Rattle.machine.specs.DumpedState.{seen};
-ghost use Rattle.machine.specs.Fields.{dump_line, dumped};
-ghost use Rattle.pipeline_core.specs.AsDefined.{stage_registers_as_defined, state_as_defined};
-ghost use Rattle.machine.specs.WorldRelation.{StandsFor};
+ghost use Rattle.machine.specs.Fields.{dump_line, dump_of};
+ghost use Rattle.pipeline_core.specs.Abstraction.{abstract_stages, abstract_state};
+ghost use Rattle.machine.specs.WorldRelation.{Refines};
 
 use crate::lines::FIRST_OF_MEMORY;
 use crate::state::Machine;
@@ -27,10 +27,10 @@ impl Machine {
     pub fn dump<K: Sink>(&self, ports: &Ports, out: &mut K) -> Result<(), PutFailed>
         requires { vec_len ports.now ≡ 8 }
         ensures ok { OnOk result ((s : Start) (c n : ℕ)
-            → StandsFor s c n self.now (rows_of latched word_at ports.now.items)
+            → Refines s c n self.now (rows_of latched word_at ports.now.items)
             → Appends (K.taken out.old) (K.taken out.new) (seen s c)) }
         ensures err { OnErr result ((s : Start) (c n : ℕ)
-            → StandsFor s c n self.now (rows_of latched word_at ports.now.items)
+            → Refines s c n self.now (rows_of latched word_at ports.now.items)
             → AppendsFront (K.taken out.old) (K.taken out.new) (seen s c)) }
         ensures failed { OnErr result (Rose (K.faults out.old) (K.faults out.new)) }
         ensures counted { K.faults out.old ≤ K.faults out.new }
@@ -42,12 +42,12 @@ impl Machine {
     fn put_lines<K: Sink>(&self, ports: &Ports, out: &mut K) -> Result<(), PutFailed>
         requires { vec_len ports.now ≡ 8 }
         ensures ok { OnOk result (Appends (K.taken out.old) (K.taken out.new)
-            (dumped (stage_registers_as_defined self.now.pipe)
-            (state_as_defined self.now.units (rows_of latched word_at ports.now.items))
+            (dump_of (abstract_stages self.now.pipe)
+            (abstract_state self.now.units (rows_of latched word_at ports.now.items))
             self.now.at)) }
         ensures err { OnErr result (AppendsFront (K.taken out.old) (K.taken out.new)
-            (dumped (stage_registers_as_defined self.now.pipe)
-            (state_as_defined self.now.units (rows_of latched word_at ports.now.items))
+            (dump_of (abstract_stages self.now.pipe)
+            (abstract_state self.now.units (rows_of latched word_at ports.now.items))
             self.now.at)) }
         ensures failed { OnErr result (Rose (K.faults out.old) (K.faults out.new)) }
         ensures counted { K.faults out.old ≤ K.faults out.new }
@@ -63,17 +63,17 @@ impl Machine {
         requires eight { vec_len ports.now ≡ 8 }
         requires number { number < 66 + self.now.units.guard.size / 32 }
         ensures ok { OnOk result (Appends (K.taken out.old) (K.taken out.new)
-            (dump_line (stage_registers_as_defined self.now.pipe)
-            (state_as_defined self.now.units (rows_of latched word_at ports.now.items)) self.now.at
+            (dump_line (abstract_stages self.now.pipe)
+            (abstract_state self.now.units (rows_of latched word_at ports.now.items)) self.now.at
             number)) }
         ensures err { OnErr result (AppendsFront (K.taken out.old) (K.taken out.new)
-            (dump_line (stage_registers_as_defined self.now.pipe)
-            (state_as_defined self.now.units (rows_of latched word_at ports.now.items)) self.now.at
+            (dump_line (abstract_stages self.now.pipe)
+            (abstract_state self.now.units (rows_of latched word_at ports.now.items)) self.now.at
             number)) }
         ensures failed { OnErr result (Rose (K.faults out.old) (K.faults out.new)) }
         ensures counted { K.faults out.old ≤ K.faults out.new }
-        ensures nothing { dump_line (stage_registers_as_defined self.now.pipe)
-            (state_as_defined self.now.units (rows_of latched word_at ports.now.items)) self.now.at
+        ensures nothing { dump_line (abstract_stages self.now.pipe)
+            (abstract_state self.now.units (rows_of latched word_at ports.now.items)) self.now.at
             number ≡ [] → out.new ≡ out.old }
     {
         let line = self.line(ports, number);

@@ -1,7 +1,7 @@
 //! The inputs of a setup.
 
 ghost use Rattle.std.specs.Prelude.{◌≡◌, ◌<◌, ◌≤◌, length, take, vec_len, OnOk, OnErr};
-ghost use Rattle.fp_ports.specs.Rows.{rows_of};
+ghost use Rattle.fp_ports.specs.PluggedPorts.{rows_of};
 ghost use Rattle.machine.specs.Feeding.{fed_words, fed_all, IsFedFront};
 ghost use Rattle.machine.specs.PortLaws.{FeedsStart};
 

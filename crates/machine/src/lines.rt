@@ -1,15 +1,19 @@
 //! The lines of a dump, each by its number.
 
-ghost use Rattle.std.specs.Prelude.{◌≡◌, ◌+◌, ◌/◌, ◌<◌, ◌≤◌, ◌*◌, ◌==◌, [], true, vec_len, slice_index_or, length};
+ghost use Rattle.std.specs.Prelude.{◌≡◌, ◌+◌, ◌/◌, ◌<◌, ◌≤◌, ◌*◌, ◌==◌, []};
+ghost use Rattle.std.specs.Prelude.{true, vec_len, slice_index_or, length};
 ghost use Rattle.std.specs.List.{list_all};
-ghost use Rattle.fp_ports.specs.Rows.{rows_of, row_at, latch_seen};
+ghost use Rattle.fp_ports.specs.PluggedPorts.{rows_of, row_at, latch_seen};
 ghost use Rattle.core_model.specs.Thread.{reg_in};
 ghost use Rattle.trace_print.specs.DumpLines.{latch_text, thread_words_text};
 ghost use Rattle.machine.specs.DumpedState.{eight_from, traps_seen, timer_seen, words_seen};
-ghost use Rattle.machine.specs.Fields.{fetched_held, decoded_held, shown_word, executed_held, stored_held, written_held, head_line, thread_line, dump_line};
+ghost use Rattle.machine.specs.Fields.{fetched_held, decoded_held, shown_word};
+ghost use Rattle.machine.specs.Fields.{executed_held, stored_held, written_held};
+ghost use Rattle.machine.specs.Fields.{head_line, thread_line, dump_line};
 ghost use Rattle.timer_unit.specs.Time.{timer_of};
 ghost use Rattle.trap_unit.specs.Rows.{trap_of};
-ghost use Rattle.pipeline_core.specs.AsDefined.{stage_registers_as_defined, registers_as_defined, state_as_defined};
+ghost use Rattle.pipeline_core.specs.Abstraction.{abstract_stages};
+ghost use Rattle.pipeline_core.specs.Abstraction.{abstract_registers, abstract_state};
 
 use crate::state::Machine;
 use arrayvec::ArrayString;
@@ -17,8 +21,8 @@ use fp_ports::{Ports, latch_of};
 use pipeline_core::{Decoded, Executed, Fetched, Held, Stored, Written};
 use region_guard::DATA_START;
 use trace_print::{
-    Held as Shown, cycles_line, latch_line, memory_line, stage_line, thread_words_line, timer_line,
-    word_line,
+    StageContent as Shown, cycles_line, latch_line, memory_line, stage_line, thread_words_line,
+    timer_line, word_line,
 };
 
 /// The number of the first line of the data scratchpad.
@@ -143,9 +147,9 @@ impl Machine {
     #[tactic(auto, unfolding(crate::specs::Fields::head_line))]
     fn head_line(&self, k: u32) -> ArrayString<96>
         requires { k < 10 }
-        ensures { result.bytes ≡ head_line (stage_registers_as_defined self.now.pipe)
+        ensures { result.bytes ≡ head_line (abstract_stages self.now.pipe)
             self.now.units.guard.size
-            self.now.units.confined (registers_as_defined self.now.units.sched self.now.units.guard)
+            self.now.units.confined (abstract_registers self.now.units.sched self.now.units.guard)
             self.now.at k }
     {
         match k {
@@ -220,7 +224,7 @@ impl Machine {
         requires eight { vec_len ports.now ≡ 8 }
         requires thread { thread < 8 }
         ensures { result.bytes ≡ thread_line
-            (state_as_defined self.now.units (rows_of latched word_at ports.now.items)) thread k }
+            (abstract_state self.now.units (rows_of latched word_at ports.now.items)) thread k }
     {
         match k {
             0 => self.registers_line(thread, "x00", 0),
@@ -272,8 +276,8 @@ impl Machine {
     pub(crate) fn line(&self, ports: &Ports, k: u32) -> ArrayString<96>
         requires eight { vec_len ports.now ≡ 8 }
         requires number { k < 66 + self.now.units.guard.size / 32 }
-        ensures { result.bytes ≡ dump_line (stage_registers_as_defined self.now.pipe)
-            (state_as_defined self.now.units (rows_of latched word_at ports.now.items))
+        ensures { result.bytes ≡ dump_line (abstract_stages self.now.pipe)
+            (abstract_state self.now.units (rows_of latched word_at ports.now.items))
             self.now.at k }
     {
         if k < 10 {

@@ -2,18 +2,18 @@
 
 ghost use Rattle.std.specs.Prelude.{◌≡◌, ℕ, ◌/◌, ◌≤◌, List, All, Option, IfOk, length, map};
 ghost use Rattle.region_guard.specs.MemoryMap.{data_start};
-ghost use Rattle.fp_ports.specs.Rows.{Row};
+ghost use Rattle.fp_ports.specs.PluggedPorts.{Row};
 ghost use Rattle.fp_setup.specs.declared.thread_list.ThreadSetup.{ThreadSetup};
 ghost use Rattle.fp_setup.specs.Settings.{size_of};
 ghost use Rattle.setup_model.specs.Start.{words_from};
 ghost use Rattle.pipeline_core.specs.StageFacts.{IsPc};
-ghost use Rattle.pipeline_core.specs.AsDefined.{state_as_defined};
-ghost use Rattle.machine.specs.WorldRelation.{StandsFor, start_beside, units_at_start};
+ghost use Rattle.pipeline_core.specs.Abstraction.{abstract_state};
+ghost use Rattle.machine.specs.WorldRelation.{Refines, start_beside, units_at_start};
 
 use crate::state::Machine;
 use fp_image::Image;
 use fp_setup::Setup;
-use pipe_model::starts_standing;
+use pipe_model::start_refines;
 use pipeline_core::{Pipe, Units};
 use regfile_bank::Bank;
 use region_guard::{DATA_START, Guard};
@@ -106,7 +106,7 @@ fn scratchpad(alloc: Global, setup: &Setup, image: &Image, base: u32) -> Result<
 
 /// The units at the start.
 fn units(alloc: Global, setup: &Setup, image: &Image) -> Result<Units, AllocError>
-    ensures { IfOk result (λ u. (ports : List (Option Row)) → state_as_defined u ports
+    ensures { IfOk result (λ u. (ports : List (Option Row)) → abstract_state u ports
         ≡ units_at_start setup.now image.now ports) }
 {
     Ok(Units {
@@ -140,12 +140,12 @@ impl Machine {
     ///
     /// Memory was refused.
     pub fn load(alloc: Global, setup: &Setup, image: &Image) -> Result<Machine, AllocError>
-        ensures stands { IfOk result
+        ensures refines { IfOk result
             (λ m. (ports : List (Option Row)) (n : ℕ) → length ports ≡ 8
-            → StandsFor (start_beside setup.now image.now ports n) 0 n m ports) }
+            → Refines (start_beside setup.now image.now ports n) 0 n m ports) }
         ensures start { IfOk result (λ m. m.at ≡ 0) }
     {
-        starts_standing();
+        start_refines();
         Ok(Machine {
             pipe: Pipe::new(entries(setup)),
             units: units(alloc, setup, image)?,

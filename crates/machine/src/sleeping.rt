@@ -1,14 +1,15 @@
 //! The cycles in which every thread sleeps.
 
-ghost use Rattle.std.specs.Prelude.{◌≡◌, ℕ, ◌+◌, ◌<◌, ◌≤◌, true, List, Option, length, slice_index_or};
-ghost use Rattle.fp_ports.specs.Rows.{Row};
+ghost use Rattle.std.specs.Prelude.{◌≡◌, ℕ, ◌+◌, ◌<◌, ◌≤◌, true, List};
+ghost use Rattle.std.specs.Prelude.{Option, length, slice_index_or};
+ghost use Rattle.fp_ports.specs.PluggedPorts.{Row};
 ghost use Rattle.slot_scheduler.specs.ModeWord.{is_active, mode_of};
 ghost use Rattle.timer_unit.specs.Time.{time};
-ghost use Rattle.world_model.specs.World.{Start};
+ghost use Rattle.core_model.specs.World.{Start};
 ghost use Rattle.pipe_model.specs.PipelineLaws.{empty};
-ghost use Rattle.pipeline_core.specs.AsDefined.{stage_registers_as_defined};
+ghost use Rattle.pipeline_core.specs.Abstraction.{abstract_stages};
 ghost use Rattle.machine.specs.Sleeping.{NobodyAwake, PassedOver, SleepsOn};
-ghost use Rattle.machine.specs.WorldRelation.{StandsFor};
+ghost use Rattle.machine.specs.WorldRelation.{Refines};
 
 use crate::state::Machine;
 use pipe_model::Held;
@@ -40,7 +41,7 @@ impl Machine {
         ensures end { self.new.at ≤ end }
         ensures same { self.new ≡ record self.old { at = self.new.at } }
         ensures passed { (s : Start) (n : ℕ) (ports : List (Option Row)) → end ≤ n + 3
-            → length ports ≡ 8 → StandsFor s self.old.at n self.old ports
+            → length ports ≡ 8 → Refines s self.old.at n self.old ports
             → PassedOver s self.old.at n self.new ports }
     {
         if matches!(self.pipe.f, Held::Bubble) {
@@ -58,7 +59,7 @@ impl Machine {
         ensures end { self.new.at ≤ end }
         ensures same { self.new ≡ record self.old { at = self.new.at } }
         ensures passed { (s : Start) (n : ℕ) (ports : List (Option Row)) → end ≤ n + 3
-            → length ports ≡ 8 → StandsFor s self.old.at n self.old ports
+            → length ports ≡ 8 → Refines s self.old.at n self.old ports
             → PassedOver s self.old.at n self.new ports }
     {
         if self.is_empty() && !self.loses_ports() {
@@ -69,7 +70,7 @@ impl Machine {
     /// Whether nothing is in the pipeline.
     fn is_empty(&self) -> bool
         ensures { result ≡ true
-            → stage_registers_as_defined self.now.pipe ≡ empty self.now.pipe.next }
+            → abstract_stages self.now.pipe ≡ empty self.now.pipe.next }
     {
         matches!(
             &self.pipe,

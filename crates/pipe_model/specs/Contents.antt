@@ -1,5 +1,5 @@
--- What the stage registers hold of the last five turns, said by the pc, the word and the effect of each turn and by the
--- registers of its thread before it.
+-- What the stage registers hold of the last five turns, said by the pc, the word and the effect of
+-- each turn and by the registers of its thread before it.
 use Rattle.std.specs.Prelude.{◌≡◌, ℕ, ◌-◌, ◌==◌, Bool, false, List, Option, Some}
 use Rattle.rv_decode.specs.Table.{ins}
 use Rattle.rv_decode.specs.declared.instruction.Ins.{Ins}
@@ -11,8 +11,8 @@ use Rattle.rv_exec.specs.TrapCauses.{cause_expiry}
 use Rattle.core_model.specs.Thread.{reg_in}
 use Rattle.core_model.specs.Issue.{late_rd, source_1, source_2}
 use Rattle.core_model.specs.Memory.{code_at}
-use Rattle.world_model.specs.World.{Start, World, Took, world, thread_of}
-use Rattle.world_model.specs.World.Took.{Idle, Lost, Ran}
+use Rattle.core_model.specs.World.{Start, World, Took, world, thread_of}
+use Rattle.core_model.specs.World.Took.{Idle, Lost, Ran}
 use Rattle.pipe_model.specs.declared.stage_registers.Held.{Held}
 use Rattle.pipe_model.specs.declared.stage_registers.Held.TheVariants.{Bubble, Flushed, Issue}
 use Rattle.pipe_model.specs.declared.stage_registers.Decoded.{Decoded}

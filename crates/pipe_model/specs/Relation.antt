@@ -1,20 +1,23 @@
--- Which stage registers, units and ports stand for a cycle of a world. The turn of cycle c is in F in that cycle,
--- in D at c + 1, in E at c + 2, in M at c + 3 and in W at c + 4; so before cycle c the registers are those
--- of the world four cycles before, memory and ports those of three cycles before, and what E changes that
--- of two cycles before. Before cycle 0 stands the start, and a cycle before it is nobody's.
-use Rattle.std.specs.Prelude.{◌≡◌, ℕ, suc, ◌+◌, ◌-◌, ◌<◌, ◌≤◌, ◌==◌, nat_lt, nat_le, Bool, true, false, ◌&&◌, if◌then◌else◌, List, [], ◌∷◌, slice_index_or, map, length, Option, Some, None, IfSome, option_map, is_some}
+-- Which stage registers, units and ports refine a cycle of a world. The turn of cycle c is in F in
+-- that cycle, in D at c + 1, in E at c + 2, in M at c + 3 and in W at c + 4; so before cycle c the
+-- registers are those of the world four cycles before, memory and ports those of three cycles
+-- before, and what E changes that of two cycles before. Before cycle 0 stands the start, and a
+-- cycle before it is nobody's.
+use Rattle.std.specs.Prelude.{◌≡◌, ℕ, suc, ◌+◌, ◌-◌, ◌<◌, ◌≤◌, ◌==◌, nat_lt, nat_le, Bool}
+use Rattle.std.specs.Prelude.{true, false, ◌&&◌, if◌then◌else◌, List, [], ◌∷◌, slice_index_or}
+use Rattle.std.specs.Prelude.{map, length, Option, Some, None, IfSome, option_map, is_some}
 use Rattle.rv_decode.specs.Table.{ins}
 use Rattle.rv_exec.specs.declared.outcome.Event.{Event}
 use Rattle.slot_scheduler.specs.declared.picking.Pick.{Pick}
 use Rattle.slot_scheduler.specs.declared.picking.Pick.TheVariants as chosen
 use Rattle.timer_unit.specs.Time.{time, is_due}
-use Rattle.fp_ports.specs.Rows.{Row, row_at, word_seen}
-use Rattle.core_model.specs.Thread.{Thread, Did, fresh, reg_in}
+use Rattle.fp_ports.specs.PluggedPorts.{Row, row_at, word_seen}
+use Rattle.core_model.specs.Thread.{Thread, Execution, fresh, reg_in}
 use Rattle.core_model.specs.Outcomes.{plus}
 use Rattle.core_model.specs.Issue.{execute_word, source_1, source_2}
 use Rattle.core_model.specs.Memory.{code_at}
-use Rattle.world_model.specs.World.{Start, World, Took, thread_of, world, surroundings, port_word}
-use Rattle.world_model.specs.World.Took.{Idle, Lost, Ran}
+use Rattle.core_model.specs.World.{Start, World, Took, thread_of, world, environment_at, port_word}
+use Rattle.core_model.specs.World.Took.{Idle, Lost, Ran}
 use Rattle.pipe_model.specs.declared.stage_registers.Held.{Held}
 use Rattle.pipe_model.specs.declared.stage_registers.Held.TheVariants.{Bubble, Flushed, Issue}
 use Rattle.pipe_model.specs.declared.stage_registers.Fetched.{Fetched}
@@ -23,6 +26,7 @@ use Rattle.pipe_model.specs.declared.stage_registers.Executed.{Executed}
 use Rattle.pipe_model.specs.declared.stage_registers.Stored.{Stored}
 use Rattle.pipe_model.specs.declared.stage_registers.Written.{Written}
 use Rattle.pipe_model.specs.Stages.{StageRegisters, Control, State, Ticked, event_at}
+use Rattle.core_model.specs.Cycles.{cycles_to_w}
 
 -- the turn of cycle c - 1 - e
 abbrev pub turn_at : Start → ℕ → ℕ → Took
@@ -41,11 +45,13 @@ in_memory (Ran k pc word effect) = Issue k (record { pc = pc; word = word; effec
 
 -- e: what the instruction of thread k did in cycle n, in the world w before it, but for a late
 -- value
-abbrev pub did_in : Start → ℕ → World → ℕ → Did
-did_in s n w k = execute_word (surroundings s n w k) (code_at s.size s.i_words (thread_of w k).pc) (thread_of w k)
+abbrev pub execution_in : Start → ℕ → World → ℕ → Execution
+execution_in s n w k =
+    execute_word (environment_at s n w k) (code_at s.size s.i_words (thread_of w k).pc)
+    (thread_of w k)
 
 -- with the values of the sources of the word that it shows
-abbrev pub executed_in : Did → Thread → Executed
+abbrev pub executed_in : Execution → Thread → Executed
 executed_in d t =
     record {
       pc = t.pc;
@@ -59,7 +65,8 @@ executed_in d t =
 abbrev pub in_execute : Start → ℕ → World → Took → Held Executed
 in_execute s n w Idle = Bubble
 in_execute s n w (Lost k) = Flushed k
-in_execute s n w (Ran k pc word effect) = Issue k (executed_in (did_in s n w k) (thread_of w k))
+in_execute s n w (Ran k pc word effect) =
+    Issue k (executed_in (execution_in s n w k) (thread_of w k))
 
 -- d: the word at the thread's pc, with the values of its sources
 abbrev pub decoded_in : Start → ℕ → Thread → Decoded
@@ -90,20 +97,21 @@ pick_in (Lost k) = chosen.Issue k
 pick_in (Ran k pc word effect) = chosen.Issue k
 
 -- the pc after one more word of the thread, if there is one
-abbrev pub after_issue : Bool → ℕ → ℕ
-after_issue there pc = if there then plus pc 4 else pc
+abbrev pub pc_after_issue : Bool → ℕ → ℕ
+pc_after_issue there pc = if there then plus pc 4 else pc
 
--- f: what is fetched before the instruction ahead is executed: the word that follows it. turn is that of
--- c - 2, in the world w before it, and thread k was picked in c - 1
+-- f: what is fetched before the instruction ahead is executed: the word that follows it. turn is
+-- that of c - 2, in the world w before it, and thread k was picked in c - 1
 abbrev pub fetched_in : Start → World → Took → ℕ → Fetched
 fetched_in s w turn k =
-    let pc = after_issue (issues k turn) (thread_of w k).pc in
+    let pc = pc_after_issue (issues k turn) (thread_of w k).pc in
     record { pc = pc; word = code_at s.size s.i_words pc }
 
 -- it is flushed already where an instruction of c - 3 or before keeps the thread from being ready
 abbrev pub in_fetch : Start → ℕ → World → Took → Pick → Held Fetched
 in_fetch s c w turn chosen.Bubble = Bubble
-in_fetch s c w turn (chosen.Issue k) = if nat_le c (thread_of w k).ready then Flushed k else Issue k (fetched_in s w turn k)
+in_fetch s c w turn (chosen.Issue k) =
+    if nat_le c (thread_of w k).ready then Flushed k else Issue k (fetched_in s w turn k)
 
 -- whether f holds a word that the thread fetched
 abbrev pub fetches : ℕ → Held Fetched → Bool
@@ -113,7 +121,8 @@ fetches k (Issue j x) = j == k
 
 -- the pc that the thread fetches next: the word after those in d and f
 abbrev pub next_of : World → Took → Held Fetched → ℕ → ℕ
-next_of w turn f k = after_issue (fetches k f) (after_issue (issues k turn) (thread_of w k).pc)
+next_of w turn f k =
+    pc_after_issue (fetches k f) (pc_after_issue (issues k turn) (thread_of w k).pc)
 
 -- what E reads and writes, by the world
 abbrev pub control_in : World → Control
@@ -133,7 +142,7 @@ bank_in w = map (λ t. t.regs) w.threads
 abbrev pub units_of : Start → ℕ → List (Option Row) → State
 units_of s c ports =
     record {
-      bank = bank_in (world s (c - 4));
+      bank = bank_in (world s (c - cycles_to_w));
       i_words = s.i_words;
       d_words = (world s (c - 3)).d_words;
       control = control_in (world s (c - 2));
@@ -160,14 +169,16 @@ stage_registers_of s c next =
 -- the pcs to fetch next
 pub record Fronts (s : Start) (c : ℕ) (f : Held Fetched) (pcs : List ℕ) : Type 0 where
   pub count : length pcs ≡ 8
-  pub next : (k : ℕ) → k < 8 → slice_index_or pcs k 0 ≡ next_of (world s (c - 2)) (turn_at s c 1) f k
+  pub next : (k : ℕ) → k < 8 →
+      slice_index_or pcs k 0 ≡ next_of (world s (c - 2)) (turn_at s c 1) f k
 
 -- each port that is there has the latch of a world
 abbrev pub HasLatches : World → List (Option Row) → Type 0
-HasLatches w ports = (k : ℕ) → k < 8 → IfSome (row_at ports k) (λ row. row.latch ≡ slice_index_or w.latches k 0)
+HasLatches w ports =
+    (k : ℕ) → k < 8 → IfSome (row_at ports k) (λ row. row.latch ≡ slice_index_or w.latches k 0)
 
--- stage registers, units and ports stand for cycle c of the world
-pub record Stands (s : Start) (c : ℕ) (p : StageRegisters) (u : State) : Type 0 where
+-- stage registers, units and ports refine cycle c of the world
+pub record Refines (s : Start) (c : ℕ) (p : StageRegisters) (u : State) : Type 0 where
   pub stage_registers : p ≡ stage_registers_of s c p.next
   pub fronts : Fronts s c p.f p.next
   pub units : u ≡ units_of s c u.ports
@@ -179,15 +190,16 @@ pub record Begins (s : Start) : Type 0 where
   pub ready : (k : ℕ) → (slice_index_or s.threads k (fresh 0)).ready ≡ 0
   pub latches : length s.latches ≡ 8
 
--- a port that was handed in is there up to cycle unplug + 2, since the turn that goes to it in cycle c was
--- issued in c - 3
+-- a port that was handed in is there up to cycle unplug + 2, since the turn that goes to it in
+-- cycle c was issued in c - 3
 abbrev pub stays_in : Option ℕ → ℕ → Bool
 stays_in None c = true
 stays_in (Some unplug) c = nat_lt c (unplug + 3)
 
 -- the ports in cycle c: who is there, and the words that the turn issued in c - 3 finds
-pub record Shows (s : Start) (c : ℕ) (ports : List (Option Row)) : Type 0 where
-  pub there : (k : ℕ) → k < 8 → is_some (row_at ports k) ≡ (slice_index_or s.handed k false && stays_in (slice_index_or s.unplugs k None) c)
+pub record PortsRefine (s : Start) (c : ℕ) (ports : List (Option Row)) : Type 0 where
+  pub there : (k : ℕ) → k < 8 → is_some (row_at ports k)
+      ≡ (slice_index_or s.handed k false && stays_in (slice_index_or s.unplugs k None) c)
   pub words : (k : ℕ) → k < 8 → 3 ≤ c → word_seen (row_at ports k) (c - 3) ≡ port_word s (c - 3) k
 
 -- the event that retires, by its cycle and turn
@@ -197,18 +209,18 @@ event_in cycle (Lost k) = None
 event_in cycle (Ran k pc word effect) = event_at cycle k pc word effect
 
 -- what a port shows in each cycle, if it is there
-abbrev pub words_of : Option Row → Option (ℕ → ℕ)
-words_of row = option_map (λ r. r.words) row
+abbrev pub port_words : Option Row → Option (ℕ → ℕ)
+port_words row = option_map (λ r. r.words) row
 
 -- the same ports are there, and show the same words
 abbrev pub SamePorts : List (Option Row) → List (Option Row) → Type 0
-SamePorts before after = (k : ℕ) → words_of (row_at after k) ≡ words_of (row_at before k)
+SamePorts before after = (k : ℕ) → port_words (row_at after k) ≡ port_words (row_at before k)
 
--- what a cycle left stands for the next one; the event is that of the issue of c - 4, and the ports show
+-- what a cycle left refines the next one; the event is that of the issue in W, and the ports show
 -- what they did
-pub record Kept (s : Start) (c : ℕ) (before : List (Option Row)) (t : Ticked) : Type 0 where
-  pub stands : Stands s (suc c) t.stage_registers t.state
-  pub event : t.event ≡ event_in (c - 4) (turn_at s c 3)
+pub record RefinesNext (s : Start) (c : ℕ) (before : List (Option Row)) (t : Ticked) : Type 0 where
+  pub refines : Refines s (suc c) t.stage_registers t.state
+  pub event : t.event ≡ event_in (c - cycles_to_w) (turn_at s c 3)
   pub ports : SamePorts before t.state.ports
 
 -- an event, where it is one of the thread's

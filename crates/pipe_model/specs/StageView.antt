@@ -5,8 +5,8 @@ use Rattle.slot_scheduler.specs.declared.picking.Pick.{Pick}
 use Rattle.slot_scheduler.specs.declared.picking.Pick.TheVariants as chosen
 use Rattle.region_guard.specs.Regions.{may_fetch}
 use Rattle.core_model.specs.Memory.{code_at}
-use Rattle.world_model.specs.World.{Start, Took}
-use Rattle.world_model.specs.World.Took.{Lost, Ran}
+use Rattle.core_model.specs.World.{Start, Took}
+use Rattle.core_model.specs.World.Took.{Lost, Ran}
 use Rattle.pipe_model.specs.declared.stage_registers.Held.{Held}
 use Rattle.pipe_model.specs.declared.stage_registers.Held.TheVariants.{Bubble, Flushed, Issue}
 use Rattle.pipe_model.specs.declared.stage_registers.Fetched.{Fetched}
@@ -32,7 +32,8 @@ decoded_word size confined iregions k x =
 unfoldable pub decode_shown : ℕ → List Bool → ℕ → Held Decoded → Held Written
 decode_shown size confined iregions Bubble = Bubble
 decode_shown size confined iregions (Flushed k) = Flushed k
-decode_shown size confined iregions (Issue k x) = Issue k (record { pc = x.pc; word = decoded_word size confined iregions k x })
+decode_shown size confined iregions (Issue k x) =
+    Issue k (record { pc = x.pc; word = decoded_word size confined iregions k x })
 
 -- e
 unfoldable pub execute_shown : Held Executed → Held Written
@@ -40,11 +41,12 @@ execute_shown Bubble = Bubble
 execute_shown (Flushed k) = Flushed k
 execute_shown (Issue k x) = Issue k (record { pc = x.pc; word = x.word })
 
--- f before a turn is known to be flushed: it is Flushed only for a turn that is lost, and for an issue it holds
--- the turn's pc and the word there
+-- f before a turn is known to be flushed: it is Flushed only for a turn that is lost, and for an
+-- issue it holds the turn's pc and the word there
 pub record FetchHolds (s : Start) (f : Held Fetched) (turn : Took) : Type 0 where
   pub flushed : (k : ℕ) → f ≡ Flushed k → turn ≡ Lost k
-  pub issue : (k pc word : ℕ) (effect : Option Effect) → turn ≡ Ran k pc word effect → f ≡ Issue k (record { pc = pc; word = code_at s.size s.i_words pc })
+  pub issue : (k pc word : ℕ) (effect : Option Effect) → turn ≡ Ran k pc word effect →
+      f ≡ Issue k (record { pc = pc; word = code_at s.size s.i_words pc })
 
 -- the stage registers show the turns of the last five cycles
 pub record Shown (s : Start) (c : ℕ) (p : StageRegisters) (u : State) : Type 0 where

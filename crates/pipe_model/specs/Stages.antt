@@ -1,6 +1,8 @@
--- One cycle of the pipeline, over plain values: what each stage makes of the stage register before it, and what
--- it does to the units. Threads, stages and registers are this project's profile of the core.
-use Rattle.std.specs.Prelude.{ℕ, ◌-◌, ◌==◌, Bool, true, false, ◌&&◌, if◌then◌else◌, List, [], slice_index_or, slice_set, Option, Some, None}
+-- One cycle of the pipeline, over plain values: what each stage makes of the stage register before
+-- it, and what it does to the units. Threads, stages and registers are this project's profile of
+-- the core.
+use Rattle.std.specs.Prelude.{ℕ, ◌-◌, ◌==◌, Bool, true, false, ◌&&◌, if◌then◌else◌}
+use Rattle.std.specs.Prelude.{List, [], slice_index_or, slice_set, Option, Some, None}
 use Rattle.rv_decode.specs.Table.{ins}
 use Rattle.rv_decode.specs.Lag.{plain_lag, late_lag}
 use Rattle.rv_exec.specs.declared.outcome.Effect.{Effect}
@@ -12,14 +14,14 @@ use Rattle.slot_scheduler.specs.declared.picking.Pick.TheVariants as chosen
 use Rattle.slot_scheduler.specs.Picking.{Picked, pick}
 use Rattle.timer_unit.specs.declared.row.Timer.{Timer}
 use Rattle.timer_unit.specs.Time.{time, is_due, timer_of}
-use Rattle.fp_ports.specs.Rows.{Row, row_at, word_seen, written}
+use Rattle.fp_ports.specs.PluggedPorts.{Row, row_at, word_seen, row_with_word}
 use Rattle.core_model.specs.declared.own.Own.{Own}
 use Rattle.core_model.specs.declared.own.Trapping.{Trapping}
-use Rattle.core_model.specs.Thread.{Did, no_own, filled, regs_after, reg_in, reg_set}
+use Rattle.core_model.specs.Thread.{Execution, no_own, with_late_value, regs_after, reg_in, reg_set}
 use Rattle.core_model.specs.Outcomes.{plus}
 use Rattle.core_model.specs.Issue.{execute_in, late_rd, late_value, source_1, source_2}
 use Rattle.core_model.specs.Memory.{code_at, data_at}
-use Rattle.world_model.specs.World.{Registers, sched_by, around, words_after, registers_after}
+use Rattle.core_model.specs.World.{Registers, sched_by, environment, words_after, registers_after}
 use Rattle.pipe_model.specs.declared.stage_registers.Held.{Held}
 use Rattle.pipe_model.specs.declared.stage_registers.Held.TheVariants.{Bubble, Flushed, Issue}
 use Rattle.pipe_model.specs.declared.stage_registers.Fetched.{Fetched}
@@ -28,8 +30,9 @@ use Rattle.pipe_model.specs.declared.stage_registers.Executed.{Executed}
 use Rattle.pipe_model.specs.declared.stage_registers.Stored.{Stored}
 use Rattle.pipe_model.specs.declared.stage_registers.Written.{Written}
 use Rattle.pipe_model.specs.declared.stage_registers.Redirect.{Redirect}
-use Rattle.pipe_model.specs.declared.stage_registers.Way.{Way}
-use Rattle.pipe_model.specs.declared.stage_registers.Way.TheVariants.{LateValue, Elsewhere}
+use Rattle.pipe_model.specs.declared.stage_registers.Flush.{Flush}
+use Rattle.pipe_model.specs.declared.stage_registers.Flush.TheVariants.{Decode, DecodeAndFetch}
+use Rattle.core_model.specs.Cycles.{cycles_to_w}
 
 -- the pc that each thread fetches next, and the stage registers
 pub record StageRegisters : Type 0 where
@@ -40,8 +43,8 @@ pub record StageRegisters : Type 0 where
   pub m : Held Stored
   pub w : Held Written
 
--- what the execute stage reads and writes: the machine's own registers, and of each thread the timer, the
--- trap registers and the moment until which it sleeps
+-- what the execute stage reads and writes: the machine's own registers, and of each thread the
+-- timer, the trap registers and the moment until which it sleeps
 pub record Control : Type 0 where
   pub registers : Registers
   pub timers : List Timer
@@ -75,22 +78,28 @@ writeback_stage (Issue k x) = Issue k (record { pc = x.pc; word = x.word })
 -- its event, by the cycle of its issue
 abbrev pub event_at : ℕ → ℕ → ℕ → ℕ → Option Effect → Option Event
 event_at cycle k pc word None = None
-event_at cycle k pc word (Some effect) = Some (record { cycle = cycle; thread = k; pc = pc; word = word; effect = effect })
+event_at cycle k pc word (Some effect) =
+    Some (record { cycle = cycle; thread = k; pc = pc; word = word; effect = effect })
 
-unfoldable pub retired : ℕ → Held Stored → Option Event
-retired cycle Bubble = None
-retired cycle (Flushed k) = None
-retired cycle (Issue k x) = event_at cycle k x.pc x.word x.effect
+unfoldable pub retired_event : ℕ → Held Stored → Option Event
+retired_event cycle Bubble = None
+retired_event cycle (Flushed k) = None
+retired_event cycle (Issue k x) = event_at cycle k x.pc x.word x.effect
 
--- M: the late value of a load, multiplication or division goes into its effect. A load finds its word in
--- a scratchpad, or at the thread's port, which shows the word of a cycle
-unfoldable pub memory_stage : ℕ → List ℕ → List ℕ → List (Option Row) → ℕ → Held Executed → Held Stored
+-- M: the late value of a load, multiplication or division goes into its effect. A load finds its
+-- word in a scratchpad, or at the thread's port, which shows the word of a cycle
+unfoldable pub memory_stage : ℕ → List ℕ → List ℕ → List (Option Row) → ℕ →
+    Held Executed → Held Stored
 memory_stage size i_words d_words ports cycle Bubble = Bubble
 memory_stage size i_words d_words ports cycle (Flushed k) = Flushed k
 memory_stage size i_words d_words ports cycle (Issue k x) =
     let found = data_at size i_words d_words (word_seen (row_at ports k) cycle) x.address in
     let value = late_value (ins x.word) found x.address x.a x.b in
-    Issue k (record { pc = x.pc; word = x.word; effect = filled (late_rd (ins x.word)) value x.effect })
+    Issue k (record {
+      pc = x.pc;
+      word = x.word;
+      effect = with_late_value (late_rd (ins x.word)) value x.effect;
+    })
 
 -- and a store changes the words of the data scratchpad, or goes to the thread's port
 unfoldable pub words_stored : ℕ → Held Stored → List ℕ → List ℕ
@@ -99,7 +108,10 @@ words_stored size (Flushed k) words = words
 words_stored size (Issue k x) words = words_after size x.effect words
 
 abbrev pub put_at_port : ℕ → Option Effect → List (Option Row) → List (Option Row)
-put_at_port k (Some (Store address width value)) ports = if address == port_address then slice_set ports k (written (row_at ports k) value) else ports
+put_at_port k (Some (Store address width value)) ports =
+    if address == port_address
+    then slice_set ports k (row_with_word (row_at ports k) value)
+    else ports
 put_at_port k _ ports = ports
 
 unfoldable pub ports_stored : Held Stored → List (Option Row) → List (Option Row)
@@ -109,13 +121,19 @@ ports_stored (Issue k x) ports = put_at_port k x.effect ports
 
 -- E: what the instruction does at a time, by the thread's own state
 abbrev pub own_in : Control → ℕ → Own
-own_in u k = record { timer = slice_index_or u.timers k no_own.timer; trap = slice_index_or u.traps k no_own.trap; sleep = slice_index_or u.sleeps k no_own.sleep }
+own_in u k = record {
+  timer = slice_index_or u.timers k no_own.timer;
+  trap = slice_index_or u.traps k no_own.trap;
+  sleep = slice_index_or u.sleeps k no_own.sleep;
+}
 
-abbrev pub execute : ℕ → List Bool → List Bool → ℕ → Control → ℕ → Decoded → Did
-execute size confined permit now u k x = execute_in (around now size confined permit u.registers k) x.pc (own_in u k) x.expired x.word x.a x.b
+abbrev pub execute : ℕ → List Bool → List Bool → ℕ → Control → ℕ → Decoded → Execution
+execute size confined permit now u k x =
+    execute_in (environment now size confined permit u.registers k) x.pc
+    (own_in u k) x.expired x.word x.a x.b
 
-abbrev pub executed : Decoded → Did → Executed
-executed x d =
+abbrev pub executed_of : Decoded → Execution → Executed
+executed_of x d =
     record {
       pc = x.pc;
       word = d.word;
@@ -125,8 +143,8 @@ executed x d =
       effect = d.effect;
     }
 
-abbrev pub controlled : ℕ → Did → Control → Control
-controlled k d u =
+abbrev pub control_after : ℕ → Execution → Control → Control
+control_after k d u =
     record {
       registers = registers_after d.effect u.registers;
       timers = slice_set u.timers k d.own.timer;
@@ -134,12 +152,13 @@ controlled k d u =
       sleeps = slice_set u.sleeps k d.own.sleep;
     }
 
--- a thread whose next instruction may not issue in the next cycle goes on at the pc that follows, in a way
-abbrev pub way_of : Did → Way
-way_of d = if d.lag == late_lag then LateValue else Elsewhere
+-- which younger turns the redirect of an execution flushes, by its lag
+abbrev pub flush_of : Execution → Flush
+flush_of d = if d.lag == late_lag then Decode else DecodeAndFetch
 
-abbrev pub redirect_of : ℕ → Did → Option Redirect
-redirect_of k d = if d.lag == plain_lag then None else Some (record { thread = k; pc = d.pc; way = way_of d })
+abbrev pub redirect_of : ℕ → Execution → Option Redirect
+redirect_of k d =
+    if d.lag == plain_lag then None else Some (record { thread = k; pc = d.pc; flush = flush_of d })
 
 -- what E leaves
 pub record After : Type 0 where
@@ -147,13 +166,20 @@ pub record After : Type 0 where
   pub control : Control
   pub redirect : Option Redirect
 
-abbrev pub executes : ℕ → Decoded → Control → Did → After
-executes k x u d = record { e = Issue k (executed x d); control = controlled k d u; redirect = redirect_of k d }
+abbrev pub executes : ℕ → Decoded → Control → Execution → After
+executes k x u d = record {
+  e = Issue k (executed_of x d);
+  control = control_after k d u;
+  redirect = redirect_of k d;
+}
 
 unfoldable pub execute_stage : ℕ → List Bool → List Bool → ℕ → Control → Held Decoded → After
-execute_stage size confined permit now u Bubble = record { e = Bubble; control = u; redirect = None }
-execute_stage size confined permit now u (Flushed k) = record { e = Flushed k; control = u; redirect = None }
-execute_stage size confined permit now u (Issue k x) = executes k x u (execute size confined permit now u k x)
+execute_stage size confined permit now u Bubble =
+    record { e = Bubble; control = u; redirect = None }
+execute_stage size confined permit now u (Flushed k) =
+    record { e = Flushed k; control = u; redirect = None }
+execute_stage size confined permit now u (Issue k x) =
+    executes k x u (execute size confined permit now u k x)
 
 -- whether a redirect flushes the turn of thread k in D, and in F: behind a late value only that in
 -- D
@@ -161,13 +187,13 @@ abbrev pub flushes_d : ℕ → Option Redirect → Bool
 flushes_d k None = false
 flushes_d k (Some r) = r.thread == k
 
-abbrev pub reaches_f : Way → Bool
-reaches_f LateValue = false
-reaches_f Elsewhere = true
+abbrev pub includes_fetch : Flush → Bool
+includes_fetch Decode = false
+includes_fetch DecodeAndFetch = true
 
 abbrev pub flushes_f : ℕ → Option Redirect → Bool
 flushes_f k None = false
-flushes_f k (Some r) = r.thread == k && reaches_f r.way
+flushes_f k (Some r) = r.thread == k && includes_fetch r.flush
 
 -- forwarding: a value on its way to its register
 abbrev pub forward : Option Effect → List ℕ → List ℕ
@@ -189,7 +215,8 @@ abbrev pub operand : List (List ℕ) → Held Stored → Held Executed → ℕ �
 operand bank m e k x = reg_in (from_e k e (from_m k m (slice_index_or bank k []))) x
 
 -- D: the turn is flushed, or it gets its sources, and knows whether its armed moment is reached
-unfoldable pub decode_stage : List (List ℕ) → Held Stored → Held Executed → List Timer → Option Redirect → ℕ → Held Fetched → Held Decoded
+unfoldable pub decode_stage : List (List ℕ) → Held Stored → Held Executed → List Timer →
+    Option Redirect → ℕ → Held Fetched → Held Decoded
 decode_stage bank m e timers r now Bubble = Bubble
 decode_stage bank m e timers r now (Flushed k) = Flushed k
 decode_stage bank m e timers r now (Issue k x) =
@@ -203,20 +230,22 @@ decode_stage bank m e timers r now (Issue k x) =
     })
 
 -- F: the redirected thread goes on where it is told to
-unfoldable pub redirected : Option Redirect → List ℕ → List ℕ
-redirected None next = next
-redirected (Some r) next = slice_set next r.thread r.pc
+unfoldable pub next_after_redirect : Option Redirect → List ℕ → List ℕ
+next_after_redirect None next = next
+next_after_redirect (Some r) next = slice_set next r.thread r.pc
 
 -- the picked thread's turn is flushed, or it fetches its next word
 unfoldable pub fetch_stage : ℕ → List ℕ → Option Redirect → List ℕ → Pick → Held Fetched
 fetch_stage size i_words r next chosen.Bubble = Bubble
 fetch_stage size i_words r next (chosen.Issue k) =
     if flushes_f k r then Flushed k
-    else (let pc = slice_index_or next k 0 in Issue k (record { pc = pc; word = code_at size i_words pc }))
+    else (let pc = slice_index_or next k 0 in
+    Issue k (record { pc = pc; word = code_at size i_words pc }))
 
-unfoldable pub advanced : Option Redirect → Pick → List ℕ → List ℕ
-advanced r chosen.Bubble next = next
-advanced r (chosen.Issue k) next = if flushes_f k r then next else slice_set next k (plus (slice_index_or next k 0) 4)
+unfoldable pub next_after_fetch : Option Redirect → Pick → List ℕ → List ℕ
+next_after_fetch r chosen.Bubble next = next
+next_after_fetch r (chosen.Issue k) next =
+    if flushes_f k r then next else slice_set next k (plus (slice_index_or next k 0) 4)
 
 -- what a cycle leaves, and the event that retires in it
 pub record Ticked : Type 0 where
@@ -228,10 +257,10 @@ pub record Ticked : Type 0 where
 abbrev pub finish : StageRegisters → State → ℕ → Picked → Held Stored → After → Ticked
 finish p u c picked m e =
     let bank = bank_after p.m u.bank in
-    let next = redirected e.redirect p.next in
+    let next = next_after_redirect e.redirect p.next in
     record {
       stage_registers = record {
-        next = advanced e.redirect picked.pick next;
+        next = next_after_fetch e.redirect picked.pick next;
         f = fetch_stage u.size u.i_words e.redirect next picked.pick;
         d = decode_stage bank m e.e e.control.timers e.redirect (time u.period (c - 1)) p.f;
         e = e.e;
@@ -245,11 +274,12 @@ finish p u c picked m e =
         last = picked.last;
         ports = ports_stored m u.ports;
       };
-      event = retired (c - 4) p.m;
+      event = retired_event (c - cycles_to_w) p.m;
     }
 
--- cycle c. The pick goes by the registers as they stand before E. The turn in M was issued three cycles
--- ago and sees the port's word of that cycle, the turn in E two cycles ago, with the time of that cycle
+-- cycle c. The pick goes by the registers as they stand before E. The turn in M was issued three
+-- cycles ago and sees the port's word of that cycle, the turn in E two cycles ago, with the time of
+-- that cycle
 unfoldable pub step : StageRegisters → State → ℕ → Ticked
 step p u c =
     let picked = pick (sched_by u.control.registers u.control.sleeps) c (time u.period c) u.last in

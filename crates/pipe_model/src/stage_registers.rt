@@ -78,19 +78,18 @@ pub struct Written {
     pub word: u32,
 }
 
-/// How a thread goes on whose next instruction may not issue in the next cycle. Source: this
-/// project's profile of the core.
+/// Which younger turns of its thread a redirect flushes. Source: this project's profile of the
+/// core.
 #[derive(Clone, Copy, PartialEq, Eq, Debug)]
-pub enum Way {
-    /// Behind a value that M works out: the turn in D is flushed, which would read its registers
-    /// before the value is there, and that in F goes on.
-    LateValue,
-    /// At a pc that only E knew, or by what only E changed: the turns in D and in F are flushed.
-    Elsewhere,
+pub enum Flush {
+    /// The turn in D, which would read a register before M has its value. The turn in F stays.
+    Decode,
+    /// The turns in D and in F: their pc, or state that they read, is resolved only in E.
+    DecodeAndFetch,
 }
 
-/// What E tells D and F in the same cycle: the thread, 0 to 7, fetches at `pc` next, and its
-/// turns in D and F are flushed as the way says. Turns of other threads aren't touched.
+/// What E sends to D and F in the same cycle: the thread, 0 to 7, fetches at `pc` next, and its
+/// turns in D and F are flushed as `flush` says. Turns of other threads aren't touched.
 #[derive(Clone, Copy, Debug)]
 pub struct Redirect {
     /// Whose turns are flushed.
@@ -98,5 +97,5 @@ pub struct Redirect {
     /// The address of the word that it fetches next, in bytes, a multiple of 4.
     pub pc: u32,
     /// Which of them are.
-    pub way: Way,
+    pub flush: Flush,
 }

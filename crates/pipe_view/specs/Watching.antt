@@ -1,15 +1,17 @@
--- What is seen of one cycle of the machine: what it holds at the cycle's start, the turns in the stages, and the line
--- that the picked turn leaves.
-use Rattle.std.specs.Prelude.{ℕ, ◌≡◌, ◌+◌, ◌-◌, ◌<◌, ◌%◌, ◌==◌, ◌||◌, not, nat_lt, Bool, true, false, List, [], ◌∷◌, map, slice_index_or, Option, Some, None, option_map, length, slice_range, codes}
+-- What is seen of one cycle of the machine: what it holds at the cycle's start, the turns in the
+-- stages, and the line that the picked turn leaves.
+use Rattle.std.specs.Prelude.{ℕ, ◌≡◌, ◌+◌, ◌-◌, ◌<◌, ◌%◌, ◌==◌, ◌||◌, not, nat_lt}
+use Rattle.std.specs.Prelude.{Bool, true, false, List, [], ◌∷◌, map, slice_index_or}
+use Rattle.std.specs.Prelude.{Option, Some, None, option_map, length, slice_range, codes}
 use Rattle.std.specs.Str.{IsCharBoundary, trim_end}
-use Rattle.fp_ports.specs.Rows.{Row, row_at, latch_seen}
-use Rattle.machine.specs.FieldRelation.{found}
+use Rattle.fp_ports.specs.PluggedPorts.{Row, row_at, latch_seen}
+use Rattle.machine.specs.FieldRelation.{port_read}
 use Rattle.machine.specs.declared.state.Machine.{Machine}
-use Rattle.machine.specs.WorldRelation.{StandsFor, Ticks}
+use Rattle.machine.specs.WorldRelation.{Refines, Ticks}
 use Rattle.pipe_model.specs.declared.stage_registers.Held.{Held}
 use Rattle.pipe_model.specs.declared.stage_registers.Held.TheVariants.{Bubble, Flushed, Issue}
 use Rattle.pipe_model.specs.declared.stage_registers.Stored.{Stored}
-use Rattle.pipe_model.specs.Stages.{retired}
+use Rattle.pipe_model.specs.Stages.{retired_event}
 use Rattle.slot_scheduler.specs.ModeWord.{mode_of}
 use Rattle.rv_exec.specs.declared.outcome.Effect.{Effect}
 use Rattle.rv_exec.specs.declared.outcome.Effect.TheVariants.{Trap}
@@ -18,25 +20,29 @@ use Rattle.slot_table.specs.declared.frame.Turn.TheVariants.{Thread}
 use Rattle.slot_table.specs.Frame.{turn}
 use Rattle.timer_unit.specs.Time.{time, timer_of}
 use Rattle.trace_print.specs.Text.{line_text}
-use Rattle.world_model.specs.World.{Start}
+use Rattle.core_model.specs.World.{Start}
 use Rattle.pipe_view.specs.declared.cycle.ThreadState.{ThreadState}
 use Rattle.pipe_view.specs.declared.cycle.Cycle.{Cycle}
 use Rattle.pipe_view.specs.declared.cycle.CycleStart.{CycleStart}
 use Rattle.pipe_view.specs.declared.watch.Watch.{Watch}
+use Rattle.core_model.specs.Cycles.{cycles_to_w}
 
--- whether a thread's mode is asleep at the start of a machine's next cycle, or the moment until which it sleeps lies ahead
+-- whether a thread's mode is asleep at the start of a machine's next cycle, or the moment until
+-- which it sleeps lies ahead
 abbrev pub is_asleep : Machine → ℕ → Bool
-is_asleep m k = mode_of m.units.sched.modes k % 2 == 1 || nat_lt (time m.units.clock m.at) (slice_index_or m.units.sched.sleep k 0)
+is_asleep m k =
+    mode_of m.units.sched.modes k % 2 == 1
+    || nat_lt (time m.units.clock m.at) (slice_index_or m.units.sched.sleep k 0)
 
--- what is seen of a thread there: whether it is asleep, its armed moment, its port's latch, and what an issue of the cycle
--- finds at the port
+-- what is seen of a thread there: whether it is asleep, its armed moment, its port's latch, and
+-- what an issue of the cycle finds at the port
 abbrev pub thread_state : Machine → List (Option Row) → ℕ → ThreadState
 thread_state m rows k =
     record {
       asleep = is_asleep m k;
       armed = (timer_of m.units.timers k).armed;
       latch = latch_seen (row_at rows k);
-      input = found (slice_index_or m.unplugs k None) (row_at rows k) m.at;
+      input = port_read (slice_index_or m.unplugs k None) (row_at rows k) m.at;
     }
 
 -- what is seen of the machine at the start of its next cycle
@@ -51,10 +57,10 @@ start_of m rows =
     }
 
 -- the thread of a turn
-abbrev pub thread_of : Held Stored → Option ℕ
-thread_of Bubble = None
-thread_of (Flushed k) = Some k
-thread_of (Issue k x) = Some k
+abbrev pub turn_thread : Held Stored → Option ℕ
+turn_thread Bubble = None
+turn_thread (Flushed k) = Some k
+turn_thread (Issue k x) = Some k
 
 -- whether a turn is one that was lost
 abbrev pub is_flushed : Held Stored → Bool
@@ -71,13 +77,13 @@ is_donated (Thread owner) (Some k) = not (k == owner)
 is_donated _ _ = false
 
 -- whether a turn traps, by its effect
-abbrev pub trapped : Option Effect → Bool
-trapped (Some (Trap cause target)) = true
-trapped _ = false
-
-abbrev pub is_trap : Held Stored → Bool
-is_trap (Issue k x) = trapped x.effect
+abbrev pub is_trap : Option Effect → Bool
+is_trap (Some (Trap cause target)) = true
 is_trap _ = false
+
+abbrev pub is_trapped_turn : Held Stored → Bool
+is_trapped_turn (Issue k x) = is_trap x.effect
+is_trapped_turn _ = false
 
 -- where the effect begins in a line of a trace
 abbrev pub effect_column : ℕ
@@ -88,25 +94,35 @@ abbrev pub IsOutcome : Held Stored → Option (List ℕ) → List ℕ → Type 0
 IsOutcome Bubble line text = text ≡ []
 IsOutcome (Flushed k) line text = text ≡ codes "flushed"
 IsOutcome (Issue k x) None text = text ≡ codes "held"
-IsOutcome (Issue k x) (Some line) text = IsCharBoundary line effect_column → text ≡ trim_end (slice_range line effect_column (length line))
+IsOutcome (Issue k x) (Some line) text =
+    IsCharBoundary line effect_column →
+    text ≡ trim_end (slice_range line effect_column (length line))
 
--- the line of the picked turn's event is that of a trace, and there is one where the turn has an event
+-- the line of the picked turn's event is that of a trace, and there is one where the turn has an
+-- event
 abbrev pub HasLine : Cycle → Type 0
-HasLine cycle = option_map (λ text. text.bytes) cycle.line ≡ option_map line_text (retired cycle.start.cycle (picked_turn cycle))
+HasLine cycle =
+    option_map (λ text. text.bytes) cycle.line
+    ≡ option_map line_text (retired_event cycle.start.cycle (picked_turn cycle))
 
--- what is kept once one more cycle was seen, which began so, and at whose end this turn came out of M
+-- what is kept once one more cycle was seen, which began so, and at whose end this turn came out of
+-- M
 abbrev pub seen_after : Watch → CycleStart → Held Stored → Watch
 seen_after w start turn =
     record {
       starts = Some start ∷ slice_index_or w.starts 0 None ∷ slice_index_or w.starts 1 None ∷ [];
-      turns = turn ∷ slice_index_or w.turns 0 Bubble ∷ slice_index_or w.turns 1 Bubble ∷ slice_index_or w.turns 2 Bubble ∷ [];
+      turns =
+          turn ∷ slice_index_or w.turns 0 Bubble ∷ slice_index_or w.turns 1 Bubble
+          ∷ slice_index_or w.turns 2 Bubble ∷ [];
     }
 
 -- the start of the cycle whose turn comes out of M next, if it was seen
 abbrev pub whole_next : Watch → Option CycleStart
 whole_next w = slice_index_or w.starts 2 None
 
--- the cycle from one machine with its ports to the next is one of each world that the first one stands for
+-- the cycle from one machine with its ports to the next is one of each world that the first one
+-- refines
 abbrev pub IsTick : Machine → List (Option Row) → Machine → List (Option Row) → Type 0
 IsTick m ports next ports_next =
-    (s : Start) (n : ℕ) → m.at < n + 3 → StandsFor s m.at n m ports → Ticks s m.at n ports next ports_next (retired (m.at - 4) m.pipe.m)
+    (s : Start) (n : ℕ) → m.at < n + 3 → Refines s m.at n m ports →
+    Ticks s m.at n ports next ports_next (retired_event (m.at - cycles_to_w) m.pipe.m)

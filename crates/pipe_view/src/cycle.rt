@@ -1,7 +1,8 @@
 //! What is seen of one cycle.
 
 ghost use Rattle.std.specs.Prelude.{◌≡◌, option_map};
-ghost use Rattle.pipe_view.specs.Watching.{IsOutcome, is_donated, is_flushed, is_trap, picked_turn, thread_of};
+ghost use Rattle.pipe_view.specs.Watching.{IsOutcome, is_donated, is_flushed};
+ghost use Rattle.pipe_view.specs.Watching.{is_trapped_turn, picked_turn, turn_thread};
 
 use arrayvec::ArrayString;
 use pipeline_core::{Held, Stored};
@@ -53,7 +54,7 @@ pub struct Cycle {
 
 /// The thread of a turn, if one was picked.
 pub fn thread_of(turn: &Held<Stored>) -> Option<u8>
-    ensures { result ≡ thread_of turn.now }
+    ensures { result ≡ turn_thread turn.now }
 {
     match *turn {
         Held::Bubble => None,
@@ -78,7 +79,7 @@ impl Cycle {
 
     /// Whether the picked turn is a soft thread's in the slot of another thread, which isn't awake.
     pub fn is_donated(&self) -> bool
-        ensures { result ≡ is_donated self.now.start.slot (thread_of (picked_turn self.now)) }
+        ensures { result ≡ is_donated self.now.start.slot (turn_thread (picked_turn self.now)) }
     {
         let Turn::Thread(owner) = self.start.slot else {
             return false;
@@ -91,7 +92,7 @@ impl Cycle {
 
     /// Whether the picked turn traps.
     pub fn is_trap(&self) -> bool
-        ensures { result ≡ is_trap (picked_turn self.now) }
+        ensures { result ≡ is_trapped_turn (picked_turn self.now) }
     {
         match *self.turn() {
             Held::Issue { what, .. } => matches!(what.effect, Some(Effect::Trap { .. })),

@@ -11,14 +11,15 @@ use crate::text::Rows;
 use crate::vcd::Vcd;
 use crate::watch::Watch;
 use crate::window::Window;
+use core_model::CYCLES_TO_W;
 use fp_ports::Ports;
 use machine::Machine;
 use std::io;
 use std::io::Write;
 
-/// How many cycles before the first one that is shown are watched: as many as there are turns
-/// behind the one in F.
-const BEFORE: u64 = 4;
+/// How many cycles before the first one that is shown are watched: the turn that is in W then was
+/// issued in the earliest of them.
+const BEFORE: u64 = CYCLES_TO_W;
 
 /// A form in which cycles are shown.
 #[derive(Clone, Copy, PartialEq, Eq)]

@@ -1,18 +1,20 @@
 //! A machine that is watched cycle by cycle.
 
-ghost use Rattle.std.specs.Prelude.{◌≡◌, ◌+◌, ◌<◌, [], ◌∷◌, None, Some, MatchOption, option_map, slice_index_or, vec_len};
-ghost use Rattle.fp_ports.specs.Rows.{row_at, rows_of};
-ghost use Rattle.machine.specs.FieldRelation.{found};
+ghost use Rattle.std.specs.Prelude.{◌≡◌, ◌+◌, ◌<◌, [], ◌∷◌, None, Some, MatchOption};
+ghost use Rattle.std.specs.Prelude.{option_map, slice_index_or, vec_len};
+ghost use Rattle.fp_ports.specs.PluggedPorts.{row_at, rows_of};
+ghost use Rattle.machine.specs.FieldRelation.{port_read};
 ghost use Rattle.machine.specs.WorldRelation.{AreLeft};
 ghost use Rattle.pipe_model.specs.declared.stage_registers.Held.TheVariants.{Bubble};
-ghost use Rattle.pipe_model.specs.Stages.{retired};
-ghost use Rattle.pipe_view.specs.Watching.{HasLine, IsTick, is_asleep, seen_after, start_of, thread_state, whole_next};
+ghost use Rattle.pipe_model.specs.Stages.{retired_event};
+ghost use Rattle.pipe_view.specs.Watching.{HasLine, IsTick, is_asleep, seen_after};
+ghost use Rattle.pipe_view.specs.Watching.{start_of, thread_state, whole_next};
 ghost use Rattle.trace_print.specs.Text.{line_text};
 ghost use Rattle.timer_unit.specs.Time.{most_cycles};
 
 use crate::cycle::{Cycle, CycleStart, ThreadState};
 use arrayvec::ArrayString;
-use fp_ports::{Ports, latch_of, read_port};
+use fp_ports::{ABSENT_WORD, Ports, latch_of, read_port};
 use machine::Machine;
 use pipeline_core::{Held, Stored};
 use rv_exec::Event;
@@ -96,7 +98,7 @@ fn whole_cycle(
 ) -> Option<Cycle>
     ensures { MatchOption result (start ≡ None) (λ cycle. (start ≡ Some cycle.start)
         × (cycle.turns ≡ turns) × (option_map (λ text. text.bytes) cycle.line
-        ≡ option_map line_text (retired cycle.start.cycle machine.now.pipe.m))) }
+        ≡ option_map line_text (retired_event cycle.start.cycle machine.now.pipe.m))) }
 {
     let start = start?;
     Some(Cycle {
@@ -107,10 +109,10 @@ fn whole_cycle(
 }
 
 /// The line of the turn that M holds, which was issued in this cycle, if it leaves one.
-#[tactic(auto, unfolding(pipe_model::specs::Stages::retired))]
+#[tactic(auto, unfolding(pipe_model::specs::Stages::retired_event))]
 fn line_in_m(machine: &Machine, cycle: u64) -> Option<ArrayString<96>>
     ensures { option_map (λ text. text.bytes) result
-        ≡ option_map line_text (retired cycle machine.now.pipe.m) }
+        ≡ option_map line_text (retired_event cycle machine.now.pipe.m) }
 {
     let Held::Issue { thread, what } = &machine.pipe.m else {
         return None;
@@ -165,7 +167,7 @@ fn input_of(machine: &Machine, ports: &mut Ports, thread: u8) -> u32
     requires cycle { machine.now.at < most_cycles }
     requires eight { vec_len ports.old ≡ 8 }
     requires thread { thread < 8 }
-    ensures word { result ≡ found (slice_index_or machine.now.unplugs thread None)
+    ensures word { result ≡ port_read (slice_index_or machine.now.unplugs thread None)
         (row_at (rows_of latched word_at ports.old.items) thread) machine.now.at }
     ensures rows { rows_of latched word_at ports.new.items
         ≡ rows_of latched word_at ports.old.items }
@@ -173,7 +175,7 @@ fn input_of(machine: &Machine, ports: &mut Ports, thread: u8) -> u32
 {
     let gone_from = machine.unplugs[usize::from(thread)];
     match gone_from {
-        Some(cycle) if cycle <= machine.at => u32::MAX,
+        Some(cycle) if cycle <= machine.at => ABSENT_WORD,
         _ => read_port(ports, thread, machine.at),
     }
 }

@@ -1,5 +1,6 @@
 -- Registers, with what is on its way to them.
-use Rattle.std.proofs.Common.{◌≡◌, ◌≢◌, ℕ, ◌-◌, Bool, true, false, List, [], Some, None, length, refl, arith}
+use Rattle.std.proofs.Common.{◌≡◌, ◌≢◌, ℕ, ◌-◌, Bool, true, false}
+use Rattle.std.proofs.Common.{List, [], Some, None, length, refl, arith}
 use Rattle.std.specs.Prelude.{if◌then◌else◌, Option, ◌==◌, slice_index_or, slice_set}
 use Rattle.std.proofs.lemmas.Bool.Decides.{nat_tests}
 use Rattle.std.proofs.lemmas.List.{length-set}
@@ -26,7 +27,8 @@ forward-length (Some (Csr n x y z)) regs = refl
 forward-length (Some (Trap x y)) regs = refl
 forward-length (Some Wait) regs = refl
 
-pub from_m_length : (k : ℕ) (m : Held Stored) (regs : List ℕ) → length (from_m k m regs) ≡ length regs
+pub from_m_length : (k : ℕ) (m : Held Stored) (regs : List ℕ) →
+    length (from_m k m regs) ≡ length regs
 from_m_length k Bubble regs = refl
 from_m_length k (Flushed j) regs = refl
 from_m_length k (Issue j x) regs = go (j == k)
@@ -36,15 +38,18 @@ from_m_length k (Issue j x) regs = go (j == k)
     go false = refl
 
 -- a register, where the turn in E is the thread's, and where it is another's
-pub forwarded : (bank : List (List ℕ)) (m : Held Stored) (e : Held Executed) (k j : ℕ) (what : Executed) (x v : ℕ) →
-    e ≡ Issue j what → j ≡ k → v ≡ reg_in (forward what.effect (from_m k m (slice_index_or bank k []))) x → v ≡ operand bank m e k x
+pub forwarded : (bank : List (List ℕ)) (m : Held Stored) (e : Held Executed)
+    (k j : ℕ) (what : Executed) (x v : ℕ) → e ≡ Issue j what → j ≡ k →
+    v ≡ reg_in (forward what.effect (from_m k m (slice_index_or bank k []))) x →
+    v ≡ operand bank m e k x
 forwarded bank m e k j what x v is same h = rw (is, tested) h
   where
     tested : (j == k) ≡ true
     tested = grind (arith, nat_tests)
 
-pub passed_by : (bank : List (List ℕ)) (m : Held Stored) (e : Held Executed) (k j : ℕ) (what : Executed) (x v : ℕ) →
-    e ≡ Issue j what → j ≢ k → v ≡ reg_in (from_m k m (slice_index_or bank k [])) x → v ≡ operand bank m e k x
+pub passed_by : (bank : List (List ℕ)) (m : Held Stored) (e : Held Executed)
+    (k j : ℕ) (what : Executed) (x v : ℕ) → e ≡ Issue j what → j ≢ k →
+    v ≡ reg_in (from_m k m (slice_index_or bank k [])) x → v ≡ operand bank m e k x
 passed_by bank m e k j what x v is other h = rw (is, tested) h
   where
     tested : (j == k) ≡ false

@@ -1,6 +1,7 @@
+pub mod Opened
 pub mod Registers
 pub mod Pcs
 pub mod Forwarding
-pub mod Standing
+pub mod Refining
 pub mod Issue
 pub mod Stepping

@@ -1,10 +1,11 @@
 pub mod StageFacts
-pub mod AsDefined
+pub mod Abstraction
+pub use Rattle.core_model.specs.Cycles
 pub use Rattle.core_model.specs.Memory
 pub use Rattle.core_model.specs.Thread
 pub use Rattle.core_model.specs.declared.own.Own
-pub use Rattle.fp_ports.specs.Rows
-pub use Rattle.hart_exec.specs.AsDefined as HartExecAsDefined
+pub use Rattle.fp_ports.specs.PluggedPorts
+pub use Rattle.hart_exec.specs.Effects as HartExecEffects
 pub use Rattle.hart_exec.specs.Units as HartUnits
 pub use Rattle.pipe_model.specs.PipelineLaws
 pub use Rattle.pipe_model.specs.Relation
@@ -14,4 +15,4 @@ pub use Rattle.region_guard.specs.Regions
 pub use Rattle.rv_exec.specs.declared.outcome.Effect
 pub use Rattle.slot_scheduler.specs.Picking
 pub use Rattle.timer_unit.specs.Time
-pub use Rattle.world_model.specs.World
+pub use Rattle.core_model.specs.World

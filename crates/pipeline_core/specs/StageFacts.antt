@@ -1,5 +1,6 @@
 -- What holds of everything that stands in a stage register.
-use Rattle.std.specs.Prelude.{◌≡◌, ℕ, ◌<◌, ◌%◌, ◌==◌, Bool, false, not, ◌&&◌, ◌||◌, Option, Some, None}
+use Rattle.std.specs.Prelude.{◌≡◌, ℕ, ◌<◌, ◌%◌, ◌==◌, Bool, false}
+use Rattle.std.specs.Prelude.{not, ◌&&◌, ◌||◌, Option, Some, None}
 use Rattle.std.proofs.Common.{inl, inr, ap, arith}
 use Rattle.std.proofs.Math.Nat.{ℕ_set}
 use Rattle.std.proofs.Math.Bridge.{le_prop}
@@ -14,7 +15,7 @@ use Rattle.rv_exec.specs.declared.outcome.Effect.TheVariants as effect
 use Rattle.region_guard.specs.MemoryMap.{port_address}
 use Rattle.region_guard.specs.Regions.{is_code, is_data}
 use Rattle.core_model.specs.Issue.{is_load}
-use Rattle.hart_exec.specs.AsDefined.{IsShowable, IsAlignedStore}
+use Rattle.hart_exec.specs.Effects.{IsPrintableEffect, IsAlignedStore}
 use Rattle.pipe_model.specs.declared.stage_registers.Held.{Held}
 use Rattle.pipe_model.specs.declared.stage_registers.Held.TheVariants.{Bubble, Flushed, Issue}
 use Rattle.pipe_model.specs.declared.stage_registers.Fetched.{Fetched}
@@ -30,10 +31,10 @@ IsPc pc = pc % 4 ≡ 0
 
 -- an effect can be shown, and a store is aligned
 abbrev pub EffectFits : Option Effect → Type 0
-EffectFits e = IsShowable e × IsAlignedStore e
+EffectFits e = IsPrintableEffect e × IsAlignedStore e
 
--- a turn is one of a thread's, 0 to 7. Issues in f and d have a pc, those in e and m an effect, and the
--- address in e is aligned for a load or store
+-- a turn is one of a thread's, 0 to 7. Issues in f and d have a pc, those in e and m an effect, and
+-- the address in e is aligned for a load or store
 abbrev pub FetchedFits : Held Fetched → Type 0
 FetchedFits Bubble = Unit {0}
 FetchedFits (Flushed k) = k < 8
@@ -78,9 +79,9 @@ uses_port size (Issue k x) = effect_uses_port size x x.effect
 uses_port size _ = false
 
 -- an event can be shown in a line of a trace
-abbrev pub IsEventShowable : Option Event → Type 0
-IsEventShowable (Some e) = IsPrintable e.effect
-IsEventShowable None = Unit {0}
+abbrev pub IsPrintableEvent : Option Event → Type 0
+IsPrintableEvent (Some e) = IsPrintable e.effect
+IsPrintableEvent None = Unit {0}
 
 -- a redirect is of a thread, to a pc
 abbrev pub RedirectFits : Option Redirect → Type 0
@@ -99,14 +100,14 @@ width-prop size (inr (inr a)) (inl b) = absurd (omega arith)
 width-prop size (inr (inr a)) (inr (inl b)) = absurd (omega arith)
 width-prop size (inr (inr a)) (inr (inr b)) = ap (λ (x : size ≡ 4). inr (inr x)) (ℕ_set size 4 a b)
 
-showable-prop : (e : Option Effect) → IsProp (IsShowable e)
-showable-prop None = hlevel (le_prop, ℕ_set)
-showable-prop (Some effect.Nothing) = hlevel (le_prop, ℕ_set)
-showable-prop (Some (effect.Reg rd value)) = hlevel (le_prop, ℕ_set)
-showable-prop (Some (effect.Store address size value)) = hlevel (width-prop, le_prop, ℕ_set)
-showable-prop (Some (effect.Csr csr value rd old)) = hlevel (le_prop, ℕ_set)
-showable-prop (Some (effect.Trap cause target)) = hlevel (le_prop, ℕ_set)
-showable-prop (Some effect.Wait) = hlevel (le_prop, ℕ_set)
+printable-prop : (e : Option Effect) → IsProp (IsPrintableEffect e)
+printable-prop None = hlevel (le_prop, ℕ_set)
+printable-prop (Some effect.Nothing) = hlevel (le_prop, ℕ_set)
+printable-prop (Some (effect.Reg rd value)) = hlevel (le_prop, ℕ_set)
+printable-prop (Some (effect.Store address size value)) = hlevel (width-prop, le_prop, ℕ_set)
+printable-prop (Some (effect.Csr csr value rd old)) = hlevel (le_prop, ℕ_set)
+printable-prop (Some (effect.Trap cause target)) = hlevel (le_prop, ℕ_set)
+printable-prop (Some effect.Wait) = hlevel (le_prop, ℕ_set)
 
 store-prop : (e : Option Effect) → IsProp (IsAlignedStore e)
 store-prop None = hlevel (le_prop, ℕ_set)
@@ -135,12 +136,12 @@ DecodedFits-prop (Issue k x) = hlevel (le_prop, ℕ_set)
 pub ExecutedFits-prop : (held : Held Executed) → IsProp (ExecutedFits held)
 ExecutedFits-prop Bubble = hlevel (le_prop, ℕ_set)
 ExecutedFits-prop (Flushed k) = hlevel (le_prop, ℕ_set)
-ExecutedFits-prop (Issue k x) = hlevel (showable-prop, store-prop, aligned-prop, le_prop, ℕ_set)
+ExecutedFits-prop (Issue k x) = hlevel (printable-prop, store-prop, aligned-prop, le_prop, ℕ_set)
 
 pub StoredFits-prop : (held : Held Stored) → IsProp (StoredFits held)
 StoredFits-prop Bubble = hlevel (le_prop, ℕ_set)
 StoredFits-prop (Flushed k) = hlevel (le_prop, ℕ_set)
-StoredFits-prop (Issue k x) = hlevel (showable-prop, store-prop, le_prop, ℕ_set)
+StoredFits-prop (Issue k x) = hlevel (printable-prop, store-prop, le_prop, ℕ_set)
 
 pub WrittenFits-prop : (held : Held Written) → IsProp (WrittenFits held)
 WrittenFits-prop Bubble = hlevel (le_prop, ℕ_set)

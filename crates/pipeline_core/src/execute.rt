@@ -1,42 +1,45 @@
 //! E: instructions are executed, but for late values.
 
-ghost use Rattle.std.specs.Prelude.{◌≡◌, ◌-◌, ◌<◌, ◌==◌, if◌then◌else◌, List, Option, Some, None, length};
+ghost use Rattle.std.specs.Prelude.{◌≡◌, ◌-◌, ◌<◌, ◌==◌, if◌then◌else◌};
+ghost use Rattle.std.specs.Prelude.{List, Option, Some, None, length};
 ghost use Rattle.core_model.specs.Thread.{no_own};
 ghost use Rattle.rv_decode.specs.Table.{ins};
 ghost use Rattle.rv_decode.specs.Lag.{plain_lag, late_lag};
 ghost use Rattle.rv_exec.specs.Access.{IsAligned};
 ghost use Rattle.timer_unit.specs.Time.{most_cycles};
-ghost use Rattle.fp_ports.specs.Rows.{Row};
-ghost use Rattle.hart_exec.specs.AsDefined.{IsShown};
-ghost use Rattle.hart_exec.specs.Units.{executed_as_defined};
-ghost use Rattle.pipe_model.specs.Stages.{execute_stage, executed, redirect_of};
+ghost use Rattle.fp_ports.specs.PluggedPorts.{Row};
+ghost use Rattle.hart_exec.specs.Effects.{HasWord};
+ghost use Rattle.hart_exec.specs.Units.{abstract_result};
+ghost use Rattle.pipe_model.specs.Stages.{execute_stage, executed_of, redirect_of};
 ghost use Rattle.pipe_model.specs.declared.stage_registers.Held.TheVariants.{Issue};
-ghost use Rattle.pipe_model.specs.declared.stage_registers.Way.TheVariants.{LateValue, Elsewhere};
-ghost use Rattle.pipeline_core.specs.StageFacts.{IsPc, EffectFits, DecodedFits, ExecutedFits, RedirectFits};
-ghost use Rattle.pipeline_core.specs.AsDefined.{executed_by, state_as_defined};
+ghost use Rattle.pipe_model.specs.declared.stage_registers.Flush.TheVariants.{Decode};
+ghost use Rattle.pipe_model.specs.declared.stage_registers.Flush.TheVariants.{DecodeAndFetch};
+ghost use Rattle.pipeline_core.specs.StageFacts.{IsPc, EffectFits, DecodedFits};
+ghost use Rattle.pipeline_core.specs.StageFacts.{ExecutedFits, RedirectFits};
+ghost use Rattle.pipeline_core.specs.Abstraction.{executed_by, abstract_state};
 
 use crate::units::Units;
-use hart_exec::{Executed as Done, Hart, PcWord, Sources, execute_in};
-use pipe_model::{Decoded, Executed, Held, Redirect, Way};
+use hart_exec::{ExecResult, Hart, PcWord, Sources, execute_frequent, execute_in};
+use pipe_model::{Decoded, Executed, Flush, Held, Redirect};
 use rv_decode::{LATE_LAG, PLAIN_LAG};
 use rv_exec::Effect;
 
-/// The way in which a thread goes on after a lag, behind turns that are flushed; None where none
+/// Which younger turns a redirect flushes after a lag, by the lag of the execution; None where none
 /// are.
 #[inline(always)]
-fn way_of(lag: u64) -> Option<Way>
-    ensures way { result ≡ (if lag == plain_lag then None
-        else Some (if lag == late_lag then LateValue else Elsewhere)) }
+fn flush_of(lag: u64) -> Option<Flush>
+    ensures flush { result ≡ (if lag == plain_lag then None
+        else Some (if lag == late_lag then Decode else DecodeAndFetch)) }
 {
     match lag {
         PLAIN_LAG => None,
-        LATE_LAG => Some(Way::LateValue),
-        _ => Some(Way::Elsewhere),
+        LATE_LAG => Some(Flush::Decode),
+        _ => Some(Flush::DecodeAndFetch),
     }
 }
 
 /// What stands in the stage register of an executed instruction with its effect.
-fn executed_of(x: &Decoded, done: &Done, effect: Option<Effect>) -> Executed
+fn executed_of(x: &Decoded, done: &ExecResult, effect: Option<Effect>) -> Executed
     ensures { result ≡ record {
       pc = x.now.pc;
       word = done.now.word;
@@ -57,7 +60,7 @@ fn executed_of(x: &Decoded, done: &Done, effect: Option<Effect>) -> Executed
 }
 
 /// The issue as its instruction was executed: one whose word isn't shown has no sources.
-fn shown(x: &Decoded, done: &Done) -> Decoded
+fn shown(x: &Decoded, done: &ExecResult) -> Decoded
     ensures a { result.a ≡ (if done.now.word == 0 then 0 else x.now.a) }
     ensures b { result.b ≡ (if done.now.word == 0 then 0 else x.now.b) }
     ensures pc { result.pc ≡ x.now.pc }
@@ -72,9 +75,9 @@ fn shown(x: &Decoded, done: &Done) -> Decoded
 /// Leaves an executed instruction in `e`. The two most frequent effects have lines of their own, so
 /// that only the variant's own fields are copied; their words are shown.
 #[inline(always)]
-fn put_executed(thread: u8, x: &Decoded, done: &Done, e: &mut Held<Executed>)
-    requires { IsShown done.now.effect done.now.word }
-    ensures { e.new ≡ Issue thread (executed x.now (executed_as_defined no_own done.now)) }
+fn put_executed(thread: u8, x: &Decoded, done: &ExecResult, e: &mut Held<Executed>)
+    requires { HasWord done.now.effect done.now.word }
+    ensures { e.new ≡ Issue thread (executed_of x.now (abstract_result no_own done.now)) }
 {
     match done.effect {
         Some(Effect::Reg { rd, value }) => {
@@ -101,19 +104,19 @@ fn put_executed(thread: u8, x: &Decoded, done: &Done, e: &mut Held<Executed>)
 fn leave(
     thread: u8,
     x: &Decoded,
-    done: &Done,
+    done: &ExecResult,
     e: &mut Held<Executed>,
     redirect: &mut Redirect,
 ) -> bool
     requires thread { thread < 8 }
     requires pc { IsPc done.now.pc }
-    requires shown { IsShown done.now.effect done.now.word }
-    ensures e { e.new ≡ Issue thread (executed x.now (executed_as_defined no_own done.now)) }
-    ensures redirect { redirect_of thread (executed_as_defined no_own done.now)
+    requires shown { HasWord done.now.effect done.now.word }
+    ensures e { e.new ≡ Issue thread (executed_of x.now (abstract_result no_own done.now)) }
+    ensures redirect { redirect_of thread (abstract_result no_own done.now)
         ≡ (if result then Some redirect.new else None) }
     ensures fits { RedirectFits (if result then Some redirect.new else None) }
 {
-    let Some(way) = way_of(done.lag) else {
+    let Some(flush) = flush_of(done.lag) else {
         put_executed(thread, x, done, e);
         return false;
     };
@@ -121,7 +124,7 @@ fn leave(
     *redirect = Redirect {
         thread,
         pc: done.pc,
-        way,
+        flush,
     };
     true
 }
@@ -143,8 +146,8 @@ fn execute_issue(
     ensures e { e.new ≡ (executed_by units.old cycle (Issue thread x.now)).e }
     ensures redirect { (executed_by units.old cycle (Issue thread x.now)).redirect
         ≡ (if result then Some redirect.new else None) }
-    ensures units { (ports : List (Option Row)) → state_as_defined units.new ports
-        ≡ record (state_as_defined units.old ports) {
+    ensures units { (ports : List (Option Row)) → abstract_state units.new ports
+        ≡ record (abstract_state units.old ports) {
           control = (executed_by units.old cycle (Issue thread x.now)).control;
         } }
     ensures fits { ExecutedFits e.new }
@@ -156,9 +159,7 @@ fn execute_issue(
     };
     let mut hart = Hart {
         thread,
-        clock: units.clock,
-        cycle,
-        since_issue: 2,
+        time: units.clock.now(cycle.saturating_sub(2)),
         confined: units.is_confined(thread),
         permit: units.permit[thread as usize],
         guard: &mut units.guard,
@@ -168,6 +169,91 @@ fn execute_issue(
     };
     let done = execute_in(&mut hart, at, x.expired, Sources { a: x.a, b: x.b });
     leave(thread, x, &done, e, redirect)
+}
+
+/// Executes an issue that is rare, out of line. Inlined, it costs each cycle 20 to 40 instructions:
+/// its results are merged with the frequent ones in memory.
+#[cold]
+#[inline(never)]
+fn execute_rare(
+    units: &mut Units,
+    cycle: u64,
+    thread: u8,
+    x: &Decoded,
+    e: &mut Held<Executed>,
+) -> Option<Redirect>
+    requires thread { thread < 8 }
+    requires cycle { cycle < most_cycles }
+    requires pc { IsPc x.now.pc }
+    ensures e { e.new ≡ (executed_by units.old cycle (Issue thread x.now)).e }
+    ensures redirect { (executed_by units.old cycle (Issue thread x.now)).redirect ≡ result }
+    ensures units { (ports : List (Option Row)) → abstract_state units.new ports
+        ≡ record (abstract_state units.old ports) {
+          control = (executed_by units.old cycle (Issue thread x.now)).control;
+        } }
+    ensures fits { ExecutedFits e.new }
+    ensures redirect_fits { RedirectFits result }
+{
+    let mut redirect = Redirect {
+        thread,
+        pc: 0,
+        flush: Flush::Decode,
+    };
+    if execute_issue(units, cycle, thread, x, e, &mut redirect) {
+        Some(redirect)
+    } else {
+        None
+    }
+}
+
+/// Executes an issue, out of line if it is rare.
+#[tactic(auto, unfolding(pipe_model::specs::Stages::execute_stage))]
+#[inline(always)]
+fn execute_turn(
+    units: &mut Units,
+    cycle: u64,
+    thread: u8,
+    x: &Decoded,
+    e: &mut Held<Executed>,
+    redirect: &mut Redirect,
+) -> bool
+    requires thread { thread < 8 }
+    requires cycle { cycle < most_cycles }
+    requires pc { IsPc x.now.pc }
+    ensures e { e.new ≡ (executed_by units.old cycle (Issue thread x.now)).e }
+    ensures redirect { (executed_by units.old cycle (Issue thread x.now)).redirect
+        ≡ (if result then Some redirect.new else None) }
+    ensures units { (ports : List (Option Row)) → abstract_state units.new ports
+        ≡ record (abstract_state units.old ports) {
+          control = (executed_by units.old cycle (Issue thread x.now)).control;
+        } }
+    ensures fits { ExecutedFits e.new }
+    ensures redirect_fits { RedirectFits (if result then Some redirect.new else None) }
+{
+    let at = PcWord {
+        pc: x.pc,
+        word: x.word,
+    };
+    let permit = units.permit[thread as usize];
+    let mut hart = Hart {
+        thread,
+        time: units.clock.now(cycle.saturating_sub(2)),
+        confined: units.is_confined(thread),
+        permit,
+        guard: &mut units.guard,
+        sched: &mut units.sched,
+        timers: &mut units.timers,
+        traps: &mut units.traps,
+    };
+    let s = Sources { a: x.a, b: x.b };
+    if let Some(done) = execute_frequent(&mut hart, at, x.expired, s) {
+        return leave(thread, x, &done, e, redirect);
+    }
+    let Some(told) = execute_rare(units, cycle, thread, x, e) else {
+        return false;
+    };
+    *redirect = told;
+    true
 }
 
 /// Executes the turn that was issued two cycles ago. Returns whether its thread's next turns are
@@ -187,8 +273,8 @@ pub fn execute_stage(
     ensures e { e.new ≡ (executed_by units.old cycle held.now).e }
     ensures redirect { (executed_by units.old cycle held.now).redirect
         ≡ (if result then Some redirect.new else None) }
-    ensures units { (ports : List (Option Row)) → state_as_defined units.new ports
-        ≡ record (state_as_defined units.old ports) {
+    ensures units { (ports : List (Option Row)) → abstract_state units.new ports
+        ≡ record (abstract_state units.old ports) {
           control = (executed_by units.old cycle held.now).control;
         } }
     ensures fits { ExecutedFits e.new }
@@ -203,6 +289,6 @@ pub fn execute_stage(
             *e = Held::Flushed { thread: *thread };
             false
         }
-        Held::Issue { thread, what } => execute_issue(units, cycle, *thread, what, e, redirect),
+        Held::Issue { thread, what } => execute_turn(units, cycle, *thread, what, e, redirect),
     }
 }

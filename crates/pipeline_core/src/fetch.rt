@@ -2,11 +2,12 @@
 
 ghost use Rattle.std.specs.Prelude.{◌≡◌, ◌/◌, All, Some, length};
 ghost use Rattle.slot_scheduler.specs.Picking.{IsPick};
-ghost use Rattle.pipe_model.specs.Stages.{flushes_f, redirected, fetch_stage, advanced};
+ghost use Rattle.pipe_model.specs.Stages.{flushes_f, next_after_redirect};
+ghost use Rattle.pipe_model.specs.Stages.{fetch_stage, next_after_fetch};
 ghost use Rattle.pipeline_core.specs.StageFacts.{IsPc, FetchedFits, RedirectFits};
 
 use crate::memory::code_word;
-use pipe_model::{Fetched, Held, Redirect, Way};
+use pipe_model::{Fetched, Flush, Held, Redirect};
 use region_guard::Guard;
 use scratchpad::Spm;
 use slot_scheduler::Pick;
@@ -18,18 +19,18 @@ fn flushes_f(thread: u8, redirect: Option<Redirect>) -> bool
     let Some(redirect) = redirect else {
         return false;
     };
-    match redirect.way {
-        Way::LateValue => false,
-        Way::Elsewhere => redirect.thread == thread,
+    match redirect.flush {
+        Flush::Decode => false,
+        Flush::DecodeAndFetch => redirect.thread == thread,
     }
 }
 
 /// The thread of a redirect fetches next where that says.
-#[tactic(auto, unfolding(pipe_model::specs::Stages::redirected), using(crate::proofs::Pcs::pcs_set))]
+#[tactic(auto, unfolding(crate::proofs::Opened::redirecting), using(crate::proofs::Pcs::pcs_set))]
 pub fn redirect_to(next: &mut [u32; 8], redirect: Redirect)
     requires pcs { All IsPc next.old }
     requires fits { RedirectFits (Some redirect) }
-    ensures next { next.new ≡ redirected (Some redirect) next.old }
+    ensures next { next.new ≡ next_after_redirect (Some redirect) next.old }
     ensures pcs { All IsPc next.new }
 {
     next[redirect.thread as usize] = redirect.pc;
@@ -37,7 +38,7 @@ pub fn redirect_to(next: &mut [u32; 8], redirect: Redirect)
 
 /// Leaves in `f` the next word of the picked thread, if its turn isn't flushed. Inlined, as D is:
 /// each stands twice in the step, of which the one without a redirect has no test of it.
-#[tactic(auto, unfolding(pipe_model::specs::Stages::fetch_stage, pipe_model::specs::Stages::advanced), using(crate::proofs::Pcs::pcs_set, crate::proofs::Pcs::pc_at, crate::proofs::Pcs::pc_after))]
+#[tactic(auto, unfolding(crate::proofs::Opened::fetching), using(crate::proofs::Pcs::moving))]
 #[inline(always)]
 pub fn fetch_stage(
     guard: &Guard,
@@ -51,7 +52,7 @@ pub fn fetch_stage(
     requires pcs { All IsPc next.old }
     requires pick { IsPick pick }
     ensures stage { f.new ≡ fetch_stage guard.now.size imem.now redirect next.old pick }
-    ensures next { next.new ≡ advanced redirect pick next.old }
+    ensures next { next.new ≡ next_after_fetch redirect pick next.old }
     ensures pcs { All IsPc next.new }
     ensures fits { FetchedFits f.new }
 {

@@ -1,53 +1,19 @@
 //! The words of the two scratchpads, as fetches, loads and stores reach them.
 
-ghost use Rattle.std.specs.Prelude.{◌≡◌, ◌-◌, ◌<◌, ◌/◌, ◌%◌, ◌||◌, true, IsTrue, length, vec_len};
-ghost use Rattle.region_guard.specs.Regions.{IsSize, is_code, is_data, index_of};
+ghost use Rattle.std.specs.Prelude.{◌≡◌, ◌-◌, ◌<◌, ◌/◌, ◌%◌, ◌||◌, true, length, vec_len};
+ghost use Rattle.region_guard.specs.Regions.{is_code, is_data};
 ghost use Rattle.rv_exec.specs.Access.{lanes_at};
 ghost use Rattle.rv_exec.specs.Line.{IsWidth};
 ghost use Rattle.core_model.specs.Memory.{code_at, data_at};
-ghost use Rattle.world_model.specs.World.{words_after};
-ghost use Rattle.fp_ports.specs.Rows.{rows_of, row_at, word_seen};
+ghost use Rattle.core_model.specs.World.{words_after};
+ghost use Rattle.fp_ports.specs.PluggedPorts.{rows_of, row_at, word_seen};
 ghost use Rattle.pipeline_core.specs.StageFacts.{EffectFits};
 
 use fp_ports::{Port, Ports, read_port};
-use region_guard::{DATA_START, Guard};
+use region_guard::Guard;
 use rv_decode::StoreOp;
 use rv_exec::{Effect, Lanes, store_lanes};
 use scratchpad::Spm;
-
-/// The index of an address's word in the instruction scratchpad.
-#[tactic(auto, unfolding(region_guard::specs::Regions::index_of))]
-fn code_index(guard: &Guard, address: u32) -> u32
-    requires { IsTrue (is_code guard.now.size address) }
-    ensures index { result ≡ index_of guard.now.size address }
-    ensures small { result < guard.now.size / 4 }
-{
-    address / 4
-}
-
-/// The index of an address's word in the data scratchpad.
-#[tactic(auto, unfolding(region_guard::specs::Regions::index_of))]
-fn data_index(guard: &Guard, address: u32) -> u32
-    requires { IsTrue (is_data guard.now.size address) }
-    ensures index { result ≡ index_of guard.now.size address }
-    ensures small { result < guard.now.size / 4 }
-{
-    (address - DATA_START) / 4
-}
-
-/// Whether an address lies in the instruction scratchpad.
-fn is_code(guard: &Guard, address: u32) -> bool
-    ensures { result ≡ is_code guard.now.size address }
-{
-    address < guard.size
-}
-
-/// Whether an address lies in the data scratchpad.
-fn is_data(guard: &Guard, address: u32) -> bool
-    ensures { result ≡ is_data guard.now.size address }
-{
-    address >= DATA_START && address < DATA_START + guard.size
-}
 
 /// The word of the instruction scratchpad at a pc, 0 outside.
 #[tactic(auto, unfolding(core_model::specs::Memory::code_at))]
@@ -55,8 +21,8 @@ pub fn code_word(guard: &Guard, imem: &Spm, pc: u32) -> u32
     requires { length imem.now ≡ guard.now.size / 4 }
     ensures { result ≡ code_at guard.now.size imem.now pc }
 {
-    if is_code(guard, pc) {
-        imem.word_at(code_index(guard, pc))
+    if guard.is_code(pc) {
+        imem.word_at(guard.code_index(pc))
     } else {
         0
     }
@@ -86,10 +52,10 @@ pub fn data_word(
         ports.new ≡ ports.old }
     ensures eight { vec_len ports.new ≡ 8 }
 {
-    if is_code(guard, address) {
-        imem.word_at(code_index(guard, address))
-    } else if is_data(guard, address) {
-        dmem.word_at(data_index(guard, address))
+    if guard.is_code(address) {
+        imem.word_at(guard.code_index(address))
+    } else if guard.is_data(address) {
+        dmem.word_at(guard.data_index(address))
     } else {
         read_port(ports, thread, cycle.saturating_sub(3))
     }
@@ -122,10 +88,10 @@ pub fn store_word(guard: &Guard, dmem: &mut Spm, effect: &Option<Effect>)
             value,
         },
     ) = effect
-        && is_data(guard, *address)
+        && guard.is_data(*address)
     {
         dmem.store(
-            data_index(guard, *address),
+            guard.data_index(*address),
             lanes_of(*size, *address, *value),
         );
     }

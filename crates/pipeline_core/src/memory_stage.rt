@@ -3,14 +3,15 @@
 ghost use Rattle.std.specs.Prelude.{◌≡◌, ◌-◌, ◌<◌, ◌/◌, Some, false, length, vec_len};
 ghost use Rattle.rv_decode.specs.Table.{ins};
 ghost use Rattle.rv_exec.specs.Access.{IsAligned};
-ghost use Rattle.core_model.specs.Thread.{filled};
+ghost use Rattle.core_model.specs.Thread.{with_late_value};
 ghost use Rattle.core_model.specs.Issue.{late_rd, late_value};
 ghost use Rattle.core_model.specs.Memory.{data_at};
-ghost use Rattle.fp_ports.specs.Rows.{rows_of, row_at, word_seen};
+ghost use Rattle.fp_ports.specs.PluggedPorts.{rows_of, row_at, word_seen};
 ghost use Rattle.pipe_model.specs.declared.stage_registers.Held.TheVariants.{Issue};
 ghost use Rattle.rv_exec.specs.declared.outcome.Effect.TheVariants.{Nothing, Reg};
 ghost use Rattle.pipe_model.specs.Stages.{memory_stage, words_stored, ports_stored, put_at_port};
-ghost use Rattle.pipeline_core.specs.StageFacts.{EffectFits, ExecutedFits, StoredFits, at_port, loads_port, uses_port};
+ghost use Rattle.pipeline_core.specs.StageFacts.{EffectFits, ExecutedFits, StoredFits};
+ghost use Rattle.pipeline_core.specs.StageFacts.{at_port, loads_port, uses_port};
 
 use crate::memory::{data_word, store_word};
 use fp_ports::{Port, Ports, write_port};
@@ -41,7 +42,7 @@ fn late_effect(
     ensures effect { let found = data_at guard.now.size imem.now dmem.now
         (word_seen (row_at (rows_of latched word_at ports.old.items) thread) (cycle - 3))
         x.now.address in
-        result ≡ filled (late_rd (ins x.now.word))
+        result ≡ with_late_value (late_rd (ins x.now.word))
         (late_value (ins x.now.word) found x.now.address x.now.a x.now.b) x.now.effect }
     ensures fits { EffectFits result }
     ensures rows { rows_of latched word_at ports.new.items ≡
@@ -124,7 +125,7 @@ fn put_word(ports: &mut Ports, thread: u8, effect: &Option<Effect>)
 
 /// Leaves in `m` what M makes of an instruction that was issued three cycles ago, and stores what
 /// it stores, in the data scratchpad or at its thread's port.
-#[tactic(auto, unfolding(pipe_model::specs::Stages::memory_stage, pipe_model::specs::Stages::words_stored, pipe_model::specs::Stages::ports_stored))]
+#[tactic(auto, unfolding(crate::proofs::Opened::storing))]
 fn access_issue(
     guard: &Guard,
     imem: &Spm,
@@ -168,7 +169,7 @@ fn access_issue(
 
 /// Leaves in `m` what M makes of a turn that was issued three cycles ago, and stores what it
 /// stores.
-#[tactic(auto, unfolding(pipe_model::specs::Stages::memory_stage, pipe_model::specs::Stages::words_stored, pipe_model::specs::Stages::ports_stored))]
+#[tactic(auto, unfolding(crate::proofs::Opened::storing))]
 pub fn memory_stage(
     guard: &Guard,
     imem: &Spm,

@@ -3,7 +3,12 @@
 ghost use Rattle.std.specs.Prelude.{◌≡◌, All};
 ghost use Rattle.std.proofs.Props.{props};
 ghost use Rattle.timer_unit.specs.Time.{most_cycles};
-ghost use Rattle.pipeline_core.specs.StageFacts.{IsPc, FetchedFits, DecodedFits, ExecutedFits, StoredFits, WrittenFits, RedirectFits, FetchedFits-prop, DecodedFits-prop, ExecutedFits-prop, StoredFits-prop, WrittenFits-prop};
+ghost use Rattle.pipeline_core.specs.StageFacts.{IsPc, FetchedFits, DecodedFits};
+ghost use Rattle.pipeline_core.specs.StageFacts.{ExecutedFits, StoredFits, WrittenFits};
+ghost use Rattle.pipeline_core.specs.StageFacts.{RedirectFits, FetchedFits-prop};
+ghost use Rattle.pipeline_core.specs.StageFacts.{DecodedFits-prop, ExecutedFits-prop};
+ghost use Rattle.pipeline_core.specs.StageFacts.{StoredFits-prop, WrittenFits-prop};
+ghost use Rattle.core_model.specs.Cycles.{cycles_to_w};
 
 use crate::decode::decode_stage;
 use crate::execute::execute_stage;
@@ -13,8 +18,7 @@ use crate::units::Units;
 use crate::writeback::{retire, writeback_stage};
 use fp_ports::{Port, Ports};
 use pipe_model::{
-    Decoded, Executed, Fetched, Held, Redirect, Stored, Way, Written, keeps_standing,
-    starts_standing,
+    Decoded, Executed, Fetched, Flush, Held, Redirect, Stored, Written, refinement, start_refines,
 };
 use rv_exec::Event;
 use slot_scheduler::Pick;
@@ -47,29 +51,35 @@ pub struct Pipe {
 }
 
 impl Pipe {
-    ghost use Rattle.std.specs.Prelude.{◌<◌, ◌-◌, if◌then◌else◌, false, List, Option, Some, None, map, vec_len};
-    ghost use Rattle.fp_ports.specs.Rows.{Row, rows_of};
-    ghost use Rattle.world_model.specs.World.{Start, start_world};
+    ghost use Rattle.std.specs.Prelude.{◌<◌, ◌-◌, if◌then◌else◌, false, List};
+    ghost use Rattle.std.specs.Prelude.{Option, Some, None, map, vec_len};
+    ghost use Rattle.fp_ports.specs.PluggedPorts.{Row, rows_of};
+    ghost use Rattle.core_model.specs.World.{Start, start_world};
     ghost use Rattle.slot_scheduler.specs.Picking.{IsPick};
     ghost use Rattle.timer_unit.specs.Time.{time};
-    ghost use Rattle.pipe_model.specs.Stages.{advanced, bank_after, decode_stage, fetch_stage, memory_stage, ports_stored, redirected, retired, step, words_stored, writeback_stage};
-    ghost use Rattle.pipe_model.specs.Relation.{Begins, Shows, Stands, Kept, HasLatches};
+    ghost use Rattle.pipe_model.specs.Stages.{next_after_fetch, bank_after, decode_stage};
+    ghost use Rattle.pipe_model.specs.Stages.{fetch_stage, memory_stage, ports_stored};
+    ghost use Rattle.pipe_model.specs.Stages.{next_after_redirect, retired_event};
+    ghost use Rattle.pipe_model.specs.Stages.{step, words_stored, writeback_stage};
+    ghost use Rattle.pipe_model.specs.Relation.{Begins, PortsRefine, Refines};
+    ghost use Rattle.pipe_model.specs.Relation.{RefinesNext, HasLatches};
     ghost use Rattle.pipe_model.specs.PipelineLaws.{empty, first_units};
-    ghost use Rattle.pipeline_core.specs.StageFacts.{IsEventShowable, uses_port};
-    ghost use Rattle.pipeline_core.specs.AsDefined.{executed_by, stage_registers_as_defined, state_as_defined, ticked_as_defined};
+    ghost use Rattle.pipeline_core.specs.StageFacts.{IsPrintableEvent, uses_port};
+    ghost use Rattle.pipeline_core.specs.Abstraction.{executed_by, abstract_stages};
+    ghost use Rattle.pipeline_core.specs.Abstraction.{abstract_state, abstract_ticked};
 
-    /// A pipeline with nothing in it, whose threads start at these entries. It stands for cycle 0
+    /// A pipeline with nothing in it, whose threads start at these entries. It refines cycle 0
     /// of each world whose threads start there, beside units and ports that hold that world's
     /// start.
     pub fn new(entries: [u32; 8]) -> Pipe
         requires { All IsPc entries }
-        ensures stage_registers { stage_registers_as_defined result ≡ empty entries }
-        ensures stands { (s : Start) (ports : List (Option Row)) → Begins s →
+        ensures stage_registers { abstract_stages result ≡ empty entries }
+        ensures refines { (s : Start) (ports : List (Option Row)) → Begins s →
             HasLatches (start_world s) ports →
             map (λ t. t.pc) s.threads ≡ entries →
-            Stands s 0 (stage_registers_as_defined result) (first_units s ports) }
+            Refines s 0 (abstract_stages result) (first_units s ports) }
     {
-        starts_standing();
+        start_refines();
         Pipe {
             next: entries,
             f: Held::Bubble,
@@ -80,8 +90,8 @@ impl Pipe {
         }
     }
 
-    /// One cycle of the core. Where pipeline, units and ports stand for the cycle of a world, they
-    /// stand for its next cycle afterwards, and the answer is the event of the issue of four cycles
+    /// One cycle of the core. Where pipeline, units and ports refine the cycle of a world, they
+    /// refine its next cycle afterwards, and the answer is the event of the issue of four cycles
     /// ago, or None where that has none or there is no issue.
     #[inline(always)]
     pub fn tick(&mut self, units: &mut Units, ports: &mut Ports, cycle: u64) -> Option<Event>
@@ -89,20 +99,20 @@ impl Pipe {
         requires eight { vec_len ports.old ≡ 8 }
         ensures relation { let before = rows_of latched word_at ports.old.items in let after =
             rows_of latched word_at ports.new.items in
-            (s : Start) → Begins s → Shows s cycle before →
-            Stands s cycle (stage_registers_as_defined self.old)
-            (state_as_defined units.old before) →
-            Kept s cycle before (ticked_as_defined self.new units.new after result) }
-        ensures step { ticked_as_defined self.new units.new
+            (s : Start) → Begins s → PortsRefine s cycle before →
+            Refines s cycle (abstract_stages self.old)
+            (abstract_state units.old before) →
+            RefinesNext s cycle before (abstract_ticked self.new units.new after result) }
+        ensures step { abstract_ticked self.new units.new
             (rows_of latched word_at ports.new.items)
-            result ≡ step (stage_registers_as_defined self.old)
-            (state_as_defined units.old (rows_of latched word_at ports.old.items)) cycle }
+            result ≡ step (abstract_stages self.old)
+            (abstract_state units.old (rows_of latched word_at ports.old.items)) cycle }
         ensures idle { uses_port units.old.guard.size self.old.e ≡ false → ports.new ≡ ports.old }
         ensures eight { vec_len ports.new ≡ 8 }
-        ensures retires { result ≡ retired (cycle - 4) self.old.m }
-        ensures showable { IsEventShowable result }
+        ensures retires { result ≡ retired_event (cycle - cycles_to_w) self.old.m }
+        ensures printable { IsPrintableEvent result }
     {
-        keeps_standing();
+        refinement();
         let event = retire(&self.m, cycle);
         self.step(units, ports, cycle);
         event
@@ -121,9 +131,10 @@ impl Pipe {
     fn step(&mut self, units: &mut Units, ports: &mut Ports, cycle: u64)
         requires cycle { cycle < most_cycles }
         requires eight { vec_len ports.old ≡ 8 }
-        ensures step { ticked_as_defined self.new units.new
-            (rows_of latched word_at ports.new.items) (retired (cycle - 4) self.old.m) ≡
-            step (stage_registers_as_defined self.old) (state_as_defined units.old
+        ensures step { abstract_ticked self.new units.new
+            (rows_of latched word_at ports.new.items) (retired_event
+            (cycle - cycles_to_w) self.old.m) ≡
+            step (abstract_stages self.old) (abstract_state units.old
             (rows_of latched word_at ports.old.items)) cycle }
         ensures idle { uses_port units.old.guard.size self.old.e ≡ false → ports.new ≡ ports.old }
         ensures eight { vec_len ports.new ≡ 8 }
@@ -134,7 +145,7 @@ impl Pipe {
         let mut redirect = Redirect {
             thread: 0,
             pc: 0,
-            way: Way::LateValue,
+            flush: Flush::Decode,
         };
         let redirects = self.execute(units, cycle, &mut redirect);
         self.younger_stages(units, redirects, redirect, pick, cycle);
@@ -149,8 +160,8 @@ impl Pipe {
         ensures m { self.new.m ≡ memory_stage units.old.guard.size units.old.imem units.old.dmem
             (rows_of latched word_at ports.old.items) (cycle - 3) self.old.e }
         ensures units { let rows = rows_of latched word_at ports.old.items in
-            state_as_defined units.new (rows_of latched word_at ports.new.items)
-            ≡ record (state_as_defined units.old rows) {
+            abstract_state units.new (rows_of latched word_at ports.new.items)
+            ≡ record (abstract_state units.old rows) {
               bank = bank_after self.old.m units.old.bank;
               d_words = words_stored units.old.guard.size self.new.m units.old.dmem;
               ports = ports_stored self.new.m rows;
@@ -182,8 +193,8 @@ impl Pipe {
         ensures e { self.new.e ≡ (executed_by units.old cycle self.old.d).e }
         ensures redirect { (executed_by units.old cycle self.old.d).redirect
             ≡ (if result then Some redirect.new else None) }
-        ensures units { (ports : List (Option Row)) → state_as_defined units.new ports
-            ≡ record (state_as_defined units.old ports) {
+        ensures units { (ports : List (Option Row)) → abstract_state units.new ports
+            ≡ record (abstract_state units.old ports) {
               control = (executed_by units.old cycle self.old.d).control;
             } }
         ensures fits { RedirectFits (if result then Some redirect.new else None) }
@@ -215,9 +226,9 @@ impl Pipe {
             (time units.now.clock (cycle - 1)) self.old.f }
         ensures f { let told = if redirects then Some redirect else None in self.new.f ≡
             fetch_stage units.now.guard.size units.now.imem told
-            (redirected told self.old.next) pick }
+            (next_after_redirect told self.old.next) pick }
         ensures next { let told = if redirects then Some redirect else None in self.new.next ≡
-            advanced told pick (redirected told self.old.next) }
+            next_after_fetch told pick (next_after_redirect told self.old.next) }
         ensures e { self.new.e ≡ self.old.e }
         ensures m { self.new.m ≡ self.old.m }
         ensures w { self.new.w ≡ self.old.w }
@@ -240,7 +251,7 @@ impl Pipe {
             units.now.timers redirect (time units.now.clock (cycle - 1)) self.old.f }
         ensures f { self.new.f ≡
             fetch_stage units.now.guard.size units.now.imem redirect self.old.next pick }
-        ensures next { self.new.next ≡ advanced redirect pick self.old.next }
+        ensures next { self.new.next ≡ next_after_fetch redirect pick self.old.next }
         ensures e { self.new.e ≡ self.old.e }
         ensures m { self.new.m ≡ self.old.m }
         ensures w { self.new.w ≡ self.old.w }

@@ -2,26 +2,29 @@
 
 ghost use Rattle.std.specs.Prelude.{◌≡◌, ◌-◌, ◌<◌, [], slice_index_or, slice_set};
 ghost use Rattle.core_model.specs.Thread.{reg_set, regs_after};
-ghost use Rattle.pipe_model.specs.Stages.{bank_after, writeback_stage, retired};
-ghost use Rattle.pipeline_core.specs.StageFacts.{EffectFits, StoredFits, WrittenFits, IsEventShowable};
+ghost use Rattle.pipe_model.specs.Stages.{bank_after, writeback_stage, retired_event};
+ghost use Rattle.pipeline_core.specs.StageFacts.{EffectFits, StoredFits};
+ghost use Rattle.pipeline_core.specs.StageFacts.{WrittenFits, IsPrintableEvent};
+ghost use Rattle.core_model.specs.Cycles.{cycles_to_w};
 
+use core_model::CYCLES_TO_W;
 use pipe_model::{Held, Stored, Written};
 use regfile_bank::Bank;
 use rv_exec::{Effect, Event};
 
-/// The event that retires in a cycle, if there is one: that of the turn that was issued four cycles
-/// ago.
-#[tactic(auto, unfolding(pipe_model::specs::Stages::retired))]
+/// The event that retires in a cycle, if there is one: that of the turn in W, which was issued
+/// [`CYCLES_TO_W`] cycles ago.
+#[tactic(auto, unfolding(pipe_model::specs::Stages::retired_event))]
 pub fn retire(held: &Held<Stored>, cycle: u64) -> Option<Event>
     requires { StoredFits held.now }
-    ensures event { result ≡ retired (cycle - 4) held.now }
-    ensures showable { IsEventShowable result }
+    ensures event { result ≡ retired_event (cycle - cycles_to_w) held.now }
+    ensures printable { IsPrintableEvent result }
 {
     let Held::Issue { thread, what } = held else {
         return None;
     };
     Some(Event {
-        cycle: cycle.saturating_sub(4),
+        cycle: cycle.saturating_sub(CYCLES_TO_W),
         thread: *thread,
         pc: what.pc,
         word: what.word,
@@ -82,7 +85,7 @@ fn leave_written(held: &Held<Stored>, w: &mut Held<Written>)
 }
 
 /// Writes the register of the turn's effect, if it has one, and leaves the turn in `w`.
-#[tactic(auto, unfolding(pipe_model::specs::Stages::bank_after, pipe_model::specs::Stages::writeback_stage))]
+#[tactic(auto, unfolding(crate::proofs::Opened::writing_back))]
 pub fn writeback_stage(bank: &mut Bank, held: &Held<Stored>, w: &mut Held<Written>)
     requires { StoredFits held.now }
     ensures bank { bank.new ≡ bank_after held.now bank.old }

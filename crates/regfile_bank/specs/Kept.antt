@@ -14,4 +14,5 @@ pub rows_again : (rows : List (List ℕ)) → All IsRow rows → map with_x0 (ma
 rows_again [] all = refl
 rows_again (row ∷ rows) all =
     let first = all zero [] (zero-lt-suc (length rows)) in
-    ap₂ (λ row rows. row ∷ rows) (sym first.0) (rows_again rows (λ k d inside. all (suc k) d (suc-le-suc inside)))
+    ap₂ (λ row rows. row ∷ rows) (sym first.0)
+    (rows_again rows (λ k d inside. all (suc k) d (suc-le-suc inside)))

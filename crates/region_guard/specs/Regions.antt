@@ -1,9 +1,10 @@
 -- The regions of the two scratchpads, and who may fetch, load and store where. `size` is that of
 -- each scratchpad, in bytes; each has eight regions of a size / 8 bytes.
-use Rattle.std.specs.Prelude.{◌≡◌, ◌⊎◌, ℕ, ◌+◌, ◌/◌, ◌%◌, ◌==◌, nat_lt, nat_le, Bool, true, false, not, ◌&&◌, ◌||◌, if◌then◌else◌}
+use Rattle.std.specs.Prelude.{◌≡◌, ◌⊎◌, ℕ, ◌+◌, ◌/◌, ◌%◌, ◌==◌, nat_lt, nat_le}
+use Rattle.std.specs.Prelude.{Bool, true, false, not, ◌&&◌, ◌||◌, if◌then◌else◌}
 use Rattle.std.proofs.Common.{inl, inr, ap, arith}
 use Rattle.std.proofs.Math.Nat.{ℕ_set}
-use Rattle.nibble_word.specs.Nibbles.{nibble_at}
+use Rattle.slot_table.specs.Nibbles.{nibble_at}
 use Rattle.region_guard.specs.MemoryMap.{small_size, large_size, data_start, port_address}
 
 -- the sizes that there are
@@ -17,9 +18,16 @@ IsSize-prop size (inl a) (inr b) = absurd (omega arith)
 IsSize-prop size (inr a) (inl b) = absurd (omega arith)
 IsSize-prop size (inr a) (inr b) = ap inr (ℕ_set size large_size a b)
 
--- what may stand in a region register for a region: a thread, shared (8) or read only (12)
+-- the nibble of a shared region, and that of a read only one
+abbrev pub shared_region : ℕ
+shared_region = 8
+
+abbrev pub read_only_region : ℕ
+read_only_region = 12
+
+-- what may stand in a region register for a region: a thread, shared or read only
 abbrev pub is_owner : ℕ → Bool
-is_owner nibble = nat_le nibble 8 || nibble == 12
+is_owner nibble = nat_le nibble shared_region || nibble == read_only_region
 
 -- what a region is to a thread
 pub data RegionKind : Type 0 where
@@ -32,8 +40,8 @@ pub data RegionKind : Type 0 where
 unfoldable pub region_kind : ℕ → ℕ → RegionKind
 region_kind thread nibble =
     if nibble == thread then Mine
-    else if nibble == 8 then Shared
-    else if nibble == 12 then ReadOnly
+    else if nibble == shared_region then Shared
+    else if nibble == read_only_region then ReadOnly
     else Foreign
 
 -- where a confined thread may load and fetch

@@ -1,8 +1,9 @@
 -- The word of a region register: eight nibbles, one for each region.
-use Rattle.std.specs.Prelude.{ℕ, ◌==◌, Bool, ◌||◌, not, List, [], ◌∷◌, map, position, Option, Some, None, Result, Ok, Err}
+use Rattle.std.specs.Prelude.{ℕ, ◌==◌, Bool, ◌||◌, not, List, [], ◌∷◌, map}
+use Rattle.std.specs.Prelude.{position, Option, Some, None, Result, Ok, Err}
 use Rattle.std.specs.List.{list_all}
-use Rattle.nibble_word.specs.Nibbles.{nibbles}
-use Rattle.nibble_word.specs.Masks.{mask_of}
+use Rattle.slot_table.specs.Nibbles.{nibbles}
+use Rattle.slot_table.specs.Masks.{mask_of}
 use Rattle.region_guard.specs.declared.register.BadRegion.{BadRegion}
 use Rattle.region_guard.specs.Regions.{RegionKind, is_owner, region_kind}
 
@@ -14,6 +15,7 @@ is_regions word = list_all is_owner (nibbles word)
 abbrev pub bad_region : ℕ → Option ℕ
 bad_region word = position (λ nibble. not (is_owner nibble)) (nibbles word)
 
+-- the word, unless a region is refused. The slots register has a refusal of another type
 abbrev pub unless_bad : ℕ → Option ℕ → Result ℕ BadRegion
 unless_bad word None = Ok word
 unless_bad word (Some index) = Err (record { index = index })
@@ -24,7 +26,8 @@ regions_of word = unless_bad word (bad_region word)
 
 -- the regions that are to a thread what passes a test, of which region i is bit i
 abbrev pub regions_that : (RegionKind → Bool) → ℕ → ℕ → ℕ
-regions_that test word thread = mask_of (map (λ nibble. test (region_kind thread nibble)) (nibbles word))
+regions_that test word thread =
+    mask_of (map (λ nibble. test (region_kind thread nibble)) (nibbles word))
 
 -- those of each of the eight threads
 unfoldable pub by_thread : (RegionKind → Bool) → ℕ → List ℕ

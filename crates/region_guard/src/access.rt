@@ -1,7 +1,9 @@
 //! Who may fetch, load and store where.
 
-ghost use Rattle.std.specs.Prelude.{◌≡◌, ◌<◌, not, ◌||◌};
-ghost use Rattle.region_guard.specs.Regions.{IsSize, IsSize-prop, is_port, is_data, may_fetch, may_load, may_read, may_store, region_of};
+ghost use Rattle.std.specs.Prelude.{◌≡◌, ◌<◌, ◌/◌, not, ◌||◌, IsTrue};
+ghost use Rattle.region_guard.specs.Regions.{IsSize, IsSize-prop, index_of, is_code};
+ghost use Rattle.region_guard.specs.Regions.{is_data, is_port, may_fetch, may_load};
+ghost use Rattle.region_guard.specs.Regions.{may_read, may_store, region_of};
 
 use crate::memory_map::{DATA_START, LARGE_SIZE, PORT_ADDRESS, SMALL_SIZE};
 use crate::register::Regions;
@@ -37,14 +39,6 @@ fn region_of(size: u32, address: u32) -> u8
     region as u8
 }
 
-// Whether an address is in the data scratchpad.
-fn is_data(size: u32, address: u32) -> bool
-    requires { IsSize size }
-    ensures { result ≡ is_data size address }
-{
-    address.wrapping_sub(DATA_START) < size
-}
-
 // Whether an access is one of the whole word of the port.
 fn is_port(address: u32, size: u8) -> bool
     ensures { result ≡ is_port address size }
@@ -53,6 +47,40 @@ fn is_port(address: u32, size: u8) -> bool
 }
 
 impl Guard {
+    /// Whether an address is in the instruction scratchpad.
+    pub fn is_code(&self, address: u32) -> bool
+        ensures { result ≡ is_code self.now.size address }
+    {
+        self.size > address
+    }
+
+    /// Whether an address is in the data scratchpad.
+    pub fn is_data(&self, address: u32) -> bool
+        ensures { result ≡ is_data self.now.size address }
+    {
+        address.wrapping_sub(DATA_START) < self.size
+    }
+
+    /// The index of the word in the instruction scratchpad that an address of it is in.
+    #[tactic(auto, unfolding(crate::specs::Regions::index_of))]
+    pub fn code_index(&self, address: u32) -> u32
+        requires { IsTrue (is_code self.now.size address) }
+        ensures index { result ≡ index_of self.now.size address }
+        ensures small { result < self.now.size / 4 }
+    {
+        address / 4
+    }
+
+    /// The index of the word in the data scratchpad that an address of it is in.
+    #[tactic(auto, unfolding(crate::specs::Regions::index_of))]
+    pub fn data_index(&self, address: u32) -> u32
+        requires { IsTrue (is_data self.now.size address) }
+        ensures index { result ≡ index_of self.now.size address }
+        ensures small { result < self.now.size / 4 }
+    {
+        (address - DATA_START) / 4
+    }
+
     // Whether a thread may load or fetch at an address of the scratchpad with these regions.
     fn may_read(&self, regions: &Regions, thread: u8, confined: bool, address: u32) -> bool
         ensures { result ≡ may_read thread self.now.size confined regions.now address }
@@ -79,7 +107,7 @@ impl Guard {
     {
         if address < self.size {
             self.may_read(&self.i, thread, confined, address)
-        } else if is_data(self.size, address) {
+        } else if self.is_data(address) {
             self.may_read(&self.d, thread, confined, address)
         } else {
             is_port(address, size)
@@ -92,7 +120,7 @@ impl Guard {
     pub fn may_store(&self, thread: u8, address: u32, size: u8) -> bool
         ensures { result ≡ may_store thread self.now.size self.now.d address size }
     {
-        if !is_data(self.size, address) {
+        if !self.is_data(address) {
             return is_port(address, size);
         }
         self.d.is_writable(region_of(self.size, address), thread)

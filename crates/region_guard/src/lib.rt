@@ -8,4 +8,4 @@ mod register;
 
 pub use access::Guard;
 pub use memory_map::{DATA_START, LARGE_SIZE, PORT_ADDRESS, SMALL_SIZE};
-pub use register::{BadRegion, Regions};
+pub use register::{BadRegion, READ_ONLY, Regions, SHARED};

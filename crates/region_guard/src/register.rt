@@ -1,12 +1,13 @@
 //! A region register as a type that holds only accepted words.
 
-ghost use Rattle.std.specs.Prelude.{◌≡◌, ◌<◌, ◌==◌, ◌||◌, IfSome, IsTrue, is_ok, map, not, position};
-ghost use Rattle.nibble_word.specs.Masks.{bit_of, mask_of};
-ghost use Rattle.nibble_word.specs.Nibbles.{nibble_at};
+ghost use Rattle.std.specs.Prelude.{◌≡◌, ◌<◌, ◌==◌, ◌||◌, IfSome};
+ghost use Rattle.std.specs.Prelude.{IsTrue, is_ok, map, not, position};
+ghost use Rattle.slot_table.specs.Masks.{bit_of, mask_of};
+ghost use Rattle.slot_table.specs.Nibbles.{nibble_at};
 ghost use Rattle.region_guard.specs.Regions.{is_owner, is_readable, is_writable, region_kind};
 ghost use Rattle.region_guard.specs.RegionsWord.{is_regions, masks_by, regions_of};
 
-use nibble_word::{nibble, nibbles_of};
+use slot_table::{nibble, nibbles_of};
 use std::marker::Model;
 use thiserror::Error;
 
@@ -52,10 +53,10 @@ impl Model for Regions {
 }
 
 /// The nibble of a shared region.
-const SHARED: u8 = 8;
+pub const SHARED: u8 = 8;
 
 /// The nibble of a read only region.
-const READ_ONLY: u8 = 12;
+pub const READ_ONLY: u8 = 12;
 
 fn is_owner(nibble: u8) -> bool
     ensures { result ≡ is_owner nibble }

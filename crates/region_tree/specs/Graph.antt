@@ -46,4 +46,5 @@ Inside j i = (j.head < i.head) × (i.last ≤ j.last)
 -- Bounds of loops play no part in that.
 pub data Reachable (g : Graph) : ℕ → Type 0 where
   first : Reachable g g.from
-  next : {u : ℕ} (e : Edge) → Reachable g u → Contains (g.edges u) e → Lies g e.to → Reachable g e.to
+  next : {u : ℕ} (e : Edge) → Reachable g u → Contains (g.edges u) e → Lies g e.to →
+      Reachable g e.to

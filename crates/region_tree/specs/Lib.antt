@@ -1,6 +1,7 @@
 pub mod Edges
 pub mod Graph
 pub mod Walk
+pub mod Nesting
 pub mod Refusals
 pub mod Tree
 pub mod Search

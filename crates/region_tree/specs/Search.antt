@@ -1,10 +1,13 @@
 -- What the search for refusals finds on its way.
-use Rattle.std.specs.Prelude.{◌≡◌, ◌≢◌, ℕ, ◌+◌, ◌-◌, ◌*◌, ◌/◌, ◌<◌, ◌≤◌, ◌⊎◌, ◌&&◌, ◌↔◌, nat_le, nat_lt, min, Bool, true, false, cond, if◌then◌else◌, Option, Some, None, List, length, slice_index_or, sum_by, MatchOption, Contains}
+use Rattle.std.specs.Prelude.{◌≡◌, ◌≢◌, ℕ, ◌+◌, ◌-◌, ◌*◌, ◌/◌, ◌<◌, ◌≤◌, ◌⊎◌, ◌&&◌, ◌↔◌, nat_le}
+use Rattle.std.specs.Prelude.{nat_lt, min, Bool, true, false, cond, if◌then◌else◌, Option, Some}
+use Rattle.std.specs.Prelude.{None, List, length, slice_index_or, sum_by, MatchOption, Contains}
 use Rattle.fp_setup.specs.declared.loop_list.LoopSetup.{LoopSetup}
 use Rattle.region_tree.specs.declared.section.Section.{Section}
 use Rattle.region_tree.specs.Graph.{Edge, Lies, Holds, Reachable}
 use Rattle.region_tree.specs.Edges.{edges_of}
-use Rattle.region_tree.specs.Refusals.{Crosses, depth, loop_at, Nowhere, IsLowest}
+use Rattle.region_tree.specs.Refusals.{Nowhere, IsLowest}
+use Rattle.region_tree.specs.Nesting.{Crosses, depth, loop_at, most_depth}
 use Rattle.region_tree.specs.Tree.{Tree, graph, word_at}
 
 -- the address of a tree's word by its index
@@ -23,11 +26,12 @@ is_met met k = slice_index_or met k false
 -- a word is met exactly where it is reachable
 pub record IsMet (t : Tree) (met : List Bool) : Type 0 where
   pub count : length met ≡ length t.words
-  pub exact : (k : ℕ) → k < length t.words → (is_met met k ≡ true) ↔ Reachable (graph t) (address t k)
+  pub exact : (k : ℕ) → k < length t.words →
+      (is_met met k ≡ true) ↔ Reachable (graph t) (address t k)
 
 -- how many words aren't met yet
-abbrev pub unmet : List Bool → ℕ
-unmet met = sum_by (λ b. cond b 0 1) met
+abbrev pub unmet_count : List Bool → ℕ
+unmet_count met = sum_by (λ b. cond b 0 1) met
 
 -- a word at an index was met, and put on the list of words to do if it wasn't met before
 pub record IsVisited (index : Option ℕ) (met met' : List Bool) (todo todo' : List ℕ) : Type 0 where
@@ -38,11 +42,13 @@ pub record IsVisited (index : Option ℕ) (met met' : List Bool) (todo todo' : L
   pub stays : (k : ℕ) → Contains todo k → Contains todo' k
   pub done : (k : ℕ) → is_met met' k ≡ true → (is_met met k ≡ true) ⊎ Contains todo' k
   pub came : (k : ℕ) → Contains todo' k → Contains todo k ⊎ (index ≡ Some k)
-  pub less : 2 * unmet met' + length todo' ≤ 2 * unmet met + length todo
+  pub less : 2 * unmet_count met' + length todo' ≤ 2 * unmet_count met + length todo
 
 -- every edge of the word at an index leads to a word that is met, or out of the section
 abbrev pub IsClosed : Tree → List Bool → ℕ → Type 0
-IsClosed t met k = (e : Edge) → Contains ((graph t).edges (address t k)) e → Lies (graph t) e.to → is_met met ((e.to - t.section.from) / 4) ≡ true
+IsClosed t met k =
+    (e : Edge) → Contains ((graph t).edges (address t k)) e → Lies (graph t) e.to →
+    is_met met ((e.to - t.section.from) / 4) ≡ true
 
 -- Words that are met are reachable, and each is still to be done, or left out, or closed.
 pub record IsGathered (t : Tree) (out : ℕ → Type 0) (met : List Bool) (todo : List ℕ) : Type 0 where
@@ -73,9 +79,9 @@ pub record CrossedHere (loops : List LoopSetup) (later a : ℕ) : Type 0 where
   pub crosses : Crosses (loop_at loops earlier) (loop_at loops later)
   pub address : a ≡ (loop_at loops later).head
 
--- the head of the loop at an index, where it lies in more than three others
+-- the head of the loop at an index, where it lies deeper than `most_depth`
 pub record DeepHere (loops : List LoopSetup) (k a : ℕ) : Type 0 where
-  pub depth : 4 < depth loops (loop_at loops k)
+  pub depth : most_depth < depth loops (loop_at loops k)
   pub address : a ≡ (loop_at loops k).head
 
 -- an edge from u to v enters a loop, but not at its head
@@ -91,12 +97,14 @@ pub record EnteredHere (loops : List LoopSetup) (u v k a : ℕ) : Type 0 where
 
 -- the head of a loop that the edge to a target enters
 abbrev pub EnteredBy : List LoopSetup → ℕ → Option ℕ → ℕ → Type 0
-EnteredBy loops u target a = (v : ℕ) × (target ≡ Some v) × Before (EnteredHere loops u v) (length loops) a
+EnteredBy loops u target a =
+    (v : ℕ) × (target ≡ Some v) × Before (EnteredHere loops u v) (length loops) a
 
 -- the head of a loop that an edge of the word at an index enters
 pub record EnteredFrom (t : Tree) (k a : ℕ) : Type 0 where
   pub reached : Reachable (graph t) (address t k)
-  pub by : let e = edges_of (word_at t (address t k)) (address t k) in EnteredBy t.loops (address t k) e.next a ⊎ EnteredBy t.loops (address t k) e.jump a
+  pub by : let e = edges_of (word_at t (address t k)) (address t k) in
+      EnteredBy t.loops (address t k) e.next a ⊎ EnteredBy t.loops (address t k) e.jump a
 
 -- an edge back from u to v is bounded
 abbrev pub GoesBack : List LoopSetup → ℕ → ℕ → Type 0

@@ -1,5 +1,6 @@
 -- What a tree of loops holds: a section, its words, and the loops that count in it.
-use Rattle.std.specs.Prelude.{◌≡◌, ℕ, ◌+◌, ◌-◌, ◌*◌, ◌/◌, ◌%◌, ◌<◌, ◌≤◌, ◌&&◌, nat_le, nat_lt, Bool, List, length, map, filter, slice_index, Contains}
+use Rattle.std.specs.Prelude.{◌≡◌, ℕ, ◌+◌, ◌-◌, ◌*◌, ◌/◌, ◌%◌, ◌<◌, ◌≤◌, ◌&&◌, nat_le}
+use Rattle.std.specs.Prelude.{nat_lt, Bool, List, length, map, filter, slice_index, Contains}
 use Rattle.std.specs.List.{range_with_len}
 use Rattle.region_guard.specs.MemoryMap.{large_size}
 use Rattle.fp_setup.specs.declared.loop_list.LoopSetup.{LoopSetup}
@@ -24,12 +25,13 @@ pub record Tree : Type 0 where
   pub loops : List LoopSetup
 
 -- the words of a section of a memory that is told by its words
-unfoldable pub words_of : (ℕ → ℕ) → Section → List ℕ
-words_of memory s = map (λ k. memory (s.from + 4 * k)) (range_with_len 0 ((s.to - s.from) / 4))
+unfoldable pub section_words : (ℕ → ℕ) → Section → List ℕ
+section_words memory s = map (λ k. memory (s.from + 4 * k)) (range_with_len 0 ((s.to - s.from) / 4))
 
 -- a loop counts where its head and its last word lie in the section
 abbrev pub counts : Section → LoopSetup → Bool
-counts s j = (nat_le s.from j.head && nat_lt j.head s.to) && (nat_le s.from j.last && nat_lt j.last s.to)
+counts s j =
+    (nat_le s.from j.head && nat_lt j.head s.to) && (nat_le s.from j.last && nat_lt j.last s.to)
 
 -- the tree of a section, its words and loops
 abbrev pub tree_with : Section → List ℕ → List LoopSetup → Tree
@@ -37,7 +39,7 @@ tree_with s words loops = record { section = s; words = words; loops = filter (c
 
 -- the tree of a memory, a section and loops
 abbrev pub tree_of : (ℕ → ℕ) → Section → List LoopSetup → Tree
-tree_of memory s loops = tree_with s (words_of memory s) loops
+tree_of memory s loops = tree_with s (section_words memory s) loops
 
 -- a tree's word at an address of its section
 abbrev pub word_at : Tree → ℕ → ℕ
@@ -59,7 +61,8 @@ pub record IsDraft (t : Tree) : Type 0 where
   pub section : IsSection t.section
   pub words : t.section.to ≡ t.section.from + 4 * length t.words
   pub loops : (j : LoopSetup) → Contains t.loops j → IsLoop j
-  pub counting : (j : LoopSetup) → Contains t.loops j → (t.section.from ≤ j.head) × (j.last < t.section.to)
+  pub counting : (j : LoopSetup) → Contains t.loops j →
+      (t.section.from ≤ j.head) × (j.last < t.section.to)
 
 -- What holds of every tree that was accepted.
 pub record IsTree (t : Tree) : Type 0 where

@@ -1,5 +1,6 @@
 -- Walks through a section, by the turns of a thread.
-use Rattle.std.specs.Prelude.{◌≡◌, ℕ, ◌+◌, ◌%◌, ◌<◌, ◌≤◌, ◌==◌, ◌&&◌, nat_le, if◌then◌else◌, List, [], ◌∷◌, length, slice_index, Contains}
+use Rattle.std.specs.Prelude.{◌≡◌, ℕ, ◌+◌, ◌%◌, ◌<◌, ◌≤◌, ◌==◌, ◌&&◌, nat_le}
+use Rattle.std.specs.Prelude.{if◌then◌else◌, List, [], ◌∷◌, length, slice_index, Contains}
 use Rattle.fp_setup.specs.declared.loop_list.LoopSetup.{LoopSetup}
 use Rattle.region_tree.specs.Graph.{Graph, Lies}
 
@@ -46,7 +47,8 @@ pub record IsStep (x : Course) (t : Step) : Type 0 where
 -- at position p to word v at position q.
 abbrev pub Leads : Course → ℕ → ℕ → List Step → ℕ → ℕ → Type 0
 Leads x u p [] v q = (v ≡ u) × (q ≡ p)
-Leads x u p (t ∷ ts) v q = Leads x u p ts t.from t.at × IsStep x t × Lies x.graph t.to × (v ≡ t.to) × (q ≡ t.position)
+Leads x u p (t ∷ ts) v q =
+    Leads x u p ts t.from t.at × IsStep x t × Lies x.graph t.to × (v ≡ t.to) × (q ≡ t.position)
 
 -- the cycles from the first issue to the last
 abbrev pub cost : List Step → ℕ
@@ -55,18 +57,20 @@ cost (t ∷ ts) = cost ts + t.cost
 
 -- A loop's counter after a step from u to v: one more where a word of the loop leads to its head, 0
 -- where another word does, else as before.
-unfoldable pub counted : ℕ → ℕ → LoopSetup → ℕ → ℕ
-counted u v j n = if v == j.head then (if nat_le j.head u && nat_le u j.last then n + 1 else 0) else n
+unfoldable pub counter_after : ℕ → ℕ → LoopSetup → ℕ → ℕ
+counter_after u v j n =
+    if v == j.head then (if nat_le j.head u && nat_le u j.last then n + 1 else 0) else n
 
 -- after these steps, the newest first, where it was n before them
 abbrev pub counter : LoopSetup → ℕ → List Step → ℕ
 counter j n [] = n
-counter j n (t ∷ ts) = counted t.from t.to j (counter j n ts)
+counter j n (t ∷ ts) = counter_after t.from t.to j (counter j n ts)
 
 -- no counter ever passes its loop's bound, where loop j's was k j at first
 abbrev pub Keeps : List LoopSetup → (LoopSetup → ℕ) → List Step → Type 0
 Keeps loops k [] = Unit {0}
-Keeps loops k (t ∷ ts) = Keeps loops k ts × ((j : LoopSetup) → Contains loops j → counter j (k j) (t ∷ ts) ≤ j.limit)
+Keeps loops k (t ∷ ts) =
+    Keeps loops k ts × ((j : LoopSetup) → Contains loops j → counter j (k j) (t ∷ ts) ≤ j.limit)
 
 -- A walk that keeps the bounds: from the section's first word at own position p to word v at
 -- position q.
@@ -79,4 +83,5 @@ pub record IsWalk (x : Course) (p : ℕ) (ts : List Step) (v q : ℕ) : Type 0 w
 -- it.
 pub data CostsOf (x : Course) : ℕ → Type 0 where
   ends : {p v q : ℕ} (ts : List Step) → IsWalk x p ts v q → CostsOf x (cost ts)
-  leaves : {p : ℕ} (ts : List Step) (t : Step) → IsWalk x p ts t.from t.at → IsStep x t → (Lies x.graph t.to → ⊥) → CostsOf x (cost (t ∷ ts))
+  leaves : {p : ℕ} (ts : List Step) (t : Step) → IsWalk x p ts t.from t.at → IsStep x t →
+      (Lies x.graph t.to → ⊥) → CostsOf x (cost (t ∷ ts))

@@ -2,7 +2,7 @@
 
 ghost use Rattle.std.specs.Prelude.{◌≡◌, ℕ, ◌+◌, ◌*◌, ◌<◌, ◌≤◌, ◌%◌, length, filter, IfOk};
 ghost use Rattle.fp_image.specs.Rules.{word};
-ghost use Rattle.region_tree.specs.Tree.{IsSection, counts, words_of};
+ghost use Rattle.region_tree.specs.Tree.{IsSection, counts, section_words};
 
 use crate::edges::{Edges, edges_of};
 use crate::section::Section;
@@ -37,10 +37,10 @@ impl Model for Draft {
 /// # Errors
 ///
 /// Memory was refused.
-#[tactic(auto, unfolding(crate::specs::Tree::words_of))]
+#[tactic(auto, unfolding(crate::specs::Tree::section_words))]
 pub fn words(alloc: Global, image: &Image, section: Section) -> Result<Vec<u32>, AllocError>
     requires { IsSection section }
-    ensures { IfOk result (λ words. words.items ≡ words_of (word image.now) section) }
+    ensures { IfOk result (λ words. words.items ≡ section_words (word image.now) section) }
 {
     let mut words = Vec::new(alloc);
     for index in 0..(section.to - section.from) / 4 {

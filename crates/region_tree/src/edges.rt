@@ -1,7 +1,8 @@
 //! Where a word of code leads.
 
 ghost use Rattle.std.specs.Prelude.{◌≡◌, ℤ};
-ghost use Rattle.region_tree.specs.Edges.{aligned, edges_from, edges_of, offset, onward, ended};
+ghost use Rattle.region_tree.specs.Edges.{aligned_target, edges_from, edges_of};
+ghost use Rattle.region_tree.specs.Edges.{offset, next_edge, no_edges};
 
 use rv_decode::{Ins, LATE_LAG, PLAIN_LAG, REDIRECT_LAG, decode};
 
@@ -33,10 +34,10 @@ pub struct Edges {
 pub const JUMP_LAG: u64 = REDIRECT_LAG;
 
 impl Edges {
-    ghost use Rattle.region_tree.specs.Edges.{onward, ended};
+    ghost use Rattle.region_tree.specs.Edges.{next_edge, no_edges};
 
     fn onward(address: u32, lag: u64) -> Edges
-        ensures { result ≡ onward address lag }
+        ensures { result ≡ next_edge address lag }
     {
         Edges {
             next: Some(address.wrapping_add(4)),
@@ -47,7 +48,7 @@ impl Edges {
     }
 
     fn ended(stop: Stop) -> Edges
-        ensures { result ≡ ended stop }
+        ensures { result ≡ no_edges stop }
     {
         Edges {
             next: None,
@@ -60,7 +61,7 @@ impl Edges {
 
 /// The target at this offset, where it is a multiple of four.
 fn target(address: u32, off: i32) -> Option<u32>
-    ensures { result ≡ aligned (offset address off) }
+    ensures { result ≡ aligned_target (offset address off) }
 {
     let target = address.wrapping_add_signed(off);
     if target % 4 == 0 { Some(target) } else { None }

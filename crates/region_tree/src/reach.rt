@@ -1,8 +1,10 @@
 //! The words to which edges inside a section lead.
 
-ghost use Rattle.std.specs.Prelude.{◌≡◌, ℕ, ◌+◌, ◌*◌, ◌<◌, ◌≤◌, ◌⊎◌, length, OnOk, IfOk, IfSome, Some, vec_len, false, []};
+ghost use Rattle.std.specs.Prelude.{◌≡◌, ℕ, ◌+◌, ◌*◌, ◌<◌, ◌≤◌, ◌⊎◌, length};
+ghost use Rattle.std.specs.Prelude.{OnOk, IfOk, IfSome, Some, vec_len, false, []};
 ghost use Rattle.region_tree.specs.Graph.{Reachable};
-ghost use Rattle.region_tree.specs.Search.{IsVisited, IsGathered, IsMet, IsClosed, address, is_met, unmet};
+ghost use Rattle.region_tree.specs.Search.{IsVisited, IsGathered, IsMet};
+ghost use Rattle.region_tree.specs.Search.{IsClosed, address, is_met, unmet_count};
 ghost use Rattle.region_tree.specs.Tree.{IsDraft, graph};
 
 use crate::draft::Draft;
@@ -54,8 +56,8 @@ impl Frontier {
             self.old.todo.items }
         ensures gathered { OnOk result
             (IsGathered draft.now (λ _. ⊥) self.new.met.items self.new.todo.items) }
-        ensures less { OnOk result (2 * unmet self.new.met.items + length self.new.todo.items
-            ≤ 2 * unmet self.old.met.items + length self.old.todo.items) }
+        ensures less { OnOk result (2 * unmet_count self.new.met.items + length self.new.todo.items
+            ≤ 2 * unmet_count self.old.met.items + length self.old.todo.items) }
     {
         let edges = draft.edges(index);
         self.visit(draft.index_of(edges.next))?;

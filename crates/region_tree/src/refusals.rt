@@ -1,9 +1,14 @@
 //! Why a section with its loops has no bound.
 
-ghost use Rattle.std.specs.Prelude.{◌≡◌, ◌≢◌, ℕ, ◌+◌, ◌*◌, ◌<◌, ◌≤◌, ◌⊎◌, ◌↔◌, length, IsTrue, Contains, Option, IfErr, MatchResult};
+ghost use Rattle.std.specs.Prelude.{◌≡◌, ◌≢◌, ℕ, ◌+◌, ◌*◌, ◌<◌, ◌≤◌, ◌⊎◌, ◌↔◌, length};
+ghost use Rattle.std.specs.Prelude.{IsTrue, Contains, Option, IfErr, MatchResult};
 ghost use Rattle.region_tree.specs.Graph.{Holds, Inside, Reachable};
-ghost use Rattle.region_tree.specs.Refusals.{Crosses, CrossedAt, DeepAt, EnteredAt, NestingAt, UnboundedAt, IsAllowed, IsRefused, depth, loop_at};
-ghost use Rattle.region_tree.specs.Search.{Before, CrossedHere, DeepHere, EntersOff, EnteredHere, EnteredBy, EnteredFrom, GoesBack, ReturnsBadly, IsMet, LowestOf, address, is_met, lower_of};
+ghost use Rattle.region_tree.specs.Refusals.{UnboundedAt, IsAllowed, IsRefused};
+ghost use Rattle.region_tree.specs.Nesting.{Crosses, CrossedAt, DeepAt};
+ghost use Rattle.region_tree.specs.Nesting.{EnteredAt, NestingAt, depth, loop_at};
+ghost use Rattle.region_tree.specs.Search.{Before, CrossedHere, DeepHere, EntersOff, EnteredHere};
+ghost use Rattle.region_tree.specs.Search.{EnteredBy, EnteredFrom, GoesBack, ReturnsBadly};
+ghost use Rattle.region_tree.specs.Search.{IsMet, LowestOf, address, is_met, lower_of};
 ghost use Rattle.region_tree.specs.Tree.{IsDraft, graph};
 ghost use Rattle.region_tree.specs.declared.tree.TreeNo.TheVariants.{NoMemory};
 
@@ -81,7 +86,7 @@ fn depth(loops: &[LoopSetup], j: LoopSetup) -> usize
         .count()
 }
 
-/// The head of the loop at an index, where it lies in more than three others.
+/// The head of the loop at an index, where it lies deeper than [`DEEPEST`].
 fn deep_here(loops: &[LoopSetup], index: usize) -> Option<u32>
     requires { index < length loops.now }
     ensures { LowestOf (DeepHere loops.now index) result }
@@ -94,7 +99,7 @@ fn deep_here(loops: &[LoopSetup], index: usize) -> Option<u32>
     }
 }
 
-/// The lowest head of a loop that lies in more than three others.
+/// The lowest head of a loop that lies deeper than [`DEEPEST`].
 fn deep(loops: &[LoopSetup]) -> Option<u32>
     ensures { LowestOf (DeepAt loops.now) result }
 {

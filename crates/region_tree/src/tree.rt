@@ -63,7 +63,8 @@ impl Model for LoopTree {
 }
 
 impl LoopTree {
-    ghost use Rattle.std.specs.Prelude.{◌≡◌, ◌≤◌, ◌<◌, ◌%◌, ◌+◌, ◌*◌, ◌↔◌, length, IfOk, IfErr, OnOk, IsTrue};
+    ghost use Rattle.std.specs.Prelude.{◌≡◌, ◌≤◌, ◌<◌, ◌%◌, ◌+◌, ◌*◌, ◌↔◌};
+    ghost use Rattle.std.specs.Prelude.{length, IfOk, IfErr, OnOk, IsTrue};
     ghost use Rattle.fp_image.specs.Rules.{word};
     ghost use Rattle.region_tree.specs.Graph.{Reachable};
     ghost use Rattle.region_tree.specs.Refusals.{IsAllowed, IsRefused};

@@ -6,4 +6,5 @@ use Rattle.run_laws.specs.RetiredIsolation.{RetiredEqualViews, RetiredIsolation}
 
 -- the events follow from the view
 pub retired-equal-views : RetiredIsolation → RetiredEqualViews
-retired-equal-views law s t i n p q a b e = law s i n p a ∙ ap (λ (v : View). solo v n) e ∙ sym (law t i n q b)
+retired-equal-views law s t i n p q a b e =
+    law s i n p a ∙ ap (λ (v : View). solo v n) e ∙ sym (law t i n q b)

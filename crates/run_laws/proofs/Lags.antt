@@ -12,17 +12,21 @@ use Rattle.rv_exec.specs.declared.outcome.Outcome.{Outcome}
 use Rattle.rv_exec.specs.Result.{result_of}
 use Rattle.timer_unit.specs.Time.{is_due}
 use Rattle.core_model.specs.declared.own.Own.{Own}
-use Rattle.core_model.specs.Thread.{Thread, Around, Contents, Did, reg_in, reg_effect, filled}
+use Rattle.core_model.specs.Thread.{Thread, Environment, Contents, Execution}
+use Rattle.core_model.specs.Thread.{reg_in, reg_effect, with_late_value}
 use Rattle.core_model.specs.Traps.{trapped, unless_trap}
-use Rattle.core_model.specs.Outcomes.{load, store, branch, delay, wait, with_armed}
+use Rattle.core_model.specs.Outcomes.{load, store, branch}
+use Rattle.core_model.specs.Delays.{delay, wait, with_armed}
 use Rattle.core_model.specs.Csr.{csr_access}
-use Rattle.core_model.specs.Issue.{execute_untrapped, run_at, execute_in, execute_word, effect_of, value_in, issue, source_1, source_2, late_rd}
+use Rattle.core_model.specs.Issue.{execute_untrapped, run_at, execute_in, execute_word}
+use Rattle.core_model.specs.Issue.{effect_of, value_in, issue, source_1, source_2, late_rd}
 use Rattle.run_laws.specs.LagLaw.{is_trap, HasLagOfTable}
 
-abbrev pub HasLag : Ins → Outcome → Did → Type 0
+abbrev pub HasLag : Ins → Outcome → Execution → Type 0
 HasLag n o d = d.lag ≡ lag n o.taken (is_trap d.effect)
 
-goes_lag : (a : Around) (pc : ℕ) (t : Own) (w x y : ℕ) (o : Outcome) (n : Ins) → HasLag n o (execute_untrapped a pc t w x y o n)
+goes_lag : (a : Environment) (pc : ℕ) (t : Own) (w x y : ℕ) (o : Outcome) (n : Ins) →
+    HasLag n o (execute_untrapped a pc t w x y o n)
 unfolding execute_untrapped lag load store branch csr_access delay wait
 goes_lag a pc t w x y o (i.Lui rd imm) = grind (arith, nat_tests)
 goes_lag a pc t w x y o (i.Auipc rd imm) = grind (arith, nat_tests)
@@ -48,20 +52,26 @@ goes_lag a pc t w x y o (i.Ee rs1 rs2) = refl
 goes_lag a pc t w x y o i.De = refl
 goes_lag a pc t w x y o (i.Illegal v) = refl
 
-unless_lag : (pc : ℕ) (t : Own) (w : ℕ) (n : Ins) (o : Outcome) (trap : Option ℕ) (d : Did) → HasLag n o d → HasLag n o (unless_trap pc t w trap d)
+unless_lag : (pc : ℕ) (t : Own) (w : ℕ) (n : Ins) (o : Outcome) (trap : Option ℕ) (d : Execution) →
+    HasLag n o d → HasLag n o (unless_trap pc t w trap d)
 unfolding lag
 unless_lag pc t w n o (Some cause) d h = refl
 unless_lag pc t w n o None d h = h
 
-run_lag : (a : Around) (pc : ℕ) (t : Own) (w x y : ℕ) (n : Ins) → HasLag n (result_of n pc x y) (run_at a pc t w x y n)
+run_lag : (a : Environment) (pc : ℕ) (t : Own) (w x y : ℕ) (n : Ins) →
+    HasLag n (result_of n pc x y) (run_at a pc t w x y n)
 unfolding run_at
-run_lag a pc t w x y n = unless_lag pc t w n (result_of n pc x y) _ _ (goes_lag a pc t w x y (result_of n pc x y) n)
+run_lag a pc t w x y n =
+    unless_lag pc t w n (result_of n pc x y) _ _ (goes_lag a pc t w x y (result_of n pc x y) n)
 
-act_lag : (a : Around) (pc : ℕ) (t : Own) (expired : Bool) (w x y : ℕ) → HasLag (ins w) (result_of (ins w) pc x y) (execute_in a pc t expired w x y)
+act_lag : (a : Environment) (pc : ℕ) (t : Own) (expired : Bool) (w x y : ℕ) →
+    HasLag (ins w) (result_of (ins w) pc x y) (execute_in a pc t expired w x y)
 unfolding execute_in lag
 act_lag a pc t expired w x y = go expired (a.fetch pc)
   where
-    go : (e f : Bool) → HasLag (ins w) (result_of (ins w) pc x y) (if e then trapped pc (with_armed t None) 0 24 else if f then run_at a pc t w x y (ins w) else trapped pc t 0 1)
+    go : (e f : Bool) →
+        HasLag (ins w) (result_of (ins w) pc x y) (if e then trapped pc (with_armed t None) 0 24
+        else if f then run_at a pc t w x y (ins w) else trapped pc t 0 1)
     go true f = refl
     go false true = run_lag a pc t w x y (ins w)
     go false false = refl
@@ -74,7 +84,8 @@ no_trap rd value = go (rd == 0)
     go false = refl
 
 -- a late value turns no effect into a trap, nor a trap into another effect
-filled_trap : (late : Option ℕ) (value : ℕ) (effect : Option Effect) → is_trap (filled late value effect) ≡ is_trap effect
+filled_trap : (late : Option ℕ) (value : ℕ) (effect : Option Effect) →
+    is_trap (with_late_value late value effect) ≡ is_trap effect
 filled_trap None value effect = refl
 filled_trap (Some rd) value None = refl
 filled_trap (Some rd) value (Some Nothing) = no_trap rd value
@@ -84,14 +95,17 @@ filled_trap (Some rd) value (Some (Csr csr v x old)) = refl
 filled_trap (Some rd) value (Some (Trap cause target)) = refl
 filled_trap (Some rd) value (Some Wait) = refl
 
-done_lag : (m : Contents) (c : ℕ) (regs : List ℕ) (n : Ins) (o : Outcome) (d : Did) → HasLag n o d → c + d.lag ≡ c + lag n o.taken (is_trap (effect_of m regs d))
+done_lag : (m : Contents) (c : ℕ) (regs : List ℕ) (n : Ins) (o : Outcome) (d : Execution) →
+    HasLag n o d → c + d.lag ≡ c + lag n o.taken (is_trap (effect_of m regs d))
 unfolding effect_of
-done_lag m c regs n o d h = rw (filled_trap (late_rd (ins d.word)) (value_in m regs d) d.effect) (ap (λ k. c + k) h)
+done_lag m c regs n o d h =
+    rw (filled_trap (late_rd (ins d.word)) (value_in m regs d) d.effect) (ap (λ k. c + k) h)
 
-pub issue_lag : (a : Around) (m : Contents) (c : ℕ) (t : Thread) → HasLagOfTable a m c t
+pub issue_lag : (a : Environment) (m : Contents) (c : ℕ) (t : Thread) → HasLagOfTable a m c t
 unfolding issue execute_word
 issue_lag a m c t =
     let w : ℕ = m.code t.pc in
     let x : ℕ = reg_in t.regs (source_1 (ins w)) in
     let y : ℕ = reg_in t.regs (source_2 (ins w)) in
-    done_lag m c t.regs (ins w) (result_of (ins w) t.pc x y) _ (act_lag a t.pc t.own (is_due t.own.timer.armed a.now) w x y)
+    done_lag m c t.regs (ins w) (result_of (ins w) t.pc x y) _
+    (act_lag a t.pc t.own (is_due t.own.timer.armed a.now) w x y)

@@ -5,7 +5,7 @@ use Rattle.rv_decode.specs.Lag.{lag}
 use Rattle.rv_exec.specs.declared.outcome.Effect.{Effect}
 use Rattle.rv_exec.specs.declared.outcome.Effect.TheVariants.{Trap}
 use Rattle.rv_exec.specs.Result.{result_of}
-use Rattle.core_model.specs.Thread.{Around, Contents, Thread, Done, reg_in}
+use Rattle.core_model.specs.Thread.{Environment, Contents, Thread, Completion, reg_in}
 use Rattle.core_model.specs.Issue.{source_1, source_2, issue}
 
 -- whether the effect is a trap
@@ -21,9 +21,9 @@ is_taken_at m t =
 
 -- the lag of the instruction at the thread's pc, by whether it took a branch, and whether what was
 -- left is a trap: one of the instruction's own, or an expiry or a refused fetch in its place
-abbrev pub lag_at : Contents → Thread → Done → ℕ
+abbrev pub lag_at : Contents → Thread → Completion → ℕ
 lag_at m t d = lag (ins (m.code t.pc)) (is_taken_at m t) (is_trap d.effect)
 
 -- after an issue in cycle c the thread is ready that lag later
-abbrev pub HasLagOfTable : Around → Contents → ℕ → Thread → Type 0
+abbrev pub HasLagOfTable : Environment → Contents → ℕ → Thread → Type 0
 HasLagOfTable a m c t = (issue a m c t).thread.ready ≡ c + lag_at m t (issue a m c t)

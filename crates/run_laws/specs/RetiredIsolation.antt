@@ -1,33 +1,40 @@
--- The theorems of isolation, with premises only on issues that have retired. An issue of cycle c has
--- retired after n cycles where c + 4 < n. These are the issues of the first n - 4 cycles, and the
--- events of a thread are theirs.
+-- The theorems of isolation, with premises only on issues that have retired. The events of a thread
+-- are those of these issues.
 use Rattle.std.specs.Prelude.{◌≡◌, ℕ, ◌-◌, true}
 use Rattle.std.specs.List.{list_all}
 use Rattle.core_model.specs.Solo.{solo}
-use Rattle.world_model.specs.World.{Start, events, is_quiet}
-use Rattle.world_model.specs.Viewed.{view}
-use Rattle.phase_model.specs.Phases.{phases, keeps_regions, is_never_soft}
-use Rattle.phase_model.specs.Phased.{phased}
-use Rattle.run_laws.specs.Isolation.{IsApart, IsConfined, IsHard}
+use Rattle.core_model.specs.World.{Start, events, is_quiet}
+use Rattle.core_model.specs.Viewed.{view}
+use Rattle.core_model.specs.Phases.{phases, keeps_regions, is_never_soft}
+use Rattle.core_model.specs.Phased.{phased}
+use Rattle.run_laws.specs.Isolation.{StartsConfined, StartsConfinedHard, StartsUnconfinedHard}
 use Rattle.run_laws.specs.Wide.{wide_view, wide_solo}
+use Rattle.core_model.specs.Cycles.{cycles_to_w}
 
 -- Where no issue that has retired writes a configuration register, the events of a confined hard
 -- thread are those of the definition of one thread over its view. The issues in flight may write
 -- what they like.
 abbrev pub RetiredIsolation : Type 0
-RetiredIsolation = (s : Start) (i n : ℕ) → IsConfined s i → is_quiet s (n - 4) ≡ true → events s i n ≡ solo (view s i) n
+RetiredIsolation =
+    (s : Start) (i n : ℕ) → StartsConfinedHard s i → is_quiet s (n - cycles_to_w) ≡ true →
+    events s i n ≡ solo (view s i) n
 
 -- the same by the settings of slots and modes, where no issue that has retired writes a region
 -- register
 abbrev pub RetiredPhasedIsolation : Type 0
-RetiredPhasedIsolation = (s : Start) (i n : ℕ) → IsApart s i → list_all (is_never_soft i) (phases s n) ≡ true → keeps_regions s (n - 4) ≡ true
-    → events s i n ≡ phased (view s i) (phases s n) n
+RetiredPhasedIsolation =
+    (s : Start) (i n : ℕ) → StartsConfined s i → list_all (is_never_soft i) (phases s n) ≡ true →
+    keeps_regions s (n - cycles_to_w) ≡ true → events s i n ≡ phased (view s i) (phases s n) n
 
 -- two machines in which the thread has the same view show the same events of it
 abbrev pub RetiredEqualViews : Type 0
-RetiredEqualViews = (s t : Start) (i n : ℕ) → IsConfined s i → IsConfined t i → is_quiet s (n - 4) ≡ true → is_quiet t (n - 4) ≡ true
-    → view s i ≡ view t i → events s i n ≡ events t i n
+RetiredEqualViews =
+    (s t : Start) (i n : ℕ) → StartsConfinedHard s i → StartsConfinedHard t i →
+    is_quiet s (n - cycles_to_w) ≡ true → is_quiet t (n - cycles_to_w) ≡ true →
+    view s i ≡ view t i → events s i n ≡ events t i n
 
 -- a hard thread that isn't confined, by its wide view
 abbrev pub RetiredWideIsolation : Type 0
-RetiredWideIsolation = (s : Start) (i n : ℕ) → IsHard s i → is_quiet s (n - 4) ≡ true → events s i n ≡ wide_solo (wide_view s i n) n
+RetiredWideIsolation =
+    (s : Start) (i n : ℕ) → StartsUnconfinedHard s i → is_quiet s (n - cycles_to_w) ≡ true →
+    events s i n ≡ wide_solo (wide_view s i n) n

@@ -1,7 +1,8 @@
 //! The laws of isolation: what the rest of the machine can't change for one thread. Each is the
 //! contract of a call that does nothing; its statement stands in specs/Isolation.antt.
 
-ghost use Rattle.run_laws.specs.Isolation.{EqualViews, Isolation, PhasedIsolation, QuietUnpermitted, WideIsolation};
+ghost use Rattle.run_laws.specs.Isolation.{EqualViews, Isolation, PhasedIsolation};
+ghost use Rattle.run_laws.specs.Isolation.{QuietUnpermitted, WideIsolation};
 
 /// A confined hard thread without a permit runs as if it were alone: in a quiet run its events are
 /// those of the definition of one thread, over its view.

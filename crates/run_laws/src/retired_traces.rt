@@ -2,7 +2,8 @@
 //! issues that have retired. Each is the contract of a call that does nothing; its statement is in
 //! specs/RetiredTraces.antt.
 
-ghost use Rattle.run_laws.specs.RetiredTraces.{RetiredEqualTraces, RetiredTraceAlone, RetiredTraceByPhases, RetiredTraceByWideView};
+ghost use Rattle.run_laws.specs.RetiredTraces.{RetiredEqualTraces, RetiredTraceAlone};
+ghost use Rattle.run_laws.specs.RetiredTraces.{RetiredTraceByPhases, RetiredTraceByWideView};
 
 /// While no issue that has retired writes a configuration register, the trace of a confined hard
 /// thread is that of the definition of one thread over its view, whatever the seven others run.

@@ -2,7 +2,8 @@
 //! on. Each is the contract of a call that does nothing; its statement stands in
 //! specs/TraceLaws.antt.
 
-ghost use Rattle.run_laws.specs.TraceLaws.{EqualTraces, QuietSetup, TraceAlone, TraceByPhases, TraceByWideView};
+ghost use Rattle.run_laws.specs.TraceLaws.{EqualTraces, QuietSetup, TraceAlone};
+ghost use Rattle.run_laws.specs.TraceLaws.{TraceByPhases, TraceByWideView};
 
 /// In a quiet run the trace of a confined hard thread is that of the definition of one thread over
 /// its view, whatever the seven others run.

@@ -4,21 +4,29 @@
 use Rattle.std.specs.Prelude.{ℕ, ◌+◌, ◌-◌, ◌*◌, ◌%◌, ◌^◌, ℤ, pos, negsuc}
 use Rattle.rv_decode.specs.Fields.{field}
 use Rattle.rv_decode.specs.declared.instruction.Ins.{Ins}
-use Rattle.rv_decode.specs.declared.instruction.Ins.TheVariants.{Lui, Auipc, Jal, Jalr, Branch, Load, Store, OpImm, Shift, Op, Muldiv, Fence, Ecall, Ebreak, Mret, Csr, Gt, Gth, Du, Wu, Ee, De, Illegal}
+use Rattle.rv_decode.specs.declared.instruction.Ins.TheVariants.{Lui, Auipc, Jal, Jalr, Branch}
+use Rattle.rv_decode.specs.declared.instruction.Ins.TheVariants.{Load, Store, OpImm, Shift}
+use Rattle.rv_decode.specs.declared.instruction.Ins.TheVariants.{Op, Muldiv, Fence, Ecall}
+use Rattle.rv_decode.specs.declared.instruction.Ins.TheVariants.{Ebreak, Mret, Csr, Gt, Gth}
+use Rattle.rv_decode.specs.declared.instruction.Ins.TheVariants.{Du, Wu, Ee, De, Illegal}
 use Rattle.rv_decode.specs.declared.instruction.BranchOp.{BranchOp}
-use Rattle.rv_decode.specs.declared.instruction.BranchOp.TheVariants.{Beq, Bne, Blt, Bge, Bltu, Bgeu}
+use Rattle.rv_decode.specs.declared.instruction.BranchOp.TheVariants.{Beq, Bne, Blt}
+use Rattle.rv_decode.specs.declared.instruction.BranchOp.TheVariants.{Bge, Bltu, Bgeu}
 use Rattle.rv_decode.specs.declared.instruction.LoadOp.{LoadOp}
 use Rattle.rv_decode.specs.declared.instruction.LoadOp.TheVariants.{Lb, Lh, Lw, Lbu, Lhu}
 use Rattle.rv_decode.specs.declared.instruction.StoreOp.{StoreOp}
 use Rattle.rv_decode.specs.declared.instruction.StoreOp.TheVariants.{Sb, Sh, Sw}
 use Rattle.rv_decode.specs.declared.instruction.ImmOp.{ImmOp}
-use Rattle.rv_decode.specs.declared.instruction.ImmOp.TheVariants.{Addi, Slti, Sltiu, Xori, Ori, Andi}
+use Rattle.rv_decode.specs.declared.instruction.ImmOp.TheVariants.{Addi, Slti, Sltiu}
+use Rattle.rv_decode.specs.declared.instruction.ImmOp.TheVariants.{Xori, Ori, Andi}
 use Rattle.rv_decode.specs.declared.instruction.ShiftOp.{ShiftOp}
 use Rattle.rv_decode.specs.declared.instruction.ShiftOp.TheVariants.{Slli, Srli, Srai}
 use Rattle.rv_decode.specs.declared.instruction.AluOp.{AluOp}
-use Rattle.rv_decode.specs.declared.instruction.AluOp.TheVariants.{Add, Sub, Sll, Slt, Sltu, Xor, Srl, Sra, Or, And}
+use Rattle.rv_decode.specs.declared.instruction.AluOp.TheVariants.{Add, Sub, Sll, Slt, Sltu}
+use Rattle.rv_decode.specs.declared.instruction.AluOp.TheVariants.{Xor, Srl, Sra, Or, And}
 use Rattle.rv_decode.specs.declared.instruction.MulOp.{MulOp}
-use Rattle.rv_decode.specs.declared.instruction.MulOp.TheVariants.{Mul, Mulh, Mulhsu, Mulhu, Div, Divu, Rem, Remu}
+use Rattle.rv_decode.specs.declared.instruction.MulOp.TheVariants.{Mul, Mulh, Mulhsu, Mulhu}
+use Rattle.rv_decode.specs.declared.instruction.MulOp.TheVariants.{Div, Divu, Rem, Remu}
 use Rattle.rv_decode.specs.declared.instruction.CsrKind.{CsrKind}
 use Rattle.rv_decode.specs.declared.instruction.CsrKind.TheVariants.{Rw, Rs, Rc, Rwi, Rsi, Rci}
 
@@ -30,7 +38,8 @@ low_bits count (negsuc n) = 2 ^ count - 1 - n % 2 ^ count
 -- The formats. The numbers are the opcode, the fields by their names, and the bits of the
 -- immediate. Format R: a register is written, and two are read.
 abbrev pub r_word : ℕ → ℕ → ℕ → ℕ → ℕ → ℕ → ℕ
-r_word code rd funct3 rs1 rs2 funct7 = code + rd * 2 ^ 7 + funct3 * 2 ^ 12 + rs1 * 2 ^ 15 + rs2 * 2 ^ 20 + funct7 * 2 ^ 25
+r_word code rd funct3 rs1 rs2 funct7 =
+    code + rd * 2 ^ 7 + funct3 * 2 ^ 12 + rs1 * 2 ^ 15 + rs2 * 2 ^ 20 + funct7 * 2 ^ 25
 
 -- format I: a register is written, one is read, and there are twelve bits of an immediate
 abbrev pub i_word : ℕ → ℕ → ℕ → ℕ → ℕ → ℕ
@@ -42,7 +51,9 @@ s_word code funct3 rs1 rs2 imm = r_word code (field imm 0 5) funct3 rs1 rs2 (fie
 
 -- format B: two registers are read, and there is an offset without its lowest bit
 abbrev pub b_word : ℕ → ℕ → ℕ → ℕ → ℕ → ℕ
-b_word code funct3 rs1 rs2 off = r_word code (field off 1 4 * 2 + field off 11 1) funct3 rs1 rs2 (field off 12 1 * 2 ^ 6 + field off 5 6)
+b_word code funct3 rs1 rs2 off =
+    r_word code (field off 1 4 * 2 + field off 11 1) funct3 rs1 rs2
+    (field off 12 1 * 2 ^ 6 + field off 5 6)
 
 -- format U: a register is written, and there are twenty bits of an immediate
 abbrev pub u_word : ℕ → ℕ → ℕ → ℕ
@@ -50,7 +61,9 @@ u_word code rd imm = code + rd * 2 ^ 7 + imm * 2 ^ 12
 
 -- format J: a register is written, and there is an offset without its lowest bit
 abbrev pub j_word : ℕ → ℕ → ℕ → ℕ
-j_word code rd off = u_word code rd (field off 20 1 * 2 ^ 19 + field off 1 10 * 2 ^ 9 + field off 11 1 * 2 ^ 8 + field off 12 8)
+j_word code rd off =
+    u_word code rd
+    (field off 20 1 * 2 ^ 19 + field off 1 10 * 2 ^ 9 + field off 11 1 * 2 ^ 8 + field off 12 8)
 
 -- The numbers of the operations: funct3 of each branch,
 abbrev pub branch_funct3 : BranchOp → ℕ
@@ -143,27 +156,27 @@ csr_funct3 Rsi = 6
 csr_funct3 Rci = 7
 
 -- The word of an instruction whose fields are in range.
-unfoldable pub encoded : Ins → ℕ
-encoded (Lui rd imm) = u_word 0x37 rd imm
-encoded (Auipc rd imm) = u_word 0x17 rd imm
-encoded (Jal rd off) = j_word 0x6f rd (low_bits 21 off)
-encoded (Jalr rd rs1 imm) = i_word 0x67 rd 0 rs1 (low_bits 12 imm)
-encoded (Branch op rs1 rs2 off) = b_word 0x63 (branch_funct3 op) rs1 rs2 (low_bits 13 off)
-encoded (Load op rd rs1 imm) = i_word 0x03 rd (load_funct3 op) rs1 (low_bits 12 imm)
-encoded (Store op rs1 rs2 imm) = s_word 0x23 (store_funct3 op) rs1 rs2 (low_bits 12 imm)
-encoded (OpImm op rd rs1 imm) = i_word 0x13 rd (imm_funct3 op) rs1 (low_bits 12 imm)
-encoded (Shift op rd rs1 amount) = r_word 0x13 rd (shift_funct3 op) rs1 amount (shift_funct7 op)
-encoded (Op op rd rs1 rs2) = r_word 0x33 rd (alu_funct3 op) rs1 rs2 (alu_funct7 op)
-encoded (Muldiv op rd rs1 rs2) = r_word 0x33 rd (mul_funct3 op) rs1 rs2 1
-encoded (Fence w) = w
-encoded Ecall = 0x00000073
-encoded Ebreak = 0x00100073
-encoded Mret = 0x30200073
-encoded (Csr op rd csr src) = i_word 0x73 rd (csr_funct3 op) src csr
-encoded (Gt rd) = r_word 0x0b rd 0 0 0 0
-encoded (Gth rd) = r_word 0x0b rd 1 0 0 0
-encoded (Du rs1 rs2) = r_word 0x0b 0 2 rs1 rs2 0
-encoded (Wu rs1 rs2) = r_word 0x0b 0 3 rs1 rs2 0
-encoded (Ee rs1 rs2) = r_word 0x0b 0 4 rs1 rs2 0
-encoded De = r_word 0x0b 0 5 0 0 0
-encoded (Illegal w) = w
+unfoldable pub encoding_of : Ins → ℕ
+encoding_of (Lui rd imm) = u_word 0x37 rd imm
+encoding_of (Auipc rd imm) = u_word 0x17 rd imm
+encoding_of (Jal rd off) = j_word 0x6f rd (low_bits 21 off)
+encoding_of (Jalr rd rs1 imm) = i_word 0x67 rd 0 rs1 (low_bits 12 imm)
+encoding_of (Branch op rs1 rs2 off) = b_word 0x63 (branch_funct3 op) rs1 rs2 (low_bits 13 off)
+encoding_of (Load op rd rs1 imm) = i_word 0x03 rd (load_funct3 op) rs1 (low_bits 12 imm)
+encoding_of (Store op rs1 rs2 imm) = s_word 0x23 (store_funct3 op) rs1 rs2 (low_bits 12 imm)
+encoding_of (OpImm op rd rs1 imm) = i_word 0x13 rd (imm_funct3 op) rs1 (low_bits 12 imm)
+encoding_of (Shift op rd rs1 amount) = r_word 0x13 rd (shift_funct3 op) rs1 amount (shift_funct7 op)
+encoding_of (Op op rd rs1 rs2) = r_word 0x33 rd (alu_funct3 op) rs1 rs2 (alu_funct7 op)
+encoding_of (Muldiv op rd rs1 rs2) = r_word 0x33 rd (mul_funct3 op) rs1 rs2 1
+encoding_of (Fence w) = w
+encoding_of Ecall = 0x00000073
+encoding_of Ebreak = 0x00100073
+encoding_of Mret = 0x30200073
+encoding_of (Csr op rd csr src) = i_word 0x73 rd (csr_funct3 op) src csr
+encoding_of (Gt rd) = r_word 0x0b rd 0 0 0 0
+encoding_of (Gth rd) = r_word 0x0b rd 1 0 0 0
+encoding_of (Du rs1 rs2) = r_word 0x0b 0 2 rs1 rs2 0
+encoding_of (Wu rs1 rs2) = r_word 0x0b 0 3 rs1 rs2 0
+encoding_of (Ee rs1 rs2) = r_word 0x0b 0 4 rs1 rs2 0
+encoding_of De = r_word 0x0b 0 5 0 0 0
+encoding_of (Illegal w) = w

@@ -33,7 +33,9 @@ imm_s w = sign_extended 12 (field w 25 7 * 2 ^ 5 + field w 7 5)
 
 -- the offset of format B, in bytes
 abbrev pub imm_b : ℕ → ℤ
-imm_b w = sign_extended 13 (field w 31 1 * 2 ^ 12 + field w 7 1 * 2 ^ 11 + field w 25 6 * 2 ^ 5 + field w 8 4 * 2)
+imm_b w =
+    sign_extended 13
+    (field w 31 1 * 2 ^ 12 + field w 7 1 * 2 ^ 11 + field w 25 6 * 2 ^ 5 + field w 8 4 * 2)
 
 -- the upper twenty bits, the immediate of format U without its twelve zero bits
 abbrev pub imm_u : ℕ → ℕ
@@ -41,4 +43,6 @@ imm_u w = field w 12 20
 
 -- the offset of format J, in bytes
 abbrev pub imm_j : ℕ → ℤ
-imm_j w = sign_extended 21 (field w 31 1 * 2 ^ 20 + field w 12 8 * 2 ^ 12 + field w 20 1 * 2 ^ 11 + field w 21 10 * 2)
+imm_j w =
+    sign_extended 21
+    (field w 31 1 * 2 ^ 20 + field w 12 8 * 2 ^ 12 + field w 20 1 * 2 ^ 11 + field w 21 10 * 2)

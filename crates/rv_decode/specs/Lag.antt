@@ -2,7 +2,9 @@
 -- turn at or after cycle c + lag. Source: this project's profile.
 use Rattle.std.specs.Prelude.{ℕ, Bool, true, false, if◌then◌else◌}
 use Rattle.rv_decode.specs.declared.instruction.Ins.{Ins}
-use Rattle.rv_decode.specs.declared.instruction.Ins.TheVariants.{Jal, Jalr, Branch, Load, Muldiv, Ecall, Ebreak, Mret, Csr, Du, Wu, Ee, De, Illegal}
+use Rattle.rv_decode.specs.declared.instruction.Ins.TheVariants.{Jal, Jalr, Branch, Load}
+use Rattle.rv_decode.specs.declared.instruction.Ins.TheVariants.{Muldiv, Ecall, Ebreak, Mret}
+use Rattle.rv_decode.specs.declared.instruction.Ins.TheVariants.{Csr, Du, Wu, Ee, De, Illegal}
 
 -- the three lags: of an instruction that the next word follows at once, of one whose value comes
 -- late, and of one behind which the thread is redirected

@@ -3,7 +3,9 @@
 ghost use Rattle.std.specs.Prelude.{◌≡◌, ◌⊎◌};
 ghost use Rattle.rv_decode.specs.Fields.{field};
 ghost use Rattle.rv_decode.specs.Range.{HasRegisters, InRange};
-ghost use Rattle.rv_decode.specs.Table.{ins, read_by, lui_rows, auipc_rows, jal_rows, jalr_rows, branch_rows, load_rows, store_rows, imm_rows, op_rows, fence_rows, system_rows, time_rows};
+ghost use Rattle.rv_decode.specs.Table.{ins, read_by, lui_rows, auipc_rows, jal_rows};
+ghost use Rattle.rv_decode.specs.Table.{jalr_rows, branch_rows, load_rows, store_rows};
+ghost use Rattle.rv_decode.specs.Table.{imm_rows, op_rows, fence_rows, system_rows, time_rows};
 
 use crate::fields::{csr, funct3, funct7, imm_b, imm_i, imm_j, imm_s, imm_u, opcode, rd, rs1, rs2};
 use crate::instruction::{AluOp, BranchOp, CsrKind, ImmOp, Ins, LoadOp, MulOp, ShiftOp, StoreOp};

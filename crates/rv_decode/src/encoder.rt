@@ -2,7 +2,10 @@
 //! Instruction Formats" and "Immediate Encoding Variants").
 
 ghost use Rattle.std.specs.Prelude.{◌≡◌, ◌<◌, ◌^◌};
-ghost use Rattle.rv_decode.specs.Encoding.{encoded, r_word, i_word, s_word, b_word, u_word, j_word, low_bits, branch_funct3, load_funct3, store_funct3, imm_funct3, shift_funct3, shift_funct7, alu_funct3, alu_funct7, mul_funct3, csr_funct3};
+ghost use Rattle.rv_decode.specs.Encoding.{encoding_of, r_word, i_word, s_word, b_word, u_word};
+ghost use Rattle.rv_decode.specs.Encoding.{j_word, low_bits, branch_funct3, load_funct3};
+ghost use Rattle.rv_decode.specs.Encoding.{store_funct3, imm_funct3, shift_funct3, shift_funct7};
+ghost use Rattle.rv_decode.specs.Encoding.{alu_funct3, alu_funct7, mul_funct3, csr_funct3};
 ghost use Rattle.rv_decode.specs.Range.{InRange, IsSigned};
 ghost use Rattle.rv_decode.specs.Table.{ins};
 
@@ -13,15 +16,15 @@ use crate::instruction::{AluOp, BranchOp, CsrKind, ImmOp, Ins, LoadOp, MulOp, Sh
 pub fn encode(i: &Ins) -> u32
     requires { InRange i.now }
     ensures decoded { ins result ≡ i.now }
-    ensures word { result ≡ encoded i.now }
+    ensures word { result ≡ encoding_of i.now }
 {
     word_of(i)
 }
 
-#[tactic(auto, unfolding(crate::specs::Encoding::encoded))]
+#[tactic(auto, unfolding(crate::specs::Encoding::encoding_of))]
 fn word_of(i: &Ins) -> u32
     requires { InRange i.now }
-    ensures { result ≡ encoded i.now }
+    ensures { result ≡ encoding_of i.now }
 {
     match *i {
         Ins::Lui { rd, imm } => u_word(0x37, rd, imm),

@@ -1,4 +1,4 @@
-pub mod Parts
+pub mod TextTokens
 pub mod Names
 pub mod Text
 pub mod RoundTrip

@@ -3,12 +3,19 @@ use Rattle.std.specs.Prelude.{ℕ, ◌==◌, ◌+◌, ◌%◌, ◌^◌, ℤ, pos
 use Rattle.rv_decode.specs.Encoding.{low_bits}
 use Rattle.rv_decode.specs.Table.{ins}
 use Rattle.rv_decode.specs.declared.instruction.Ins.{Ins}
-use Rattle.rv_decode.specs.declared.instruction.Ins.TheVariants.{Lui, Auipc, Jal, Jalr, Branch, Load, Store, OpImm, Shift, Op, Muldiv, Fence, Ecall, Ebreak, Mret, Csr, Gt, Gth, Du, Wu, Ee, De, Illegal}
+use Rattle.rv_decode.specs.declared.instruction.Ins.TheVariants.{Lui, Auipc, Jal, Jalr, Branch}
+use Rattle.rv_decode.specs.declared.instruction.Ins.TheVariants.{Load, Store, OpImm, Shift}
+use Rattle.rv_decode.specs.declared.instruction.Ins.TheVariants.{Op, Muldiv, Fence, Ecall}
+use Rattle.rv_decode.specs.declared.instruction.Ins.TheVariants.{Ebreak, Mret, Csr, Gt, Gth}
+use Rattle.rv_decode.specs.declared.instruction.Ins.TheVariants.{Du, Wu, Ee, De, Illegal}
 use Rattle.rv_decode.specs.declared.instruction.BranchOp.{BranchOp}
 use Rattle.rv_decode.specs.declared.instruction.CsrKind.{CsrKind}
 use Rattle.rv_decode.specs.declared.instruction.CsrKind.TheVariants.{Rw, Rs, Rc, Rwi, Rsi, Rci}
-use Rattle.rv_disasm.specs.Names.{branch_name, load_name, store_name, imm_name, shift_name, alu_name, mul_name, csr_name}
-use Rattle.rv_disasm.specs.Parts.{Text, Part, counted, digits, Line, line, line_text, register, two_registers, three_registers, with_number, with_memory, with_csr, with_upper, with_target, with_branch}
+use Rattle.rv_disasm.specs.Names.{branch_name, load_name, store_name, imm_name}
+use Rattle.rv_disasm.specs.Names.{shift_name, alu_name, mul_name, csr_name}
+use Rattle.rv_disasm.specs.TextTokens.{Text, TextToken, counted, digits, Line, line, line_text}
+use Rattle.rv_disasm.specs.TextTokens.{register_token, two_registers, three_registers, with_number}
+use Rattle.rv_disasm.specs.TextTokens.{with_memory, with_csr, with_upper, with_target, with_branch}
 
 -- a word as it is
 abbrev pub word_line : ℕ → Line
@@ -18,26 +25,29 @@ word_line w = line (codes ".word") (digits 8 w ∷ [])
 abbrev pub target : ℕ → ℤ → ℕ
 target pc off = (pc + low_bits 32 off) % 2 ^ 32
 
--- A branch or a jump to an address, which is a word as it is where the address is no multiple of four: the assembler has no
--- text for that.
-abbrev pub leading : ℕ → ℕ → Text → List Part → Line
+-- A branch or a jump to an address, which is a word as it is where the address is no multiple of
+-- four: the assembler has no text for that.
+abbrev pub leading : ℕ → ℕ → Text → List TextToken → Line
 leading w to name operands = if to % 4 == 0 then line name operands else word_line w
 
 abbrev pub jump_line : ℕ → ℕ → ℕ → ℤ → Line
 jump_line pc w rd off = leading w (target pc off) (codes "jal") (with_target rd (target pc off))
 
 abbrev pub branch_line : ℕ → ℕ → BranchOp → ℕ → ℕ → ℤ → Line
-branch_line pc w op rs1 rs2 off = leading w (target pc off) (branch_name op) (with_branch rs1 rs2 (target pc off))
+branch_line pc w op rs1 rs2 off =
+    leading w (target pc off) (branch_name op) (with_branch rs1 rs2 (target pc off))
 
 -- FENCE and FENCE.I with the bits that their texts give; other words of theirs have no text
 abbrev pub fence_line : ℕ → Line
-fence_line w = if w == 0x0ff0000f then line (codes "fence") [] else if w == 0x0000100f then line (codes "fence.i") [] else word_line w
+fence_line w =
+    if w == 0x0ff0000f then line (codes "fence") []
+    else if w == 0x0000100f then line (codes "fence.i") [] else word_line w
 
 -- the source of an instruction on control and status registers
-abbrev pub csr_source : CsrKind → ℕ → Part
-csr_source Rw src = register src
-csr_source Rs src = register src
-csr_source Rc src = register src
+abbrev pub csr_source : CsrKind → ℕ → TextToken
+csr_source Rw src = register_token src
+csr_source Rs src = register_token src
+csr_source Rc src = register_token src
 csr_source Rwi src = counted src
 csr_source Rsi src = counted src
 csr_source Rci src = counted src
@@ -60,8 +70,8 @@ line_of pc w Ecall = line (codes "ecall") []
 line_of pc w Ebreak = line (codes "ebreak") []
 line_of pc w Mret = line (codes "mret") []
 line_of pc w (Csr op rd csr src) = line (csr_name op) (with_csr rd csr (csr_source op src))
-line_of pc w (Gt rd) = line (codes "gt") (register rd ∷ [])
-line_of pc w (Gth rd) = line (codes "gth") (register rd ∷ [])
+line_of pc w (Gt rd) = line (codes "gt") (register_token rd ∷ [])
+line_of pc w (Gth rd) = line (codes "gth") (register_token rd ∷ [])
 line_of pc w (Du rs1 rs2) = line (codes "du") (two_registers rs1 rs2)
 line_of pc w (Wu rs1 rs2) = line (codes "wu") (two_registers rs1 rs2)
 line_of pc w (Ee rs1 rs2) = line (codes "ee") (two_registers rs1 rs2)

@@ -3,7 +3,7 @@
 ghost use Rattle.std.specs.Prelude.{◌≡◌, ◌≤◌, IfSome, IfNone, length};
 ghost use Rattle.rv_disasm.specs.Names.{branch_name, load_name, store_name, imm_name};
 ghost use Rattle.rv_disasm.specs.Names.{shift_name, alu_name, mul_name, csr_name};
-ghost use Rattle.rv_disasm.specs.Parts.{csr_part, digits, named};
+ghost use Rattle.rv_disasm.specs.TextTokens.{csr_token, digits, named};
 
 use rv_decode::{AluOp, BranchOp, CsrKind, ImmOp, LoadOp, MulOp, ShiftOp, StoreOp, csr};
 
@@ -120,8 +120,8 @@ pub fn csr_op_name(op: CsrKind) -> &'static str
 
 /// The name of a control and status register, if the assembler has one.
 pub fn csr_name(csr: u16) -> Option<&'static str>
-    ensures name { IfSome result (λ name. csr_part csr ≡ named name.now) }
-    ensures number { IfNone result (csr_part csr ≡ digits 3 csr) }
+    ensures name { IfSome result (λ name. csr_token csr ≡ named name.now) }
+    ensures number { IfNone result (csr_token csr ≡ digits 3 csr) }
     ensures short { IfSome result (λ name. length name.now ≤ 8) }
 {
     Some(match csr {

@@ -2,9 +2,10 @@
 
 ghost use Rattle.std.specs.Prelude.{◌≡◌, ◌+◌, ◌≤◌, ◌∷◌, [], ◌++◌, length, flat_map};
 ghost use Rattle.arrayvec.specs.ArrayString.{array_string_len};
-ghost use Rattle.rv_disasm.specs.Parts.{register as register_part, comma, digits, line, line_text};
-ghost use Rattle.rv_disasm.specs.Parts.{part_text, csr_part, two_registers, three_registers};
-ghost use Rattle.rv_disasm.specs.Parts.{with_number, with_memory, with_csr, with_branch};
+ghost use Rattle.rv_disasm.specs.TextTokens.{register_token as register_part};
+ghost use Rattle.rv_disasm.specs.TextTokens.{comma, digits, line, line_text};
+ghost use Rattle.rv_disasm.specs.TextTokens.{token_text, csr_token, two_registers, three_registers};
+ghost use Rattle.rv_disasm.specs.TextTokens.{with_number, with_memory, with_csr, with_branch};
 ghost use Rattle.rv_disasm.specs.Names.{csr_name as csr_name_of};
 ghost use Rattle.rv_disasm.specs.Text.{csr_source, word_line};
 
@@ -39,7 +40,7 @@ pub fn one_register(name: &str, register: u8) -> ArrayString<96>
 /// Appends a further register.
 fn push_next(text: &mut ArrayString<96>, register: u8)
     requires room { array_string_len text.old + 6 ≤ 96 }
-    ensures text { text.new.bytes ≡ text.old.bytes ++ flat_map part_text
+    ensures text { text.new.bytes ≡ text.old.bytes ++ flat_map token_text
         (comma ∷ register_part register ∷ []) }
     ensures len { array_string_len text.new ≤ array_string_len text.old + 6 }
 {
@@ -130,7 +131,7 @@ pub fn word_line(word: u32) -> ArrayString<96>
 /// Appends a control and status register.
 fn push_csr(text: &mut ArrayString<96>, csr: u16)
     requires room { array_string_len text.old + 8 ≤ 96 }
-    ensures text { text.new.bytes ≡ text.old.bytes ++ part_text (csr_part csr) }
+    ensures text { text.new.bytes ≡ text.old.bytes ++ token_text (csr_token csr) }
     ensures len { array_string_len text.new ≤ array_string_len text.old + 8 }
 {
     match csr_name(csr) {
@@ -145,7 +146,7 @@ fn push_csr(text: &mut ArrayString<96>, csr: u16)
 /// Appends the source of an instruction on control and status registers.
 fn push_source(text: &mut ArrayString<96>, op: CsrKind, source: u8)
     requires room { array_string_len text.old + 4 ≤ 96 }
-    ensures { text.new.bytes ≡ text.old.bytes ++ part_text (csr_source op source) }
+    ensures { text.new.bytes ≡ text.old.bytes ++ token_text (csr_source op source) }
 {
     match op {
         CsrKind::Rw | CsrKind::Rs | CsrKind::Rc => {

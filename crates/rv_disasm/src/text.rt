@@ -2,7 +2,7 @@
 
 ghost use Rattle.std.specs.Prelude.{◌≡◌};
 ghost use Rattle.rv_disasm.specs.Names.{store_name};
-ghost use Rattle.rv_disasm.specs.Parts.{line, line_text, with_memory};
+ghost use Rattle.rv_disasm.specs.TextTokens.{line, line_text, with_memory};
 ghost use Rattle.rv_disasm.specs.Text.{branch_line, fence_line, jump_line, line_of, target};
 ghost use Rattle.rv_disasm.specs.Text.{text_at as text_of};
 

@@ -1,5 +1,6 @@
 -- The machine's quotient is the quotient cut toward 0, in a word.
-use Rattle.std.proofs.Common.{◌≡◌, ℕ, zero, suc, ◌/◌, ◌^◌, ◌<◌, ◌≤◌, ℤ, pos, negsuc, ◌-ℤ◌, refl, ap, ◌∙◌, arith}
+use Rattle.std.proofs.Common.{◌≡◌, ℕ, zero, suc, ◌/◌, ◌^◌, ◌<◌, ◌≤◌, ℤ}
+use Rattle.std.proofs.Common.{pos, negsuc, ◌-ℤ◌, refl, ap, ◌∙◌, arith}
 use Rattle.std.specs.Prelude.{neg_ℤ, int_div}
 use Rattle.std.proofs.lemmas.Int.{ints, of_z-to_z}
 use Rattle.std.proofs.Math.Nat.{div-le_self}
@@ -41,7 +42,9 @@ word_small : (z : ℤ) → nat_abs z ≤ 2 ^ 31 → of_z w32 z < 2 ^ 32
 word_small (pos n) h = omega arith
 word_small (negsuc n) h = omega arith
 
-pub quotient_word : (x y : ℤ) → mag x < 2 ^ 31 → of_z w32 (to_z w32 (of_z w32 (int_div x y))) ≡ word (quotient x y)
+pub quotient_word : (x y : ℤ) → mag x < 2 ^ 31 →
+    of_z w32 (to_z w32 (of_z w32 (int_div x y))) ≡ word (quotient x y)
 quotient_word x y h =
     let near = not_above x y (2 ^ 31) (abs_within x (2 ^ 31) h) in
-    of_z-to_z w32 _ (word_small (int_div x y) near) ∙ word-is (int_div x y) near ∙ ap word (quotient-is x y)
+    of_z-to_z w32 _ (word_small (int_div x y) near) ∙ word-is (int_div x y) near
+    ∙ ap word (quotient-is x y)

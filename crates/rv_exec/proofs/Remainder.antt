@@ -11,6 +11,9 @@ left (negsuc a) (negsuc b) = pos 0 -ℤ pos (suc a % suc b)
 
 pub left-is : (x y : ℤ) → x -ℤ y *ℤ quotient x y ≡ left x y
 left-is (pos a) (pos b) = let h : a ≡ b * (a / b) + a % b = omega arith in grind (arith, h)
-left-is (pos a) (negsuc b) = let h : a ≡ suc b * (a / suc b) + a % suc b = omega arith in grind (arith, h)
-left-is (negsuc a) (pos b) = let h : suc a ≡ b * (suc a / b) + suc a % b = omega arith in grind (arith, h)
-left-is (negsuc a) (negsuc b) = let h : suc a ≡ suc b * (suc a / suc b) + suc a % suc b = omega arith in grind (arith, h)
+left-is (pos a) (negsuc b) =
+    let h : a ≡ suc b * (a / suc b) + a % suc b = omega arith in grind (arith, h)
+left-is (negsuc a) (pos b) =
+    let h : suc a ≡ b * (suc a / b) + suc a % b = omega arith in grind (arith, h)
+left-is (negsuc a) (negsuc b) =
+    let h : suc a ≡ suc b * (suc a / suc b) + suc a % suc b = omega arith in grind (arith, h)

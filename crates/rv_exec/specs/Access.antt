@@ -1,6 +1,7 @@
 -- Loads and stores: the bytes of the aligned word that holds them, little endian ("Load and Store
 -- Instructions").
-use Rattle.std.specs.Prelude.{◌≡◌, ℕ, ◌+◌, ◌-◌, ◌*◌, ◌/◌, ◌%◌, ◌^◌, ◌==◌, Bool, nat_lt, if◌then◌else◌}
+use Rattle.std.specs.Prelude.{◌≡◌, ℕ, ◌+◌, ◌-◌, ◌*◌, ◌/◌, ◌%◌, ◌^◌}
+use Rattle.std.specs.Prelude.{◌==◌, Bool, nat_lt, if◌then◌else◌}
 use Rattle.rv_exec.specs.Words.{bit}
 use Rattle.rv_exec.specs.declared.outcome.Lanes.{Lanes}
 use Rattle.rv_decode.specs.declared.instruction.LoadOp.{LoadOp}
@@ -39,16 +40,16 @@ abbrev pub bytes_at : ℕ → ℕ → ℕ → ℕ
 bytes_at size address w = w / 256 ^ (address % 4) % 256 ^ size
 
 -- a number of so many bytes, its top bit copied upward to 32 bits
-abbrev pub extended : ℕ → ℕ → ℕ
-extended size n = if nat_lt n (256 ^ size / 2) then n else n + (2 ^ 32 - 256 ^ size)
+abbrev pub sign_extension : ℕ → ℕ → ℕ
+sign_extension size n = if nat_lt n (256 ^ size / 2) then n else n + (2 ^ 32 - 256 ^ size)
 
 -- the value of a load, out of the aligned word that holds the address
-unfoldable pub loaded : LoadOp → ℕ → ℕ → ℕ
-loaded Lb address w = extended 1 (bytes_at 1 address w)
-loaded Lh address w = extended 2 (bytes_at 2 address w)
-loaded Lw address w = bytes_at 4 address w
-loaded Lbu address w = bytes_at 1 address w
-loaded Lhu address w = bytes_at 2 address w
+unfoldable pub loaded_value : LoadOp → ℕ → ℕ → ℕ
+loaded_value Lb address w = sign_extension 1 (bytes_at 1 address w)
+loaded_value Lh address w = sign_extension 2 (bytes_at 2 address w)
+loaded_value Lw address w = bytes_at 4 address w
+loaded_value Lbu address w = bytes_at 1 address w
+loaded_value Lhu address w = bytes_at 2 address w
 
 -- so many low bytes of a value in their lanes in the aligned word, with 0 in the others, and the
 -- mask of these lanes
@@ -71,5 +72,7 @@ abbrev pub merged_byte : ℕ → Lanes → ℕ → ℕ
 merged_byte old l lane = if bit l.mask lane == 1 then byte l.value lane else byte old lane
 
 -- a word once lanes are written
-unfoldable pub merged : ℕ → Lanes → ℕ
-merged old l = merged_byte old l 0 + merged_byte old l 1 * 256 + merged_byte old l 2 * 256 ^ 2 + merged_byte old l 3 * 256 ^ 3
+unfoldable pub merged_word : ℕ → Lanes → ℕ
+merged_word old l =
+    merged_byte old l 0 + merged_byte old l 1 * 256 + merged_byte old l 2 * 256 ^ 2
+    + merged_byte old l 3 * 256 ^ 3

@@ -1,14 +1,22 @@
 -- What an instruction gives, from its pc and the values a and b of rs1 and rs2.
-use Rattle.std.specs.Prelude.{ℕ, ◌+◌, ◌-◌, ◌*◌, ◌%◌, ◌^◌, ◌==◌, ℤ, pos, ◌+ℤ◌, Bool, false, not, Option, Some, None, nat_lt, if◌then◌else◌}
+use Rattle.std.specs.Prelude.{ℕ, ◌+◌, ◌-◌, ◌*◌, ◌%◌, ◌^◌, ◌==◌, ℤ, pos, ◌+ℤ◌, Bool}
+use Rattle.std.specs.Prelude.{false, not, Option, Some, None, nat_lt, if◌then◌else◌}
 use Rattle.rv_exec.specs.Words.{signed, word, below}
-use Rattle.rv_exec.specs.Alu.{computed, computed_with, shifted, multiplied}
+use Rattle.rv_exec.specs.Alu.{alu_result, alu_result_with, shift_result, mul_result}
 use Rattle.rv_exec.specs.Access.{load_size, store_size, is_aligned}
 use Rattle.rv_exec.specs.declared.outcome.Outcome.{Outcome}
 use Rattle.rv_decode.specs.declared.instruction.Ins.{Ins}
-use Rattle.rv_decode.specs.declared.instruction.Ins.TheVariants.{Lui, Auipc, Jal, Jalr, Branch, Load, Store, OpImm, Shift, Op, Muldiv, Fence, Ecall, Ebreak, Mret, Csr, Gt, Gth, Du, Wu, Ee, De, Illegal}
+use Rattle.rv_decode.specs.declared.instruction.Ins.TheVariants.{Lui, Auipc, Jal, Jalr, Branch}
+use Rattle.rv_decode.specs.declared.instruction.Ins.TheVariants.{Load, Store, OpImm, Shift}
+use Rattle.rv_decode.specs.declared.instruction.Ins.TheVariants.{Op, Muldiv, Fence, Ecall}
+use Rattle.rv_decode.specs.declared.instruction.Ins.TheVariants.{Ebreak, Mret, Csr, Gt, Gth}
+use Rattle.rv_decode.specs.declared.instruction.Ins.TheVariants.{Du, Wu, Ee, De, Illegal}
 use Rattle.rv_decode.specs.declared.instruction.BranchOp.{BranchOp}
-use Rattle.rv_decode.specs.declared.instruction.BranchOp.TheVariants.{Beq, Bne, Blt, Bge, Bltu, Bgeu}
-use Rattle.rv_exec.specs.TrapCauses.{cause_misaligned_target, cause_illegal, cause_breakpoint, cause_misaligned_load, cause_misaligned_store, cause_environment_call}
+use Rattle.rv_decode.specs.declared.instruction.BranchOp.TheVariants.{Beq, Bne, Blt}
+use Rattle.rv_decode.specs.declared.instruction.BranchOp.TheVariants.{Bge, Bltu, Bgeu}
+use Rattle.rv_exec.specs.TrapCauses.{cause_misaligned_target, cause_illegal}
+use Rattle.rv_exec.specs.TrapCauses.{cause_breakpoint, cause_misaligned_load}
+use Rattle.rv_exec.specs.TrapCauses.{cause_misaligned_store, cause_environment_call}
 
 -- "Conditional Branches"
 unfoldable pub is_taken : BranchOp → ℕ → ℕ → Bool
@@ -45,15 +53,24 @@ of_trap cause = record nothing { trap = Some cause }
 
 -- an access of so many bytes at an address, which traps where it isn't aligned
 abbrev pub of_access : ℕ → ℕ → ℕ → Outcome
-of_access address size cause = record nothing { address = address; trap = unless (is_aligned address size) cause }
+of_access address size cause =
+    record nothing { address = address; trap = unless (is_aligned address size) cause }
 
 -- a jump with the word for rd, which traps where its target is no multiple of 4
 abbrev pub of_jump : ℕ → ℕ → Outcome
-of_jump link target = record nothing { value = link; target = target; trap = unless (is_aligned target 4) cause_misaligned_target }
+of_jump link target = record nothing {
+  value = link;
+  target = target;
+  trap = unless (is_aligned target 4) cause_misaligned_target;
+}
 
 -- a branch, which traps where it is taken to a target that is no multiple of 4
 abbrev pub of_branch : Bool → ℕ → Outcome
-of_branch taken target = record nothing { target = target; taken = taken; trap = if taken then unless (is_aligned target 4) cause_misaligned_target else None }
+of_branch taken target = record nothing {
+  target = target;
+  taken = taken;
+  trap = if taken then unless (is_aligned target 4) cause_misaligned_target else None;
+}
 
 -- the outcome of each instruction
 unfoldable pub result_of : Ins → ℕ → ℕ → ℕ → Outcome
@@ -62,12 +79,14 @@ result_of (Auipc rd imm) pc a b = of_value ((pc + imm * 2 ^ 12) % 2 ^ 32)
 result_of (Jal rd off) pc a b = of_jump ((pc + 4) % 2 ^ 32) (offset pc off)
 result_of (Jalr rd rs1 imm) pc a b = of_jump ((pc + 4) % 2 ^ 32) (even_below (offset a imm))
 result_of (Branch op rs1 rs2 off) pc a b = of_branch (is_taken op a b) (offset pc off)
-result_of (Load op rd rs1 imm) pc a b = of_access (offset a imm) (load_size op) cause_misaligned_load
-result_of (Store op rs1 rs2 imm) pc a b = of_access (offset a imm) (store_size op) cause_misaligned_store
-result_of (OpImm op rd rs1 imm) pc a b = of_value (computed_with op a imm)
-result_of (Shift op rd rs1 amount) pc a b = of_value (shifted op a amount)
-result_of (Op op rd rs1 rs2) pc a b = of_value (computed op a b)
-result_of (Muldiv op rd rs1 rs2) pc a b = of_value (multiplied op a b)
+result_of (Load op rd rs1 imm) pc a b =
+    of_access (offset a imm) (load_size op) cause_misaligned_load
+result_of (Store op rs1 rs2 imm) pc a b =
+    of_access (offset a imm) (store_size op) cause_misaligned_store
+result_of (OpImm op rd rs1 imm) pc a b = of_value (alu_result_with op a imm)
+result_of (Shift op rd rs1 amount) pc a b = of_value (shift_result op a amount)
+result_of (Op op rd rs1 rs2) pc a b = of_value (alu_result op a b)
+result_of (Muldiv op rd rs1 rs2) pc a b = of_value (mul_result op a b)
 result_of (Fence w) pc a b = nothing
 result_of Ecall pc a b = of_trap cause_environment_call
 result_of Ebreak pc a b = of_trap cause_breakpoint

@@ -1,5 +1,5 @@
--- The causes of traps. Source: RISC-V privileged manual, "Machine Cause Register"; an expiry is this
--- project's, at a number which that leaves to a platform.
+-- The causes of traps. Source: RISC-V privileged manual, "Machine Cause Register"; an expiry is
+-- this project's, at a number which that leaves to a platform.
 use Rattle.std.specs.Prelude.{ℕ}
 
 -- a jump or a taken branch to an address that is no multiple of 4

@@ -1,7 +1,8 @@
 -- Words of 32 bits as whole numbers below 2 ^ 32. Registers are words; instructions read them with
 -- or without a sign (RISC-V unprivileged manual, "Programmers' Model for Base Integer ISA" and
 -- "Integer Computational Instructions").
-use Rattle.std.specs.Prelude.{ℕ, zero, suc, ◌+◌, ◌-◌, ◌*◌, ◌/◌, ◌%◌, ◌^◌, ℤ, pos, negsuc, ◌-ℤ◌, nat_lt, Bool, true, false, if◌then◌else◌}
+use Rattle.std.specs.Prelude.{ℕ, zero, suc, ◌+◌, ◌-◌, ◌*◌, ◌/◌, ◌%◌, ◌^◌, ℤ, pos}
+use Rattle.std.specs.Prelude.{negsuc, ◌-ℤ◌, nat_lt, Bool, true, false, if◌then◌else◌}
 
 -- the word read with its top bit as the sign (two's complement)
 abbrev pub signed : ℕ → ℤ

@@ -1,7 +1,7 @@
 //! What a load takes out of an aligned word, and which of its bytes a store writes.
 
 ghost use Rattle.std.specs.Prelude.{◌≡◌, ◌<◌, ◌*◌, ◌/◌, ◌%◌, ◌^◌};
-ghost use Rattle.rv_exec.specs.Access.{load_size, store_size, loaded, lanes};
+ghost use Rattle.rv_exec.specs.Access.{load_size, store_size, loaded_value, lanes};
 ghost use Rattle.rv_exec.specs.Line.{IsWidth};
 
 use crate::outcome::Lanes;
@@ -33,10 +33,10 @@ pub fn store_size(op: StoreOp) -> u8
 
 /// The value of a load at `address`, a multiple of its size, out of the aligned word that holds it.
 /// The word is little endian (RISC-V unprivileged manual, "Load and Store Instructions").
-#[tactic(auto, unfolding(crate::specs::Access::loaded))]
+#[tactic(auto, unfolding(crate::specs::Access::loaded_value))]
 pub fn load_value(op: LoadOp, address: u32, word: u32) -> u32
     requires { address % load_size op ≡ 0 }
-    ensures { result ≡ loaded op address word }
+    ensures { result ≡ loaded_value op address word }
 {
     let bytes = bytes_from(word, address);
     let byte = (bytes & 0xff) as u8;

@@ -1,16 +1,16 @@
 //! The operations on two registers, and on a register and an immediate.
 
 ghost use Rattle.std.specs.Prelude.{◌≡◌};
-ghost use Rattle.rv_exec.specs.Alu.{computed, computed_with, shifted};
+ghost use Rattle.rv_exec.specs.Alu.{alu_result, alu_result_with, shift_result};
 
 use rv_decode::{AluOp, ImmOp, ShiftOp};
 
 /// The value of an operation on two registers (RISC-V unprivileged manual, "Integer
 /// Register-Register Operations").
-#[tactic(auto, unfolding(crate::specs::Alu::computed))]
+#[tactic(auto, unfolding(crate::specs::Alu::alu_result))]
 #[inline(always)]
 pub fn compute(op: AluOp, a: u32, b: u32) -> u32
-    ensures { result ≡ computed op a b }
+    ensures { result ≡ alu_result op a b }
 {
     match op {
         AluOp::Add => a.wrapping_add(b),
@@ -28,10 +28,10 @@ pub fn compute(op: AluOp, a: u32, b: u32) -> u32
 
 /// The value of an operation on a register and an immediate ("Integer Register-Immediate
 /// Instructions").
-#[tactic(auto, unfolding(crate::specs::Alu::computed_with))]
+#[tactic(auto, unfolding(crate::specs::Alu::alu_result_with))]
 #[inline(always)]
 pub(crate) fn compute_with(op: ImmOp, a: u32, imm: i32) -> u32
-    ensures { result ≡ computed_with op a imm }
+    ensures { result ≡ alu_result_with op a imm }
 {
     let b = imm.cast_unsigned();
     match op {
@@ -45,10 +45,10 @@ pub(crate) fn compute_with(op: ImmOp, a: u32, imm: i32) -> u32
 }
 
 /// The value of a shift by a constant amount.
-#[tactic(auto, unfolding(crate::specs::Alu::shifted))]
+#[tactic(auto, unfolding(crate::specs::Alu::shift_result))]
 #[inline(always)]
 pub(crate) fn shift(op: ShiftOp, a: u32, amount: u8) -> u32
-    ensures { result ≡ shifted op a amount }
+    ensures { result ≡ shift_result op a amount }
 {
     let b = u32::from(amount);
     match op {

@@ -2,14 +2,14 @@
 
 ghost use Rattle.std.specs.Prelude.{◌≡◌, ◌≢◌, ◌^◌, ◌-ℤ◌, ◌*ℤ◌};
 ghost use Rattle.rv_exec.specs.Words.{word, signed, floor_div};
-ghost use Rattle.rv_exec.specs.Alu.{multiplied, quotient};
+ghost use Rattle.rv_exec.specs.Alu.{mul_result, quotient};
 
 use rv_decode::MulOp;
 
 /// The value of a multiplication or division (RISC-V unprivileged manual, "M" extension).
-#[tactic(auto, unfolding(crate::specs::Alu::multiplied))]
+#[tactic(auto, unfolding(crate::specs::Alu::mul_result))]
 pub fn multiply(op: MulOp, a: u32, b: u32) -> u32
-    ensures { result ≡ multiplied op a b }
+    ensures { result ≡ mul_result op a b }
 {
     match op {
         MulOp::Mul => a.wrapping_mul(b),

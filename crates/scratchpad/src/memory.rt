@@ -1,8 +1,9 @@
 //! The words of a scratchpad.
 
-ghost use Rattle.std.specs.Prelude.{◌≡◌, ◌+◌, ◌*◌, ◌/◌, ◌<◌, ◌≤◌, ◌%◌, length, replicate, slice_index_or, slice_set, IfOk};
+ghost use Rattle.std.specs.Prelude.{◌≡◌, ◌+◌, ◌*◌, ◌/◌, ◌<◌, ◌≤◌, ◌%◌, length};
+ghost use Rattle.std.specs.Prelude.{replicate, slice_index_or, slice_set, IfOk};
 ghost use Rattle.region_guard.specs.Regions.{IsSize};
-ghost use Rattle.rv_exec.specs.Access.{merged, merged_byte};
+ghost use Rattle.rv_exec.specs.Access.{merged_word, merged_byte};
 ghost use Rattle.scratchpad.specs.Words.{word_in as word_of_bytes, words_of, written_at};
 
 use rv_exec::Lanes;
@@ -65,9 +66,9 @@ fn byte_3(old: u32, lanes: Lanes) -> u32
 }
 
 // A word once lanes are written.
-#[tactic(auto, unfolding(rv_exec::specs::Access::merged))]
+#[tactic(auto, unfolding(rv_exec::specs::Access::merged_word))]
 fn merge(old: u32, lanes: Lanes) -> u32
-    ensures { result ≡ merged old lanes }
+    ensures { result ≡ merged_word old lanes }
 {
     byte_0(old, lanes)
         + byte_1(old, lanes) * 256
@@ -136,7 +137,7 @@ impl Spm {
     pub fn store(&mut self, index: u32, lanes: Lanes)
         requires { index < length self.old }
         ensures words { self.new
-            ≡ slice_set self.old index (merged (slice_index_or self.old index 0) lanes) }
+            ≡ slice_set self.old index (merged_word (slice_index_or self.old index 0) lanes) }
         ensures len { length self.new ≡ length self.old }
     {
         let word = &mut self.words[index as usize];

@@ -1,5 +1,8 @@
--- While the slots and its mode stay, the issues of a thread follow the ways of the words that are known.
-use Rattle.std.proofs.Common.{◌≡◌, ℕ, zero, suc, ◌+◌, ◌-◌, ◌*◌, ◌/◌, ◌%◌, ◌<◌, ◌≤◌, inl, inr, ◌⊎◌, Bool, true, false, List, [], ◌∷◌, ◌++◌, length, refl, ap, sym, ◌∙◌, subst, arith, ne_eqb}
+-- While the slots and its mode stay, the issues of a thread follow the ways of the words that are
+-- known.
+use Rattle.std.proofs.Common.{◌≡◌, ℕ, zero, suc, ◌+◌, ◌-◌, ◌*◌, ◌/◌, ◌%◌, ◌<◌, ◌≤◌}
+use Rattle.std.proofs.Common.{inl, inr, ◌⊎◌, Bool, true, false, List, [], ◌∷◌, ◌++◌}
+use Rattle.std.proofs.Common.{length, refl, ap, sym, ◌∙◌, subst, arith, ne_eqb}
 use Rattle.std.specs.Prelude.{◌==◌, if◌then◌else◌}
 use Rattle.std.proofs.lemmas.Bool.{cases_lt}
 use Rattle.std.proofs.Math.Nat.{add-mul-mod_self_right, mod-add-div', mul-le-mul_left}
@@ -9,28 +12,34 @@ use Rattle.region_tree.specs.Walk.{IsOwn, Positions}
 use Rattle.slot_table.specs.Frame.{frame}
 use Rattle.timer_unit.specs.Time.{time}
 use Rattle.bound_calc.specs.Bound.{positions}
-use Rattle.world_model.proofs.Turns.{Turned, ages, nexts}
-use Rattle.world_model.specs.World.{Start, Took, issue_of, newest, recent, thread_of, world}
-use Rattle.world_model.specs.World.Took.{Idle, Lost, Ran}
+use Rattle.core_model.proofs.Turns.{Turned, ages, nexts}
+use Rattle.core_model.specs.World.{Start, Took, issue_of, newest, recent, thread_of, world}
+use Rattle.core_model.specs.World.Took.{Idle, Lost, Ran}
 use Rattle.run_laws.proofs.Induction.{earlier_is}
-use Rattle.section_visits.proofs.Cycles.{Goes, Going, IsHardAt, Stays, begins, cycles, goes_on}
+use Rattle.section_visits.proofs.Cycles.{Goes, CycleInvariant, IsHardAt}
+use Rattle.section_visits.proofs.Cycles.{Stays, begins, cycles, goes_on}
 use Rattle.section_visits.proofs.Instructions.{Gone}
 use Rattle.section_visits.specs.InSettings.{AreLinkedIn, IsHardBy, IsSet, Throughout}
 use Rattle.section_visits.specs.VisitBound.{Along, AreLinked}
-use Rattle.section_visits.specs.Visits.{Issued, is_trap, issue_in, issues_of}
+use Rattle.run_laws.specs.LagLaw.{is_trap}
+use Rattle.section_visits.specs.Visits.{Issued, issue_in, issues_of}
 
 -- at known words issues that don't trap go along a way
 abbrev pub Went : (ℕ → Type 0) → (ℕ → Edge → Type 0) → Start → ℕ → Type 0
 Went known way s i =
-    (c : ℕ) → known (thread_of (recent s c).now i).pc → is_trap (issue_of s c (recent s c).now i).effect ≡ false →
-    Gone (way (thread_of (recent s c).now i).pc) c (thread_of (recent s c).now i).own.sleep (issue_of s c (recent s c).now i).thread
+    (c : ℕ) → known (thread_of (recent s c).now i).pc →
+    is_trap (issue_of s c (recent s c).now i).effect ≡ false →
+    Gone (way (thread_of (recent s c).now i).pc) c (thread_of (recent s c).now i).own.sleep
+    (issue_of s c (recent s c).now i).thread
 
 -- a cycle at a position of the thread's own
 abbrev Own : ℕ → ℕ → ℕ → Type 0
 Own slots i c = IsOwn (positions slots i) (c % length (frame slots))
 
--- before cycle c: since an issue the thread is at the end of an edge, awake, and no turn of its own came once it was ready
-record Awaits (way : ℕ → Edge → Type 0) (s : Start) (slots i c : ℕ) (b : Issued) (th : Thread) : Type 0 where
+-- before cycle c: since an issue the thread is at the end of an edge, awake, and no turn of its own
+-- came once it was ready
+record Awaits (way : ℕ → Edge → Type 0) (s : Start) (slots i c : ℕ) (b : Issued)
+    (th : Thread) : Type 0 where
   edge : Edge
   known : way b.pc edge
   to : th.pc ≡ edge.to
@@ -42,14 +51,19 @@ record Awaits (way : ℕ → Edge → Type 0) (s : Start) (slots i c : ℕ) (b :
 abbrev Until : (ℕ → Type 0) → ℕ → ℕ → Type 0
 Until set a c = (k : ℕ) → a ≤ k → k < c → set k
 
-abbrev Pending : (ℕ → Type 0) → (ℕ → Type 0) → (ℕ → Edge → Type 0) → Start → ℕ → ℕ → ℕ → List Issued → Thread → Type 0
+abbrev Pending : (ℕ → Type 0) → (ℕ → Type 0) → (ℕ → Edge → Type 0) → Start → ℕ → ℕ → ℕ →
+    List Issued → Thread → Type 0
 Pending set known way s slots i c [] th = Unit {0}
-Pending set known way s slots i c (b ∷ more) th = (b.cycle < c) × (set b.cycle → Own slots i b.cycle) × (Until set b.cycle c → known b.pc → b.traps ≡ false → Awaits way s slots i c b th)
+Pending set known way s slots i c (b ∷ more) th =
+    (b.cycle < c) × (set b.cycle → Own slots i b.cycle)
+    × (Until set b.cycle c → known b.pc → b.traps ≡ false → Awaits way s slots i c b th)
 
-record Linked (set known : ℕ → Type 0) (way : ℕ → Edge → Type 0) (s : Start) (slots i c : ℕ) : Type 0 where
-  going : Going s i c
+record Linked (set known : ℕ → Type 0) (way : ℕ → Edge → Type 0) (s : Start)
+    (slots i c : ℕ) : Type 0 where
+  going : CycleInvariant s i c
   links : AreLinkedIn set known way (positions slots i) (issues_of i (recent s c).now.turns)
-  pending : Pending set known way s slots i c (issues_of i (recent s c).now.turns) (thread_of (recent s c).now i)
+  pending : Pending set known way s slots i c (issues_of i (recent s c).now.turns)
+      (thread_of (recent s c).now i)
 
 -- the cycles before n that are set have these slots, and the thread is hard and active
 abbrev Sets : (ℕ → Type 0) → Start → ℕ → ℕ → ℕ → Type 0
@@ -57,9 +71,14 @@ Sets set s slots i n = (c : ℕ) → c < n → set c → IsHardAt s slots i c
 
 -- positions d cycles later
 shifted : (a d n : ℕ) → (a % n + d) % n ≡ (a + d) % n
-shifted a d n = sym (ap (λ z. z % n) (let e : a + d ≡ (a % n + d) + a / n * n = omega (arith, mod-add-div' a n) in e) ∙ add-mul-mod_self_right (a % n + d) (a / n) n)
+shifted a d n =
+    sym (ap (λ z. z % n)
+    (let e : a + d ≡ (a % n + d) + a / n * n = omega (arith, mod-add-div' a n) in e)
+    ∙ add-mul-mod_self_right (a % n + d) (a / n) n)
 
-follows : (known : ℕ → Type 0) (way : ℕ → Edge → Type 0) (s : Start) (slots i c : ℕ) (b : Issued) (th : Thread) (traps : _) → b.cycle < c → Own slots i b.cycle → Own slots i c → th.ready ≤ c → Awaits way s slots i c b th →
+follows : (known : ℕ → Type 0) (way : ℕ → Edge → Type 0) (s : Start)
+    (slots i c : ℕ) (b : Issued) (th : Thread) (traps : _) → b.cycle < c →
+    Own slots i b.cycle → Own slots i c → th.ready ≤ c → Awaits way s slots i c b th →
     Along way (positions slots i) b (record { cycle = c; pc = th.pc; traps = traps })
 follows known way s slots i c b th traps before own_b own_c ready y = record {
   edge = y.edge;
@@ -69,22 +88,33 @@ follows known way s slots i c b th traps before own_b own_c ready y = record {
   turn = record {
     start = own_b;
     late = omega (arith, y.ready);
-    lands = ap (λ z. z % length (frame slots)) (let e : c ≡ b.cycle + (c - b.cycle) = omega arith in e) ∙ sym (shifted b.cycle (c - b.cycle) (length (frame slots)));
+    lands =
+        ap (λ z. z % length (frame slots)) (let e : c ≡ b.cycle + (c - b.cycle) = omega arith in e)
+        ∙ sym (shifted b.cycle (c - b.cycle) (length (frame slots)));
     own = own_c;
-    first = λ e low high o. y.none (b.cycle + e) (omega (arith, y.ready)) (omega arith) (subst (λ k. IsOwn (positions slots i) k) (shifted b.cycle e (length (frame slots))) o);
+    first =
+        λ e low high o. y.none (b.cycle + e) (omega (arith, y.ready)) (omega arith)
+        (subst (λ k. IsOwn (positions slots i) k) (shifted b.cycle e (length (frame slots))) o);
   };
 }
 
-abbrev Link : (ℕ → Type 0) → (ℕ → Type 0) → (ℕ → Edge → Type 0) → ℕ → ℕ → List Issued → Issued → Type 0
+abbrev Link : (ℕ → Type 0) → (ℕ → Type 0) → (ℕ → Edge → Type 0) → ℕ → ℕ → List Issued →
+    Issued → Type 0
 Link set known way slots i [] a = Unit {0}
-Link set known way slots i (b ∷ more) a = (b.cycle < a.cycle) × (Throughout set b.cycle a.cycle → known b.pc → b.traps ≡ false → Along way (positions slots i) b a)
+Link set known way slots i (b ∷ more) a =
+    (b.cycle < a.cycle) × (Throughout set b.cycle a.cycle → known b.pc → b.traps ≡ false →
+    Along way (positions slots i) b a)
 
-linked-more : (set known : ℕ → Type 0) (way : ℕ → Edge → Type 0) (slots i : ℕ) (l : List Issued) (a : Issued) → AreLinkedIn set known way (positions slots i) l → (set a.cycle → Own slots i a.cycle) → Link set known way slots i l a →
+linked-more : (set known : ℕ → Type 0) (way : ℕ → Edge → Type 0) (slots i : ℕ)
+    (l : List Issued) (a : Issued) → AreLinkedIn set known way (positions slots i) l →
+    (set a.cycle → Own slots i a.cycle) → Link set known way slots i l a →
     AreLinkedIn set known way (positions slots i) (a ∷ l)
 linked-more set known way slots i [] a h own link = own
 linked-more set known way slots i (b ∷ more) a h own link = (h, link.0, own, link.1)
 
-link-of : (set known : ℕ → Type 0) (way : ℕ → Edge → Type 0) (s : Start) (slots i c : ℕ) (l : List Issued) (th : Thread) (traps : _) → Pending set known way s slots i c l th → (set c → Own slots i c) → th.ready ≤ c →
+link-of : (set known : ℕ → Type 0) (way : ℕ → Edge → Type 0) (s : Start)
+    (slots i c : ℕ) (l : List Issued) (th : Thread) (traps : _) →
+    Pending set known way s slots i c l th → (set c → Own slots i c) → th.ready ≤ c →
     Link set known way slots i l (record { cycle = c; pc = th.pc; traps = traps })
 link-of set known way s slots i c [] th traps p own ready = tt
 link-of set known way s slots i c (b ∷ more) th traps p own ready = (
@@ -94,37 +124,58 @@ link-of set known way s slots i c (b ∷ more) th traps p own ready = (
       let at_b : b.cycle ≤ c = omega arith in
       let at_c : c ≤ c = omega arith in
       let from_b : b.cycle ≤ b.cycle = omega arith in
-      follows known way s slots i c b th traps before (p.1 (here b.cycle from_b at_b)) (own (here c at_b at_c)) ready (p.2 (λ k low high. here k low (let up : k ≤ c = omega arith in up)) reach calm),
+      follows known way s slots i c b th traps before
+      (p.1 (here b.cycle from_b at_b)) (own (here c at_b at_c)) ready
+      (p.2 (λ k low high. here k low (let up : k ≤ c = omega arith in up)) reach calm),
 )
 
-pending-new : (set known : ℕ → Type 0) (way : ℕ → Edge → Type 0) (s : Start) (slots i c : ℕ) → (set c → IsHardAt s slots i c) → Went known way s i → (g : Goes s slots i c) → (l : List Issued) →
-    Pending set known way s slots i (suc c) (record { cycle = c; pc = (thread_of (recent s c).now i).pc; traps = is_trap (issue_of s c (recent s c).now i).effect } ∷ l) (thread_of (recent s (suc c)).now i)
+pending-new : (set known : ℕ → Type 0) (way : ℕ → Edge → Type 0) (s : Start) (slots i c : ℕ) →
+    (set c → IsHardAt s slots i c) → Went known way s i → (g : Goes s slots i c) →
+    (l : List Issued) → Pending set known way s slots i (suc c) (record {
+      cycle = c;
+      pc = (thread_of (recent s c).now i).pc;
+      traps = is_trap (issue_of s c (recent s c).now i).effect;
+    } ∷ l) (thread_of (recent s (suc c)).now i)
 pending-new set known way s slots i c is goes g l = (omega arith, λ here. g.own (is here), awaits)
   where
     b : Issued
-    b = record { cycle = c; pc = (thread_of (recent s c).now i).pc; traps = is_trap (issue_of s c (recent s c).now i).effect }
+    b = record {
+      cycle = c;
+      pc = (thread_of (recent s c).now i).pc;
+      traps = is_trap (issue_of s c (recent s c).now i).effect;
+    }
 
-    awaits : Until set c (suc c) → known (thread_of (recent s c).now i).pc → is_trap (issue_of s c (recent s c).now i).effect ≡ false → Awaits way s slots i (suc c) b (thread_of (recent s (suc c)).now i)
+    awaits : Until set c (suc c) → known (thread_of (recent s c).now i).pc →
+        is_trap (issue_of s c (recent s c).now i).effect ≡ false →
+        Awaits way s slots i (suc c) b (thread_of (recent s (suc c)).now i)
     awaits here reach calm =
         let y = goes c reach calm in
         let at : c ≤ c = omega arith in
         let below : c < suc c = omega arith in
-        let ready : (thread_of (recent s (suc c)).now i).ready ≡ c + y.edge.lag = ap (λ (th : Thread). th.ready) g.thread ∙ y.ready in
+        let ready : (thread_of (recent s (suc c)).now i).ready ≡ c + y.edge.lag =
+        ap (λ (th : Thread). th.ready) g.thread ∙ y.ready in
         record {
           edge = y.edge;
           known = y.known;
           to = ap (λ (th : Thread). th.pc) g.thread ∙ y.to;
           ready = ready;
-          awake = subst (λ m. m ≤ time s.period c) (sym (ap (λ (th : Thread). th.own.sleep) g.thread ∙ y.sleeps)) (g.awake (is (here c at below)));
+          awake =
+              subst (λ m. m ≤ time s.period c)
+              (sym (ap (λ (th : Thread). th.own.sleep) g.thread ∙ y.sleeps))
+              (g.awake (is (here c at below)));
           none = λ k low high o. let one = y.later in absurd (omega (arith, ready, one));
         }
 
-pending-same : (set known : ℕ → Type 0) (way : ℕ → Edge → Type 0) (s : Start) (slots i c : ℕ) → (set c → IsHardAt s slots i c) → Stays s slots i c → (l : List Issued) → Pending set known way s slots i c l (thread_of (recent s c).now i) →
+pending-same : (set known : ℕ → Type 0) (way : ℕ → Edge → Type 0) (s : Start) (slots i c : ℕ) →
+    (set c → IsHardAt s slots i c) → Stays s slots i c → (l : List Issued) →
+    Pending set known way s slots i c l (thread_of (recent s c).now i) →
     Pending set known way s slots i (suc c) l (thread_of (recent s c).now i)
 pending-same set known way s slots i c is y [] p = tt
-pending-same set known way s slots i c is y (b ∷ more) p = (let lt = p.0 in omega arith, p.1, more_of)
+pending-same set known way s slots i c is y (b ∷ more) p =
+    (let lt = p.0 in omega arith, p.1, more_of)
   where
-    go : set c → Awaits way s slots i c b (thread_of (recent s c).now i) → Awaits way s slots i (suc c) b (thread_of (recent s c).now i)
+    go : set c → Awaits way s slots i c b (thread_of (recent s c).now i) →
+        Awaits way s slots i (suc c) b (thread_of (recent s c).now i)
     go here a = record {
       edge = a.edge;
       known = a.known;
@@ -135,26 +186,39 @@ pending-same set known way s slots i c is y (b ∷ more) p = (let lt = p.0 in om
     }
       where
         awake : (thread_of (recent s c).now i).own.sleep ≤ time s.period c
-        awake = let le : s.period * b.cycle ≤ s.period * c = mul-le-mul_left s.period (let lt = p.0 in omega arith) in let a_le = a.awake in omega arith
+        awake =
+            let le : s.period * b.cycle ≤ s.period * c =
+            mul-le-mul_left s.period (let lt = p.0 in omega arith) in
+            let a_le = a.awake in omega arith
 
-        none : (k : ℕ) → (thread_of (recent s c).now i).ready ≤ k → Own slots i k → (k < c) ⊎ (k ≡ c) → ⊥
+        none : (k : ℕ) → (thread_of (recent s c).now i).ready ≤ k → Own slots i k →
+            (k < c) ⊎ (k ≡ c) → ⊥
         none k low o (inl lt) = a.none k low lt o
         none k low o (inr e) = y.idle (is here) (subst (λ z. Own slots i z) e o) (omega arith) awake
 
-    more_of : Until set b.cycle (suc c) → known b.pc → b.traps ≡ false → Awaits way s slots i (suc c) b (thread_of (recent s c).now i)
+    more_of : Until set b.cycle (suc c) → known b.pc → b.traps ≡ false →
+        Awaits way s slots i (suc c) b (thread_of (recent s c).now i)
     more_of here reach calm =
         let lt = p.0 in
         let at : b.cycle ≤ c = omega arith in
         let below : c < suc c = omega arith in
-        go (here c at below) (p.2 (λ k low high. here k low (let up : k < suc c = omega arith in up)) reach calm)
+        go (here c at below)
+        (p.2 (λ k low high. here k low (let up : k < suc c = omega arith in up)) reach calm)
 
-linked-first : (set known : ℕ → Type 0) (way : ℕ → Edge → Type 0) (s : Start) (slots i : ℕ) → length s.threads ≡ 8 → Linked set known way s slots i zero
+linked-first : (set known : ℕ → Type 0) (way : ℕ → Edge → Type 0) (s : Start) (slots i : ℕ) →
+    length s.threads ≡ 8 → Linked set known way s slots i zero
 unfolding recent
-linked-first set known way s slots i eight = record { going = begins s i eight; links = tt; pending = tt }
+linked-first set known way s slots i eight =
+    record { going = begins s i eight; links = tt; pending = tt }
 
-linked : (set known : ℕ → Type 0) (way : ℕ → Edge → Type 0) (s : Start) (slots i n c : ℕ) → c ≤ n → Sets set s slots i n → Went known way s i → i < 8 → length s.threads ≡ 8 → Linked set known way s slots i c
-linked set known way s slots i n zero up sets went number eight = linked-first set known way s slots i eight
-linked set known way s slots i n (suc c) up sets went number eight = onto (linked set known way s slots i n c (let less : c ≤ n = omega arith in less) sets went number eight)
+linked : (set known : ℕ → Type 0) (way : ℕ → Edge → Type 0) (s : Start) (slots i n c : ℕ) →
+    c ≤ n → Sets set s slots i n → Went known way s i → i < 8 → length s.threads ≡ 8 →
+    Linked set known way s slots i c
+linked set known way s slots i n zero up sets went number eight =
+    linked-first set known way s slots i eight
+linked set known way s slots i n (suc c) up sets went number eight =
+    onto (linked set known way s slots i n c
+    (let less : c ≤ n = omega arith in less) sets went number eight)
   where
     is : set c → IsHardAt s slots i c
     is = sets c (let less : c < n = omega arith in less)
@@ -168,35 +232,53 @@ linked set known way s slots i n (suc c) up sets went number eight = onto (linke
         th : Thread
         th = thread_of (recent s c).now i
 
-        more : Going s i (suc c)
+        more : CycleInvariant s i (suc c)
         more = goes_on s i c number y.going
 
         go : Goes s slots i c ⊎ Stays s slots i c → Linked set known way s slots i (suc c)
         go (inl g) = record {
           going = more;
           links = subst (λ k. AreLinkedIn set known way (positions slots i) k) (sym g.issues)
-              (linked-more set known way slots i l (record { cycle = c; pc = th.pc; traps = is_trap (issue_of s c (recent s c).now i).effect }) y.links (λ here. g.own (is here))
-              (link-of set known way s slots i c l th (is_trap (issue_of s c (recent s c).now i).effect) y.pending (λ here. g.own (is here)) g.ready));
-          pending = subst (λ k. Pending set known way s slots i (suc c) k (thread_of (recent s (suc c)).now i)) (sym g.issues) (pending-new set known way s slots i c is went g l);
+              (linked-more set known way slots i l (record {
+                cycle = c;
+                pc = th.pc;
+                traps = is_trap (issue_of s c (recent s c).now i).effect;
+              }) y.links (λ here. g.own (is here))
+              (link-of set known way s slots i c l th
+              (is_trap (issue_of s c (recent s c).now i).effect) y.pending
+              (λ here. g.own (is here)) g.ready));
+          pending =
+              subst
+              (λ k. Pending set known way s slots i (suc c) k (thread_of (recent s (suc c)).now i))
+              (sym g.issues) (pending-new set known way s slots i c is went g l);
         }
         go (inr g) = record {
           going = more;
-          links = subst (λ k. AreLinkedIn set known way (positions slots i) k) (sym g.issues) y.links;
-          pending = subst (λ k. Pending set known way s slots i (suc c) k (thread_of (recent s (suc c)).now i)) (sym g.issues)
-              (subst (λ u. Pending set known way s slots i (suc c) l u) (sym g.thread) (pending-same set known way s slots i c is g l y.pending));
+          links =
+              subst (λ k. AreLinkedIn set known way (positions slots i) k) (sym g.issues) y.links;
+          pending =
+              subst (λ k. Pending set known way s slots i (suc c) k
+              (thread_of (recent s (suc c)).now i)) (sym g.issues)
+              (subst (λ u. Pending set known way s slots i (suc c) l u) (sym g.thread)
+              (pending-same set known way s slots i c is g l y.pending));
         }
 
 -- a thread that isn't one of the eight never issues
 no-issues : (s : Start) (i n : ℕ) → 8 ≤ i → issues_of i (world s n).turns ≡ []
 unfolding world recent
 no-issues s i zero past = refl
-no-issues s i (suc c) past = ap (issues_of i) (nexts s c).turns ∙ go (newest (world s (suc c))) (nexts s c).turned (no-issues s i c past)
+no-issues s i (suc c) past =
+    ap (issues_of i) (nexts s c).turns
+    ∙ go (newest (world s (suc c))) (nexts s c).turned (no-issues s i c past)
   where
-    go : (took : Took) → Turned s c (world s c) took (world s (suc c)) → issues_of i (world s c).turns ≡ [] → issue_in i (length (world s c).turns) took ++ issues_of i (world s c).turns ≡ []
+    go : (took : Took) → Turned s c (world s c) took (world s (suc c)) →
+        issues_of i (world s c).turns ≡ [] →
+        issue_in i (length (world s c).turns) took ++ issues_of i (world s c).turns ≡ []
     go Idle turned before = before
     go (Lost k) turned before = before
     go (Ran k pc word effect) turned before =
-        let other : (k == i) ≡ false = ne_eqb k i (λ same. omega (arith, turned.below, same, past)) in
+        let other : (k == i) ≡ false =
+        ne_eqb k i (λ same. omega (arith, turned.below, same, past)) in
         rw other before
 
 -- issues in cycles below n
@@ -208,9 +290,12 @@ issues-below : (i n : ℕ) (turns : List Took) → length turns ≤ n → AreBel
 issues-below i n [] up = tt
 issues-below i n (Idle ∷ turns) up = issues-below i n turns (omega arith)
 issues-below i n (Lost k ∷ turns) up = issues-below i n turns (omega arith)
-issues-below i n (Ran k pc word effect ∷ turns) up = go (k == i) (issues-below i n turns (omega arith))
+issues-below i n (Ran k pc word effect ∷ turns) up =
+    go (k == i) (issues-below i n turns (omega arith))
   where
-    go : (b : Bool) → AreBelow n (issues_of i turns) → AreBelow n ((if b then record { cycle = length turns; pc = pc; traps = is_trap effect } ∷ [] else []) ++ issues_of i turns)
+    go : (b : Bool) → AreBelow n (issues_of i turns) → AreBelow n
+        ((if b then record { cycle = length turns; pc = pc; traps = is_trap effect } ∷ [] else [])
+        ++ issues_of i turns)
     go true h = (let l : length turns < n = omega arith in l, h)
     go false h = h
 
@@ -218,7 +303,8 @@ issues-below i n (Ran k pc word effect ∷ turns) up = go (k == i) (issues-below
 pub all-below : (s : Start) (i n : ℕ) → AreBelow n (issues_of i (world s n).turns)
 all-below s i n = issues-below i n (world s n).turns (let e = ages s n in omega arith)
 
-pub below-at : (n : ℕ) (later : List Issued) (a : Issued) (l : List Issued) → AreBelow n (later ++ (a ∷ l)) → a.cycle < n
+pub below-at : (n : ℕ) (later : List Issued) (a : Issued) (l : List Issued) →
+    AreBelow n (later ++ (a ∷ l)) → a.cycle < n
 below-at n [] a l h = h.0
 below-at n (b ∷ later) a l h = below-at n later a l h.1
 
@@ -226,32 +312,49 @@ below-at n (b ∷ later) a l h = below-at n later a l h.1
 pub set-at : (s : Start) (slots i c : ℕ) → IsSet s slots i c → IsHardAt s slots i c
 set-at s slots i c here = subst (λ w. IsHardBy slots i w.registers) (sym (earlier_is s c)) here
 
-pub linked_all : (known : ℕ → Type 0) (way : ℕ → Edge → Type 0) (s : Start) (slots i n : ℕ) → Went known way s i → length s.threads ≡ 8 →
+pub linked_all : (known : ℕ → Type 0) (way : ℕ → Edge → Type 0) (s : Start) (slots i n : ℕ) →
+    Went known way s i → length s.threads ≡ 8 →
     AreLinkedIn (IsSet s slots i) known way (positions slots i) (issues_of i (world s n).turns)
 unfolding world
 linked_all known way s slots i n went eight = go (cases_lt i 8)
   where
-    go : (i < 8) ⊎ (8 ≤ i) → AreLinkedIn (IsSet s slots i) known way (positions slots i) (issues_of i (world s n).turns)
-    go (inl number) = (linked (IsSet s slots i) known way s slots i n n (let same : n ≤ n = omega arith in same) (λ c low here. set-at s slots i c here) went number eight).links
-    go (inr past) = subst (λ l. AreLinkedIn (IsSet s slots i) known way (positions slots i) l) (sym (no-issues s i n past)) tt
+    go : (i < 8) ⊎ (8 ≤ i) →
+        AreLinkedIn (IsSet s slots i) known way (positions slots i) (issues_of i (world s n).turns)
+    go (inl number) =
+        (linked (IsSet s slots i) known way s slots i n n (let same : n ≤ n = omega arith in same)
+        (λ c low here. set-at s slots i c here) went number eight).links
+    go (inr past) =
+        subst (λ l. AreLinkedIn (IsSet s slots i) known way (positions slots i) l)
+        (sym (no-issues s i n past)) tt
 
 -- issues of a run of n cycles, all of which are set, are linked
-pub linked-always : (set known : ℕ → Type 0) (way : ℕ → Edge → Type 0) (s : Positions) (n : ℕ) (l : List Issued) → ((c : ℕ) → c < n → set c) → AreBelow n l → AreLinkedIn set known way s l → AreLinked known way s l
+pub linked-always : (set known : ℕ → Type 0) (way : ℕ → Edge → Type 0) (s : Positions) (n : ℕ)
+    (l : List Issued) → ((c : ℕ) → c < n → set c) → AreBelow n l → AreLinkedIn set known way s l →
+    AreLinked known way s l
 linked-always set known way s n [] all below h = tt
 linked-always set known way s n (a ∷ []) all below h = h (all a.cycle below.0)
 linked-always set known way s n (a ∷ (b ∷ more)) all below h =
-    let at = below.0 in
-    (linked-always set known way s n (b ∷ more) all below.1 h.0, h.2 (all a.cycle below.0), h.3 (λ c low high. all c (let up : c < n = omega arith in up)))
+    let at = below.0 in (
+      linked-always set known way s n (b ∷ more) all below.1 h.0,
+      h.2 (all a.cycle below.0),
+      h.3 (λ c low high. all c (let up : c < n = omega arith in up)),
+    )
 
 -- parts of linked issues
-pub linked-rest : (set known : ℕ → Type 0) (way : ℕ → Edge → Type 0) (s : Positions) (a : Issued) (l : List Issued) → AreLinkedIn set known way s (a ∷ l) → AreLinkedIn set known way s l
+pub linked-rest : (set known : ℕ → Type 0) (way : ℕ → Edge → Type 0) (s : Positions) (a : Issued)
+    (l : List Issued) → AreLinkedIn set known way s (a ∷ l) → AreLinkedIn set known way s l
 linked-rest set known way s a [] h = tt
 linked-rest set known way s a (b ∷ more) h = h.0
 
-pub linked-after : (set known : ℕ → Type 0) (way : ℕ → Edge → Type 0) (s : Positions) (later l : List Issued) → AreLinkedIn set known way s (later ++ l) → AreLinkedIn set known way s l
+pub linked-after : (set known : ℕ → Type 0) (way : ℕ → Edge → Type 0) (s : Positions)
+    (later l : List Issued) → AreLinkedIn set known way s (later ++ l) →
+    AreLinkedIn set known way s l
 linked-after set known way s [] l h = h
-linked-after set known way s (a ∷ later) l h = linked-after set known way s later l (linked-rest set known way s a (later ++ l) h)
+linked-after set known way s (a ∷ later) l h =
+    linked-after set known way s later l (linked-rest set known way s a (later ++ l) h)
 
-pub linked-own : (set known : ℕ → Type 0) (way : ℕ → Edge → Type 0) (s : Positions) (a : Issued) (l : List Issued) → AreLinkedIn set known way s (a ∷ l) → set a.cycle → IsOwn s (a.cycle % length s.frame)
+pub linked-own : (set known : ℕ → Type 0) (way : ℕ → Edge → Type 0) (s : Positions)
+    (a : Issued) (l : List Issued) → AreLinkedIn set known way s (a ∷ l) → set a.cycle →
+    IsOwn s (a.cycle % length s.frame)
 linked-own set known way s a [] h = h
 linked-own set known way s a (b ∷ more) h = h.2

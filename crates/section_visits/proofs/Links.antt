@@ -10,7 +10,8 @@ use Rattle.region_tree.specs.Tree.{IsTree, Tree, graph}
 use Rattle.region_tree.specs.declared.edges.Stop.{Stop}
 use Rattle.region_tree.specs.declared.edges.Stop.TheVariants.{No, Indirect, Timed}
 use Rattle.bound_calc.specs.Bound.{positions}
-use Rattle.world_model.specs.World.{Start, World, around, contents, issue_of, recent, surroundings, thread_of, world}
+use Rattle.core_model.specs.World.{Start, World, environment, contents, issue_of}
+use Rattle.core_model.specs.World.{recent, environment_at, thread_of, world}
 use Rattle.run_laws.proofs.Picks.{both}
 use Rattle.section_visits.proofs.Instructions.{Gone, issue-fetches, issue-goes}
 use Rattle.section_visits.proofs.Linking.{Went, all-below, linked-always, linked_all}
@@ -25,30 +26,46 @@ stop-no Indirect a b = absurd (a refl)
 stop-no Timed a b = absurd (b refl)
 
 -- what is fetched is in the scratchpad
-pub fetch-inside : (s : Start) (c : ℕ) (w : World) (i pc : ℕ) → (surroundings s c w i).fetch pc ≡ true → pc < s.size
-unfolding around may_fetch
-fetch-inside s c w i pc h = let low : nat_lt pc s.size ≡ true = (both (nat_lt pc s.size) (may_read i s.size (slice_index_or s.confined i true) w.registers.iregions pc) h).0 in grind (arith, nat_tests)
+pub fetch-inside : (s : Start) (c : ℕ) (w : World) (i pc : ℕ) →
+    (environment_at s c w i).fetch pc ≡ true → pc < s.size
+unfolding environment may_fetch
+fetch-inside s c w i pc h =
+    let low : nat_lt pc s.size ≡ true = (both (nat_lt pc s.size)
+    (may_read i s.size (slice_index_or s.confined i true) w.registers.iregions pc) h).0 in
+    grind (arith, nat_tests)
 
-went : (t : Tree) (s : Start) (i : ℕ) → IsTree t → HasWords s t → Went (Reachable (graph t)) (EdgeOf (graph t)) s i
+went : (t : Tree) (s : Start) (i : ℕ) → IsTree t → HasWords s t →
+    Went (Reachable (graph t)) (EdgeOf (graph t)) s i
 went t s i is h c reach calm =
     let th = thread_of (recent s c).now i in
-    let fetches = issue-fetches (surroundings s c (recent s c).now i) (contents s c (recent s c).now i) c th calm in
+    let fetches = issue-fetches (environment_at s c (recent s c).now i)
+    (contents s c (recent s c).now i) c th calm in
     let same = h.same_words th.pc reach (fetch-inside s c (recent s c).now i th.pc fetches) in
-    let stop = stop-no ((graph t).stop th.pc) (λ e. is.allowed.indirect th.pc (reach, e)) (λ e. is.allowed.timed th.pc (reach, e)) in
-    subst (λ w. Gone (Contains (edge_list (edges_of w th.pc))) c th.own.sleep (issue_of s c (recent s c).now i).thread) same
-    (issue-goes (surroundings s c (recent s c).now i) (contents s c (recent s c).now i) c th (ap (λ w. (edges_of w th.pc).stop) same ∙ stop) calm)
+    let stop = stop-no ((graph t).stop th.pc) (λ e. is.allowed.indirect th.pc (reach, e))
+    (λ e. is.allowed.timed th.pc (reach, e)) in
+    subst (λ w. Gone (Contains (edge_list (edges_of w th.pc))) c th.own.sleep
+    (issue_of s c (recent s c).now i).thread) same
+    (issue-goes (environment_at s c (recent s c).now i) (contents s c (recent s c).now i) c th
+    (ap (λ w. (edges_of w th.pc).stop) same ∙ stop) calm)
 
 pub issues_in_settings : IssuesFollowEdgesInSettings
-issues_in_settings t slots thread s n is h = linked_all (Reachable (graph t)) (EdgeOf (graph t)) s slots thread n (went t s thread is h) h.eight
+issues_in_settings t slots thread s n is h =
+    linked_all (Reachable (graph t)) (EdgeOf (graph t)) s slots thread n
+    (went t s thread is h) h.eight
 
 -- equal words of a section are equal at those that are reachable
-pub words-of : (t : Tree) (slots thread : ℕ) (s : Start) → IsTree t → IsHost s t slots thread → HasWords s t
+pub words-of : (t : Tree) (slots thread : ℕ) (s : Start) → IsTree t →
+    IsHost s t slots thread → HasWords s t
 words-of t slots thread s is h = record {
   eight = h.eight;
-  same_words = λ u reach lt. h.same_words u (reachable-aligned t is.draft u reach) (reachable-lies t is.draft u reach) lt;
+  same_words =
+      λ u reach lt.
+      h.same_words u (reachable-aligned t is.draft u reach) (reachable-lies t is.draft u reach) lt;
 }
 
 pub follows-from : IssuesFollowEdgesInSettings → IssuesFollowEdges
 follows-from law t slots thread s n is h quiet =
-    linked-always (IsSet s slots thread) (Reachable (graph t)) (EdgeOf (graph t)) (positions slots thread) n (issues_of thread (world s n).turns)
-    (always-set s slots thread n h.same_slots h.hard (quiet-keeps s n quiet)) (all-below s thread n) (law t slots thread s n is (words-of t slots thread s is h))
+    linked-always (IsSet s slots thread) (Reachable (graph t)) (EdgeOf (graph t))
+    (positions slots thread) n (issues_of thread (world s n).turns)
+    (always-set s slots thread n h.same_slots h.hard (quiet-keeps s n quiet)) (all-below s thread n)
+    (law t slots thread s n is (words-of t slots thread s is h))

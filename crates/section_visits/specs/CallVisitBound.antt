@@ -3,7 +3,7 @@ use Rattle.std.specs.Prelude.{◌≡◌, ℕ, ◌-◌, ◌%◌, ◌<◌, ◌≤�
 use Rattle.core_model.specs.Memory.{code_at}
 use Rattle.region_tree.specs.Graph.{Reachable}
 use Rattle.slot_scheduler.specs.ModeWord.{mode_of}
-use Rattle.world_model.specs.World.{Start, is_quiet, world}
+use Rattle.core_model.specs.World.{Start, is_quiet, world}
 use Rattle.section_visits.specs.Visits.{Issued, first_of, issues_of}
 use Rattle.call_bounds.specs.Calls.{Calls, IsReached, Part, part}
 use Rattle.call_bounds.specs.CallRefusals.{IsCallable, IsListing}
@@ -22,13 +22,15 @@ pub record IsHost (s : Start) (x : Calls) (slots thread : ℕ) : Type 0 where
   pub eight : length s.threads ≡ 8
   pub hard : mode_of s.registers.modes thread ≡ 0
   pub same_slots : s.registers.slots ≡ slots
-  pub same_words : (u : ℕ) → u % 4 ≡ 0 → IsMet x u → u < s.size → code_at s.size s.i_words u ≡ x.word u
+  pub same_words : (u : ℕ) → u % 4 ≡ 0 → IsMet x u → u < s.size →
+      code_at s.size s.i_words u ≡ x.word u
 
 -- No call visit of such a machine that keeps returns and the stated bounds is longer than a number
 -- that no call walk costs more than.
 abbrev pub CallVisitsAreBounded : Type 0
 CallVisitsAreBounded =
-    (x : Calls) (slots thread b : ℕ) (s : Start) (n : ℕ) → IsListing x → IsCallable x → ((c : ℕ) → CostsOf (route x slots thread) c → c ≤ b) →
+    (x : Calls) (slots thread b : ℕ) (s : Start) (n : ℕ) → IsListing x →
+    IsCallable x → ((c : ℕ) → CostsOf (route x slots thread) c → c ≤ b) →
     IsHost s x slots thread → is_quiet s n ≡ true → (last : Issued) (before : List Issued) →
-    IsCallVisit x (issues_of thread (world s n).turns) last before → KeepsReturns x last before → KeepsBounds x last before →
-    last.cycle - (first_of last before).cycle ≤ b
+    IsCallVisit x (issues_of thread (world s n).turns) last before → KeepsReturns x last before →
+    KeepsBounds x last before → last.cycle - (first_of last before).cycle ≤ b

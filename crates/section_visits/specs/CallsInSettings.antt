@@ -1,7 +1,7 @@
 -- What the bound through calls says of a visit in which the slots and the thread's mode stay.
 use Rattle.std.specs.Prelude.{◌≡◌, ℕ, ◌-◌, ◌<◌, ◌≤◌, List, length}
 use Rattle.core_model.specs.Memory.{code_at}
-use Rattle.world_model.specs.World.{Start, world}
+use Rattle.core_model.specs.World.{Start, world}
 use Rattle.section_visits.specs.Visits.{Issued, first_of, issues_of}
 use Rattle.call_bounds.specs.Calls.{Calls}
 use Rattle.call_bounds.specs.CallRefusals.{IsCallable, IsListing}
@@ -10,17 +10,20 @@ use Rattle.section_visits.specs.CallVisitBound.{IsMet}
 use Rattle.section_visits.specs.CallVisits.{IsCallVisit, KeepsBounds, KeepsReturns}
 use Rattle.section_visits.specs.InSettings.{IsSet, Throughout}
 
--- a machine whose memory has the reachable words of the reached parts, as far as the scratchpad goes
+-- a machine whose memory has the reachable words of the reached parts, as far as the scratchpad
+-- goes
 pub record HasWordsOfParts (s : Start) (x : Calls) : Type 0 where
   pub eight : length s.threads ≡ 8
   pub same_words : (u : ℕ) → IsMet x u → u < s.size → code_at s.size s.i_words u ≡ x.word u
 
--- In every run of such a machine, a call visit in which picking uses these slots and a hard active mode
--- of the thread, and which keeps returns and the stated bounds of the loops, is no longer than a number
--- that no call walk costs more than.
+-- In every run of such a machine, a call visit in which picking uses these slots and a hard active
+-- mode of the thread, and which keeps returns and the stated bounds of the loops, is no longer than
+-- a number that no call walk costs more than.
 abbrev pub CallVisitsAreBoundedInSettings : Type 0
 CallVisitsAreBoundedInSettings =
-    (x : Calls) (slots thread b : ℕ) (s : Start) (n : ℕ) → IsListing x → IsCallable x → ((c : ℕ) → CostsOf (route x slots thread) c → c ≤ b) →
-    HasWordsOfParts s x → (last : Issued) (before : List Issued) → Throughout (IsSet s slots thread) (first_of last before).cycle last.cycle →
-    IsCallVisit x (issues_of thread (world s n).turns) last before → KeepsReturns x last before → KeepsBounds x last before →
-    last.cycle - (first_of last before).cycle ≤ b
+    (x : Calls) (slots thread b : ℕ) (s : Start) (n : ℕ) → IsListing x →
+    IsCallable x → ((c : ℕ) → CostsOf (route x slots thread) c → c ≤ b) →
+    HasWordsOfParts s x → (last : Issued) (before : List Issued) →
+    Throughout (IsSet s slots thread) (first_of last before).cycle last.cycle →
+    IsCallVisit x (issues_of thread (world s n).turns) last before → KeepsReturns x last before →
+    KeepsBounds x last before → last.cycle - (first_of last before).cycle ≤ b

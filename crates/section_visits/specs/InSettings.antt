@@ -1,5 +1,5 @@
--- What the bound of a section says of a visit in which the slots and the thread's mode stay. Writes of
--- them before and after it, and writes of region registers, play no part.
+-- What the bound of a section says of a visit in which the slots and the thread's mode stay. Writes
+-- of them before and after it, and writes of region registers, play no part.
 use Rattle.std.specs.Prelude.{◌≡◌, ℕ, ◌-◌, ◌%◌, ◌<◌, ◌≤◌, false, List, [], ◌∷◌, length}
 use Rattle.core_model.specs.Memory.{code_at}
 use Rattle.region_tree.specs.Graph.{Edge, Reachable}
@@ -7,7 +7,7 @@ use Rattle.region_tree.specs.Tree.{IsTree, Tree, graph, word_at}
 use Rattle.region_tree.specs.Walk.{CostsOf, IsOwn, Positions}
 use Rattle.slot_scheduler.specs.ModeWord.{mode_of}
 use Rattle.bound_calc.specs.Bound.{course}
-use Rattle.world_model.specs.World.{Registers, Start, world}
+use Rattle.core_model.specs.World.{Registers, Start, world}
 use Rattle.section_visits.specs.VisitBound.{Along, EdgeOf}
 use Rattle.section_visits.specs.Visits.{Issued, IsVisit, KeepsBounds, first_of, issues_of}
 
@@ -24,10 +24,11 @@ IsSet s slots thread c = IsHardBy slots thread (world s (c - 2)).registers
 abbrev pub Throughout : (ℕ → Type 0) → ℕ → ℕ → Type 0
 Throughout set first last = (c : ℕ) → first ≤ c → c ≤ last → set c
 
--- Issues, the newest first. One in a set cycle is at a position of the thread's. One at a known word
--- that doesn't trap is followed by the next one along a way, if each cycle from the one to the other
--- is set.
-abbrev pub AreLinkedIn : (ℕ → Type 0) → (ℕ → Type 0) → (ℕ → Edge → Type 0) → Positions → List Issued → Type 0
+-- Issues, the newest first. One in a set cycle is at a position of the thread's. One at a known
+-- word that doesn't trap is followed by the next one along a way, if each cycle from the one to the
+-- other is set.
+abbrev pub AreLinkedIn : (ℕ → Type 0) → (ℕ → Type 0) → (ℕ → Edge → Type 0) → Positions →
+    List Issued → Type 0
 AreLinkedIn set known way s [] = Unit {0}
 AreLinkedIn set known way s (i ∷ []) = set i.cycle → IsOwn s (i.cycle % length s.frame)
 AreLinkedIn set known way s (i ∷ (h ∷ before)) =
@@ -36,26 +37,29 @@ AreLinkedIn set known way s (i ∷ (h ∷ before)) =
     × (set i.cycle → IsOwn s (i.cycle % length s.frame))
     × (Throughout set h.cycle i.cycle → known h.pc → h.traps ≡ false → Along way s h i)
 
--- A machine whose memory has a section's reachable words, as far as the scratchpad goes. Words of the
--- section that are never reached play no part.
+-- A machine whose memory has a section's reachable words, as far as the scratchpad goes. Words of
+-- the section that are never reached play no part.
 pub record HasWords (s : Start) (t : Tree) : Type 0 where
   pub eight : length s.threads ≡ 8
-  pub same_words : (u : ℕ) → Reachable (graph t) u → u < s.size → code_at s.size s.i_words u ≡ word_at t u
+  pub same_words : (u : ℕ) → Reachable (graph t) u → u < s.size →
+      code_at s.size s.i_words u ≡ word_at t u
 
--- in every run of such a machine the thread's issues follow the edges of a section that has a bound,
--- as long as the slots and its mode stay
+-- in every run of such a machine the thread's issues follow the edges of a section that has a
+-- bound, as long as the slots and its mode stay
 abbrev pub IssuesFollowEdgesInSettings : Type 0
 IssuesFollowEdgesInSettings =
     (t : Tree) (slots thread : ℕ) (s : Start) (n : ℕ) → IsTree t → HasWords s t →
-    AreLinkedIn (IsSet s slots thread) (Reachable (graph t)) (EdgeOf (graph t)) (course t slots thread).positions
-    (issues_of thread (world s n).turns)
+    AreLinkedIn (IsSet s slots thread) (Reachable (graph t)) (EdgeOf (graph t))
+    (course t slots thread).positions (issues_of thread (world s n).turns)
 
--- In every run of such a machine, a visit in which picking uses these slots and a hard active mode of
--- the thread, and which keeps the stated bounds of the loops, is no longer than a number that no walk
--- through the section costs more than.
+-- In every run of such a machine, a visit in which picking uses these slots and a hard active mode
+-- of the thread, and which keeps the stated bounds of the loops, is no longer than a number that no
+-- walk through the section costs more than.
 abbrev pub VisitsAreBoundedInSettings : Type 0
 VisitsAreBoundedInSettings =
-    (t : Tree) (slots thread b : ℕ) (s : Start) (n : ℕ) → IsTree t → ((c : ℕ) → CostsOf (course t slots thread) c → c ≤ b) →
-    HasWords s t → (last : Issued) (before : List Issued) → Throughout (IsSet s slots thread) (first_of last before).cycle last.cycle →
-    IsVisit (graph t) (issues_of thread (world s n).turns) last before → KeepsBounds t.loops last before →
-    last.cycle - (first_of last before).cycle ≤ b
+    (t : Tree) (slots thread b : ℕ) (s : Start) (n : ℕ) → IsTree t →
+    ((c : ℕ) → CostsOf (course t slots thread) c → c ≤ b) →
+    HasWords s t → (last : Issued) (before : List Issued) →
+    Throughout (IsSet s slots thread) (first_of last before).cycle last.cycle →
+    IsVisit (graph t) (issues_of thread (world s n).turns) last before →
+    KeepsBounds t.loops last before → last.cycle - (first_of last before).cycle ≤ b

@@ -26,7 +26,8 @@ pub record IsAlikeInParts (m : Machine) (i slots : ℕ) (x : Calls) : Type 0 whe
 -- holds and its ports show.
 abbrev pub CallVisitsStayBounded : Type 0
 CallVisitsStayBounded =
-    (x : Calls) (slots i b : ℕ) (m : Machine) (n : ℕ) → IsListing x → IsCallable x → ((c : ℕ) → CostsOf (route x slots i) c → c ≤ b) →
-    KeepsRules m.setup → IsAlikeInParts m i slots x → IsQuiet m n → (last : Issued) (before : List Issued) →
-    IsCallVisit x (issues m i n) last before → KeepsReturns x last before → KeepsBounds x last before →
-    last.cycle - (first_of last before).cycle ≤ b
+    (x : Calls) (slots i b : ℕ) (m : Machine) (n : ℕ) → IsListing x → IsCallable x →
+    ((c : ℕ) → CostsOf (route x slots i) c → c ≤ b) → KeepsRules m.setup →
+    IsAlikeInParts m i slots x → IsQuiet m n → (last : Issued) (before : List Issued) →
+    IsCallVisit x (issues m i n) last before → KeepsReturns x last before →
+    KeepsBounds x last before → last.cycle - (first_of last before).cycle ≤ b

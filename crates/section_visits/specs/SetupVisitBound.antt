@@ -9,7 +9,7 @@ use Rattle.region_tree.specs.Tree.{IsTree, Tree, graph, tree_of}
 use Rattle.region_tree.specs.Walk.{CostsOf}
 use Rattle.region_tree.specs.declared.section.Section.{Section}
 use Rattle.bound_calc.specs.Bound.{course}
-use Rattle.world_model.specs.World.{world}
+use Rattle.core_model.specs.World.{world}
 use Rattle.setup_model.specs.Start.{start}
 use Rattle.run_laws.specs.TraceLaws.{IsQuiet, Machine}
 use Rattle.section_visits.specs.Visits.{Issued, IsVisit, KeepsBounds, first_of, issues_of}
@@ -36,7 +36,9 @@ tree_in setup image s = tree_of (word image) s setup.loops
 abbrev pub VisitsStayBounded : Type 0
 VisitsStayBounded =
     (setup : Settings) (image : List Segment) (s : Section) (i b : ℕ) (m : Machine) (n : ℕ) →
-    IsTree (tree_in setup image s) → ((c : ℕ) → CostsOf (course (tree_in setup image s) setup.slots i) c → c ≤ b) →
-    KeepsRules m.setup → IsAlike m i setup.slots image s → IsQuiet m n → (last : Issued) (before : List Issued) →
-    IsVisit (graph (tree_in setup image s)) (issues m i n) last before → KeepsBounds (tree_in setup image s).loops last before →
+    IsTree (tree_in setup image s) →
+    ((c : ℕ) → CostsOf (course (tree_in setup image s) setup.slots i) c → c ≤ b) →
+    KeepsRules m.setup → IsAlike m i setup.slots image s → IsQuiet m n →
+    (last : Issued) (before : List Issued) → IsVisit (graph (tree_in setup image s))
+    (issues m i n) last before → KeepsBounds (tree_in setup image s).loops last before →
     last.cycle - (first_of last before).cycle ≤ b

@@ -1,12 +1,13 @@
 -- What the bound of a section says of the runs of a machine.
-use Rattle.std.specs.Prelude.{◌≡◌, ℕ, ◌-◌, ◌%◌, ◌<◌, ◌≤◌, true, false, List, [], ◌∷◌, length, Contains}
+use Rattle.std.specs.Prelude.{◌≡◌, ℕ, ◌-◌, ◌%◌, ◌<◌, ◌≤◌, true}
+use Rattle.std.specs.Prelude.{false, List, [], ◌∷◌, length, Contains}
 use Rattle.core_model.specs.Memory.{code_at}
 use Rattle.region_tree.specs.Graph.{Edge, Graph, Lies, Reachable}
 use Rattle.region_tree.specs.Tree.{IsTree, Tree, graph, word_at}
 use Rattle.region_tree.specs.Walk.{CostsOf, Course, IsNextTurn, IsOwn, Positions}
 use Rattle.slot_scheduler.specs.ModeWord.{mode_of}
 use Rattle.bound_calc.specs.Bound.{course}
-use Rattle.world_model.specs.World.{Start, is_quiet, world}
+use Rattle.core_model.specs.World.{Start, is_quiet, world}
 use Rattle.section_visits.specs.Visits.{Issued, IsVisit, KeepsBounds, first_of, issues_of}
 
 -- A machine with these slots, where the thread is hard and active at the start, and where the
@@ -16,7 +17,8 @@ pub record IsHost (s : Start) (t : Tree) (slots thread : ℕ) : Type 0 where
   pub eight : length s.threads ≡ 8
   pub hard : mode_of s.registers.modes thread ≡ 0
   pub same_slots : s.registers.slots ≡ slots
-  pub same_words : (u : ℕ) → u % 4 ≡ 0 → Lies (graph t) u → u < s.size → code_at s.size s.i_words u ≡ word_at t u
+  pub same_words : (u : ℕ) → u % 4 ≡ 0 → Lies (graph t) u → u < s.size →
+      code_at s.size s.i_words u ≡ word_at t u
 
 -- The second issue is where a way leads on from the first one's word, at the thread's first turn
 -- that is at least its lag later.
@@ -25,7 +27,8 @@ pub record Along (way : ℕ → Edge → Type 0) (s : Positions) (first second :
   pub known : way first.pc edge
   pub to : second.pc ≡ edge.to
   pub order : first.cycle ≤ second.cycle
-  pub turn : IsNextTurn s edge.lag (first.cycle % length s.frame) (second.cycle - first.cycle) (second.cycle % length s.frame)
+  pub turn : IsNextTurn s edge.lag (first.cycle % length s.frame) (second.cycle - first.cycle)
+      (second.cycle % length s.frame)
 
 -- Issues, the newest first, are at the thread's positions; and each that is at a known word and
 -- doesn't trap is followed by the next one along a way.
@@ -49,15 +52,16 @@ FollowEdges x issues = AreLinked (Reachable x.graph) (EdgeOf x.graph) x.position
 -- bound.
 abbrev pub IssuesFollowEdges : Type 0
 IssuesFollowEdges =
-    (t : Tree) (slots thread : ℕ) (s : Start) (n : ℕ) → IsTree t → IsHost s t slots thread → is_quiet s n ≡ true →
-    FollowEdges (course t slots thread) (issues_of thread (world s n).turns)
+    (t : Tree) (slots thread : ℕ) (s : Start) (n : ℕ) → IsTree t → IsHost s t slots thread →
+    is_quiet s n ≡ true → FollowEdges (course t slots thread) (issues_of thread (world s n).turns)
 
 -- In every quiet run of such a machine no visit of the section that keeps the stated bounds of its
 -- loops is longer, from its first issue to its last, than a number that no walk through the section
 -- costs more than.
 abbrev pub VisitsAreBounded : Type 0
 VisitsAreBounded =
-    (t : Tree) (slots thread b : ℕ) (s : Start) (n : ℕ) → IsTree t → ((c : ℕ) → CostsOf (course t slots thread) c → c ≤ b) →
+    (t : Tree) (slots thread b : ℕ) (s : Start) (n : ℕ) → IsTree t →
+    ((c : ℕ) → CostsOf (course t slots thread) c → c ≤ b) →
     IsHost s t slots thread → is_quiet s n ≡ true → (last : Issued) (before : List Issued) →
-    IsVisit (graph t) (issues_of thread (world s n).turns) last before → KeepsBounds t.loops last before →
-    last.cycle - (first_of last before).cycle ≤ b
+    IsVisit (graph t) (issues_of thread (world s n).turns) last before →
+    KeepsBounds t.loops last before → last.cycle - (first_of last before).cycle ≤ b

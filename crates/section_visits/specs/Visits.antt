@@ -1,12 +1,12 @@
 -- The issues of one thread in a run, and its visits of a section of code.
-use Rattle.std.specs.Prelude.{◌≡◌, ◌⊎◌, ℕ, ◌==◌, ◌≤◌, Bool, true, false, if◌then◌else◌, Option, Some, List, [], ◌∷◌, ◌++◌, length, Contains}
-use Rattle.rv_exec.specs.declared.outcome.Effect.{Effect}
-use Rattle.rv_exec.specs.declared.outcome.Effect.TheVariants.{Trap}
+use Rattle.std.specs.Prelude.{◌≡◌, ◌⊎◌, ℕ, ◌==◌, ◌≤◌, Bool, true, false, if◌then◌else◌}
+use Rattle.std.specs.Prelude.{Option, Some, List, [], ◌∷◌, ◌++◌, length, Contains}
+use Rattle.run_laws.specs.LagLaw.{is_trap}
 use Rattle.fp_setup.specs.declared.loop_list.LoopSetup.{LoopSetup}
 use Rattle.region_tree.specs.Graph.{Graph, Lies}
-use Rattle.region_tree.specs.Walk.{counted}
-use Rattle.world_model.specs.World.{Took}
-use Rattle.world_model.specs.World.Took.{Ran}
+use Rattle.region_tree.specs.Walk.{counter_after}
+use Rattle.core_model.specs.World.{Took}
+use Rattle.core_model.specs.World.Took.{Ran}
 
 -- an issue: its cycle, its address, and whether it traps
 pub record Issued : Type 0 where
@@ -14,14 +14,10 @@ pub record Issued : Type 0 where
   pub pc : ℕ
   pub traps : Bool
 
--- whether the effect is a trap
-abbrev pub is_trap : Option Effect → Bool
-is_trap (Some (Trap cause target)) = true
-is_trap _ = false
-
 -- the issue of a turn in cycle c, if it is one of thread i's; one that is held counts too
 abbrev pub issue_in : ℕ → ℕ → Took → List Issued
-issue_in i c (Ran k pc word effect) = if k == i then record { cycle = c; pc = pc; traps = is_trap effect } ∷ [] else []
+issue_in i c (Ran k pc word effect) =
+    if k == i then record { cycle = c; pc = pc; traps = is_trap effect } ∷ [] else []
 issue_in i c _ = []
 
 -- the issues of thread i, the newest first, by the turns of the cycles so far
@@ -42,7 +38,8 @@ GoOn g (i ∷ before) = GoOn g before × Lies g i.pc × (i.traps ≡ false)
 -- A visit: issues in order, the newest first, among all those of the thread. The first is at the
 -- section's first word. The last is the first of them that is outside the section or traps; where
 -- there is none, it is the thread's last one.
-pub record IsVisit (g : Graph) (issues : List Issued) (last : Issued) (before : List Issued) : Type 0 where
+pub record IsVisit (g : Graph) (issues : List Issued) (last : Issued)
+    (before : List Issued) : Type 0 where
   pub earlier : List Issued
   pub later : List Issued
   pub among : issues ≡ later ++ (last ∷ (before ++ earlier))
@@ -54,9 +51,11 @@ pub record IsVisit (g : Graph) (issues : List Issued) (last : Issued) (before : 
 -- first
 abbrev pub counter_at : LoopSetup → Issued → List Issued → ℕ
 counter_at j last [] = 0
-counter_at j last (i ∷ before) = counted i.pc last.pc j (counter_at j i before)
+counter_at j last (i ∷ before) = counter_after i.pc last.pc j (counter_at j i before)
 
 -- no counter ever passes its loop's bound
 abbrev pub KeepsBounds : List LoopSetup → Issued → List Issued → Type 0
 KeepsBounds loops last [] = Unit {0}
-KeepsBounds loops last (i ∷ before) = KeepsBounds loops i before × ((j : LoopSetup) → Contains loops j → counter_at j last (i ∷ before) ≤ j.limit)
+KeepsBounds loops last (i ∷ before) =
+    KeepsBounds loops i before
+    × ((j : LoopSetup) → Contains loops j → counter_at j last (i ∷ before) ≤ j.limit)

@@ -2,7 +2,8 @@
 //! each call is a theorem; the call does nothing. The statements are in specs/InSettings.antt and
 //! specs/VisitBound.antt.
 
-ghost use Rattle.section_visits.specs.InSettings.{IssuesFollowEdgesInSettings, VisitsAreBoundedInSettings};
+ghost use Rattle.section_visits.specs.InSettings.{IssuesFollowEdgesInSettings};
+ghost use Rattle.section_visits.specs.InSettings.{VisitsAreBoundedInSettings};
 ghost use Rattle.section_visits.specs.VisitBound.{IssuesFollowEdges, VisitsAreBounded};
 
 /// While picking uses the same slots, and a thread is hard and active, its issues follow the edges

@@ -3,10 +3,15 @@
 //! in specs/.
 
 ghost use Rattle.section_visits.specs.SetupCallVisitBound.{CallVisitsStayBounded};
-ghost use Rattle.section_visits.specs.SetupInSettings.{CallVisitsStayBoundedByPhases, CallVisitsStayBoundedInSettings, CallVisitsStayBoundedWhileScheduled, VisitsStayBoundedByPhases, VisitsStayBoundedInSettings, VisitsStayBoundedWhileScheduled};
+ghost use Rattle.section_visits.specs.SetupInSettings.{CallVisitsStayBoundedByPhases};
+ghost use Rattle.section_visits.specs.SetupInSettings.{CallVisitsStayBoundedInSettings};
+ghost use Rattle.section_visits.specs.SetupInSettings.{CallVisitsStayBoundedWhileScheduled};
+ghost use Rattle.section_visits.specs.SetupInSettings.{VisitsStayBoundedByPhases};
+ghost use Rattle.section_visits.specs.SetupInSettings.{VisitsStayBoundedInSettings};
+ghost use Rattle.section_visits.specs.SetupInSettings.{VisitsStayBoundedWhileScheduled};
 ghost use Rattle.section_visits.specs.SetupVisitBound.{VisitsStayBounded};
 
-use phase_model::tells_picks;
+use core_model::tells_picks;
 
 /// A visit in which picking uses the same slots and the thread is hard and active, and which keeps
 /// the stated bounds of the loops, takes no longer than what no walk of the section costs more than

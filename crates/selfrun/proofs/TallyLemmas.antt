@@ -1,19 +1,21 @@
 -- How the tallies follow the events of a world.
-use Rattle.std.proofs.Common.{◌≡◌, ◌≢◌, ℕ, zero, suc, ◌+◌, ◌-◌, ◌<◌, ◌≤◌, List, [], ◌∷◌, ◌++◌, length, Bool, true, Option, Some, None, eq-eqb, inl, inr, arith, refl, ap, sym, subst, ◌∙◌, add-one}
+use Rattle.std.proofs.Common.{◌≡◌, ◌≢◌, ℕ, zero, suc, ◌+◌, ◌-◌, ◌<◌, ◌≤◌, List, []}
+use Rattle.std.proofs.Common.{◌∷◌, ◌++◌, length, Bool, true, Option, Some, None, eq-eqb}
+use Rattle.std.proofs.Common.{inl, inr, arith, refl, ap, sym, subst, ◌∙◌, add-one}
 use Rattle.std.specs.Prelude.{◌==◌, if◌then◌else◌, map, fold, slice_set}
 use Rattle.std.specs.List.{range_with_len}
 use Rattle.std.proofs.lemmas.Bool.Decides.{eqb_tells}
 use Rattle.std.proofs.lemmas.List.FromFn.{get_or-map-range_with_len}
 use Rattle.std.proofs.lemmas.List.{append-nil, length-append}
 use Rattle.std.proofs.lemmas.Grind.{flat_map-append, fold-append}
-use Rattle.fp_ports.specs.Rows.{Row}
+use Rattle.fp_ports.specs.PluggedPorts.{Row}
 use Rattle.fp_setup.specs.SetupOfTables.{the_threads}
 use Rattle.rv_exec.specs.declared.outcome.Event.{Event}
 use Rattle.trace_print.specs.Text.{line_text, text}
-use Rattle.world_model.specs.World.{Start, recent, world, events}
+use Rattle.core_model.specs.World.{Start, recent, world, events}
 use Rattle.pipe_model.specs.Relation.{of_thread, event_in, turn_at}
 use Rattle.pipe_model.specs.PipelineLaws.{EventsGrow}
-use Rattle.machine.specs.WorldRelation.{StandsFor, Ticks, start_beside}
+use Rattle.machine.specs.WorldRelation.{Refines, Ticks, start_beside}
 use Rattle.fp_image.specs.declared.parts.Segment.{Segment}
 use Rattle.fp_setup.specs.Settings.{Settings}
 use Rattle.fp_setup.specs.Plain.{plain_threads}
@@ -21,97 +23,133 @@ use Rattle.setup_model.specs.Start.{start, no_ports}
 use Rattle.selfrun.specs.Drawn.{own_setup, programs}
 use Rattle.machine.specs.declared.state.Machine.{Machine}
 use Rattle.selfrun.specs.declared.tally.Tally.{Tally}
-use Rattle.selfrun.specs.Text.{with_byte, folded, tally_of, no_tally, tally_at, own_start, own_tallies}
-use Rattle.selfrun.specs.Counting.{with_event, counted, AreFew, tallies_of, HasTallied}
+use Rattle.selfrun.specs.Text.{with_byte, fold_of, tally_of, no_tally}
+use Rattle.selfrun.specs.Text.{tally_at, own_start, own_tallies}
+use Rattle.selfrun.specs.Counting.{with_event, tallies_with, AreFew, tallies_of, HasTallied}
 
 tally-nil : tally_of [] ≡ no_tally
-unfolding tally_of folded
+unfolding tally_of fold_of
 tally-nil = refl
 
 -- one more event
 tally-more : (es : List Event) (e : Event) → tally_of (es ++ e ∷ []) ≡ with_event (tally_of es) e
-unfolding tally_of folded
+unfolding tally_of fold_of
 tally-more es e =
     let long : length (es ++ e ∷ []) ≡ length es + 1 = length-append es (e ∷ []) in
-    let words : text (es ++ e ∷ []) ≡ text es ++ line_text e = flat_map-append line_text es (e ∷ []) ∙ ap (λ xs. text es ++ xs) (append-nil (line_text e)) in
-    let sum : fold with_byte 0 (text (es ++ e ∷ [])) ≡ fold with_byte (fold with_byte 0 (text es)) (line_text e) =
+    let words : text (es ++ e ∷ []) ≡ text es ++ line_text e =
+    flat_map-append line_text es (e ∷ []) ∙ ap (λ xs. text es ++ xs) (append-nil (line_text e)) in
+    let sum : fold with_byte 0 (text (es ++ e ∷ []))
+    ≡ fold with_byte (fold with_byte 0 (text es)) (line_text e) =
     ap (λ xs. fold with_byte 0 xs) words ∙ fold-append with_byte 0 (text es) (line_text e) in
     let Made : ℕ → ℕ → Tally = λ n h. record { events = n; fold = h } in
     ap (λ n. Made n (fold with_byte 0 (text (es ++ e ∷ [])))) long ∙ ap (Made (length es + 1)) sum
 
 -- a list of values of which at most one changes
-one_changed : (F G : ℕ → Tally) (v : Tally) (a n j : ℕ) → ((k : ℕ) → k ≢ a + j → G k ≡ F k) → (j < n → G (a + j) ≡ v) →
+one_changed : (F G : ℕ → Tally) (v : Tally) (a n j : ℕ) →
+    ((k : ℕ) → k ≢ a + j → G k ≡ F k) → (j < n → G (a + j) ≡ v) →
     map G (range_with_len a n) ≡ slice_set (map F (range_with_len a n)) j v
 one_changed F G v a zero j others this = refl
 one_changed F G v a (suc n) zero others this =
-    let rest : map G (range_with_len (a + 1) n) ≡ map F (range_with_len (a + 1) n) = same (a + 1) n (λ k above. others k (omega arith)) in
+    let rest : map G (range_with_len (a + 1) n) ≡ map F (range_with_len (a + 1) n) =
+    same (a + 1) n (λ k above. others k (omega arith)) in
     let here : a + 0 ≡ a = omega arith in
     let head : G a ≡ v = ap G (sym here) ∙ this (omega arith) in
     ap (λ x. x ∷ map G (range_with_len (a + 1) n)) head ∙ ap (λ xs. v ∷ xs) rest
   where
-    same : (b m : ℕ) → ((k : ℕ) → b ≤ k → G k ≡ F k) → map G (range_with_len b m) ≡ map F (range_with_len b m)
+    same : (b m : ℕ) → ((k : ℕ) → b ≤ k → G k ≡ F k) →
+        map G (range_with_len b m) ≡ map F (range_with_len b m)
     same b zero all = refl
     same b (suc m) all =
-        ap (λ x. x ∷ map G (range_with_len (b + 1) m)) (all b (omega arith)) ∙ ap (λ xs. F b ∷ xs) (same (b + 1) m (λ k above. all k (omega arith)))
+        ap (λ x. x ∷ map G (range_with_len (b + 1) m)) (all b (omega arith))
+        ∙ ap (λ xs. F b ∷ xs) (same (b + 1) m (λ k above. all k (omega arith)))
 one_changed F G v a (suc n) (suc j) others this =
     let moved : a + 1 + j ≡ a + suc j = omega arith in
     let head : G a ≡ F a = others a (omega arith) in
     let rest : map G (range_with_len (a + 1) n) ≡ slice_set (map F (range_with_len (a + 1) n)) j v =
-    one_changed F G v (a + 1) n j (λ k ne. others k (λ e. ne (e ∙ sym moved))) (λ below. ap G moved ∙ this (omega arith)) in
+    one_changed F G v (a + 1) n j (λ k ne. others k (λ e. ne (e ∙ sym moved)))
+    (λ below. ap G moved ∙ this (omega arith)) in
     ap (λ x. x ∷ map G (range_with_len (a + 1) n)) head ∙ ap (λ xs. F a ∷ xs) rest
 
 of_other : (k : ℕ) (e : Event) → k ≢ e.thread → of_thread k (Some e) ≡ []
 of_other k e other =
-    elim (eqb_tells e.thread k) [ inl is ↦ absurd (other (sym is.1)) | inr not_is ↦ ap (λ (b : Bool). if b then e ∷ [] else []) not_is.0 ]
+    elim (eqb_tells e.thread k) [
+      | inl is ↦ absurd (other (sym is.1))
+      | inr not_is ↦ ap (λ (b : Bool). if b then e ∷ [] else []) not_is.0
+    ]
 
 of_same : (e : Event) → of_thread e.thread (Some e) ≡ e ∷ []
-of_same e = let is : (e.thread == e.thread) ≡ true = eq-eqb e.thread e.thread refl in ap (λ (b : Bool). if b then e ∷ [] else []) is
+of_same e =
+    let is : (e.thread == e.thread) ≡ true = eq-eqb e.thread e.thread refl in
+    ap (λ (b : Bool). if b then e ∷ [] else []) is
 
 -- the tallies after a cycle, by its event
-counted_by : (old new : ℕ → List Event) (event : Option Event) → ((k : ℕ) → new k ≡ old k ++ of_thread k event) →
-    map (λ k. tally_of (new k)) (range_with_len 0 8) ≡ counted (map (λ k. tally_of (old k)) (range_with_len 0 8)) event
+counted_by : (old new : ℕ → List Event) (event : Option Event) →
+    ((k : ℕ) → new k ≡ old k ++ of_thread k event) →
+    map (λ k. tally_of (new k)) (range_with_len 0 8)
+    ≡ tallies_with (map (λ k. tally_of (old k)) (range_with_len 0 8)) event
 counted_by old new None grows =
     let v : Tally = tally_of (new 8) in
-    let whole : (k : ℕ) → tally_of (new k) ≡ tally_of (old k) = λ k. ap tally_of (grows k ∙ append-nil (old k)) in
-    one_changed (λ k. tally_of (old k)) (λ k. tally_of (new k)) v 0 8 8 (λ k ne. whole k) (λ below. refl)
+    let whole : (k : ℕ) → tally_of (new k) ≡ tally_of (old k) =
+    λ k. ap tally_of (grows k ∙ append-nil (old k)) in
+    one_changed (λ k. tally_of (old k)) (λ k. tally_of (new k)) v 0 8 8 (λ k ne. whole k)
+    (λ below. refl)
 counted_by old new (Some e) grows =
     let F : ℕ → Tally = λ k. tally_of (old k) in
     let G : ℕ → Tally = λ k. tally_of (new k) in
     let v : Tally = with_event (tally_at (map F (range_with_len 0 8)) e.thread) e in
-    let others : (k : ℕ) → k ≢ 0 + e.thread → G k ≡ F k = λ k ne. ap tally_of (grows k ∙ ap (λ xs. old k ++ xs) (of_other k e (λ is. ne (let z : k ≡ 0 + e.thread = omega arith in z))) ∙ append-nil (old k)) in
-    let own : G e.thread ≡ with_event (F e.thread) e = ap tally_of (grows e.thread ∙ ap (λ xs. old e.thread ++ xs) (of_same e)) ∙ tally-more (old e.thread) e in
-    one_changed F G v 0 8 e.thread others (λ below. ap G (let z : 0 + e.thread ≡ e.thread = omega arith in z) ∙ own ∙ ap (λ t. with_event t e) (sym (get_or-map-range_with_len F 0 8 e.thread e.thread no_tally below (omega arith))))
+    let others : (k : ℕ) → k ≢ 0 + e.thread → G k ≡ F k =
+    λ k ne. ap tally_of (grows k ∙ ap (λ xs. old k ++ xs)
+    (of_other k e (λ is. ne (let z : k ≡ 0 + e.thread = omega arith in z))) ∙ append-nil (old k)) in
+    let own : G e.thread ≡ with_event (F e.thread) e =
+    ap tally_of (grows e.thread ∙ ap (λ xs. old e.thread ++ xs) (of_same e))
+    ∙ tally-more (old e.thread) e in
+    one_changed F G v 0 8 e.thread others (λ below.
+    ap G (let z : 0 + e.thread ≡ e.thread = omega arith in z) ∙ own ∙ ap (λ t. with_event t e)
+    (sym (get_or-map-range_with_len F 0 8 e.thread e.thread no_tally below (omega arith))))
 
-next_tallies : EventsGrow → (s : Start) (c : ℕ) (event : Option Event) → event ≡ event_in (c - 4) (turn_at s c 3) → tallies_of s (suc c) ≡ counted (tallies_of s c) event
+next_tallies : EventsGrow → (s : Start) (c : ℕ) (event : Option Event) → event ≡ event_in (c - 4)
+    (turn_at s c 3) → tallies_of s (suc c) ≡ tallies_with (tallies_of s c) event
 next_tallies grows s c event is =
-    counted_by (λ k. events s k c) (λ k. events s k (suc c)) event (λ k. grows s k c ∙ ap (λ e. events s k c ++ of_thread k e) (sym is))
+    counted_by (λ k. events s k c) (λ k. events s k (suc c)) event
+    (λ k. grows s k c ∙ ap (λ e. events s k c ++ of_thread k e) (sym is))
 
 no_events : (s : Start) (i : ℕ) → events s i 0 ≡ []
 unfolding world recent
 no_events s i = refl
 
-pub tallies_begin : (s : Start) (n : ℕ) (m : Machine) (rows : List (Option Row)) (ts : List Tally) → ts ≡ map (λ k. no_tally) the_threads → StandsFor s 0 n m rows → HasTallied s 0 n m rows ts
+pub tallies_begin : (s : Start) (n : ℕ) (m : Machine) (rows : List (Option Row)) (ts : List Tally) →
+    ts ≡ map (λ k. no_tally) the_threads → Refines s 0 n m rows → HasTallied s 0 n m rows ts
 tallies_begin s n m rows ts none st =
-    let zero_of : (k : ℕ) → tally_of (events s k 0) ≡ no_tally = λ k. ap tally_of (no_events s k) ∙ tally-nil in
-    let same : map (λ k. tally_of (events s k 0)) (range_with_len 0 8) ≡ slice_set (map (λ k. no_tally) (range_with_len 0 8)) 8 no_tally =
-    one_changed (λ k. no_tally) (λ k. tally_of (events s k 0)) no_tally 0 8 8 (λ k ne. zero_of k) (λ below. zero_of 8) in
-    record { stands = st; are = none ∙ sym same }
+    let zero_of : (k : ℕ) → tally_of (events s k 0) ≡ no_tally =
+    λ k. ap tally_of (no_events s k) ∙ tally-nil in
+    let same : map (λ k. tally_of (events s k 0)) (range_with_len 0 8)
+    ≡ slice_set (map (λ k. no_tally) (range_with_len 0 8)) 8 no_tally =
+    one_changed (λ k. no_tally) (λ k. tally_of (events s k 0)) no_tally 0 8 8
+    (λ k ne. zero_of k) (λ below. zero_of 8) in
+    record { refines = st; are = none ∙ sym same }
 
 -- one more cycle
-pub tallies_on : EventsGrow → (s : Start) (k n : ℕ) (m after : Machine) (rows new : List (Option Row)) (ts : List Tally) (event : Option Event) → HasTallied s k n m rows ts → m.at ≡ k →
-    (StandsFor s m.at n m rows → Ticks s m.at n rows after new event) → HasTallied s (k + 1) n after new (counted ts event)
+pub tallies_on : EventsGrow → (s : Start) (k n : ℕ) (m after : Machine)
+    (rows new : List (Option Row)) (ts : List Tally) (event : Option Event) →
+    HasTallied s k n m rows ts → m.at ≡ k →
+    (Refines s m.at n m rows → Ticks s m.at n rows after new event) →
+    HasTallied s (k + 1) n after new (tallies_with ts event)
 tallies_on grows s k n m after rows new ts event run at tick =
-    let At : ℕ → Type 0 = λ c. StandsFor s c n m rows in
+    let At : ℕ → Type 0 = λ c. Refines s c n m rows in
     let After : ℕ → Type 0 = λ c. Ticks s c n rows after new event in
-    let ticked : Ticks s k n rows after new event = subst After at (tick (subst At (sym at) run.stands)) in
-    let done : HasTallied s (suc k) n after new (counted ts event) = record {
-      stands = ticked.stands;
-      are = ap (λ xs. counted xs event) run.are ∙ sym (next_tallies grows s k event ticked.event_is);
+    let ticked : Ticks s k n rows after new event =
+    subst After at (tick (subst At (sym at) run.refines)) in
+    let done : HasTallied s (suc k) n after new (tallies_with ts event) = record {
+      refines = ticked.refines;
+      are =
+          ap (λ xs. tallies_with xs event) run.are
+          ∙ sym (next_tallies grows s k event ticked.event_is);
     } in
-    let Run : ℕ → Type 0 = λ c. HasTallied s c n after new (counted ts event) in
+    let Run : ℕ → Type 0 = λ c. HasTallied s c n after new (tallies_with ts event) in
     subst Run (sym (add-one k)) done
 
-few_set : (ts : List Tally) (i : ℕ) (v : Tally) (most : ℕ) → AreFew ts most → v.events ≤ most → AreFew (slice_set ts i v) most
+few_set : (ts : List Tally) (i : ℕ) (v : Tally) (most : ℕ) → AreFew ts most → v.events ≤ most →
+    AreFew (slice_set ts i v) most
 few_set [] i v most few small = few
 few_set (t ∷ ts) zero v most few small = head
   where
@@ -120,12 +158,14 @@ few_set (t ∷ ts) zero v most few small = head
     head (suc k) = few (suc k)
 few_set (t ∷ ts) (suc i) v most few small = tail (few_set ts i v most (λ j. few (suc j)) small)
   where
-    tail : AreFew (slice_set ts i v) most → (k : ℕ) → (tally_at (t ∷ slice_set ts i v) k).events ≤ most
+    tail : AreFew (slice_set ts i v) most → (k : ℕ) →
+        (tally_at (t ∷ slice_set ts i v) k).events ≤ most
     tail rest zero = few 0
     tail rest (suc k) = rest k
 
 -- in a cycle at most one event is counted
-pub few_more : (ts : List Tally) (event : Option Event) (most : ℕ) → AreFew ts most → AreFew (counted ts event) (most + 1)
+pub few_more : (ts : List Tally) (event : Option Event) (most : ℕ) → AreFew ts most →
+    AreFew (tallies_with ts event) (most + 1)
 few_more ts None most few = λ k. let small : (tally_at ts k).events ≤ most = few k in omega arith
 few_more ts (Some e) most few =
     few_set ts e.thread (with_event (tally_at ts e.thread) e) (most + 1)
@@ -144,24 +184,35 @@ few_none (suc (suc (suc (suc (suc (suc (suc zero))))))) = omega arith
 few_none (suc (suc (suc (suc (suc (suc (suc (suc k)))))))) = omega arith
 
 -- beside no port nothing is fed
-beside_none : (number n : ℕ) → start_beside own_setup (programs number) no_ports n ≡ own_start number n
+beside_none : (number n : ℕ) →
+    start_beside own_setup (programs number) no_ports n ≡ own_start number n
 unfolding own_start start plain_threads
 beside_none number n = refl
 
 -- those of the machine's own number of cycles are its own
-own_tallies_are : (number n : ℕ) → n ≡ 100000 → tallies_of (own_start number n) n ≡ own_tallies number
+own_tallies_are : (number n : ℕ) → n ≡ 100000 →
+    tallies_of (own_start number n) n ≡ own_tallies number
 unfolding own_tallies
 own_tallies_are number n is = ap (λ c. tallies_of (own_start number c) c) is
 
 -- what the machine of the setup and the image did is what its world did
-pub own_run : (number n : ℕ) (setup : Settings) (image : List Segment) (rows : List (Option Row)) (m : Machine) (ts : List Tally) → setup ≡ own_setup → image ≡ programs number → rows ≡ no_ports →
-    ((ports : List (Option Row)) (n : ℕ) → length ports ≡ 8 → StandsFor (start_beside setup image ports n) 0 n m ports) → ((s : Start) → StandsFor s 0 n m rows → ts ≡ tallies_of s n) → n ≡ 100000 → ts ≡ own_tallies number
-own_run number n setup image rows m ts same_setup same_image same_rows stands ran is =
-    let A : List (Option Row) → Type 0 = λ ports. StandsFor (own_start number n) 0 n m ports in
-    let B : Start → Type 0 = λ s. StandsFor s 0 n m no_ports in
-    let C : List Segment → Type 0 = λ xs. StandsFor (start_beside own_setup xs no_ports n) 0 n m no_ports in
-    let D : Settings → Type 0 = λ s. StandsFor (start_beside s image no_ports n) 0 n m no_ports in
-    ran (own_start number n) (subst A (sym same_rows) (subst B (beside_none number n) (subst C same_image (subst D same_setup (stands no_ports n refl))))) ∙ own_tallies_are number n is
+pub own_run : (number n : ℕ) (setup : Settings) (image : List Segment)
+    (rows : List (Option Row)) (m : Machine) (ts : List Tally) →
+    setup ≡ own_setup → image ≡ programs number → rows ≡ no_ports →
+    ((ports : List (Option Row)) (n : ℕ) → length ports ≡ 8 →
+    Refines (start_beside setup image ports n) 0 n m ports) →
+    ((s : Start) → Refines s 0 n m rows → ts ≡ tallies_of s n) → n ≡ 100000 →
+    ts ≡ own_tallies number
+own_run number n setup image rows m ts same_setup same_image same_rows refines ran is =
+    let A : List (Option Row) → Type 0 = λ ports. Refines (own_start number n) 0 n m ports in
+    let B : Start → Type 0 = λ s. Refines s 0 n m no_ports in
+    let C : List Segment → Type 0 =
+    λ xs. Refines (start_beside own_setup xs no_ports n) 0 n m no_ports in
+    let D : Settings → Type 0 = λ s. Refines (start_beside s image no_ports n) 0 n m no_ports in
+    ran (own_start number n) (subst A (sym same_rows) (subst B (beside_none number n)
+    (subst C same_image (subst D same_setup (refines no_ports n refl)))))
+    ∙ own_tallies_are number n is
 
-pub tallies_end : (s : Start) (k n : ℕ) (m : Machine) (rows : List (Option Row)) (ts : List Tally) → k ≡ n → HasTallied s k n m rows ts → ts ≡ tallies_of s n
+pub tallies_end : (s : Start) (k n : ℕ) (m : Machine) (rows : List (Option Row)) (ts : List Tally) →
+    k ≡ n → HasTallied s k n m rows ts → ts ≡ tallies_of s n
 tallies_end s k n m rows ts end run = run.are ∙ ap (λ c. tallies_of s c) end

@@ -1,23 +1,24 @@
 -- How the tallies of the threads grow as events retire.
 use Rattle.std.specs.Prelude.{◌≡◌, ℕ, ◌+◌, ◌≤◌, List, slice_set, map, Option, Some, None}
-use Rattle.fp_ports.specs.Rows.{Row}
+use Rattle.fp_ports.specs.PluggedPorts.{Row}
 use Rattle.fp_setup.specs.SetupOfTables.{the_threads}
-use Rattle.machine.specs.WorldRelation.{StandsFor}
+use Rattle.machine.specs.WorldRelation.{Refines}
 use Rattle.machine.specs.declared.state.Machine.{Machine}
 use Rattle.rv_exec.specs.declared.outcome.Event.{Event}
 use Rattle.trace_print.specs.Text.{line_text}
-use Rattle.world_model.specs.World.{Start, events}
+use Rattle.core_model.specs.World.{Start, events}
 use Rattle.selfrun.specs.declared.tally.Tally.{Tally}
-use Rattle.selfrun.specs.Text.{folded, tally_at, tally_of}
+use Rattle.selfrun.specs.Text.{fold_of, tally_at, tally_of}
 
 -- a tally with one more event
 abbrev pub with_event : Tally → Event → Tally
-with_event t e = record { events = t.events + 1; fold = folded t.fold (line_text e) }
+with_event t e = record { events = t.events + 1; fold = fold_of t.fold (line_text e) }
 
 -- those of all threads with the event of a cycle, if there is one
-abbrev pub counted : List Tally → Option Event → List Tally
-counted tallies None = tallies
-counted tallies (Some e) = slice_set tallies e.thread (with_event (tally_at tallies e.thread) e)
+abbrev pub tallies_with : List Tally → Option Event → List Tally
+tallies_with tallies None = tallies
+tallies_with tallies (Some e) =
+    slice_set tallies e.thread (with_event (tally_at tallies e.thread) e)
 
 -- each of them has at most so many events
 abbrev pub AreFew : List Tally → ℕ → Type 0
@@ -27,8 +28,9 @@ AreFew tallies most = (k : ℕ) → (tally_at tallies k).events ≤ most
 abbrev pub tallies_of : Start → ℕ → List Tally
 tallies_of s n = map (λ k. tally_of (events s k n)) the_threads
 
--- after c cycles of a run of n, the machine stands for that cycle, and the tallies are those of the
+-- after c cycles of a run of n, the machine refines that cycle, and the tallies are those of the
 -- world
-pub record HasTallied (s : Start) (c n : ℕ) (m : Machine) (ports : List (Option Row)) (tallies : List Tally) : Type 0 where
-  pub stands : StandsFor s c n m ports
+pub record HasTallied (s : Start) (c n : ℕ) (m : Machine) (ports : List (Option Row))
+    (tallies : List Tally) : Type 0 where
+  pub refines : Refines s c n m ports
   pub are : tallies ≡ tallies_of s c

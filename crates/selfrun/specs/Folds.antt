@@ -1,13 +1,14 @@
 -- The fold of a text, worked out from the text's parts.
-use Rattle.std.specs.Prelude.{◌≡◌, ℕ, ◌+◌, ◌*◌, ◌/◌, ◌%◌, ◌^◌, ◌<◌, ◌≤◌, ◌==◌, List, [], ◌∷◌, ◌++◌, codes, replicate, slice_index_or, if◌then◌else◌}
+use Rattle.std.specs.Prelude.{◌≡◌, ℕ, ◌+◌, ◌*◌, ◌/◌, ◌%◌, ◌^◌, ◌<◌, ◌≤◌, ◌==◌, List, []}
+use Rattle.std.specs.Prelude.{◌∷◌, ◌++◌, codes, replicate, slice_index_or, if◌then◌else◌}
 use Rattle.trace_print.specs.Digits.{hex, hex_digit, right, two_digits}
-use Rattle.selfrun.specs.Text.{folded}
+use Rattle.selfrun.specs.Text.{fold_of}
 use Rattle.selfrun.specs.declared.piece.Piece.{Piece}
 use Rattle.selfrun.specs.declared.sites.Site.{Site}
 
 -- what a text does to the fold before it
 abbrev pub IsPiece : Piece → List ℕ → Type 0
-IsPiece p bytes = (h : ℕ) → h < 2 ^ 32 → folded h bytes ≡ (h * p.weight + p.sum) % 2 ^ 32
+IsPiece p bytes = (h : ℕ) → h < 2 ^ 32 → fold_of h bytes ≡ (h * p.weight + p.sum) % 2 ^ 32
 
 -- the n-th entry of a table is the piece of a text
 abbrev pub IsPieceAt : List Piece → ℕ → List ℕ → Type 0
@@ -62,4 +63,6 @@ IsSite s = IsPiece s.piece (site_text s.pc s.word)
 
 -- a table of such sites, by index
 abbrev pub AreSites : List Site → Type 0
-AreSites sites = (n : ℕ) → n < 1024 → IsSite (slice_index_or sites n (record { pc = 0; word = 0; piece = record { weight = 0; sum = 0 } }))
+AreSites sites =
+    (n : ℕ) → n < 1024 → IsSite
+    (slice_index_or sites n (record { pc = 0; word = 0; piece = record { weight = 0; sum = 0 } }))

@@ -1,12 +1,13 @@
 -- What is told of the machine's own run: of each thread, how many events retired, and a fold of the
 -- text of its trace. Source: this project's profile.
-use Rattle.std.specs.Prelude.{ℕ, ◌+◌, ◌*◌, ◌%◌, ◌^◌, List, ◌++◌, length, decimal, codes, fold, map, flat_map, slice_index_or}
+use Rattle.std.specs.Prelude.{ℕ, ◌+◌, ◌*◌, ◌%◌, ◌^◌, List, ◌++◌, length, decimal}
+use Rattle.std.specs.Prelude.{codes, fold, map, flat_map, slice_index_or}
 use Rattle.fp_setup.specs.SetupOfTables.{the_threads}
 use Rattle.rv_exec.specs.declared.outcome.Event.{Event}
 use Rattle.setup_model.specs.Start.{start, no_ports}
 use Rattle.trace_print.specs.Digits.{hex}
 use Rattle.trace_print.specs.Text.{text}
-use Rattle.world_model.specs.World.{Start, events}
+use Rattle.core_model.specs.World.{Start, events}
 use Rattle.selfrun.specs.declared.tally.Tally.{Tally}
 use Rattle.selfrun.specs.Drawn.{own_setup, programs}
 
@@ -15,16 +16,18 @@ abbrev pub with_byte : ℕ → ℕ → ℕ
 with_byte h byte = (h * 31 + byte) % 2 ^ 32
 
 -- the fold after some bytes
-unfoldable pub folded : ℕ → List ℕ → ℕ
-folded h bytes = fold with_byte h bytes
+unfoldable pub fold_of : ℕ → List ℕ → ℕ
+fold_of h bytes = fold with_byte h bytes
 
 -- what is kept of a thread's events
 unfoldable pub tally_of : List Event → Tally
-tally_of es = record { events = length es; fold = folded 0 (text es) }
+tally_of es = record { events = length es; fold = fold_of 0 (text es) }
 
 -- the line of thread k
 unfoldable pub tally_line : ℕ → Tally → List ℕ
-tally_line k t = codes "T" ++ (decimal k ++ (codes " events " ++ (decimal t.events ++ (codes " fold " ++ (hex 8 t.fold ++ codes "\n")))))
+tally_line k t =
+    codes "T" ++ (decimal k
+    ++ (codes " events " ++ (decimal t.events ++ (codes " fold " ++ (hex 8 t.fold ++ codes "\n")))))
 
 -- a run of n cycles of the programs drawn from a number, with no port
 unfoldable pub own_start : ℕ → ℕ → Start

@@ -67,7 +67,7 @@ impl Model for Cycles {
 impl Cycles {
     ghost use Rattle.std.specs.Prelude.{◌≡◌, ◌<◌, ◌^◌};
     ghost use Rattle.selfrun.specs.Folds.{cycle_text};
-    ghost use Rattle.selfrun.specs.Text.{folded};
+    ghost use Rattle.selfrun.specs.Text.{fold_of};
 
     /// With the cycles from 100 on.
     pub fn new() -> Cycles {
@@ -82,7 +82,7 @@ impl Cycles {
     #[inline(always)]
     pub fn fold(&mut self, h: u32, cycle: u64) -> u32
         requires { cycle < 10 ^ 10 }
-        ensures { result ≡ folded h (cycle_text cycle) }
+        ensures { result ≡ fold_of h (cycle_text cycle) }
     {
         let lower = cycle.wrapping_sub(self.first);
         if lower >= 100 {
@@ -97,7 +97,7 @@ impl Cycles {
     #[inline(never)]
     fn fold_other(&mut self, h: u32, cycle: u64) -> u32
         requires { cycle < 10 ^ 10 }
-        ensures { result ≡ folded h (cycle_text cycle) }
+        ensures { result ≡ fold_of h (cycle_text cycle) }
     {
         if cycle < 100 {
             let digits = upper(9, cycle / 10).then(b'0' + (cycle % 10) as u8);

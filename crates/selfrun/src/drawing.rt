@@ -2,9 +2,10 @@
 
 ghost use Rattle.std.specs.Prelude.{◌≡◌, ◌<◌, ◌++◌, ◌∷◌, [], length, OnOk, IfOk};
 ghost use Rattle.byteorder.specs.Endian.{little_bytes};
-ghost use Rattle.rv_decode.specs.Encoding.{encoded};
+ghost use Rattle.rv_decode.specs.Encoding.{encoding_of};
 ghost use Rattle.rv_decode.specs.Range.{InRange};
-ghost use Rattle.selfrun.specs.Drawn.{bytes_of, drawn, drawn_from, instructions, own_setup, programs};
+ghost use Rattle.selfrun.specs.Drawn.{bytes_of, draw, drawn_from};
+ghost use Rattle.selfrun.specs.Drawn.{instructions, own_setup, programs};
 
 use crate::instructions::{back_ins, count_ins, drawn_ins, lower_ins, next_draw, upper_ins};
 use byteorder::{ByteOrder, LittleEndian};
@@ -31,7 +32,7 @@ fn push_ins(bytes: &mut Vec<u8>, ins: &Ins) -> Result<(), AllocError>
 fn push_drawn(bytes: &mut Vec<u8>, first: u32) -> Result<u32, AllocError>
     ensures bytes { OnOk result (bytes.new.items ≡ bytes.old.items
         ++ bytes_of (drawn_from first 124)) }
-    ensures last { IfOk result (λ x. x ≡ drawn first 124) }
+    ensures last { IfOk result (λ x. x ≡ draw first 124) }
 {
     let mut x = first;
     for _draw in 0..DRAWS {
@@ -45,7 +46,7 @@ fn push_drawn(bytes: &mut Vec<u8>, first: u32) -> Result<u32, AllocError>
 fn thread_bytes(alloc: Global, k: u8, first: u32) -> Result<(Vec<u8>, u32), AllocError>
     requires { k < 8 }
     ensures bytes { IfOk result (λ p. p.0.items ≡ bytes_of (instructions first k)) }
-    ensures last { IfOk result (λ p. p.1 ≡ drawn first 124) }
+    ensures last { IfOk result (λ p. p.1 ≡ draw first 124) }
 {
     let mut bytes = Vec::new(alloc);
     push_ins(&mut bytes, &upper_ins(k))?;

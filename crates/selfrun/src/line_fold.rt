@@ -4,7 +4,7 @@ ghost use Rattle.std.specs.Prelude.{◌≡◌, ℕ, ◌<◌};
 ghost use Rattle.rv_exec.specs.Line.{IsPrintable};
 ghost use Rattle.trace_print.specs.Text.{line_text};
 ghost use Rattle.selfrun.specs.Folds.{AreNames};
-ghost use Rattle.selfrun.specs.Text.{folded};
+ghost use Rattle.selfrun.specs.Text.{fold_of};
 
 use crate::cycles::Cycles;
 use crate::hex_pairs::HexPairs;
@@ -32,7 +32,7 @@ fn register_names() -> [Piece; 32]
 #[inline(never)]
 fn rare_line(h: u32, cycle: u64, thread: u8, pc: u32, word: u32, effect: &Effect) -> u32
     requires { IsPrintable effect.now }
-    ensures { result ≡ folded h (line_text (record {
+    ensures { result ≡ fold_of h (line_text (record {
       cycle = cycle;
       thread = thread;
       pc = pc;
@@ -73,7 +73,7 @@ impl LineFolder {
     ghost use Rattle.std.specs.Prelude.{◌≡◌, ◌<◌, ◌^◌};
     ghost use Rattle.rv_exec.specs.Line.{IsPrintable};
     ghost use Rattle.trace_print.specs.Text.{line_text, register_text, store_text, trap_text};
-    ghost use Rattle.selfrun.specs.Text.{folded};
+    ghost use Rattle.selfrun.specs.Text.{fold_of};
 
     /// One that was asked nothing yet.
     pub fn new() -> LineFolder {
@@ -102,7 +102,7 @@ impl LineFolder {
         requires cycle { cycle < 10 ^ 10 }
         requires thread { thread < 8 }
         requires printable { IsPrintable effect.now }
-        ensures { result ≡ folded h (line_text (record {
+        ensures { result ≡ fold_of h (line_text (record {
           cycle = cycle;
           thread = thread;
           pc = pc;
@@ -130,7 +130,7 @@ impl LineFolder {
     #[inline(always)]
     fn register(&self, h: u32, rd: u8, value: u32) -> u32
         requires { rd < 32 }
-        ensures { result ≡ folded h (register_text rd value) }
+        ensures { result ≡ fold_of h (register_text rd value) }
     {
         let h = self.names[usize::from(rd)].after(h);
         self.pairs.word(value).after(h)
@@ -140,7 +140,7 @@ impl LineFolder {
     #[inline(always)]
     fn store(&self, h: u32, address: u32, size: u8, value: u32) -> u32
         requires { size < 10 }
-        ensures { result ≡ folded h (store_text address size value) }
+        ensures { result ≡ fold_of h (store_text address size value) }
     {
         let h = self.pairs.word(address).after(with_byte(h, b'['));
         let h = with_byte(with_byte(h, b']'), b'/');
@@ -152,7 +152,7 @@ impl LineFolder {
     #[inline(always)]
     fn trap(&self, h: u32, cause: u8, target: u32) -> u32
         requires { cause < 10 }
-        ensures { result ≡ folded h (trap_text cause target) }
+        ensures { result ≡ fold_of h (trap_text cause target) }
     {
         let h = with_byte(folded(h, b"trap "), b'0' + cause);
         self.pairs.word(target).after(folded(h, b" -> "))

@@ -1,7 +1,7 @@
 //! What the bytes of a text do to a fold.
 
 ghost use Rattle.std.specs.Prelude.{◌≡◌, ◌+◌, ◌*◌, ◌%◌, ◌^◌};
-ghost use Rattle.selfrun.specs.Text.{folded, with_byte};
+ghost use Rattle.selfrun.specs.Text.{fold_of, with_byte};
 
 /// What each byte multiplies a fold by.
 pub const BASE: u32 = 31;
@@ -21,9 +21,9 @@ pub fn with_byte(h: u32, byte: u8) -> u32
 }
 
 /// A fold with more bytes.
-#[tactic(auto, unfolding(crate::specs::Text::folded))]
+#[tactic(auto, unfolding(crate::specs::Text::fold_of))]
 pub fn folded(h: u32, bytes: &[u8]) -> u32
-    ensures { result ≡ folded h bytes.now }
+    ensures { result ≡ fold_of h bytes.now }
 {
     bytes.iter().fold(h, |h, byte| with_byte(h, *byte))
 }
@@ -41,7 +41,7 @@ pub struct Piece {
 impl Piece {
     ghost use Rattle.std.specs.Prelude.{◌≡◌, ℕ, List, [], ◌∷◌, ◌++◌};
     ghost use Rattle.selfrun.specs.Folds.{IsPiece};
-    ghost use Rattle.selfrun.specs.Text.{folded};
+    ghost use Rattle.selfrun.specs.Text.{fold_of};
 
     /// No text.
     pub const EMPTY: Piece = Piece { weight: 1, sum: 0 };
@@ -70,7 +70,7 @@ impl Piece {
 
     /// A fold with the text.
     pub fn after(&self, h: u32) -> u32
-        ensures { (bytes : List ℕ) → IsPiece self.now bytes → result ≡ folded h bytes }
+        ensures { (bytes : List ℕ) → IsPiece self.now bytes → result ≡ fold_of h bytes }
     {
         longer(h, self.weight, self.sum)
     }

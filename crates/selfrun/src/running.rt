@@ -1,22 +1,25 @@
 //! The run.
 
-ghost use Rattle.std.specs.Prelude.{◌≡◌, ℕ, ◌-◌, ◌<◌, ◌≤◌, ◌^◌, List, Option, length, vec_len, OnOk, OnErr, IfOk};
+ghost use Rattle.std.specs.Prelude.{◌≡◌, ℕ, ◌-◌, ◌<◌, ◌≤◌, ◌^◌, List, Option};
+ghost use Rattle.std.specs.Prelude.{length, vec_len, OnOk, OnErr, IfOk};
 ghost use Rattle.std.specs.Io.KnownBytes.{Appends};
 ghost use Rattle.fp_io.specs.Causes.{Rose};
 ghost use Rattle.fp_io.specs.Content.{AppendsFront};
-ghost use Rattle.fp_ports.specs.Rows.{Row, rows_of};
+ghost use Rattle.fp_ports.specs.PluggedPorts.{Row, rows_of};
 ghost use Rattle.setup_model.specs.Start.{no_ports};
-ghost use Rattle.pipe_model.specs.Stages.{retired};
+ghost use Rattle.pipe_model.specs.Stages.{retired_event};
 ghost use Rattle.pipeline_core.specs.StageFacts.{StoredFits};
-ghost use Rattle.world_model.specs.World.{Start};
-ghost use Rattle.machine.specs.WorldRelation.{StandsFor, start_beside};
+ghost use Rattle.core_model.specs.World.{Start};
+ghost use Rattle.machine.specs.WorldRelation.{Refines, start_beside};
 ghost use Rattle.selfrun.specs.Drawn.{own_setup, programs};
-ghost use Rattle.selfrun.specs.Counting.{AreFew, counted, tallies_of};
+ghost use Rattle.selfrun.specs.Counting.{AreFew, tallies_with, tallies_of};
 ghost use Rattle.selfrun.specs.Text.{own_tallies, selfrun_text, tallies_text, tally_at, tally_line};
+ghost use Rattle.core_model.specs.Cycles.{cycles_to_w};
 
 use crate::drawing::{drawn_image, own_setup};
 use crate::line_fold::LineFolder;
 use crate::tally::Tally;
+use core_model::CYCLES_TO_W;
 use fp_io::{PutFailed, Sink};
 use fp_ports::Ports;
 use machine::Machine;
@@ -38,15 +41,16 @@ fn no_ports(alloc: Global) -> Result<Ports, AllocError>
     Ok(ports)
 }
 
-/// Counts the event of the turn that retires in a cycle, if it has one: it was issued four cycles
-/// ago. The turn is looked at where it stands, so that no event is made.
+/// Counts the event of the turn that retires in a cycle, if it has one: it was issued
+/// [`CYCLES_TO_W`] cycles ago. The turn is looked at where it stands, so that no event is made.
 #[inline(always)]
-#[tactic(auto, unfolding(pipe_model::specs::Stages::retired))]
+#[tactic(auto, unfolding(pipe_model::specs::Stages::retired_event))]
 fn count(tallies: &mut [Tally; 8], folder: &mut LineFolder, turn: &Held<Stored>, cycle: u64)
     requires few { AreFew tallies.old 99999 }
     requires fits { StoredFits turn.now }
     requires cycle { cycle < 10 ^ 10 }
-    ensures { tallies.new ≡ counted tallies.old (retired (cycle - 4) turn.now) }
+    ensures { tallies.new ≡ tallies_with tallies.old (retired_event
+        (cycle - cycles_to_w) turn.now) }
 {
     let Held::Issue { thread, what } = turn else {
         return;
@@ -55,14 +59,14 @@ fn count(tallies: &mut [Tally; 8], folder: &mut LineFolder, turn: &Held<Stored>,
         return;
     };
     let tally = &mut tallies[usize::from(*thread)];
-    let issued = cycle.saturating_sub(4);
+    let issued = cycle.saturating_sub(CYCLES_TO_W);
     tally.add(folder, issued, *thread, what.pc, what.word, effect);
 }
 
 /// The machine with the drawn programs, at its start.
 fn own_machine(alloc: Global, number: u32) -> Result<Machine, AllocError>
-    ensures stands { IfOk result (λ m. (ports : List (Option Row)) (n : ℕ) → length ports ≡ 8
-        → StandsFor (start_beside own_setup (programs number) ports n) 0 n m ports) }
+    ensures refines { IfOk result (λ m. (ports : List (Option Row)) (n : ℕ) → length ports ≡ 8
+        → Refines (start_beside own_setup (programs number) ports n) 0 n m ports) }
     ensures start { IfOk result (λ m. m.at ≡ 0) }
 {
     let setup = own_setup(alloc)?;
@@ -76,7 +80,7 @@ fn tallies(machine: &mut Machine, cycles: u64, ports: &mut Ports) -> [Tally; 8]
     requires start { machine.old.at ≡ 0 }
     requires limit { cycles ≤ 100000 }
     requires eight { vec_len ports.old ≡ 8 }
-    ensures { (s : Start) → StandsFor s 0 cycles machine.old
+    ensures { (s : Start) → Refines s 0 cycles machine.old
         (rows_of latched word_at ports.old.items) → result ≡ tallies_of s cycles }
 {
     events_grow();

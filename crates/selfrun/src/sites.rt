@@ -60,7 +60,7 @@ impl Model for Sites {
 impl Sites {
     ghost use Rattle.std.specs.Prelude.{◌≡◌, ◌<◌};
     ghost use Rattle.selfrun.specs.Folds.{site_text};
-    ghost use Rattle.selfrun.specs.Text.{folded};
+    ghost use Rattle.selfrun.specs.Text.{fold_of};
 
     /// In each entry that of the word 0 at the pc 0.
     pub fn new(pairs: &HexPairs) -> Sites {
@@ -73,7 +73,7 @@ impl Sites {
     #[inline(always)]
     pub fn fold(&mut self, h: u32, pairs: &HexPairs, thread: u8, pc: u32, word: u32) -> u32
         requires { thread < 8 }
-        ensures { result ≡ folded h (site_text pc word) }
+        ensures { result ≡ fold_of h (site_text pc word) }
     {
         let index = usize::from(thread) * WORDS + (pc / 4) as usize % WORDS;
         let site = &self.kept[index];
@@ -89,7 +89,7 @@ impl Sites {
     #[inline(never)]
     fn fold_other(&mut self, h: u32, pairs: &HexPairs, index: usize, pc: u32, word: u32) -> u32
         requires { index < 1024 }
-        ensures { result ≡ folded h (site_text pc word) }
+        ensures { result ≡ fold_of h (site_text pc word) }
     {
         let site = site_of(pairs, pc, word);
         self.kept[index] = site;

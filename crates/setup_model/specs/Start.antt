@@ -1,18 +1,19 @@
 -- The start of the machine that a setup and an image give, beside eight ports as they are handed
 -- in.
-use Rattle.std.specs.Prelude.{ℕ, ◌+◌, ◌*◌, ◌/◌, Bool, true, false, List, slice_index_or, map, replicate, Option, Some, None}
+use Rattle.std.specs.Prelude.{ℕ, ◌+◌, ◌*◌, ◌/◌, Bool, true, false, List}
+use Rattle.std.specs.Prelude.{slice_index_or, map, replicate, Option, Some, None}
 use Rattle.std.specs.List.{range_with_len}
 use Rattle.region_guard.specs.MemoryMap.{data_start}
 use Rattle.fp_image.specs.Rules.{word}
 use Rattle.fp_image.specs.declared.parts.Segment.{Segment}
-use Rattle.fp_ports.specs.Rows.{Row, row_at}
+use Rattle.fp_ports.specs.PluggedPorts.{Row, row_at}
 use Rattle.fp_ports.specs.ShownWords.{shown}
-use Rattle.fp_setup.specs.SetupOfTables.{unnamed, the_threads}
+use Rattle.fp_setup.specs.SetupOfTables.{default_thread, the_threads}
 use Rattle.fp_setup.specs.Settings.{Settings, size_of}
 use Rattle.fp_setup.specs.declared.input_list.Input.{Input}
 use Rattle.fp_setup.specs.declared.thread_list.ThreadSetup.{ThreadSetup}
 use Rattle.core_model.specs.Thread.{fresh}
-use Rattle.world_model.specs.World.{Start}
+use Rattle.core_model.specs.World.{Start}
 
 -- the words of a scratchpad of a size that begins at an address
 unfoldable pub words_from : List Segment → ℕ → ℕ → List ℕ
@@ -27,8 +28,8 @@ abbrev pub d_words_of : Settings → List Segment → List ℕ
 d_words_of s image = words_from image data_start (size_of s.version)
 
 -- what a setup says of one of the threads
-abbrev pub thread_of : Settings → ℕ → ThreadSetup
-thread_of s i = slice_index_or s.threads i unnamed
+abbrev pub thread_setup_of : Settings → ℕ → ThreadSetup
+thread_setup_of s i = slice_index_or s.threads i default_thread
 
 -- the inputs of a thread as pairs of a cycle and a word
 abbrev pub inputs_of : ThreadSetup → List (ℕ × ℕ)
@@ -36,7 +37,8 @@ inputs_of t = map (λ (input : Input). (input.at, input.word)) t.inputs
 
 -- the words that a thread finds at its port in the first n cycles
 abbrev pub shown_to : Settings → List (Option Row) → ℕ → ℕ → List ℕ
-shown_to s ports n i = shown (row_at ports i) (inputs_of (thread_of s i)) (thread_of s i).unplug n
+shown_to s ports n i =
+    shown (row_at ports i) (inputs_of (thread_setup_of s i)) (thread_setup_of s i).unplug n
 
 -- whether a port was handed in
 abbrev pub is_handed : Option Row → Bool
@@ -59,7 +61,8 @@ start s image ports n =
       permit = map (λ (t : ThreadSetup). t.permit) s.threads;
       i_words = i_words_of s image;
       d_words = d_words_of s image;
-      registers = record { slots = s.slots; modes = s.modes; dregions = s.dregions; iregions = s.iregions };
+      registers =
+          record { slots = s.slots; modes = s.modes; dregions = s.dregions; iregions = s.iregions };
       shown = map (shown_to s ports n) the_threads;
       handed = map is_handed ports;
       unplugs = map (λ (t : ThreadSetup). t.unplug) s.threads;

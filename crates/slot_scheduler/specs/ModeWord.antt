@@ -1,6 +1,7 @@
 -- The modes register: two bits for each thread.
-use Rattle.std.specs.Prelude.{ℕ, ◌/◌, ◌%◌, ◌^◌, ◌==◌, nat_lt, Bool, ◌||◌, if◌then◌else◌, List, [], ◌∷◌, map, Result, Ok, Err}
-use Rattle.nibble_word.specs.Masks.{mask_of}
+use Rattle.std.specs.Prelude.{ℕ, ◌/◌, ◌%◌, ◌^◌, ◌==◌, nat_lt, Bool, ◌||◌}
+use Rattle.std.specs.Prelude.{if◌then◌else◌, List, [], ◌∷◌, map, Result, Ok, Err}
+use Rattle.slot_table.specs.Masks.{mask_of}
 use Rattle.slot_scheduler.specs.declared.mode_word.BadMode.{BadMode}
 
 -- whether a word may stand in the register: its bits above 15 are 0

@@ -1,8 +1,9 @@
 //! The modes register as a type that holds only accepted words.
 
 ghost use Rattle.std.specs.Prelude.{◌≡◌, ◌<◌, ◌==◌, ◌&&◌, ◌||◌, map, nat_lt};
-ghost use Rattle.nibble_word.specs.Masks.{bit_of, mask_of};
-ghost use Rattle.slot_scheduler.specs.ModeWord.{is_active, is_soft, mode_list, mode_of, modes_of, threads_that};
+ghost use Rattle.slot_table.specs.Masks.{bit_of, mask_of};
+ghost use Rattle.slot_scheduler.specs.ModeWord.{is_active, is_soft, mode_list};
+ghost use Rattle.slot_scheduler.specs.ModeWord.{mode_of, modes_of, threads_that};
 
 use std::marker::Model;
 use thiserror::Error;
@@ -50,7 +51,8 @@ const HARD: u8 = 0;
 /// The mode of a soft and active thread.
 const SOFT: u8 = 2;
 
-/// The modes of the eight threads.
+/// The modes of the eight threads. Fields of two bits, where `nibbles_of` has fields of four: one
+/// function for both would divide by variables.
 fn modes_of(word: u32) -> [u8; 8]
     ensures { result ≡ mode_list word }
 {

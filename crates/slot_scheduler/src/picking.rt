@@ -1,10 +1,11 @@
 //! The pick of a cycle.
 
 ghost use Rattle.std.specs.Prelude.{◌≡◌, ◌<◌, ◌&&◌, IfSome, find, nat_lt};
-ghost use Rattle.slot_scheduler.specs.Picking.{IsPick, after_last, donated, is_awake, pick, takes_donated};
+ghost use Rattle.slot_scheduler.specs.Picking.{IsPick, after_last, donation};
+ghost use Rattle.slot_scheduler.specs.Picking.{is_awake, pick, takes_donated};
 
 use crate::mode_word::Modes;
-use slot_table::SlotTable;
+use slot_table::{DISABLED, SlotTable};
 use std::marker::Model;
 
 /// What picking goes by.
@@ -44,9 +45,6 @@ impl Model for Scheduler {
 
     ghost inverse = { λ n. record { last = n } };
 }
-
-/// The nibble of a slot that nobody has.
-const DISABLED: u8 = 15;
 
 impl Sched {
     // Whether a slot's nibble, which is below 16, names a thread that is active and whose sleep
@@ -113,10 +111,10 @@ impl Scheduler {
     }
 
     // The pick of a slot that a soft thread may take.
-    #[tactic(auto, unfolding(crate::specs::Picking::donated))]
+    #[tactic(auto, unfolding(crate::specs::Picking::donation))]
     fn donate(&mut self, s: &Sched, now: u64) -> Pick
-        ensures pick { result ≡ (donated s.now now self.old).pick }
-        ensures pointer { self.new ≡ (donated s.now now self.old).last }
+        ensures pick { result ≡ (donation s.now now self.old).pick }
+        ensures pointer { self.new ≡ (donation s.now now self.old).last }
         ensures thread { IsPick result }
     {
         match s.next_soft(now, self.last) {

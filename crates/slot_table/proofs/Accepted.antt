@@ -1,8 +1,8 @@
 -- A word is accepted where no slot of it is refused.
 use Rattle.std.proofs.Common.{◌≡◌, ℕ, Option, ap, ◌∙◌}
 use Rattle.std.specs.Option.{is_none}
-use Rattle.nibble_word.specs.Nibbles.{nibbles}
-use Rattle.nibble_word.proofs.First.{is_none-position}
+use Rattle.slot_table.specs.Nibbles.{nibbles}
+use Rattle.slot_table.proofs.First.{is_none-position}
 use Rattle.slot_table.specs.Frame.{is_slot}
 use Rattle.slot_table.specs.Table.{is_table, bad_slot}
 

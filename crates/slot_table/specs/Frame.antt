@@ -1,16 +1,24 @@
 -- The slots register: eight slots, of which those that aren't disabled take turns.
-use Rattle.std.specs.Prelude.{ℕ, ◌<◌, ◌%◌, ◌==◌, nat_lt, Bool, not, ◌||◌, if◌then◌else◌, List, [], ◌∷◌, slice_index_or, filter, length}
-use Rattle.nibble_word.specs.Nibbles.{nibbles}
+use Rattle.std.specs.Prelude.{ℕ, ◌<◌, ◌%◌, ◌==◌, nat_lt, Bool, not, ◌||◌, if◌then◌else◌}
+use Rattle.std.specs.Prelude.{List, [], ◌∷◌, slice_index_or, filter, length}
+use Rattle.slot_table.specs.Nibbles.{nibbles}
 use Rattle.slot_table.specs.declared.frame.Turn.{Turn}
 use Rattle.slot_table.specs.declared.frame.Turn.TheVariants.{Thread, Soft, Nobody}
 
--- what may stand in a slot: a thread, soft (14) or disabled (15)
+-- the nibble of a slot for the soft threads, and that of a disabled one
+abbrev pub soft_slot : ℕ
+soft_slot = 14
+
+abbrev pub disabled_slot : ℕ
+disabled_slot = 15
+
+-- what may stand in a slot: a thread, soft or disabled
 abbrev pub is_slot : ℕ → Bool
-is_slot nibble = nat_lt nibble 8 || nibble == 14 || nibble == 15
+is_slot nibble = nat_lt nibble 8 || nibble == soft_slot || nibble == disabled_slot
 
 -- a slot that takes part
 abbrev pub is_used : ℕ → Bool
-is_used nibble = not (nibble == 15)
+is_used nibble = not (nibble == disabled_slot)
 
 -- the slots that aren't disabled, in order
 unfoldable pub frame : ℕ → List ℕ
@@ -22,13 +30,13 @@ turn_of_slot nibble = if nat_lt nibble 8 then Thread nibble else Soft
 
 -- the turn that a nibble names, of those that may stand in a slot
 abbrev pub turn_named : ℕ → Turn
-turn_named nibble = if nibble == 15 then Nobody else turn_of_slot nibble
+turn_named nibble = if nibble == disabled_slot then Nobody else turn_of_slot nibble
 
 -- the frame's entry number c modulo its length; an empty frame is nobody's
 abbrev pub turn_in : List ℕ → ℕ → Turn
 turn_in [] c = Nobody
 turn_in (slot ∷ slots) c =
-    turn_of_slot (slice_index_or (slot ∷ slots) (c % length (slot ∷ slots)) 14)
+    turn_of_slot (slice_index_or (slot ∷ slots) (c % length (slot ∷ slots)) soft_slot)
 
 -- whose turn cycle c is, by the word of the register
 unfoldable pub turn : ℕ → ℕ → Turn

@@ -1,10 +1,11 @@
 -- The slots register as the type that holds it.
-use Rattle.std.specs.Prelude.{ℕ, ◌+◌, ◌-◌, ◌/◌, ◌%◌, max, Bool, not, List, ◌++◌, length, replicate, position, Option, Some, None, Result, Ok, Err}
+use Rattle.std.specs.Prelude.{ℕ, ◌+◌, ◌-◌, ◌/◌, ◌%◌, max, Bool, not, List, ◌++◌, length}
+use Rattle.std.specs.Prelude.{replicate, position, Option, Some, None, Result, Ok, Err}
 use Rattle.std.specs.List.{list_all}
-use Rattle.nibble_word.specs.Nibbles.{nibbles}
+use Rattle.slot_table.specs.Nibbles.{nibbles}
 use Rattle.slot_table.specs.declared.frame.Frame.{Frame}
 use Rattle.slot_table.specs.declared.frame.BadSlot.{BadSlot}
-use Rattle.slot_table.specs.Frame.{is_slot}
+use Rattle.slot_table.specs.Frame.{disabled_slot, is_slot}
 
 -- whether a word may stand in the register
 unfoldable pub is_table : ℕ → Bool
@@ -14,6 +15,7 @@ is_table word = list_all is_slot (nibbles word)
 abbrev pub bad_slot : ℕ → Option ℕ
 bad_slot word = position (λ nibble. not (is_slot nibble)) (nibbles word)
 
+-- the word, unless a slot is refused. Region registers have a refusal of another type
 abbrev pub unless_bad : ℕ → Option ℕ → Result ℕ BadSlot
 unless_bad word None = Ok word
 unless_bad word (Some index) = Err (record { index = index })
@@ -24,7 +26,7 @@ table_of word = unless_bad word (bad_slot word)
 
 -- the slots of a frame in eight positions, of which those past its end are disabled
 abbrev pub in_positions : List ℕ → List ℕ
-in_positions slots = slots ++ replicate (8 - length slots) 15
+in_positions slots = slots ++ replicate (8 - length slots) disabled_slot
 
 -- 2 ^ 64 by a length, rounded up, in 64 bits
 abbrev pub magic_of : ℕ → ℕ

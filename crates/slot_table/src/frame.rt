@@ -1,6 +1,7 @@
 //! The frame of slots that share the cycles.
 
-ghost use Rattle.std.specs.Prelude.{◌≡◌, ◌<◌, ◌≤◌, ◌%◌, ◌==◌, if◌then◌else◌, filter, length, position, not, IfSome};
+ghost use Rattle.std.specs.Prelude.{◌≡◌, ◌<◌, ◌≤◌, ◌%◌, ◌==◌, if◌then◌else◌};
+ghost use Rattle.std.specs.Prelude.{filter, length, position, not, IfSome};
 ghost use Rattle.slot_table.specs.Frame.{is_slot, is_used, turn_named};
 ghost use Rattle.slot_table.specs.Table.{laid_out, magic_of};
 
@@ -39,10 +40,10 @@ pub struct Frame {
 }
 
 /// The nibble of a slot for the soft threads.
-const SOFT: u8 = 14;
+pub const SOFT: u8 = 14;
 
 /// The nibble of a slot that nobody has.
-const DISABLED: u8 = 15;
+pub const DISABLED: u8 = 15;
 
 /// From this cycle on, 2^61, the multiplication need not give the position. No run comes so far.
 const EARLY: u64 = 0x2000_0000_0000_0000;

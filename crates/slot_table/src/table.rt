@@ -5,7 +5,7 @@ ghost use Rattle.slot_table.specs.Frame.{IsTurn, frame, is_slot, turn, turn_name
 ghost use Rattle.slot_table.specs.Table.{is_table, table_of};
 
 use crate::frame::{BadSlot, Frame, Turn, bad_slot, turn_named};
-use nibble_word::nibbles_of;
+use crate::nibbles::nibbles_of;
 use std::marker::Model;
 
 /// A word of the register slots (0x7C0): a nibble for each of eight slots, slot i in bits 4i to

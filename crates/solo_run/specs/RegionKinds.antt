@@ -1,18 +1,21 @@
--- What the regions of a scratchpad are to the thread: the code's values as those of the definitions.
+-- What the regions of a scratchpad are to the thread: the code's values as those of the
+-- definitions.
 use Rattle.std.specs.Prelude.{ℕ, ◌==◌, if◌then◌else◌, List, map}
 use Rattle.region_guard.specs.Regions.{RegionKind}
-use Rattle.region_guard.specs.Regions.RegionKind.{Mine as mine, ReadOnly as read_only, Shared as shared, Foreign as foreign}
+use Rattle.region_guard.specs.Regions.RegionKind.{Mine as mine, ReadOnly as read_only}
+use Rattle.region_guard.specs.Regions.RegionKind.{Shared as shared, Foreign as foreign}
 use Rattle.solo_run.specs.declared.region_kind.RegionKind.{RegionKind as Given}
-use Rattle.solo_run.specs.declared.region_kind.RegionKind.TheVariants.{Mine, ReadOnly, Shared, Foreign}
+use Rattle.solo_run.specs.declared.region_kind.RegionKind.TheVariants.{Mine, ReadOnly}
+use Rattle.solo_run.specs.declared.region_kind.RegionKind.TheVariants.{Shared, Foreign}
 
-abbrev pub kind_as_defined : Given → RegionKind
-kind_as_defined Mine = mine
-kind_as_defined ReadOnly = read_only
-kind_as_defined Shared = shared
-kind_as_defined Foreign = foreign
+abbrev pub abstract_kind : Given → RegionKind
+abstract_kind Mine = mine
+abstract_kind ReadOnly = read_only
+abstract_kind Shared = shared
+abstract_kind Foreign = foreign
 
-abbrev pub kinds_as_defined : List Given → List RegionKind
-kinds_as_defined kinds = map kind_as_defined kinds
+abbrev pub abstract_kinds : List Given → List RegionKind
+abstract_kinds kinds = map abstract_kind kinds
 
 -- by the number that stands for it in a view
 abbrev pub kind_of_number : ℕ → RegionKind

@@ -2,8 +2,8 @@
 
 ghost use Rattle.solo_run.specs.Setup.{SetupViews};
 
-/// The view that is made of a setup and an image is the thread's view in the world of their machine,
-/// for any ports and number of cycles. The contract is the theorem; the call does nothing.
+/// The view that is made of a setup and an image is the thread's view in the world of their
+/// machine, for any ports and number of cycles. The contract is the theorem; the call does nothing.
 pub fn setup_views_are_views()
     ensures { SetupViews }
 {}

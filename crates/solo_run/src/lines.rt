@@ -6,7 +6,7 @@ ghost use Rattle.fp_io.specs.Causes.{Rose};
 ghost use Rattle.fp_io.specs.Content.{AppendsFront};
 ghost use Rattle.rv_exec.specs.Line.{IsPrintable};
 ghost use Rattle.trace_print.specs.Text.{line_text};
-ghost use Rattle.solo_run.specs.Text.{IsEventShowable, event_text};
+ghost use Rattle.solo_run.specs.Text.{IsPrintableEvent, event_text};
 
 use fp_io::{PutFailed, Sink};
 use rv_exec::Event;
@@ -16,7 +16,7 @@ use trace_print::EventLine;
 #[inline(always)]
 pub(crate) fn set_line(line: &mut EventLine, event: &Event)
     requires cycle { event.now.cycle < 10 ^ 10 }
-    requires showable { IsPrintable event.now.effect }
+    requires printable { IsPrintable event.now.effect }
     ensures { line.new ≡ line_text event.now }
 {
     line.set(event.cycle, event.pc, event.word, &event.effect);
@@ -30,7 +30,7 @@ pub(crate) fn put_event<K: Sink>(
     event: Option<Event>,
 ) -> Result<(), PutFailed>
     requires cycle { IfSome event (λ e. e.cycle < 10 ^ 10) }
-    requires showable { IsEventShowable event }
+    requires printable { IsPrintableEvent event }
     ensures counted { K.faults out.old ≤ K.faults out.new }
     ensures ok { OnOk result (Appends (K.taken out.old) (K.taken out.new) (event_text event)) }
     ensures err { OnErr result (AppendsFront (K.taken out.old) (K.taken out.new)

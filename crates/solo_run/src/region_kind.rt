@@ -16,11 +16,11 @@ pub enum RegionKind {
 impl RegionKind {
     ghost use Rattle.std.specs.Prelude.{◌≡◌, ◌≤◌};
     ghost use Rattle.region_guard.specs.Regions.{is_readable};
-    ghost use Rattle.solo_run.specs.RegionKinds.{kind_as_defined, kind_of_number};
+    ghost use Rattle.solo_run.specs.RegionKinds.{abstract_kind, kind_of_number};
 
     /// Its number in a view, 0 to 3.
     pub fn number(self) -> u8
-        ensures number { kind_of_number result ≡ kind_as_defined self }
+        ensures number { kind_of_number result ≡ abstract_kind self }
         ensures small { result ≤ 3 }
     {
         match self {
@@ -33,7 +33,7 @@ impl RegionKind {
 
     /// Whether the thread may fetch and load there.
     pub fn is_readable(self) -> bool
-        ensures { result ≡ is_readable (kind_as_defined self) }
+        ensures { result ≡ is_readable (abstract_kind self) }
     {
         matches!(self, RegionKind::Mine | RegionKind::ReadOnly)
     }

@@ -2,13 +2,13 @@
 
 ghost use Rattle.std.specs.Prelude.{◌≡◌, ◌<◌, nat_lt, true};
 ghost use Rattle.std.specs.List.{list_all};
-ghost use Rattle.nibble_word.specs.Nibbles.{nibbles};
+ghost use Rattle.slot_table.specs.Nibbles.{nibbles};
 ghost use Rattle.region_guard.specs.Regions.{is_owner, region_kind};
 ghost use Rattle.fp_setup.specs.SetupOfTables.{word_of};
-ghost use Rattle.world_model.specs.Viewed.{region_kinds};
+ghost use Rattle.core_model.specs.Viewed.{region_kinds};
 ghost use Rattle.solo_run.specs.RegionKinds.{kind_of_number, kinds_of_numbers};
 
-use region_guard::Regions;
+use region_guard::{READ_ONLY, Regions, SHARED};
 
 /// The nibble of a region that is to a thread what a number of a view says. Another thread's is any
 /// other one's.
@@ -21,8 +21,8 @@ fn owner(number: u8, thread: u8) -> u8
 {
     match number {
         0 => thread,
-        1 => 12,
-        2 => 8,
+        1 => READ_ONLY,
+        2 => SHARED,
         _ => (thread + 1) % 8,
     }
 }

@@ -1,26 +1,26 @@
 //! The thread, and one whole instruction of it.
 
-ghost use Rattle.std.specs.Prelude.{◌≡◌, ◌/◌, ◌<◌, ◌≤◌, ◌%◌, false, length, replicate};
+ghost use Rattle.std.specs.Prelude.{◌≡◌, ◌/◌, ◌<◌, ◌^◌, ◌≤◌, ◌%◌, false, length, replicate};
 ghost use Rattle.core_model.specs.Thread.{fresh};
 ghost use Rattle.core_model.specs.Issue.{issue, is_load, execute_word, effect_of};
 ghost use Rattle.core_model.specs.Memory.{code_at};
 ghost use Rattle.core_model.specs.Solo.{contents_by};
-ghost use Rattle.hart_exec.specs.AsDefined.{IsShowable, IsAlignedStore};
+ghost use Rattle.hart_exec.specs.Effects.{IsPrintableEffect, IsAlignedStore};
 ghost use Rattle.rv_decode.specs.Table.{ins};
-ghost use Rattle.timer_unit.specs.Time.{time};
 ghost use Rattle.rv_exec.specs.Access.{IsAligned};
+ghost use Rattle.rv_decode.specs.Lag.{redirect_lag};
 
 use crate::memory::{code_word, data_word};
 use crate::registers::Registers;
 use crate::shown::Shown;
-use hart_exec::{Executed, Hart, PcWord, execute_in, finish};
+use hart_exec::{ExecResult, Hart, PcWord, execute_in, finish};
 use region_guard::Guard;
 use rv_decode::{Ins, decode};
 use rv_exec::Effect;
 use scratchpad::Spm;
 use slot_scheduler::{Modes, Sched};
 use slot_table::SlotTable;
-use timer_unit::{Clock, Timers};
+use timer_unit::Timers;
 use trap_unit::Traps;
 
 /// A thread between two of its instructions, with the units that these work on. Of the units it
@@ -58,14 +58,15 @@ pub struct Issued {
 }
 
 impl ThreadState {
-    ghost use Rattle.hart_exec.specs.Units.{executed_as_defined};
-    ghost use Rattle.solo_run.specs.ThreadState.{thread_as_defined, done_as_defined, asked, own_of};
+    ghost use Rattle.hart_exec.specs.Units.{abstract_result};
+    ghost use Rattle.solo_run.specs.ThreadState.{abstract_thread, abstract_issue};
+    ghost use Rattle.solo_run.specs.ThreadState.{abstract_environment, own_of};
 
     /// A thread at its entry, with the regions that it knows.
     pub fn new(thread: u8, entry: u32, guard: Guard) -> ThreadState
         requires thread { thread < 8 }
         requires entry { entry % 4 ≡ 0 }
-        ensures state { thread_as_defined result ≡ fresh entry }
+        ensures state { abstract_thread result ≡ fresh entry }
         ensures thread { result.thread ≡ thread }
         ensures guard { result.guard ≡ guard }
     {
@@ -81,21 +82,21 @@ impl ThreadState {
         }
     }
 
-    /// Executes the word at the pc in a cycle, but for a late value.
+    /// Executes the word at the pc at a time, but for a late value.
     #[tactic(auto, unfolding(core_model::specs::Issue::execute_word))]
-    fn execute_word(&mut self, clock: Clock, cycle: u64, i: &Spm) -> Executed
-        requires words { length i.now ≡ self.old.guard.size / 4 }
-        requires cycle { cycle ≤ 4000000010 }
-        ensures did { executed_as_defined (own_of self.new) result ≡
-            execute_word (asked (time clock cycle) self.old) (code_at self.old.guard.size i.now self.old.pc)
-            (thread_as_defined self.old) }
+    fn execute_word(&mut self, now: u64, i: &Spm) -> ExecResult
+        requires { length i.now ≡ self.old.guard.size / 4 }
+        ensures did { abstract_result (own_of self.new) result ≡
+            execute_word (abstract_environment now self.old) (code_at self.old.guard.size i.now
+            self.old.pc)
+            (abstract_thread self.old) }
         ensures thread { self.new.thread ≡ self.old.thread }
         ensures registers { self.new.registers ≡ self.old.registers }
         ensures guard { self.new.guard ≡ self.old.guard }
         ensures pc { result.pc % 4 ≡ 0 }
-        ensures lag { result.lag ≤ 3 }
+        ensures lag { result.lag ≤ redirect_lag }
         ensures address { IsAligned (ins result.word) result.address }
-        ensures showable { IsShowable result.effect }
+        ensures printable { IsPrintableEffect result.effect }
         ensures store { IsAlignedStore result.effect }
     {
         let at = PcWord {
@@ -103,12 +104,10 @@ impl ThreadState {
             word: code_word(&self.guard, i, self.pc),
         };
         let sources = self.registers.sources(&decode(at.word));
-        let expired = self.timers.due(self.thread, clock.now(cycle));
+        let expired = self.timers.due(self.thread, now);
         let mut hart = Hart {
             thread: self.thread,
-            clock,
-            cycle,
-            since_issue: 0,
+            time: now,
             confined: true,
             permit: false,
             guard: &mut self.guard,
@@ -127,17 +126,17 @@ impl ThreadState {
         d: &Spm,
         shown: &mut W,
         cycle: u64,
-        x: &Executed,
+        x: &ExecResult,
     ) -> Option<Effect>
         requires i { length i.now ≡ self.now.guard.size / 4 }
         requires d { length d.now ≡ self.now.guard.size / 4 }
         requires address { IsAligned (ins x.now.word) x.now.address }
-        requires showable { IsShowable x.now.effect }
+        requires printable { IsPrintableEffect x.now.effect }
         requires store { IsAlignedStore x.now.effect }
         ensures effect { result ≡ effect_of (contents_by self.now.guard.size i.now d.now
             (W.word_at shown.old cycle)) self.now.registers
-            (executed_as_defined (own_of self.now) x.now) }
-        ensures showable { IsShowable result }
+            (abstract_result (own_of self.now) x.now) }
+        ensures printable { IsPrintableEffect result }
         ensures store { IsAlignedStore result }
         ensures shown { W.word_at shown.new ≡ W.word_at shown.old }
         ensures kept { W.kept shown.new ≡ W.kept shown.old }
@@ -157,30 +156,30 @@ impl ThreadState {
         )
     }
 
-    /// One whole instruction, in a cycle.
+    /// One whole instruction, in a cycle at a time.
     #[tactic(auto, unfolding(core_model::specs::Issue::issue))]
     pub fn issue<W: Shown>(
         &mut self,
-        clock: Clock,
+        now: u64,
         i: &Spm,
         d: &Spm,
         shown: &mut W,
         cycle: u64,
     ) -> Issued
-        requires cycle { cycle ≤ 4000000010 }
+        requires cycle { cycle < 2 ^ 63 }
         requires i { length i.now ≡ self.old.guard.size / 4 }
         requires d { length d.now ≡ self.old.guard.size / 4 }
-        ensures done { done_as_defined self.new result ≡
-            issue (asked (time clock cycle) self.old) (contents_by self.old.guard.size i.now d.now
-            (W.word_at shown.old cycle)) cycle (thread_as_defined self.old) }
+        ensures done { abstract_issue self.new result ≡
+            issue (abstract_environment now self.old) (contents_by self.old.guard.size i.now d.now
+            (W.word_at shown.old cycle)) cycle (abstract_thread self.old) }
         ensures thread { self.new.thread ≡ self.old.thread }
         ensures guard { self.new.guard ≡ self.old.guard }
-        ensures showable { IsShowable result.effect }
+        ensures printable { IsPrintableEffect result.effect }
         ensures store { IsAlignedStore result.effect }
         ensures shown { W.word_at shown.new ≡ W.word_at shown.old }
         ensures kept { W.kept shown.new ≡ W.kept shown.old }
     {
-        let x = self.execute_word(clock, cycle, i);
+        let x = self.execute_word(now, i);
         let effect = self.late(i, d, shown, cycle, &x);
         self.pc = x.pc;
         self.ready = cycle + x.lag;

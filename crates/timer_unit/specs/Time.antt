@@ -1,11 +1,16 @@
 -- Time in nanoseconds, and what each thread has in the timers.
-use Rattle.std.specs.Prelude.{ℕ, ◌+◌, ◌*◌, ◌/◌, ◌%◌, nat_le, Bool, false, List, slice_index_or, Option, Some, None}
+use Rattle.std.specs.Prelude.{ℕ, ◌+◌, ◌*◌, ◌/◌, ◌%◌, nat_le, Bool, false}
+use Rattle.std.specs.Prelude.{List, slice_index_or, Option, Some, None}
 use Rattle.timer_unit.specs.declared.row.Timer.{Timer}
 
 -- the most cycles that a run may have, and the last cycle that an input may name: their times fit
 -- in 64 bits with every period
 abbrev pub most_cycles : ℕ
 most_cycles = 4000000000
+
+-- the last cycle whose time the clock tells: ten past those of a run
+abbrev pub last_timed_cycle : ℕ
+last_timed_cycle = most_cycles + 10
 
 -- the time of a cycle, by the period of the cycles
 abbrev pub time : ℕ → ℕ → ℕ
@@ -36,13 +41,13 @@ abbrev pub timer_of : List Timer → ℕ → Timer
 timer_of timers thread = slice_index_or timers thread no_timer
 
 -- a timer once the low word of a time is read: the high word is latched
-abbrev pub latched : Timer → ℕ → Timer
-latched timer now = record timer { high = high_word now }
+abbrev pub latch_high : Timer → ℕ → Timer
+latch_high timer now = record timer { high = high_word now }
 
 -- a timer once a moment is armed, in place of one that was armed before
 abbrev pub armed_at : Timer → ℕ → Timer
 armed_at timer armed = record timer { armed = Some armed }
 
 -- a timer once nothing is armed
-abbrev pub disarmed : Timer → Timer
-disarmed timer = record timer { armed = None }
+abbrev pub disarm : Timer → Timer
+disarm timer = record timer { armed = None }

@@ -6,5 +6,5 @@ mod time;
 mod unit;
 
 pub use row::Timer;
-pub use time::{Clock, MOST_CYCLES, moment};
+pub use time::{Clock, LAST_TIMED_CYCLE, MOST_CYCLES, moment};
 pub use unit::Timers;

@@ -1,13 +1,16 @@
 //! Cycles and words as moments.
 
 ghost use Rattle.std.specs.Prelude.{◌≡◌, ◌≤◌};
-ghost use Rattle.timer_unit.specs.Time.{moment, time};
+ghost use Rattle.timer_unit.specs.Time.{last_timed_cycle, moment, time};
 
 use std::marker::Model;
 
 /// The most cycles that a run may have, and the last cycle that an input may name: their times fit
 /// in 64 bits with every period.
 pub const MOST_CYCLES: u64 = 4_000_000_000;
+
+/// The last cycle whose time a [`Clock`] tells: ten past the most that a run may have.
+pub const LAST_TIMED_CYCLE: u64 = MOST_CYCLES + 10;
 
 /// The clock of the core, whose cycles have a period of 1 to 1,000 nanoseconds.
 #[derive(Clone, Copy, Debug)]
@@ -37,9 +40,9 @@ impl Clock {
         Clock { period }
     }
 
-    /// The time of a cycle, in nanoseconds from the first cycle's.
+    /// The time of a cycle, at most [`LAST_TIMED_CYCLE`], in nanoseconds from the first cycle's.
     pub fn now(&self, cycle: u64) -> u64
-        requires { cycle ≤ 4000000010 }
+        requires { cycle ≤ last_timed_cycle }
         ensures { result ≡ time self.now cycle }
     {
         u64::from(self.period) * cycle

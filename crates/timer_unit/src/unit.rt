@@ -1,7 +1,8 @@
 //! The timers of the eight threads.
 
 ghost use Rattle.std.specs.Prelude.{◌≡◌, ◌<◌, length, replicate, slice_set};
-ghost use Rattle.timer_unit.specs.Time.{armed_at, disarmed, is_due, latched, low_word, no_timer, timer_of};
+ghost use Rattle.timer_unit.specs.Time.{armed_at, disarm, is_due, latch_high};
+ghost use Rattle.timer_unit.specs.Time.{low_word, no_timer, timer_of};
 
 use crate::row::Timer;
 use std::marker::Model;
@@ -45,22 +46,13 @@ impl Timers {
         self.rows[thread as usize]
     }
 
-    /// Puts a timer in place of the thread's. Those of the others stay.
-    pub fn set_row(&mut self, thread: u8, row: Timer)
-        requires { thread < 8 }
-        ensures row { self.new ≡ slice_set self.old thread row }
-        ensures eight { length self.new ≡ 8 }
-    {
-        self.rows[thread as usize] = row;
-    }
-
     /// The low word of a time in nanoseconds, which GT reads. The bits 32 to 63 of the time
     /// are latched for the thread, whose armed moment stays.
     pub fn get_low(&mut self, thread: u8, now: u64) -> u32
         requires { thread < 8 }
         ensures low { result ≡ low_word now }
         ensures latch { self.new
-            ≡ slice_set self.old thread (latched (timer_of self.old thread) now) }
+            ≡ slice_set self.old thread (latch_high (timer_of self.old thread) now) }
         ensures eight { length self.new ≡ 8 }
     {
         self.rows[thread as usize].high = (now >> 32) as u32;
@@ -89,7 +81,7 @@ impl Timers {
     pub fn disarm(&mut self, thread: u8)
         requires { thread < 8 }
         ensures disarmed { self.new
-            ≡ slice_set self.old thread (disarmed (timer_of self.old thread)) }
+            ≡ slice_set self.old thread (disarm (timer_of self.old thread)) }
         ensures eight { length self.new ≡ 8 }
     {
         self.rows[thread as usize].armed = None;

@@ -1,5 +1,6 @@
 -- How long a line is: at most 59 bytes, while the cycle has ten digits.
-use Rattle.std.proofs.Common.{◌≡◌, ℕ, zero, suc, ◌/◌, ◌^◌, ◌<◌, ◌≤◌, length, refl, arith, inl, inr, lit≤, true, false, if◌then◌else◌, ◌==◌}
+use Rattle.std.proofs.Common.{◌≡◌, ℕ, zero, suc, ◌/◌, ◌^◌, ◌<◌, ◌≤◌, length, refl}
+use Rattle.std.proofs.Common.{arith, inl, inr, lit≤, true, false, if◌then◌else◌, ◌==◌}
 use Rattle.std.specs.Prelude.{◌++◌, decimal, codes}
 use Rattle.std.proofs.lemmas.List.{length-append, length-replicate}
 use Rattle.std.proofs.lemmas.Fmt.{length-decimal-le}
@@ -8,7 +9,8 @@ use Rattle.rv_exec.specs.declared.outcome.Effect.TheVariants.{Nothing, Reg, Stor
 use Rattle.rv_exec.specs.declared.outcome.Event.{Event}
 use Rattle.rv_exec.specs.Line.{IsPrintable, IsWidth}
 use Rattle.trace_print.specs.Digits.{hex, two_digits, right}
-use Rattle.trace_print.specs.Text.{register_text, store_text, csr_text, trap_text, effect_text, line_text}
+use Rattle.trace_print.specs.Text.{register_text, store_text, csr_text}
+use Rattle.trace_print.specs.Text.{trap_text, effect_text, line_text}
 
 pub length-hex : (width n : ℕ) → length (hex width n) ≡ width
 unfolding hex
@@ -50,7 +52,8 @@ length-effect (Reg rd value) h = omega (arith, length-register rd value)
 length-effect (Store address size value) h = omega (arith, length-store address size value h.0)
 length-effect (Csr csr value rd old) h =
     elim (rd == 0) as (λ b.
-    length (if b then csr_text csr value else register_text rd old ++ (codes " " ++ csr_text csr value)) ≤ 29) [
+    length (if b then csr_text csr value
+    else register_text rd old ++ (codes " " ++ csr_text csr value)) ≤ 29) [
       | true ↦ omega (arith, length-csr csr value)
       | false ↦ simp length-append (omega (arith, length-csr csr value, length-register rd old))
     ]

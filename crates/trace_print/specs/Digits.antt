@@ -1,5 +1,6 @@
 -- Numbers as texts, lists of byte codes.
-use Rattle.std.specs.Prelude.{ℕ, zero, suc, ◌+◌, ◌-◌, ◌/◌, ◌%◌, nat_lt, List, [], ◌∷◌, ◌++◌, length, replicate, decimal, if◌then◌else◌}
+use Rattle.std.specs.Prelude.{ℕ, zero, suc, ◌+◌, ◌-◌, ◌/◌, ◌%◌, nat_lt, List, []}
+use Rattle.std.specs.Prelude.{◌∷◌, ◌++◌, length, replicate, decimal, if◌then◌else◌}
 
 -- a hexadecimal digit, lower case
 abbrev pub hex_digit : ℕ → ℕ

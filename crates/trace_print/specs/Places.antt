@@ -32,7 +32,8 @@ value_text table key item = key_text table key ++ (if item == 0 then [] else ind
 unfoldable pub row_text : ℕ → ℕ → List ℕ
 row_text table row = (if table == 2 then codes "thread" else codes "loop") ++ index_text row
 
--- the file as a whole, the top table, one of its values, a table of a thread or of a loop, or a value of it
+-- the file as a whole, the top table, one of its values, a table of a thread or of a loop, or a
+-- value of it
 unfoldable pub place_text : Place → List ℕ
 place_text p =
     if p.table == 0 then codes "-"

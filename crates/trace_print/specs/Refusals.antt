@@ -1,7 +1,8 @@
 -- The lines that say why something is refused, by this project's format of refusals.
 use Rattle.std.specs.Prelude.{ℕ, ◌==◌, ◌%◌, ◌^◌, List, [], ◌∷◌, ◌++◌, decimal, codes, if◌then◌else◌}
 use Rattle.trace_print.specs.declared.refusals.Refusal.{Refusal}
-use Rattle.trace_print.specs.declared.refusals.Refusal.TheVariants.{Setup, Section, Image, Source, Bound, Routines}
+use Rattle.trace_print.specs.declared.refusals.Refusal.TheVariants.{Setup, Section, Image}
+use Rattle.trace_print.specs.declared.refusals.Refusal.TheVariants.{Source, Bound, Routines}
 use Rattle.trace_print.specs.Digits.{hex}
 use Rattle.trace_print.specs.Places.{place_text}
 
@@ -111,20 +112,27 @@ routine_names =
 abbrev pub code_text : List Named → ℕ → List ℕ
 code_text table code = decimal code ++ (codes " " ++ name_of table code)
 
--- the number that a bound's refusal tells: Overflow's in decimal, else an address in eight hexadecimal digits
+-- the number that a bound's refusal tells: Overflow's in decimal, else an address in eight
+-- hexadecimal digits
 unfoldable pub bound_value : ℕ → ℕ → List ℕ
 bound_value code value = if code == 6 then decimal value else hex 8 (value % 2 ^ 32)
 
 -- the line of a refusal: what is refused, the code with its name, and where
 unfoldable pub refusal_text : Refusal → List ℕ
 refusal_text (Setup code place) =
-    codes "refused setup " ++ (code_text setup_names code ++ (codes " " ++ (place_text place ++ codes "\n")))
-refusal_text (Section code) = codes "refused section " ++ (code_text section_names code ++ codes "\n")
+    codes "refused setup "
+    ++ (code_text setup_names code ++ (codes " " ++ (place_text place ++ codes "\n")))
+refusal_text (Section code) =
+    codes "refused section " ++ (code_text section_names code ++ codes "\n")
 refusal_text (Image code offset) =
-    codes "refused image " ++ (code_text image_names code ++ (codes " " ++ (decimal offset ++ codes "\n")))
+    codes "refused image "
+    ++ (code_text image_names code ++ (codes " " ++ (decimal offset ++ codes "\n")))
 refusal_text (Source line code) =
-    codes "refused source " ++ (decimal line ++ (codes " " ++ (code_text source_names code ++ codes "\n")))
+    codes "refused source "
+    ++ (decimal line ++ (codes " " ++ (code_text source_names code ++ codes "\n")))
 refusal_text (Bound code value) =
-    codes "refused bound " ++ (code_text bound_names code ++ (codes " " ++ (bound_value code value ++ codes "\n")))
+    codes "refused bound "
+    ++ (code_text bound_names code ++ (codes " " ++ (bound_value code value ++ codes "\n")))
 refusal_text (Routines line code) =
-    codes "refused routines " ++ (decimal line ++ (codes " " ++ (code_text routine_names code ++ codes "\n")))
+    codes "refused routines "
+    ++ (decimal line ++ (codes " " ++ (code_text routine_names code ++ codes "\n")))

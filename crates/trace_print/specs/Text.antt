@@ -28,7 +28,8 @@ effect_text Nothing = codes "-"
 effect_text (Reg rd value) = register_text rd value
 effect_text (Store address size value) = store_text address size value
 effect_text (Csr csr value rd old) =
-    if rd == 0 then csr_text csr value else register_text rd old ++ (codes " " ++ csr_text csr value)
+    if rd == 0 then csr_text csr value
+    else register_text rd old ++ (codes " " ++ csr_text csr value)
 effect_text (Trap cause target) = trap_text cause target
 effect_text Wait = codes "wait"
 

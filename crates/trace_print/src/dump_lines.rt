@@ -3,14 +3,17 @@
 ghost use Rattle.std.specs.Prelude.{◌≡◌, ◌+◌, ◌*◌, ◌≤◌, ◌++◌, length, codes};
 ghost use Rattle.arrayvec.specs.ArrayString.{array_string_len};
 ghost use Rattle.trace_print.specs.Digits.{hex};
-ghost use Rattle.trace_print.specs.DumpLines.{cycles_text, thread_text, held_text, stage_text, word_text, words_text, thread_words_text, moment_text, timer_text, port_text, latch_text, memory_text};
+ghost use Rattle.trace_print.specs.DumpLines.{cycles_text, thread_text, held_text};
+ghost use Rattle.trace_print.specs.DumpLines.{stage_text, word_text, words_text};
+ghost use Rattle.trace_print.specs.DumpLines.{thread_words_text, moment_text, timer_text};
+ghost use Rattle.trace_print.specs.DumpLines.{port_text, latch_text, memory_text};
 
 use crate::digits::{push_decimal, push_hex, push_word};
 use arrayvec::ArrayString;
 
 /// What a stage holds, as a dump shows it.
 #[derive(Clone, Copy, Debug)]
-pub enum Held {
+pub enum StageContent {
     /// No turn.
     Nothing,
     /// The picked thread, of which it isn't shown whether its turn will be flushed.
@@ -35,7 +38,7 @@ pub fn cycles_line(n: u64) -> ArrayString<96>
 
 /// The line of a stage: its name, of at most 16 bytes, and what it holds.
 #[tactic(auto, unfolding(crate::specs::DumpLines::stage_text))]
-pub fn stage_line(name: &str, held: &Held) -> ArrayString<96>
+pub fn stage_line(name: &str, held: &StageContent) -> ArrayString<96>
     requires { length name.now ≤ 16 }
     ensures { result.bytes ≡ stage_text name.now held.now }
 {
@@ -146,19 +149,19 @@ fn push_thread(text: &mut ArrayString<96>, thread: u8)
 
 /// Appends what a stage holds.
 #[tactic(auto, unfolding(crate::specs::DumpLines::held_text))]
-fn push_held(text: &mut ArrayString<96>, held: &Held)
+fn push_held(text: &mut ArrayString<96>, held: &StageContent)
     requires room { array_string_len text.old + 22 ≤ 96 }
     ensures text { text.new.bytes ≡ text.old.bytes ++ held_text held.now }
     ensures len { array_string_len text.new ≤ array_string_len text.old + 22 }
 {
     match *held {
-        Held::Nothing => text.push_str("-"),
-        Held::Picked { thread } => push_thread(text, thread),
-        Held::Flushed { thread } => {
+        StageContent::Nothing => text.push_str("-"),
+        StageContent::Picked { thread } => push_thread(text, thread),
+        StageContent::Flushed { thread } => {
             push_thread(text, thread);
             text.push_str(" flushed");
         }
-        Held::Issue { thread, pc, word } => {
+        StageContent::Issue { thread, pc, word } => {
             push_thread(text, thread);
             text.push_str(" ");
             push_word(text, pc);

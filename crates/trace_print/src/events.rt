@@ -3,7 +3,8 @@
 ghost use Rattle.std.specs.Prelude.{◌≡◌, ◌+◌, ◌<◌, ◌≤◌, ◌++◌};
 ghost use Rattle.arrayvec.specs.ArrayString.{array_string_len};
 ghost use Rattle.rv_exec.specs.Line.{IsPrintable};
-ghost use Rattle.trace_print.specs.Text.{register_text, store_text, csr_text, trap_text, effect_text, line_text};
+ghost use Rattle.trace_print.specs.Text.{register_text, store_text, csr_text};
+ghost use Rattle.trace_print.specs.Text.{trap_text, effect_text, line_text};
 
 use crate::digits::{push_decimal, push_hex, push_right, push_two_digits, push_word};
 use arrayvec::ArrayString;

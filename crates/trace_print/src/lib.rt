@@ -14,7 +14,7 @@ mod refusals;
 pub use bounds::bound_line;
 pub use digits::{push_decimal, push_hex, push_right, push_word};
 pub use dump_lines::{
-    Held, cycles_line, latch_line, memory_line, stage_line, thread_words_line, timer_line,
+    StageContent, cycles_line, latch_line, memory_line, stage_line, thread_words_line, timer_line,
     word_line,
 };
 pub use event_line::EventLine;

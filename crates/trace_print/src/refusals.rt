@@ -2,7 +2,9 @@
 
 ghost use Rattle.std.specs.Prelude.{◌≡◌, ◌+◌, ◌≤◌, ◌++◌, length, codes, decimal};
 ghost use Rattle.arrayvec.specs.ArrayString.{array_string_len};
-ghost use Rattle.trace_print.specs.Refusals.{name_of, setup_names, section_names, image_names, source_names, bound_names, routine_names, bound_value, code_text, refusal_text};
+ghost use Rattle.trace_print.specs.Refusals.{name_of, setup_names, section_names, image_names};
+ghost use Rattle.trace_print.specs.Refusals.{source_names, bound_names, routine_names};
+ghost use Rattle.trace_print.specs.Refusals.{bound_value, code_text, refusal_text};
 
 use crate::digits::{push_decimal, push_hex};
 use crate::places::push_place;

@@ -30,4 +30,5 @@ guard i d size p = record { i = i; d = d; size = size; sized = p }
 -- guards with the same words are the same
 pub same_guard : (i j d e size : ℕ) (p q : IsSize size) → i ≡ j → d ≡ e →
     guard i d size p ≡ guard j e size q
-same_guard i j d e size p q h k = λ t. record { i = h t; d = k t; size = size; sized = IsSize-prop size p q t }
+same_guard i j d e size p q h k =
+    λ t. record { i = h t; d = k t; size = size; sized = IsSize-prop size p q t }

@@ -1,11 +1,13 @@
 -- An access to a register by its number: when it is refused, what it answers and what it writes.
-use Rattle.std.specs.Prelude.{ℕ, ◌==◌, Bool, not, ◌&&◌, if◌then◌else◌, List, slice_set, Option, Some, None, Result, Ok, Err}
-use Rattle.rv_decode.specs.CsrNumbers.{csr_mhartid, csr_slots, csr_modes, csr_dregions, csr_iregions}
+use Rattle.std.specs.Prelude.{ℕ, ◌==◌, Bool, not, ◌&&◌, if◌then◌else◌, List}
+use Rattle.std.specs.Prelude.{slice_set, Option, Some, None, Result, Ok, Err}
+use Rattle.rv_decode.specs.CsrNumbers.{csr_mhartid, csr_slots, csr_modes}
+use Rattle.rv_decode.specs.CsrNumbers.{csr_dregions, csr_iregions}
 use Rattle.region_guard.specs.declared.access.Guard.{Guard}
 use Rattle.slot_scheduler.specs.declared.picking.Sched.{Sched}
 use Rattle.core_model.specs.declared.own.Trapping.{Trapping}
 use Rattle.core_model.specs.declared.own.CsrOp.{CsrOp}
-use Rattle.core_model.specs.Csr.{is_shared, csr_value, changed, may_hold, kept, with_csr}
+use Rattle.core_model.specs.Csr.{is_shared, csr_value, csr_update, may_hold, legal_value, with_csr}
 use Rattle.trap_unit.specs.declared.unit.CsrDone.{CsrDone}
 use Rattle.trap_unit.specs.declared.unit.CsrNo.{CsrNo}
 use Rattle.trap_unit.specs.declared.unit.CsrNo.TheVariants.{Unknown, NoPermit, ReadOnly, BadValue}
@@ -21,12 +23,16 @@ shared_value s g csr =
 
 -- a register by its number, none where the number is none
 unfoldable pub value_by : List Trapping → Sched → Guard → ℕ → ℕ → Option ℕ
-value_by traps s g thread csr = csr_value thread (with_trap (trap_of traps thread)) csr (Some (shared_value s g csr))
+value_by traps s g thread csr =
+    csr_value thread (with_trap (trap_of traps thread)) csr (Some (shared_value s g csr))
 
 -- the old value, and the value that is written, as the register keeps it
 abbrev pub done_with : CsrOp → ℕ → ℕ → Bool → ℕ → CsrDone
 done_with op csr operand writes old =
-    record { old = old; written = if writes then Some (kept csr (changed op old operand)) else None }
+    record {
+      old = old;
+      written = if writes then Some (legal_value csr (csr_update op old operand)) else None;
+    }
 
 -- the answer of an access, by the register's old value: the first of the refusals that holds, else
 -- what is done. mhartid (0xF14) takes no write
@@ -35,7 +41,7 @@ answer_by permit op csr operand writes None = Err Unknown
 answer_by permit op csr operand writes (Some old) =
     if is_shared csr && not permit then Err NoPermit
     else if csr == csr_mhartid && writes then Err ReadOnly
-    else if writes && not (may_hold csr (changed op old operand)) then Err BadValue
+    else if writes && not (may_hold csr (csr_update op old operand)) then Err BadValue
     else Ok (done_with op csr operand writes old)
 
 -- the value that an access writes, if it writes one
@@ -46,7 +52,8 @@ written_in (Err refusal) = None
 -- the threads' registers after a write to one of them; other numbers change nothing of them
 abbrev pub traps_after : List Trapping → ℕ → ℕ → Option ℕ → List Trapping
 traps_after traps thread csr None = traps
-traps_after traps thread csr (Some value) = slice_set traps thread (with_csr (with_trap (trap_of traps thread)) csr value).trap
+traps_after traps thread csr (Some value) =
+    slice_set traps thread (with_csr (with_trap (trap_of traps thread)) csr value).trap
 
 -- slots and modes after a write to one of them; other numbers change nothing of them
 abbrev pub sched_after : Sched → ℕ → Option ℕ → Sched

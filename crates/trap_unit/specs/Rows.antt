@@ -4,7 +4,7 @@ use Rattle.rv_decode.specs.CsrNumbers.{csr_mtvec, csr_mscratch, csr_mepc, csr_mc
 use Rattle.core_model.specs.declared.own.Trapping.{Trapping}
 use Rattle.core_model.specs.declared.own.Own.{Own}
 use Rattle.core_model.specs.Thread.{no_own}
-use Rattle.core_model.specs.Csr.{kept}
+use Rattle.core_model.specs.Csr.{legal_value}
 
 -- a thread's trap registers at the start
 abbrev pub no_trap : Trapping
@@ -27,5 +27,5 @@ abbrev pub with_trap : Trapping → Own
 with_trap trap = record no_own { trap = trap }
 
 -- a thread's trap registers once a trap has saved the pc and the cause
-abbrev pub entered : Trapping → ℕ → ℕ → Trapping
-entered trap cause epc = record trap { mepc = kept csr_mepc epc; mcause = cause }
+abbrev pub trap_entry : Trapping → ℕ → ℕ → Trapping
+trap_entry trap cause epc = record trap { mepc = legal_value csr_mepc epc; mcause = cause }

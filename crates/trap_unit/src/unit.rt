@@ -1,9 +1,11 @@
 //! The trap registers of the eight threads.
 
 ghost use Rattle.std.specs.Prelude.{◌≡◌, ◌<◌, ◌%◌, Some, IsTrue, length, replicate, slice_set};
-ghost use Rattle.core_model.specs.Csr.{csr_value, may_hold, kept};
-ghost use Rattle.trap_unit.specs.Rows.{no_trap, trap_of, is_trap, with_trap, entered, IsAlignedTrap};
-ghost use Rattle.trap_unit.specs.Access.{value_by, answer_by, written_in, traps_after, sched_after, guard_after};
+ghost use Rattle.core_model.specs.Csr.{csr_value, may_hold, legal_value};
+ghost use Rattle.trap_unit.specs.Rows.{no_trap, trap_of, is_trap};
+ghost use Rattle.trap_unit.specs.Rows.{with_trap, trap_entry, IsAlignedTrap};
+ghost use Rattle.trap_unit.specs.Access.{value_by, answer_by, written_in};
+ghost use Rattle.trap_unit.specs.Access.{traps_after, sched_after, guard_after};
 
 use crate::shared::{read_shared, write_shared};
 use crate::word::{change, keep, may_hold};
@@ -115,14 +117,12 @@ impl Traps {
 
     /// A trap: it saves the pc, whose two low bits mepc doesn't keep, and the cause. The answer is
     /// mtvec, where the thread goes on.
-    #[cold]
-    #[inline(never)]
     pub fn enter(&mut self, thread: u8, cause: u8, epc: u32) -> u32
         requires { thread < 8 }
         ensures target { result ≡ (trap_of self.old thread).mtvec }
         ensures aligned { result % 4 ≡ 0 }
         ensures row { self.new ≡ slice_set self.old thread
-            (entered (trap_of self.old thread) cause epc) }
+            (trap_entry (trap_of self.old thread) cause epc) }
         ensures eight { length self.new ≡ 8 }
     {
         let row = self.row(thread);
@@ -166,7 +166,7 @@ impl Traps {
     /// Gives one of the thread's own registers a value that it keeps. Other numbers change nothing.
     fn put(&mut self, thread: u8, csr: u16, value: u32)
         requires thread { thread < 8 }
-        requires kept { kept csr value ≡ value }
+        requires kept { legal_value csr value ≡ value }
         ensures { self.new ≡ traps_after self.old thread csr (Some value) }
     {
         let row = self.row(thread);
@@ -196,8 +196,6 @@ impl Traps {
     ///
     /// [`CsrNo`] by the first of its causes that holds; nothing changes then.
     #[tactic(auto, using(crate::proofs::Aligned::held_as_kept))]
-    #[cold]
-    #[inline(never)]
     pub fn access(
         &mut self,
         sched: &mut Sched,

@@ -1,7 +1,7 @@
 //! The word that an access writes: what the register would hold, whether it may, and what it keeps.
 
 ghost use Rattle.std.specs.Prelude.{◌≡◌};
-ghost use Rattle.core_model.specs.Csr.{changed, may_hold, kept};
+ghost use Rattle.core_model.specs.Csr.{csr_update, may_hold, legal_value};
 
 use core_model::CsrOp;
 use region_guard::Regions;
@@ -11,9 +11,9 @@ use slot_scheduler::Modes;
 use slot_table::SlotTable;
 
 /// The word that an access writes, from the old one and the operand.
-#[tactic(auto, unfolding(core_model::specs::Csr::changed))]
+#[tactic(auto, unfolding(core_model::specs::Csr::csr_update))]
 pub(crate) fn change(op: CsrOp, old: u32, operand: u32) -> u32
-    ensures { result ≡ changed op old operand }
+    ensures { result ≡ csr_update op old operand }
 {
     match op {
         CsrOp::Swap => operand,
@@ -39,7 +39,7 @@ pub(crate) fn may_hold(csr: u16, word: u32) -> bool
 
 /// The word as a register keeps it: mtvec and mepc without the two low bits.
 pub(crate) fn keep(csr: u16, word: u32) -> u32
-    ensures { result ≡ kept csr word }
+    ensures { result ≡ legal_value csr word }
 {
     if csr == csr::MTVEC || csr == csr::MEPC {
         word / 4 * 4

@@ -162,7 +162,7 @@ fn push_loops(text: &mut RowText, loops: &[LoopSetup]) {
     }
 }
 
-#[tactic(auto, unfolding(slot_table::specs::Table::is_table, region_guard::specs::RegionsWord::is_regions, nibble_word::specs::Nibbles::nibbles))]
+#[tactic(auto, unfolding(crate::proofs::Opened::setup_words))]
 fn push_words(text: &mut RowText, alloc: Global) {
     let setup = Setup::of_words(
         alloc,

@@ -9,7 +9,7 @@ use row_text::RowText;
 use slot_scheduler::{Modes, Pick, Sched, Scheduler};
 use slot_table::SlotTable;
 use std::alloc::Global;
-use timer_unit::{Clock, moment};
+use timer_unit::{Clock, LAST_TIMED_CYCLE, moment};
 
 /// `turn SLOTS CYCLE`, `mode MODES THREAD`, `picks SLOTS MODES SLEEP`, `regions REGIONS`, `access
 /// SIZE THREAD CONFINED ADDRESS BYTES`, `time PERIOD CYCLE`, `moment HIGH LOW`, and the calls of
@@ -99,7 +99,7 @@ fn push_access(text: &mut RowText, n: &[u64; 8]) {
 
 /// The time of a cycle.
 fn push_time(text: &mut RowText, period: u32, cycle: u64) {
-    if !(1..=1000).contains(&period) || cycle > 4_000_000_010 {
+    if !(1..=1000).contains(&period) || cycle > LAST_TIMED_CYCLE {
         return text.push_str("no time");
     }
     write!(text, "{}", Clock::new(period).now(cycle))

@@ -4,4 +4,6 @@ use Rattle.std.proofs.lemmas.Slice.Eq.{slice_eq-Decides}
 use Rattle.beside_loads.proofs.have_same.Goals as goal
 
 pub returns : goal.returns
-returns c = λ same. (slice_eq-Decides Decides-eqb _ _ _ c.eq.ensures).1 (c.bytes.ensures ∙ (same ∙ sym c.bytes-2.ensures))
+returns c =
+    λ same. (slice_eq-Decides Decides-eqb _ _ _ c.eq.ensures).1
+    (c.bytes.ensures ∙ (same ∙ sym c.bytes-2.ensures))

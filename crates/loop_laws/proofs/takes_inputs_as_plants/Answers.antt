@@ -2,4 +2,5 @@ use Rattle.loop_laws.proofs.Inputs.{inputs-answer, inputs-are-loops, phased-inpu
 use Rattle.loop_laws.proofs.takes_inputs_as_plants.Goals as goal
 
 pub returns : goal.returns
-returns c = record { answered = inputs-answer; alone = inputs-are-loops; phased = phased-inputs-are-loops }
+returns c =
+    record { answered = inputs-answer; alone = inputs-are-loops; phased = phased-inputs-are-loops }

@@ -2,7 +2,8 @@ use Rattle.std.proofs.Common.{arith}
 use Rattle.std.proofs.lemmas.Grind.{common_steps}
 use Rattle.ask_words.proofs.commands.calls.Goals as goal
 
-pub returns-in_ok-setup-in-Some-Some-Some-clause-asked : goal.returns-in_ok-setup-in-Some-Some-Some-clause-asked
+pub returns-in_ok-setup-in-Some-Some-Some-clause-asked :
+    goal.returns-in_ok-setup-in-Some-Some-Some-clause-asked
 returns-in_ok-setup-in-Some-Some-Some-clause-asked c = grind (arith, common_steps)
 
 pub returns-in_default-clause-refused : goal.returns-in_default-clause-refused

@@ -1,6 +1,9 @@
-use Rattle.std.proofs.Common.{◌≡◌, ◌∙◌, ◌+◌, ◌<◌, ◌≤◌, ◌∷◌, [], List, ℕ, Option, rules, ap, sym, map, length, string_bytes, true, false, Some, None, drop, option_map, arith, subst, if◌then◌else◌}
+use Rattle.std.proofs.Common.{◌≡◌, ◌∙◌, ◌+◌, ◌<◌, ◌≤◌, ◌∷◌, [], List, ℕ, Option, rules}
+use Rattle.std.proofs.Common.{ap, sym, map, length, string_bytes, true, false, Some}
+use Rattle.std.proofs.Common.{None, drop, option_map, arith, subst, if◌then◌else◌}
 use Rattle.ask_words.specs.Code.{form_value, count_in, is_bad_form, gives_to, opened_by}
-use Rattle.ask_words.proofs.Counts.{plus, after_word, after_bad, at_end, at_end_waiting, left_of, none_left, one_at_most}
+use Rattle.ask_words.proofs.Counts.{plus, after_word, after_bad, at_end}
+use Rattle.ask_words.proofs.Counts.{at_end_waiting, left_of, none_left, one_at_most}
 use Rattle.ask_words.proofs.given.times_given.Goals as goal
 
 pub returns-then-is_bad : goal.returns-then-is_bad
@@ -19,7 +22,8 @@ returns-then-is_bad c =
     let wrong : is_bad_form f ≡ true = search rules in
     sym
     (c.loop-word.invariant.times
-    ∙ (ap (λ (ws : List (List ℕ)). plus times (count_in names name waiting ws)) (split ∙ ap (λ (w : List ℕ). w ∷ rest) is)
+    ∙ (ap (λ (ws : List (List ℕ)). plus times (count_in names name waiting ws))
+    (split ∙ ap (λ (w : List ℕ). w ∷ rest) is)
     ∙ ap (plus times) (after_bad names name word rest waiting f c.form_of-form.ensures wrong)))
 
 pub loop-word-preserved : goal.loop-word-preserved
@@ -41,11 +45,14 @@ loop-word-preserved c =
     let few : c.from-times.result ≤ 1 = subst (λ (k : ℕ). k ≤ 1) one most in
     let small = c.loop-word.invariant.small in
     record {
-      times = c.loop-word.invariant.times
-          ∙ (ap (λ (ws : List (List ℕ)). plus times (count_in names name waiting ws)) (split ∙ ap (λ (w : List ℕ). w ∷ rest) is)
+      times =
+          c.loop-word.invariant.times
+          ∙ (ap (λ (ws : List (List ℕ)). plus times (count_in names name waiting ws))
+          (split ∙ ap (λ (w : List ℕ). w ∷ rest) is)
           ∙ (after_word names name word rest waiting f times c.form_of-form.ensures good
           ∙ (ap (λ (k : ℕ). plus (times + k) (count_in names name (opened_by f) rest)) one
-          ∙ ap (λ (o : Option (List ℕ)). plus (times + c.from-times.result) (count_in names name o rest)) (sym c.opened-waiting.ensures))));
+          ∙ ap (λ (o : Option (List ℕ)). plus (times + c.from-times.result)
+          (count_in names name o rest)) (sym c.opened-waiting.ensures))));
       small = omega (arith, few, small);
     }
 
@@ -57,8 +64,11 @@ returns-in-Some c =
     let over : length c.args.words.now ≤ c.loop-word.word-index = omega arith in
     let waiting = option_map (λ n. n.now) c.loop-word.waiting in
     let none = none_left string_bytes c.args.words.now c.loop-word.word-index over in
-    let end : count_in names name waiting [] ≡ None = ap (λ o. count_in names name (option_map (λ n. n.now) o) []) c.in-Some.is ∙ at_end_waiting names name c.in-Some.field-0.now in
-    sym (c.loop-word.invariant.times ∙ ap (λ (ws : List (List ℕ)). plus times (count_in names name waiting ws)) none ∙ ap (plus times) end)
+    let end : count_in names name waiting [] ≡ None =
+    ap (λ o. count_in names name (option_map (λ n. n.now) o) []) c.in-Some.is
+    ∙ at_end_waiting names name c.in-Some.field-0.now in
+    sym (c.loop-word.invariant.times ∙ ap (λ (ws : List (List ℕ)).
+    plus times (count_in names name waiting ws)) none ∙ ap (plus times) end)
 
 pub returns-in-None : goal.returns-in-None
 returns-in-None c =
@@ -68,6 +78,8 @@ returns-in-None c =
     let over : length c.args.words.now ≤ c.loop-word.word-index = omega arith in
     let waiting = option_map (λ n. n.now) c.loop-word.waiting in
     let none = none_left string_bytes c.args.words.now c.loop-word.word-index over in
-    let end : count_in names name waiting [] ≡ Some 0 = ap (λ o. count_in names name (option_map (λ n. n.now) o) []) c.in-None.is ∙ at_end names name in
+    let end : count_in names name waiting [] ≡ Some 0 =
+    ap (λ o. count_in names name (option_map (λ n. n.now) o) []) c.in-None.is ∙ at_end names name in
     let same : times + 0 ≡ times = omega arith in
-    sym (c.loop-word.invariant.times ∙ ap (λ (ws : List (List ℕ)). plus times (count_in names name waiting ws)) none ∙ ap (plus times) end ∙ ap Some same)
+    sym (c.loop-word.invariant.times ∙ ap (λ (ws : List (List ℕ)).
+    plus times (count_in names name waiting ws)) none ∙ ap (plus times) end ∙ ap Some same)

@@ -6,4 +6,6 @@ use Rattle.ask_words.proofs.Built.{and_option}
 use Rattle.ask_words.proofs.parse.command_of.Given as goal
 
 abbrev pub invariant-loop-option : goal.invariant-loop-option
-invariant-loop-option l = app l.name (map (λ n. n.now) l.options) ≡ fold and_option (app_of l.command) (map (λ n. n.now) (drop l.option-index l.options))
+invariant-loop-option l =
+    app l.name (map (λ n. n.now) l.options)
+    ≡ fold and_option (app_of l.command) (map (λ n. n.now) (drop l.option-index l.options))

@@ -11,12 +11,18 @@ use Rattle.ask_words.specs.Rules.{shaped}
 use Rattle.ask_words.proofs.parse.named_command.Goals as goal
 
 -- a new command whose words are all arguments
-app_of_new : (old new : Command-F Command) (name : Text) → new ≡ record old { no_binary_name = true } → app_of_fields old ≡ new_app name → app_of_fields new ≡ shaped name []
-app_of_new old new name changed named = ap app_of_fields changed ∙ ap (λ (a : App). record a { top = record a.top { no_binary_name = true } }) named
+app_of_new : (old new : Command-F Command) (name : Text) →
+    new ≡ record old { no_binary_name = true } → app_of_fields old ≡ new_app name →
+    app_of_fields new ≡ shaped name []
+app_of_new old new name changed named =
+    ap app_of_fields changed
+    ∙ ap (λ (a : App). record a { top = record a.top { no_binary_name = true } }) named
 
 pub returns : goal.returns
 returns c =
     let command = c.no_binary_name.result in
     let file = c.required_argument-file in
-    let named = app_of_new (out-Command c.new.result) (out-Command command) c.args.name.now c.no_binary_name.ensures c.new.ensures.app in
-    IfOk-weaker c.arg.result (AddsArg command file.result) _ (λ r added. added.shape file.ensures.local ∙ ap₂ with_rule named file.ensures.rule) c.arg.ensures
+    let named = app_of_new (out-Command c.new.result)
+    (out-Command command) c.args.name.now c.no_binary_name.ensures c.new.ensures.app in
+    IfOk-weaker c.arg.result (AddsArg command file.result) _ (λ r added.
+    added.shape file.ensures.local ∙ ap₂ with_rule named file.ensures.rule) c.arg.ensures

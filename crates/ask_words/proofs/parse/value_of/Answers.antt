@@ -6,5 +6,7 @@ use Rattle.ask_words.proofs.parse.value_of.Goals as goal
 
 pub returns : goal.returns
 returns c =
-    let found = c.get_str.ensures ∙ first_value-rows (found_of c.args.matches.now) c.args.name.now in
-    ap (λ (b : Bor (List ℕ)). b.now) c.unwrap_or.ensures ∙ (text_or c.get_str.result _ refl ∙ ap (λ (o : Option (List ℕ)). unwrap_or o []) found)
+    let found =
+    c.get_str.ensures ∙ first_value-rows (found_of c.args.matches.now) c.args.name.now in
+    ap (λ (b : Bor (List ℕ)). b.now) c.unwrap_or.ensures
+    ∙ (text_or c.get_str.result _ refl ∙ ap (λ (o : Option (List ℕ)). unwrap_or o []) found)

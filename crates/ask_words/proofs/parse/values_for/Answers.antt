@@ -7,5 +7,6 @@ pub returns : goal.returns
 returns c =
     let words = map string_bytes c.args.words.now in
     let names = map (λ n. n.now) c.args.options.now in
-    let found = texts_found c.args.name.now names words _ c.requires.fit c.requires.given c.in_ok-matches.ensures in
+    let found = texts_found c.args.name.now names words _
+    c.requires.fit c.requires.given c.in_ok-matches.ensures in
     IfOk-weaker c.values_of.result _ _ (λ v e. found ∙ ap Some (sym e)) c.values_of.ensures

@@ -4,11 +4,24 @@ use Rattle.bound_calc.proofs.AdvanceLaws.{advance-more, advance-start, best-adva
 use Rattle.bound_calc.proofs.advance.advance.Goals as goal
 
 pub loop-r-init : goal.loop-r-init
-loop-r-init c = λ p h. advance-start (slice_index_or c.args.here.now.best p []) c.args.hops.now.hops (slice_index_or c.args.onto.now.best p [])
+loop-r-init c =
+    λ p h. advance-start (slice_index_or c.args.here.now.best p []) c.args.hops.now.hops
+    (slice_index_or c.args.onto.now.best p [])
 
 pub loop-r-preserved : goal.loop-r-preserved
-loop-r-preserved c = λ p h. subst (IsAdvanced (slice_index_or c.args.here.now.best p []) c.args.hops.now.hops (c.loop-r.r + 1) (slice_index_or c.args.onto.now.best p [])) (sym (c.advance_column.ensures.raised p h))
-    (advance-more (slice_index_or c.args.here.now.best p []) c.args.hops.now.hops c.loop-r.r (slice_index_or c.args.onto.now.best p []) (slice_index_or c.loop-r.onto.best p []) (λ p d q h. (c.requires.positions p d q h).1) (λ hop is. c.advance_column.ensures.long hop is p h) (c.loop-r.invariant p h))
+loop-r-preserved c =
+    λ p h. subst (IsAdvanced (slice_index_or c.args.here.now.best p []) c.args.hops.now.hops
+    (c.loop-r.r + 1) (slice_index_or c.args.onto.now.best p []))
+    (sym (c.advance_column.ensures.raised p h))
+    (advance-more (slice_index_or c.args.here.now.best p []) c.args.hops.now.hops c.loop-r.r
+    (slice_index_or c.args.onto.now.best p []) (slice_index_or c.loop-r.onto.best p [])
+    (λ p d q h. (c.requires.positions p d q h).1)
+    (λ hop is. c.advance_column.ensures.long hop is p h) (c.loop-r.invariant p h))
 
 pub returns : goal.returns
-returns c = best-advanced c.args.here.now c.args.onto.now c.loop-r.onto c.args.hops.now.hops c.requires.positions (λ p h. let all : c.loop-r.r ≡ 8 = omega arith in subst (λ n. IsAdvanced (slice_index_or c.args.here.now.best p []) c.args.hops.now.hops n (slice_index_or c.args.onto.now.best p []) (slice_index_or c.loop-r.onto.best p [])) all (c.loop-r.invariant p h))
+returns c =
+    best-advanced c.args.here.now c.args.onto.now c.loop-r.onto c.args.hops.now.hops
+    c.requires.positions (λ p h. let all : c.loop-r.r ≡ 8 = omega arith in
+    subst (λ n. IsAdvanced (slice_index_or c.args.here.now.best p []) c.args.hops.now.hops n
+    (slice_index_or c.args.onto.now.best p []) (slice_index_or c.loop-r.onto.best p [])) all
+    (c.loop-r.invariant p h))

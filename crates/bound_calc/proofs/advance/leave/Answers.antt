@@ -6,7 +6,11 @@ pub loop-p-init : goal.loop-p-init
 loop-p-init c = left-start c.args.here.now c.args.hops.now.hops c.args.most
 
 pub loop-p-preserved : goal.loop-p-preserved
-loop-p-preserved c = left-more c.args.here.now c.args.hops.now.hops c.loop-p.p c.args.most c.loop-p.farthest c.leave_row-farthest.result c.loop-p.invariant c.leave_row-farthest.ensures
+loop-p-preserved c =
+    left-more c.args.here.now c.args.hops.now.hops c.loop-p.p c.args.most c.loop-p.farthest
+    c.leave_row-farthest.result c.loop-p.invariant c.leave_row-farthest.ensures
 
 pub returns : goal.returns
-returns c = left-all c.args.here.now c.args.hops.now.hops c.loop-p.p c.args.most c.loop-p.farthest (omega arith) c.loop-p.invariant (omega arith)
+returns c =
+    left-all c.args.here.now c.args.hops.now.hops c.loop-p.p c.args.most c.loop-p.farthest
+    (omega arith) c.loop-p.invariant (omega arith)

@@ -4,10 +4,17 @@ use Rattle.bound_calc.proofs.AdvanceLaws.{farthest-more}
 use Rattle.bound_calc.proofs.advance.leave_row.Goals as goal
 
 pub loop-r-init : goal.loop-r-init
-loop-r-init c = record { stays = omega arith; upper = λ r x d q lt is h. absurd (omega arith); met = inl refl }
+loop-r-init c =
+    record { stays = omega arith; upper = λ r x d q lt is h. absurd (omega arith); met = inl refl }
 
 pub loop-r-preserved : goal.loop-r-preserved
-loop-r-preserved c = farthest-more c.args.row.now c.args.hops.now.hops c.loop-r.r c.args.most c.loop-r.farthest c.leave_one-farthest.result c.loop-r.invariant c.leave_one-farthest.ensures.stays c.leave_one-farthest.ensures.upper c.leave_one-farthest.ensures.met
+loop-r-preserved c =
+    farthest-more c.args.row.now c.args.hops.now.hops c.loop-r.r c.args.most c.loop-r.farthest
+    c.leave_one-farthest.result c.loop-r.invariant c.leave_one-farthest.ensures.stays
+    c.leave_one-farthest.ensures.upper c.leave_one-farthest.ensures.met
 
 pub returns : goal.returns
-returns c = let all : c.loop-r.r ≡ 8 = omega arith in subst (λ n. IsFarthest c.args.row.now c.args.hops.now.hops n c.args.most c.loop-r.farthest) all c.loop-r.invariant
+returns c =
+    let all : c.loop-r.r ≡ 8 = omega arith in
+    subst (λ n. IsFarthest c.args.row.now c.args.hops.now.hops n c.args.most c.loop-r.farthest) all
+    c.loop-r.invariant

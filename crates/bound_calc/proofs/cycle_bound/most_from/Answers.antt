@@ -1,5 +1,5 @@
 use Rattle.std.proofs.Common.{subst}
-use Rattle.bound_calc.specs.Passing.{IsOut}
+use Rattle.bound_calc.specs.Propagation.{IsOut}
 use Rattle.bound_calc.proofs.cycle_bound.most_from.Goals as goal
 
 pub returns : goal.returns
@@ -10,6 +10,10 @@ returns c =
       inner = c.largest-inside.result;
       next = c.most_out-next.result;
       largest = c.largest-inside.ensures;
-      by_next = subst (λ out. IsOut o here out c.args.edges.now.next_lag c.largest-inside.result c.most_out-next.result) c.is_out-out.ensures c.most_out-next.ensures;
-      by_jump = subst (λ out. IsOut o here out 3 c.most_out-next.result c.most_out.result) c.is_out.ensures c.most_out.ensures;
+      by_next =
+          subst (λ out. IsOut o here out c.args.edges.now.next_lag c.largest-inside.result
+          c.most_out-next.result) c.is_out-out.ensures c.most_out-next.ensures;
+      by_jump =
+          subst (λ out. IsOut o here out 3 c.most_out-next.result c.most_out.result)
+          c.is_out.ensures c.most_out.ensures;
     }

@@ -1,11 +1,18 @@
 use Rattle.std.proofs.Common.{subst, sym}
-use Rattle.bound_calc.specs.Passing.{IsOut}
+use Rattle.bound_calc.specs.Propagation.{IsOut}
 use Rattle.bound_calc.proofs.MostLaws.{out-left}
 use Rattle.bound_calc.proofs.PassLaws.{hops-positions}
 use Rattle.bound_calc.proofs.cycle_bound.most_out.Goals as goal
 
 pub leave-requires : goal.leave-requires
-leave-requires c = record { positions = hops-positions c.args.steps.now c.args.lag c.hops.result.now.hops c.hops.ensures.frame c.hops.ensures.hops }
+leave-requires c = record {
+  positions =
+      hops-positions c.args.steps.now c.args.lag c.hops.result.now.hops c.hops.ensures.frame
+      c.hops.ensures.hops;
+}
 
 pub returns-then-out : goal.returns-then-out
-returns-then-out c = subst (λ out. IsOut c.args.steps.now c.args.here.now out c.args.lag c.args.most c.leave.result) (sym c.if-out.true) (out-left c.args.steps.now c.args.here.now c.hops.result.now.hops c.args.lag c.args.most c.leave.result c.hops.ensures.hops c.leave.ensures)
+returns-then-out c =
+    subst (λ out. IsOut c.args.steps.now c.args.here.now out c.args.lag c.args.most c.leave.result)
+    (sym c.if-out.true) (out-left c.args.steps.now c.args.here.now c.hops.result.now.hops c.args.lag
+    c.args.most c.leave.result c.hops.ensures.hops c.leave.ensures)

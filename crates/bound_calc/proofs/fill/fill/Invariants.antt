@@ -1,5 +1,5 @@
 use Rattle.std.proofs.Common.{◌≡◌, ◌≤◌, length}
-use Rattle.bound_calc.specs.Passing.{IsFilled, over, ways_on}
+use Rattle.bound_calc.specs.Propagation.{IsFilled, over, ways_on}
 use Rattle.bound_calc.proofs.fill.fill.Given as goal
 
 abbrev pub invariant-loop-index : goal.invariant-loop-index

@@ -6,6 +6,10 @@ pub loop-index-preserved : goal.loop-index-preserved
 loop-index-preserved c =
     let w = c.loop-index.front.waiting.items in
     record {
-      none = λ k a b. cleared w k c.loop-index.index (omega (arith, c.loop-index.invariant.count, c.requires)) (let z : (k < c.loop-index.index) ⊎ (k ≡ c.loop-index.index) = grind arith in z) (λ h. c.loop-index.invariant.none k a h);
+      none =
+          λ k a b.
+          cleared w k c.loop-index.index (omega (arith, c.loop-index.invariant.count, c.requires))
+          (let z : (k < c.loop-index.index) ⊎ (k ≡ c.loop-index.index) = grind arith in z)
+          (λ h. c.loop-index.invariant.none k a h);
       count = length-set w c.loop-index.index None ∙ c.loop-index.invariant.count;
     }

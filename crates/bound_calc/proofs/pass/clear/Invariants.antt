@@ -1,5 +1,5 @@
 use Rattle.std.proofs.Common.{◌≡◌, ℕ, ◌<◌, ◌≤◌, None, length}
-use Rattle.bound_calc.specs.Passing.{power_at}
+use Rattle.bound_calc.specs.Propagation.{power_at}
 use Rattle.bound_calc.proofs.pass.clear.Given as goal
 
 abbrev pub invariant-loop-index : goal.invariant-loop-index

@@ -8,7 +8,8 @@ abbrev pub invariant-loop-cycles : goal.invariant-loop-cycles
 invariant-loop-cycles l = record {
   late : l.lag ≤ l.cycles;
   far : l.cycles ≤ l.lag * length (frame l.slots);
-  first : (e : ℕ) → l.lag ≤ e → e < l.cycles → IsOwn (positions l.slots l.thread) ((l.position + e) % length (frame l.slots)) → ⊥;
+  first : (e : ℕ) → l.lag ≤ e → e < l.cycles →
+      IsOwn (positions l.slots l.thread) ((l.position + e) % length (frame l.slots)) → ⊥;
 }
 
 abbrev pub decreases-loop-cycles : goal.decreases-loop-cycles

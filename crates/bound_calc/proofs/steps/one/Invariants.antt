@@ -8,7 +8,9 @@ abbrev pub invariant-loop-position : goal.invariant-loop-position
 invariant-loop-position l = record {
   count : length l.best ≡ 8;
   rows : (k : ℕ) → k < l.position → record {
-    found : (q d : ℕ) → q < 8 → slice_index_or (slice_index_or l.best k []) q None ≡ Some d → Stays (IsOwn (positions l.slots l.thread)) k d q;
-    all : (q d : ℕ) → Stays (IsOwn (positions l.slots l.thread)) k d q → slice_index_or (slice_index_or l.best k []) q None ≡ Some d;
+    found : (q d : ℕ) → q < 8 → slice_index_or (slice_index_or l.best k []) q None ≡ Some d →
+        Stays (IsOwn (positions l.slots l.thread)) k d q;
+    all : (q d : ℕ) → Stays (IsOwn (positions l.slots l.thread)) k d q →
+        slice_index_or (slice_index_or l.best k []) q None ≡ Some d;
   };
 }

@@ -14,4 +14,8 @@ returns-in_err-done c =
     record { most = no-value r _ _ no; rules = no-success r _ _ no }
 
 pub returns : goal.returns
-returns c = record { most = c.most.ensures; rules = any-success c.most.result _ (let d = c.in_ok-done.ensures.done in (d.listing, d.callable)) }
+returns c = record {
+  most = c.most.ensures;
+  rules =
+      any-success c.most.result _ (let d = c.in_ok-done.ensures.done in (d.listing, d.callable));
+}

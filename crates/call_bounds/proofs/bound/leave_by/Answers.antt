@@ -2,12 +2,18 @@ use Rattle.std.proofs.Common.{◌∙◌, sym}
 use Rattle.std.specs.Option.{option_map}
 use Rattle.bound_calc.specs.Best.{In, Then}
 use Rattle.bound_calc.specs.Matrices.{entry}
-use Rattle.bound_calc.specs.Passing.{leaves, moved}
+use Rattle.bound_calc.specs.Propagation.{leaves, move_costs}
 use Rattle.call_bounds.proofs.AnyLaws.{when-false, when-true}
 use Rattle.call_bounds.proofs.bound.leave_by.Goals as goal
 
 pub returns-then-is_out : goal.returns-then-is_out
-returns-then-is_out c = when-true (Then (In (entry c.args.here.now)) (moved c.args.steps.now (option_map (λ m. m.now) c.args.way) c.args.lag)) (leaves c.args.part.now c.args.target) (sym c.is_out.ensures ∙ c.if-is_out.true) c.along.ensures
+returns-then-is_out c =
+    when-true (Then (In (entry c.args.here.now))
+    (move_costs c.args.steps.now (option_map (λ m. m.now) c.args.way) c.args.lag))
+    (leaves c.args.part.now c.args.target) (sym c.is_out.ensures ∙ c.if-is_out.true) c.along.ensures
 
 pub returns-else-is_out : goal.returns-else-is_out
-returns-else-is_out c = when-false (Then (In (entry c.args.here.now)) (moved c.args.steps.now (option_map (λ m. m.now) c.args.way) c.args.lag)) (leaves c.args.part.now c.args.target) (sym c.is_out.ensures ∙ c.if-is_out.false)
+returns-else-is_out c =
+    when-false (Then (In (entry c.args.here.now))
+    (move_costs c.args.steps.now (option_map (λ m. m.now) c.args.way) c.args.lag))
+    (leaves c.args.part.now c.args.target) (sym c.is_out.ensures ∙ c.if-is_out.false)

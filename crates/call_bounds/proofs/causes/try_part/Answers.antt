@@ -3,10 +3,20 @@ use Rattle.call_bounds.proofs.TreeLaws.{tried-other, tried-refused, tried-tree}
 use Rattle.call_bounds.proofs.causes.try_part.Goals as goal
 
 pub returns-then-not-reached-part-clause-tried : goal.returns-then-not-reached-part-clause-tried
-returns-then-not-reached-part-clause-tried c = tried-other c.args.code.now c.args.part (λ r. let z : false ≡ true = sym c.if-not-reached-part.true ∙ (c.requires.reached.exact c.args.part c.requires.part).1 r in cc)
+returns-then-not-reached-part-clause-tried c =
+    tried-other c.args.code.now c.args.part
+    (λ r. let z : false ≡ true = sym c.if-not-reached-part.true
+    ∙ (c.requires.reached.exact c.args.part c.requires.part).1 r in cc)
 
 pub returns-in-Ok-clause-tried : goal.returns-in-Ok-clause-tried
-returns-in-Ok-clause-tried c = tried-tree c.args.code.now c.args.part c.in-Ok.tree c.tree.ensures.section ((c.requires.reached.exact c.args.part c.requires.part).0 c.if-not-reached-part.false) c.in-Ok.ensures.allowed c.in-Ok.ensures.tree
+returns-in-Ok-clause-tried c =
+    tried-tree c.args.code.now c.args.part c.in-Ok.tree c.tree.ensures.section
+    ((c.requires.reached.exact c.args.part c.requires.part).0 c.if-not-reached-part.false)
+    c.in-Ok.ensures.allowed c.in-Ok.ensures.tree
 
 pub returns-in_ok-of-in-Err-clause-tried : goal.returns-in_ok-of-in-Err-clause-tried
-returns-in_ok-of-in-Err-clause-tried c = tried-refused c.args.code.now c.args.part c.in-Err.no c.in_ok-of-in-Err.field-0 c.tree.ensures.section ((c.requires.reached.exact c.args.part c.requires.part).0 c.if-not-reached-part.false) c.in-Err.ensures.refused c.in_ok-of-in-Err.ensures.known
+returns-in_ok-of-in-Err-clause-tried c =
+    tried-refused c.args.code.now c.args.part c.in-Err.no
+    c.in_ok-of-in-Err.field-0 c.tree.ensures.section
+    ((c.requires.reached.exact c.args.part c.requires.part).0 c.if-not-reached-part.false)
+    c.in-Err.ensures.refused c.in_ok-of-in-Err.ensures.known

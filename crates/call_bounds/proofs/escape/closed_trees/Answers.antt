@@ -9,7 +9,13 @@ returns-in_err-trees c =
     let r = c.from_residual.result in
     let no = c.from_residual.ensures.1 in
     let why = c.in_err-trees.field-0.0 in
-    record { trees = no-value r _ _ no; allowed = no-success r _ _ no; refused = told-as (IsCallRefused x) r why no (tree-refused x why c.requires.allowed c.in_err-trees.ensures.refused) }
+    record {
+      trees = no-value r _ _ no;
+      allowed = no-success r _ _ no;
+      refused =
+          told-as (IsCallRefused x) r why no
+          (tree-refused x why c.requires.allowed c.in_err-trees.ensures.refused);
+    }
 
 pub returns-in-None : goal.returns-in-None
 returns-in-None c =
@@ -17,7 +23,15 @@ returns-in-None c =
     let parts = c.in_ok-trees.ensures.allowed in
     record {
       trees = c.in_ok-trees.ensures.trees;
-      allowed = record { overlap = before.0; recursion = before.1; nesting = parts.0; indirect = parts.1; timed = parts.2; unbounded = parts.3; escape = c.in-None.ensures };
+      allowed = record {
+        overlap = before.0;
+        recursion = before.1;
+        nesting = parts.0;
+        indirect = parts.1;
+        timed = parts.2;
+        unbounded = parts.3;
+        escape = c.in-None.ensures;
+      };
       refused = tt;
     }
 

@@ -2,4 +2,5 @@ use Rattle.call_bounds.specs.Reachability.{Spread}
 use Rattle.call_bounds.proofs.reachability.spread.Given as goal
 
 abbrev pub invariant-loop-callee : goal.invariant-loop-callee
-invariant-loop-callee l = Spread l.count l.table l.part l.callee l.fn.met.items l.met.items l.changed
+invariant-loop-callee l =
+    Spread l.count l.table l.part l.callee l.fn.met.items l.met.items l.changed

@@ -14,8 +14,13 @@ loop-part-preserved c =
     let k = c.loop-part.part in
     let old = c.args.met.now.items in
     let new = c.spread_met-more.new.met.items in
-    let y = sweep-part n t k old c.loop-part.met.items new c.loop-part.changed c.spread_met-more.result c.loop-part.invariant c.spread_met-more.ensures in
+    let y = sweep-part n t k old c.loop-part.met.items new c.loop-part.changed
+    c.spread_met-more.result c.loop-part.invariant c.spread_met-more.ensures in
     elim c.if-more.branch [
-      | then-more w ↦ subst (λ b. Swept n t (k + 1) old new b) (sym w.changed-is) (subst (λ m. Swept n t (k + 1) old new (if m then true else c.loop-part.changed)) w.if-more.true y)
-      | else-more w ↦ subst (λ b. Swept n t (k + 1) old new b) (sym w.changed-is) (subst (λ m. Swept n t (k + 1) old new (if m then true else c.loop-part.changed)) w.if-more.false y)
+      | then-more w ↦
+          subst (λ b. Swept n t (k + 1) old new b) (sym w.changed-is) (subst (λ m.
+          Swept n t (k + 1) old new (if m then true else c.loop-part.changed)) w.if-more.true y)
+      | else-more w ↦
+          subst (λ b. Swept n t (k + 1) old new b) (sym w.changed-is) (subst (λ m.
+          Swept n t (k + 1) old new (if m then true else c.loop-part.changed)) w.if-more.false y)
     ]

@@ -8,7 +8,8 @@ use Rattle.call_bounds.proofs.routines_file.read_routines.Given as goal
 
 abbrev pub invariant-loop-line : goal.invariant-loop-line
 invariant-loop-line l = record {
-  whole : routines_of l.size l.bytes ≡ joined l.items.items (routines_from l.size (suc (length l.items.items)) l.before (lines_of l.line-iterator.rest.now));
+  whole : routines_of l.size l.bytes ≡ joined l.items.items (routines_from l.size
+      (suc (length l.items.items)) l.before (lines_of l.line-iterator.rest.now));
   width : l.line-iterator.size ≡ 18;
   rules : AreRoutines l.items.items;
   end : EndAt l.before l.items.items;

@@ -1,7 +1,7 @@
 use Rattle.std.proofs.Common.{Option, subst}
 use Rattle.bound_calc.specs.Best.{Either, In, IsBest}
 use Rattle.bound_calc.specs.Matrices.{entry}
-use Rattle.bound_calc.specs.Passing.{matrix_at, ways_on}
+use Rattle.bound_calc.specs.Propagation.{matrix_at, ways_on}
 use Rattle.bound_calc.specs.declared.matrix.Matrix.{Matrix}
 use Rattle.bound_calc.proofs.PassLaws.{none-entry}
 use Rattle.call_bounds.specs.Summaries.{EndsAt}
@@ -16,4 +16,6 @@ loop-index-preserved c =
     let into = ways_on c.args.into.now in
     let at = c.args.at.now in
     any-more (λ k. EndsAt (into k) (matrix_at at k)) c.loop-index.index c.loop-index.invariant
-    (subst (λ (w : Option Matrix). IsBest (entry c.end_at-deep.result) (Either (In (entry c.loop-index.deep)) (EndsAt w (matrix_at at c.loop-index.index)))) c.at.ensures c.end_at-deep.ensures)
+    (subst (λ (w : Option Matrix). IsBest (entry c.end_at-deep.result)
+    (Either (In (entry c.loop-index.deep)) (EndsAt w (matrix_at at c.loop-index.index))))
+    c.at.ensures c.end_at-deep.ensures)

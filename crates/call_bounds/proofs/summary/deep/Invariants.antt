@@ -1,6 +1,6 @@
 use Rattle.bound_calc.specs.Best.{IsBest}
 use Rattle.bound_calc.specs.Matrices.{entry}
-use Rattle.bound_calc.specs.Passing.{ways_on}
+use Rattle.bound_calc.specs.Propagation.{ways_on}
 use Rattle.call_bounds.specs.Summaries.{Ending}
 use Rattle.call_bounds.proofs.summary.deep.Given as goal
 

@@ -7,8 +7,13 @@ use Rattle.call_bounds.proofs.AnyLaws.{end-more}
 use Rattle.call_bounds.proofs.summary.end_at.Goals as goal
 
 pub returns-in-None : goal.returns-in-None
-returns-in-None c = subst (λ w. IsBest (entry c.join-ended.result) (Either (In (entry c.args.onto.now)) (EndsAt (option_map (λ m. m.now) w) (entry c.args.here.now)))) (sym c.in-None.is) c.join-ended.ensures.best
+returns-in-None c =
+    subst (λ w. IsBest (entry c.join-ended.result) (Either (In (entry c.args.onto.now))
+    (EndsAt (option_map (λ m. m.now) w) (entry c.args.here.now))))
+    (sym c.in-None.is) c.join-ended.ensures.best
 
 pub returns-in-Some : goal.returns-in-Some
-returns-in-Some c = subst (λ w. IsBest (entry c.join.result) (Either (In (entry c.args.onto.now)) (EndsAt (option_map (λ m. m.now) w) (entry c.args.here.now)))) (sym c.in-Some.is)
+returns-in-Some c =
+    subst (λ w. IsBest (entry c.join.result) (Either (In (entry c.args.onto.now))
+    (EndsAt (option_map (λ m. m.now) w) (entry c.args.here.now)))) (sym c.in-Some.is)
     (end-more c.join-ended.ensures.best c.chain.ensures.best c.join.ensures.best)

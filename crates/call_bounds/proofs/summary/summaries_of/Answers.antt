@@ -4,12 +4,22 @@ use Rattle.call_bounds.proofs.summary.summaries_of.Goals as goal
 
 pub loop-rank-init : goal.loop-rank-init
 loop-rank-init c = record {
-  all = summaries-none c.args.tree.now c.args.steps.now c.part_count-count.result c.in_ok-done.done.through.items c.in_ok-done.done.deep.items c.part_count-count.ensures.listing c.part_count-count.ensures.callable c.part_count-count.ensures.value c.in_ok-done.ensures.0 c.in_ok-done.ensures.1;
-  known = known-none c.args.tree.now c.args.steps.now c.ranks-ranks.result.now c.in_ok-done.done.through.items c.in_ok-done.done.deep.items;
+  all =
+      summaries-none c.args.tree.now c.args.steps.now c.part_count-count.result
+      c.in_ok-done.done.through.items c.in_ok-done.done.deep.items
+      c.part_count-count.ensures.listing c.part_count-count.ensures.callable
+      c.part_count-count.ensures.value c.in_ok-done.ensures.0 c.in_ok-done.ensures.1;
+  known =
+      known-none c.args.tree.now c.args.steps.now c.ranks-ranks.result.now
+      c.in_ok-done.done.through.items c.in_ok-done.done.deep.items;
 }
 
 pub returns-clause-known : goal.returns-clause-known
-returns-clause-known c = known-all c.args.tree.now c.args.steps.now c.ranks-ranks.result.now c.loop-rank.rank c.loop-rank.done.through.items c.loop-rank.done.deep.items c.ranks-ranks.ensures (omega (arith, c.loop-rank-test.false, c.part_count-count.ensures.value)) c.loop-rank.invariant.known
+returns-clause-known c =
+    known-all c.args.tree.now c.args.steps.now c.ranks-ranks.result.now c.loop-rank.rank
+    c.loop-rank.done.through.items c.loop-rank.done.deep.items c.ranks-ranks.ensures
+    (omega (arith, c.loop-rank-test.false, c.part_count-count.ensures.value))
+    c.loop-rank.invariant.known
 
 pub overflow_add-rank-end : goal.overflow_add-rank-end
 overflow_add-rank-end c = omega (arith, c.part_count-count.ensures.few)
@@ -24,7 +34,10 @@ pub summarise_rank-requires-clause-below : goal.summarise_rank-requires-clause-b
 summarise_rank-requires-clause-below c = c.loop-rank.invariant.known
 
 pub loop-rank-preserved : goal.loop-rank-preserved
-loop-rank-preserved c = record { all = c.in_ok-summarise_rank.ensures.done; known = c.in_ok-summarise_rank.ensures.known }
+loop-rank-preserved c = record {
+  all = c.in_ok-summarise_rank.ensures.done;
+  known = c.in_ok-summarise_rank.ensures.known;
+}
 
 pub returns-clause-done : goal.returns-clause-done
 returns-clause-done c = c.loop-rank.invariant.all

@@ -8,7 +8,8 @@ returns-clause-ok g c =
     let over = image_in c.args.size in
     let Cut : ℕ → Type 0 = λ most. IsCut over most in
     let cut = subst Cut (sym c.longest.ensures) (image-cut c.args.size) in
-    ok-over (g.F.Files.told c.args.files.now) c.args.name.now over c.deref.result.now c.in_ok-bytes.bytes.items c.longest.result c.image_in.result
+    ok-over (g.F.Files.told c.args.files.now) c.args.name.now over
+    c.deref.result.now c.in_ok-bytes.bytes.items c.longest.result c.image_in.result
     cut c.in_ok-bytes.ensures.bytes c.deref.ensures.value c.image_in.ensures.ok
 
 pub returns-clause-stop : goal.returns-clause-stop
@@ -16,6 +17,7 @@ returns-clause-stop g c =
     let over = image_in c.args.size in
     let Cut : ℕ → Type 0 = λ most. IsCut over most in
     let cut = subst Cut (sym c.longest.ensures) (image-cut c.args.size) in
-    stop-over (g.F.Files.told c.args.files.now) c.args.name.now over c.deref.result.now c.in_ok-bytes.bytes.items c.longest.result
+    stop-over (g.F.Files.told c.args.files.now) c.args.name.now over
+    c.deref.result.now c.in_ok-bytes.bytes.items c.longest.result
     (g.F.Files.faults c.args.files.now) (g.F.Files.faults c.fetch.new.files) c.image_in.result
     cut c.in_ok-bytes.ensures.bytes c.deref.ensures.value c.image_in.ensures.stop

@@ -1,16 +1,16 @@
 use Rattle.std.proofs.Common.{arith}
 use Rattle.std.proofs.lemmas.Grind.{common_steps}
-use Rattle.fp_asm.specs.First.{sized}
+use Rattle.fp_asm.specs.First.{placed_size}
 use Rattle.fp_asm.proofs.first.sized.Goals as goal
 
 pub returns-in-None-clause-ok : goal.returns-in-None-clause-ok
-unfolding sized
+unfolding placed_size
 returns-in-None-clause-ok c = grind (arith, common_steps)
 
 pub returns-in-Some-clause-ok : goal.returns-in-Some-clause-ok
-unfolding sized
+unfolding placed_size
 returns-in-Some-clause-ok c = grind (arith, common_steps)
 
 pub returns-in_err-statement-clause-refused : goal.returns-in_err-statement-clause-refused
-unfolding sized
+unfolding placed_size
 returns-in_err-statement-clause-refused c = grind (arith, common_steps)

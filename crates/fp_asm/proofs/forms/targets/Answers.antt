@@ -1,7 +1,8 @@
 use Rattle.std.proofs.Common.{◌+◌, length, map, ap, sym, ◌∙◌, arith}
 use Rattle.std.proofs.lemmas.Grind.{common_steps}
-use Rattle.fp_asm.specs.OperandsAsDefined.{target_as_defined}
-use Rattle.fp_asm.proofs.Filling.{targets_from, targets_start, targets_more, targets_none, targets_end}
+use Rattle.fp_asm.specs.AbstractOperands.{abstract_target}
+use Rattle.fp_asm.proofs.Filling.{targets_from, targets_start}
+use Rattle.fp_asm.proofs.Filling.{targets_more, targets_none, targets_end}
 use Rattle.fp_asm.proofs.forms.targets.Goals as goal
 
 pub loop-operand-init : goal.loop-operand-init
@@ -13,7 +14,8 @@ loop-operand-init c = record {
 pub returns-in_default-clause-targets : goal.returns-in_default-clause-targets
 returns-in_default-clause-targets c =
     sym (c.loop-operand.invariant.so_far
-    ∙ targets_none (map target_as_defined c.loop-operand.list.items) c.args.operands.now c.loop-operand.operand-index _ c.loop-operand-test.true (sym c.in_default.ensures))
+    ∙ targets_none (map abstract_target c.loop-operand.list.items) c.args.operands.now
+    c.loop-operand.operand-index _ c.loop-operand-test.true (sym c.in_default.ensures))
 
 pub loop-operand-preserved : goal.loop-operand-preserved
 loop-operand-preserved c =
@@ -22,12 +24,15 @@ loop-operand-preserved c =
     record {
       so_far =
           c.loop-operand.invariant.so_far
-          ∙ (targets_more c.loop-operand.list.items operands i _ c.in-Some.target c.loop-operand-test.true (sym c.in-Some.ensures)
-          ∙ ap (λ list. targets_from (map target_as_defined list) operands (i + 1)) (sym c.in_ok-push.ensures.items));
+          ∙ (targets_more c.loop-operand.list.items operands i _
+          c.in-Some.target c.loop-operand-test.true (sym c.in-Some.ensures)
+          ∙ ap (λ list. targets_from (map abstract_target list) operands (i + 1))
+          (sym c.in_ok-push.ensures.items));
       count = grind (arith, common_steps);
     }
 
 pub returns-clause-targets : goal.returns-clause-targets
 returns-clause-targets c =
     sym (c.loop-operand.invariant.so_far
-    ∙ targets_end (map target_as_defined c.loop-operand.list.items) c.args.operands.now c.loop-operand.operand-index c.loop-operand-test.false)
+    ∙ targets_end (map abstract_target c.loop-operand.list.items) c.args.operands.now
+    c.loop-operand.operand-index c.loop-operand-test.false)

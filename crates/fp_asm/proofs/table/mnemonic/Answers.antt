@@ -9,9 +9,12 @@ returns-in-Some c =
 pub returns-in-Some-row_of : goal.returns-in-Some-row_of
 returns-in-Some-row_of c =
     let text = c.args.text.now in
-    in_second text _ (table_row _ _ text _ c.computing.ensures c.in_default.ensures) (table_row _ _ text _ c.acting.ensures c.in-Some-row_of.ensures)
+    in_second text _ (table_row _ _ text _ c.computing.ensures c.in_default.ensures)
+    (table_row _ _ text _ c.acting.ensures c.in-Some-row_of.ensures)
 
 pub returns : goal.returns
 returns c =
     let text = c.args.text.now in
-    in_third text _ (table_row _ _ text _ c.computing.ensures c.in_default.ensures) (table_row _ _ text _ c.acting.ensures c.in_default-row_of.ensures) (table_row _ _ text _ c.shorthands.ensures c.row_of-3.ensures)
+    in_third text _ (table_row _ _ text _ c.computing.ensures c.in_default.ensures)
+    (table_row _ _ text _ c.acting.ensures c.in_default-row_of.ensures)
+    (table_row _ _ text _ c.shorthands.ensures c.row_of-3.ensures)

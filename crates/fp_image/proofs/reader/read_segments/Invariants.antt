@@ -8,7 +8,8 @@ use Rattle.fp_image.proofs.reader.read_segments.Given as goal
 
 abbrev pub invariant-loop-done : goal.invariant-loop-done
 invariant-loop-done l = record {
-  whole : segments_of l.size l.total l.count 0 l.bytes ≡ joined l.image (segments_of l.size l.total (l.count - l._done) l.from l.rest);
+  whole : segments_of l.size l.total l.count 0 l.bytes
+      ≡ joined l.image (segments_of l.size l.total (l.count - l._done) l.from l.rest);
   rules : IsImage l.size l.image;
   count : length l.image ≡ l._done;
   end : ends 0 l.image ≡ l.from;

@@ -8,4 +8,5 @@ use Rattle.fp_image.proofs.writer.write_image.Given as goal
 
 abbrev pub invariant-loop-segment : goal.invariant-loop-segment
 invariant-loop-segment l =
-    l.bytes.items ≡ codes "FPX1" ++ (little_bytes 4 (length l.segments) ++ flat_map segment_written (take l.segment-index l.segments))
+    l.bytes.items ≡ codes "FPX1" ++ (little_bytes 4 (length l.segments)
+    ++ flat_map segment_written (take l.segment-index l.segments))

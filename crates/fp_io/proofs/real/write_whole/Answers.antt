@@ -10,10 +10,13 @@ loop-at-preserved g c =
     let bytes = c.args.bytes.now in
     let at = c.loop-at.at in
     let rest = take (length bytes - at) (drop at bytes) in
-    let both = Appends-trans (held c.args.to.now) (held c.loop-at.to) (held c.write.new.self) (take at bytes) (take c.in-Ok.count rest) c.loop-at.invariant.taken c.in-Ok.ensures.bytes in
+    let both = Appends-trans (held c.args.to.now) (held c.loop-at.to) (held c.write.new.self)
+    (take at bytes) (take c.in-Ok.count rest) c.loop-at.invariant.taken c.in-Ok.ensures.bytes in
     record {
       within = omega (arith, c.in-Ok.ensures.bound);
-      taken = subst (Appends (held c.args.to.now) (held c.write.new.self)) (take_piece bytes at c.in-Ok.count) both;
+      taken =
+          subst (Appends (held c.args.to.now) (held c.write.new.self))
+          (take_piece bytes at c.in-Ok.count) both;
     }
 
 pub returns-in_default-clause-some : goal.returns-in_default-clause-some

@@ -9,4 +9,5 @@ pub returns-clause-rising : goal.returns-clause-rising
 returns-clause-rising c = (tokens_law c.args.line.now c.from_vec.result (search rules)).rising
 
 pub returns-clause-few : goal.returns-clause-few
-returns-clause-few c = omega (arith, (tokens_law c.args.line.now c.from_vec.result (search rules)).few (omega arith))
+returns-clause-few c =
+    omega (arith, (tokens_law c.args.line.now c.from_vec.result (search rules)).few (omega arith))

@@ -11,6 +11,7 @@ pub returns-in_default-clause-read : goal.returns-in_default-clause-read
 unfolding list_check
 returns-in_default-clause-read c = search rules
 
-pub returns-then-items-gt-MOST_INPUTS-clause-read : goal.returns-then-items-gt-MOST_INPUTS-clause-read
+pub returns-then-items-gt-MOST_INPUTS-clause-read :
+    goal.returns-then-items-gt-MOST_INPUTS-clause-read
 unfolding list_check
 returns-then-items-gt-MOST_INPUTS-clause-read c = grind (arith, common_steps)

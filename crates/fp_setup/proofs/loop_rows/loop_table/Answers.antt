@@ -6,11 +6,13 @@ use Rattle.fp_setup.proofs.loop_rows.loop_table.Goals as goal
 
 pub returns-clause-rules : goal.returns-clause-rules
 returns-clause-rules c =
-    is_loop c.args.size _ _ _ (rw c.addresses.ensures at c.in_ok-head.ensures.within) (rw c.addresses-2.ensures at c.in_ok-last.ensures.within)
+    is_loop c.args.size _ _ _ (rw c.addresses.ensures at c.in_ok-head.ensures.within)
+    (rw c.addresses-2.ensures at c.in_ok-last.ensures.within)
     (rw c.integers.ensures at c.in_ok-limit.ensures.within)
 
 pub returns-clause-inside : goal.returns-clause-inside
-returns-clause-inside c = last_inside _ _ _ c.requires.low (rw c.addresses-2.ensures at c.in_ok-last.ensures.within)
+returns-clause-inside c =
+    last_inside _ _ _ c.requires.low (rw c.addresses-2.ensures at c.in_ok-last.ensures.within)
 
 pub returns-in_err-no_other_key-clause-read : goal.returns-in_err-no_other_key-clause-read
 unfolding loop_table_fault

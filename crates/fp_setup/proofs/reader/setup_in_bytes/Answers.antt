@@ -14,6 +14,7 @@ pub returns-in_err-table-clause-refused : goal.returns-in_err-table-clause-refus
 unfolding setup
 returns-in_err-table-clause-refused c = search rules
 
-pub returns-then-bytes-gt-MOST_SETUP_BYTES-clause-refused : goal.returns-then-bytes-gt-MOST_SETUP_BYTES-clause-refused
+pub returns-then-bytes-gt-MOST_SETUP_BYTES-clause-refused :
+    goal.returns-then-bytes-gt-MOST_SETUP_BYTES-clause-refused
 unfolding setup
 returns-then-bytes-gt-MOST_SETUP_BYTES-clause-refused c = search rules

@@ -14,7 +14,8 @@ invariant-loop-index l = let rows = map members (map view (take l.index l.items)
   eight_modes : length l.rows.modes ≡ 8;
   eight_threads : length l.rows.threads ≡ 8;
   ids : take l.index l.ids ≡ map id_at rows;
-  found : threads_from l.size 0 [] (map view l.items) ≡ threads_from l.size l.index (take l.index l.ids) (map view (drop l.index l.items));
+  found : threads_from l.size 0 [] (map view l.items)
+      ≡ threads_from l.size l.index (take l.index l.ids) (map view (drop l.index l.items));
   modes : l.rows.modes ≡ modes_of rows;
   threads : l.rows.threads ≡ threads_of rows;
   few : list_all (λ n. nat_lt n 4) l.rows.modes ≡ true;

@@ -1,22 +1,29 @@
 use Rattle.std.proofs.Common.{◌≡◌, ℕ, ◌+◌, ◌*◌, ◌≤◌, ◌^◌, List, Option, vec_len}
-use Rattle.fp_ports.specs.Rows.{rows_of}
-use Rattle.world_model.specs.World.{Start}
+use Rattle.fp_ports.specs.PluggedPorts.{rows_of}
+use Rattle.core_model.specs.World.{Start}
 use Rattle.loop_runs.specs.Plants.{Response, responses_of}
 use Rattle.loop_runs.specs.Looping.{HasLooped}
 use Rattle.loop_runs.proofs.driver.continue_loops.Given as goal
 
 abbrev pub invariant-loop-step : goal.invariant-loop-step
 invariant-loop-step g l =
-    let rows = rows_of (λ b. (goal.Port-dyn g (b.vtable, b.value)).latched b.value) (λ b. (goal.Port-dyn g (b.vtable, b.value)).word_at b.value) l.ports.items in
-    let old = rows_of (λ b. (goal.Port-dyn g (b.vtable, b.value)).latched b.value) (λ b. (goal.Port-dyn g (b.vtable, b.value)).word_at b.value) l.initial.ports.items in
-    let now = responses_of (λ b. (goal.Plant-dyn g (b.vtable, b.value)).response b.value) l.plants.items in
-    let before = responses_of (λ b. (goal.Plant-dyn g (b.vtable, b.value)).response b.value) l.initial.plants.items in
+    let rows = rows_of (λ b. (goal.Port-dyn g (b.vtable, b.value)).latched b.value)
+    (λ b. (goal.Port-dyn g (b.vtable, b.value)).word_at b.value) l.ports.items in
+    let old = rows_of (λ b. (goal.Port-dyn g (b.vtable, b.value)).latched b.value)
+    (λ b. (goal.Port-dyn g (b.vtable, b.value)).word_at b.value) l.initial.ports.items in
+    let now =
+    responses_of (λ b. (goal.Plant-dyn g (b.vtable, b.value)).response b.value) l.plants.items in
+    let before = responses_of (λ b. (goal.Plant-dyn g (b.vtable, b.value)).response b.value)
+    l.initial.plants.items in
     record {
       eight : vec_len l.ports ≡ 8;
       plants : vec_len l.plants ≡ 8;
       counted : g.K.Sink.faults l.initial.out ≤ g.K.Sink.faults l.out;
       at : l.machine.at ≡ l.initial.machine.at + l._step * l.every;
-      looped : (first : List (Option Response)) (s : Start) (n k : ℕ) (told : Option (List ℕ)) → n ≤ 2 ^ 64 → l.initial.machine.at + l.steps * l.every ≤ n → l.initial.machine.at ≡ k * l.every
-          → HasLooped first before l.every s n k 8 l.initial.machine.at l.thread l.initial.machine old told (g.K.Sink.taken l.initial.out)
-          → HasLooped first now l.every s n (k + l._step) 8 l.machine.at l.thread l.machine rows told (g.K.Sink.taken l.out);
+      looped : (first : List (Option Response)) (s : Start) (n k : ℕ) (told : Option (List ℕ)) →
+          n ≤ 2 ^ 64 → l.initial.machine.at + l.steps * l.every ≤ n →
+          l.initial.machine.at ≡ k * l.every → HasLooped first before l.every s n k 8
+          l.initial.machine.at l.thread l.initial.machine old told (g.K.Sink.taken l.initial.out) →
+          HasLooped first now l.every s n (k + l._step) 8 l.machine.at l.thread l.machine rows told
+          (g.K.Sink.taken l.out);
     }

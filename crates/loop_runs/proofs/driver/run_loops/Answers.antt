@@ -9,66 +9,98 @@ use Rattle.loop_runs.proofs.Runs.{next-multiple, ran-step, stopped-front}
 use Rattle.loop_runs.proofs.driver.run_loops.Goals as goal
 
 pub continue_loops-requires-clause-limit : goal.continue_loops-requires-clause-limit
-continue_loops-requires-clause-limit g c = omega (arith, div-mul-le_self c.args.cycles c.args.every, c.requires.start, c.requires.limit)
+continue_loops-requires-clause-limit g c =
+    omega (arith, div-mul-le_self c.args.cycles c.args.every, c.requires.start, c.requires.limit)
 
 pub run_on-requires-clause-begun : goal.run_on-requires-clause-begun
-run_on-requires-clause-begun g c = omega (arith, div-mul-le_self c.args.cycles c.args.every, c.requires.start, c.in_ok-continue_loops.ensures.at)
+run_on-requires-clause-begun g c = omega (
+  arith,
+  div-mul-le_self c.args.cycles c.args.every,
+  c.requires.start,
+  c.in_ok-continue_loops.ensures.at,
+)
 
 pub returns-clause-text : goal.returns-clause-text
-returns-clause-text g c = λ s st.
+returns-clause-text g c =
+    λ s st.
     let every : ℕ = c.args.every in
     let n : ℕ = c.args.cycles in
     let i : ℕ = c.args.thread in
-    let first = responses_of (λ b. (goal.Plant-dyn g (b.vtable, b.value)).response b.value) c.args.plants.now.items in
+    let first = responses_of (λ b. (goal.Plant-dyn g (b.vtable, b.value)).response b.value)
+    c.args.plants.now.items in
     let told = g.K.Sink.taken c.args.out.now in
     let low : n ≤ 2 ^ 64 = omega (arith, c.requires.limit) in
     let most : n / every * every ≤ n = div-mul-le_self n every in
     let begins = c.in_ok-begin_loops.ensures.looped every s n i told c.requires.some low st in
-    let looped = c.in_ok-continue_loops.ensures.looped first s n 0 told low (omega (arith, c.requires.start, most)) (omega (arith, c.requires.start)) begins in
-    let done = ran-step first _ every s n (0 + n / every) c.continue_loops.new.machine.at n i c.continue_loops.new.machine c.run_on.new.self _ _ told (g.K.Sink.taken c.continue_loops.new.out) (g.K.Sink.taken c.run_on.new.out) looped
-    (omega (arith, c.in_ok-continue_loops.ensures.at, c.requires.start, most)) (omega arith) (next-multiple n every c.requires.some)
+    let looped = c.in_ok-continue_loops.ensures.looped first s n 0 told low
+    (omega (arith, c.requires.start, most)) (omega (arith, c.requires.start)) begins in
+    let done = ran-step first _ every s n (0 + n / every) c.continue_loops.new.machine.at
+    n i c.continue_loops.new.machine c.run_on.new.self _ _ told
+    (g.K.Sink.taken c.continue_loops.new.out) (g.K.Sink.taken c.run_on.new.out) looped
+    (omega (arith, c.in_ok-continue_loops.ensures.at, c.requires.start, most))
+    (omega arith) (next-multiple n every c.requires.some)
     (λ run. c.in_ok-run_on.ensures.ok _ n _ told (omega arith) run) in
     done.put
 
 pub returns-clause-alone : goal.returns-clause-alone
-returns-clause-alone g c = λ s st p quiet.
-    subst (λ (es : List Event). Appends (g.K.Sink.taken c.args.out.now) (g.K.Sink.taken c.run_on.new.out) (text es))
-    (c.runs_alone_in_loops.ensures _ c.args.every s c.args.cycles c.args.thread c.args.cycles p (omega arith) quiet) (returns-clause-text g c s st)
+returns-clause-alone g c =
+    λ s st p quiet.
+    subst (λ (es : List Event).
+    Appends (g.K.Sink.taken c.args.out.now) (g.K.Sink.taken c.run_on.new.out) (text es))
+    (c.runs_alone_in_loops.ensures _ c.args.every s c.args.cycles c.args.thread c.args.cycles p
+    (omega arith) quiet) (returns-clause-text g c s st)
 
 pub returns-clause-unpermitted : goal.returns-clause-unpermitted
-returns-clause-unpermitted g c = λ s st p free.
-    subst (λ (es : List Event). Appends (g.K.Sink.taken c.args.out.now) (g.K.Sink.taken c.run_on.new.out) (text es))
-    (c.runs_alone_without_permits.ensures _ c.args.every s c.args.cycles c.args.thread c.args.cycles p (omega arith) free) (returns-clause-text g c s st)
+returns-clause-unpermitted g c =
+    λ s st p free.
+    subst (λ (es : List Event).
+    Appends (g.K.Sink.taken c.args.out.now) (g.K.Sink.taken c.run_on.new.out) (text es))
+    (c.runs_alone_without_permits.ensures _ c.args.every s c.args.cycles c.args.thread c.args.cycles
+    p (omega arith) free) (returns-clause-text g c s st)
 
 pub returns-clause-phased : goal.returns-clause-phased
-returns-clause-phased g c = λ s st p never kept.
-    subst (λ (es : List Event). Appends (g.K.Sink.taken c.args.out.now) (g.K.Sink.taken c.run_on.new.out) (text es))
-    (c.runs_by_phases_in_loops.ensures _ c.args.every s c.args.cycles c.args.thread c.args.cycles p (omega arith) never kept) (returns-clause-text g c s st)
+returns-clause-phased g c =
+    λ s st p never kept.
+    subst (λ (es : List Event).
+    Appends (g.K.Sink.taken c.args.out.now) (g.K.Sink.taken c.run_on.new.out) (text es))
+    (c.runs_by_phases_in_loops.ensures _ c.args.every s c.args.cycles c.args.thread c.args.cycles p
+    (omega arith) never kept) (returns-clause-text g c s st)
 
 pub returns-in_err-continue_loops-clause-stopped : goal.returns-in_err-continue_loops-clause-stopped
-returns-in_err-continue_loops-clause-stopped g c = let p = err_from_is_err_and c.from_residual-in_err-continue_loops.result c.from_residual-in_err-continue_loops.ensures.1 in rw p.1 (λ s st.
-    let every : ℕ = c.args.every in
+returns-in_err-continue_loops-clause-stopped g c =
+    let p = err_from_is_err_and c.from_residual-in_err-continue_loops.result
+    c.from_residual-in_err-continue_loops.ensures.1 in
+    rw p.1 (λ s st. let every : ℕ = c.args.every in
     let n : ℕ = c.args.cycles in
-    let first = responses_of (λ b. (goal.Plant-dyn g (b.vtable, b.value)).response b.value) c.args.plants.now.items in
+    let first = responses_of (λ b. (goal.Plant-dyn g (b.vtable, b.value)).response b.value)
+    c.args.plants.now.items in
     let told = g.K.Sink.taken c.args.out.now in
     let low : n ≤ 2 ^ 64 = omega (arith, c.requires.limit) in
     let most : n / every * every ≤ n = div-mul-le_self n every in
-    let begins = c.in_ok-begin_loops.ensures.looped every s n c.args.thread told c.requires.some low st in
-    c.in_err-continue_loops.ensures.stopped first s n 0 told low (omega (arith, c.requires.start, most)) (omega (arith, c.requires.start)) begins)
+    let begins = c.in_ok-begin_loops.ensures.looped every
+    s n c.args.thread told c.requires.some low st in
+    c.in_err-continue_loops.ensures.stopped first s n 0 told low
+    (omega (arith, c.requires.start, most)) (omega (arith, c.requires.start)) begins)
 
 pub returns-in_err-run_on-clause-stopped : goal.returns-in_err-run_on-clause-stopped
 returns-in_err-run_on-clause-stopped g c =
-    let p = err_from_is_err_and c.from_residual-in_err-run_on.result c.from_residual-in_err-run_on.ensures.1 in
+    let p = err_from_is_err_and c.from_residual-in_err-run_on.result
+    c.from_residual-in_err-run_on.ensures.1 in
     rw p.1 (λ s st.
     let every : ℕ = c.args.every in
     let n : ℕ = c.args.cycles in
     let i : ℕ = c.args.thread in
-    let first = responses_of (λ b. (goal.Plant-dyn g (b.vtable, b.value)).response b.value) c.args.plants.now.items in
+    let first = responses_of (λ b. (goal.Plant-dyn g (b.vtable, b.value)).response b.value)
+    c.args.plants.now.items in
     let told = g.K.Sink.taken c.args.out.now in
     let low : n ≤ 2 ^ 64 = omega (arith, c.requires.limit) in
     let most : n / every * every ≤ n = div-mul-le_self n every in
     let begins = c.in_ok-begin_loops.ensures.looped every s n i told c.requires.some low st in
-    let looped = c.in_ok-continue_loops.ensures.looped first s n 0 told low (omega (arith, c.requires.start, most)) (omega (arith, c.requires.start)) begins in
-    stopped-front c.events_grow.ensures first _ every s n (0 + n / every) c.continue_loops.new.machine.at n i c.continue_loops.new.machine c.run_on.new.self _ _ told (g.K.Sink.taken c.continue_loops.new.out) (g.K.Sink.taken c.run_on.new.out) looped
-    (omega (arith, c.in_ok-continue_loops.ensures.at, c.requires.start, most)) (omega arith) (next-multiple n every c.requires.some) c.run_on.ensures.end
+    let looped = c.in_ok-continue_loops.ensures.looped first s n 0 told low
+    (omega (arith, c.requires.start, most)) (omega (arith, c.requires.start)) begins in
+    stopped-front c.events_grow.ensures first _ every s n (0 + n / every)
+    c.continue_loops.new.machine.at n i c.continue_loops.new.machine c.run_on.new.self _ _ told
+    (g.K.Sink.taken c.continue_loops.new.out) (g.K.Sink.taken c.run_on.new.out) looped
+    (omega (arith, c.in_ok-continue_loops.ensures.at, c.requires.start, most))
+    (omega arith) (next-multiple n every c.requires.some) c.run_on.ensures.end
     (λ run. c.in_err-run_on.ensures.err _ n _ told (omega arith) run))

@@ -9,13 +9,18 @@ loop-input-init g c = record { eight = c.requires.eight; rows = refl }
 pub loop-input-preserved : goal.loop-input-preserved
 loop-input-preserved g c = record {
   eight = c.feed_port.ensures.eight;
-  rows = fed_more c.args.thread _ _ _ c.args.inputs.now c.loop-input.input-index _ (omega arith) c.loop-input.invariant.rows c.in_ok-feed_port.ensures.rows;
+  rows =
+      fed_more c.args.thread _ _ _ c.args.inputs.now c.loop-input.input-index _
+      (omega arith) c.loop-input.invariant.rows c.in_ok-feed_port.ensures.rows;
 }
 
 pub returns-in_err-feed_port-clause-err : goal.returns-in_err-feed_port-clause-err
 returns-in_err-feed_port-clause-err g c =
     let p = err_from_is_err_and c.from_residual.result c.from_residual.ensures.1 in
-    rw p.1 (c.loop-input.input-index, fed_none c.args.thread _ _ _ c.in_err-feed_port.ensures.rows c.loop-input.invariant.rows)
+    rw p.1 (
+      c.loop-input.input-index,
+      fed_none c.args.thread _ _ _ c.in_err-feed_port.ensures.rows c.loop-input.invariant.rows,
+    )
 
 pub returns-in_err-feed_port-clause-eight : goal.returns-in_err-feed_port-clause-eight
 returns-in_err-feed_port-clause-eight g c = c.feed_port.ensures.eight

@@ -1,36 +1,44 @@
 -- What an executed issue leaves.
 use Rattle.std.proofs.Common.{◌-◌, ap, sym, refl, ◌∙◌}
 use Rattle.timer_unit.specs.Time.{time}
-use Rattle.core_model.specs.Thread.{Around}
-use Rattle.world_model.specs.World.{around}
-use Rattle.hart_exec.specs.Units.{asked}
+use Rattle.core_model.specs.Thread.{Environment}
+use Rattle.core_model.specs.World.{environment}
+use Rattle.hart_exec.specs.Units.{environment_of}
 use Rattle.pipe_model.specs.Stages.{After, execute_stage}
-use Rattle.pipeline_core.specs.AsDefined.{registers_as_defined}
+use Rattle.pipeline_core.specs.Abstraction.{abstract_registers}
 use Rattle.pipeline_core.proofs.Issue.{issue_after, size_after}
 use Rattle.pipeline_core.proofs.execute.execute_issue.Goals as goal
 
 pub returns-clause-e : goal.returns-clause-e
-unfolding execute_stage asked around
+unfolding execute_stage environment_of environment
 returns-clause-e c =
     let u = c.args.units.now in
-    let a : Around = around (time u.clock (c.args.cycle - 2)) u.guard.size u.confined u.permit (registers_as_defined u.sched u.guard) c.args.thread in
+    let a : Environment = environment (time u.clock (c.args.cycle - 2)) u.guard.size
+    u.confined u.permit (abstract_registers u.sched u.guard) c.args.thread in
     c.leave.ensures.e
-    ∙ ap (λ (r : After). r.e) (issue_after _ _ _ c.args.x.now a (rw c.is_confined.ensures refl) c.execute_in-done.ensures.refines)
+    ∙ ap (λ (r : After). r.e) (issue_after _ _ _ c.args.x.now a
+    (rw (c.now.ensures, c.saturating_sub.ensures, c.is_confined.ensures) refl)
+    c.execute_in-done.ensures.refines)
 
 pub returns-clause-redirect : goal.returns-clause-redirect
-unfolding execute_stage asked around
+unfolding execute_stage environment_of environment
 returns-clause-redirect c =
     let u = c.args.units.now in
-    let a : Around = around (time u.clock (c.args.cycle - 2)) u.guard.size u.confined u.permit (registers_as_defined u.sched u.guard) c.args.thread in
-    sym (ap (λ (r : After). r.redirect) (issue_after _ _ _ c.args.x.now a (rw c.is_confined.ensures refl) c.execute_in-done.ensures.refines))
-    ∙ c.leave.ensures.redirect
+    let a : Environment = environment (time u.clock (c.args.cycle - 2)) u.guard.size
+    u.confined u.permit (abstract_registers u.sched u.guard) c.args.thread in
+    sym (ap (λ (r : After). r.redirect) (issue_after _ _ _ c.args.x.now a
+    (rw (c.now.ensures, c.saturating_sub.ensures, c.is_confined.ensures) refl)
+    c.execute_in-done.ensures.refines)) ∙ c.leave.ensures.redirect
 
 pub returns-clause-units : goal.returns-clause-units
-unfolding execute_stage asked around
+unfolding execute_stage environment_of environment
 returns-clause-units c ports =
     let u = c.args.units.now in
-    let a : Around = around (time u.clock (c.args.cycle - 2)) u.guard.size u.confined u.permit (registers_as_defined u.sched u.guard) c.args.thread in
-    let control = ap (λ (r : After). r.control) (issue_after _ _ _ c.args.x.now a (rw c.is_confined.ensures refl) c.execute_in-done.ensures.refines) in
+    let a : Environment = environment (time u.clock (c.args.cycle - 2)) u.guard.size
+    u.confined u.permit (abstract_registers u.sched u.guard) c.args.thread in
+    let control = ap (λ (r : After). r.control) (issue_after _ _ _ c.args.x.now a
+    (rw (c.now.ensures, c.saturating_sub.ensures, c.is_confined.ensures) refl)
+    c.execute_in-done.ensures.refines) in
     let size = size_after _ _ _ _ c.execute_in-done.ensures.refines in
     λ j. record {
       bank = u.bank;

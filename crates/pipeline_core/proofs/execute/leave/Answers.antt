@@ -3,4 +3,5 @@ use Rattle.pipeline_core.proofs.Issue.{redirecting}
 use Rattle.pipeline_core.proofs.execute.leave.Goals as goal
 
 pub returns-clause-redirect : goal.returns-clause-redirect
-returns-clause-redirect c = redirecting _ _ c.args.thread c.args.done.now.pc _ c.in-Some.ensures.way
+returns-clause-redirect c =
+    redirecting _ _ c.args.thread c.args.done.now.pc _ c.in-Some.ensures.flush

@@ -1,8 +1,8 @@
 use Rattle.std.proofs.Common.{rules}
 use Rattle.pipeline_core.proofs.fetch.flushes_f.Goals as goal
 
-pub returns-in-Elsewhere : goal.returns-in-Elsewhere
-returns-in-Elsewhere c = search rules
+pub returns-in-DecodeAndFetch : goal.returns-in-DecodeAndFetch
+returns-in-DecodeAndFetch c = search rules
 
-pub returns-in-LateValue : goal.returns-in-LateValue
-returns-in-LateValue c = search rules
+pub returns-in-Decode : goal.returns-in-Decode
+returns-in-Decode c = search rules

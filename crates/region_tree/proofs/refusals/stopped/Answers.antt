@@ -10,11 +10,17 @@ returns-then-eq c =
     let t = c.args.draft.now in
     let k = c.loop-index.index in
     let same : c.edges.result.stop ≡ c.args.stop = search rules in
-    subst (IsLowest (λ u. Reachable (graph t) u × ((graph t).stop u ≡ c.args.stop))) (sym c.address.ensures.value)
-    (lowest-first t (λ u. Reachable (graph t) u × ((graph t).stop u ≡ c.args.stop)) k c.len-index-end.ensures.rules (λ u h. h.0) c.loop-index.invariant
-    ((c.requires.exact k (omega (arith, c.len-index-end.ensures.value))).0 c.if-met-index.true, ap (λ e. e.stop) (sym c.edges.ensures) ∙ same))
+    subst (IsLowest (λ u. Reachable (graph t) u × ((graph t).stop u ≡ c.args.stop)))
+    (sym c.address.ensures.value)
+    (lowest-first t (λ u. Reachable (graph t) u × ((graph t).stop u ≡ c.args.stop)) k
+    c.len-index-end.ensures.rules (λ u h. h.0) c.loop-index.invariant (
+      (c.requires.exact k (omega (arith, c.len-index-end.ensures.value))).0 c.if-met-index.true,
+      ap (λ e. e.stop) (sym c.edges.ensures) ∙ same,
+    ))
 
 pub returns : goal.returns
 returns c =
     let t = c.args.draft.now in
-    lowest-never t (λ u. Reachable (graph t) u × ((graph t).stop u ≡ c.args.stop)) c.loop-index.index c.len-index-end.ensures.rules (omega (arith, c.len-index-end.ensures.value)) (λ u h. h.0) c.loop-index.invariant
+    lowest-never t (λ u. Reachable (graph t) u × ((graph t).stop u ≡ c.args.stop))
+    c.loop-index.index c.len-index-end.ensures.rules (omega (arith, c.len-index-end.ensures.value))
+    (λ u h. h.0) c.loop-index.invariant

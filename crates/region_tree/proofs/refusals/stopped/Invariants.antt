@@ -5,4 +5,6 @@ use Rattle.region_tree.specs.Tree.{graph}
 use Rattle.region_tree.proofs.refusals.stopped.Given as goal
 
 abbrev pub invariant-loop-index : goal.invariant-loop-index
-invariant-loop-index l = (k : ℕ) → k < l.index → Reachable (graph l.draft) (address l.draft k) × ((graph l.draft).stop (address l.draft k) ≡ l.stop) → ⊥
+invariant-loop-index l =
+    (k : ℕ) → k < l.index → Reachable (graph l.draft)
+    (address l.draft k) × ((graph l.draft).stop (address l.draft k) ≡ l.stop) → ⊥

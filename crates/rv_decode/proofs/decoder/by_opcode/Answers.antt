@@ -1,6 +1,8 @@
 -- Each arm knows its opcode, and so the rows that matter.
 use Rattle.std.proofs.Common.{rules, sym, ◌∙◌}
-use Rattle.rv_decode.proofs.ByOpcode.{ins-lui, ins-auipc, ins-jal, ins-jalr, ins-branch, ins-load, ins-store, ins-imm, ins-op, ins-fence, ins-system, ins-time, ins-none}
+use Rattle.rv_decode.proofs.ByOpcode.{ins-lui, ins-auipc, ins-jal, ins-jalr}
+use Rattle.rv_decode.proofs.ByOpcode.{ins-branch, ins-load, ins-store, ins-imm, ins-op}
+use Rattle.rv_decode.proofs.ByOpcode.{ins-fence, ins-system, ins-time, ins-none}
 use Rattle.rv_decode.proofs.decoder.by_opcode.Goals as goal
 
 pub returns-in-55 : goal.returns-in-55
@@ -40,4 +42,7 @@ pub returns-in-11 : goal.returns-in-11
 returns-in-11 c = c.timing.ensures ∙ sym (ins-time c.args.word (search rules))
 
 pub returns-in_default : goal.returns-in_default
-returns-in_default c = sym (ins-none c.args.word (search rules) (search rules) (search rules) (search rules) (search rules) (search rules) (search rules) (search rules) (search rules) (search rules) (search rules) (search rules))
+returns-in_default c =
+    sym (ins-none c.args.word (search rules) (search rules) (search rules) (search rules)
+    (search rules) (search rules) (search rules) (search rules) (search rules) (search rules)
+    (search rules) (search rules))

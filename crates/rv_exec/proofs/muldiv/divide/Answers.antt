@@ -19,8 +19,12 @@ returns c =
     let x_fits : SFits w32 x = record { sfits = c.cast_signed.type_inv } in
     let y_fits : SFits w32 y = record { sfits = c.cast_signed-2.type_inv } in
     let q_fits : SFits w32 q = record { sfits = c.wrapping_div.type_inv } in
-    let divided : q ≡ to_z w32 (of_z w32 (int_div x y)) = c.wrapping_div.ensures ∙ ap (λ (z : ℤ). int_wrapping_div w32 z (to_z w32 (of_z w32 y))) (to_z-of_z w32 x x_fits) ∙ ap (λ (z : ℤ). int_wrapping_div w32 x z) (to_z-of_z w32 y y_fits) in
+    let divided : q ≡ to_z w32 (of_z w32 (int_div x y)) = c.wrapping_div.ensures
+    ∙ ap (λ (z : ℤ). int_wrapping_div w32 z (to_z w32 (of_z w32 y))) (to_z-of_z w32 x x_fits)
+    ∙ ap (λ (z : ℤ). int_wrapping_div w32 x z) (to_z-of_z w32 y y_fits) in
     let first = c.cast_signed.ensures ∙ signed-is c.args.a c.ranges.a.fits in
     let second = c.cast_signed-2.ensures ∙ signed-is c.args.b c.ranges.b.fits in
-    let in_word = c.cast_unsigned.ensures ∙ ap (of_z w32) (to_z-of_z w32 q q_fits ∙ divided) ∙ quotient_word x y c.cast_signed.type_inv in
-    in_word ∙ ap (λ (z : ℤ). word (quotient z y)) first ∙ ap (λ (z : ℤ). word (quotient (signed c.args.a) z)) second
+    let in_word = c.cast_unsigned.ensures ∙ ap (of_z w32) (to_z-of_z w32 q q_fits ∙ divided)
+    ∙ quotient_word x y c.cast_signed.type_inv in
+    in_word ∙ ap (λ (z : ℤ). word (quotient z y)) first
+    ∙ ap (λ (z : ℤ). word (quotient (signed c.args.a) z)) second

@@ -11,5 +11,7 @@ pub returns : goal.returns
 returns n c =
     let fits : c.args.tens < 2 ^ 64 = omega (arith, c.ranges.tens.fits) in
     let some : 0 < c.args.tens = omega (arith, c.if-tens-eq0.false) in
-    let less : c.saturating_sub.result ≡ c.args.width - 1 = omega (arith, c.saturating_sub.ensures) in
-    upper_more c.then.result c.args.width c.saturating_sub.result c.args.tens fits some less (c.then.ensures _ c.upper.ensures)
+    let less : c.saturating_sub.result ≡ c.args.width - 1 =
+    omega (arith, c.saturating_sub.ensures) in
+    upper_more c.then.result c.args.width c.saturating_sub.result c.args.tens fits some less
+    (c.then.ensures _ c.upper.ensures)

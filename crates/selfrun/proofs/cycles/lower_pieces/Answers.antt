@@ -9,9 +9,13 @@ pub loop-n-preserved : goal.loop-n-preserved
 unfolding two_digits
 loop-n-preserved c =
     let inv = c.loop-n.invariant in
-    let within : c.loop-n.n < length c.loop-n.pieces = omega (arith, inv.count, c.loop-n-test.true) in
-    let made = c.then-in-loop-n.ensures _ (c.then-digits.ensures _ (c.then.ensures [] piece_empty)) in
+    let within : c.loop-n.n < length c.loop-n.pieces =
+    omega (arith, inv.count, c.loop-n-test.true) in
+    let made =
+    c.then-in-loop-n.ensures _ (c.then-digits.ensures _ (c.then.ensures [] piece_empty)) in
     rw c.from.ensures (record {
       count = length-set c.loop-n.pieces c.loop-n.n c.then-in-loop-n.result ∙ inv.count;
-      set = one_more (λ n p. IsPiece p (lower_text n)) c.loop-n.pieces c.loop-n.n c.then-in-loop-n.result _ within inv.set made;
+      set =
+          one_more (λ n p. IsPiece p (lower_text n)) c.loop-n.pieces c.loop-n.n
+          c.then-in-loop-n.result _ within inv.set made;
     })

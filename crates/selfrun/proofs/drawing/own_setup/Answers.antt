@@ -1,7 +1,7 @@
 use Rattle.std.proofs.Common.{refl, rules}
 use Rattle.slot_table.specs.Table.{is_table}
 use Rattle.region_guard.specs.RegionsWord.{is_regions}
-use Rattle.nibble_word.specs.Nibbles.{nibbles}
+use Rattle.slot_table.specs.Nibbles.{nibbles}
 use Rattle.selfrun.proofs.drawing.own_setup.Goals as goal
 
 pub of_words-requires-clause-slots : goal.of_words-requires-clause-slots

@@ -9,9 +9,13 @@ pub loop-rd-preserved : goal.loop-rd-preserved
 unfolding two_digits
 loop-rd-preserved c =
     let inv = c.loop-rd.invariant in
-    let within : c.loop-rd.rd < length c.loop-rd.names = omega (arith, inv.count, c.loop-rd-test.true) in
-    let made = c.then-in-loop-rd.ensures _ (c.then-name.ensures _ (c.then.ensures _ (c.then-letter.ensures [] piece_empty))) in
+    let within : c.loop-rd.rd < length c.loop-rd.names =
+    omega (arith, inv.count, c.loop-rd-test.true) in
+    let made = c.then-in-loop-rd.ensures _
+    (c.then-name.ensures _ (c.then.ensures _ (c.then-letter.ensures [] piece_empty))) in
     rw c.from.ensures (record {
       count = length-set c.loop-rd.names c.loop-rd.rd c.then-in-loop-rd.result ∙ inv.count;
-      set = one_more (λ rd p. IsPiece p (name_text rd)) c.loop-rd.names c.loop-rd.rd c.then-in-loop-rd.result _ within inv.set made;
+      set =
+          one_more (λ rd p. IsPiece p (name_text rd)) c.loop-rd.names c.loop-rd.rd
+          c.then-in-loop-rd.result _ within inv.set made;
     })

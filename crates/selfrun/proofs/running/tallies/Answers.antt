@@ -1,5 +1,5 @@
 use Rattle.std.proofs.Common.{◌≡◌, ◌+◌, ◌<◌, arith, refl, ap, sym, ◌∙◌}
-use Rattle.selfrun.specs.Counting.{counted}
+use Rattle.selfrun.specs.Counting.{tallies_with}
 use Rattle.selfrun.proofs.TallyLemmas.{tallies_begin, tallies_on, tallies_end, few_none, few_more}
 use Rattle.selfrun.proofs.running.tallies.Goals as goal
 
@@ -15,16 +15,23 @@ pub loop-cycle-preserved : goal.loop-cycle-preserved
 loop-cycle-preserved g c =
     let inv = c.loop-cycle.invariant in
     let k = c.loop-cycle._cycle in
-    let within : c.loop-cycle.machine.at < c.args.cycles + 3 = omega (arith, inv.at, c.loop-cycle-test.true) in
-    let told = c.count.ensures ∙ ap (λ e. counted c.loop-cycle.tallies e) (sym c.tick-event.ensures.retires) in
+    let within : c.loop-cycle.machine.at < c.args.cycles + 3 =
+    omega (arith, inv.at, c.loop-cycle-test.true) in
+    let told = c.count.ensures
+    ∙ ap (λ e. tallies_with c.loop-cycle.tallies e) (sym c.tick-event.ensures.retires) in
     record {
       at = c.tick-event.ensures.at ∙ ap (λ n. n + 1) inv.at;
       eight = c.tick-event.ensures.eight;
       few = rw told (few_more c.loop-cycle.tallies c.tick-event.result k inv.few);
-      runs = λ s st. rw told (tallies_on c.events_grow.ensures s k c.args.cycles c.loop-cycle.machine c.tick-event.new.self _ _ c.loop-cycle.tallies c.tick-event.result (inv.runs s st) inv.at (c.tick-event.ensures.relation s c.args.cycles within));
+      runs =
+          λ s st. rw told (tallies_on c.events_grow.ensures s k c.args.cycles c.loop-cycle.machine
+          c.tick-event.new.self _ _ c.loop-cycle.tallies c.tick-event.result (inv.runs s st) inv.at
+          (c.tick-event.ensures.relation s c.args.cycles within));
     }
 
 pub returns : goal.returns
 returns g c =
-    let end : c.loop-cycle._cycle ≡ c.args.cycles = omega (arith, c.loop-cycle-test.false, c.loop-cycle.auto._cycle-end) in
-    λ s st. tallies_end s c.loop-cycle._cycle c.args.cycles c.loop-cycle.machine _ c.loop-cycle.tallies end (c.loop-cycle.invariant.runs s st)
+    let end : c.loop-cycle._cycle ≡ c.args.cycles =
+    omega (arith, c.loop-cycle-test.false, c.loop-cycle.auto._cycle-end) in
+    λ s st. tallies_end s c.loop-cycle._cycle c.args.cycles c.loop-cycle.machine _
+    c.loop-cycle.tallies end (c.loop-cycle.invariant.runs s st)

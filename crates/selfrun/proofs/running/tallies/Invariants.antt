@@ -1,17 +1,20 @@
 use Rattle.std.proofs.Common.{◌≡◌, vec_len}
-use Rattle.fp_ports.specs.Rows.{rows_of}
-use Rattle.world_model.specs.World.{Start}
-use Rattle.machine.specs.WorldRelation.{StandsFor}
+use Rattle.fp_ports.specs.PluggedPorts.{rows_of}
+use Rattle.core_model.specs.World.{Start}
+use Rattle.machine.specs.WorldRelation.{Refines}
 use Rattle.selfrun.specs.Counting.{AreFew, HasTallied}
 use Rattle.selfrun.proofs.running.tallies.Given as goal
 
 abbrev pub invariant-loop-cycle : goal.invariant-loop-cycle
 invariant-loop-cycle g l =
-    let rows = rows_of (λ b. (goal.Port-dyn g (b.vtable, b.value)).latched b.value) (λ b. (goal.Port-dyn g (b.vtable, b.value)).word_at b.value) l.ports.items in
-    let first = rows_of (λ b. (goal.Port-dyn g (b.vtable, b.value)).latched b.value) (λ b. (goal.Port-dyn g (b.vtable, b.value)).word_at b.value) l.initial.ports.items in
+    let rows = rows_of (λ b. (goal.Port-dyn g (b.vtable, b.value)).latched b.value)
+    (λ b. (goal.Port-dyn g (b.vtable, b.value)).word_at b.value) l.ports.items in
+    let first = rows_of (λ b. (goal.Port-dyn g (b.vtable, b.value)).latched b.value)
+    (λ b. (goal.Port-dyn g (b.vtable, b.value)).word_at b.value) l.initial.ports.items in
     record {
       at : l.machine.at ≡ l._cycle;
       eight : vec_len l.ports ≡ 8;
       few : AreFew l.tallies l._cycle;
-      runs : (s : Start) → StandsFor s 0 l.cycles l.initial.machine first → HasTallied s l._cycle l.cycles l.machine rows l.tallies;
+      runs : (s : Start) → Refines s 0 l.cycles l.initial.machine first →
+          HasTallied s l._cycle l.cycles l.machine rows l.tallies;
     }

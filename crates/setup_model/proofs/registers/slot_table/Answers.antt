@@ -5,5 +5,5 @@ use Rattle.setup_model.proofs.registers.slot_table.Goals as goal
 
 pub returns : goal.returns
 returns c =
-    table-kept c.setup.inside.slots c.in-Ok.slots c.from_word.result (c.from_word.ensures.table) c.in-Ok.is
-    ∙ ap (λ (s : Settings). s.slots) c.setup.view_is
+    table-kept c.setup.inside.slots c.in-Ok.slots c.from_word.result
+    (c.from_word.ensures.table) c.in-Ok.is ∙ ap (λ (s : Settings). s.slots) c.setup.view_is

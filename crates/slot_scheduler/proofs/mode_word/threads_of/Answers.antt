@@ -1,9 +1,18 @@
 use Rattle.std.proofs.Common.{◌≡◌, ◌==◌, ◌||◌, length, rules}
-use Rattle.nibble_word.proofs.Masks.{mask_of_eight}
+use Rattle.slot_table.proofs.Masks.{mask_of_eight}
 use Rattle.slot_scheduler.proofs.mode_word.threads_of.Goals as goal
 
 pub returns : goal.returns
 returns c =
     let eight : length c.args.modes.now ≡ 8 = search rules in
-    rw (c.bit.ensures.bit, c.bit-2.ensures.bit, c.bit-3.ensures.bit, c.bit-4.ensures.bit, c.bit-5.ensures.bit, c.bit-6.ensures.bit, c.bit-7.ensures.bit, c.bit-8.ensures.bit)
+    rw (
+      c.bit.ensures.bit,
+      c.bit-2.ensures.bit,
+      c.bit-3.ensures.bit,
+      c.bit-4.ensures.bit,
+      c.bit-5.ensures.bit,
+      c.bit-6.ensures.bit,
+      c.bit-7.ensures.bit,
+      c.bit-8.ensures.bit,
+    )
     (mask_of_eight (λ mode. mode == c.args.other || mode == 2) c.args.modes.now eight)

@@ -1,5 +1,6 @@
 -- The word is one of the register, and its regions are to the thread what the numbers say.
-use Rattle.std.proofs.Common.{◌≡◌, ℕ, List, [], ◌∷◌, length, get_or, map, true, refl, sym, ◌∙◌, arith, rules}
+use Rattle.std.proofs.Common.{◌≡◌, ℕ, List, [], ◌∷◌, length, get_or}
+use Rattle.std.proofs.Common.{map, true, refl, sym, ◌∙◌, arith, rules}
 use Rattle.region_guard.specs.RegionsWord.{is_regions}
 use Rattle.trap_unit.proofs.Held.{regions_kept}
 use Rattle.solo_run.specs.RegionKinds.{kinds_of_numbers, kind_of_number}
@@ -24,13 +25,15 @@ unwrap-requires c =
     accepted _ (c.from_word.ensures.accepts ∙ all)
 
 eight : (numbers : List ℕ) → length numbers ≡ 8 →
-    kinds_of_numbers numbers ≡ map (λ k. kind_of_number (get_or numbers k 0)) (0 ∷ 1 ∷ 2 ∷ 3 ∷ 4 ∷ 5 ∷ 6 ∷ 7 ∷ [])
+    kinds_of_numbers numbers
+    ≡ map (λ k. kind_of_number (get_or numbers k 0)) (0 ∷ 1 ∷ 2 ∷ 3 ∷ 4 ∷ 5 ∷ 6 ∷ 7 ∷ [])
 eight (a ∷ b ∷ c ∷ d ∷ e ∷ f ∷ g ∷ h ∷ []) long = refl
 eight _ long = absurd (omega (arith, long))
 
 pub returns : goal.returns
 returns c =
-    let word = regions_kept c.word_of.result c.unwrap.result (sym c.unwrap.ensures ∙ c.from_word.ensures.regions) in
+    let word = regions_kept c.word_of.result c.unwrap.result
+    (sym c.unwrap.ensures ∙ c.from_word.ensures.regions) in
     let long : length c.args.numbers ≡ 8 = search rules in
     rw (
       word,

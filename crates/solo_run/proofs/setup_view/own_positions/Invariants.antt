@@ -6,6 +6,7 @@ use Rattle.solo_run.proofs.setup_view.own_positions.Given as goal
 
 abbrev pub invariant-loop-position : goal.invariant-loop-position
 invariant-loop-position l = record {
-  mine : positions l.own (length (frame l.slots) - l.position) ≡ map (λ slot. slot == l.thread) (drop l.position (frame l.slots));
+  mine : positions l.own (length (frame l.slots) - l.position)
+      ≡ map (λ slot. slot == l.thread) (drop l.position (frame l.slots));
   inside : l.own < 2 ^ (length (frame l.slots) - l.position);
 }

@@ -1,5 +1,5 @@
 -- A table of which no slot is used is one.
-use Rattle.nibble_word.specs.Nibbles.{nibbles}
+use Rattle.slot_table.specs.Nibbles.{nibbles}
 use Rattle.slot_table.specs.Table.{is_table}
 use Rattle.solo_run.proofs.Accepted.{accepted}
 use Rattle.solo_run.proofs.thread_state.idle.Goals as goal

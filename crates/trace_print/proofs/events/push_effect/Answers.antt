@@ -16,8 +16,15 @@ pub returns-in-Csr-clause-text : goal.returns-in-Csr-clause-text
 unfolding effect_text
 returns-in-Csr-clause-text c =
     let other : c.in-Csr.rd ≡ 0 → ⊥ = (rw c.in-Csr.is at c.in-Csr.rd-test).1 in
-    rw (c.push_csr-in-Csr.ensures.text, c.push_str-in-Csr.ensures.bytes, c.push_register-in-Csr.ensures.text, c.in-Csr.is, ne_eqb c.in-Csr.rd 0 other)
-    (pieces c.args.text.now.bytes (register_text c.in-Csr.rd c.in-Csr.old) (codes " ") (csr_text c.in-Csr.csr c.in-Csr.value))
+    rw (
+      c.push_csr-in-Csr.ensures.text,
+      c.push_str-in-Csr.ensures.bytes,
+      c.push_register-in-Csr.ensures.text,
+      c.in-Csr.is,
+      ne_eqb c.in-Csr.rd 0 other,
+    )
+    (pieces c.args.text.now.bytes (register_text c.in-Csr.rd c.in-Csr.old) (codes " ")
+    (csr_text c.in-Csr.csr c.in-Csr.value))
 
 pub returns-in-Wait-clause-text : goal.returns-in-Wait-clause-text
 unfolding effect_text

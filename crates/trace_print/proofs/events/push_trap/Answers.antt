@@ -4,4 +4,9 @@ use Rattle.trace_print.proofs.events.push_trap.Goals as goal
 
 pub returns-clause-text : goal.returns-clause-text
 unfolding trap_text
-returns-clause-text c = rw (c.push_word.ensures.text, c.push_str-2.ensures.bytes, c.push_decimal.ensures.text, c.push_str.ensures.bytes) (simp append_assoc)
+returns-clause-text c = rw (
+  c.push_word.ensures.text,
+  c.push_str-2.ensures.bytes,
+  c.push_decimal.ensures.text,
+  c.push_str.ensures.bytes,
+) (simp append_assoc)

@@ -3,4 +3,9 @@ use Rattle.bound_calc.specs.Matrices.{over, cell}
 use Rattle.bound_calc.proofs.matrix.Matrix.chain.Given as goal
 
 abbrev pub invariant-loop-p : goal.invariant-loop-p
-invariant-loop-p l = record { count : length l.best ≡ 8; rows : (k : ℕ) → k < l.p → (q : ℕ) → q < 8 → slice_index_or (slice_index_or l.best k []) q None ≡ over 8 (λ r. slice_index_or (slice_index_or l.self.best k []) r None) (λ r. cell l.other r q) }
+invariant-loop-p l = record {
+  count : length l.best ≡ 8;
+  rows : (k : ℕ) → k < l.p → (q : ℕ) → q < 8 →
+      slice_index_or (slice_index_or l.best k []) q None ≡ over 8
+      (λ r. slice_index_or (slice_index_or l.self.best k []) r None) (λ r. cell l.other r q);
+}

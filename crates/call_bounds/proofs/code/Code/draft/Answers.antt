@@ -1,6 +1,6 @@
 use Rattle.call_bounds.specs.Calls.{range}
 use Rattle.call_bounds.specs.Listing.{calls, part_at}
-use Rattle.call_bounds.specs.Patched.{patched}
+use Rattle.call_bounds.specs.Patched.{patched_word}
 use Rattle.call_bounds.proofs.CodeLaws.{part-words}
 use Rattle.call_bounds.proofs.code.Code.draft.Goals as goal
 
@@ -8,4 +8,5 @@ pub from_words-requires-clause-count : goal.from_words-requires-clause-count
 from_words-requires-clause-count c =
     let x = calls c.args.self.now in
     let p = part_at c.args.self.now c.args.part in
-    part-words (patched x p) c.range-section.result (range x p) c.in_ok-words.words.items c.range-section.ensures.rules c.range-section.ensures.value c.in_ok-words.ensures
+    part-words (patched_word x p) c.range-section.result (range x p) c.in_ok-words.words.items
+    c.range-section.ensures.rules c.range-section.ensures.value c.in_ok-words.ensures

@@ -6,5 +6,7 @@ use Rattle.call_bounds.proofs.code.Code.is_return.Goals as goal
 
 pub returns-then-part-ne0 : goal.returns-then-part-ne0
 returns-then-part-ne0 c =
-    let z = routine-of c.args.self.now c.args.part (let y : 0 < c.args.part = omega (arith, c.if-part-ne0.true) in y) c.requires.part in
-    subst (λ p. (c.word.result == 32871) ≡ returns (calls c.args.self.now) p c.args.address) (sym z.1) (ap (λ w. w == 32871) c.word.ensures)
+    let z = routine-of c.args.self.now c.args.part
+    (let y : 0 < c.args.part = omega (arith, c.if-part-ne0.true) in y) c.requires.part in
+    subst (λ p. (c.word.result == 32871) ≡ returns (calls c.args.self.now) p c.args.address)
+    (sym z.1) (ap (λ w. w == 32871) c.word.ensures)

@@ -7,6 +7,12 @@ invariant-loop-step l =
     record {
       taken_len : vec_len l.self.taken ≡ 131072;
       bytes_len : vec_len l.self.bytes ≡ 131072;
-      taken : (k : ℕ) → slice_index_or l.self.taken.items k false ≡ (if nat_le l.index k && nat_lt k (l.index + l.step) then true else slice_index_or l.fn.self.taken.items k false);
-      bytes : (k : ℕ) → slice_index_or l.self.bytes.items k 0 ≡ (if nat_le l.index k && nat_lt k (l.index + l.step) then slice_index_or l.source (k - l.index) 0 else slice_index_or l.fn.self.bytes.items k 0);
+      taken : (k : ℕ) → slice_index_or l.self.taken.items k false ≡ (if nat_le l.index k && nat_lt k
+          (l.index + l.step) then true
+          else slice_index_or l.fn.self.taken.items k false);
+      bytes : (k : ℕ) → slice_index_or l.self.bytes.items k 0
+          ≡ (if nat_le l.index k && nat_lt k (l.index + l.step)
+          then slice_index_or l.source
+          (k - l.index) 0
+          else slice_index_or l.fn.self.bytes.items k 0);
     }

@@ -5,13 +5,15 @@ use Rattle.fp_io.proofs.memory_files.MemFiles.count_call.Goals as goal
 
 pub invariant_of-self : goal.invariant_of-self
 invariant_of-self c =
-    rw c.saturating_add-self-inside-then-fails.ensures (files_after_fault _ _ _ _ c.saturating_add-self-inside.ensures (search rules) c.self.invariant)
+    rw c.saturating_add-self-inside-then-fails.ensures
+    (files_after_fault _ _ _ _ c.saturating_add-self-inside.ensures (search rules) c.self.invariant)
 
 pub returns-then-fails-clause-few : goal.returns-then-fails-clause-few
 returns-then-fails-clause-few c = (invariant_of-self c).few
 
 pub invariant_of-self-else-fails : goal.invariant_of-self-else-fails
-invariant_of-self-else-fails c = files_after_call _ _ _ _ c.saturating_add-self-inside.ensures (omega arith) c.self.invariant
+invariant_of-self-else-fails c =
+    files_after_call _ _ _ _ c.saturating_add-self-inside.ensures (omega arith) c.self.invariant
 
 pub returns-else-fails-clause-few : goal.returns-else-fails-clause-few
 returns-else-fails-clause-few c = (invariant_of-self-else-fails c).few

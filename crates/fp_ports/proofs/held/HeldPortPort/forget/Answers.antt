@@ -1,6 +1,6 @@
 use Rattle.std.proofs.Common.{ℕ, Option, List, unwrap_or, ap, ◌∙◌}
 use Rattle.fp_ports.specs.declared.feeds.Feed.{Feed}
-use Rattle.fp_ports.specs.Kinds.{Held, fed_word, held_word}
+use Rattle.fp_ports.specs.Kinds.{HeldModel, fed_word, held_word}
 use Rattle.fp_ports.proofs.KeptLemmas.{fed_word-kept}
 use Rattle.fp_ports.proofs.held.HeldPortPort.forget.Goals as goal
 
@@ -8,4 +8,4 @@ pub returns-clause-words : goal.returns-clause-words
 returns-clause-words c = λ at late low.
     ap (λ (feeds : List Feed). unwrap_or (fed_word feeds at) 0) c.forget.ensures
     ∙ ap (λ (w : Option ℕ). unwrap_or w 0) (fed_word-kept c.self.inside.feeds c.args.before at late)
-    ∙ ap (λ (port : Held). held_word port at) c.self.view_is
+    ∙ ap (λ (port : HeldModel). held_word port at) c.self.view_is

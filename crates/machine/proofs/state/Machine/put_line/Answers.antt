@@ -1,4 +1,5 @@
-use Rattle.std.proofs.Common.{◌≡◌, ◌∙◌, ℕ, List, [], ◌∷◌, length, true, false, arith, refl, subst, sym}
+use Rattle.std.proofs.Common.{◌≡◌, ◌∙◌, ℕ, List, [], ◌∷◌, length}
+use Rattle.std.proofs.Common.{true, false, arith, refl, subst, sym}
 use Rattle.std.proofs.Math.Nat.{le_refl}
 use Rattle.std.proofs.lemmas.Grind.{common_steps}
 use Rattle.std.specs.Prelude.{◌==◌, OnOk, OnErr}
@@ -18,7 +19,8 @@ some (b ∷ bytes) h empty = cc
 pub returns-then-is_empty : goal.returns-then-is_empty
 returns-then-is_empty g c =
     let taken = g.K.Sink.taken c.args.out.now in
-    let nothing = sym (none c.line-line.result.bytes (sym c.is_empty.ensures ∙ c.if-is_empty.true)) ∙ c.line-line.ensures in
+    let nothing = sym (none c.line-line.result.bytes (sym c.is_empty.ensures ∙ c.if-is_empty.true))
+    ∙ c.line-line.ensures in
     record {
       ok = subst (λ (line : List ℕ). Appends taken taken line) nothing (appends_nothing taken);
       err = tt;
@@ -33,9 +35,15 @@ returns g c =
     let after = g.K.Sink.taken c.put.new.self in
     let shown = c.as_bytes.ensures.value ∙ (c.deref.ensures.0 ∙ c.line-line.ensures) in
     record {
-      ok = subst (λ (line : List ℕ). OnOk c.put.result (Appends before after line)) shown c.put.ensures.ok;
-      err = subst (λ (line : List ℕ). OnErr c.put.result (AppendsFront before after line)) shown c.put.ensures.err;
+      ok =
+          subst (λ (line : List ℕ). OnOk c.put.result (Appends before after line)) shown
+          c.put.ensures.ok;
+      err =
+          subst (λ (line : List ℕ). OnErr c.put.result (AppendsFront before after line)) shown
+          c.put.ensures.err;
       failed = c.put.ensures.failed;
       counted = c.put.ensures.counted;
-      nothing = λ empty. absurd (some c.line-line.result.bytes (sym c.is_empty.ensures ∙ c.if-is_empty.false) (c.line-line.ensures ∙ empty));
+      nothing =
+          λ empty. absurd (some c.line-line.result.bytes
+          (sym c.is_empty.ensures ∙ c.if-is_empty.false) (c.line-line.ensures ∙ empty));
     }

@@ -1,7 +1,7 @@
 -- A run is one that continues from cycle 0.
 use Rattle.std.proofs.Common.{◌≡◌, ℕ, Result, Ok, Err, OnOk, OnErr, List, Option, arith}
 use Rattle.std.proofs.Math.Nat.{le_refl}
-use Rattle.world_model.specs.World.{Start}
+use Rattle.core_model.specs.World.{Start}
 use Rattle.machine.proofs.SleepLemmas.{run_begins_at}
 use Rattle.machine.proofs.state.Machine.run.Goals as goal
 
@@ -14,9 +14,15 @@ map-err (Ok x) P Q h f = h
 map-err (Err e) P Q h f = f h
 
 pub returns-clause-ok : goal.returns-clause-ok
-returns-clause-ok g c = map-ok c.run_on.result _ _ c.run_on.ensures.ok
-    (λ more s st. more s c.args.n _ (g.K.Sink.taken c.args.out.now) (le_refl c.args.n) (run_begins_at s c.args.n c.args.thread c.args.self.now _ (g.K.Sink.taken c.args.out.now) c.requires.start st))
+returns-clause-ok g c =
+    map-ok c.run_on.result _ _ c.run_on.ensures.ok
+    (λ more s st. more s c.args.n _ (g.K.Sink.taken c.args.out.now) (le_refl c.args.n)
+    (run_begins_at s c.args.n c.args.thread c.args.self.now _
+    (g.K.Sink.taken c.args.out.now) c.requires.start st))
 
 pub returns-clause-err : goal.returns-clause-err
-returns-clause-err g c = map-err c.run_on.result _ _ c.run_on.ensures.err
-    (λ more s st. more s c.args.n _ (g.K.Sink.taken c.args.out.now) (le_refl c.args.n) (run_begins_at s c.args.n c.args.thread c.args.self.now _ (g.K.Sink.taken c.args.out.now) c.requires.start st))
+returns-clause-err g c =
+    map-err c.run_on.result _ _ c.run_on.ensures.err
+    (λ more s st. more s c.args.n _ (g.K.Sink.taken c.args.out.now) (le_refl c.args.n)
+    (run_begins_at s c.args.n c.args.thread c.args.self.now _
+    (g.K.Sink.taken c.args.out.now) c.requires.start st))

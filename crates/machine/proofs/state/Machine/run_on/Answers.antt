@@ -32,16 +32,21 @@ loop-self-preserved g c =
       counted = le_trans inv.counted ahead.counted;
       words = words_on _ _ _ inv.words ahead.words;
       known = inv.known ∙ ap (list_any is_some) (sym ahead.unplugs);
-      runs = λ s n first told within run. c.in_ok-run_to_line.ensures.ok s n first told within (inv.runs s n first told within run);
+      runs =
+          λ s n first told within run.
+          c.in_ok-run_to_line.ensures.ok s n first told within (inv.runs s n first told within run);
     }
 
 pub returns-in_err-run_to_line-clause-err : goal.returns-in_err-run_to_line-clause-err
 returns-in_err-run_to_line-clause-err g c =
     let inv = c.loop-self.invariant in
     let p = err_from_is_err_and c.from_residual.result c.from_residual.ensures.1 in
-    rw p.1 (λ s n first told within run. c.in_err-run_to_line.ensures.err s n first told within (inv.runs s n first told within run))
+    rw p.1 (λ s n first told within run.
+    c.in_err-run_to_line.ensures.err s n first told within (inv.runs s n first told within run))
 
 pub returns-clause-ok : goal.returns-clause-ok
 returns-clause-ok g c =
     let inv = c.loop-self.invariant in
-    λ s n first told within run. run_comes_to (ended c.loop-self.self.at c.args.end inv.within c.loop-self-test.false) (inv.runs s n first told within run)
+    λ s n first told within run.
+    run_comes_to (ended c.loop-self.self.at c.args.end inv.within c.loop-self-test.false)
+    (inv.runs s n first told within run)

@@ -1,12 +1,15 @@
 use Rattle.std.proofs.Common.{◌≡◌, vec_len}
-use Rattle.fp_ports.specs.Rows.{rows_of}
-use Rattle.machine.specs.FieldRelation.{kept_in}
+use Rattle.fp_ports.specs.PluggedPorts.{rows_of}
+use Rattle.machine.specs.FieldRelation.{ports_left_in}
 use Rattle.machine.proofs.state.Machine.take_due.Given as goal
 
 abbrev pub invariant-loop-thread : goal.invariant-loop-thread
 invariant-loop-thread g l =
     record {
       eight : vec_len l.ports ≡ 8;
-      rows : rows_of (λ b. (goal.Port-dyn g (b.vtable, b.value)).latched b.value) (λ b. (goal.Port-dyn g (b.vtable, b.value)).word_at b.value) l.ports.items
-          ≡ kept_in l.self.unplugs l.self.at (rows_of (λ b. (goal.Port-dyn g (b.vtable, b.value)).latched b.value) (λ b. (goal.Port-dyn g (b.vtable, b.value)).word_at b.value) l.initial.ports.items) l.thread;
+      rows : rows_of (λ b. (goal.Port-dyn g (b.vtable, b.value)).latched b.value)
+          (λ b. (goal.Port-dyn g (b.vtable, b.value)).word_at b.value) l.ports.items
+          ≡ ports_left_in l.self.unplugs l.self.at
+          (rows_of (λ b. (goal.Port-dyn g (b.vtable, b.value)).latched b.value) (λ b.
+          (goal.Port-dyn g (b.vtable, b.value)).word_at b.value) l.initial.ports.items) l.thread;
     }

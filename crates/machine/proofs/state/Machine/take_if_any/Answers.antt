@@ -9,7 +9,9 @@ pub returns-then-loses_ports-clause-eight : goal.returns-then-loses_ports-clause
 returns-then-loses_ports-clause-eight g c = c.take_due.ensures.eight
 
 pub returns-else-loses_ports-clause-rows : goal.returns-else-loses_ports-clause-rows
-returns-else-loses_ports-clause-rows g c = sym (none_due c.args.self.now.unplugs c.args.self.now.at _ 8 (sym c.requires.known ∙ c.if-loses_ports.false))
+returns-else-loses_ports-clause-rows g c =
+    sym (none_due c.args.self.now.unplugs c.args.self.now.at _ 8
+    (sym c.requires.known ∙ c.if-loses_ports.false))
 
 pub returns-else-loses_ports-clause-eight : goal.returns-else-loses_ports-clause-eight
 returns-else-loses_ports-clause-eight g c = c.requires.eight

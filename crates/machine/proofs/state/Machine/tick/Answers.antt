@@ -8,8 +8,10 @@ pub returns-clause-relation : goal.returns-clause-relation
 returns-clause-relation g c =
     let same : length c.args.ports.now.items ≡ 8 = omega (arith, c.requires.eight) in
     let eight = length-map c.args.ports.now.items _ ∙ same in
-    let at : c.advance-shown.new.self.at ≡ c.args.self.now.at + 1 = omega (arith, c.advance-shown.ensures.on, c.advance-shown.ensures.end) in
+    let at : c.advance-shown.new.self.at ≡ c.args.self.now.at + 1 =
+    omega (arith, c.advance-shown.ensures.on, c.advance-shown.ensures.end) in
     λ s n within st.
-    ticks_alone s n 8 c.args.self.now c.advance-shown.new.self _ _ c.advance-shown.result c.advance-shown.new.line c.retiring-event.result at
+    ticks_alone s n 8 c.args.self.now c.advance-shown.new.self _ _
+    c.advance-shown.result c.advance-shown.new.line c.retiring-event.result at
     (c.retiring-event.ensures.retires ∙ retires_as s n c.args.self.now _ eight within st)
     (c.advance-shown.ensures.advanced s n (omega (arith, within)) st) c.advance-shown.ensures.words

@@ -5,11 +5,21 @@ use Rattle.pipeline_core.proofs.pipe.Pipe.step.Goals as goal
 
 pub returns-clause-step : goal.returns-clause-step
 returns-clause-step g c =
-    rw (c.younger_stages.ensures.w, c.younger_stages.ensures.m, c.younger_stages.ensures.e, c.execute-redirects.ensures.w, c.execute-redirects.ensures.m)
-    (steps _ _ _ _ c.args.cycle _ _ _ _ _ _ _ _ _ _ c.older_stages.ensures.w c.older_stages.ensures.m c.older_stages.ensures.units
+    rw (
+      c.younger_stages.ensures.w,
+      c.younger_stages.ensures.m,
+      c.younger_stages.ensures.e,
+      c.execute-redirects.ensures.w,
+      c.execute-redirects.ensures.m,
+    )
+    (steps _ _ _ _ c.args.cycle _ _ _ _ _ _ _ _ _ _ c.older_stages.ensures.w
+    c.older_stages.ensures.m c.older_stages.ensures.units
     c.now-now.ensures c.pick-pick.ensures.pick c.pick-pick.ensures.pointer
-    (rw c.older_stages.ensures.d at c.execute-redirects.ensures.e) (sym (rw c.older_stages.ensures.d at c.execute-redirects.ensures.redirect))
+    (rw c.older_stages.ensures.d at c.execute-redirects.ensures.e)
+    (sym (rw c.older_stages.ensures.d at c.execute-redirects.ensures.redirect))
     (rw c.older_stages.ensures.d at c.execute-redirects.ensures.units _)
-    (rw (c.execute-redirects.ensures.next, c.older_stages.ensures.next) at c.younger_stages.ensures.f)
-    (rw (c.execute-redirects.ensures.next, c.older_stages.ensures.next) at c.younger_stages.ensures.next)
-    (rw (c.execute-redirects.ensures.m, c.execute-redirects.ensures.f, c.older_stages.ensures.f) at c.younger_stages.ensures.d))
+    (rw (c.execute-redirects.ensures.next, c.older_stages.ensures.next) at
+    c.younger_stages.ensures.f) (rw (c.execute-redirects.ensures.next, c.older_stages.ensures.next)
+    at c.younger_stages.ensures.next)
+    (rw (c.execute-redirects.ensures.m, c.execute-redirects.ensures.f, c.older_stages.ensures.f) at
+    c.younger_stages.ensures.d))

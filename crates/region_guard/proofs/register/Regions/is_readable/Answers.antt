@@ -5,5 +5,7 @@ use Rattle.region_guard.proofs.register.Regions.is_readable.Goals as goal
 
 pub returns-then-thread-lt8 : goal.returns-then-thread-lt8
 returns-then-thread-lt8 c =
-    let told = masks_tell is_readable c.self.inside.word c.args.thread c.args.region (get_or c.self.inside.readable c.args.thread 0) c.if-thread-lt8.true c.requires (ap (λ masks. get_or masks c.args.thread 0) c.self.invariant.1) in
+    let told = masks_tell is_readable c.self.inside.word c.args.thread c.args.region
+    (get_or c.self.inside.readable c.args.thread 0) c.if-thread-lt8.true c.requires
+    (ap (λ masks. get_or masks c.args.thread 0) c.self.invariant.1) in
     rw (← c.self.view_is) told

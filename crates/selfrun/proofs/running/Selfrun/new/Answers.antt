@@ -5,7 +5,8 @@ use Rattle.selfrun.proofs.running.Selfrun.new.Goals as goal
 
 pub returns-in-Ok-clause-tallies : goal.returns-in-Ok-clause-tallies
 returns-in-Ok-clause-tallies c =
-    own_run c.args.number _ _ _ _ c.in-Ok.machine c.tallies.result refl refl c.in_ok-ports.ensures.rows c.in-Ok.ensures.stands c.tallies.ensures refl
+    own_run c.args.number _ _ _ _ c.in-Ok.machine c.tallies.result refl refl
+    c.in_ok-ports.ensures.rows c.in-Ok.ensures.refines c.tallies.ensures refl
 
 pub returns-in-Ok-clause-text : goal.returns-in-Ok-clause-text
 unfolding selfrun_text

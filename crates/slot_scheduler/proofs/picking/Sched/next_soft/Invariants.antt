@@ -7,7 +7,8 @@ use Rattle.slot_scheduler.proofs.picking.Sched.next_soft.Given as goal
 abbrev pub invariant-loop-left : goal.invariant-loop-left
 invariant-loop-left l = record {
   small : l.left < 256;
-  found : find (takes_donated l.self l.now) (after_last l.last) ≡ find (slept l.self l.now) (threads_in l.last l.left);
+  found : find (takes_donated l.self l.now) (after_last l.last)
+      ≡ find (slept l.self l.now) (threads_in l.last l.left);
 }
 
 abbrev pub decreases-loop-left : goal.decreases-loop-left

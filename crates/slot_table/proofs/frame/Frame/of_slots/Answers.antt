@@ -1,9 +1,11 @@
-use Rattle.std.proofs.Common.{◌<◌, [], ◌∷◌, filter, length, take, get_or, refl, arith, length-append, rules}
+use Rattle.std.proofs.Common.{◌<◌, [], ◌∷◌, filter, length, take}
+use Rattle.std.proofs.Common.{get_or, refl, arith, length-append, rules}
 use Rattle.std.proofs.lemmas.List.{take_all}
 use Rattle.slot_table.specs.Frame.{is_used}
 use Rattle.slot_table.proofs.Turns.{used-kept, used-left, in_positions-push}
 use Rattle.slot_table.proofs.frame.Frame.of_slots.Goals as goal
-use Rattle.slot_table.proofs.frame.Frame.of_slots.Goals.{then-slot-ne-DISABLED, else-slot-ne-DISABLED}
+use Rattle.slot_table.proofs.frame.Frame.of_slots.Goals.{then-slot-ne-DISABLED}
+use Rattle.slot_table.proofs.frame.Frame.of_slots.Goals.{else-slot-ne-DISABLED}
 
 pub loop-slot-preserved : goal.loop-slot-preserved
 loop-slot-preserved c =

@@ -6,8 +6,11 @@ position_of-requires-clause-len c = rw c.self.invariant.1 (length-frame-le c.sel
 
 pub returns-clause-turn : goal.returns-clause-turn
 returns-clause-turn c =
-    let position = turn_named-slot c.self.inside.word c.args.cycle c.position_of.result 0 c.position_of.ensures.inside (rw c.self.invariant.1 at c.position_of.ensures.position) in
+    let position = turn_named-slot c.self.inside.word c.args.cycle c.position_of.result 0
+    c.position_of.ensures.inside (rw c.self.invariant.1 at c.position_of.ensures.position) in
     rw (c.self.invariant.1, ← c.self.view_is) position
 
 pub returns-clause-slot : goal.returns-clause-slot
-returns-clause-slot c = rw c.self.invariant.1 (is_slot-position c.self.inside.word c.position_of.result 0 c.self.invariant.0 c.position_of.ensures.inside)
+returns-clause-slot c =
+    rw c.self.invariant.1 (is_slot-position c.self.inside.word c.position_of.result 0
+    c.self.invariant.0 c.position_of.ensures.inside)

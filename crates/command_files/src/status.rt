@@ -1,0 +1,58 @@
+//! How a command ended.
+
+ghost use Rattle.std.specs.Prelude.{◌≡◌};
+
+use trace_print::Refusal;
+
+/// How a command ended.
+#[derive(Clone, Copy)]
+pub enum Status {
+    /// The command's text was written.
+    Ok = 0,
+    /// The recorded trace isn't the defined one; the line that tells where was written.
+    Differs = 1,
+    /// The words ask no command.
+    Usage = 2,
+    /// The setup has a fault, or the section or the thread can't be asked for; its line was
+    /// written.
+    Setup = 3,
+    /// The image, or the executable, has a fault; its line was written.
+    Image = 4,
+    /// The source has a fault; its line was written.
+    Source = 5,
+    /// The section has no bound, or one past 64 bits; its line was written.
+    Bound = 6,
+    /// A file could not be read, or isn't there.
+    Read = 7,
+    /// The text could not be written whole.
+    Write = 8,
+    /// Memory was refused; nothing was written.
+    NoMemory = 9,
+    /// The list of routines has a fault; its line was written.
+    Routines = 10,
+}
+
+impl Status {
+    ghost use Rattle.command_files.specs.Answer.{status_of};
+    ghost use Rattle.command_files.specs.Status.{number_of};
+
+    /// How a command ends whose refusal line was written.
+    pub fn of_refusal(refusal: &Refusal) -> Status
+        ensures { number_of result ≡ status_of refusal.now }
+    {
+        match refusal {
+            Refusal::Setup { .. } | Refusal::Section { .. } => Status::Setup,
+            Refusal::Image { .. } => Status::Image,
+            Refusal::Source { .. } => Status::Source,
+            Refusal::Bound { .. } => Status::Bound,
+            Refusal::Routines { .. } => Status::Routines,
+        }
+    }
+
+    /// Its number.
+    pub fn number(self) -> u8
+        ensures { result ≡ number_of self }
+    {
+        self as u8
+    }
+}

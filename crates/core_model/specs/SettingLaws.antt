@@ -1,0 +1,47 @@
+-- What the settings of a run tell, and where a thread has its positions by them.
+use Rattle.std.specs.Prelude.{◌≡◌, ℕ, ◌+◌, ◌-◌, ◌<◌, ◌≤◌, ◌==◌, Bool, false, ◌&&◌}
+use Rattle.slot_table.specs.Frame.{turn}
+use Rattle.slot_table.specs.declared.frame.Turn.{Turn}
+use Rattle.slot_table.specs.declared.frame.Turn.TheVariants.{Thread, Soft, Nobody}
+use Rattle.slot_scheduler.specs.ModeWord.{mode_of}
+use Rattle.core_model.specs.Solo.{has_position}
+use Rattle.core_model.specs.World.{Start, Registers, world}
+use Rattle.core_model.specs.declared.phase.Phase.{Phase}
+use Rattle.core_model.specs.Phases.{phases}
+use Rattle.core_model.specs.Phased.{phase_at, positions}
+use Rattle.core_model.specs.Cycles.{cycles_to_w}
+
+-- a setting has the slots and the modes of the registers
+pub record Matches (p : Phase) (r : Registers) : Type 0 where
+  pub slots : p.slots ≡ r.slots
+  pub modes : p.modes ≡ r.modes
+
+-- the setting of a cycle is what picking goes by in it, which is what stood in the registers two
+-- cycles before; so a write that hasn't retired is seen by no issue that has
+abbrev pub SettingsOfPicks : Type 0
+SettingsOfPicks =
+    (s : Start) (n c : ℕ) → c ≤ n - cycles_to_w + 2 →
+    Matches (phase_at (phases s n) c) (world s (c - 2)).registers
+
+-- The settings of n cycles decide picking in cycle c: picking uses the last of them that begins in
+-- c or before, and no write of a later cycle changes which one that is.
+pub record IsSettled (s : Start) (n c : ℕ) : Type 0 where
+  pub used : Matches (phase_at (phases s n) c) (world s (c - 2)).registers
+  pub later : (m : ℕ) → phase_at (phases s (n + m)) c ≡ phase_at (phases s n) c
+
+-- Picking in the cycle of an issue that has retired, and in each up to c = n - 2, depends only on
+-- writes of slots and modes that have retired too.
+abbrev pub UnretiredUnseen : Type 0
+UnretiredUnseen = (s : Start) (n c : ℕ) → c ≤ n - cycles_to_w + 2 → IsSettled s n c
+
+-- whether a turn of the frame is a thread's own
+abbrev pub is_turn_of : Turn → ℕ → Bool
+is_turn_of (Thread k) i = k == i
+is_turn_of Soft i = false
+is_turn_of Nobody i = false
+
+-- a thread has a cycle exactly where the turn of the slots is its own and its mode is hard active
+abbrev pub OwnPositions : Type 0
+OwnPositions =
+    (i c : ℕ) (p : Phase) → i < 8 →
+    has_position (positions i p) c ≡ (is_turn_of (turn p.slots c) i && mode_of p.modes i == 0)

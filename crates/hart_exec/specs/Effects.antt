@@ -1,0 +1,38 @@
+-- The access of a CSR instruction, and predicates on effects, words and targets.
+use Rattle.std.specs.Prelude.{◌≡◌, ◌≢◌, ℕ, ◌%◌, true, Option, Some, None}
+use Rattle.rv_decode.specs.declared.instruction.Ins.{Ins}
+use Rattle.rv_decode.specs.declared.instruction.Ins.TheVariants as row
+use Rattle.rv_decode.specs.declared.instruction.CsrKind.{CsrKind}
+use Rattle.rv_exec.specs.declared.outcome.Outcome.{Outcome}
+use Rattle.rv_exec.specs.Line.{IsPrintable}
+use Rattle.rv_exec.specs.declared.outcome.Effect.{Effect}
+use Rattle.rv_exec.specs.declared.outcome.Effect.TheVariants.{Store, Trap}
+use Rattle.core_model.specs.Issue.{csr_op, csr_operand, csr_writes}
+use Rattle.hart_exec.specs.declared.csr.Access.{Access}
+
+-- what a CSR instruction wants
+abbrev pub access_of : CsrKind → ℕ → ℕ → Access
+access_of kind src a =
+    record { op = csr_op kind; operand = csr_operand kind src a; writes = csr_writes kind src }
+
+-- the address of a store is a multiple of its number of bytes
+abbrev pub IsAlignedStore : Option Effect → Type 0
+IsAlignedStore (Some (Store address size value)) = address % size ≡ 0
+IsAlignedStore _ = Unit {0}
+
+-- an effect can be shown in a line of a trace
+abbrev pub IsPrintableEffect : Option Effect → Type 0
+IsPrintableEffect (Some effect) = IsPrintable effect
+IsPrintableEffect None = Unit {0}
+
+-- a word is shown, and so isn't 0, unless its instruction traps
+abbrev pub HasWord : Option Effect → ℕ → Type 0
+HasWord (Some (Trap cause target)) word = Unit {0}
+HasWord _ word = word ≢ 0
+
+-- the target of a jump, and of a branch that is taken, is a multiple of four
+abbrev pub HasTarget : Ins → Outcome → Type 0
+HasTarget (row.Jal rd off) o = o.target % 4 ≡ 0
+HasTarget (row.Jalr rd rs1 imm) o = o.target % 4 ≡ 0
+HasTarget (row.Branch op rs1 rs2 off) o = o.taken ≡ true → o.target % 4 ≡ 0
+HasTarget _ o = Unit {0}

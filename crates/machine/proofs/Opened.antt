@@ -1,0 +1,7 @@
+-- What the proofs of a function open, under one name.
+use Rattle.pipe_model.specs.Stages.{retired_event}
+
+-- the turn that retires
+unfoldable pub turn : Type 0
+unfolding retired_event
+turn = Unit

@@ -1,3 +1,0 @@
-mod Shift
-pub mod First
-pub mod Masks

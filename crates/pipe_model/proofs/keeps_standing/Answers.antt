@@ -1,5 +1,0 @@
-use Rattle.pipe_model.proofs.Keeping.{keeps}
-use Rattle.pipe_model.proofs.keeps_standing.Goals as goal
-
-pub returns : goal.returns
-returns c = keeps

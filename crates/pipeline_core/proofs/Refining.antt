@@ -1,0 +1,19 @@
+-- What a cycle leaves refines the next one.
+use Rattle.std.proofs.Common.{◌≡◌, ℕ, List, map}
+use Rattle.std.specs.Prelude.{Option}
+use Rattle.fp_ports.specs.PluggedPorts.{Row}
+use Rattle.core_model.specs.World.{Start, start_world}
+use Rattle.pipe_model.specs.Stages.{StageRegisters, State, Ticked, step}
+use Rattle.pipe_model.specs.Relation.{Begins, PortsRefine, Refines, RefinesNext, HasLatches}
+use Rattle.pipe_model.specs.PipelineLaws.{StepRefines, StartRefines, empty, first_units}
+
+pub kept_by : StepRefines →
+    (s : Start) (c : ℕ) (p : StageRegisters) (u : State) (t : Ticked) → t ≡ step p u c →
+    Begins s → PortsRefine s c u.ports → Refines s c p u → RefinesNext s c u.ports t
+kept_by keeps s c p u t e begins shows refines = rw e (keeps s c p u begins shows refines)
+
+-- an empty pipeline at the pcs of a world's threads refines its start
+pub starts_at : StartRefines → (next : List ℕ) (s : Start) (ports : List (Option Row)) →
+    Begins s → HasLatches (start_world s) ports →
+    map (λ t. t.pc) s.threads ≡ next → Refines s 0 (empty next) (first_units s ports)
+starts_at starts next s ports begins latches e = rw (← e) (starts s ports begins latches)

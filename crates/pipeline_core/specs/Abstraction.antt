@@ -1,0 +1,55 @@
+-- Abstraction functions of the pipeline and the units.
+use Rattle.std.specs.Prelude.{ℕ, ◌-◌, List, Option}
+use Rattle.fp_ports.specs.PluggedPorts.{Row}
+use Rattle.rv_exec.specs.declared.outcome.Event.{Event}
+use Rattle.region_guard.specs.declared.access.Guard.{Guard}
+use Rattle.slot_scheduler.specs.declared.picking.Sched.{Sched}
+use Rattle.timer_unit.specs.declared.row.Timer.{Timer}
+use Rattle.core_model.specs.declared.own.Trapping.{Trapping}
+use Rattle.core_model.specs.World.{Registers}
+use Rattle.timer_unit.specs.Time.{time}
+use Rattle.pipe_model.specs.declared.stage_registers.Held.{Held}
+use Rattle.pipe_model.specs.declared.stage_registers.Decoded.{Decoded}
+use Rattle.pipe_model.specs.Stages.{StageRegisters, Control, State, Ticked, After, execute_stage}
+use Rattle.pipeline_core.specs.declared.pipe.Pipe.{Pipe}
+use Rattle.pipeline_core.specs.declared.units.Units.{Units}
+
+-- the stage registers, and the pc that each thread fetches next
+abbrev pub abstract_stages : Pipe → StageRegisters
+abstract_stages p = record { next = p.next; f = p.f; d = p.d; e = p.e; m = p.m; w = p.w }
+
+-- the machine's own registers
+abbrev pub abstract_registers : Sched → Guard → Registers
+abstract_registers s g = record { slots = s.slots; modes = s.modes; dregions = g.d; iregions = g.i }
+
+-- what the execute stage reads and writes
+abbrev pub abstract_control : Sched → Guard → List Timer → List Trapping → Control
+abstract_control s g timers traps =
+    record { registers = abstract_registers s g; timers = timers; traps = traps; sleeps = s.sleep }
+
+-- what the execute stage makes of a turn in a cycle
+abbrev pub executed_by : Units → ℕ → Held Decoded → After
+executed_by u cycle d =
+    execute_stage u.guard.size u.confined u.permit (time u.clock (cycle - 2))
+    (abstract_control u.sched u.guard u.timers u.traps) d
+
+-- what the units hold, beside the ports
+abbrev pub abstract_state : Units → List (Option Row) → State
+abstract_state u ports =
+    record {
+      bank = u.bank;
+      i_words = u.imem;
+      d_words = u.dmem;
+      control = abstract_control u.sched u.guard u.timers u.traps;
+      last = u.scheduler;
+      period = u.clock;
+      size = u.guard.size;
+      confined = u.confined;
+      permit = u.permit;
+      ports = ports;
+    }
+
+-- what a cycle left, and the event that it answered
+abbrev pub abstract_ticked : Pipe → Units → List (Option Row) → Option Event → Ticked
+abstract_ticked p u ports event =
+    record { stage_registers = abstract_stages p; state = abstract_state u ports; event = event }

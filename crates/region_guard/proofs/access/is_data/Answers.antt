@@ -1,5 +1,0 @@
-use Rattle.std.proofs.Common.{rules}
-use Rattle.region_guard.proofs.access.is_data.Goals as goal
-
-pub returns : goal.returns
-returns c = search rules
