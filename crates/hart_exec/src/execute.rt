@@ -97,7 +97,12 @@ fn execute_untrapped<const RARE: bool>(
 /// What an instruction does; a trap of its result comes first.
 #[tactic(auto, unfolding(core_model::specs::Issue::run_at), using(crate::proofs::Targets::steps))]
 #[inline(always)]
-fn run_at<const RARE: bool>(hart: &mut Hart<'_>, at: PcWord, s: Sources, i: &Ins) -> Option<ExecResult>
+fn run_at<const RARE: bool>(
+    hart: &mut Hart<'_>,
+    at: PcWord,
+    s: Sources,
+    i: &Ins,
+) -> Option<ExecResult>
     requires range { InRange i.now }
     requires pc { at.pc % 4 ≡ 0 }
     ensures all { RARE ≡ true → is_some result ≡ true }

@@ -76,7 +76,11 @@ pub fn trap(hart: &mut Hart<'_>, at: PcWord, cause: u8) -> ExecResult
 
 /// Traps with `RARE`. Without it, returns None and changes nothing.
 #[inline(always)]
-pub fn trap_if_rare<const RARE: bool>(hart: &mut Hart<'_>, at: PcWord, cause: u8) -> Option<ExecResult>
+pub fn trap_if_rare<const RARE: bool>(
+    hart: &mut Hart<'_>,
+    at: PcWord,
+    cause: u8,
+) -> Option<ExecResult>
     requires { at.pc % 4 ≡ 0 }
     ensures all { RARE ≡ true → is_some result ≡ true }
     ensures left { result ≡ None → units_of hart.new ≡ units_of hart.old }
