@@ -7,6 +7,7 @@ ghost use Rattle.machine.specs.WorldRelation.{Refines};
 ghost use Rattle.loop_runs.specs.FedRuns.{AllForgot, FeedsRunning};
 ghost use Rattle.loop_runs.specs.FedRuns.{ForgetsRunning, KeepsThree, fed_start};
 
+use core_model::CYCLES_TO_M;
 use fp_ports::{Ports, feed_port, forget_port};
 use machine::Machine;
 use std::alloc::AllocError;
@@ -67,7 +68,7 @@ pub fn forget_past(machine: &Machine, ports: &mut Ports)
     ensures eight { vec_len ports.new ≡ 8 }
 {
     forgets_running();
-    let first = machine.cycle().saturating_sub(3);
+    let first = machine.cycle().saturating_sub(CYCLES_TO_M);
     for thread in 0..8u8 {
         forget_port(ports, thread, first);
     }

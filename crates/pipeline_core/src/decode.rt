@@ -13,6 +13,7 @@ ghost use Rattle.pipeline_core.specs.StageFacts.{EffectFits, FetchedFits, Decode
 ghost use Rattle.pipeline_core.specs.StageFacts.{ExecutedFits, StoredFits};
 
 use crate::units::Units;
+use core_model::CYCLES_TO_D;
 use hart_exec::sources_in;
 use pipe_model::{Decoded, Executed, Fetched, Held, Redirect, Stored};
 use regfile_bank::Bank;
@@ -98,7 +99,7 @@ fn is_due(units: &Units, cycle: u64, thread: u8) -> bool
 {
     units
         .timers
-        .due(thread, units.clock.now(cycle.saturating_sub(1)))
+        .due(thread, units.clock.now(cycle.saturating_sub(CYCLES_TO_D)))
 }
 
 /// An issue with its sources, and whether its thread's armed moment was reached when it was issued,

@@ -19,6 +19,7 @@ ghost use Rattle.pipeline_core.specs.StageFacts.{ExecutedFits, RedirectFits};
 ghost use Rattle.pipeline_core.specs.Abstraction.{executed_by, abstract_state};
 
 use crate::units::Units;
+use core_model::CYCLES_TO_E;
 use hart_exec::{ExecResult, Hart, PcWord, Sources, execute_frequent, execute_in};
 use pipe_model::{Decoded, Executed, Flush, Held, Redirect};
 use rv_decode::{LATE_LAG, PLAIN_LAG};
@@ -159,7 +160,7 @@ fn execute_issue(
     };
     let mut hart = Hart {
         thread,
-        time: units.clock.now(cycle.saturating_sub(2)),
+        time: units.clock.now(cycle.saturating_sub(CYCLES_TO_E)),
         confined: units.is_confined(thread),
         permit: units.permit[thread as usize],
         guard: &mut units.guard,
@@ -237,7 +238,7 @@ fn execute_turn(
     let permit = units.permit[thread as usize];
     let mut hart = Hart {
         thread,
-        time: units.clock.now(cycle.saturating_sub(2)),
+        time: units.clock.now(cycle.saturating_sub(CYCLES_TO_E)),
         confined: units.is_confined(thread),
         permit,
         guard: &mut units.guard,

@@ -9,6 +9,7 @@ ghost use Rattle.core_model.specs.World.{words_after};
 ghost use Rattle.fp_ports.specs.PluggedPorts.{rows_of, row_at, word_seen};
 ghost use Rattle.pipeline_core.specs.StageFacts.{EffectFits};
 
+use core_model::CYCLES_TO_M;
 use fp_ports::{Port, Ports, read_port};
 use region_guard::Guard;
 use rv_decode::StoreOp;
@@ -57,7 +58,7 @@ pub fn data_word(
     } else if guard.is_data(address) {
         dmem.word_at(guard.data_index(address))
     } else {
-        read_port(ports, thread, cycle.saturating_sub(3))
+        read_port(ports, thread, cycle.saturating_sub(CYCLES_TO_M))
     }
 }
 
