@@ -144,10 +144,11 @@ fn expire(hart: &mut Hart<'_>, at: PcWord) -> ExecResult
 
 /// Executes the instruction at a pc, but for a late value. An expiry comes before all else; then a
 /// fetch that is refused. Neither shows a word. Without `RARE` it returns None and changes nothing
-/// for both, for traps, and for instructions on control registers, traps or time.
+/// for both, for traps, and for instructions on control registers, traps or time: a caller that
+/// executes these out of line keeps the results of the others in registers.
 #[tactic(auto, unfolding(crate::proofs::Opened::whole), using(crate::proofs::Zero::aligned_zero))]
 #[inline(always)]
-fn execute_some<const RARE: bool>(
+pub fn execute_some<const RARE: bool>(
     hart: &mut Hart<'_>,
     at: PcWord,
     expired: bool,
@@ -191,28 +192,4 @@ pub fn execute_in(hart: &mut Hart<'_>, at: PcWord, expired: bool, s: Sources) ->
     ensures address { IsAligned (ins result.word) result.address }
 {
     execute_some::<true>(hart, at, expired, s).unwrap()
-}
-
-/// Executes the instruction at a pc if it is frequent: not an expiry, a trap, or an instruction on
-/// control registers, traps or time. Otherwise it returns None and changes nothing. A caller that
-/// executes these out of line keeps the frequent results in registers.
-#[inline(always)]
-pub fn execute_frequent(
-    hart: &mut Hart<'_>,
-    at: PcWord,
-    expired: bool,
-    s: Sources,
-) -> Option<ExecResult>
-    requires { at.pc % 4 ≡ 0 }
-    ensures left { result ≡ None → units_of hart.new ≡ units_of hart.old }
-    ensures holds { Holds hart.old hart.new }
-    ensures refines { IfSome result (λ x. Refines hart.old hart.new x (execute_in
-        (environment_of hart.old) at.pc (own_of hart.old) expired at.word s.a s.b)) }
-    ensures pc { IfSome result (λ x. x.pc % 4 ≡ 0) }
-    ensures printable { IfSome result (λ x. IsPrintableEffect x.effect) }
-    ensures store { IfSome result (λ x. IsAlignedStore x.effect) }
-    ensures shown { IfSome result (λ x. HasWord x.effect x.word) }
-    ensures address { IfSome result (λ x. IsAligned (ins x.word) x.address) }
-{
-    execute_some::<false>(hart, at, expired, s)
 }

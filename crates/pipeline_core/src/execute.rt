@@ -1,7 +1,7 @@
 //! E: instructions are executed, but for late values.
 
 ghost use Rattle.std.specs.Prelude.{◌≡◌, ◌-◌, ◌<◌, ◌==◌, if◌then◌else◌};
-ghost use Rattle.std.specs.Prelude.{List, Option, Some, None, length};
+ghost use Rattle.std.specs.Prelude.{List, Option, Some, None, IfSome, is_some, length, true};
 ghost use Rattle.core_model.specs.Thread.{no_own};
 ghost use Rattle.rv_decode.specs.Table.{ins};
 ghost use Rattle.rv_decode.specs.Lag.{plain_lag, late_lag};
@@ -20,7 +20,7 @@ ghost use Rattle.pipeline_core.specs.Abstraction.{executed_by, abstract_state};
 
 use crate::units::Units;
 use core_model::CYCLES_TO_E;
-use hart_exec::{ExecResult, Hart, PcWord, Sources, execute_frequent, execute_in};
+use hart_exec::{ExecResult, Hart, PcWord, Sources, execute_some};
 use pipe_model::{Decoded, Executed, Flush, Held, Redirect};
 use rv_decode::{LATE_LAG, PLAIN_LAG};
 use rv_exec::Effect;
@@ -130,50 +130,58 @@ fn leave(
     true
 }
 
-/// Executes an issue on its thread's units.
+/// Executes an issue on its thread's units. Without `RARE` it returns None and changes no unit for
+/// an expiry, a trap, and an instruction on control registers, traps or time.
 #[tactic(auto, unfolding(pipe_model::specs::Stages::execute_stage))]
 #[inline(always)]
-fn execute_issue(
+fn execute_issue<const RARE: bool>(
     units: &mut Units,
     cycle: u64,
     thread: u8,
     x: &Decoded,
     e: &mut Held<Executed>,
     redirect: &mut Redirect,
-) -> bool
+) -> Option<bool>
     requires thread { thread < 8 }
     requires cycle { cycle < most_cycles }
     requires pc { IsPc x.now.pc }
-    ensures e { e.new ≡ (executed_by units.old cycle (Issue thread x.now)).e }
-    ensures redirect { (executed_by units.old cycle (Issue thread x.now)).redirect
-        ≡ (if result then Some redirect.new else None) }
-    ensures units { (ports : List (Option Row)) → abstract_state units.new ports
-        ≡ record (abstract_state units.old ports) {
+    ensures all { RARE ≡ true → is_some result ≡ true }
+    ensures left { result ≡ None → units.new ≡ units.old }
+    ensures e { IfSome result (λ flushes.
+        e.new ≡ (executed_by units.old cycle (Issue thread x.now)).e) }
+    ensures redirect { IfSome result (λ flushes.
+        (executed_by units.old cycle (Issue thread x.now)).redirect
+        ≡ (if flushes then Some redirect.new else None)) }
+    ensures units { IfSome result (λ flushes. (ports : List (Option Row))
+        → abstract_state units.new ports ≡ record (abstract_state units.old ports) {
           control = (executed_by units.old cycle (Issue thread x.now)).control;
-        } }
-    ensures fits { ExecutedFits e.new }
-    ensures redirect_fits { RedirectFits (if result then Some redirect.new else None) }
+        }) }
+    ensures fits { IfSome result (λ flushes. ExecutedFits e.new) }
+    ensures redirect_fits { IfSome result (λ flushes.
+        RedirectFits (if flushes then Some redirect.new else None)) }
 {
     let at = PcWord {
         pc: x.pc,
         word: x.word,
     };
+    let permit = units.permit[thread as usize];
     let mut hart = Hart {
         thread,
         time: units.clock.now(cycle.saturating_sub(CYCLES_TO_E)),
         confined: units.is_confined(thread),
-        permit: units.permit[thread as usize],
+        permit,
         guard: &mut units.guard,
         sched: &mut units.sched,
         timers: &mut units.timers,
         traps: &mut units.traps,
     };
-    let done = execute_in(&mut hart, at, x.expired, Sources { a: x.a, b: x.b });
-    leave(thread, x, &done, e, redirect)
+    let s = Sources { a: x.a, b: x.b };
+    let done = execute_some::<RARE>(&mut hart, at, x.expired, s)?;
+    Some(leave(thread, x, &done, e, redirect))
 }
 
-/// Executes an issue that is rare, out of line. Inlined, it costs each cycle 20 to 40 instructions:
-/// its results are merged with the frequent ones in memory.
+/// Executes a rare issue, out of line. Inlined, it costs each cycle 20 to 40 instructions: its
+/// results are merged with the frequent ones in memory.
 #[cold]
 #[inline(never)]
 fn execute_rare(
@@ -200,7 +208,7 @@ fn execute_rare(
         pc: 0,
         flush: Flush::Decode,
     };
-    if execute_issue(units, cycle, thread, x, e, &mut redirect) {
+    if execute_issue::<true>(units, cycle, thread, x, e, &mut redirect).unwrap() {
         Some(redirect)
     } else {
         None
@@ -208,7 +216,6 @@ fn execute_rare(
 }
 
 /// Executes an issue, out of line if it is rare.
-#[tactic(auto, unfolding(pipe_model::specs::Stages::execute_stage))]
 #[inline(always)]
 fn execute_turn(
     units: &mut Units,
@@ -231,29 +238,13 @@ fn execute_turn(
     ensures fits { ExecutedFits e.new }
     ensures redirect_fits { RedirectFits (if result then Some redirect.new else None) }
 {
-    let at = PcWord {
-        pc: x.pc,
-        word: x.word,
-    };
-    let permit = units.permit[thread as usize];
-    let mut hart = Hart {
-        thread,
-        time: units.clock.now(cycle.saturating_sub(CYCLES_TO_E)),
-        confined: units.is_confined(thread),
-        permit,
-        guard: &mut units.guard,
-        sched: &mut units.sched,
-        timers: &mut units.timers,
-        traps: &mut units.traps,
-    };
-    let s = Sources { a: x.a, b: x.b };
-    if let Some(done) = execute_frequent(&mut hart, at, x.expired, s) {
-        return leave(thread, x, &done, e, redirect);
+    if let Some(flushes) = execute_issue::<false>(units, cycle, thread, x, e, redirect) {
+        return flushes;
     }
-    let Some(told) = execute_rare(units, cycle, thread, x, e) else {
+    let Some(to) = execute_rare(units, cycle, thread, x, e) else {
         return false;
     };
-    *redirect = told;
+    *redirect = to;
     true
 }
 

@@ -7,7 +7,7 @@ use Rattle.hart_exec.proofs.execute.execute_some.Goals as goal
 
 pub returns-clause-refines : goal.returns-clause-refines
 unfolding execute_in environment_of
-returns-clause-refines c =
+returns-clause-refines g c =
     carried _ _ c.args.hart.now _ c.run_at.result _ _ refl refl refl
     (rw
     (c.if-expired.false, ← c.may_fetch.ensures, c.if-not-may_fetch.false, ← c.decode.ensures.table)
@@ -15,7 +15,7 @@ returns-clause-refines c =
 
 pub returns-clause-shown : goal.returns-clause-shown
 unfolding environment_of
-returns-clause-shown c =
+returns-clause-shown g c =
     let h = c.args.hart.now in
     let a = c.args in
     some-shown (environment_of h) _ _ (own_of h) a.at.pc a.at.word a.s.a a.s.b _ c.run_at.result

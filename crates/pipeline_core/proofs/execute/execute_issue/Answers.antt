@@ -11,35 +11,35 @@ use Rattle.pipeline_core.proofs.execute.execute_issue.Goals as goal
 
 pub returns-clause-e : goal.returns-clause-e
 unfolding execute_stage environment_of environment
-returns-clause-e c =
+returns-clause-e g c =
     let u = c.args.units.now in
     let a : Environment = environment (time u.clock (c.args.cycle - 2)) u.guard.size
     u.confined u.permit (abstract_registers u.sched u.guard) c.args.thread in
     c.leave.ensures.e
     ∙ ap (λ (r : After). r.e) (issue_after _ _ _ c.args.x.now a
     (rw (c.now.ensures, c.saturating_sub.ensures, c.is_confined.ensures) refl)
-    c.execute_in-done.ensures.refines)
+    c.in_ok-done.ensures.refines)
 
 pub returns-clause-redirect : goal.returns-clause-redirect
 unfolding execute_stage environment_of environment
-returns-clause-redirect c =
+returns-clause-redirect g c =
     let u = c.args.units.now in
     let a : Environment = environment (time u.clock (c.args.cycle - 2)) u.guard.size
     u.confined u.permit (abstract_registers u.sched u.guard) c.args.thread in
     sym (ap (λ (r : After). r.redirect) (issue_after _ _ _ c.args.x.now a
     (rw (c.now.ensures, c.saturating_sub.ensures, c.is_confined.ensures) refl)
-    c.execute_in-done.ensures.refines)) ∙ c.leave.ensures.redirect
+    c.in_ok-done.ensures.refines)) ∙ c.leave.ensures.redirect
 
 pub returns-clause-units : goal.returns-clause-units
 unfolding execute_stage environment_of environment
-returns-clause-units c ports =
+returns-clause-units g c ports =
     let u = c.args.units.now in
     let a : Environment = environment (time u.clock (c.args.cycle - 2)) u.guard.size
     u.confined u.permit (abstract_registers u.sched u.guard) c.args.thread in
     let control = ap (λ (r : After). r.control) (issue_after _ _ _ c.args.x.now a
     (rw (c.now.ensures, c.saturating_sub.ensures, c.is_confined.ensures) refl)
-    c.execute_in-done.ensures.refines) in
-    let size = size_after _ _ _ _ c.execute_in-done.ensures.refines in
+    c.in_ok-done.ensures.refines) in
+    let size = size_after _ _ _ _ c.in_ok-done.ensures.refines in
     λ j. record {
       bank = u.bank;
       i_words = u.imem;
