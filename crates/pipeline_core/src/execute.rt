@@ -164,12 +164,11 @@ fn execute_issue<const RARE: bool>(
         pc: x.pc,
         word: x.word,
     };
-    let permit = units.permit[thread as usize];
     let mut hart = Hart {
         thread,
         time: units.clock.now(cycle.saturating_sub(CYCLES_TO_E)),
         confined: units.is_confined(thread),
-        permit,
+        permit: units.permit[thread as usize],
         guard: &mut units.guard,
         sched: &mut units.sched,
         timers: &mut units.timers,
