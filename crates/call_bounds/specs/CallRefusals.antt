@@ -1,4 +1,4 @@
--- The sections and routines of which no bound is told, and why.
+-- The sections and routines that have no bound, and why.
 use Rattle.std.specs.Prelude.{◌≡◌, ℕ, ◌<◌, ◌≤◌, Some, Contains}
 use Rattle.fp_setup.specs.Loops.{AreLoops}
 use Rattle.region_tree.specs.Tree.{IsSection}
@@ -23,13 +23,13 @@ pub record RecursionAt (x : Calls) (a : ℕ) : Type 0 where
   pub again : CallsLead x (Some routine) (Some routine)
   pub address : a ≡ routine.head
 
--- what holds in some reached part
+-- P holds at an address of some reached function
 pub record InParts (x : Calls) (P : Graph → ℕ → Type 0) (a : ℕ) : Type 0 where
   pub within : Part
   pub reached : IsReached x within
   pub holds : P (part x within) a
 
--- a reachable word of a reached routine with an edge out of it, or with a call that would come back
+-- a reachable word of a reached routine with an edge out of it, or with a call that would return
 -- out of it
 pub record EscapeAt (x : Calls) (u : ℕ) : Type 0 where
   pub routine : Routine
@@ -39,7 +39,7 @@ pub record EscapeAt (x : Calls) (u : ℕ) : Type 0 where
   pub edge : Contains ((part x (Some routine)).edges u) by
   pub out : Lies (part x (Some routine)) by.to → ⊥
 
--- None of the rows holds anywhere.
+-- None of the causes holds anywhere.
 pub record IsCallable (x : Calls) : Type 0 where
   pub overlap : Nowhere (OverlapAt x)
   pub recursion : Nowhere (RecursionAt x)
@@ -49,7 +49,7 @@ pub record IsCallable (x : Calls) : Type 0 where
   pub unbounded : Nowhere (InParts x UnboundedAt)
   pub escape : Nowhere (EscapeAt x)
 
--- what is asked of a section, its routines and its loops
+-- the rules of a section, its routines and its loops
 pub record IsListing (x : Calls) : Type 0 where
   pub section : IsSection x.section
   pub routines : AreRoutines x.routines

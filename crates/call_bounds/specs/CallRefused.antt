@@ -1,4 +1,4 @@
--- What is answered where a section with routines is refused.
+-- The refusal of a section with routines.
 use Rattle.region_tree.specs.Refusals.{IndirectAt, IsLowest, Nowhere, TimedAt, UnboundedAt}
 use Rattle.region_tree.specs.Nesting.{NestingAt}
 use Rattle.call_bounds.specs.CallRefusals.{EscapeAt, InParts, OverlapAt, RecursionAt}
@@ -8,17 +8,17 @@ use Rattle.call_bounds.specs.declared.tree.CallNo.TheVariants.{Escape, IndirectJ
 use Rattle.call_bounds.specs.declared.tree.CallNo.TheVariants.{NoMemory, Overlap, Recursion}
 use Rattle.call_bounds.specs.declared.tree.CallNo.TheVariants.{TimedWait, UnboundedBackEdge}
 
--- Neither of the first two rows holds anywhere.
+-- Neither of the first two causes holds anywhere.
 abbrev pub AreCallsAllowed : Calls → Type 0
 AreCallsAllowed x = Nowhere (OverlapAt x) × Nowhere (RecursionAt x)
 
--- none of the rows of a part by itself holds in a reached part
+-- none of the causes of a single function holds in a reached function
 abbrev pub ArePartsAllowed : Calls → Type 0
 ArePartsAllowed x = Nowhere (InParts x NestingAt) × Nowhere (InParts x IndirectAt) ×
     Nowhere (InParts x TimedAt) × Nowhere (InParts x UnboundedAt)
 
--- Why some reached part is refused: the first of its rows that holds anywhere, with the lowest
--- address.
+-- Why some reached function is refused: the first of its causes that holds anywhere, with the
+-- lowest address.
 abbrev pub IsTreeRefused : Calls → CallNo → Type 0
 IsTreeRefused x (Nesting a) = IsLowest (InParts x NestingAt) a
 IsTreeRefused x (IndirectJump a) = Nowhere (InParts x NestingAt) × IsLowest (InParts x IndirectAt) a
@@ -30,7 +30,7 @@ IsTreeRefused x (UnboundedBackEdge a) =
 IsTreeRefused x NoMemory = Unit {0}
 IsTreeRefused x _ = ⊥
 
--- The first row that holds anywhere, with the lowest address. Memory may be refused whatever holds.
+-- The first cause that holds anywhere, with the lowest address. Memory may run out in any case.
 abbrev pub IsCallRefused : Calls → CallNo → Type 0
 IsCallRefused x (Overlap a) = IsLowest (OverlapAt x) a
 IsCallRefused x (Recursion a) = Nowhere (OverlapAt x) × IsLowest (RecursionAt x) a

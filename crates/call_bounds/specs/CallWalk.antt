@@ -1,5 +1,4 @@
--- Walks through a section and the routines that it calls, which come back to where they were called
--- from.
+-- Paths with matching calls and returns, through a section and the routines that it calls.
 use Rattle.std.specs.Prelude.{◌≡◌, ℕ, ◌+◌, ◌≤◌, ◌^◌, ◌==◌, if◌then◌else◌}
 use Rattle.std.specs.Prelude.{true, Some, None, List, [], ◌∷◌, Contains}
 use Rattle.rv_decode.specs.Lag.{redirect_lag}
@@ -12,21 +11,21 @@ use Rattle.region_tree.specs.Walk.{IsNextTurn, IsOwn, Positions, counter_after}
 use Rattle.call_bounds.specs.declared.routines.Routine.{Routine}
 use Rattle.call_bounds.specs.Calls.{Calls, Counts, Part, callee, is_back, part, plain_edges}
 
--- what call walks go over
+-- the calls and the positions that such paths use
 pub record Route : Type 0 where
   pub calls : Calls
   pub positions : Positions
 
--- the walks of a thread, by its slots
+-- the paths of a thread, by its slots
 abbrev pub route : Calls → ℕ → ℕ → Route
 route x slots thread = record { calls = x; positions = positions slots thread }
 
--- the part in which a walk is that has these calls open, the newest first
+-- the function of a path that has these calls open, the newest first
 abbrev pub part_in : Calls → List ℕ → Part
 part_in x [] = None
 part_in x (w ∷ open_calls) = callee x w
 
--- a loop's counter after a call of a routine: 0 where its head is the loop's
+-- a loop's counter after a call of a routine: 0 if the routine's head is the loop's
 unfoldable pub counter_after_call : Routine → LoopSetup → ℕ → ℕ
 counter_after_call r j n = if r.head == j.head then 0 else n
 
@@ -34,9 +33,9 @@ counter_after_call r j n = if r.head == j.head then 0 else n
 abbrev pub WithinBounds : Calls → (LoopSetup → ℕ) → Type 0
 WithinBounds x k = (j : LoopSetup) → Counts x j → k j ≤ j.limit
 
--- A call walk that keeps the bounds, from the section's first word at own position p: the word and
--- position that it has come to, the calls that are open there, the newest first, its cost, and the
--- counters.
+-- A path with matching calls and returns that keeps the bounds, from the section's first word at
+-- own position p: the word and position that it has come to, the calls that are open there, the
+-- newest first, its cost, and the counters.
 pub data CallWalk (x : Route) (p : ℕ) : ℕ → ℕ → List ℕ → ℕ → (LoopSetup → ℕ) → Type 0 where
   start : IsOwn x.positions p → CallWalk x p x.calls.section.from p [] 0 (λ _. 0)
   along : {u q c d r : ℕ} {s : List ℕ} {k : LoopSetup → ℕ} (e : Edge) → CallWalk x p u q s c k →
@@ -53,8 +52,8 @@ pub data CallWalk (x : Route) (p : ℕ) : ℕ → ℕ → List ℕ → ℕ → (
       WithinBounds x.calls (λ j. counter_after w (w + 4) j (k j)) →
       CallWalk x p (w + 4) r s (c + d) (λ j. counter_after w (w + 4) j (k j))
 
--- What call walks cost: one may end anywhere, and a step out of the section ends it, also one that
--- comes back to there.
+-- The costs of such paths: a path may end anywhere. A step out of the section ends it, also a
+-- return to an address outside.
 pub data CostsOf (x : Route) : ℕ → Type 0 where
   ends : {p u q c : ℕ} {s : List ℕ} {k : LoopSetup → ℕ} → CallWalk x p u q s c k → CostsOf x c
   leaves : {p u q c d r : ℕ} {k : LoopSetup → ℕ} (e : Edge) → CallWalk x p u q [] c k →
@@ -65,13 +64,13 @@ pub data CostsOf (x : Route) : ℕ → Type 0 where
       (Lies (part x.calls None) (w + 4) → ⊥) → IsNextTurn x.positions redirect_lag q d r →
       CostsOf x (c + d)
 
--- The largest cost of a call walk that keeps the bounds: some walk costs it, and none costs more.
+-- The largest cost of a path that keeps the bounds: some path costs it, and none costs more.
 pub record IsCallBound (x : Route) (b : ℕ) : Type 0 where
   pub met : CostsOf x b
   pub kept : (c : ℕ) → CostsOf x c → c ≤ b
 
--- Why none is answered: some walk costs 2 ^ 64 or more, which the value says, or memory was
--- refused.
+-- Why there is no bound: some path costs 2 ^ 64 or more, and the value is 2 ^ 64; or memory ran
+-- out.
 abbrev pub IsTooCostly : Route → BoundNo → Type 0
 IsTooCostly x (Overflow value) = (value ≡ 2 ^ 64) × ((c : ℕ) × CostsOf x c × (2 ^ 64 ≤ c))
 IsTooCostly x NoMemory = Unit {0}

@@ -1,16 +1,16 @@
--- Laws of call walks.
+-- Theorems about paths with matching calls and returns.
 use Rattle.std.specs.Prelude.{ℕ, ◌≤◌, ◌↔◌}
 use Rattle.call_bounds.specs.CallRefusals.{IsCallable, IsListing}
 use Rattle.call_bounds.specs.CallWalk.{CostsOf, IsCallBound, Route}
 use Rattle.call_bounds.specs.Runs.{Nested}
 
--- Call walks cost what walks of the parts cost, where a call is a whole walk of its routine, or the
--- last of what is walked.
+-- Such paths have the costs of nested paths of functions, where a call is a whole path of its
+-- routine, or the last piece of the path.
 abbrev pub CallWalksCostAsParts : Type 0
 CallWalksCostAsParts = (x : Route) → IsListing x.calls → IsCallable x.calls → (c : ℕ) →
     CostsOf x c ↔ Nested x c
 
--- So the largest cost of such walks is the bound.
+-- So the largest cost of nested paths is the bound.
 abbrev pub PartsHaveTheBound : Type 0
 PartsHaveTheBound =
     (x : Route) → IsListing x.calls → IsCallable x.calls → (b : ℕ) → Nested x b →

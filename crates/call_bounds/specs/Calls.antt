@@ -1,4 +1,5 @@
--- A section of code with the routines that it may call: its parts, and which of them are reached.
+-- A section of code with the routines that it may call: its functions, and which of them are
+-- reached.
 use Rattle.std.specs.Prelude.{◌≡◌, ℕ, ◌+◌, ◌==◌, if◌then◌else◌, Bool, true, false}
 use Rattle.std.specs.Prelude.{Option, Some, None, List, [], ◌∷◌, filter, Contains}
 use Rattle.rv_decode.specs.Lag.{redirect_lag}
@@ -21,11 +22,11 @@ pub record Calls : Type 0 where
   pub word : ℕ → ℕ
   pub loops : List LoopSetup
 
--- A part: the section itself, or a routine.
+-- A function of the call graph: the section itself, or a routine.
 abbrev pub Part : Type 0
 Part = Option Routine
 
--- its words, from the first to below the one after the last
+-- the addresses of its words, from the first to below the one after the last
 abbrev pub range : Calls → Part → Section
 range x None = x.section
 range x (Some r) = record { from = r.head; to = r.last + 4 }
@@ -35,12 +36,12 @@ unfoldable pub routine_at : List Routine → ℕ → Option Routine
 routine_at [] a = None
 routine_at (r ∷ rs) a = if r.head == a then Some r else routine_at rs a
 
--- where a jump that keeps the address after it in register 1 leads, if it is one
+-- the target of a jump that writes the address after it to register 1, if it is one
 unfoldable pub link_target : ℕ → Ins → Option ℕ
 link_target address (Jal rd off) = if rd == 1 then aligned_target (offset address off) else None
 link_target address i = None
 
--- the routine to whose head a jump leads, if there is one
+-- the routine whose head is the target of a jump, if there is one
 abbrev pub routine_to : List Routine → Option ℕ → Option Routine
 routine_to routines None = None
 routine_to routines (Some a) = routine_at routines a
@@ -49,16 +50,16 @@ routine_to routines (Some a) = routine_at routines a
 abbrev pub callee : Calls → ℕ → Option Routine
 callee x u = routine_to x.routines (link_target u (ins (x.word u)))
 
--- the word that goes back to where its routine was called from
+-- the return instruction: a jump to the address in register 1
 abbrev pub is_back : ℕ → Bool
 is_back w = w == 0x00008067
 
--- whether the word at an address of a part is a return: only routines have returns
+-- whether the word at an address of a function is a return: only routines have returns
 abbrev pub returns : Calls → Part → ℕ → Bool
 returns x None u = false
 returns x (Some r) u = is_back (x.word u)
 
--- the edges of a word that are no calls
+-- these edges, if the word is no call
 abbrev pub plain_unless : Option Routine → List Edge → List Edge
 plain_unless None edges = edges
 plain_unless (Some r) edges = []
@@ -67,18 +68,18 @@ plain_unless (Some r) edges = []
 abbrev pub plain_edges : Calls → ℕ → List Edge
 plain_edges x u = plain_unless (callee x u) (edge_list (edges_of (x.word u) u))
 
--- The edges inside one part: a call leads on to the word after it, where it comes back; the lag
--- says the jump alone.
+-- The edges inside one function: a call has an edge to the word after it, its return address. The
+-- lag is only the jump's.
 abbrev pub inner_edges : Option Routine → ℕ → List Edge → List Edge
 inner_edges None u edges = edges
 inner_edges (Some r) u edges = record { to = u + 4; lag = redirect_lag } ∷ []
 
--- a return stops nothing
+-- a return is no stop
 abbrev pub stop_unless : Bool → Stop → Stop
 stop_unless true s = No
 stop_unless false s = s
 
--- the control graph of a part, with the loops whose head and last word both lie in it
+-- the control-flow graph of a function, with the loops whose head and last word both lie in it
 abbrev pub part : Calls → Part → Graph
 part x p = record {
   from = (range x p).from;
@@ -88,21 +89,22 @@ part x p = record {
   loops = filter (counts (range x p)) x.loops;
 }
 
--- The parts that are reached: the section, and each routine that a reachable word of a reached part
--- calls.
+-- The functions that are reached: the section, and each routine that a reachable word of a reached
+-- function calls.
 pub data IsReached (x : Calls) : Part → Type 0 where
   first : IsReached x None
   next : {p : Part} {u : ℕ} {r : Routine} → IsReached x p → Reachable (part x p) u →
       callee x u ≡ Some r → IsReached x (Some r)
 
--- Calls lead from one part to another: one or more, each from a reachable word of a reached part.
+-- Calls lead from one function to another: one or more, each from a reachable word of a reached
+-- function.
 pub data CallsLead (x : Calls) (p : Part) : Part → Type 0 where
   one : {u : ℕ} {r : Routine} → IsReached x p → Reachable (part x p) u → callee x u ≡ Some r →
       CallsLead x p (Some r)
   more : {q : Part} {u : ℕ} {r : Routine} → CallsLead x p q → IsReached x q →
       Reachable (part x q) u → callee x u ≡ Some r → CallsLead x p (Some r)
 
--- the loops that count: those of the reached parts
+-- the loops that count: those of the reached functions
 pub record Counts (x : Calls) (j : LoopSetup) : Type 0 where
   pub within : Part
   pub reached : IsReached x within

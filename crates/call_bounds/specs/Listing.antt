@@ -1,4 +1,4 @@
--- A section with its routines, words and loops, as plain data, and its parts by number.
+-- A section with its routines, words and loops, as plain data, and its functions by number.
 use Rattle.std.specs.Prelude.{◌≡◌, ℕ, ◌+◌, ◌/◌, ◌<◌, ◌≤◌, Option, Some, None}
 use Rattle.std.specs.Prelude.{List, ◌∷◌, length, map, slice_index, slice_index_or}
 use Rattle.region_guard.specs.MemoryMap.{large_size}
@@ -22,7 +22,7 @@ pub record Listing : Type 0 where
 abbrev pub scratchpad : Section
 scratchpad = record { from = 0; to = large_size }
 
--- the listing of a memory that is told by its words
+-- the listing of a memory that is given by its words
 abbrev pub listing_of : (ℕ → ℕ) → Section → List Routine → List LoopSetup → Listing
 listing_of memory s routines loops =
     record {
@@ -32,7 +32,7 @@ listing_of memory s routines loops =
       loops = loops;
     }
 
--- the same as a section with routines, whose memory is told by its words
+-- the same as a section with routines, whose memory is given by its words
 abbrev pub calls : Listing → Calls
 calls l = record {
   section = l.section;
@@ -41,15 +41,15 @@ calls l = record {
   loops = l.loops;
 }
 
--- how many parts there are: the section and the routines
+-- the number of functions: the section and the routines
 abbrev pub part_count : Listing → ℕ
 part_count l = length l.routines + 1
 
--- the part with a number: 0 is the section, and the routines follow in their order
+-- the function with a number: 0 is the section, and the routines follow in their order
 abbrev pub part_at : Listing → ℕ → Part
 part_at l k = slice_index_or (None ∷ map Some l.routines) k None
 
--- a reachable word of one part calls the other
+-- a reachable word of one function calls the other
 pub record DoesCall (x : Calls) (p q : Part) : Type 0 where
   pub routine : Routine
   pub word : ℕ
@@ -57,11 +57,11 @@ pub record DoesCall (x : Calls) (p q : Part) : Type 0 where
   pub call : callee x word ≡ Some routine
   pub to : q ≡ Some routine
 
--- the rank of the part with a number
+-- the rank of the function with a number
 abbrev pub rank_at : List ℕ → ℕ → ℕ
 rank_at ranks k = slice_index ranks k
 
--- A rank for each part, so that what a reached part calls has a lower one.
+-- A rank for each function, so that the callees of a reached function have lower ones.
 pub record AreRanks (l : Listing) (ranks : List ℕ) : Type 0 where
   pub count : length ranks ≡ part_count l
   pub few : (k : ℕ) → k < part_count l → rank_at ranks k ≤ part_count l
@@ -69,16 +69,16 @@ pub record AreRanks (l : Listing) (ranks : List ℕ) : Type 0 where
       DoesCall (calls l) (part_at l j) (part_at l k) →
       rank_at ranks k < rank_at ranks j
 
--- the tree of the part with a number, if it has one
+-- the tree of the function with a number, if it has one
 abbrev pub tree_at : List (Option Tree) → ℕ → Option Tree
 tree_at trees k = slice_index_or trees k None
 
--- the tree of a part, where it is reached
+-- the tree of a function, if it is reached
 pub data IsTreeOf (x : Calls) (p : Part) : Option Tree → Type 0 where
   reached : IsReached x p → IsTreeOf x p (Some (part_tree x p))
   other : (IsReached x p → ⊥) → IsTreeOf x p None
 
--- the trees of the parts
+-- the trees of the functions
 pub record ArePartTrees (l : Listing) (trees : List (Option Tree)) : Type 0 where
   pub count : length trees ≡ part_count l
   pub each : (k : ℕ) → k < part_count l → IsTreeOf (calls l) (part_at l k) (tree_at trees k)

@@ -1,4 +1,4 @@
--- What is answered of the parts of a section with routines.
+-- The results of queries about the functions of a section with routines.
 use Rattle.std.specs.Prelude.{◌≡◌, ℕ, ◌<◌, Option, None, MatchOption, List}
 use Rattle.fp_setup.specs.declared.loop_list.LoopSetup.{LoopSetup}
 use Rattle.region_tree.specs.Tree.{Tree, section_words}
@@ -8,28 +8,28 @@ use Rattle.call_bounds.specs.Calls.{Calls, IsReached, callee, range}
 use Rattle.call_bounds.specs.Listing.{Listing, calls, listing_of, part_at, part_count}
 use Rattle.call_bounds.specs.Patched.{part_tree, patched_word}
 
--- whether the part with a number is reached
+-- whether the function with a number is reached
 abbrev pub IsPartReached : Listing → ℕ → Type 0
 IsPartReached l k = IsReached (calls l) (part_at l k)
 
--- a part's addresses
+-- a function's addresses
 abbrev pub range_of_part : Listing → ℕ → Section
 range_of_part l k = range (calls l) (part_at l k)
 
--- a part's words, with its calls and returns replaced
+-- a function's words, with its calls and returns replaced
 abbrev pub words_of_part : Listing → ℕ → List ℕ
 words_of_part l k = section_words (patched_word (calls l) (part_at l k)) (range_of_part l k)
 
--- a part's tree
+-- a function's tree
 abbrev pub tree_of_part : Listing → ℕ → Tree
 tree_of_part l k = part_tree (calls l) (part_at l k)
 
--- the number of the part that the word at an address calls, if it is a call
+-- the number of the function that the word at an address calls, if it is a call
 abbrev pub IsCallee : Listing → ℕ → Option ℕ → Type 0
 IsCallee l u r =
     MatchOption r (callee (calls l) u ≡ None)
     (λ k. (0 < k) × (k < part_count l) × (callee (calls l) u ≡ part_at l k))
 
--- a section of a memory that is told by its words, with the listed routines and loops
+-- a section of a memory that is given by its words, with the listed routines and loops
 abbrev pub calls_of : (ℕ → ℕ) → Section → List Routine → List LoopSetup → Calls
 calls_of memory s routines loops = calls (listing_of memory s routines loops)

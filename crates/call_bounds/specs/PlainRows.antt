@@ -1,12 +1,12 @@
--- A part is refused because of plain edges alone.
+-- Only plain edges cause the refusal of a function.
 use Rattle.std.specs.Prelude.{ℕ, Contains}
 use Rattle.region_tree.specs.Refusals.{UnboundedAt}
 use Rattle.region_tree.specs.Nesting.{EnteredAt}
 use Rattle.call_bounds.specs.CallRefusals.{IsListing}
 use Rattle.call_bounds.specs.Calls.{Calls, IsReached, Part, part, plain_edges}
 
--- An edge that enters a loop, but not at its head, and one that leads back without a bound are no
--- calls.
+-- An edge that enters a loop elsewhere than at its head is no call. Neither is a back edge without
+-- a bound.
 abbrev pub RowsNamePlainEdges : Type 0
 RowsNamePlainEdges = (x : Calls) → IsListing x → (p : Part) → IsReached x p →
     ((a : ℕ) → (h : EnteredAt (part x p) a) → Contains (plain_edges x h.from) h.by) ×

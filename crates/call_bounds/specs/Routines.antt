@@ -19,7 +19,7 @@ pub record IsRoutine (r : Routine) : Type 0 where
 abbrev pub most_routines : ℕ
 most_routines = 64
 
--- Routines that may be listed: each by the rules, and each above the one before it.
+-- Routines that may be listed: each keeps the rules, and begins above the one before it.
 pub record AreRoutines (rs : List Routine) : Type 0 where
   pub few : length rs ≤ most_routines
   pub each : (r : Routine) → Contains rs r → IsRoutine r

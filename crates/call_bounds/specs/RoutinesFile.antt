@@ -13,13 +13,13 @@ use Rattle.call_bounds.specs.declared.routines_refusals.RoutinesRefused.{Routine
 use Rattle.call_bounds.specs.declared.routines_refusals.RoutinesRefused.TheVariants.{Fault}
 use Rattle.call_bounds.specs.declared.routines.Routine.{Routine}
 
--- a byte before lines: in front of the first of them
+-- lines with a byte before the first of them
 abbrev pub in_front : ℕ → List (List ℕ) → List (List ℕ)
 in_front byte [] = (byte ∷ []) ∷ []
 in_front byte (line ∷ lines) = (byte ∷ line) ∷ lines
 
--- the lines of a file: each ends with a line feed (10), and what stands after the last line feed is
--- a line too. Those of a source leave the line feed out, so they have a definition of their own
+-- the lines of a file: each ends with a line feed (10), and the bytes after the last line feed are
+-- a line too. Source lines leave the line feed out, so they have a definition of their own
 unfoldable pub lines_of : List ℕ → List (List ℕ)
 lines_of [] = []
 lines_of (byte ∷ bytes) =
@@ -43,7 +43,7 @@ number_from n (byte ∷ bytes) = number_from (n * 16 + digit byte) bytes
 abbrev pub head_digits : List ℕ → List ℕ
 head_digits line = take 8 line
 
--- the eight digits of the address of the last word, behind the space
+-- the eight digits of the address of the last word, after the space
 abbrev pub last_digits : List ℕ → List ℕ
 last_digits line = take 8 (drop 9 line)
 
@@ -62,7 +62,7 @@ abbrev pub routine_in : List ℕ → Routine
 routine_in line =
     record { head = number_from 0 (head_digits line); last = number_from 0 (last_digits line) }
 
--- whether a routine may stand in a scratchpad of this size, in bytes
+-- whether a routine may lie in a scratchpad of this size, in bytes
 abbrev pub is_placed : ℕ → Routine → Bool
 is_placed size r =
     r.head % 4 == 0 && r.last % 4 == 0 && nat_le r.head r.last && nat_le r.last (size - 4)
@@ -72,7 +72,7 @@ abbrev pub is_above : Option Routine → Routine → Bool
 is_above None r = true
 is_above (Some before) r = nat_lt before.last r.head
 
--- a check of the line of a number, by whether it fails and its fault
+-- a check of the line with a number: whether it fails, and its fault
 abbrev pub check : ℕ → Bool → RoutinesNo → Check RoutinesRefused
 check number fails code = record { fails = fails; fault = Fault number code }
 

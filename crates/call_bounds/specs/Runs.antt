@@ -1,4 +1,4 @@
--- Walks of one part alone, in which a call is a whole walk of the routine, from its head to a
+-- Paths of only one function, in which a call is a whole path of the routine, from its head to a
 -- return.
 use Rattle.std.specs.Prelude.{◌≡◌, ℕ, ◌+◌, ◌≤◌, ◌⊎◌, true, Some, None, Contains}
 use Rattle.rv_decode.specs.Lag.{redirect_lag}
@@ -9,8 +9,8 @@ use Rattle.call_bounds.specs.declared.routines.Routine.{Routine}
 use Rattle.call_bounds.specs.Calls.{Part, callee, is_back, part, plain_edges, range}
 use Rattle.call_bounds.specs.CallWalk.{Route}
 
--- A walk of a part that keeps the bounds of its loops, from its first word at position p: the word
--- and the position that it has come to, its cost, and the counters, each being 0 at first.
+-- A path of a function that keeps the bounds of its loops, from its first word at position p: the
+-- word and the position that it has come to, its cost, and the counters, each 0 at first.
 pub data Run (x : Route) : Part → ℕ → ℕ → ℕ → ℕ → (LoopSetup → ℕ) → Type 0 where
   start : {a : Part} {p : ℕ} → IsOwn x.positions p → Run x a p (range x.calls a).from p 0 (λ _. 0)
   along : {a : Part} {p u q c d r : ℕ} {k : LoopSetup → ℕ} (e : Edge) → Run x a p u q c k →
@@ -26,7 +26,7 @@ pub data Run (x : Route) : Part → ℕ → ℕ → ℕ → ℕ → (LoopSetup �
       is_back (x.calls.word w) ≡ true → IsNextTurn x.positions redirect_lag n f r →
       Run x a p (u + 4) r (c + (d + (i + f))) (λ j. counter_after u (u + 4) j (k j))
 
--- from a routine's head to the word after the call: the walk and the step back
+-- from a routine's head to the word after the call: the path and the jump back
 pub record Through (x : Route) (t : Routine) (p c q : ℕ) : Type 0 where
   pub word : ℕ
   pub at : ℕ
@@ -38,15 +38,15 @@ pub record Through (x : Route) (t : Routine) (p c q : ℕ) : Type 0 where
   pub turn : IsNextTurn x.positions redirect_lag at two q
   pub cost : c ≡ one + two
 
--- what walks that begin a part at one position and end in it, or in a routine below it, at another
--- cost
+-- the costs of paths that begin a function at one position and end in it, or in a routine below it,
+-- at another
 pub data Deep (x : Route) : Part → ℕ → ℕ → ℕ → Type 0 where
   ends : {a : Part} {p u q c : ℕ} {k : LoopSetup → ℕ} → Run x a p u q c k → Deep x a p c q
   enters : {a : Part} {p u q c d r i n : ℕ} {k : LoopSetup → ℕ} {t : Routine} → Run x a p u q c k →
       callee x.calls u ≡ Some t →
       IsNextTurn x.positions redirect_lag q d r → Deep x (Some t) r i n → Deep x a p (c + (d + i)) n
 
--- what walks that leave the section cost, from one position to another
+-- the costs of paths that leave the section, from one position to another
 pub data Leaving (x : Route) (p : ℕ) : ℕ → ℕ → Type 0 where
   leaves : {u q c d r : ℕ} {k : LoopSetup → ℕ} (e : Edge) → Run x None p u q c k →
       Contains (plain_edges x.calls u) e →
@@ -57,7 +57,7 @@ pub data Leaving (x : Route) (p : ℕ) : ℕ → ℕ → Type 0 where
       (Lies (part x.calls None) (u + 4) → ⊥) → IsNextTurn x.positions redirect_lag q d m →
       Through x t m i r → Leaving x p (c + (d + i)) r
 
--- what walks of the section cost, from one of the thread's own positions
+-- the costs of paths of the section, from one of the thread's own positions
 pub record Nested (x : Route) (c : ℕ) : Type 0 where
   pub at : ℕ
   pub own : IsOwn x.positions at

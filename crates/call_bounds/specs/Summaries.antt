@@ -1,4 +1,4 @@
--- What is worked out of parts: matrices of the largest costs between frame positions.
+-- Summaries of functions: matrices of the largest costs between frame positions.
 use Rattle.std.specs.Prelude.{◌≡◌, ℕ, ◌+◌, ◌*◌, ◌<◌, ◌≤◌, Bool, true, false}
 use Rattle.std.specs.Prelude.{Option, Some, None, List, length, slice_index_or, min}
 use Rattle.region_tree.specs.Tree.{Tree}
@@ -17,28 +17,28 @@ use Rattle.call_bounds.specs.Listing.{DoesCall, Listing, calls, part_at, part_co
 use Rattle.call_bounds.specs.Parts.{IsCallee}
 use Rattle.call_bounds.specs.Runs.{Deep, Nested, Through}
 
--- the numbers of the parts that the first n words of a section call, by index
+-- the numbers of the functions that the first n words of a section call, by index
 pub record AreCallees (l : Listing) (s : Section) (n : ℕ) (callees : List (Option ℕ)) : Type 0 where
   pub count : length callees ≡ n
   pub each : (k : ℕ) → k < n → IsCallee l (s.from + 4 * k) (slice_index_or callees k None)
 
--- whether the words of a part are returns, by index
+-- whether the words of a function are returns, by index
 pub record AreReturns (l : Listing) (part : ℕ) (s : Section) (n : ℕ)
     (ends : List Bool) : Type 0 where
   pub count : length ends ≡ n
   pub each : (k : ℕ) → k < n →
       slice_index_or ends k false ≡ returns (calls l) (part_at l part) (s.from + 4 * k)
 
--- what holds at one of the indices below n
+-- the costs at any of the indices below n
 abbrev pub Any : (ℕ → Costs) → ℕ → Costs
 Any f n p c q = (k : ℕ) × (k < n) × f k p c q
 
--- what leads to a word, and from there on by a matrix, if there is one
+-- the costs up to a word, and from there on by a matrix, if there is one
 abbrev pub EndsAt : Option Matrix → Entries → Costs
 EndsAt None here = In here
 EndsAt (Some m) here = Either (In here) (Then (In here) (In (entry m)))
 
--- what leads to the words, and from there on by their matrices
+-- the costs up to the words, and from there on by their matrices
 abbrev pub Ending : WaysOn → List Matrix → ℕ → Costs
 Ending into at = Any (λ k. EndsAt (into k) (matrix_at at k))
 
@@ -47,29 +47,29 @@ abbrev pub When : Bool → Costs → Costs
 When true f = f
 When false f = λ p c q. ⊥
 
--- what leads to the word at an index and from there out of the section
+-- the costs up to the word at an index and from there out of the section
 abbrev pub LeavesAt : Tree → Positions → WaysOn → List Matrix → ℕ → Costs
 LeavesAt t s ways at k =
     let e = edges_at t k in
     Either (When (leaves t e.next) (Then (In (matrix_at at k)) (move_costs s (ways k) e.next_lag)))
     (When (leaves t e.jump) (Then (In (matrix_at at k)) (move_costs s (ways k) 3)))
 
--- calls of a listing, by the turns of a thread
+-- the calls of a listing, with the turns of a thread
 abbrev pub route : Listing → Positions → Route
 route l s = record { calls = calls l; positions = s }
 
 -- The matrices of calls of a routine: from the call to the word after it, and from the call to
--- where a walk may end.
+-- where a path may end.
 pub record IsSummary (x : Route) (t : Routine) (through deep : Matrix) : Type 0 where
   pub back : IsBest (entry through) (Then (Steps x.positions 3) (Through x t))
   pub ends : IsBest (entry deep) (Then (Steps x.positions 3) (Deep x (Some t)))
 
--- those of the part with a number, if it is a routine
+-- the matrices of the function with a number, if it is a routine
 abbrev pub IsSummaryOf : Listing → Positions → ℕ → Matrix → Matrix → Type 0
 IsSummaryOf l s k through deep = (t : Routine) → part_at l k ≡ Some t →
     IsSummary (route l s) t through deep
 
--- the matrices at the number of a part are its summary
+-- the matrices at the number of a function are its summary
 abbrev pub IsSummaryAt : Listing → Positions → ℕ → List Matrix → List Matrix → Type 0
 IsSummaryAt l s k through deep =
     IsSummaryOf l s k (slice_index_or through k no_matrix) (slice_index_or deep k no_matrix)
@@ -78,7 +78,7 @@ IsSummaryAt l s k through deep =
 abbrev pub Lands : Positions → List Matrix → Type 0
 Lands s ms = (k p c q : ℕ) → matrix_at ms k p q ≡ Some c → IsOwn s q
 
--- the matrices of calls, by the number of the part that is called, where nothing refuses the parts
+-- the matrices of calls, by the number of the called function, if no function is refused
 pub record AreSummaries (l : Listing) (s : Positions) (through deep : List Matrix) : Type 0 where
   pub listing : IsListing (calls l)
   pub callable : IsCallable (calls l)
@@ -86,13 +86,13 @@ pub record AreSummaries (l : Listing) (s : Positions) (through deep : List Matri
   pub count' : length deep ≡ part_count l
   pub own : Lands s through
 
--- those of the parts that a part calls are known
+-- the summaries of a function's callees are known
 abbrev pub KnowsCallees : Listing → Positions → ℕ → List Matrix → List Matrix → Type 0
 KnowsCallees l s part through deep =
     (k : ℕ) → k < part_count l → DoesCall (calls l) (part_at l part) (part_at l k) →
     IsSummaryAt l s k through deep
 
--- those of a part were worked out, if it is reached, and the others are as they were
+-- the summary of a function was computed, if it is reached, and the others are unchanged
 pub record IsAdded (l : Listing) (s : Positions) (number : ℕ)
     (through deep through' deep' : List Matrix) : Type 0 where
   pub all : AreSummaries l s through' deep'
@@ -102,13 +102,13 @@ pub record IsAdded (l : Listing) (s : Positions) (number : ℕ)
   pub other' : (k : ℕ) → (k ≡ number → ⊥) →
       slice_index_or deep' k no_matrix ≡ slice_index_or deep k no_matrix
 
--- those of the reached parts for which a condition on the number holds are known
+-- the summaries of the reached functions whose numbers meet a condition are known
 abbrev pub AreKnown : Listing → Positions → (ℕ → Type 0) → List Matrix → List Matrix → Type 0
 AreKnown l s known through deep =
     (k : ℕ) → k < part_count l → IsReached (calls l) (part_at l k) → known k →
     IsSummaryAt l s k through deep
 
--- the largest cost of walks of the parts, as far as sums go
+-- the largest cost of nested paths, up to the ceiling of sums
 pub record IsMost (x : Route) (b : ℕ) : Type 0 where
   pub covers : (c : ℕ) → Nested x c → min c ceiling ≤ b
   pub among : (c : ℕ) × Nested x c × (min b ceiling ≡ min c ceiling)

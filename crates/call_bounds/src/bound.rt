@@ -1,4 +1,4 @@
-//! The bound of a section through its calls.
+//! The bound of a section and the routines that it calls.
 
 ghost use Rattle.std.specs.Prelude.{◌≡◌, ℕ, ◌<◌, ◌≤◌, ◌^◌, length, None};
 ghost use Rattle.std.specs.Prelude.{Contains, IfOk, IfErr, MatchResult, OnOk};
@@ -25,7 +25,7 @@ use region_tree::{JUMP_LAG, LoopTree};
 use slot_table::SlotTable;
 use std::alloc::{AllocError, Global};
 
-/// Joins a matrix with what leads to a word and on along an edge, if that leaves the section.
+/// Joins `onto` with `here` taken along the edge to `target`, if that edge leaves the section.
 fn leave_by(
     part: &LoopTree,
     steps: &Steps,
@@ -49,7 +49,8 @@ fn leave_by(
     }
 }
 
-/// Joins a matrix with what leads out of the section.
+/// Joins `onto` with the costs of the paths that leave the section: for each word its matrix in
+/// `at`, and then an edge out of the section.
 fn leaving(part: &LoopTree, steps: &Steps, ways: &Ways, at: &[Matrix], onto: &Matrix) -> Matrix
     requires room { length at.now ≡ length part.now.words }
     ensures { IsBest (entry result)
@@ -67,7 +68,7 @@ fn leaving(part: &LoopTree, steps: &Steps, ways: &Ways, at: &[Matrix], onto: &Ma
     out
 }
 
-/// The largest cost of a walk of the section, by its tree and from what calls cost.
+/// The largest cost of a path of the section, from its tree and the summaries of its callees.
 fn most_in(
     alloc: Global,
     tree: &CallTree,
@@ -89,7 +90,7 @@ fn most_in(
     Ok(largest(&leaving(part, steps, &ways, &at, &ended), 0))
 }
 
-/// The largest cost of a walk of the section, from what calls cost.
+/// The largest cost of a path of the section, from the summaries of the routines.
 fn most(alloc: Global, tree: &CallTree, steps: &Steps, done: &Summaries) -> Result<u128, AllocError>
     requires slot { (p : ℕ) × IsOwn steps.now p }
     requires done { AreSummaries tree.now steps.now done.now.through.items done.now.deep.items }
@@ -103,7 +104,7 @@ fn most(alloc: Global, tree: &CallTree, steps: &Steps, done: &Summaries) -> Resu
     }
 }
 
-/// The largest cost of a walk of the section.
+/// The largest cost of a path of the section.
 fn largest_cost(alloc: Global, tree: &CallTree, steps: &Steps) -> Result<u128, AllocError>
     requires { (p : ℕ) × IsOwn steps.now p }
     ensures most { IfOk result (IsMost (route tree.now steps.now)) }
@@ -113,7 +114,7 @@ fn largest_cost(alloc: Global, tree: &CallTree, steps: &Steps) -> Result<u128, A
     most(alloc, tree, steps, &done)
 }
 
-/// A bound in 64 bits, if it has no more.
+/// Converts a bound to 64 bits; `Overflow` with 2^64 if it has more.
 fn in_64_bits(most: u128) -> Result<u64, BoundNo>
     ensures { MatchResult result (λ bound. (bound ≡ most) × (most < 2 ^ 64))
         (λ no. (no ≡ Overflow (2 ^ 64)) × (2 ^ 64 ≤ most)) }
@@ -124,14 +125,14 @@ fn in_64_bits(most: u128) -> Result<u64, BoundNo>
     }
 }
 
-/// The bound of a section through its calls for a thread: the largest number of cycles that a call
-/// walk takes, by the turns of the thread, where no loop goes back to its head more often than its
-/// bound allows. The thread is 0 to 7 and has a slot.
+/// The bound of a section and its calls, for a thread: the largest number of cycles of a path with
+/// matching calls and returns. The thread's turns determine the cycles. The path takes no loop's
+/// back edges more often than the loop's bound allows. The thread is 0 to 7 and has a slot.
 ///
 /// # Errors
 ///
-/// [`BoundNo::Overflow`] with 2^64 exactly where the bound is above 2^64 - 1. Besides, memory may
-/// be refused.
+/// [`BoundNo::Overflow`] with 2^64 exactly if the bound is above 2^64 - 1. `NoMemory` if memory ran
+/// out.
 pub fn call_bound(
     alloc: Global,
     tree: &CallTree,

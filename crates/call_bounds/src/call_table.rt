@@ -1,4 +1,4 @@
-//! Which parts call which.
+//! Which functions call which: the edges of the call graph.
 
 ghost use Rattle.std.specs.Prelude.{◌≡◌, ℕ, ◌<◌, ◌↔◌, length, false, IfOk, IfSome, Some};
 ghost use Rattle.call_bounds.specs.Reachability.{is_met};
@@ -12,7 +12,7 @@ use crate::code::Code;
 use region_tree::{Draft, reachable};
 use std::alloc::{AllocError, Global};
 
-/// The number of the part that the word at an index calls, if the word is reachable and a call.
+/// The number of the function that the word at an index calls, if the word is reachable and a call.
 fn callee_at(code: &Code, draft: &Draft, met: &[bool], index: usize) -> Option<usize>
     requires listing { IsListing (calls code.now) }
     requires rules { IsDraft draft.now }
@@ -26,7 +26,7 @@ fn callee_at(code: &Code, draft: &Draft, met: &[bool], index: usize) -> Option<u
     code.called(draft.address(index))
 }
 
-/// Marks a part, if there is one.
+/// Marks a function, if there is one.
 fn mark(row: &mut Vec<bool>, part: Option<usize>)
     requires { IfSome part (λ k. k < length row.old.items) }
     ensures { Marked part row.old.items row.new.items }
@@ -36,7 +36,7 @@ fn mark(row: &mut Vec<bool>, part: Option<usize>)
     }
 }
 
-/// No part is marked.
+/// A row in which no function is marked.
 fn unmarked(alloc: Global, count: usize) -> Result<Vec<bool>, AllocError>
     ensures { IfOk result
         (λ row. (length row.items ≡ count) × ((k : ℕ) → is_met row.items k ≡ false)) }
@@ -44,7 +44,7 @@ fn unmarked(alloc: Global, count: usize) -> Result<Vec<bool>, AllocError>
     vec![in alloc; false; count]
 }
 
-/// Which parts the reachable words of a part call.
+/// Which functions the reachable words of a function call.
 fn row_of(alloc: Global, code: &Code, draft: &Draft, met: &[bool]) -> Result<Vec<bool>, AllocError>
     requires { IsMet draft.now met.now }
     ensures { IfOk result (λ row. IsRowTo code.now draft.now (length draft.now.words) row.items) }
@@ -57,7 +57,7 @@ fn row_of(alloc: Global, code: &Code, draft: &Draft, met: &[bool]) -> Result<Vec
     Ok(row)
 }
 
-/// Which parts one part calls.
+/// Which functions one function calls.
 fn callees(alloc: Global, code: &Code, part: usize) -> Result<Vec<bool>, AllocError>
     requires listing { IsListing (calls code.now) }
     requires part { part < part_count code.now }
@@ -68,11 +68,12 @@ fn callees(alloc: Global, code: &Code, part: usize) -> Result<Vec<bool>, AllocEr
     row_of(alloc, code, &draft, met.as_slice())
 }
 
-/// Which parts call which: a row for each part, with a mark for each part that it calls.
+/// Which functions call which: a row for each function, with a mark for each function that it
+/// calls.
 ///
 /// # Errors
 ///
-/// Memory was refused.
+/// Memory ran out.
 pub fn call_table(alloc: Global, code: &Code) -> Result<Vec<bool>, AllocError>
     ensures { IfOk result (λ table. IsTable code.now table.items) }
 {

@@ -1,4 +1,4 @@
-//! Why parts are refused.
+//! Why functions are refused.
 
 ghost use Rattle.std.specs.Prelude.{◌≡◌, ◌<◌, [], ◌∷◌, ◌++◌, IfOk, IfErr, OnOk, MatchResult};
 ghost use Rattle.call_bounds.specs.Build.{AreReached, AreTreesTo, IsCauseOf};
@@ -22,7 +22,7 @@ pub struct Causes {
 }
 
 impl Causes {
-    /// None.
+    /// No causes.
     const NONE: Causes = Causes {
         nesting: None,
         indirect: None,
@@ -30,11 +30,11 @@ impl Causes {
         unbounded: None,
     };
 
-    /// That of one refusal.
+    /// The cause of one refusal.
     ///
     /// # Errors
     ///
-    /// Exactly where memory was refused.
+    /// Exactly if memory ran out.
     fn of(no: TreeNo) -> Result<Causes, CallNo>
         ensures known { IfOk result (IsCauseOf no) }
         ensures memory { IfErr result (λ no. no ≡ NoMemory) }
@@ -61,7 +61,7 @@ impl Causes {
         }
     }
 
-    /// The lower address of each.
+    /// The lower address of each cause.
     fn join(self, other: Causes) -> Causes
         ensures { result ≡ join_causes self other }
     {
@@ -74,14 +74,15 @@ impl Causes {
     }
 }
 
-/// The tree of a part, where the part is reached and nothing refuses it, and what refuses it.
+/// The tree of a function, if the function is reached and not refused, and the causes of its
+/// refusal.
 #[derive(Drop)]
 struct Tried {
     tree: Option<LoopTree>,
     causes: Causes,
 }
 
-/// Builds the tree of a part, if the part is reached.
+/// Builds the tree of a function, if the function is reached.
 fn try_part(alloc: Global, code: &Code, reached: &[bool], part: usize) -> Result<Tried, CallNo>
     requires reached { AreReached code.now reached.now }
     requires part { part < part_count code.now }
@@ -106,14 +107,14 @@ fn try_part(alloc: Global, code: &Code, reached: &[bool], part: usize) -> Result
     }
 }
 
-/// The parts' trees, and what refuses parts.
+/// The functions' trees, and the causes of their refusals.
 #[derive(Drop)]
 struct Trees {
     trees: Vec<Option<LoopTree>>,
     causes: Causes,
 }
 
-/// Puts the tree of one more part, if it has one, behind those before it.
+/// Appends the tree of the next function, or `None` if it has none.
 fn push_tree(trees: &mut Vec<Option<LoopTree>>, tree: Option<LoopTree>) -> Result<(), AllocError>
     ensures { OnOk result (trees.new.items ≡ trees.old.items ++ tree ∷ []) }
 {
@@ -121,7 +122,7 @@ fn push_tree(trees: &mut Vec<Option<LoopTree>>, tree: Option<LoopTree>) -> Resul
     Ok(())
 }
 
-/// Builds the trees of the reached parts.
+/// Builds the trees of the reached functions.
 fn try_parts(alloc: Global, code: &Code, reached: &[bool]) -> Result<Trees, CallNo>
     requires { AreReached code.now reached.now }
     ensures trees { IfOk result
@@ -138,7 +139,7 @@ fn try_parts(alloc: Global, code: &Code, reached: &[bool]) -> Result<Trees, Call
     Ok(Trees { trees, causes })
 }
 
-/// The first of the causes that is known.
+/// Refuses with the first cause that has an address, if one has.
 fn refuse(causes: Causes) -> Result<(), CallNo>
     ensures { MatchResult result (λ _. causes ≡ no_causes) (IsFirst causes) }
 {
@@ -157,12 +158,12 @@ fn refuse(causes: Causes) -> Result<(), CallNo>
     Ok(())
 }
 
-/// The trees of the reached parts, or why one of them is refused.
+/// The trees of the reached functions, or why one of them is refused.
 ///
 /// # Errors
 ///
-/// The first of the four kinds that a reached part has, with the lowest address at which one has
-/// it; or memory was refused.
+/// The first of the four causes that a reached function has, with the lowest address at which one
+/// has it; or memory ran out.
 pub fn part_trees(
     alloc: Global,
     code: &Code,

@@ -22,13 +22,13 @@ const SCRATCHPAD: Section = Section {
     to: LARGE_SIZE,
 };
 
-/// The word that goes back to where its routine was called from: a jump to the address in x1.
+/// The return instruction: a jump to the address in x1.
 const RETURN: u32 = 0x0000_8067;
 
-/// A word that leads on to the next one with the lag of a jump: a read of the cycle counter.
+/// A word that goes on to the next one with the lag of a jump: a read of the cycle counter.
 const LEADS_ON: u32 = 0xc000_2073;
 
-/// A word that leads nowhere: ECALL.
+/// A word without a successor: ECALL.
 const LEADS_NOWHERE: u32 = 0x0000_0073;
 
 /// A section, the routines that it may call, the words of memory, and the listed loops.
@@ -60,7 +60,7 @@ impl Model for Code {
     }) };
 }
 
-/// Where the word at an address jumps to, if it keeps the address after it in x1.
+/// The target of the word at an address, if it is a JAL that writes the address after it to x1.
 fn linked(address: u32, word: u32) -> Option<u32>
     ensures { result ≡ link_target address (ins word) }
 {
@@ -117,7 +117,7 @@ impl Code {
     ///
     /// # Errors
     ///
-    /// Memory was refused.
+    /// Memory ran out.
     pub fn new(
         alloc: Global,
         image: &Image,
@@ -165,7 +165,7 @@ impl Code {
         self.loops.as_slice()
     }
 
-    /// How many parts there are: the section and the routines.
+    /// The number of functions: the section and the routines.
     pub fn part_count(&self) -> usize
         ensures value { result ≡ part_count self.now }
         ensures few { result ≤ 65 }
@@ -175,7 +175,7 @@ impl Code {
         self.routines().len() + 1
     }
 
-    /// The words of a part, as a section.
+    /// The addresses of a function, as a section.
     pub fn range(&self, part: usize) -> Section
         requires { part < part_count self.now }
         ensures value { result ≡ range_of_part self.now part }
@@ -199,7 +199,7 @@ impl Code {
         self.words[(address / 4) as usize]
     }
 
-    /// The number of the part that the word at an address calls, if it is a call.
+    /// The number of the function that the word at an address calls, if it is a call.
     pub fn called(&self, address: u32) -> Option<usize>
         requires { address < large_size }
         ensures { IsCallee self.now address result }
@@ -209,7 +209,7 @@ impl Code {
         Some(index + 1)
     }
 
-    /// Whether the word at an address of a part is a return.
+    /// Whether the word at an address of a function is a return.
     pub fn is_return(&self, part: usize, address: u32) -> bool
         requires part { part < part_count self.now }
         requires address { address < large_size }
@@ -218,8 +218,8 @@ impl Code {
         part != 0 && self.word(address) == RETURN
     }
 
-    /// The word at an address of a part, or one that leads on in the place of a call, and one that
-    /// leads nowhere in the place of a return.
+    /// The word at an address of a function. `LEADS_ON` replaces a call, and `LEADS_NOWHERE` a
+    /// return.
     fn patched(&self, part: usize, address: u32) -> u32
         requires part { part < part_count self.now }
         requires address { address < large_size }
@@ -234,7 +234,7 @@ impl Code {
         self.word(address)
     }
 
-    /// The words of a part, with its calls and returns out of the way.
+    /// The words of a function, with its calls and returns replaced.
     #[tactic(auto, unfolding(region_tree::specs::Tree::section_words))]
     fn part_words(&self, alloc: Global, part: usize) -> Result<Vec<u32>, AllocError>
         requires { part < part_count self.now }
@@ -248,11 +248,11 @@ impl Code {
         Ok(words)
     }
 
-    /// A part as a section of its own.
+    /// A function as a section of its own.
     ///
     /// # Errors
     ///
-    /// Memory was refused.
+    /// Memory ran out.
     pub fn draft(&self, alloc: Global, part: usize) -> Result<Draft, AllocError>
         requires { part < part_count self.now }
         ensures { IfOk result (λ draft. draft ≡ tree_of_part self.now part) }
@@ -262,11 +262,11 @@ impl Code {
         Draft::from_words(alloc, section, words, &self.loops)
     }
 
-    /// The tree of a part.
+    /// The tree of a function.
     ///
     /// # Errors
     ///
-    /// The part's first refusal as a section of its own, with its address; or memory was refused.
+    /// The function's first refusal as a section of its own, with its address; or memory ran out.
     pub fn tree(&self, alloc: Global, part: usize) -> Result<LoopTree, TreeNo>
         requires { part < part_count self.now }
         ensures tree { IfOk result (λ tree. tree ≡ tree_of_part self.now part) }

@@ -1,4 +1,4 @@
-//! Ways out of routines.
+//! Edges out of routines.
 
 ghost use Rattle.std.specs.Prelude.{◌<◌, ◌↔◌, length, IfOk, IfErr, IsTrue, OnOk};
 ghost use Rattle.region_tree.specs.Search.{LowestOf, address};
@@ -51,7 +51,8 @@ fn way_out(tree: &LoopTree) -> Option<u32>
     None
 }
 
-/// The lowest address of a way out of a part, if it is a reached routine.
+/// The lowest address of a reachable word with an edge out of a function, if that is a reached
+/// routine.
 fn escape_from(trees: &[Option<LoopTree>], part: usize) -> Option<u32>
     requires { part < length trees.now }
     ensures { LowestOf (EscapeFrom trees.now part) result }
@@ -65,7 +66,7 @@ fn escape_from(trees: &[Option<LoopTree>], part: usize) -> Option<u32>
     }
 }
 
-/// The lowest address of a way out of a reached routine.
+/// The lowest address of a reachable word with an edge out of a reached routine.
 fn escape(code: &Code, trees: &[Option<LoopTree>]) -> Option<u32>
     requires { ArePartTrees code.now trees.now }
     ensures { LowestOf (EscapeAt (calls code.now)) result }
@@ -77,11 +78,12 @@ fn escape(code: &Code, trees: &[Option<LoopTree>]) -> Option<u32>
     found
 }
 
-/// The trees of the reached parts, where no routine among them has a way out.
+/// The trees of the reached functions, if no routine among them has an edge out of it.
 ///
 /// # Errors
 ///
-/// As of [`part_trees`]; then `Escape` with the lowest address of a way out.
+/// As for [`part_trees`]; then `Escape` with the lowest address of a reachable word with an edge
+/// out of a reached routine.
 pub fn closed_trees(
     alloc: Global,
     code: &Code,

@@ -1,16 +1,16 @@
-//! Laws of call walks. The contract of each call is a law; the call does nothing.
+//! Theorems about paths with matching calls and returns. The contract of each call is the theorem;
+//! the call does nothing.
 
 ghost use Rattle.call_bounds.specs.CallWalkLaws.{CallWalksCostAsParts, PartsHaveTheBound};
 
-/// Where nothing is refused, the walks through a section and its routines, with their open calls
-/// and counters, cost what walks of single parts cost that are put one within the other: each with
-/// counters of its own, from 0.
+/// If nothing is refused, paths through a section and its routines, with their open calls and
+/// counters, have the same costs as nested paths of single functions. Each nested path has counters
+/// of its own, from 0.
 pub fn call_walks_cost_as_parts()
     ensures { CallWalksCostAsParts }
 {}
 
-/// Where nothing is refused, the largest cost of walks of parts, one within the other, is the bound
-/// through calls.
+/// If nothing is refused, the largest cost of nested paths of functions is the bound through calls.
 pub fn parts_have_the_bound()
     ensures { PartsHaveTheBound }
 {}

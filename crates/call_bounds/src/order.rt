@@ -1,4 +1,4 @@
-//! In which order parts call each other.
+//! The order in which functions call each other.
 
 ghost use Rattle.std.specs.Prelude.{◌≡◌, ℕ, ◌<◌, ◌↔◌, ◌≤◌, ◌*◌, length};
 ghost use Rattle.std.specs.Prelude.{true, IfOk, IfErr, IsTrue, OnOk};
@@ -15,7 +15,7 @@ use crate::reachability::led_to;
 use crate::tree::CallNo;
 use std::alloc::{AllocError, Global};
 
-/// Which parts are reached.
+/// Which functions are reached.
 fn reached_parts(alloc: Global, code: &Code, table: &[bool]) -> Result<Vec<bool>, AllocError>
     requires { IsTable code.now table.now }
     ensures { IfOk result (λ reached. AreReached code.now reached.items) }
@@ -25,7 +25,7 @@ fn reached_parts(alloc: Global, code: &Code, table: &[bool]) -> Result<Vec<bool>
     Ok(reached)
 }
 
-/// Whether calls lead from a part back to itself.
+/// Whether calls lead from a function back to itself.
 fn leads_back(alloc: Global, table: &[bool], count: usize, part: usize) -> Result<bool, AllocError>
     requires few { count ≤ 65 }
     requires part { part < count }
@@ -36,7 +36,7 @@ fn leads_back(alloc: Global, table: &[bool], count: usize, part: usize) -> Resul
     Ok(led[part])
 }
 
-/// Whether a part is reached and calls lead from it back to itself.
+/// Whether a function is reached and calls lead from it back to itself.
 fn recurs(
     alloc: Global,
     table: &[bool],
@@ -79,12 +79,12 @@ fn recursion(
     Ok(None)
 }
 
-/// Which parts are reached, where calls lead from none of them back to it.
+/// Which functions are reached, if calls lead from none of them back to it.
 ///
 /// # Errors
 ///
 /// `Recursion` with the lowest head of a reached routine from which calls lead back to it; or
-/// memory was refused.
+/// memory ran out.
 pub fn ordered_parts(alloc: Global, code: &Code, table: &[bool]) -> Result<Vec<bool>, CallNo>
     requires table { IsTable code.now table.now }
     requires overlap { Nowhere (OverlapAt (calls code.now)) }
@@ -99,7 +99,7 @@ pub fn ordered_parts(alloc: Global, code: &Code, table: &[bool]) -> Result<Vec<b
     }
 }
 
-/// How many parts calls lead to from one.
+/// The number of functions that are reachable by calls from one.
 fn rank_of(alloc: Global, table: &[bool], count: usize, part: usize) -> Result<usize, AllocError>
     requires few { count ≤ 65 }
     requires part { part < count }
@@ -110,11 +110,11 @@ fn rank_of(alloc: Global, table: &[bool], count: usize, part: usize) -> Result<u
     Ok(led.iter().filter(|is_led| **is_led).count())
 }
 
-/// For each part how many parts calls lead to from it.
+/// For each function the number of functions that are reachable by calls from it.
 ///
 /// # Errors
 ///
-/// Memory was refused.
+/// Memory ran out.
 pub fn part_ranks(alloc: Global, code: &Code, table: &[bool]) -> Result<Vec<usize>, AllocError>
     requires table { IsTable code.now table.now }
     requires recursion { Nowhere (RecursionAt (calls code.now)) }

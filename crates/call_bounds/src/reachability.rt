@@ -1,4 +1,4 @@
-//! Reachability in the call graph: to which parts calls lead.
+//! Reachability in the call graph: which functions calls lead to.
 
 ghost use Rattle.std.specs.Prelude.{◌≡◌, ℕ, ◌+◌, ◌*◌, ◌<◌, ◌≤◌, ◌⊎◌, true};
 ghost use Rattle.std.specs.Prelude.{false, length, IfOk, slice_index_or};
@@ -7,7 +7,7 @@ ghost use Rattle.call_bounds.specs.Reachability.{Spread, SpreadMet, Swept, is_me
 
 use std::alloc::{AllocError, Global};
 
-/// Meets the callees of one part, and answers whether any of them was new.
+/// Marks the callees of one function, and returns whether any of them was new.
 fn spread(table: &[bool], count: usize, part: usize, met: &mut Vec<bool>) -> bool
     requires few { count ≤ 65 }
     requires part { part < count }
@@ -25,7 +25,7 @@ fn spread(table: &[bool], count: usize, part: usize, met: &mut Vec<bool>) -> boo
     changed
 }
 
-/// Meets the callees of one part, if it is met itself, and answers whether any of them was new.
+/// Marks the callees of one function, if it is marked itself, and returns whether any was new.
 fn spread_met(table: &[bool], count: usize, part: usize, met: &mut Vec<bool>) -> bool
     requires few { count ≤ 65 }
     requires part { part < count }
@@ -39,7 +39,7 @@ fn spread_met(table: &[bool], count: usize, part: usize, met: &mut Vec<bool>) ->
     spread(table, count, part, met)
 }
 
-/// Meets the callees of all parts that are met, and answers whether any of them was new.
+/// Marks the callees of all marked functions, and returns whether any of them was new.
 fn sweep(table: &[bool], count: usize, met: &mut Vec<bool>) -> bool
     requires few { count ≤ 65 }
     requires table { length table.now ≡ count * count }
@@ -54,7 +54,7 @@ fn sweep(table: &[bool], count: usize, met: &mut Vec<bool>) -> bool
     changed
 }
 
-/// So many parts of which none is met.
+/// A list of `count` functions, none of them marked.
 fn none(alloc: Global, count: usize) -> Result<Vec<bool>, AllocError>
     ensures { IfOk result (λ met. (length met.items ≡ count)
         × ((k : ℕ) → is_met met.items k ≡ false)) }
@@ -62,12 +62,12 @@ fn none(alloc: Global, count: usize) -> Result<Vec<bool>, AllocError>
     vec![in alloc; false; count]
 }
 
-/// Which of `count` parts, at most 65, calls lead to from one: a mark for each part. The table says
-/// in row p and column q, at p times `count` plus q, whether part p calls part q.
+/// Which of `count` functions, at most 65, are reachable by calls from one: a mark for each. The
+/// table has at index p times `count` plus q whether function p calls function q.
 ///
 /// # Errors
 ///
-/// Memory was refused.
+/// Memory ran out.
 pub fn led_to(
     alloc: Global,
     table: &[bool],

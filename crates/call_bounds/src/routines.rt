@@ -13,9 +13,9 @@ pub struct Routine {
     pub last: u32,
 }
 
-/// A list of routines: at most 64, each with head and last multiples of 4, head at most last, and
-/// last at most 65,532, and each with its head above the last of the one before it. Contracts see
-/// the list. A type of its own, as the lists of a setup are: its rules are its invariant.
+/// A list of at most 64 routines. Each has head and last multiples of 4, head at most last, and
+/// last at most 65,532. Each head is above the last of the routine before it. Contracts see the
+/// list. These rules are the type's invariant, as for the lists of a setup.
 #[derive(Drop)]
 pub struct Routines {
     items: Vec<Routine>,

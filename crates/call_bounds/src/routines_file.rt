@@ -74,7 +74,7 @@ fn has_form(line: &[u8]) -> bool
         && line[17] == b'\n'
 }
 
-/// Whether a routine may stand in a scratchpad of `size` bytes.
+/// Whether a routine may lie in a scratchpad of `size` bytes.
 fn is_placed(routine: Routine, size: u32) -> bool
     requires { IsSize size }
     ensures { result ≡ is_placed size routine }
@@ -85,7 +85,7 @@ fn is_placed(routine: Routine, size: u32) -> bool
         && routine.last <= size - 4
 }
 
-/// The routine of the line of this number, after another one.
+/// Reads the routine of the line with this number, after another one.
 #[tactic(auto, unfolding(crate::specs::RoutinesFile::routine_at))]
 fn routine_at(
     line: &[u8],
@@ -119,14 +119,14 @@ fn routine_at(
     Ok(routine)
 }
 
-/// The routines of a file, for scratchpads of `size` bytes, 16,384 or 65,536. A line has the
-/// address of a routine's first word, a space, the address of its last word, and a line feed; each
+/// Reads the routines of a file, for scratchpads of `size` bytes, 16,384 or 65,536. A line has the
+/// address of a routine's first word, a space, the address of its last word, and a line feed. Each
 /// address is eight hexadecimal digits of lower case.
 ///
 /// # Errors
 ///
-/// `Fault` exactly where a line breaks a rule of [`RoutinesNo`], with the first such line and the
-/// first of its faults, in the order of their numbers. `NoMemory` where memory was refused.
+/// `Fault` exactly if a line breaks a rule of [`RoutinesNo`]: with the first such line and the
+/// first of its faults, in the order of their numbers. `NoMemory` if memory ran out.
 pub fn read_routines(alloc: Global, bytes: &[u8], size: u32) -> Result<Routines, RoutinesRefused>
     requires { IsSize size }
     ensures { (result ≡ Err RoutinesRefused.NoMemory)

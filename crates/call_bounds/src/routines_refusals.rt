@@ -28,12 +28,12 @@ pub enum RoutinesRefused {
     /// The first fault of the file, and the number of its line, from 1.
     #[error("{code} (line {line})")]
     Fault { line: u32, code: RoutinesNo },
-    /// Memory was refused.
+    /// Memory ran out.
     #[error("out of memory")]
     NoMemory,
 }
 
-/// A refusal with the line that tells it.
+/// The refusal for a fault in a line.
 pub(crate) fn fault(line: u32, code: RoutinesNo) -> RoutinesRefused
     ensures { result ≡ RoutinesRefused.Fault line code }
 {

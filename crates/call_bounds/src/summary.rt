@@ -1,4 +1,4 @@
-//! What walks of routines cost, between the frame positions at which they begin and end.
+//! The costs of paths of routines, between the frame positions at which they begin and end.
 
 ghost use Rattle.std.specs.Prelude.{◌≡◌, ℕ, ◌+◌, ◌-◌, ◌*◌, ◌/◌, ◌<◌, ◌≤◌};
 ghost use Rattle.std.specs.Prelude.{None, length, replicate, IfOk, OnOk};
@@ -18,31 +18,31 @@ use bound_calc::{Matrix, Steps, Ways, jump, reach, through};
 use region_tree::{LoopTree, Section};
 use std::alloc::{AllocError, Global};
 
-/// What calls of a part cost.
+/// The costs of calls of a function.
 #[derive(Clone, Copy)]
 pub struct Summary {
-    /// From a call to the word after it: the jump, a walk of the routine to a return, the jump
+    /// From a call to the word after it: the jump, a path of the routine to a return, the jump
     /// back.
     pub through: Matrix,
-    /// From a call to where a walk may end: the jump, and a walk that ends in the routine or in one
+    /// From a call to where a path may end: the jump, and a path that ends in the routine or in one
     /// that is called from it.
     pub deep: Matrix,
 }
 
-/// What calls cost, by the number of the part that they call, as far as it was worked out.
+/// The costs of calls, by the number of the called function, as far as they are computed.
 #[derive(Drop)]
 pub struct Summaries {
-    /// From a call to the word after it, by the part's number.
+    /// From a call to the word after it, by the function's number.
     pub through: Vec<Matrix>,
-    /// From a call to where a walk may end, by the part's number.
+    /// From a call to where a path may end, by the function's number.
     pub deep: Vec<Matrix>,
 }
 
-/// For each word of a section the number of the part that it calls, if it is a call.
+/// For each word of a section the number of the function that it calls, if it is a call.
 ///
 /// # Errors
 ///
-/// Memory was refused.
+/// Memory ran out.
 pub fn callees(
     alloc: Global,
     tree: &CallTree,
@@ -59,7 +59,7 @@ pub fn callees(
     Ok(callees)
 }
 
-/// For each word of a part whether it is a return.
+/// For each word of a function whether it is a return.
 fn returns(
     alloc: Global,
     tree: &CallTree,
@@ -79,7 +79,7 @@ fn returns(
     Ok(returns)
 }
 
-/// Joins a matrix with what leads to a word, and with what leads on from there by a call.
+/// Joins `onto` with the costs up to a word, and with the costs on from there by a call.
 fn end_at(into: Option<&Matrix>, here: &Matrix, onto: &Matrix) -> Matrix
     ensures { IsBest (entry result)
         (Either (In (entry onto.now))
@@ -92,7 +92,7 @@ fn end_at(into: Option<&Matrix>, here: &Matrix, onto: &Matrix) -> Matrix
     }
 }
 
-/// What leads to any of some words, or from one of them on into a routine that it calls.
+/// The costs up to any of the words, or from one of them on into a routine that it calls.
 pub fn deep(into: &Ways, at: &[Matrix]) -> Matrix
     ensures { IsBest (entry result) (Ending (ways_on into.now) at.now (length at.now)) }
 {
@@ -103,7 +103,7 @@ pub fn deep(into: &Ways, at: &[Matrix]) -> Matrix
     deep
 }
 
-/// From a call to the word after it: the jump, and then what leads to a return and back.
+/// From a call to the word after it: the jump, a path to a return, and the jump back.
 fn jump_through(jump: &Matrix, steps: &Steps, at: &[Matrix], ends: &[bool]) -> Matrix
     requires { length ends.now ≡ length at.now }
     ensures { (back : _) ×
@@ -113,8 +113,8 @@ fn jump_through(jump: &Matrix, steps: &Steps, at: &[Matrix], ends: &[bool]) -> M
     jump.chain(&through(steps, at, ends))
 }
 
-/// From a call to where a walk may end: the jump, and then what leads to the routine's words or on
-/// from one of them into a routine that it calls.
+/// From a call to where a path may end: the jump, and a path to one of the routine's words or on
+/// from there into a routine that it calls.
 fn jump_deep(jump: &Matrix, into: &Ways, at: &[Matrix]) -> Matrix
     ensures { (below : _) ×
         IsBest (entry below) (Ending (ways_on into.now) at.now (length at.now)) ×
@@ -123,7 +123,7 @@ fn jump_deep(jump: &Matrix, into: &Ways, at: &[Matrix]) -> Matrix
     jump.chain(&deep(into, at))
 }
 
-/// What calls of a routine cost, from what calls of the parts that it calls cost.
+/// The costs of calls of a routine, from the costs of calls of its callees.
 fn summary_of(
     alloc: Global,
     tree: &CallTree,
@@ -150,7 +150,7 @@ fn summary_of(
     })
 }
 
-/// Works out what calls of a routine cost, if it is reached.
+/// Computes the costs of calls of a routine, if it is reached.
 fn summarise(
     alloc: Global,
     tree: &CallTree,
@@ -176,7 +176,7 @@ fn summarise(
     Ok(())
 }
 
-/// Works out what calls of the routines of a rank cost.
+/// Computes the costs of calls of the routines of a rank.
 fn summarise_rank(
     alloc: Global,
     tree: &CallTree,
@@ -203,7 +203,7 @@ fn summarise_rank(
     Ok(())
 }
 
-/// Nothing is known yet of what calls of any of so many parts cost.
+/// Summaries of `count` functions without any costs.
 fn none_known(alloc: Global, count: usize) -> Result<Summaries, AllocError>
     ensures { IfOk result (λ none.
         (none.through.items ≡ replicate count (record { best = replicate 8 (replicate 8 None) })) ×
@@ -215,11 +215,11 @@ fn none_known(alloc: Global, count: usize) -> Result<Summaries, AllocError>
     })
 }
 
-/// What calls of the reached routines cost: those first that call no other.
+/// The costs of calls of the reached routines, callees first.
 ///
 /// # Errors
 ///
-/// Memory was refused.
+/// Memory ran out.
 pub fn summaries_of(alloc: Global, tree: &CallTree, steps: &Steps) -> Result<Summaries, AllocError>
     ensures done { IfOk result
         (λ done. AreSummaries tree.now steps.now done.through.items done.deep.items) }

@@ -1,4 +1,4 @@
-//! A section with its routines, of which a bound through calls is told.
+//! A section with its routines, for a bound through calls.
 
 ghost use Rattle.std.specs.Prelude.{◌≡◌, IfOk, IfErr, OnOk, MatchResult};
 ghost use Rattle.region_guard.specs.MemoryMap.{large_size};
@@ -21,26 +21,26 @@ use std::alloc::{AllocError, Global};
 use std::marker::Model;
 use thiserror::Error;
 
-/// Why a section with routines has no bound through calls. The numbers that a refusal line shows
-/// are 1 to 4 for the first four and 8 to 10 for the last three; want of memory has none.
+/// Why a section with routines has no bound through calls. A refusal line shows the numbers 1 to 4
+/// for the first four and 8 to 10 for the last three; out of memory has no number.
 #[derive(Clone, Copy, Debug, PartialEq, Eq, Error)]
 pub enum CallNo {
-    /// Loops of a reached part overlap, lie too deep or are entered not at their head; the head of
-    /// such a loop.
+    /// Loops of a reached function overlap, lie too deep or are entered elsewhere than at their
+    /// head; the head of such a loop.
     #[error("loops are nested badly at {address:#010x}")]
     Nesting { address: u32 },
-    /// A reachable word of a reached part jumps to an address out of a register, and isn't a
+    /// A reachable word of a reached function jumps to an address in a register, and isn't a
     /// return; the word's address.
     #[error("an indirect jump at {address:#010x}")]
     IndirectJump { address: u32 },
-    /// A reachable word of a reached part waits for a moment; the word's address.
+    /// A reachable word of a reached function is a timed wait; the word's address.
     #[error("a timed wait at {address:#010x}")]
     TimedWait { address: u32 },
-    /// A reachable word of a reached part leads back to a word of the part that is no head of a
-    /// counting loop around it; the word's address.
+    /// A reachable word of a reached function has a back edge to a word of the function that is no
+    /// head of a counting loop around it; the word's address.
     #[error("a way back without a bound at {address:#010x}")]
     UnboundedBackEdge { address: u32 },
-    /// Memory was refused.
+    /// Memory ran out.
     #[error("out of memory")]
     NoMemory,
     /// A listed routine has a word in common with the section; the routine's head.
@@ -49,8 +49,8 @@ pub enum CallNo {
     /// Calls lead from a reached routine back to itself; the routine's head.
     #[error("calls lead from the routine at {address:#010x} back to it")]
     Recursion { address: u32 },
-    /// A reachable word of a reached routine leads out of the routine, or is a call at its last
-    /// word; the word's address.
+    /// A reachable word of a reached routine has an edge out of the routine, or is a call at its
+    /// last word; the word's address.
     #[error("a way out of a routine at {address:#010x}")]
     Escape { address: u32 },
 }
@@ -66,8 +66,8 @@ impl From<AllocError> for CallNo {
     }
 }
 
-/// A section of code with the routines that it may call, of which a bound through calls is told.
-/// The parts are numbered: the section is number 0, and the routines follow in their order.
+/// A section of code with the routines that it may call, for a bound through calls. Its functions
+/// are numbered: the section is number 0, and the routines follow in their order.
 #[derive(Drop)]
 pub struct CallTree {
     code: Code,
@@ -109,8 +109,8 @@ fn refuse_overlap(code: &Code) -> Result<(), CallNo>
     }
 }
 
-/// The trees of the reached parts, where calls lead from none of them back to it and no routine
-/// has a way out.
+/// The trees of the reached functions, if calls lead from none of them back to it and no routine
+/// has an edge out of it.
 fn trees_of(alloc: Global, code: &Code, table: &[bool]) -> Result<Vec<Option<LoopTree>>, CallNo>
     requires table { IsTable code.now table.now }
     requires overlap { Nowhere (OverlapAt (calls code.now)) }
@@ -122,16 +122,16 @@ fn trees_of(alloc: Global, code: &Code, table: &[bool]) -> Result<Vec<Option<Loo
     closed_trees(alloc, code, reached.as_slice())
 }
 
-/// What is built of the parts of code that nothing refuses.
+/// The functions of code that isn't refused.
 #[derive(Drop)]
 struct BuiltParts {
-    /// The trees of the reached parts.
+    /// The trees of the reached functions.
     trees: Vec<Option<LoopTree>>,
-    /// The ranks of all parts.
+    /// The ranks of all functions.
     ranks: Vec<usize>,
 }
 
-/// Builds the parts of code, unless something refuses it.
+/// Builds the functions of code, unless it is refused.
 fn build_parts(alloc: Global, code: &Code) -> Result<BuiltParts, CallNo>
     ensures trees { IfOk result (λ parts. ArePartTrees code.now parts.trees.items) }
     ensures order { IfOk result (λ parts. AreRanks code.now parts.ranks.items) }
@@ -158,17 +158,17 @@ impl CallTree {
     /// The tree of a section of an image, with the listed routines and loops. The section isn't
     /// empty, its ends are multiples of four, and it ends at most at 65,536.
     ///
-    /// A call is a JAL that keeps the address after it in x1 and leads to the head of a listed
-    /// routine; in its part it leads on to the word after it. A return is the word 0x00008067 in a
-    /// routine. The section is a reached part, and each routine that a reachable word of a reached
-    /// part calls.
+    /// A call is a JAL that writes the address after it to x1 and jumps to the head of a listed
+    /// routine. In its function it has an edge to the word after it. A return is the word
+    /// 0x00008067 in a routine. The section is a reached function, and so is each routine that a
+    /// reachable word of a reached function calls.
     ///
     /// # Errors
     ///
-    /// [`CallNo`] exactly where one of its causes holds: the first that holds anywhere, with the
+    /// [`CallNo`] exactly if one of its causes holds: the first that holds anywhere, with the
     /// lowest address at which it holds. `Overlap` comes first, then `Recursion`, then the four
-    /// causes of [`region_tree::TreeNo`] in their order, each over all reached parts, and `Escape`
-    /// last. Besides, memory may be refused.
+    /// causes of [`region_tree::TreeNo`] in their order, each over all reached functions, and
+    /// `Escape` last. `NoMemory` if memory ran out.
     pub fn build(
         alloc: Global,
         image: &Image,
@@ -216,7 +216,7 @@ impl CallTree {
         self.code.loops()
     }
 
-    /// How many parts there are: the section and the routines.
+    /// The number of functions: the section and the routines.
     pub fn part_count(&self) -> usize
         ensures value { result ≡ part_count self.now }
         ensures few { result ≤ 65 }
@@ -227,8 +227,7 @@ impl CallTree {
         self.code.part_count()
     }
 
-    /// The tree of a part, where the part is reached: its words with calls and returns out of the
-    /// way.
+    /// The tree of a function, if it is reached. Its calls and returns are replaced.
     pub fn tree(&self, part: usize) -> Option<&LoopTree>
         requires { part < part_count self.now }
         ensures { MatchOption result (IsPartReached self.now part → ⊥)
@@ -237,7 +236,7 @@ impl CallTree {
         self.trees[part].as_ref()
     }
 
-    /// The number of the part that the word at an address calls, if it is a call.
+    /// The number of the function that the word at an address calls, if it is a call.
     pub fn called(&self, address: u32) -> Option<usize>
         requires { address < large_size }
         ensures { IsCallee self.now address result }
@@ -245,7 +244,7 @@ impl CallTree {
         self.code.called(address)
     }
 
-    /// Whether the word at an address of a part is a return.
+    /// Whether the word at an address of a function is a return.
     pub fn is_return(&self, part: usize, address: u32) -> bool
         requires part { part < part_count self.now }
         requires address { address < large_size }
@@ -254,8 +253,8 @@ impl CallTree {
         self.code.is_return(part, address)
     }
 
-    /// A rank for each part: what a reached part calls has a lower one. No rank is above the number
-    /// of the parts.
+    /// A rank for each function: the callees of a reached function have lower ones. No rank is
+    /// above the number of functions.
     pub fn ranks(&self) -> &[usize]
         ensures { AreRanks self.now result.now }
     {
