@@ -1,12 +1,12 @@
 -- Costs between positions: sets of (start, cost, end), and matrices that hold the best of a set.
--- Sums stop at a number, and what is at least that isn't told apart.
+-- Sums saturate at a ceiling, and costs from there on count as equal.
 use Rattle.std.specs.Prelude.{◌≡◌, ℕ, zero, suc, ◌+◌, ◌-◌, ◌^◌, ◌≤◌, ◌⊎◌, min, Option, Some}
 
 -- a set of (position at the start, cost, position at the end)
 abbrev pub Costs : Type 1
 Costs = ℕ → ℕ → ℕ → Type 0
 
--- nothing done
+-- no step
 abbrev pub Stays : (ℕ → Type 0) → Costs
 Stays own p c q = own p × (p ≡ q) × (c ≡ 0)
 
@@ -28,7 +28,7 @@ abbrev pub Power : (ℕ → Type 0) → Costs → ℕ → Costs
 Power own f zero = Stays own
 Power own f (suc n) = Then (Power own f n) f
 
--- a matrix, none where there is no way
+-- a matrix, none where there is no path
 abbrev pub Entries : Type 0
 Entries = ℕ → ℕ → Option ℕ
 
@@ -36,7 +36,7 @@ Entries = ℕ → ℕ → Option ℕ
 abbrev pub In : Entries → Costs
 In m p c q = m p q ≡ Some c
 
--- where sums stop
+-- the number at which sums saturate
 abbrev pub ceiling : ℕ
 ceiling = 2 ^ 128 - 1
 
@@ -52,7 +52,8 @@ Among m f = (p e q : ℕ) → m p q ≡ Some e → (c : ℕ) × f p c q × (min 
 abbrev pub IsBest : Entries → Costs → Type 0
 IsBest m f = Covers m f × Among m f
 
--- some costs have the largest of a set, and nothing that isn't as large as one of it
+-- g has a cost at least as large as each of f, and each cost of g equals one of f, both up to the
+-- ceiling
 pub record AreBest (g f : Costs) : Type 0 where
   pub covers : (p c q : ℕ) → f p c q → (e : ℕ) × g p e q × (min c ceiling ≤ min e ceiling)
   pub among : (p e q : ℕ) → g p e q → (c : ℕ) × f p c q × (min e ceiling ≡ min c ceiling)

@@ -1,17 +1,17 @@
--- Walks over a graph with counting loops, in parts: a loop's own part, or a whole section.
+-- Paths over a graph with counting loops, in parts: a loop's own part, or a whole section.
 use Rattle.std.specs.Prelude.{◌≡◌, ℕ, ◌+◌, ◌<◌, ◌≤◌, ◌⊎◌}
 use Rattle.fp_setup.specs.declared.loop_list.LoopSetup.{LoopSetup}
 use Rattle.region_tree.specs.Graph.{Holds, Inside}
 use Rattle.region_tree.specs.Walk.{counter_after}
 
--- what a walk goes over: own u says that u is an own position; arc u p d v q that a step leads from
--- word u at position p to word v at position q and costs d; loop j that j is a counting loop
+-- what a path uses: own u, u is an own position; arc u p d v q, a step leads from word u at
+-- position p to word v at position q and costs d; loop j, j is a counting loop
 pub record Net : Type 1 where
   pub own : ℕ → Type 0
   pub arc : ℕ → ℕ → ℕ → ℕ → ℕ → Type 0
   pub loop : LoopSetup → Type 0
 
--- the words from low to high, with the loops whose heads may be met again
+-- the words from low to high, with the loops whose heads a path may reach again
 pub record Scope : Type 1 where
   pub low : ℕ
   pub high : ℕ
@@ -21,8 +21,8 @@ pub record Scope : Type 1 where
 abbrev pub May : Scope → ℕ → ℕ → Type 0
 May s u v = (u < v) ⊎ ((j : LoopSetup) × s.loops j × (v ≡ j.head) × Holds j u)
 
--- a walk of a part from its lowest word at position p: the number of steps, the word and position
--- that it ends in, its cost, and the counters
+-- a path of a part from its lowest word at position p: the number of steps, the word and position
+-- at its end, its cost, and the counters
 pub data Walk (g : Net) (s : Scope) (p : ℕ) : ℕ → ℕ → ℕ → ℕ → (LoopSetup → ℕ) → Type 0 where
   start : g.own p → Walk g s p 0 s.low p 0 (λ _. 0)
   step : {n u q c d v r : ℕ} {k : LoopSetup → ℕ} → Walk g s p n u q c k → g.arc u q d v r →
@@ -44,7 +44,7 @@ pub record IsNested (g : Net) : Type 0 where
   pub back : {u p d v q : ℕ} → g.arc u p d v q → v ≤ u →
       (j : LoopSetup) × g.loop j × (v ≡ j.head) × Holds j u
 
--- the loops of a part lie in it, and with each those inside it
+-- the loops of a part are in it, and so are the loops inside each of them
 pub record IsScope (g : Net) (s : Scope) : Type 0 where
   pub known : (j : LoopSetup) → s.loops j → g.loop j
   pub within : (j : LoopSetup) → s.loops j → (s.low ≤ j.head) × (j.last ≤ s.high)

@@ -14,19 +14,19 @@ use Rattle.bound_calc.specs.declared.hop.HopRow.{HopRow}
 abbrev pub Hops : List (Option Hop) → Costs
 Hops hops p d q = slice_index_or hops p None ≡ Some (record { cost = d; position = q })
 
--- a step, and then that of a table from where it leads
+-- a step, followed by the step of a table from its end
 abbrev pub hop_chain : Option Hop → List (Option Hop) → Option Hop
 hop_chain None row = None
 hop_chain (Some h) row =
     option_map (λ k. record { cost = h.cost + k.cost; position = k.position })
     (slice_index_or row h.position None)
 
--- they are those to the next turn after a lag
+-- the steps of the table are those to the next turn after a lag
 pub record IsHops (s : Positions) (lag : ℕ) (hops : List (Option Hop)) : Type 0 where
   pub found : (p d q : ℕ) → Hops hops p d q → IsNextTurn s lag p d q
   pub all : (p d q : ℕ) → IsNextTurn s lag p d q → Hops hops p d q
 
--- a row of a matrix after a sum that was made a step longer was taken into it
+-- a row of a matrix after it was joined with a sum advanced by a step
 abbrev pub raised : Option ℕ → Option Hop → List (Option ℕ) → List (Option ℕ)
 raised None hop row = row
 raised (Some x) None row = row
@@ -34,7 +34,7 @@ raised (Some x) (Some h) row =
     slice_set row h.position
     (larger_of (slice_index_or row h.position None) (Some (min (x + h.cost) ceiling)))
 
--- A row has taken in the sums of the first n positions of another, each a step longer.
+-- A row was joined with the sums of the first n positions of another, each advanced by a step.
 pub record IsAdvanced (row : List (Option ℕ)) (hops : List (Option Hop)) (n : ℕ)
     (old new : List (Option ℕ)) : Type 0 where
   pub count : length new ≡ length old
@@ -46,7 +46,7 @@ pub record IsAdvanced (row : List (Option ℕ)) (hops : List (Option Hop)) (n : 
       (slice_index_or old q None ≡ Some e) ⊎ ((r : ℕ) × (x : ℕ) × (d : ℕ) × (r < n)
       × (slice_index_or row r None ≡ Some x) × Hops hops r d q × (e ≡ min (x + d) ceiling))
 
--- the largest of these and of the sums of the first n positions of a row, each a step longer
+-- the largest of a number and the sums of the first n positions of a row, each advanced by a step
 pub record IsFarthest (row : List (Option ℕ)) (hops : List (Option Hop))
     (n old new : ℕ) : Type 0 where
   pub stays : old ≤ new
@@ -72,7 +72,7 @@ pub record IsLargest (m : Matrix) (old new : ℕ) : Type 0 where
 abbrev pub no_hops : HopRow
 no_hops = record { hops = [] }
 
--- The matrix of standing still at the thread's own positions, and the steps by lag.
+-- The identity matrix of the thread's own positions, and the steps by lag.
 pub record IsTable (s : Positions) (still : Matrix) (rows : List HopRow) : Type 0 where
   pub one : IsBest (entry still) (Stays (IsOwn s))
   pub hops : (lag : ℕ) → lag ≤ redirect_lag → IsHops s lag (slice_index_or rows lag no_hops).hops

@@ -1,4 +1,4 @@
--- What a forward pass holds between two words.
+-- The frontier of a forward pass between two words.
 use Rattle.std.specs.Prelude.{◌≡◌, ℕ, ◌+◌, ◌<◌, ◌≤◌, ◌⊎◌, Option, Contains}
 use Rattle.bound_calc.specs.Best.{Costs, Stays}
 use Rattle.bound_calc.specs.Context.{Scope, body}
@@ -23,7 +23,7 @@ And f v e u e' = f u e' ⊎ ((u ≡ v) × (e' ≡ e))
 abbrev pub AndTo : Edges → ℕ → Option ℕ → ℕ → Edges
 AndTo f v target lag u e = f u e ⊎ ((u ≡ v) × Contains (edge_to target lag) e)
 
--- a walk of the part and then one of the edges, up to word w
+-- a path of the part and then one of the edges, up to word w
 pub record Brings (x : Field) (s : Scope) (f : Edges) (w p c q : ℕ) : Type 0 where
   pub from : ℕ
   pub at : ℕ
@@ -37,11 +37,11 @@ pub record Brings (x : Field) (s : Scope) (f : Edges) (w p c q : ℕ) : Type 0 w
   pub high : w ≤ s.high
   pub cost : c ≡ one + two
 
--- what reaches a word of a part: nothing done at its first word, or what edges bring
+-- the costs at a word of a part: no step at its first word, or what edges bring
 abbrev pub Comes : Field → Scope → Edges → ℕ → Costs
 Comes x s f w p c q = ((w ≡ s.low) × Stays x.own p c q) ⊎ Brings x s f w p c q
 
--- a walk of a loop's own part and then one of the edges, back to the head
+-- a path of a loop's own part and then one of the edges, back to the head
 pub record Turns (x : Field) (j : LoopSetup) (f : Edges) (p c q : ℕ) : Type 0 where
   pub from : ℕ
   pub at : ℕ

@@ -23,7 +23,7 @@ use Rattle.bound_calc.specs.declared.front.Front.{Front}
 use Rattle.bound_calc.specs.declared.hop.Hop.{Hop}
 use Rattle.bound_calc.specs.declared.matrix.Matrix.{Matrix}
 
--- what walks through a tree's section go over
+-- the graph and the positions of paths through a tree's section
 abbrev pub walks : Tree → Positions → Course
 walks t s = record { graph = graph t; positions = s }
 
@@ -43,7 +43,7 @@ no_matrix = record { best = [] }
 abbrev pub matrix_at : List Matrix → ℕ → Entries
 matrix_at at k = entry (slice_index_or at k no_matrix)
 
--- by index the matrices of loops, where they were worked out
+-- by index the matrices of loops, where they are computed
 abbrev pub Powers : Type 0
 Powers = List (Option (Box Matrix Global))
 
@@ -51,12 +51,12 @@ Powers = List (Option (Box Matrix Global))
 abbrev pub power_at : Powers → ℕ → Option Matrix
 power_at powers k = option_map (λ b. b.value) (slice_index_or powers k None)
 
--- what it costs to go on from a word: by the turns, or what a matrix says
+-- the costs of going on from a word: by the turns, or by a matrix
 abbrev pub move_costs : Positions → Option Matrix → ℕ → Costs
 move_costs s None lag = Steps s lag
 move_costs s (Some m) lag = In (entry m)
 
--- the matrices of the words that are gone on from at costs of their own, by index
+-- the matrices of the words that have costs of their own, by index
 abbrev pub WaysOn : Type 0
 WaysOn = ℕ → Option Matrix
 
@@ -66,7 +66,7 @@ matrix_of costs None = None
 matrix_of costs (Some i) =
     if nat_lt i (length costs) then Some (slice_index_or costs i no_matrix) else None
 
--- matrices, and by the index of a word that of its matrix
+-- matrices, and for the index of a word the index of its matrix
 pub record WayTable : Type 0 where
   pub indices : List (Option ℕ)
   pub costs : List Matrix
@@ -75,7 +75,7 @@ pub record WayTable : Type 0 where
 abbrev pub ways_on : WayTable → WaysOn
 ways_on w k = matrix_of w.costs (slice_index_or w.indices k None)
 
--- The same walks, where the words at some indices are gone on from at the costs of a matrix.
+-- The same paths, where the words at some indices go on at the costs of a matrix.
 abbrev pub over : Tree → Positions → WaysOn → Field
 over t s ways =
     record { graph = graph t; own = IsOwn s; move = λ u lag. move_costs s (ways (index t u)) lag }
@@ -104,7 +104,7 @@ up_of t k high None = None
 up_of t k high (Some v) =
     if nat_lt (address t k) v && nat_le v (address t high) then Some (index t v) else None
 
--- what a pass holds between two words
+-- the frontier of a pass between two words
 pub record FrontModel : Type 0 where
   pub waiting : Powers
   pub base : Matrix
@@ -122,19 +122,19 @@ abbrev pub IsThrough : Option Matrix → Matrix → Matrix → Type 0
 IsThrough power old new =
     MatchOption power (new ≡ old) (λ m. IsBest (entry new) (Then (In (entry old)) (In (entry m))))
 
--- what waits at the word with an index
+-- the costs that wait at the word with an index
 abbrev pub Waits : Powers → ℕ → Costs
 Waits waiting k p c q = (m : Matrix) × (power_at waiting k ≡ Some m) × In (entry m) p c q
 
--- what an edge to an index brings to another one
+-- the costs that an edge to an index brings to another one
 abbrev pub Via : Option ℕ → ℕ → Costs → Costs
 Via to w f p c q = (to ≡ Some w) × f p c q
 
--- what a front leads on with to the next word
+-- the costs with which a frontier goes on to the next word
 abbrev pub FrontCosts : FrontModel → Costs
 FrontCosts f = Then (In (entry f.base)) (Hops f.hops)
 
--- what a front before the word at index n has for the word at index w
+-- the costs of a frontier before the word at index n, at the word at index w
 abbrev pub Ahead : FrontModel → ℕ → ℕ → Costs
 Ahead f n w = Either (Waits f.waiting w) (λ p c q. (w ≡ n) × FrontCosts f p c q)
 
@@ -146,21 +146,21 @@ pub record IsPowers (x : Field) (t : Tree) (s : Scope) (powers : Powers) : Type 
       address t k ≤ s.high → power_at powers k ≡ Some m →
       (j : LoopSetup) × s.loops j × (address t k ≡ j.head) × Reachable x.graph (address t k)
 
--- by index what reaches each word of the section
+-- by index the costs at each word of the section
 pub record AreReached (t : Tree) (s : Positions) (ways : WaysOn) (at : List Matrix) : Type 0 where
   pub count : length at ≡ length t.words
   pub best : (k : ℕ) → k < length t.words →
       IsBest (matrix_at at k) (Reaches (net (over t s ways)) (whole (over t s ways)) (address t k))
 
--- these costs were joined with what waits at an edge's target
+-- these costs were joined with those that wait at an edge's target
 pub record IsBrought (to : Option ℕ) (f : Costs) (old new : FrontModel) : Type 0 where
   pub count : length new.waiting ≡ length old.waiting
   pub base : new.base ≡ old.base
   pub hops : new.hops ≡ old.hops
   pub waits : (w : ℕ) → AreBest (Waits new.waiting w) (Either (Waits old.waiting w) (Via to w f))
 
--- Before the word at index n of a part a front has what comes from below it to each word ahead. Its
--- steps are those of at most n words.
+-- Before the word at index n of a part a frontier has the costs from below it at each word ahead.
+-- Its steps are those of at most n words.
 pub record IsFront (x : Field) (t : Tree) (s : Scope) (n : ℕ) (f : FrontModel) : Type 0 where
   pub count : length f.waiting ≡ length t.words
   pub positions : (p d q : ℕ) → Hops f.hops p d q → (p < 8) × (q < 8)
@@ -168,7 +168,7 @@ pub record IsFront (x : Field) (t : Tree) (s : Scope) (n : ℕ) (f : FrontModel)
   pub ahead : (k : ℕ) → n ≤ k → address t k ≤ s.high →
       AreBest (Ahead f n k) (Comes x s (Below x (address t n)) (address t k))
 
--- a word of straight code: nothing waits there, and its one edge is to the next word, by the turns
+-- a word of straight code: nothing waits there, and its only edge is to the next word, by the turns
 pub record IsStraight (t : Tree) (e : Edges) (k last : ℕ) (way power : Option Matrix)
     (f : FrontModel) : Type 0 where
   pub jump : e.jump ≡ None
@@ -177,14 +177,15 @@ pub record IsStraight (t : Tree) (e : Edges) (k last : ℕ) (way power : Option 
   pub no_power : power ≡ None
   pub waits : power_at f.waiting k ≡ None
 
--- a step was put behind those that lead on
+-- a step was composed with those before it
 pub record IsSkipped (s : Positions) (lag : ℕ) (old new : FrontModel) : Type 0 where
   pub frame : length s.frame ≤ 8
   pub waiting : new.waiting ≡ old.waiting
   pub base : new.base ≡ old.base
   pub hops : (p d q : ℕ) → Hops new.hops p d q ↔ Then (Hops old.hops) (Steps s lag) p d q
 
--- what the front has for a word was taken up, and through the power of the loop whose head it is
+-- the costs of the frontier at a word were collected, and taken through the power of the loop whose
+-- head it is
 pub record IsArrived (power : Option Matrix) (k : ℕ) (old new : FrontModel) : Type 0 where
   pub count : length new.waiting ≡ length old.waiting
   pub others : (w : ℕ) → w ≢ k → power_at new.waiting w ≡ power_at old.waiting w
@@ -192,7 +193,7 @@ pub record IsArrived (power : Option Matrix) (k : ℕ) (old new : FrontModel) : 
   pub best : IsBest (entry joined) (Ahead old k k)
   pub here : IsThrough power joined new.base
 
--- a front went on to the next word, at these costs
+-- a frontier went on to the next word, at these costs
 pub record IsLed (s : Positions) (way : Option Matrix) (next : Option ℕ) (lag k : ℕ)
     (old new : FrontModel) : Type 0 where
   pub count : length new.waiting ≡ length old.waiting
@@ -202,7 +203,7 @@ pub record IsLed (s : Positions) (way : Option Matrix) (next : Option ℕ) (lag 
   pub ahead : (w : ℕ) → k < w → AreBest (Ahead new (k + 1) w) (Either (Waits old.waiting w)
       (Via next w (Then (In (entry old.base)) (move_costs s way lag))))
 
--- a front went on from a word along its edges
+-- a frontier went on from a word along its edges
 pub record IsGone (t : Tree) (s : Positions) (way : Option Matrix) (e : Edges) (k last : ℕ)
     (old new : FrontModel) : Type 0 where
   pub count : length new.waiting ≡ length old.waiting
@@ -221,7 +222,7 @@ pub record IsReady (x : Field) (t : Tree) (s : Scope) (powers : Powers) : Type 0
   pub rounds : IsPowers x t s powers
   pub count : length powers ≡ length t.words
 
--- a matrix was taken back to a head, where the edge leads there
+-- a matrix was taken back to a head, if the edge leads there
 pub record IsTurned (f : Costs) (back here : Matrix) (target : Option ℕ) (head : ℕ)
     (new : Matrix) : Type 0 where
   pub other : (target ≡ Some head → ⊥) → new ≡ back
@@ -237,7 +238,7 @@ pub record IsFilled (x : Field) (t : Tree) (n : ℕ) (powers : Powers) : Type 0 
   pub only : (k : ℕ) (m : Matrix) → power_at powers k ≡ Some m → (n ≤ k) × ((j : LoopSetup)
       × Contains x.graph.loops j × (address t k ≡ j.head) × Reachable x.graph (address t k))
 
--- the most so far, with the step along an edge that leaves the section
+-- the largest so far, with the step along an edge that leaves the section
 pub record IsOut (s : Positions) (here : Matrix) (leaves : Bool) (lag old new : ℕ) : Type 0 where
   pub stays : old ≤ new
   pub upper : leaves ≡ true → (p c q : ℕ) → Then (In (entry here)) (Steps s lag) p c q →
@@ -250,7 +251,7 @@ abbrev pub leaves : Tree → Option ℕ → Bool
 leaves t None = false
 leaves t (Some v) = not (nat_le t.section.from v && nat_lt v t.section.to)
 
--- the most so far, with what reaches a word and the steps on from there that leave the section
+-- the largest so far, with the costs at a word and the steps on from there that leave the section
 pub record IsMostFrom (t : Tree) (s : Positions) (here : Matrix) (e : Edges)
     (old new : ℕ) : Type 0 where
   pub inner : ℕ
@@ -259,7 +260,7 @@ pub record IsMostFrom (t : Tree) (s : Positions) (here : Matrix) (e : Edges)
   pub by_next : IsOut s here (leaves t e.next) e.next_lag inner next
   pub by_jump : IsOut s here (leaves t e.jump) redirect_lag next new
 
--- the most of the words at the indices below n
+-- the largest cost at the words with indices below n
 pub record IsMost (x : Course) (t : Tree) (n most : ℕ) : Type 0 where
   pub met : (c : ℕ) × CostsOf x c × (min most ceiling ≡ min c ceiling)
   pub inside : (k p c q : ℕ) → k < n →
@@ -268,14 +269,14 @@ pub record IsMost (x : Course) (t : Tree) (n most : ℕ) : Type 0 where
       (Lies x.graph e.to → ⊥) → Then (Reaches (net (field x)) (whole (field x)) (address t k))
       (Steps x.positions e.lag) p c q → min c ceiling ≤ most
 
--- what leads to the words below index n that are ends, and then a jump further
+-- the costs at the words below index n that are ends, and then a jump
 pub record Ended (s : Positions) (ends : List Bool) (at : List Matrix) (n p c q : ℕ) : Type 0 where
   pub index : ℕ
   pub below : index < n
   pub is : slice_index_or ends index false ≡ true
   pub jump : Then (In (matrix_at at index)) (Steps s 3) p c q
 
--- a matrix was taken a jump further, if its word is an end
+-- a matrix was joined after a jump, if its word is an end
 pub record EndedHere (s : Positions) (is_end : Bool) (here back new : Matrix) : Type 0 where
   pub other : is_end ≡ false → new ≡ back
   pub there : is_end ≡ true →

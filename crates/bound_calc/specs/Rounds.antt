@@ -1,4 +1,4 @@
--- What a walk does inside a loop, as rounds, and what rounds are as a walk.
+-- The steps of a path inside a loop as rounds, and rounds as steps of a path.
 use Rattle.std.specs.Prelude.{◌≡◌, ◌≢◌, ℕ, ◌+◌, ◌≤◌, ◌&&◌, nat_le, nat_lt}
 use Rattle.std.specs.Prelude.{List, [], ◌∷◌, ◌++◌, filter, Contains}
 use Rattle.fp_setup.specs.declared.loop_list.LoopSetup.{LoopSetup}
@@ -67,9 +67,9 @@ abbrev pub Enters : LoopSetup → ℕ → List Step → Type 0
 Enters j u [] = u ≡ j.head
 Enters j u (t ∷ ts) = (t.to ≡ j.head) × (Holds j t.from → ⊥)
 
--- From the moment when a walk that keeps the bounds enters a loop at its head, or starts there, it
--- is in at most bound + 1 rounds for as long as it stays in the loop, up to the next step that
--- leaves it or to the walk's end.
+-- When a path that keeps the bounds enters a loop at its head, or starts there, it makes at most
+-- bound + 1 rounds. This holds while it stays in the loop, up to the next step that leaves it or to
+-- the path's end.
 abbrev pub StaysInRounds : Type 0
 StaysInRounds =
     (x : Course) (j : LoopSetup) (p v q : ℕ) (before during after : List Step) →

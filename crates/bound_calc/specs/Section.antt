@@ -1,4 +1,4 @@
--- A course as a net, and what is known of one whose tree was accepted.
+-- A course as a net, and the facts of one whose tree was accepted.
 use Rattle.std.specs.Prelude.{◌≡◌, ℕ, ◌-◌, ◌<◌, ◌≤◌, ◌⊎◌, length, Contains}
 use Rattle.rv_decode.specs.Lag.{redirect_lag}
 use Rattle.region_guard.specs.MemoryMap.{large_size}
@@ -10,7 +10,7 @@ use Rattle.region_tree.specs.Graph.{Edge, Graph, Holds, Inside, Lies, Reachable}
 use Rattle.region_tree.specs.Nesting.{depth, most_depth}
 use Rattle.region_tree.specs.Walk.{Course, IsOwn, IsNextTurn, Positions}
 
--- Loops are properly nested and entered at their heads alone, and every reachable edge down is to
+-- Loops are properly nested and entered only at their heads, and every reachable back edge is to
 -- the head of a loop that holds its word.
 pub record IsAccepted (g : Graph) : Type 0 where
   pub ordered : (j : LoopSetup) → Contains g.loops j →
@@ -36,14 +36,13 @@ pub record IsModest (x : Course) : Type 0 where
 abbrev pub Steps : Positions → ℕ → Costs
 Steps s lag p d q = IsNextTurn s lag p d q
 
--- A control graph, a thread's own positions, and what it costs to go along the edges of word u with
--- a lag.
+-- A control-flow graph, a thread's own positions, and the costs of the edges of word u with a lag.
 pub record Field : Type 1 where
   pub graph : Graph
   pub own : ℕ → Type 0
   pub move : ℕ → ℕ → Costs
 
--- by the turns alone
+-- only by the turns
 abbrev pub field : Course → Field
 field x = record { graph = x.graph; own = IsOwn x.positions; move = λ u lag. Steps x.positions lag }
 

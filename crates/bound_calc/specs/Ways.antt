@@ -5,13 +5,13 @@ use Rattle.bound_calc.specs.Context.{Net, Scope, Walk, body}
 use Rattle.fp_setup.specs.declared.loop_list.LoopSetup.{LoopSetup}
 use Rattle.region_tree.specs.Graph.{Holds}
 
--- a walk of the part to word v
+-- a path of the part to word v
 pub record Reaches (g : Net) (s : Scope) (v p c q : ℕ) : Type 0 where
   pub steps : ℕ
   pub counters : LoopSetup → ℕ
   pub walk : Walk g s p steps v q c counters
 
--- a walk of the part and then a step up to word v
+-- a path of the part and then a step up to word v
 pub record Climbs (g : Net) (s : Scope) (v p c q : ℕ) : Type 0 where
   pub from : ℕ
   pub at : ℕ
@@ -23,11 +23,11 @@ pub record Climbs (g : Net) (s : Scope) (v p c q : ℕ) : Type 0 where
   pub high : v ≤ s.high
   pub cost : c ≡ one + two
 
--- what comes to word v from below
+-- the costs at word v that come from below
 abbrev pub Enters : Net → Scope → ℕ → Costs
 Enters g s v p c q = ((v ≡ s.low) × Stays g.own p c q) ⊎ Climbs g s v p c q
 
--- a walk of a loop's own part and then a step back to the head
+-- a path of a loop's own part and then a step back to the head
 pub record Round (g : Net) (j : LoopSetup) (p c q : ℕ) : Type 0 where
   pub from : ℕ
   pub at : ℕ

@@ -1,4 +1,4 @@
-//! Matrices a step further.
+//! Matrices advanced by a step.
 
 ghost use Rattle.std.specs.Prelude.{◌≡◌, ℕ, ◌+◌, ◌<◌, ◌≤◌, min, ◌⊎◌, max, List};
 ghost use Rattle.std.specs.Prelude.{[], length, Option, Some, None, slice_index_or};
@@ -15,7 +15,7 @@ fn greater(a: u128, b: u128) -> u128
     if a < b { b } else { a }
 }
 
-/// Takes a sum into a row, a step longer.
+/// Joins into a row a sum advanced by a step.
 fn raise(row: &mut [Option<u128>; 8], sum: Option<u128>, hop: Hop)
     requires { hop.position < 8 }
     ensures raised { row.new ≡ raised sum (Some hop) row.old }
@@ -30,7 +30,7 @@ fn raise(row: &mut [Option<u128>; 8], sum: Option<u128>, hop: Hop)
     );
 }
 
-/// Takes the sums of a column into a matrix, each by the step that leads on from there.
+/// Joins into a matrix the sums of a column of another, each advanced by the step from there.
 fn advance_column(here: &Matrix, column: usize, hop: Option<Hop>, onto: &mut Matrix)
     requires column { column < 8 }
     requires position { (h : _) → hop ≡ Some h → h.position < 8 }
@@ -47,8 +47,9 @@ fn advance_column(here: &Matrix, column: usize, hop: Option<Hop>, onto: &mut Mat
     }
 }
 
-/// Joins with a matrix another that is taken a step further. It is done in place, since a copy of a
-/// matrix costs as much as the step, and by columns, each of which has the same step.
+/// Joins into a matrix another that is advanced by a step. It works in place, since a copy of a
+/// matrix costs as much as the step. It works by columns, since all sums of a column have the same
+/// step.
 pub fn advance(here: &Matrix, hops: &HopRow, onto: &mut Matrix)
     requires positions { (p d q : ℕ) → Hops hops.now.hops p d q → (p < 8) × (q < 8) }
     ensures { IsBest (entry onto.new)
@@ -59,7 +60,7 @@ pub fn advance(here: &Matrix, hops: &HopRow, onto: &mut Matrix)
     }
 }
 
-/// The larger of a number and a sum that is a step longer.
+/// The larger of a number and a sum advanced by a step.
 fn leave_one(sum: Option<u128>, hop: Option<Hop>, most: u128) -> u128
     ensures stays { most ≤ result }
     ensures upper { (x : ℕ) → (h : _) → sum ≡ Some x → hop ≡ Some h →
@@ -87,7 +88,7 @@ fn leave_row(row: &[Option<u128>; 8], hops: &HopRow, most: u128) -> u128
     farthest
 }
 
-/// The largest of a number and the sums of a matrix, each a step longer.
+/// The largest of a number and the sums of a matrix, each advanced by a step.
 pub fn leave(here: &Matrix, hops: &HopRow, most: u128) -> u128
     requires positions { (p d q : ℕ) → Hops hops.now.hops p d q → (p < 8) × (q < 8) }
     ensures { IsLeft here.now hops.now.hops most result }

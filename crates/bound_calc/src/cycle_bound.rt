@@ -23,13 +23,13 @@ use slot_table::SlotTable;
 use std::alloc::{AllocError, Global};
 use thiserror::Error;
 
-/// Why no bound was answered.
+/// Why there is no bound.
 #[derive(Clone, Copy, Debug, PartialEq, Eq, Error)]
 pub enum BoundNo {
-    /// The bound, which is above 2^64 - 1; of a bound through calls 2^64 stands in its place.
+    /// The bound, which is above 2^64 - 1. For a bound through calls the value is 2^64 instead.
     #[error("the bound {value} has more than 64 bits")]
     Overflow { value: u128 },
-    /// Memory was refused.
+    /// Memory ran out.
     #[error("out of memory")]
     NoMemory,
 }
@@ -56,7 +56,7 @@ pub fn is_out(tree: &LoopTree, target: Option<u32>) -> bool
     }
 }
 
-/// The largest of a number and the steps along an edge that leaves the section.
+/// The largest of a number and, if the edge leaves the section, the sums advanced along it.
 fn most_out(steps: &Steps, here: &Matrix, out: bool, lag: u64, most: u128) -> u128
     requires lag { lag ≤ redirect_lag }
     ensures { IsOut steps.now here.now out lag most result }
@@ -68,8 +68,8 @@ fn most_out(steps: &Steps, here: &Matrix, out: bool, lag: u64, most: u128) -> u1
     }
 }
 
-/// The largest of a number, of what reaches a word, and of the steps on from there that leave the
-/// section.
+/// The largest of a number, the costs at a word, and these costs advanced along its edges out of
+/// the section.
 fn most_from(tree: &LoopTree, steps: &Steps, here: &Matrix, edges: &Edges, most: u128) -> u128
     requires lag { edges.now.next_lag ≤ redirect_lag }
     ensures { IsMostFrom tree.now steps.now here.now edges.now most result }
@@ -80,7 +80,7 @@ fn most_from(tree: &LoopTree, steps: &Steps, here: &Matrix, edges: &Edges, most:
     most_out(steps, here, is_out(tree, edges.jump), JUMP_LAG, next)
 }
 
-/// The largest cost of a walk, by the powers of the section's loops.
+/// The largest cost of a path, from the powers of the section's loops.
 fn most(
     alloc: Global,
     tree: &LoopTree,
@@ -113,7 +113,7 @@ fn most(
     Ok(most)
 }
 
-/// The largest cost of a walk, by a front that has room for each word.
+/// The largest cost of a path, from a frontier that has room for each word.
 fn largest_cost_by(
     alloc: Global,
     tree: &LoopTree,
@@ -130,7 +130,7 @@ fn largest_cost_by(
     most(alloc, tree, steps, &powers, front)
 }
 
-/// The largest cost of a walk.
+/// The largest cost of a path.
 fn largest_cost(alloc: Global, tree: &LoopTree, steps: &Steps) -> Result<u128, AllocError>
     requires frame { length steps.now.frame ≤ 8 }
     requires slot { (p : ℕ) × IsOwn steps.now p }
@@ -140,7 +140,7 @@ fn largest_cost(alloc: Global, tree: &LoopTree, steps: &Steps) -> Result<u128, A
     largest_cost_by(alloc, tree, steps, &mut front)
 }
 
-/// A bound in 64 bits, if it has no more.
+/// Converts a bound to 64 bits; `Overflow` if it has more.
 fn in_64_bits(value: u128) -> Result<u64, BoundNo>
     ensures { MatchResult result (λ bound. bound ≡ value)
         (λ no. (no ≡ Overflow value) × (2 ^ 64 ≤ value)) }
@@ -151,14 +151,14 @@ fn in_64_bits(value: u128) -> Result<u64, BoundNo>
     }
 }
 
-/// The bound of a tree's section for a thread: the largest number of cycles that a walk through it
-/// takes, by the turns of the thread, where no loop goes back to its head more often than its bound
-/// allows. The thread is 0 to 7 and has a slot.
+/// The bound of a tree's section for a thread: the largest number of cycles of a path through it.
+/// The thread's turns determine the cycles. The path takes no loop's back edges more often than the
+/// loop's bound allows. The thread is 0 to 7 and has a slot.
 ///
 /// # Errors
 ///
-/// [`BoundNo::Overflow`] with the bound exactly where it is above 2^64 - 1. Besides, memory may be
-/// refused.
+/// [`BoundNo::Overflow`] with the bound exactly if it is above 2^64 - 1. `NoMemory` if memory ran
+/// out.
 pub fn bound(alloc: Global, tree: &LoopTree, slots: &SlotTable, thread: u8) -> Result<u64, BoundNo>
     requires thread { thread < 8 }
     requires slot { Contains (frame slots.now) thread }

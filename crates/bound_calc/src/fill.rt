@@ -17,11 +17,11 @@ use fp_setup::LoopSetup;
 use region_tree::LoopTree;
 use std::alloc::{AllocError, Global};
 
-/// No powers.
+/// A list of `count` absent powers.
 ///
 /// # Errors
 ///
-/// Memory was refused.
+/// Memory ran out.
 pub fn empty(alloc: Global, count: usize) -> Result<Vec<Option<Box<Matrix>>>, AllocError>
     ensures { IfOk result (λ powers. (length powers.items ≡ count) ×
         ((k : ℕ) → power_at powers.items k ≡ None)) }
@@ -120,12 +120,12 @@ fn index_below(tree: &LoopTree, index: usize) -> usize
 }
 
 /// The powers of all loops whose heads are reachable, inner loops first. From each head it goes on
-/// to the next one below: to look for a loop at every word of a large section would be a tenth of
+/// to the next one below. Looking for a loop at every word of a large section would be a tenth of
 /// all steps of its bound.
 ///
 /// # Errors
 ///
-/// Memory was refused.
+/// Memory ran out.
 pub fn fill(
     alloc: Global,
     tree: &LoopTree,

@@ -1,4 +1,4 @@
-//! What a pass holds between two words.
+//! The frontier of a pass, between two words.
 
 ghost use Rattle.std.specs.Prelude.{◌≡◌, length, IfOk};
 
@@ -7,30 +7,30 @@ use crate::hop::HopRow;
 use crate::matrix::Matrix;
 use std::alloc::{AllocError, Global};
 
-/// What leads on from the words behind to those ahead. A matrix is held for as long as an edge
-/// leads on to its word, and not for each word of the section: those of the largest section would
-/// be 33 MB, and a third of the time.
+/// The costs that lead from the words already passed to the words ahead. A matrix is kept only
+/// while an edge leads on to its word, not for each word of the section. For the largest section
+/// that would be 33 MB, and a third of the time.
 #[derive(Drop)]
 pub struct Front {
-    /// By index what edges brought to a word ahead.
+    /// By index the costs that edges brought to a word ahead.
     pub waiting: Vec<Option<Box<Matrix>>>,
-    /// What reached the word from which the pass goes on.
+    /// The costs at the word from which the pass goes on.
     pub base: Box<Matrix>,
-    /// The steps from there to the next word. Through straight code they are put together, eight
-    /// steps a word in place of a matrix.
+    /// The steps from there to the next word. Through straight code they are composed: eight steps
+    /// a word instead of a matrix.
     pub hops: HopRow,
-    /// A box to be used again: to ask for one at each stop would be a tenth of all steps.
+    /// A box for reuse: allocating one at each stop would be a tenth of all steps.
     pub spare: Option<Box<Matrix>>,
 }
 
 impl Front {
     ghost use Rattle.std.specs.Prelude.{◌≡◌, length, IfOk};
 
-    /// Nothing is ahead of any of so many words.
+    /// A frontier of `count` words with nothing ahead.
     ///
     /// # Errors
     ///
-    /// Memory was refused.
+    /// Memory ran out.
     pub fn new(alloc: Global, count: usize) -> Result<Front, AllocError>
         ensures { IfOk result (λ front. length front.waiting.items ≡ count) }
     {

@@ -12,7 +12,7 @@ pub struct Hop {
     pub position: usize,
 }
 
-/// A step, and then that of a row from where it leads.
+/// A step, followed by the step of a row from its end.
 fn follow(first: Option<Hop>, row: &HopRow) -> Option<Hop>
     requires position { (h : _) → first ≡ Some h → h.position < 8 }
     requires short { (h : _) → first ≡ Some h → h.cost ≤ 2 ^ 32 }
@@ -27,10 +27,10 @@ fn follow(first: Option<Hop>, row: &HopRow) -> Option<Hop>
     })
 }
 
-/// For each frame position that is the thread's the step from there.
+/// For each frame position of the thread the step from there.
 #[derive(Clone, Copy)]
 pub struct HopRow {
-    /// By the position; `None` where the position isn't the thread's or doesn't come up.
+    /// By the position; `None` where the position isn't the thread's or doesn't occur.
     pub hops: [Option<Hop>; 8],
 }
 
@@ -41,7 +41,7 @@ impl HopRow {
     /// No steps.
     pub const NONE: HopRow = HopRow { hops: [None; 8] };
 
-    /// From each position a step, and then that of another row from where it leads.
+    /// From each position a step, followed by the step of another row from its end.
     pub fn then(&self, row: &HopRow) -> HopRow
         requires positions { (p d q : ℕ) → Hops self.now.hops p d q → q < 8 }
         requires short { (p d q : ℕ) → Hops self.now.hops p d q → d ≤ 2 ^ 32 }

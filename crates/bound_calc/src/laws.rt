@@ -1,9 +1,10 @@
-//! Laws of walks inside a loop. The contract of each call is the law; the call does nothing.
+//! Theorems about paths inside a loop. The contract of each call is the theorem; the call does
+//! nothing.
 
 ghost use Rattle.bound_calc.specs.Rounds.{RoundsAreSteps, StaysInRounds};
 
-/// What a walk does from where it enters a loop, for as long as it stays there, is at most as many
-/// rounds as the loop's bound, and one more.
+/// From where a path enters a loop, and while it stays there, it makes at most as many rounds as
+/// the loop's bound, and one more.
 pub fn stays_in_rounds()
     ensures { StaysInRounds }
 {}

@@ -1,4 +1,4 @@
-//! The bound of a section: the largest number of cycles that a walk through it takes.
+//! The bound of a section: the largest number of cycles of a path through it.
 
 #![tactic(auto)]
 

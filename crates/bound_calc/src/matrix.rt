@@ -34,11 +34,11 @@ fn sum(a: Option<u128>, b: Option<u128>) -> Option<u128>
     }
 }
 
-/// Takes a sum, if there is one, into an entry, which is the larger of both then.
+/// Joins a sum, if there is one, into an entry, which then is the larger of both.
 ///
-/// It stands beside [`larger`] because most sums come to an entry without one. Such an entry is
-/// written, with no comparison and no choice between two numbers of 128 bits, which a value that is
-/// put back would need: a third of the steps of each sum.
+/// It exists next to [`larger`] because most sums come to an empty entry. It writes such an entry
+/// without a comparison. A function that returns the new value would need a choice between two
+/// 128-bit numbers: a third of the steps of each sum.
 #[tactic(auto, unfolding(crate::specs::Matrices::larger_of))]
 pub fn take_in(best: &mut Option<u128>, sum: Option<u128>)
     ensures { best.new ≡ larger_of best.old sum }
@@ -53,7 +53,7 @@ pub fn take_in(best: &mut Option<u128>, sum: Option<u128>)
     }
 }
 
-/// Takes into a row the sums of an entry and of each entry of another row.
+/// Joins into a row the sums of an entry and each entry of another row.
 fn take_sums(first: Option<u128>, second: &[Option<u128>; 8], onto: &mut [Option<u128>; 8])
     ensures { (q : ℕ) → q < 8 → slice_index_or onto.new q None ≡
         larger_of (slice_index_or onto.old q None)
@@ -112,8 +112,8 @@ impl Matrix {
         Matrix { best }
     }
 
-    /// Joins with the matrix the largest sums of two others over the position between. It is done
-    /// in place, since a matrix made between chaining and joining is a third of the cost.
+    /// Joins into the matrix the largest sums of two others over the position between. It works in
+    /// place, since a matrix made between chaining and joining is a third of the cost.
     pub fn join_chain(&mut self, first: &Matrix, second: &Matrix)
         ensures { IsBest (entry self.new) (Either (In (entry self.old))
             (Then (In (entry first.now)) (In (entry second.now)))) }
@@ -133,9 +133,9 @@ impl Matrix {
         out
     }
 
-    /// Takes into a row the sums of another that is chained with the matrix. It goes by the entries
-    /// of that row, and not by those of the result, since a row has few: none for positions that
-    /// aren't the thread's, and often for half of the others.
+    /// Joins into a row the sums of another row chained with the matrix. It iterates over the
+    /// entries of that row, not over those of the result, since a row has few. Positions of other
+    /// threads have none, and often half of the thread's positions have none.
     fn take_row(&self, row: &[Option<u128>; 8], onto: &mut [Option<u128>; 8])
         ensures { (q : ℕ) → q < 8 → slice_index_or onto.new q None ≡
             larger_of (slice_index_or onto.old q None)

@@ -1,4 +1,4 @@
-//! What reaches each word of a loop, or of a whole section.
+//! The costs at each word of a loop, or of a whole section.
 
 ghost use Rattle.std.specs.Prelude.{◌≡◌, ℕ, ◌+◌, ◌<◌, ◌≤◌, ◌^◌, ◌↔◌, length, Option};
 ghost use Rattle.std.specs.Prelude.{Some, None, Contains, IfOk, IfSome, IsTrue, OnOk};
@@ -82,8 +82,8 @@ fn up_to(tree: &LoopTree, index: usize, last: usize, target: Option<u32>) -> Opt
     }
 }
 
-/// Joins with a matrix another that goes on from a word: by the turns after a lag, or by the way
-/// of the word, if it has one.
+/// Joins into a matrix another that goes on from a word: by the turns after a lag, or by the word's
+/// own costs, if it has any.
 pub(crate) fn join_along(
     steps: &Steps,
     way: Option<&Matrix>,
@@ -102,8 +102,8 @@ pub(crate) fn join_along(
     }
 }
 
-/// Joins a matrix with another that goes on from a word: by the turns after a lag, or by the way
-/// of the word, if it has one.
+/// Joins a matrix with another that goes on from a word: by the turns after a lag, or by the word's
+/// own costs, if it has any.
 pub fn along(steps: &Steps, way: Option<&Matrix>, here: &Matrix, lag: u64, onto: &Matrix) -> Matrix
     requires lag { lag ≤ redirect_lag }
     ensures { IsBest (entry result) (Either (In (entry onto.now)) (Then (In (entry here.now))
@@ -135,7 +135,7 @@ fn without_sums(alloc: Global, spare: &mut Option<Box<Matrix>>) -> Result<Box<Ma
     Ok(none)
 }
 
-/// Takes what waits, or a matrix without sums where nothing does.
+/// Takes the waiting costs, or a matrix without sums if none wait.
 fn take(
     alloc: Global,
     waiting: &mut Option<Box<Matrix>>,
@@ -150,7 +150,7 @@ fn take(
     }
 }
 
-/// Takes what reaches a word through the rounds of the loop whose head it is, if it is one.
+/// Takes the costs at a word through the rounds of the loop whose head it is, if it is one.
 fn apply_rounds(power: &Option<Box<Matrix>>, here: &mut Matrix)
     ensures { IsThrough (option_map (λ b. b.value) power.now) here.old here.new }
 {
@@ -159,7 +159,7 @@ fn apply_rounds(power: &Option<Box<Matrix>>, here: &mut Matrix)
     }
 }
 
-/// Joins what waits at an edge's target with what the edge brings there.
+/// Joins the costs that wait at an edge's target with the costs that the edge brings there.
 fn bring(
     alloc: Global,
     steps: &Steps,
@@ -184,7 +184,7 @@ fn bring(
     Ok(())
 }
 
-/// Lets go of what waits at the words of a span.
+/// Drops the costs that wait at the words of a span.
 fn clear(span: Span, front: &mut Front)
     requires { span.last < length front.old.waiting.items }
     ensures none { (k : ℕ) → span.first ≤ k → k ≤ span.last →
@@ -200,7 +200,7 @@ fn clear(span: Span, front: &mut Front)
 ///
 /// # Errors
 ///
-/// Memory was refused.
+/// Memory ran out.
 pub fn begin(
     alloc: Global,
     tree: &LoopTree,
@@ -221,7 +221,7 @@ pub fn begin(
     Ok(())
 }
 
-/// Whether the one edge of the word at an index is to the next word.
+/// Whether the only edge of the word at an index is to the next word.
 fn leads_on(tree: &LoopTree, edges: &Edges, index: usize, last: usize) -> bool
     requires order { index ≤ last }
     requires within { last < length tree.now.words }
@@ -232,8 +232,8 @@ fn leads_on(tree: &LoopTree, edges: &Edges, index: usize, last: usize) -> bool
     edges.jump.is_none() && is_index(up_to(tree, index, last, edges.next), index + 1)
 }
 
-/// Whether a word is one of straight code, where a pass need not stop: nothing waits there, and
-/// its one edge is to the next word, by the turns.
+/// Whether a word is straight code, where a pass need not stop: nothing waits there, and its only
+/// edge is to the next word, by the turns.
 pub fn is_straight(
     tree: &LoopTree,
     edges: &Edges,
@@ -257,7 +257,7 @@ pub fn is_straight(
         && front.waiting[index].is_none()
 }
 
-/// Goes past a word of straight code: its step is put behind those before it.
+/// Passes a word of straight code: composes its step with the steps before it.
 pub fn skip(steps: &Steps, lag: u64, front: &mut Front)
     requires lag { lag ≤ redirect_lag }
     requires positions { (p d q : ℕ) → Hops (abstract_front front.old).hops p d q → (p < 8) ×
@@ -268,12 +268,12 @@ pub fn skip(steps: &Steps, lag: u64, front: &mut Front)
     front.hops = front.hops.then(steps.hops(lag));
 }
 
-/// Takes up what reaches the word at an index: what waits there and what leads on to it, through
-/// the rounds of the loop whose head it is, if it is one.
+/// Collects the costs at the word at an index: those that wait there and those that lead on to it.
+/// Takes them through the rounds of the loop whose head it is, if it is one.
 ///
 /// # Errors
 ///
-/// Memory was refused.
+/// Memory ran out.
 fn arrive(
     alloc: Global,
     power: &Option<Box<Matrix>>,
@@ -293,8 +293,8 @@ fn arrive(
     Ok(())
 }
 
-/// Goes on to the next word. Where it is the index after this one, the steps there are left to be
-/// put together with those behind it.
+/// Goes on to the next word. If that is at the next index, the edge is deferred: its steps are
+/// composed with those after it.
 fn lead(
     alloc: Global,
     steps: &Steps,
@@ -322,7 +322,7 @@ fn lead(
 ///
 /// # Errors
 ///
-/// Memory was refused.
+/// Memory ran out.
 fn follow_edges(
     alloc: Global,
     tree: &LoopTree,
@@ -348,12 +348,12 @@ fn follow_edges(
     bring(alloc, steps, way, jump, JUMP_LAG, front)
 }
 
-/// Goes over the word at an index: takes up what reaches it, and goes on along its edges to later
-/// words. What reached it is what the front goes on from then.
+/// Processes the word at an index: collects the costs there, and goes on along its edges to later
+/// words. The frontier goes on from these costs then.
 ///
 /// # Errors
 ///
-/// Memory was refused.
+/// Memory ran out.
 pub fn process_word(
     alloc: Global,
     tree: &LoopTree,

@@ -8,7 +8,7 @@ ghost use Rattle.bound_calc.specs.Matrices.{entry};
 use crate::matrix::Matrix;
 use crate::steps::Steps;
 
-/// A matrix chained with itself so many times, by squaring. Sums stop at 2^128 - 1.
+/// A matrix chained with itself so many times, by squaring. Sums saturate at 2^128 - 1.
 pub fn power(steps: &Steps, base: &Matrix, times: u32) -> Matrix
     requires lands { (p c q : ℕ) → In (entry base.now) p c q → IsOwn steps.now q }
     ensures { IsBest (entry result) (Power (IsOwn steps.now) (In (entry base.now)) times) }

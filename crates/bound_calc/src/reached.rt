@@ -1,4 +1,4 @@
-//! What reaches the words of a section.
+//! The costs at the words of a section.
 
 ghost use Rattle.std.specs.Prelude.{◌≡◌, length, IfOk};
 ghost use Rattle.region_tree.specs.Tree.{IsTree};
@@ -14,7 +14,7 @@ use crate::ways::Ways;
 use region_tree::LoopTree;
 use std::alloc::{AllocError, Global};
 
-/// By index what reaches each word of the section, by the powers of its loops.
+/// By index the costs at each word of the section, from the powers of its loops.
 fn reach_in(
     alloc: Global,
     tree: &LoopTree,
@@ -42,7 +42,7 @@ fn reach_in(
     Ok(at)
 }
 
-/// By index what reaches each word of the section, by a front that has room for each.
+/// By index the costs at each word of the section, with a frontier that has room for each.
 fn reach_by(
     alloc: Global,
     tree: &LoopTree,
@@ -59,12 +59,12 @@ fn reach_by(
     reach_in(alloc, tree, steps, ways, &powers, front)
 }
 
-/// By index the largest costs of what reaches each word of the section. The words that have ways of
-/// their own are gone on from at the costs of these, which lead to positions of the thread.
+/// By index the largest costs of paths to each word of the section. The words of `ways` go on at
+/// costs of their own, which lead to positions of the thread.
 ///
 /// # Errors
 ///
-/// Memory was refused.
+/// Memory ran out.
 pub fn reach(
     alloc: Global,
     tree: &LoopTree,

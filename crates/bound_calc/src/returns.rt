@@ -1,4 +1,4 @@
-//! What leads through a routine.
+//! The costs through a routine.
 
 ghost use Rattle.std.specs.Prelude.{◌≡◌, ℕ, ◌≤◌, length};
 ghost use Rattle.rv_decode.specs.Lag.{redirect_lag};
@@ -21,7 +21,7 @@ pub fn jump(steps: &Steps) -> Matrix
     jumped
 }
 
-/// What leads to some words and then a jump further.
+/// The costs at the words that `ends` marks, and then a jump.
 pub fn through(steps: &Steps, at: &[Matrix], ends: &[bool]) -> Matrix
     requires count { length ends.now ≡ length at.now }
     ensures { IsBest (entry result) (Ended steps.now ends.now at.now (length at.now)) }
@@ -33,7 +33,7 @@ pub fn through(steps: &Steps, at: &[Matrix], ends: &[bool]) -> Matrix
     back
 }
 
-/// Joins with a matrix another that is taken a jump further, if it is one to be taken.
+/// Joins into `back` the costs at a word after a jump, if the word is an end.
 fn end(steps: &Steps, is_end: bool, here: &Matrix, back: &mut Matrix)
     ensures { EndedHere steps.now is_end here.now back.old back.new }
 {

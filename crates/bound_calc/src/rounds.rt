@@ -23,7 +23,7 @@ use fp_setup::LoopSetup;
 use region_tree::{Edges, JUMP_LAG, LoopTree};
 use std::alloc::{AllocError, Global};
 
-/// Joins with what is back at a head what an edge brings there.
+/// Joins the costs back at a head with the costs that an edge brings there.
 fn turn(
     steps: &Steps,
     way: Option<&Matrix>,
@@ -43,7 +43,7 @@ fn turn(
     }
 }
 
-/// Joins with what is back at a head what the edges of a word bring there.
+/// Joins the costs back at a head with the costs that the edges of a word bring there.
 fn turn_edges(
     steps: &Steps,
     way: Option<&Matrix>,
@@ -62,7 +62,7 @@ fn turn_edges(
     turn(steps, way, back, here, edges.jump, JUMP_LAG, head);
 }
 
-/// What a round of a loop brings back to its head.
+/// The costs with which a round of a loop is back at its head.
 fn back_at_head(
     alloc: Global,
     tree: &LoopTree,
@@ -105,7 +105,7 @@ fn back_at_head(
 ///
 /// # Errors
 ///
-/// Memory was refused.
+/// Memory ran out.
 pub fn rounds(
     alloc: Global,
     tree: &LoopTree,

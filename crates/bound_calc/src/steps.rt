@@ -40,7 +40,7 @@ pub fn has_slot(slots: &SlotTable, thread: u8) -> bool
     false
 }
 
-/// From a position of the thread the cycles until its first turn that is at least `lag` later.
+/// The cycles from a position of the thread until its first turn that is at least `lag` later.
 fn distance(slots: &SlotTable, thread: u8, position: u64, lag: u64) -> u64
     requires thread { thread < 8 }
     requires own { IsOwn (positions slots.now thread) position }
@@ -56,7 +56,7 @@ fn distance(slots: &SlotTable, thread: u8, position: u64, lag: u64) -> u64
     cycles
 }
 
-/// The step from a position, where it is the thread's.
+/// The step from a position, if that is the thread's.
 fn hop(slots: &SlotTable, thread: u8, position: u64, lag: u64) -> Option<Hop>
     requires thread { thread < 8 }
     requires lag { lag ≤ redirect_lag }
@@ -90,7 +90,7 @@ fn hop_row(slots: &SlotTable, thread: u8, lag: u64) -> HopRow
     HopRow { hops }
 }
 
-/// A position that is the thread's, and no cycles.
+/// A row of the identity matrix: no cycles at the position, if that is the thread's.
 fn one_row(slots: &SlotTable, thread: u8, position: usize) -> [Option<u128>; 8]
     requires thread { thread < 8 }
     requires position { position < 8 }
@@ -106,7 +106,7 @@ fn one_row(slots: &SlotTable, thread: u8, position: usize) -> [Option<u128>; 8]
     row
 }
 
-/// The matrix of standing still at the thread's positions.
+/// The identity matrix: no cycles from each of the thread's positions to itself.
 fn one(slots: &SlotTable, thread: u8) -> Matrix
     requires { thread < 8 }
     ensures { IsBest (entry result) (Stays (IsOwn (positions slots.now thread))) }
@@ -165,7 +165,7 @@ impl Steps {
         }
     }
 
-    /// The matrix of standing still.
+    /// The identity matrix.
     pub fn one(&self) -> &Matrix
         ensures one { IsBest (entry result.now) (Stays (IsOwn self.now)) }
         ensures frame { length self.now.frame ≤ 8 }

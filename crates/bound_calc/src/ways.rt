@@ -1,12 +1,12 @@
-//! What it costs to go on from the words that have costs of their own.
+//! The costs of going on from the words that have costs of their own.
 
 ghost use Rattle.std.specs.Prelude.{◌≡◌};
 
 use crate::matrix::Matrix;
 use std::marker::Model;
 
-/// Matrices, and by the index of a word that of the one that says what it costs to go on from a
-/// word, where that isn't told by its lag. Contracts see the two lists.
+/// Matrices, and for each word the index of its matrix. The matrix has the costs of going on from a
+/// word whose lag doesn't determine them. Contracts see the two lists.
 #[derive(Drop)]
 pub struct Ways<'a> {
     indices: &'a [Option<usize>],
@@ -26,8 +26,8 @@ impl<'a> Ways<'a> {
     ghost use Rattle.std.specs.Option.{option_map};
     ghost use Rattle.bound_calc.specs.Propagation.{ways_on};
 
-    /// The ways by these indices into these matrices. An index that the indices don't reach, or
-    /// whose index the matrices don't, has none.
+    /// The ways with these indices into these matrices. A word beyond the indices has none, nor has
+    /// one whose index is beyond the matrices.
     pub fn new(indices: &'a [Option<usize>], costs: &'a [Matrix]) -> Ways<'a>
         ensures { result ≡ record { indices = indices.now; costs = costs.now } }
     {
