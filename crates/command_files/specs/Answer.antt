@@ -1,4 +1,4 @@
--- What a command answers: its status and its text.
+-- The answer of a command: its status and its text.
 use Rattle.std.specs.Prelude.{◌≡◌, ℕ, ◌++◌, List, Option, Some}
 use Rattle.std.specs.Prelude.{None, Result, Ok, Err, codes, decimal}
 use Rattle.std.specs.Io.KnownBytes.{Appends}
@@ -30,8 +30,8 @@ refusal_answer refusal = Says (status_of refusal) (refusal_text refusal)
 unfoldable pub differs_text : ℕ → List ℕ
 differs_text line = codes "differs line " ++ (decimal line ++ codes "\n")
 
--- A step of a command gives a value, or the answer that ends the command. This is a step and then
--- another one.
+-- The result of a step of a command is a value, or the answer that ends the command. This is one
+-- step and then another one.
 abbrev pub then_by : {A B : Type 0} → Result A Answer → (A → Result B Answer) → Result B Answer
 then_by (Ok value) next = next value
 then_by (Err answer) next = Err answer
@@ -41,7 +41,7 @@ abbrev pub over_file : {A : Type 0} → (List ℕ → Result A Answer) → Optio
 over_file over None = Err Missing
 over_file over (Some bytes) = over bytes
 
--- a step over the file of a name
+-- a step over the file with a name
 abbrev pub on_file : {A : Type 0} → (List ℕ → Result A Answer) → List ℕ → FileMap → Result A Answer
 on_file over name files = over_file over (files name)
 

@@ -11,13 +11,13 @@ use Rattle.command_files.specs.Codes.{source_code}
 use Rattle.command_files.specs.Answer.{Answer, refusal_answer, then_by, over_file, ends}
 use Rattle.command_files.specs.Answer.Answer.{Says}
 
--- a source is never refused for want of memory by its definition
+-- by its definition a source is never refused because memory ran out
 abbrev pub of_assembled : Result (List Segment) AsmRefused → Result (List Segment) Answer
 of_assembled (Ok segments) = Ok segments
 of_assembled (Err (Fault line code)) = Err (refusal_answer (Source line (source_code code)))
 of_assembled (Err NoMemory) = Err (Says 9 [])
 
--- what is asked of the files for a source
+-- the request to the files for a source
 abbrev pub source_request : List ℕ → Request
 source_request name = (name, most_source_bytes)
 

@@ -18,13 +18,13 @@ use Rattle.command_files.specs.Codes.{tree_refusal}
 use Rattle.command_files.specs.Answer.{Answer, refusal_answer}
 use Rattle.command_files.specs.Answer.Answer.{Says}
 
--- whether a slot of the register names a thread
+-- whether a slot of the register is assigned to a thread
 abbrev pub names : ℕ → ℕ → Bool
 names slots i = list_any (λ slot. slot == i) (nibbles slots)
 
--- Why no bound is told of a section, if so: the thread isn't hard and awake, it has no slot, the
--- section is empty or ends before it begins, its ends aren't multiples of four, or it ends past the
--- instruction scratchpad. The first that holds counts.
+-- Why the bound of a section can't be requested, if so: the thread isn't hard and awake; it has no
+-- slot; the section is empty or ends before it begins; its ends aren't multiples of four; or it
+-- ends past the instruction scratchpad. The first that holds counts.
 unfoldable pub section_fault : Settings → ℕ → Section → Option ℕ
 section_fault s i section =
     if not (mode_of s.modes i == 0) then Some 1
@@ -44,7 +44,7 @@ pub record IsTreeRefused (t : Tree) (x : Answer) : Type 0 where
   pub is : IsRefused (graph t) no
   pub line : Some x ≡ option_map refusal_answer (tree_refusal no)
 
--- it has a bound, but that has more than 64 bits
+-- it has a bound, but of more than 64 bits
 pub record IsTooLarge (t : Tree) (slots i : ℕ) (x : Answer) : Type 0 where
   pub accepted : IsTree t
   pub cycles : ℕ
@@ -52,7 +52,7 @@ pub record IsTooLarge (t : Tree) (slots i : ℕ) (x : Answer) : Type 0 where
   pub large : 2 ^ 64 ≤ cycles
   pub line : x ≡ refusal_answer (refusal.Bound 6 cycles)
 
--- it has a bound: the largest cost of a walk through it that keeps the loops' bounds, by the turns
+-- it has a bound: the largest cost of a path through it that keeps the loops' bounds, by the turns
 -- of the thread
 pub record IsBounded (t : Tree) (slots i : ℕ) (x : Answer) : Type 0 where
   pub accepted : IsTree t
@@ -68,7 +68,7 @@ abbrev pub IsSectionAnswer : Program → ℕ → Section → Option ℕ → Answ
 IsSectionAnswer p i section (Some code) x = x ≡ refusal_answer (refusal.Section code)
 IsSectionAnswer p i section None x = IsTreeAnswer (section_tree p section) p.setup.slots i x
 
--- what is answered over a program, or over the answer that came before it
+-- the answer for a program, or the answer that came before it
 abbrev pub IsBoundAnswer : Result Program Answer → ℕ → Section → Answer → Type 0
 IsBoundAnswer (Err before) i section x = x ≡ before
 IsBoundAnswer (Ok p) i section x = IsSectionAnswer p i section (section_fault p.setup i section) x

@@ -10,12 +10,12 @@ use Rattle.command_files.specs.declared.stop.Stop.{Stop}
 use Rattle.command_files.specs.declared.stop.Stop.TheVariants.{Refused, NoMemory}
 use Rattle.command_files.specs.Codes.{tree_refusal, call_refusal}
 
--- by the refusal that is told, if there is one: none is where memory was refused
+-- from its refusal, if there is one: there is none if memory ran out
 abbrev pub stop_by : Option Refusal → Stop
 stop_by (Some refusal) = Refused refusal
 stop_by None = NoMemory
 
--- by its own control graph
+-- because of its own control-flow graph
 abbrev pub stop_of_tree : TreeNo → Stop
 stop_of_tree cause = stop_by (tree_refusal cause)
 
@@ -23,7 +23,7 @@ stop_of_tree cause = stop_by (tree_refusal cause)
 abbrev pub stop_of_calls : CallNo → Stop
 stop_of_calls cause = stop_by (call_refusal cause)
 
--- where its walks have no largest cost
+-- because its bound has more than 64 bits, or memory ran out
 abbrev pub stop_of_bound : BoundNo → Stop
 stop_of_bound (in_bound.Overflow value) = Refused (Bound 6 value)
 stop_of_bound in_bound.NoMemory = NoMemory

@@ -25,14 +25,14 @@ use Rattle.command_files.specs.Answer.{Answer, over_file, refusal_answer}
 use Rattle.command_files.specs.Answer.Answer.{Says}
 use Rattle.command_files.specs.BoundAnswer.{section_fault}
 
--- a list of routines is never refused for want of memory by its definition
+-- by its definition a list of routines is never refused because memory ran out
 abbrev pub of_routines : Result (List Routine) RoutinesRefused → Result (List Routine) Answer
 of_routines (Ok routines) = Ok routines
 of_routines (Err (Fault line code)) =
     Err (refusal_answer (refusal.Routines line (routines_code code)))
 of_routines (Err NoMemory) = Err (Says 9 [])
 
--- what is asked of the files for a list of routines: the most lines that it may have
+-- the request to the files for a list of routines: the bytes of the most lines that it may have
 abbrev pub routines_request : List ℕ → Request
 routines_request name = (name, most_routines * line_length)
 
@@ -50,7 +50,8 @@ pub record IsListingRefused (l : Listing) (x : Answer) : Type 0 where
   pub is : IsCallRefused (calls l) no
   pub line : Some x ≡ option_map refusal_answer (call_refusal no)
 
--- a call walk through it that keeps the loops' bounds costs more cycles than 64 bits tell
+-- a path with matching calls and returns through it that keeps the loops' bounds costs more cycles
+-- than 64 bits hold
 pub record IsTooLargeByCalls (l : Listing) (slots i : ℕ) (x : Answer) : Type 0 where
   pub accepted : IsCallable (calls l)
   pub cycles : ℕ
@@ -58,7 +59,7 @@ pub record IsTooLargeByCalls (l : Listing) (slots i : ℕ) (x : Answer) : Type 0
   pub large : 2 ^ 64 ≤ cycles
   pub line : x ≡ refusal_answer (refusal.Bound 6 (2 ^ 64))
 
--- it has a bound: the largest cost of such a walk, by the turns of the thread
+-- it has a bound: the largest cost of such a path, by the turns of the thread
 pub record IsBoundedByCalls (l : Listing) (slots i : ℕ) (x : Answer) : Type 0 where
   pub listing : IsListing (calls l)
   pub accepted : IsCallable (calls l)
@@ -71,20 +72,20 @@ abbrev pub IsListingAnswer : Listing → ℕ → ℕ → Answer → Type 0
 IsListingAnswer l slots i x =
     IsListingRefused l x ⊎ (IsTooLargeByCalls l slots i x ⊎ IsBoundedByCalls l slots i x)
 
--- what is answered over the routines, or over the answer that came before them
+-- the answer for the routines, or the answer that came before them
 abbrev pub IsRoutinesAnswer : Program → ℕ → Section → Result (List Routine) Answer → Answer → Type 0
 IsRoutinesAnswer p i section (Err before) x = x ≡ before
 IsRoutinesAnswer p i section (Ok routines) x =
     IsListingAnswer (section_listing p section routines) p.setup.slots i x
 
--- the file of routines counts only where the section may be asked for
+-- the file of routines counts only if the section's bound can be requested
 abbrev pub IsSectionCallsAnswer : Program → ℕ → Section → Option (List ℕ) → Option ℕ →
     Answer → Type 0
 IsSectionCallsAnswer p i section file (Some code) x = x ≡ refusal_answer (refusal.Section code)
 IsSectionCallsAnswer p i section file None x =
     IsRoutinesAnswer p i section (over_file (routines_in (size_of p.setup.version)) file) x
 
--- what is answered over a program, or over the answer that came before it
+-- the answer for a program, or the answer that came before it
 abbrev pub IsCallsAnswer : Result Program Answer → ℕ → Section → Option (List ℕ) → Answer → Type 0
 IsCallsAnswer (Err before) i section file x = x ≡ before
 IsCallsAnswer (Ok p) i section file x =

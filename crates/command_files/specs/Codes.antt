@@ -1,5 +1,5 @@
--- The numbers of faults in refusal lines, written a second time: the code's are those of its enums,
--- which a definition can't name. Each function that takes one `as u8` is proved against its table.
+-- The numbers of faults in refusal lines. They repeat the numbers of the code's enums, since a
+-- definition can't name those. Each function that takes one `as u8` is proved against its table.
 use Rattle.std.specs.Prelude.{ℕ, Option, Some, None}
 use Rattle.fp_setup.specs.declared.refusal.SetupNo.{SetupNo}
 use Rattle.fp_setup.specs.declared.refusal.SetupNo.TheVariants as in_setup
@@ -73,7 +73,7 @@ routines_code in_list.BadLine = 2
 routines_code in_list.BadPlace = 3
 routines_code in_list.Order = 4
 
--- why a section has no bound, with the address; want of memory has no line
+-- why a section has no bound, with the address; out of memory has no line
 abbrev pub tree_refusal : TreeNo → Option Refusal
 tree_refusal (in_tree.Nesting address) = Some (Bound 1 address)
 tree_refusal (in_tree.IndirectJump address) = Some (Bound 2 address)
@@ -81,7 +81,7 @@ tree_refusal (in_tree.TimedWait address) = Some (Bound 3 address)
 tree_refusal (in_tree.UnboundedBackEdge address) = Some (Bound 4 address)
 tree_refusal in_tree.NoMemory = None
 
--- the same of a section with its routines, whose causes are an enum of their own
+-- the same for a section with its routines, whose causes are an enum of their own
 abbrev pub call_refusal : CallNo → Option Refusal
 call_refusal (in_calls.Nesting address) = Some (Bound 1 address)
 call_refusal (in_calls.IndirectJump address) = Some (Bound 2 address)

@@ -12,13 +12,13 @@ use Rattle.command_files.specs.Codes.{elf_code}
 use Rattle.command_files.specs.Answer.{Answer, refusal_answer, then_by, over_file, ends}
 use Rattle.command_files.specs.Answer.Answer.{Says}
 
--- an executable is never refused for want of memory by its definition
+-- by its definition an executable is never refused because memory ran out
 abbrev pub of_elf : Result (List Segment) ElfRefused → Result (List Segment) Answer
 of_elf (Ok segments) = Ok segments
 of_elf (Err (Fault code offset)) = Err (refusal_answer (Image (elf_code code) offset))
 of_elf (Err NoMemory) = Err (Says 9 [])
 
--- what is asked of the files for an executable
+-- the request to the files for an executable
 abbrev pub executable_request : List ℕ → Request
 executable_request name = (name, most_elf_bytes)
 

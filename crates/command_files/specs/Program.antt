@@ -18,7 +18,7 @@ abbrev pub of_setup : Result Settings Fault → Result Settings Answer
 of_setup (Ok s) = Ok s
 of_setup (Err fault) = Err (refusal_answer (Setup (setup_code fault.code) fault.place))
 
--- what is asked of the files for a setup, and for the image that it names
+-- the requests to the files for a setup, and for the image that it names
 abbrev pub setup_request : List ℕ → Request
 setup_request name = (name, most_setup_bytes)
 
@@ -29,7 +29,7 @@ image_request s = (s.image, longest (size_of s.version))
 unfoldable pub setup_in : List ℕ → Result Settings Answer
 setup_in bytes = of_setup (setup bytes)
 
--- an image is never refused for want of memory by its definition
+-- by its definition an image is never refused because memory ran out
 abbrev pub of_image : Result (List Segment) ImageRefused → Result (List Segment) Answer
 of_image (Ok segments) = Ok segments
 of_image (Err (image_no.Fault code offset)) = Err (refusal_answer (Image (image_code code) offset))
@@ -42,7 +42,7 @@ image_in size bytes = of_image (image_of size bytes)
 abbrev pub with_image : Settings → List Segment → Result Program Answer
 with_image s segments = Ok (record { setup = s; image = segments })
 
--- the setup of a name, and then the image that it names
+-- the setup with a name, and then the image that it names
 abbrev pub program : FileMap → List ℕ → Result Program Answer
 program files name =
     then_by (over_file setup_in (files name))
@@ -52,7 +52,7 @@ program files name =
 abbrev pub program_requests : List ℕ → Settings → List Request
 program_requests name s = setup_request name ∷ image_request s ∷ []
 
--- what is asked for a program, or for as much of it as came: the setup, and then, where that is
+-- the requests for a program, or for as much of it as came: the setup, and then, if that is
 -- accepted, its image
 abbrev pub IsProgramAsked : Option FileMap → List ℕ → Option (List Request) →
     Option (List Request) → Type 0

@@ -10,9 +10,9 @@ use Rattle.command_files.specs.declared.stop.Stop.TheVariants.{Refused, Differs,
 use Rattle.command_files.specs.Answer.{Answer, differs_text, refusal_answer}
 use Rattle.command_files.specs.Answer.Answer.{Says, Missing}
 
--- Over the told files it is the answer that is meant: a refusal is that answer, with its line, and
--- so is a difference; a read fault comes only where a fault was counted in this call, or where a
--- file isn't there. Want of memory is free.
+-- Where the files' contents are known, a refusal is an answer that `Is` allows, with its line, and
+-- so is a difference. A read fault comes only if a fault was counted in this call, or if a file
+-- isn't there. Out of memory is always allowed.
 abbrev pub IsStop : Option FileMap → (FileMap → Answer → Type 0) → ℕ → ℕ → Stop → Type 0
 IsStop told Is before after (Refused refusal) =
     IfSome told (λ files. Is files (refusal_answer refusal))
@@ -21,18 +21,18 @@ IsStop told Is before after (Differs line) =
 IsStop told Is before after Read = Rose before after ⊎ IsSomeAnd told (λ files. Is files Missing)
 IsStop told Is before after NoMemory = Unit {0}
 
--- the same where the answers that are meant don't hang on files
+-- the same where the answers don't depend on files
 abbrev pub IsAnswerStop : (Answer → Type 0) → Stop → Type 0
 IsAnswerStop Is (Refused refusal) = Is (refusal_answer refusal)
 IsAnswerStop Is (Differs line) = Is (Says 1 (differs_text line))
 IsAnswerStop Is Read = ⊥
 IsAnswerStop Is NoMemory = Unit {0}
 
--- the same of a step over bytes that are there
+-- the same for a step over bytes that are there
 abbrev pub IsStopOf : {A : Type 0} → Result A Answer → Stop → Type 0
 IsStopOf step stop = IsAnswerStop (λ x. step ≡ Err x) stop
 
--- what a step over files makes, where they tell what they hold
+-- the value of a step over files, where their contents are known
 abbrev pub Makes : {A : Type 0} → Option FileMap → (FileMap → Result A Answer) → A → Type 0
 Makes told step value = IfSome told (λ files. step files ≡ Ok value)
 
@@ -41,8 +41,8 @@ abbrev pub IsStopIn : {A : Type 0} → Option FileMap → (FileMap → Result A 
     ℕ → Stop → Type 0
 IsStopIn told step before after stop = IsStop told (λ files x. step files ≡ Err x) before after stop
 
--- why a file isn't fetched: a read fault comes where a fault was counted or the file isn't there,
--- and want of memory where no fault was counted and the files don't tell that the file isn't there
+-- why a file isn't fetched: a read fault if a fault was counted or the file isn't there; out of
+-- memory if no fault was counted and the files aren't known to lack the file
 abbrev pub IsFetchStop : Option FileMap → List ℕ → ℕ → ℕ → Stop → Type 0
 IsFetchStop told name before after stop =
     ((stop ≡ NoMemory) × ((after ≡ before) × (¬ (Lacks told name))))

@@ -60,8 +60,8 @@ fn fetch_source<F: Files>(alloc: Global, name: &Name, files: &mut F) -> Result<I
 ///
 /// # Errors
 ///
-/// Where the source isn't there, can't be read or has a fault; NoMemory where memory was refused,
-/// but not where the files tell that the source isn't there.
+/// If the source isn't there, can't be read or has a fault. `NoMemory` if memory ran out, unless
+/// the files are known to lack the source.
 pub fn image_bytes<F: Files>(alloc: Global, name: &Name, files: &mut F) -> Result<Vec<u8>, Stop>
     ensures told { F.told files.new ≡ F.told files.old }
     ensures counted { F.faults files.old ≤ F.faults files.new }

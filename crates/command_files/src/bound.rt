@@ -20,14 +20,14 @@ use slot_table::{SlotTable, nibbles_of};
 use std::alloc::Global;
 use trace_print::Refusal;
 
-/// Whether a slot of the register names a thread.
+/// Whether a slot of the register is assigned to a thread.
 fn names(slots: &SlotTable, thread: u8) -> bool
     ensures { result ≡ names slots.now thread }
 {
     nibbles_of(slots.word()).iter().any(|slot| *slot == thread)
 }
 
-/// Why no bound is told of a section, by the code of its fault, if so.
+/// Why the bound of a section can't be requested, by the code of its fault, if so.
 #[tactic(auto, unfolding(crate::specs::BoundAnswer::section_fault))]
 pub fn section_fault(setup: &Setup, thread: u8, section: Section) -> Option<u8>
     requires { thread < 8 }
@@ -65,7 +65,7 @@ fn tree_stop(no: TreeNo) -> Stop
     })
 }
 
-/// Why no bound was answered.
+/// Why there is no bound.
 pub fn bound_stop(no: BoundNo) -> Stop
     ensures { result ≡ stop_of_bound no }
 {
@@ -89,7 +89,7 @@ fn tree_in(alloc: Global, program: &Program, section: Section) -> Result<LoopTre
     }
 }
 
-/// The bound of a section that may be asked for, in cycles.
+/// The bound of a section without such a fault, in cycles.
 fn bound_in(alloc: Global, program: &Program, thread: u8, section: Section) -> Result<u64, Stop>
     requires thread { thread < 8 }
     requires section { section_fault program.now.setup thread section ≡ None }
@@ -109,8 +109,8 @@ fn bound_in(alloc: Global, program: &Program, thread: u8, section: Section) -> R
 ///
 /// # Errors
 ///
-/// A refusal where no bound is told of the section for this thread; where its tree is refused; and
-/// where the bound has more than 64 bits. NoMemory where memory was refused.
+/// A refusal if the section's bound can't be requested for this thread, if its tree is refused, or
+/// if the bound has more than 64 bits. `NoMemory` if memory ran out.
 pub fn section_bound(
     alloc: Global,
     program: &Program,

@@ -126,7 +126,7 @@ fn call_tree(
     }
 }
 
-/// The bound of a section that may be asked for through its routines, in cycles.
+/// The bound, through its routines, of a section whose bound can be requested, in cycles.
 fn calls_in(
     alloc: Global,
     program: &Program,
@@ -154,9 +154,9 @@ fn calls_in(
 ///
 /// # Errors
 ///
-/// Where no bound is told of the section; where the file isn't there, can't be read or has a
-/// fault; where the section with these routines has no bound, or one past 64 bits. NoMemory where
-/// memory was refused, but not where the files tell that the file isn't there.
+/// If the section's bound can't be requested; if the file isn't there, can't be read or has a
+/// fault; if the section with these routines has no bound, or one past 64 bits. `NoMemory` if
+/// memory ran out, unless the files are known to lack the file.
 pub fn calls_bound<F: Files>(
     alloc: Global,
     program: &Program,

@@ -6,7 +6,7 @@ ghost use Rattle.command_files.specs.Answer.{differs_text};
 use arrayvec::ArrayString;
 use trace_print::push_decimal;
 
-/// The line that tells where a trace first differs: `differs line ` and the number in decimal.
+/// The line with the place where a trace first differs: `differs line ` and the number in decimal.
 #[tactic(auto, unfolding(crate::specs::Answer::differs_text))]
 pub fn difference_line(line: u64) -> ArrayString<96>
     ensures { result.bytes ≡ differs_text line }

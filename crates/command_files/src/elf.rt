@@ -59,8 +59,8 @@ fn fetch_executable<F: Files>(alloc: Global, name: &Name, files: &mut F) -> Resu
 ///
 /// # Errors
 ///
-/// Where the executable isn't there, can't be read or has a fault; NoMemory where memory was
-/// refused, but not where the files tell that the executable isn't there.
+/// If the executable isn't there, can't be read or has a fault. `NoMemory` if memory ran out,
+/// unless the files are known to lack the executable.
 pub fn imported_bytes<F: Files>(alloc: Global, name: &Name, files: &mut F) -> Result<Vec<u8>, Stop>
     ensures told { F.told files.new ≡ F.told files.old }
     ensures counted { F.faults files.old ≤ F.faults files.new }

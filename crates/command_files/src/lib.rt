@@ -1,5 +1,5 @@
 //! The files of a command: its setup and image, why it ends before its text, and its status. Also
-//! what the commands answer that run no machine: the bound of a section, also through calls, and
+//! the results of the commands that run no machine: the bound of a section, also through calls, and
 //! the image of a source or an executable.
 #![tactic(auto)]
 

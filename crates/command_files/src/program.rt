@@ -37,12 +37,12 @@ fn stop_of_fetch(fault: FetchFault) -> Stop
     }
 }
 
-/// Fetches a file: its first `most + 1` bytes, or all where it has fewer.
+/// Fetches a file: its first `most + 1` bytes, or all if it has fewer.
 ///
 /// # Errors
 ///
-/// Read only where the files' count of faults rose, or where they tell that the file isn't there;
-/// NoMemory where memory was refused, and neither of these is so.
+/// `Read` only if the files' count of faults rose, or if the files are known to lack the file.
+/// `NoMemory` if memory ran out, and neither of these is so.
 pub fn fetch<F: Files>(
     alloc: Global,
     name: &Name,
@@ -76,8 +76,8 @@ fn setup_refusal(code: SetupNo, place: Place) -> Refusal
 
 /// The setup of a file's bytes.
 ///
-/// Images, sources and executables have a function of this form each: a reader, its faults and its
-/// definition differ together, and one for all would take the three as parameters.
+/// Images, sources and executables each have a function of this form. Its reader, faults and
+/// definition differ together, and one function for all would take the three as parameters.
 #[tactic(auto, unfolding(crate::specs::Program::setup_in))]
 fn setup_in(alloc: Global, bytes: &[u8]) -> Result<Setup, Stop>
     ensures ok { IfOk result (λ s. setup_in bytes.now ≡ Ok s) }
@@ -160,8 +160,8 @@ fn fetch_image<F: Files>(
 /// # Errors
 ///
 /// The first of: the setup isn't there or can't be read; it has a fault; the image isn't there or
-/// can't be read; it has a fault. NoMemory where memory was refused, but not where the files tell
-/// that the setup isn't there.
+/// can't be read; it has a fault. `NoMemory` if memory ran out, unless the files are known to lack
+/// the setup.
 pub fn load<F: Files>(alloc: Global, name: &Name, files: &mut F) -> Result<Program, Stop>
     ensures told { F.told files.new ≡ F.told files.old }
     ensures counted { F.faults files.old ≤ F.faults files.new }

@@ -9,11 +9,11 @@ use trace_print::Refusal;
 pub enum Status {
     /// The command's text was written.
     Ok = 0,
-    /// The recorded trace isn't the defined one; the line that tells where was written.
+    /// The recorded trace isn't the defined one; the line with the place was written.
     Differs = 1,
-    /// The words ask no command.
+    /// Usage error: the arguments are no command.
     Usage = 2,
-    /// The setup has a fault, or the section or the thread can't be asked for; its line was
+    /// The setup has a fault, or the section or the thread can't be requested; its line was
     /// written.
     Setup = 3,
     /// The image, or the executable, has a fault; its line was written.
@@ -26,7 +26,7 @@ pub enum Status {
     Read = 7,
     /// The text could not be written whole.
     Write = 8,
-    /// Memory was refused; nothing was written.
+    /// Memory ran out; nothing was written.
     NoMemory = 9,
     /// The list of routines has a fault; its line was written.
     Routines = 10,
@@ -36,7 +36,7 @@ impl Status {
     ghost use Rattle.command_files.specs.Answer.{status_of};
     ghost use Rattle.command_files.specs.Status.{number_of};
 
-    /// How a command ends whose refusal line was written.
+    /// The status of a command whose refusal line was written.
     pub fn of_refusal(refusal: &Refusal) -> Status
         ensures { number_of result ≡ status_of refusal.now }
     {

@@ -6,13 +6,13 @@ use trace_print::Refusal;
 /// Why a command ends before its text.
 #[derive(Clone, Copy)]
 pub enum Stop {
-    /// Something has a fault, of which this refusal tells.
+    /// Something has a fault; this is its refusal.
     Refused(Refusal),
     /// A recorded trace isn't the defined one, and first differs in this line.
     Differs { line: u64 },
     /// A file isn't there, or could not be read.
     Read,
-    /// Memory was refused.
+    /// Memory ran out.
     NoMemory,
 }
 

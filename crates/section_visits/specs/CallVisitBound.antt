@@ -1,4 +1,4 @@
--- What the bound through calls says of the runs of a machine.
+-- The bound through calls bounds the runs of a machine.
 use Rattle.std.specs.Prelude.{◌≡◌, ℕ, ◌-◌, ◌%◌, ◌<◌, ◌≤◌, true, List, length}
 use Rattle.core_model.specs.Memory.{code_at}
 use Rattle.region_tree.specs.Graph.{Reachable}
@@ -10,14 +10,14 @@ use Rattle.call_bounds.specs.CallRefusals.{IsCallable, IsListing}
 use Rattle.call_bounds.specs.CallWalk.{CostsOf, route}
 use Rattle.section_visits.specs.CallVisits.{IsCallVisit, KeepsBounds, KeepsReturns}
 
--- a reachable word of a reached part
+-- a reachable word of a reached function
 pub record IsMet (x : Calls) (u : ℕ) : Type 0 where
   pub within : Part
   pub reached : IsReached x within
   pub word : Reachable (part x within) u
 
 -- A machine with these slots, where the thread is hard and active at the start, and where the
--- reached parts have the same words.
+-- reached functions have the same words.
 pub record IsHost (s : Start) (x : Calls) (slots thread : ℕ) : Type 0 where
   pub eight : length s.threads ≡ 8
   pub hard : mode_of s.registers.modes thread ≡ 0
@@ -25,8 +25,8 @@ pub record IsHost (s : Start) (x : Calls) (slots thread : ℕ) : Type 0 where
   pub same_words : (u : ℕ) → u % 4 ≡ 0 → IsMet x u → u < s.size →
       code_at s.size s.i_words u ≡ x.word u
 
--- No call visit of such a machine that keeps returns and the stated bounds is longer than a number
--- that no call walk costs more than.
+-- No call visit of such a machine whose returns match its calls and that keeps the stated bounds
+-- takes longer than an upper bound on the cost of the paths with matching calls and returns.
 abbrev pub CallVisitsAreBounded : Type 0
 CallVisitsAreBounded =
     (x : Calls) (slots thread b : ℕ) (s : Start) (n : ℕ) → IsListing x →

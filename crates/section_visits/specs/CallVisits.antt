@@ -24,14 +24,14 @@ abbrev pub open_at : Calls → List Issued → List ℕ
 open_at x [] = []
 open_at x (i ∷ before) = open_after (callee x i.pc) (is_back (x.word i.pc)) i.pc (open_at x before)
 
--- each is in its part and doesn't trap
+-- each is in its function and doesn't trap
 abbrev pub GoOn : Calls → List Issued → Type 0
 GoOn x [] = Unit {0}
 GoOn x (i ∷ before) =
     GoOn x before × Lies (part x (part_in x (open_at x before))) i.pc × (i.traps ≡ false)
 
 -- A call visit: issues in order, the newest first, among all those of the thread. The first is at
--- the section's first word. The last is the first of them that is outside its part or traps; where
+-- the section's first word. The last is the first of them that is outside its function or traps; if
 -- there is none, it is the thread's last one.
 pub record IsCallVisit (x : Calls) (issues : List Issued) (last : Issued)
     (before : List Issued) : Type 0 where
@@ -43,7 +43,7 @@ pub record IsCallVisit (x : Calls) (issues : List Issued) (last : Issued)
   pub ends : (later ≡ [])
       ⊎ ((Lies (part x (part_in x (open_at x before))) last.pc → ⊥) ⊎ (last.traps ≡ true))
 
--- an issue after a return is at the word after the call
+-- an issue after a return is at the word after the newest open call, if one is open
 abbrev pub ComesBack : List ℕ → Bool → ℕ → Type 0
 ComesBack [] back v = Unit {0}
 ComesBack (w ∷ s) true v = v ≡ w + 4
@@ -55,7 +55,7 @@ KeepsReturns x last [] = Unit {0}
 KeepsReturns x last (i ∷ before) =
     KeepsReturns x i before × ComesBack (open_at x before) (is_back (x.word i.pc)) last.pc
 
--- a loop's counter after a word u, where s is open, at the word v after it
+-- a loop's counter after a word u with open calls s, at the word v after it
 abbrev pub counted_after : Option Routine → Bool → List ℕ → ℕ → ℕ → LoopSetup → ℕ → ℕ
 counted_after (Some t) back s u v j n = counter_after_call t j n
 counted_after None true [] u v j n = counter_after u v j n

@@ -1,4 +1,4 @@
--- What the bound through calls says of a visit in which the slots and the thread's mode stay.
+-- The bound through calls bounds a visit during which the slots and the thread's mode don't change.
 use Rattle.std.specs.Prelude.{◌≡◌, ℕ, ◌-◌, ◌<◌, ◌≤◌, List, length}
 use Rattle.core_model.specs.Memory.{code_at}
 use Rattle.core_model.specs.World.{Start, world}
@@ -10,15 +10,16 @@ use Rattle.section_visits.specs.CallVisitBound.{IsMet}
 use Rattle.section_visits.specs.CallVisits.{IsCallVisit, KeepsBounds, KeepsReturns}
 use Rattle.section_visits.specs.InSettings.{IsSet, Throughout}
 
--- a machine whose memory has the reachable words of the reached parts, as far as the scratchpad
+-- a machine whose memory has the reachable words of the reached functions, as far as the scratchpad
 -- goes
 pub record HasWordsOfParts (s : Start) (x : Calls) : Type 0 where
   pub eight : length s.threads ≡ 8
   pub same_words : (u : ℕ) → IsMet x u → u < s.size → code_at s.size s.i_words u ≡ x.word u
 
--- In every run of such a machine, a call visit in which picking uses these slots and a hard active
--- mode of the thread, and which keeps returns and the stated bounds of the loops, is no longer than
--- a number that no call walk costs more than.
+-- In every run of such a machine a call visit takes no longer than an upper bound on the cost of
+-- the paths with matching calls and returns. Picking uses these slots and a hard active mode of the
+-- thread during the visit. Its returns match its calls, and it keeps the stated bounds of the
+-- loops.
 abbrev pub CallVisitsAreBoundedInSettings : Type 0
 CallVisitsAreBoundedInSettings =
     (x : Calls) (slots thread b : ℕ) (s : Start) (n : ℕ) → IsListing x →

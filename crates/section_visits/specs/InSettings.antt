@@ -1,5 +1,5 @@
--- What the bound of a section says of a visit in which the slots and the thread's mode stay. Writes
--- of them before and after it, and writes of region registers, play no part.
+-- The bound of a section bounds a visit during which the slots and the thread's mode don't change.
+-- Writes of them before and after it don't matter, nor do writes of region registers.
 use Rattle.std.specs.Prelude.{◌≡◌, ℕ, ◌-◌, ◌%◌, ◌<◌, ◌≤◌, false, List, [], ◌∷◌, length}
 use Rattle.core_model.specs.Memory.{code_at}
 use Rattle.region_tree.specs.Graph.{Edge, Reachable}
@@ -11,7 +11,7 @@ use Rattle.core_model.specs.World.{Registers, Start, world}
 use Rattle.section_visits.specs.VisitBound.{Along, EdgeOf}
 use Rattle.section_visits.specs.Visits.{Issued, IsVisit, KeepsBounds, first_of, issues_of}
 
--- the registers have these slots, and the thread is hard and active by them
+-- the registers have these slots, and the thread is hard and active in them
 pub record IsHardBy (slots thread : ℕ) (r : Registers) : Type 0 where
   pub same_slots : r.slots ≡ slots
   pub hard : mode_of r.modes thread ≡ 0
@@ -25,8 +25,8 @@ abbrev pub Throughout : (ℕ → Type 0) → ℕ → ℕ → Type 0
 Throughout set first last = (c : ℕ) → first ≤ c → c ≤ last → set c
 
 -- Issues, the newest first. One in a set cycle is at a position of the thread's. One at a known
--- word that doesn't trap is followed by the next one along a way, if each cycle from the one to the
--- other is set.
+-- word that doesn't trap is followed by the next one along an edge, if each cycle from the one to
+-- the other is set.
 abbrev pub AreLinkedIn : (ℕ → Type 0) → (ℕ → Type 0) → (ℕ → Edge → Type 0) → Positions →
     List Issued → Type 0
 AreLinkedIn set known way s [] = Unit {0}
@@ -38,23 +38,23 @@ AreLinkedIn set known way s (i ∷ (h ∷ before)) =
     × (Throughout set h.cycle i.cycle → known h.pc → h.traps ≡ false → Along way s h i)
 
 -- A machine whose memory has a section's reachable words, as far as the scratchpad goes. Words of
--- the section that are never reached play no part.
+-- the section that are never reached don't matter.
 pub record HasWords (s : Start) (t : Tree) : Type 0 where
   pub eight : length s.threads ≡ 8
   pub same_words : (u : ℕ) → Reachable (graph t) u → u < s.size →
       code_at s.size s.i_words u ≡ word_at t u
 
 -- in every run of such a machine the thread's issues follow the edges of a section that has a
--- bound, as long as the slots and its mode stay
+-- bound, while the slots and its mode don't change
 abbrev pub IssuesFollowEdgesInSettings : Type 0
 IssuesFollowEdgesInSettings =
     (t : Tree) (slots thread : ℕ) (s : Start) (n : ℕ) → IsTree t → HasWords s t →
     AreLinkedIn (IsSet s slots thread) (Reachable (graph t)) (EdgeOf (graph t))
     (course t slots thread).positions (issues_of thread (world s n).turns)
 
--- In every run of such a machine, a visit in which picking uses these slots and a hard active mode
--- of the thread, and which keeps the stated bounds of the loops, is no longer than a number that no
--- walk through the section costs more than.
+-- In every run of such a machine a visit takes no longer than an upper bound on the cost of the
+-- paths through the section. Picking uses these slots and a hard active mode of the thread during
+-- the visit, which keeps the stated bounds of the loops.
 abbrev pub VisitsAreBoundedInSettings : Type 0
 VisitsAreBoundedInSettings =
     (t : Tree) (slots thread b : ℕ) (s : Start) (n : ℕ) → IsTree t →

@@ -1,4 +1,4 @@
--- What the bound of a section with routines says of the machines of setups, images and ports.
+-- The bound of a section with routines bounds the machines of setups, images and ports.
 use Rattle.std.specs.Prelude.{◌≡◌, ℕ, ◌-◌, ◌%◌, ◌≤◌, List}
 use Rattle.fp_image.specs.Rules.{word}
 use Rattle.fp_setup.specs.Rules.{KeepsRules}
@@ -13,17 +13,17 @@ use Rattle.section_visits.specs.SetupVisitBound.{issues}
 use Rattle.section_visits.specs.Visits.{Issued, first_of}
 
 -- a machine with these slots, in which thread i is hard and active at the start, and whose image
--- has these words in all reached parts of a section with routines
+-- has these words in all reached functions of a section with routines
 pub record IsAlikeInParts (m : Machine) (i slots : ℕ) (x : Calls) : Type 0 where
   pub hard : mode_of m.setup.modes i ≡ 0
   pub same_slots : m.setup.slots ≡ slots
   pub same_words : (u : ℕ) → u % 4 ≡ 0 → IsMet x u → word m.image u ≡ x.word u
 
--- Where no call walk through a section with routines costs more than a number, no call visit of
--- thread i is longer that keeps returns and the bounds of the loops that count: in every quiet run
--- of every machine whose setup keeps the rules, as each accepted one does, and that is alike in the
--- slots, in i's mode and in the words of the reached parts, whatever else its setup says, its image
--- holds and its ports show.
+-- No call visit of thread i takes longer than an upper bound on the cost of the paths with matching
+-- calls and returns through a section with routines. The visit's returns match its calls, and it
+-- keeps the bounds of the loops that count. This holds in every quiet run of every machine whose
+-- setup keeps the rules, as each accepted one does. The machine has the same slots, mode of i and
+-- words of the reached functions; the rest of its setup and image, and its ports, don't matter.
 abbrev pub CallVisitsStayBounded : Type 0
 CallVisitsStayBounded =
     (x : Calls) (slots i b : ℕ) (m : Machine) (n : ℕ) → IsListing x → IsCallable x →

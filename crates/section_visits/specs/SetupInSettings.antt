@@ -1,5 +1,5 @@
--- What a bound says of the machines of setups, images and ports, of a visit in which the slots and
--- the thread's mode stay; and of all visits, while no issue writes slots or modes.
+-- Bounds for the machines of setups, images and ports: of a visit during which the slots and the
+-- thread's mode don't change; and of all visits, while no issue writes slots or modes.
 use Rattle.std.specs.Prelude.{◌≡◌, ℕ, ◌+◌, ◌-◌, ◌≤◌, true, List}
 use Rattle.fp_image.specs.Rules.{word}
 use Rattle.fp_image.specs.declared.parts.Segment.{Segment}
@@ -31,7 +31,7 @@ use Rattle.core_model.specs.Cycles.{cycles_to_w}
 abbrev pub HasSameWords : Machine → Tree → List Segment → Type 0
 HasSameWords m t image = (u : ℕ) → Reachable (graph t) u → word m.image u ≡ word image u
 
--- it has the same reachable words of the reached parts
+-- it has the same reachable words of the reached functions
 abbrev pub HasSameWordsOfParts : Machine → Calls → Type 0
 HasSameWordsOfParts m x = (u : ℕ) → IsMet x u → word m.image u ≡ x.word u
 
@@ -53,9 +53,9 @@ pub record StartsHard (m : Machine) (i slots : ℕ) : Type 0 where
   pub same_slots : m.setup.slots ≡ slots
   pub hard : mode_of m.setup.modes i ≡ 0
 
--- A number that no walk through a section costs more than, with any slots: no visit that keeps the
--- bounds of the loops is longer, if picking uses these slots throughout, and thread i is hard and
--- active.
+-- A visit takes no longer than an upper bound on the cost of the section's paths, with any slots.
+-- Picking uses these slots throughout, and thread i is hard and active. The visit keeps the bounds
+-- of the loops.
 abbrev pub VisitsStayBoundedInSettings : Type 0
 VisitsStayBoundedInSettings =
     (setup : Settings) (image : List Segment) (s : Section) (slots i b : ℕ) (m : Machine) (n : ℕ) →
@@ -81,7 +81,7 @@ VisitsStayBoundedByPhases =
     (issues m i n) last before → KeepsBounds (tree_in setup image s).loops last before →
     last.cycle - (first_of last before).cycle ≤ b
 
--- the same of all visits, with the slots of the start and a thread that starts hard and active,
+-- the same for all visits, with the slots of the start and a thread that starts hard and active,
 -- while no issue writes slots or modes
 abbrev pub VisitsStayBoundedWhileScheduled : Type 0
 VisitsStayBoundedWhileScheduled =
@@ -94,7 +94,7 @@ VisitsStayBoundedWhileScheduled =
     KeepsBounds (tree_in setup image s).loops last before →
     last.cycle - (first_of last before).cycle ≤ b
 
--- the three for call visits that keep returns, and a number that no call walk costs more than
+-- the three for call visits with matching returns, and paths with matching calls and returns
 abbrev pub CallVisitsStayBoundedInSettings : Type 0
 CallVisitsStayBoundedInSettings =
     (x : Calls) (slots i b : ℕ) (m : Machine) (n : ℕ) → IsListing x →

@@ -1,4 +1,4 @@
--- What the bound of a section says of the machines of setups, images and ports.
+-- The bound of a section bounds the machines of setups, images and ports.
 use Rattle.std.specs.Prelude.{◌≡◌, ℕ, ◌-◌, ◌%◌, ◌<◌, ◌≤◌, List}
 use Rattle.fp_image.specs.Rules.{word}
 use Rattle.fp_image.specs.declared.parts.Segment.{Segment}
@@ -29,10 +29,11 @@ pub record IsAlike (m : Machine) (i slots : ℕ) (image : List Segment) (s : Sec
 abbrev pub tree_in : Settings → List Segment → Section → Tree
 tree_in setup image s = tree_of (word image) s setup.loops
 
--- Where no walk through a section of a setup's image costs more than a number, no visit of thread i
--- that keeps the bounds of the setup's loops is longer: in every quiet run of every machine whose
--- setup keeps the rules, as each accepted one does, and that is alike in the slots, in i's mode and
--- in the section's words, whatever else its setup says, its image holds and its ports show.
+-- No visit of thread i that keeps the bounds of the setup's loops takes longer than an upper bound
+-- on the cost of the paths through a section of the setup's image. This holds in every quiet run of
+-- every machine whose setup keeps the rules, as each accepted one does. The machine has the same
+-- slots, mode of i and words of the section; the rest of its setup and image, and its ports, don't
+-- matter.
 abbrev pub VisitsStayBounded : Type 0
 VisitsStayBounded =
     (setup : Settings) (image : List Segment) (s : Section) (i b : ℕ) (m : Machine) (n : ℕ) →

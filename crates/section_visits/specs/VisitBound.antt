@@ -1,4 +1,4 @@
--- What the bound of a section says of the runs of a machine.
+-- The bound of a section bounds the runs of a machine.
 use Rattle.std.specs.Prelude.{◌≡◌, ℕ, ◌-◌, ◌%◌, ◌<◌, ◌≤◌, true}
 use Rattle.std.specs.Prelude.{false, List, [], ◌∷◌, length, Contains}
 use Rattle.core_model.specs.Memory.{code_at}
@@ -11,8 +11,8 @@ use Rattle.core_model.specs.World.{Start, is_quiet, world}
 use Rattle.section_visits.specs.Visits.{Issued, IsVisit, KeepsBounds, first_of, issues_of}
 
 -- A machine with these slots, where the thread is hard and active at the start, and where the
--- section has the same words as far as the scratchpad goes. What the other threads run, what they
--- and this one may do, and what else there is in memory plays no part.
+-- section has the same words as far as the scratchpad goes. The other threads' code, the rights of
+-- all threads and the rest of memory don't matter.
 pub record IsHost (s : Start) (t : Tree) (slots thread : ℕ) : Type 0 where
   pub eight : length s.threads ≡ 8
   pub hard : mode_of s.registers.modes thread ≡ 0
@@ -20,8 +20,8 @@ pub record IsHost (s : Start) (t : Tree) (slots thread : ℕ) : Type 0 where
   pub same_words : (u : ℕ) → u % 4 ≡ 0 → Lies (graph t) u → u < s.size →
       code_at s.size s.i_words u ≡ word_at t u
 
--- The second issue is where a way leads on from the first one's word, at the thread's first turn
--- that is at least its lag later.
+-- The second issue is at the target of an edge of the first one's word, at the thread's first turn
+-- that is at least the edge's lag later.
 pub record Along (way : ℕ → Edge → Type 0) (s : Positions) (first second : Issued) : Type 0 where
   pub edge : Edge
   pub known : way first.pc edge
@@ -31,7 +31,7 @@ pub record Along (way : ℕ → Edge → Type 0) (s : Positions) (first second :
       (second.cycle % length s.frame)
 
 -- Issues, the newest first, are at the thread's positions; and each that is at a known word and
--- doesn't trap is followed by the next one along a way.
+-- doesn't trap is followed by the next one along an edge.
 abbrev pub AreLinked : (ℕ → Type 0) → (ℕ → Edge → Type 0) → Positions → List Issued → Type 0
 AreLinked known way s [] = Unit {0}
 AreLinked known way s (i ∷ []) = IsOwn s (i.cycle % length s.frame)
@@ -40,7 +40,7 @@ AreLinked known way s (i ∷ (h ∷ before)) =
     × IsOwn s (i.cycle % length s.frame)
     × (known h.pc → h.traps ≡ false → Along way s h i)
 
--- the edges of a graph, as ways on
+-- the edges of a graph, as such a relation
 abbrev pub EdgeOf : Graph → ℕ → Edge → Type 0
 EdgeOf g u e = Contains (g.edges u) e
 
@@ -56,8 +56,8 @@ IssuesFollowEdges =
     is_quiet s n ≡ true → FollowEdges (course t slots thread) (issues_of thread (world s n).turns)
 
 -- In every quiet run of such a machine no visit of the section that keeps the stated bounds of its
--- loops is longer, from its first issue to its last, than a number that no walk through the section
--- costs more than.
+-- loops takes longer, from its first issue to its last, than an upper bound on the cost of the
+-- paths through the section.
 abbrev pub VisitsAreBounded : Type 0
 VisitsAreBounded =
     (t : Tree) (slots thread b : ℕ) (s : Start) (n : ℕ) → IsTree t →

@@ -14,7 +14,7 @@ pub record Issued : Type 0 where
   pub pc : ℕ
   pub traps : Bool
 
--- the issue of a turn in cycle c, if it is one of thread i's; one that is held counts too
+-- the issue of a turn in cycle c, if it is one of thread i's; a spinning one counts too
 abbrev pub issue_in : ℕ → ℕ → Took → List Issued
 issue_in i c (Ran k pc word effect) =
     if k == i then record { cycle = c; pc = pc; traps = is_trap effect } ∷ [] else []
@@ -36,7 +36,7 @@ GoOn g [] = Unit {0}
 GoOn g (i ∷ before) = GoOn g before × Lies g i.pc × (i.traps ≡ false)
 
 -- A visit: issues in order, the newest first, among all those of the thread. The first is at the
--- section's first word. The last is the first of them that is outside the section or traps; where
+-- section's first word. The last is the first of them that is outside the section or traps; if
 -- there is none, it is the thread's last one.
 pub record IsVisit (g : Graph) (issues : List Issued) (last : Issued)
     (before : List Issued) : Type 0 where

@@ -1,5 +1,5 @@
-//! What the bound of a section says of runs: no visit of the section takes longer. The contract of
-//! each call is a theorem; the call does nothing. The statements are in specs/InSettings.antt and
+//! The bound of a section bounds runs: no visit of the section takes longer. The contract of each
+//! call is a theorem; the call does nothing. The statements are in specs/InSettings.antt and
 //! specs/VisitBound.antt.
 
 ghost use Rattle.section_visits.specs.InSettings.{IssuesFollowEdgesInSettings};
@@ -12,9 +12,10 @@ pub fn follows_edges_in_settings()
     ensures { IssuesFollowEdgesInSettings }
 {}
 
-/// A visit in which picking uses the same slots and the thread is hard and active, and which keeps
-/// the stated bounds of the section's loops, is no longer than what the section's walks can cost.
-/// Writes of region registers, and of slots and modes before and after the visit, play no part.
+/// A visit takes no longer than an upper bound on the cost of the section's paths. Picking uses the
+/// same slots, and the thread is hard and active during the visit, which keeps the stated bounds of
+/// the section's loops. Writes of region registers don't matter, nor do writes of slots and modes
+/// before and after the visit.
 pub fn stays_bounded_in_settings()
     ensures { VisitsAreBoundedInSettings }
 {
@@ -29,8 +30,8 @@ pub fn follows_edges()
     follows_edges_in_settings();
 }
 
-/// No visit of a hard thread in a quiet run that keeps the stated bounds of the section's loops is
-/// longer than what the section's walks can cost.
+/// In a quiet run no visit of a hard thread that keeps the stated bounds of the section's loops
+/// takes longer than an upper bound on the cost of the section's paths.
 pub fn stays_bounded()
     ensures { VisitsAreBounded }
 {

@@ -1,6 +1,6 @@
-//! What the bound of a section of a setup's image says of the runs of machines, by itself and
-//! through calls. The contract of each call is a theorem; the call does nothing. The statements are
-//! in specs/.
+//! The bound of a section of a setup's image bounds the runs of machines, by itself and through
+//! calls. The contract of each call is a theorem; the call does nothing. The statements are in
+//! specs/.
 
 ghost use Rattle.section_visits.specs.SetupCallVisitBound.{CallVisitsStayBounded};
 ghost use Rattle.section_visits.specs.SetupInSettings.{CallVisitsStayBoundedByPhases};
@@ -13,9 +13,9 @@ ghost use Rattle.section_visits.specs.SetupVisitBound.{VisitsStayBounded};
 
 use core_model::tells_picks;
 
-/// A visit in which picking uses the same slots and the thread is hard and active, and which keeps
-/// the stated bounds of the loops, takes no longer than what no walk of the section costs more than
-/// with these slots. The image needs the same reachable words only.
+/// A visit takes no longer than an upper bound on the cost of the section's paths with these slots.
+/// Picking uses the same slots, and the thread is hard and active during the visit, which keeps the
+/// stated bounds of the loops. The image needs only the same reachable words.
 pub fn stays_bounded_in_settings()
     ensures { VisitsStayBoundedInSettings }
 {
@@ -31,27 +31,27 @@ pub fn stays_bounded_by_phases()
     tells_picks();
 }
 
-/// While no issue writes slots or modes, no visit of a thread that starts hard and active, and that
-/// keeps the stated bounds of the loops, takes longer than what no walk of the section costs more
-/// than. Region registers may be written.
+/// While no issue writes slots or modes, no visit of a thread that starts hard and active takes
+/// longer than an upper bound on the cost of the section's paths. The visit keeps the stated bounds
+/// of the loops. Region registers may be written.
 pub fn stays_bounded_while_scheduled()
     ensures { VisitsStayBoundedWhileScheduled }
 {
     stays_bounded_in_settings();
 }
 
-/// No visit of a hard thread that keeps the stated bounds of the loops takes longer than what no
-/// walk of the section costs more than, whatever else the machine is and the other threads run,
-/// while no configuration register is written.
+/// While no configuration register is written, no visit of a hard thread that keeps the stated
+/// bounds of the loops takes longer than an upper bound on the cost of the section's paths. The
+/// rest of the machine and the other threads' code don't matter.
 pub fn stays_bounded()
     ensures { VisitsStayBounded }
 {
     stays_bounded_while_scheduled();
 }
 
-/// A call visit in which picking uses the same slots and the thread is hard and active, and which
-/// keeps returns and the stated bounds of the loops, takes no longer than what no call walk of the
-/// section with its routines costs more than with these slots.
+/// A call visit takes no longer than an upper bound on the cost of the paths with matching calls
+/// and returns with these slots. Picking uses the same slots, and the thread is hard and active
+/// during the visit. Its returns match its calls, and it keeps the stated bounds of the loops.
 pub fn calls_stay_bounded_in_settings()
     ensures { CallVisitsStayBoundedInSettings }
 {
@@ -67,19 +67,20 @@ pub fn calls_stay_bounded_by_phases()
     tells_picks();
 }
 
-/// While no issue writes slots or modes, no call visit of a thread that starts hard and active, and
-/// that keeps returns and the stated bounds of the loops, takes longer than what no call walk costs
-/// more than. Region registers may be written.
+/// While no issue writes slots or modes, no call visit of a thread that starts hard and active
+/// takes longer than an upper bound on the cost of the paths with matching calls and returns. The
+/// visit's returns match its calls, and it keeps the stated bounds of the loops. Region registers
+/// may be written.
 pub fn calls_stay_bounded_while_scheduled()
     ensures { CallVisitsStayBoundedWhileScheduled }
 {
     calls_stay_bounded_in_settings();
 }
 
-/// No call visit of a hard thread that keeps the stated bounds of the loops and comes back to where
-/// it called from takes longer than what no call walk of the section with its routines costs more
-/// than, whatever else the machine is and the other threads run, while no configuration register is
-/// written.
+/// While no configuration register is written, no call visit of a hard thread takes longer than an
+/// upper bound on the cost of the paths with matching calls and returns. The visit's returns match
+/// its calls, and it keeps the stated bounds of the loops. The rest of the machine and the other
+/// threads' code don't matter.
 pub fn calls_stay_bounded()
     ensures { CallVisitsStayBounded }
 {
