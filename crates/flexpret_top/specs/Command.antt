@@ -1,4 +1,4 @@
--- What a command line answers over the files that there are.
+-- The answer of a command line over given files.
 use Rattle.std.specs.Prelude.{◌≡◌, ◌⊎◌, ◌≤◌, ℕ, List, [], Option, Some, None, Ok}
 use Rattle.machine.specs.Feeding.{IsFedFront, fed_all}
 use Rattle.machine.specs.WorldRelation.{PortsAfter}
@@ -20,8 +20,8 @@ use Rattle.command_files.specs.Program.{program}
 use Rattle.flexpret_top.specs.Run.{start_of, run_answer, dump_answer, phases_answer}
 use Rattle.fp_ports.specs.PluggedPorts.{Row}
 
--- The answer of a command over the files and the ports as they are handed in. That of `bound` is a
--- relation, and that of `calls`: a bound is the largest cost of a walk.
+-- The answer of a command over the files and the ports as they are handed in. For `bound` and
+-- `calls` it is a relation: a bound is the largest cost of a path.
 abbrev pub IsAnswerOf : Ask → FileMap → List (Option Row) → Answer → Type 0
 IsAnswerOf (Run setup thread cycles) files ports x = x ≡ run_answer files ports setup thread cycles
 IsAnswerOf (Dump setup cycles) files ports x = x ≡ dump_answer files ports setup cycles
@@ -45,7 +45,7 @@ abbrev pub IsAnswerTo : Option Ask → FileMap → List (Option Row) → Answer 
 IsAnswerTo None files ports x = x ≡ Says 2 []
 IsAnswerTo (Some asked) files ports x = IsAnswerOf asked files ports x
 
--- of a command line
+-- the answer of a command line
 abbrev pub IsAnswer : List (List ℕ) → FileMap → List (Option Row) → Answer → Type 0
 IsAnswer words files ports x = IsAnswerTo (ask words) files ports x
 
@@ -57,7 +57,7 @@ pub record LeavesMachine (files : FileMap) (name : List ℕ) (n : ℕ)
   pub is : program files name ≡ Ok made
   pub ports : PortsAfter (start_of made before n) n (fed_all made.setup before) after
 
--- what stands in the ports after a command with status 0
+-- the ports after a command with status 0
 abbrev pub Leaves : Ask → FileMap → List (Option Row) → List (Option Row) → Type 0
 Leaves (Run setup thread cycles) files before after = LeavesMachine files setup cycles before after
 Leaves (Dump setup cycles) files before after = LeavesMachine files setup cycles before after
@@ -70,7 +70,7 @@ Leaves (Check setup thread cycles trace) files before after = after ≡ before
 Leaves (Elf file) files before after = after ≡ before
 Leaves (Calls setup thread section routines) files before after = after ≡ before
 
--- The same where the sink failed within the text: the ports are those after some of the cycles.
+-- The same if the sink failed within the text: the ports are those after some of the cycles.
 pub record LeavesPartOfRun (files : FileMap) (name : List ℕ) (n : ℕ)
     (before after : List (Option Row)) : Type 0 where
   pub made : Program
@@ -79,7 +79,7 @@ pub record LeavesPartOfRun (files : FileMap) (name : List ℕ) (n : ℕ)
   pub within : cycles ≤ n
   pub ports : PortsAfter (start_of made before n) cycles (fed_all made.setup before) after
 
--- what stands in the ports after a text that was cut short
+-- the ports after a text that was cut short
 abbrev pub LeavesInPart : Ask → FileMap → List (Option Row) → List (Option Row) → Type 0
 LeavesInPart (Run setup thread cycles) files before after =
     LeavesPartOfRun files setup cycles before after
@@ -101,11 +101,11 @@ pub record IsFedInPart (files : FileMap) (name : List ℕ)
   pub is : program files name ≡ Ok made
   pub fed : IsFedFront made.setup before after
 
--- what stands in the ports of a machine that wasn't run
+-- the ports of a machine that wasn't run
 abbrev pub IsUnrun : FileMap → List ℕ → List (Option Row) → List (Option Row) → Type 0
 IsUnrun files name before after = (after ≡ before) ⊎ IsFedInPart files name before after
 
--- what stands in the ports where memory was refused, or a device refused to be fed
+-- the ports if memory ran out, or a device failed to be fed
 abbrev pub LeavesFedInPart : Ask → FileMap → List (Option Row) → List (Option Row) → Type 0
 LeavesFedInPart (Run setup thread cycles) files before after = IsUnrun files setup before after
 LeavesFedInPart (Dump setup cycles) files before after = IsUnrun files setup before after
@@ -121,7 +121,7 @@ abbrev pub LeavesBy : Option Ask → FileMap → List (Option Row) → List (Opt
 LeavesBy None files before after = after ≡ before
 LeavesBy (Some asked) files before after = Leaves asked files before after
 
--- a command in which no port plays a part
+-- a command that uses no port
 abbrev pub UsesNoPort : Ask → Type 0
 UsesNoPort (Run setup thread cycles) = ⊥
 UsesNoPort (Dump setup cycles) = ⊥
@@ -144,7 +144,7 @@ abbrev pub UsesNoPortBy : Option Ask → Type 0
 UsesNoPortBy None = Unit {0}
 UsesNoPortBy (Some asked) = UsesNoPort asked
 
--- a status is that of such an answer, and its whole text was written
+-- a status belongs to such an answer, and its whole text was written
 pub record Said (Is : Answer → Type 0) (status : ℕ) (before after : Option (List ℕ)) : Type 0 where
   pub answer : Answer
   pub is : Is answer
@@ -156,7 +156,7 @@ pub record Began (Is : Answer → Type 0) (before after : Option (List ℕ)) : T
   pub is : Is answer
   pub front : WritesFront before after answer
 
--- a status is that of such an answer
+-- a status belongs to such an answer
 pub record Answered (Is : Answer → Type 0) (status : ℕ) : Type 0 where
   pub answer : Answer
   pub is : Is answer

@@ -1,4 +1,4 @@
--- What the text of a command promises of a thread whatever the seven others run.
+-- The guarantees of a command's text for a thread, whatever code the seven others run.
 use Rattle.std.specs.Prelude.{◌≡◌, ℕ, ◌-◌, ◌≤◌, List, Option, Some, Ok}
 use Rattle.std.specs.Io.KnownBytes.{Appends}
 use Rattle.fp_io.specs.Content.{FileMap}
@@ -38,13 +38,13 @@ use Rattle.command_files.specs.BoundAnswer.{section_tree}
 use Rattle.command_files.specs.CallsAnswer.{section_listing}
 use Rattle.command_files.specs.Program.{program}
 
--- the machine of a program beside the ports as they are handed in
+-- the machine of a program with the ports as they are handed in
 abbrev pub machine_of : Program → List (Option Row) → Machine
 machine_of p ports = record { setup = p.setup; image = p.image; ports = ports }
 
--- For every confined hard thread, in a run that writes none of the machine's own registers, what
--- `run` wrote is the text of the one-thread definition over the thread's view: its own code, slots,
--- private memory and inputs.
+-- For every confined hard thread, in a run that writes no configuration register, `run` wrote the
+-- text of the one-thread definition over the thread's view: its own code, slots, private memory and
+-- inputs.
 abbrev pub WritesAlone : Option Ask → FileMap → List (Option Row) → Option (List ℕ) →
     Option (List ℕ) → Type 0
 WritesAlone (Some (Run setup i n)) files ports before after =
@@ -53,9 +53,9 @@ WritesAlone (Some (Run setup i n)) files ports before after =
     Appends before after (text (solo (view_of (machine_of p ports) i n) n))
 WritesAlone _ files ports before after = Unit {0}
 
--- What `run` wrote of a confined thread, where only issues that have retired leave registers
--- unwritten: those in flight after n cycles may write them. The two clauses before and after follow
--- from it.
+-- The text that `run` wrote for a confined thread, if no issue that has retired writes registers:
+-- those in flight after n cycles may write them. The clauses before and after this one follow from
+-- it.
 pub record IsWrittenAlone (m : Machine) (i n : ℕ) (before after : Option (List ℕ)) : Type 0 where
   pub alone : IsConfinedHard m i → IsRetiredQuiet m n →
       Appends before after (text (solo (view_of m i n) n))
@@ -69,8 +69,8 @@ WritesRetired (Some (Run setup i n)) files ports before after =
     IsWrittenAlone (machine_of p ports) i n before after
 WritesRetired _ files ports before after = Unit {0}
 
--- In a run that writes none of the machine's own registers, what `solo` wrote is the trace that the
--- machine has, which `run` writes.
+-- In a run that writes no configuration register, `solo` wrote the trace of the machine, which
+-- `run` writes.
 abbrev pub WritesAsRun : Option Ask → FileMap → List (Option Row) → Option (List ℕ) →
     Option (List ℕ) → Type 0
 WritesAsRun (Some (Solo setup i n)) files ports before after =
@@ -79,8 +79,8 @@ WritesAsRun (Some (Solo setup i n)) files ports before after =
 WritesAsRun _ files ports before after = Unit {0}
 
 -- For every confined thread that no setting of the run makes soft active, in a run that writes no
--- region register, what `run` wrote is the text of the one-thread definition over the thread's view
--- and these settings, whose lines `phases` writes.
+-- region register, `run` wrote the text of the one-thread definition over the thread's view and
+-- these settings. `phases` writes the lines of the settings.
 abbrev pub WritesByPhases : Option Ask → FileMap → List (Option Row) → Option (List ℕ) →
     Option (List ℕ) → Type 0
 WritesByPhases (Some (Run setup i n)) files ports before after =
@@ -90,12 +90,12 @@ WritesByPhases (Some (Run setup i n)) files ports before after =
     (text (phased (view_of (machine_of p ports) i n) (phases_in (machine_of p ports) n) n))
 WritesByPhases _ files ports before after = Unit {0}
 
--- What `bound` wrote is the line of a number of cycles which some walk through the section costs,
--- and which no visit of the section takes longer than: in no quiet run of any machine whose setup
--- keeps the rules, as each accepted one does, with the thread hard, the same slots and the same
--- words in the section, while the visit keeps the stated loop bounds. It is enough that no issue
--- writes slots or modes, and that the words are the same which the section can reach; and for one
--- visit, that picking uses these slots throughout, and that the thread is hard and active.
+-- `bound` wrote the line of a number of cycles. Some path through the section costs that number,
+-- and no visit of the section takes longer if it keeps the stated loop bounds. This holds in every
+-- quiet run of every machine whose setup keeps the rules, as each accepted one does, with the
+-- thread hard, the same slots and the same words in the section. Less is enough: no issue writes
+-- slots or modes, and the words that the section can reach are the same. For one visit it is enough
+-- that picking uses these slots throughout, and that the thread is hard and active.
 pub record IsLongest (p : Program) (i : ℕ) (section : Section)
     (before after : Option (List ℕ)) : Type 0 where
   pub cycles : ℕ
@@ -123,11 +123,12 @@ BoundsVisits (Some (Bound setup i section)) files before after =
     (p : Program) → program files setup ≡ Ok p → IsLongest p i section before after
 BoundsVisits _ files before after = Unit {0}
 
--- What `calls` wrote is the line of a number of cycles which some call walk through the section and
--- its routines costs that keeps the loops' bounds, and which no call visit of the section takes
--- longer than: in no quiet run of any machine whose setup keeps the rules, as each accepted one
--- does, with the thread hard, the same slots and the same words in all reached parts, while the
--- visit keeps returns and the stated loop bounds. As for `bound`, less is enough.
+-- `calls` wrote the line of a number of cycles. Some path with matching calls and returns through
+-- the section and its routines, which keeps the loops' bounds, costs that number. No call visit of
+-- the section takes longer if its returns match its calls and it keeps the stated loop bounds. This
+-- holds in every quiet run of every machine whose setup keeps the rules, as each accepted one does,
+-- with the thread hard, the same slots and the same words in all reached functions. As for `bound`,
+-- less is enough.
 pub record IsLongestByCalls (p : Program) (i : ℕ) (section : Section) (file : List ℕ)
     (before after : Option (List ℕ)) : Type 0 where
   pub routines : List Routine
@@ -164,8 +165,8 @@ BoundsCallVisits (Some (Calls setup i section routines)) files before after =
     IsLongestByCalls p i section file before after
 BoundsCallVisits _ files before after = Unit {0}
 
--- What `elf` wrote is a file that is read, for scratchpads of 65,536 bytes, as the image that the
--- executable defines.
+-- `elf` wrote a file that reads, for scratchpads of 65,536 bytes, as the image that the executable
+-- defines.
 pub record IsImported (file : List ℕ) (before after : Option (List ℕ)) : Type 0 where
   pub image : List Segment
   pub defined : elf_of file ≡ Ok image

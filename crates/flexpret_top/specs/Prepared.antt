@@ -1,4 +1,4 @@
--- What was prepared, as the text that it will write.
+-- The text that a prepared command will write.
 use Rattle.std.specs.Io.KnownBytes.{Appends}
 use Rattle.std.specs.Prelude.{◌≡◌, ◌<◌, ◌≤◌, ℕ, List, Option, IfSome}
 use Rattle.fp_io.specs.Content.{AppendsFront, FileMap}
@@ -27,8 +27,8 @@ use Rattle.command_files.specs.Program.{program}
 use Rattle.flexpret_top.specs.Run.{start_of}
 use Rattle.std.specs.Prelude.{Ok}
 
--- a machine at its start that stands, beside the ports that were fed, for the world of a program
--- and the ports as they were handed in; that world starts with the slots and modes of the setup
+-- a machine at its start that, with the fed ports, refines the world of a program and the ports as
+-- they were handed in; that world starts with the slots and modes of the setup
 pub record IsReady (files : FileMap) (name : List ℕ) (before after : List (Option Row))
     (r : Ready) : Type 0 where
   pub made : Program
@@ -37,8 +37,8 @@ pub record IsReady (files : FileMap) (name : List ℕ) (before after : List (Opt
   pub refines : Refines (start_of made before r.cycles) 0 r.cycles r.machine after
   pub starts : StartsAs (start_of made before r.cycles) r.setup
 
--- a machine at its start, which refines a world of its setup beside these ports, and a text that
--- this world defines
+-- a machine at its start, which refines a world of its setup with these ports, and a text that this
+-- world defines
 pub record Runs (r : Ready) (ports : List (Option Row)) (told : Start → List ℕ)
     (written : List ℕ) : Type 0 where
   pub start : Start
@@ -57,18 +57,18 @@ Delivers (Image bytes) ports written = written ≡ bytes.items
 Delivers (Bound cycles) ports written = written ≡ bound_text cycles
 Delivers (Selfrun run) ports written = written ≡ tallies_text run.tallies
 
--- a thread that is asked for is one of the eight
+-- a requested thread is one of the eight
 abbrev pub IsThread : Prepared → Type 0
 IsThread (Trace r thread) = thread < 8
 IsThread _ = Unit {0}
 
--- what a run of a machine leaves in the ports
+-- the ports after a run of a machine
 abbrev pub LeavesRun : Ready → List (Option Row) → List (Option Row) → Type 0
 LeavesRun r before after =
     (s : Start) → Refines s 0 r.cycles r.machine before → StartsAs s r.setup →
     PortsAfter s r.cycles before after
 
--- what stands in the ports once it was written
+-- the ports after the text was written
 abbrev pub LeavesPorts : Prepared → List (Option Row) → List (Option Row) → Type 0
 LeavesPorts (Trace r thread) before after = LeavesRun r before after
 LeavesPorts (Dump r) before after = LeavesRun r before after
@@ -79,8 +79,7 @@ LeavesPorts (Image bytes) before after = after ≡ before
 LeavesPorts (Bound cycles) before after = after ≡ before
 LeavesPorts (Selfrun run) before after = after ≡ before
 
--- what a run of a machine that the sink cut short leaves in the ports: those after some of its
--- cycles
+-- the ports after a run of a machine that the sink cut short: those after some of its cycles
 pub record LeavesSome (s : Start) (n : ℕ) (before after : List (Option Row)) : Type 0 where
   pub cycles : ℕ
   pub within : cycles ≤ n
@@ -91,14 +90,14 @@ LeavesPartOfRun r before after =
     (s : Start) → Refines s 0 r.cycles r.machine before → StartsAs s r.setup →
     LeavesSome s r.cycles before after
 
--- what stands in the ports where the sink failed
+-- the ports if the sink failed
 abbrev pub LeavesPortsInPart : Prepared → List (Option Row) → List (Option Row) → Type 0
 LeavesPortsInPart (Trace r thread) before after = LeavesPartOfRun r before after
 LeavesPortsInPart (Dump r) before after = LeavesRun r before after
 LeavesPortsInPart (Phases r) before after = LeavesPartOfRun r before after
 LeavesPortsInPart _ before after = after ≡ before
 
--- no port plays a part in it
+-- it uses no port
 abbrev pub IsWithoutPort : Prepared → Type 0
 IsWithoutPort (Trace r thread) = ⊥
 IsWithoutPort (Dump r) = ⊥
@@ -106,7 +105,7 @@ IsWithoutPort (Phases r) = ⊥
 IsWithoutPort (Solo alone) = ⊥
 IsWithoutPort _ = Unit {0}
 
--- it does no more to a port than read it
+-- it only reads a port
 abbrev pub OnlyReadsFor : Prepared → Type 0
 OnlyReadsFor (Solo alone) = Unit {0}
 OnlyReadsFor Same = Unit {0}
@@ -123,12 +122,12 @@ pub record Prepares (asked : Ask) (files : FileMap) (before after : List (Option
   pub leaves_part : (last : List (Option Row)) → LeavesPortsInPart p after last →
       LeavesInPart asked files before last
 
--- the same where the files tell what they hold
+-- the same where the files' contents are known
 abbrev pub IsPrepared : Ask → Option FileMap → List (Option Row) → List (Option Row) →
     Prepared → Type 0
 IsPrepared asked told before after p = IfSome told (λ files. Prepares asked files before after p)
 
--- and whatever the ports are, which it leaves alone
+-- and for any ports, which it doesn't change
 abbrev pub IsPreparedApart : Ask → Option FileMap → Prepared → Type 0
 IsPreparedApart asked told p =
     IfSome told (λ files. (ports : List (Option Row)) → Prepares asked files ports ports p)
@@ -138,13 +137,13 @@ abbrev pub WritesAll : Prepared → List (Option Row) → Option (List ℕ) → 
 WritesAll p ports before after =
     (written : List ℕ) → Delivers p ports written → Appends before after written
 
--- the first part of it was
+-- a prefix of it was appended
 abbrev pub WritesPart : Prepared → List (Option Row) → Option (List ℕ) → Option (List ℕ) → Type 0
 WritesPart p ports before after =
     (written : List ℕ) → Delivers p ports written → AppendsFront before after written
 
 -- after so many cycles, machine and ports refine that cycle of the world, and the ports that are
--- left show what they showed
+-- left show the same words as before
 pub record Gone (s : Start) (n : ℕ) (first : List (Option Row)) (m : Machine)
     (ports : List (Option Row)) : Type 0 where
   pub refines : Refines s n n m ports

@@ -1,4 +1,4 @@
--- What a command asks of the files, in which order and with which limits.
+-- The requests of a command to the files, with their order and limits.
 use Rattle.std.specs.Prelude.{◌≡◌, ◌⊎◌, ℕ, ◌*◌, List, [], ◌∷◌, ◌++◌, Option, Some, None}
 use Rattle.fp_io.specs.Content.{Asks, FileMap, Lacks, Request}
 use Rattle.ask_words.specs.declared.asked.Ask.{Ask}
@@ -14,11 +14,11 @@ use Rattle.command_files.specs.CallsAnswer.{routines_request}
 use Rattle.command_files.specs.Elf.{executable_request}
 use Rattle.flexpret_top.specs.SoloAndCheck.{alone_program}
 
--- what is asked of the files for a recorded trace of so many cycles
+-- the request to the files for a recorded trace of so many cycles
 abbrev pub trace_request : List ℕ → ℕ → Request
 trace_request name cycles = (name, 60 * cycles)
 
--- a program, and then a recorded trace of a thread that can be run by itself
+-- a program, and then a recorded trace of a thread that can be run from only its view
 pub record IsTraceAsked (told : Option FileMap) (setup : List ℕ) (thread cycles : ℕ)
     (trace : List ℕ) (before after : Option (List Request)) : Type 0 where
   pub made : Program
@@ -26,7 +26,7 @@ pub record IsTraceAsked (told : Option FileMap) (setup : List ℕ) (thread cycle
   pub asks : Asks before after
       (program_requests setup made.setup ++ (trace_request trace cycles ∷ []))
 
--- a program, and then the routines of a section that can be asked for
+-- a program, and then the routines of a section whose bound can be requested
 pub record AreRoutinesAsked (told : Option FileMap) (setup : List ℕ) (thread : ℕ)
     (section : Section) (routines : List ℕ) (before after : Option (List Request)) : Type 0 where
   pub made : Program
@@ -51,13 +51,13 @@ IsAsked (Calls setup thread section routines) told before after =
     IsProgramAsked told setup before after
     ⊎ AreRoutinesAsked told setup thread section routines before after
 
--- by a command line: nothing at all, where it asks no command or memory is refused for its words
+-- by a command line: nothing at all, if it is a usage error or memory ran out for its arguments
 abbrev pub IsAskedBy : Option Ask → Option FileMap → Option (List Request) →
     Option (List Request) → Type 0
 IsAskedBy None told before after = after ≡ before
 IsAskedBy (Some asked) told before after = (after ≡ before) ⊎ IsAsked asked told before after
 
--- the files are told, and have none of the name that a command asks for first
+-- the files are known to lack the name that a command requests first
 abbrev pub LacksFirst : Ask → Option FileMap → Type 0
 LacksFirst (Run setup thread cycles) told = Lacks told setup
 LacksFirst (Dump setup cycles) told = Lacks told setup

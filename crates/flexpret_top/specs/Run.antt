@@ -13,7 +13,7 @@ use Rattle.command_files.specs.declared.program.Program.{Program}
 use Rattle.command_files.specs.Answer.{Answer, then_by, ends}
 use Rattle.command_files.specs.Program.{program}
 
--- the start of a program's run of n cycles beside the ports as they are handed in
+-- the start of a program's run of n cycles with the ports as they are handed in
 abbrev pub start_of : Program → List (Option Row) → ℕ → Start
 start_of p ports n = start p.setup p.image ports n
 
@@ -24,14 +24,14 @@ trace_of ports i n p = Ok (text (events (start_of p ports n) i n))
 abbrev pub run_answer : FileMap → List (Option Row) → List ℕ → ℕ → ℕ → Answer
 run_answer files ports name i n = ends (then_by (program files name) (trace_of ports i n))
 
--- what is seen of the machine after n cycles
+-- the observed state of the machine after n cycles
 abbrev pub dump_of : List (Option Row) → ℕ → Program → Result (List ℕ) Answer
 dump_of ports n p = Ok (seen (start_of p ports n) n)
 
 abbrev pub dump_answer : FileMap → List (Option Row) → List ℕ → ℕ → Answer
 dump_answer files ports name n = ends (then_by (program files name) (dump_of ports n))
 
--- the lines of the settings that picking goes by in n cycles
+-- the lines of the settings that picking uses in n cycles
 abbrev pub phases_of : List (Option Row) → ℕ → Program → Result (List ℕ) Answer
 phases_of ports n p = Ok (phases_text (phases (start_of p ports n) n))
 

@@ -1,5 +1,5 @@
--- The answers to `solo` and `check`: one thread of a program from its view alone, and a recorded
--- trace beside the text of it.
+-- The answers to `solo` and `check`: one thread of a program from only its view, and a recorded
+-- trace compared with its text.
 use Rattle.std.specs.Prelude.{◌≡◌, ℕ, ◌==◌, not, if◌then◌else◌, List}
 use Rattle.std.specs.Prelude.{Option, Some, None, Result, Ok, Err, codes}
 use Rattle.std.specs.Str.{bytes_eq}
@@ -25,7 +25,7 @@ use Rattle.command_files.specs.Answer.Answer.{Says}
 use Rattle.command_files.specs.Program.{program}
 use Rattle.flexpret_top.specs.Run.{start_of}
 
--- why a thread isn't run from its view alone, if so: it isn't hard and awake, or else it isn't
+-- why a thread can't be run from only its view, if so: it isn't hard and awake, or else it isn't
 -- confined
 unfoldable pub alone_fault : Settings → ℕ → Option ℕ
 alone_fault s i =
@@ -37,7 +37,7 @@ abbrev pub unless_fault : Program → Option ℕ → Result Program Answer
 unless_fault p None = Ok p
 unless_fault p (Some code) = Err (refusal_answer (Section code))
 
--- a program whose thread i is run from its view alone
+-- a program whose thread i is run from only its view
 abbrev pub alone_in : ℕ → Program → Result Program Answer
 alone_in i p = unless_fault p (alone_fault p.setup i)
 
@@ -63,7 +63,7 @@ comparison_of text given =
     if bytes_eq given text then Ok same_text
     else Err (Says 1 (differs_text (first_differing_line given text)))
 
--- what a comparison answers
+-- the answer of a comparison
 abbrev pub said_by : Checked → Result (List ℕ) Answer
 said_by Same = Ok same_text
 said_by (Differs line) = Err (Says 1 (differs_text line))
@@ -89,7 +89,7 @@ pub record IsAlone (files : FileMap) (name : List ℕ) (i n : ℕ) (a : Alone) :
   pub is : alone_program files name i ≡ Ok made
   pub alone : IsAloneOf made i n a
 
--- the text of its run beside the ports
+-- the text of its run with the ports
 abbrev pub told_alone : Alone → List (Option Row) → List ℕ
 told_alone a ports =
     text (solo (abstract_view a.view (shown_to a.setup ports a.cycles a.view.thread)) a.cycles)

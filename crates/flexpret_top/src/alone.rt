@@ -1,4 +1,4 @@
-//! One thread of a program from its view alone.
+//! One thread of a program from only its view.
 
 ghost use Rattle.std.specs.Prelude.{◌≡◌, ◌*◌, ◌<◌, ◌≤◌, [], ◌∷◌, nat_eq, false, true};
 ghost use Rattle.std.specs.Prelude.{Ok, Err, OnOk, OnErr, IfOk, IfErr, IfSome, vec_len};
@@ -29,10 +29,10 @@ use solo_run::{Checked, SoloRun, SoloView};
 use std::alloc::Global;
 use trace_print::Refusal;
 
-/// More bytes than the line of an event has.
+/// More bytes than an event's line has.
 const MOST_OF_A_LINE: usize = 60;
 
-/// Why a thread isn't run from its view alone, by the code of its fault, if so.
+/// Why a thread can't be run from only its view, by the code of its fault, if so.
 #[tactic(auto, unfolding(crate::specs::SoloAndCheck::alone_fault))]
 fn alone_fault(setup: &Setup, thread: u8) -> Option<u8>
     requires { thread < 8 }
@@ -47,7 +47,7 @@ fn alone_fault(setup: &Setup, thread: u8) -> Option<u8>
     }
 }
 
-/// A thread of a program, from its view alone.
+/// A thread of a program, from only its view.
 fn alone_in(alloc: Global, program: Program, thread: u8, cycles: u64) -> Result<Alone, Stop>
     requires thread { thread < 8 }
     requires limit { cycles ≤ most_cycles }
@@ -67,7 +67,7 @@ fn alone_in(alloc: Global, program: Program, thread: u8, cycles: u64) -> Result<
     })
 }
 
-/// A thread of the program of a setup and the image that it names, from its view alone.
+/// A thread of the program of a setup and the image that it names, from only its view.
 pub fn load_alone<F: Files>(
     alloc: Global,
     name: &Name,
@@ -96,7 +96,7 @@ pub fn load_alone<F: Files>(
     }
 }
 
-/// Puts the lines of the thread's events.
+/// Writes the lines of the thread's events.
 pub fn put_alone<K: Sink>(alone: Alone, ports: &mut Ports, out: &mut K) -> Result<(), PutFailed>
     requires { vec_len ports.old ≡ 8 }
     ensures ok { OnOk result (Appends (K.taken out.old) (K.taken out.new)
@@ -150,7 +150,7 @@ pub fn check_alone(alone: Alone, ports: &mut Ports, given: &[u8]) -> Checked
     checked
 }
 
-/// What a comparison answers: a trace that isn't the defined one ends the command.
+/// The result of a comparison: a trace that isn't the defined one ends the command.
 fn said_by(checked: Checked) -> Result<(), Stop>
     ensures same { OnOk result (said_by checked ≡ Ok same_text) }
     ensures stop { IfErr result (IsStopOf (said_by checked)) }
@@ -166,8 +166,8 @@ fn said_by(checked: Checked) -> Result<(), Stop>
 ///
 /// # Errors
 ///
-/// Where they differ, with the line; where the trace isn't there or can't be read; NoMemory where
-/// memory was refused.
+/// If they differ, with the line; if the trace isn't there or can't be read; `NoMemory` if memory
+/// ran out.
 pub fn compare_alone<F: Files>(
     alloc: Global,
     alone: Alone,

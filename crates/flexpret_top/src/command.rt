@@ -46,7 +46,7 @@ use section_visits::setups::{
 use std::alloc::Global;
 use trace_print::{Refusal, refusal_line};
 
-/// Puts the line of a refusal.
+/// Writes the line of a refusal.
 fn refuse<K: Sink>(refusal: &Refusal, out: &mut K) -> Status
     ensures counted { K.faults out.old ≤ K.faults out.new }
     ensures ends { Ends (Stop.Refused refusal.now) (K.faults out.old) (K.faults out.new)
@@ -59,7 +59,7 @@ fn refuse<K: Sink>(refusal: &Refusal, out: &mut K) -> Status
     }
 }
 
-/// Puts the line of a trace that isn't the defined one.
+/// Writes the line of a trace that isn't the defined one.
 fn tell_difference<K: Sink>(line: u64, out: &mut K) -> Status
     ensures counted { K.faults out.old ≤ K.faults out.new }
     ensures ends { Ends (Stop.Differs line) (K.faults out.old) (K.faults out.new)
@@ -148,8 +148,8 @@ fn answer<F: Files, K: Sink>(
     }
 }
 
-/// The laws by which one thread's trace and visits don't hang on what the others run, by which
-/// an accepted setup keeps the rules, and by which the image of an executable is read back.
+/// The theorems for the contract: one thread's trace and visits don't depend on the other threads'
+/// code, an accepted setup keeps the rules, and the image of an executable reads back.
 fn laws()
     ensures rules { AcceptedKeepRules }
     ensures alone { TraceAlone }
@@ -178,40 +178,39 @@ fn laws()
     reads_back();
 }
 
-/// Answers the command that the words ask, with `words` as the words after the program's name, and
-/// `ports` as the eight devices, or none, at the ports of the threads:
+/// Runs the command of a command line. `words` has the arguments after the program's name, and
+/// `ports` has the eight devices, or none, at the ports of the threads:
 ///
 /// - `run SETUP --thread i --cycles n`: the lines of the thread's events that have retired after n
 ///   cycles;
-/// - `dump SETUP --cycles n`: what is seen of the machine then;
+/// - `dump SETUP --cycles n`: the observed state of the machine then;
 /// - `asm SOURCE`: the image of a source;
-/// - `solo SETUP --thread i --cycles n`: the lines of the thread's events by its view alone, of a
+/// - `solo SETUP --thread i --cycles n`: the lines of the thread's events from only its view, for a
 ///   confined thread that starts hard and awake;
-/// - `check SETUP --thread i --cycles n --trace FILE`: `same` where a recorded trace has these
-///   lines;
+/// - `check SETUP --thread i --cycles n --trace FILE`: `same` if a recorded trace has these lines;
 /// - `bound SETUP --thread i --from a --to b`: the largest number of cycles from a section's first
-///   issue to the last, over all walks that keep the loops' bounds;
+///   issue to the last, over all paths that keep the loops' bounds;
 /// - `selfrun NUMBER`: what the eight threads did in a run of programs that the number draws;
 /// - `phases SETUP --cycles n`: the settings of slots and modes in n cycles, each with the first
-///   cycle that is picked by it: the first one, and that of each write of them that has retired;
+///   cycle that is picked by it: the first one, and one for each write of them that has retired;
 /// - `elf FILE`: the image of a static ELF32 executable;
 /// - `calls SETUP --thread i --from a --to b --routines FILE`: the largest number of cycles from a
-///   section's first issue to the last, over all walks that keep the loops' bounds, go through the
-///   routines that the file lists, and come back to where they called them.
+///   section's first issue to the last, over all paths with matching calls and returns that go
+///   through the routines of the file and keep the loops' bounds.
 ///
-/// It answers the status of the command:
+/// Returns the status of the command:
 ///
 /// - 0: the command's text was written;
-/// - 1: the recorded trace isn't the defined one; the line that tells where was written;
-/// - 2: the words ask no command; nothing was fetched, and nothing written;
-/// - 3: the setup has a fault, the section asked for is none, or the thread asked for isn't hard
-///   and awake, has no slot or isn't confined; the refusal line was written;
+/// - 1: the recorded trace isn't the defined one; the line with the place was written;
+/// - 2: usage error; nothing was fetched, and nothing written;
+/// - 3: the setup has a fault, the section's addresses aren't those of a section, or the thread
+///   isn't hard and awake, has no slot or isn't confined; the refusal line was written;
 /// - 4: the image or the executable has a fault; its refusal line was written;
 /// - 5: the source has a fault; its refusal line was written;
 /// - 6: the section has no bound, or one past 64 bits; the refusal line was written;
 /// - 7: a file isn't there, or it could not be read; nothing was written;
 /// - 8: the sink failed; a prefix of the text or refusal line was written;
-/// - 9: memory was refused; nothing was written;
+/// - 9: memory ran out; nothing was written;
 /// - 10: the list of routines has a fault; its refusal line was written.
 pub fn flexpret<F: Files, K: Sink>(
     alloc: Global,

@@ -1,4 +1,4 @@
-//! What was prepared, written to the sink.
+//! Writes the prepared text to the sink.
 
 ghost use Rattle.std.specs.Prelude.{◌≡◌, ◌⊎◌, ◌≤◌, ◌<◌, OnOk, OnErr, vec_len};
 ghost use Rattle.fp_io.specs.Causes.{Rose};
@@ -26,7 +26,7 @@ use machine::Machine;
 use phase_log::run_phases;
 use trace_print::bound_line;
 
-/// Does so many cycles, and puts nothing.
+/// Runs so many cycles, and writes nothing.
 fn go(machine: &mut Machine, cycles: u64, ports: &mut Ports)
     requires start { machine.old.at ≡ 0 }
     requires limit { cycles ≤ most_cycles }
@@ -43,7 +43,7 @@ fn go(machine: &mut Machine, cycles: u64, ports: &mut Ports)
     }
 }
 
-/// Runs a machine, and puts the lines of a thread's events.
+/// Runs a machine, and writes the lines of a thread's events.
 fn put_trace<K: Sink>(
     ready: Ready,
     thread: u8,
@@ -68,7 +68,7 @@ fn put_trace<K: Sink>(
     machine.run(ready.cycles, thread, ports, out)
 }
 
-/// Runs a machine, and puts its dump.
+/// Runs a machine, and writes its dump.
 fn put_dump<K: Sink>(ready: Ready, ports: &mut Ports, out: &mut K) -> Result<(), PutFailed>
     requires eight { vec_len ports.old ≡ 8 }
     ensures ok { OnOk result (WritesAll (Prepared.Dump ready)
@@ -86,7 +86,7 @@ fn put_dump<K: Sink>(ready: Ready, ports: &mut Ports, out: &mut K) -> Result<(),
     machine.dump(ports, out)
 }
 
-/// Runs a machine, and puts the lines of its settings.
+/// Runs a machine, and writes the lines of its settings.
 fn put_phases<K: Sink>(ready: Ready, ports: &mut Ports, out: &mut K) -> Result<(), PutFailed>
     requires eight { vec_len ports.old ≡ 8 }
     ensures ok { OnOk result (WritesAll (Prepared.Phases ready)
@@ -105,7 +105,7 @@ fn put_phases<K: Sink>(ready: Ready, ports: &mut Ports, out: &mut K) -> Result<(
     run_phases(&ready.setup, &mut machine, ready.cycles, ports, out)
 }
 
-/// Writes what was prepared.
+/// Writes the prepared text.
 pub fn deliver<K: Sink>(prepared: Prepared, ports: &mut Ports, out: &mut K) -> Result<(), PutFailed>
     requires thread { IsThread prepared }
     requires eight { vec_len ports.old ≡ 8 }

@@ -1,8 +1,8 @@
-//! The program as one call, over files, a sink, the words of the command line and eight ports.
+//! The program as one call, over files, a sink, the arguments of the command line and eight ports.
 //!
-//! It hands on what a caller of [`flexpret`] needs: the files, the sinks and the ports, and the
-//! theorems that its contract is used with, on traces, settings and visits. Each theorem is the
-//! contract of a call that does nothing.
+//! It re-exports the items that a caller of [`flexpret`] needs: the files, the sinks and the ports,
+//! and the theorems that its contract is used with, on traces, settings and visits. Each theorem is
+//! the contract of a call that does nothing.
 #![tactic(auto)]
 
 mod alone;

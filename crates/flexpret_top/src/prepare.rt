@@ -1,4 +1,4 @@
-//! What a command will write, before the first byte of it is written.
+//! Prepares a command's text, before its first byte is written.
 
 ghost use Rattle.std.specs.Prelude.{◌≡◌, ◌≢◌, ◌⊎◌, ◌≤◌, ◌<◌, ℕ, false, [], ◌∷◌, Err, IfOk};
 ghost use Rattle.std.specs.Prelude.{IfErr, OnOk, OnErr, IfSome, List, Option, length, vec_len};
@@ -110,8 +110,8 @@ fn ready<F: Files>(
 
 /// `run SETUP --thread i --cycles n`
 ///
-/// `dump` and `phases` differ from it in the command that their clauses name. One function for the
-/// three would take the command and what to make of the machine, and match on both.
+/// `dump` and `phases` differ from it in the command of their clauses. One function for the three
+/// would take the command and the kind of output, and match on both.
 fn trace<F: Files>(
     alloc: Global,
     setup: &Name,
@@ -379,7 +379,7 @@ fn own_run(alloc: Global, number: u32) -> Result<Prepared, Stop>
     Ok(Prepared::Selfrun(Selfrun::new(alloc, number)?))
 }
 
-/// What a command will write, with the ports fed where it runs the machine.
+/// Prepares a command's text, and feeds the ports if it runs the machine.
 pub fn prepare<F: Files>(
     alloc: Global,
     ask: &Ask,

@@ -9,7 +9,7 @@ use machine::Machine;
 use selfrun::Selfrun;
 use solo_run::SoloView;
 
-/// A setup, its machine at its start, and the number of cycles that are asked for.
+/// A setup, its machine at its start, and the requested number of cycles.
 #[derive(Drop)]
 pub struct Ready {
     pub setup: Setup,
@@ -19,7 +19,7 @@ pub struct Ready {
     ghost limit: { cycles ≤ most_cycles },
 }
 
-/// A thread's view, the setup that it is of, and the number of cycles that are asked for.
+/// A thread's view, the setup of the view, and the requested number of cycles.
 #[derive(Drop)]
 pub struct Alone {
     pub setup: Setup,
@@ -29,7 +29,7 @@ pub struct Alone {
     ghost limit: { cycles ≤ most_cycles },
 }
 
-/// What a command will write.
+/// The text that a command will write, prepared.
 #[derive(Drop)]
 pub enum Prepared {
     /// The lines of a thread's events.
@@ -38,7 +38,7 @@ pub enum Prepared {
     Dump(Ready),
     /// The lines of the settings of the scheduling.
     Phases(Ready),
-    /// The lines of a thread's events, from its view alone.
+    /// The lines of a thread's events, from only its view.
     Solo(Alone),
     /// The line of a trace that is the defined one.
     Same,

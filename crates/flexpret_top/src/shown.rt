@@ -1,4 +1,4 @@
-//! What a run of one thread alone finds at the thread's port.
+//! The words at the port of a thread that runs alone.
 
 ghost use Rattle.std.specs.Prelude.{◌≡◌, Option, List, find, map, nat_le, option_copied, reverse};
 ghost use Rattle.fp_ports.specs.PluggedPorts.{Row, row_of, word_seen};
@@ -10,13 +10,13 @@ use fp_ports::{ABSENT_WORD, Port};
 use fp_setup::{Input, Inputs, ThreadSetup};
 use solo_run::Shown;
 
-/// A thread's port that is read, and neither fed nor written: before what the device shows come the
-/// setup's inputs, and from its unplugging on it isn't there.
+/// A thread's port that is only read, not fed or written. The setup's inputs come before the words
+/// of the device. From its unplugging on the port isn't there.
 #[derive(Drop)]
 pub struct ReadPort<'a> {
-    /// What stands at the port.
+    /// The device at the port.
     pub device: Option<Box<dyn Port>>,
-    /// What the setup says of the thread: its inputs and its unplugging.
+    /// The thread's settings: its inputs and its unplugging.
     pub thread: &'a ThreadSetup,
 }
 
@@ -35,7 +35,7 @@ impl Shown for ReadPort<'_> {
     }
 }
 
-/// The word that a thread with a device at its port finds there in a cycle.
+/// The word that a thread with a device at its port reads there in a cycle.
 fn word_beside(device: &mut Option<Box<dyn Port>>, thread: &ThreadSetup, at: u64) -> u32
     ensures value { result ≡ shown_at (row_of latched word_at device.old)
         (inputs_of thread.now) thread.now.unplug at }
@@ -50,7 +50,7 @@ fn word_beside(device: &mut Option<Box<dyn Port>>, thread: &ThreadSetup, at: u64
     }
 }
 
-/// Whether an issue of cycle `at` finds no port, by the cycle from which on that is so.
+/// Whether an issue of cycle `at` finds no port; `unplug` is the first cycle without one.
 fn is_gone(unplug: Option<u64>, at: u64) -> bool
     ensures { result ≡ is_gone unplug at }
 {
