@@ -105,7 +105,7 @@ pub record IsFedInPart (files : FileMap) (name : List ℕ)
 abbrev pub IsUnrun : FileMap → List ℕ → List (Option Row) → List (Option Row) → Type 0
 IsUnrun files name before after = (after ≡ before) ⊎ IsFedInPart files name before after
 
--- the ports if memory ran out, or a device failed to be fed
+-- the ports if memory ran out, or a device refused an input
 abbrev pub LeavesFedInPart : Ask → FileMap → List (Option Row) → List (Option Row) → Type 0
 LeavesFedInPart (Run setup thread cycles) files before after = IsUnrun files setup before after
 LeavesFedInPart (Dump setup cycles) files before after = IsUnrun files setup before after

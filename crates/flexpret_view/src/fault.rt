@@ -8,11 +8,11 @@ use trace_print::Refusal;
 /// Why nothing, or not all, was shown.
 #[derive(Clone, Copy)]
 pub enum Fault {
-    /// The words ask nothing.
+    /// Usage error.
     Usage,
-    /// The words ask nothing, which was told.
+    /// Usage error, already reported.
     Told,
-    /// No cycle is to be shown.
+    /// The window has no cycle.
     EmptyWindow,
     /// A picture of too many cycles.
     WidePicture,
@@ -20,14 +20,14 @@ pub enum Fault {
     Refused(Refusal),
     /// A file isn't there, or could not be read.
     Read,
-    /// What was asked for could not be written whole.
+    /// The requested view could not be written whole.
     Write,
-    /// Memory was refused.
+    /// Memory ran out.
     NoMemory,
 }
 
 impl Fault {
-    /// The status of the program, which is that of `flexpret` for the same fault.
+    /// The status of the program, the same as `flexpret`'s for the same fault.
     pub fn status(&self) -> Status {
         match self {
             Fault::Usage | Fault::Told | Fault::EmptyWindow | Fault::WidePicture => Status::Usage,
@@ -38,7 +38,7 @@ impl Fault {
         }
     }
 
-    /// The line that standard error gets, if it gets one.
+    /// The line for standard error, if there is one.
     pub fn complaint(&self) -> Option<&'static str> {
         match self {
             Fault::Usage => Some("flexpret_view: usage"),

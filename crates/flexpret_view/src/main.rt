@@ -23,8 +23,8 @@ use std::process::ExitCode;
 use std::{env, fs, io};
 use trace_print::refusal_line;
 
-/// The words of the command line. A word that isn't UTF-8 is no word of a command. Unlike those of
-/// `flexpret_cli` they have the program's name, which the parser's texts show.
+/// The arguments of the command line. An argument that isn't UTF-8 is a usage error. Unlike those
+/// of `flexpret_cli` they include the program's name, which the parser's texts show.
 fn read_args(rt: HostRuntime) -> Result<Vec<String>, Fault> {
     match env::args(&rt) {
         Ok(args) => Ok(args.collect(rt.alloc())?),
@@ -33,7 +33,7 @@ fn read_args(rt: HostRuntime) -> Result<Vec<String>, Fault> {
     }
 }
 
-/// Runs a machine, and writes what is asked for to a writer, while it is told how far the run is.
+/// Runs a machine, writes the requested view to a writer, and shows the progress of the run.
 fn write_view<W: Write>(
     rt: HostRuntime,
     ask: &Ask<'_>,
@@ -51,7 +51,7 @@ fn write_view<W: Write>(
     out.flush()
 }
 
-/// Runs a machine, and writes what is asked for to a writer through a buffer.
+/// Runs a machine, and writes the requested view to a writer through a buffer.
 fn write_buffered<W: Write + Drop>(
     rt: HostRuntime,
     ask: &Ask<'_>,
@@ -66,7 +66,7 @@ fn write_buffered<W: Write + Drop>(
     write_view(rt, ask, machine, ports, &mut out)
 }
 
-/// Runs a machine, and writes what is asked for to the file that is asked for.
+/// Runs a machine, and writes the requested view to the requested file.
 fn write_asked(
     rt: HostRuntime,
     ask: &Ask<'_>,
@@ -84,8 +84,8 @@ fn write_asked(
     }
 }
 
-/// Runs the machine of a program from its start, its inputs fed to the ports, and answers what is
-/// asked.
+/// Runs the machine of a program from its start, with its inputs fed to the ports, and writes the
+/// requested view.
 fn run_program(
     rt: HostRuntime,
     ask: &Ask<'_>,
@@ -105,7 +105,7 @@ fn load_file(rt: HostRuntime, setup: &str) -> Result<Program, Stop> {
     load(rt.alloc(), &name, &mut RealFiles::new(rt))
 }
 
-/// Answers what is asked, beside these devices.
+/// Writes the requested view, with these devices.
 fn answer_beside(rt: HostRuntime, ask: &Ask<'_>, ports: &mut Ports) -> Result<(), Fault>
     requires { vec_len ports.old ≡ 8 }
 {
@@ -113,7 +113,8 @@ fn answer_beside(rt: HostRuntime, ask: &Ask<'_>, ports: &mut Ports) -> Result<()
     run_program(rt, ask, &program, ports)
 }
 
-/// Answers what is asked, beside a device at each of the eight ports that shows 0 until it is fed.
+/// Writes the requested view, with a device at each of the eight ports that shows 0 until it is
+/// fed.
 fn answer(rt: HostRuntime, ask: &Ask<'_>) -> Result<(), Fault> {
     let alloc = rt.alloc();
     let mut ports: Ports = Vec::new(alloc);
@@ -123,8 +124,8 @@ fn answer(rt: HostRuntime, ask: &Ask<'_>) -> Result<(), Fault> {
     answer_beside(rt, ask, &mut ports)
 }
 
-/// Tells why the words ask nothing, where the parser has a text. Where that text is its help, all
-/// is well.
+/// Reports why the arguments are no command, with the parser's text if it has one. If that text is
+/// its help, there is no fault.
 fn tell_no(rt: HostRuntime, no: &WordsNo) -> Result<(), Fault> {
     match no {
         WordsNo::Told(error) => {
@@ -141,7 +142,7 @@ fn tell_no(rt: HostRuntime, no: &WordsNo) -> Result<(), Fault> {
     }
 }
 
-/// Answers what the words of the command line ask.
+/// Runs the command of the command line.
 fn run(rt: HostRuntime) -> Result<(), Fault> {
     let words = read_args(rt)?;
     match read_words(rt.alloc(), &words) {
@@ -150,7 +151,7 @@ fn run(rt: HostRuntime) -> Result<(), Fault> {
     }
 }
 
-/// Tells a fault: a refusal on standard output, as `flexpret` does, and others on standard error.
+/// Reports a fault: a refusal on standard output, as `flexpret` does, and others on standard error.
 fn tell(rt: HostRuntime, fault: &Fault) -> Status {
     if let Fault::Refused(refusal) = fault {
         if rt.print(refusal_line(refusal).as_str()).is_err() {

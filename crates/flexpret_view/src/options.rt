@@ -1,4 +1,4 @@
-//! The commands, arguments and options that the words of the command line may give.
+//! The commands, arguments and options of the command line.
 
 use clap::builder::ValueParser;
 use clap::{Arg, ArgGroup, Command};
@@ -14,7 +14,7 @@ const ALL: &str = "all";
 /// The values of `--progress`.
 const UNTILS: [&str; 2] = [BEFORE, ALL];
 
-/// What `--help` says behind the options.
+/// The text of `--help` after the options.
 const AFTER: &str = "The cycles from `from` on are shown, up to the one before `to`. \
 Without --konata, --vcd and --svg they are shown as text; FILE is `-` for standard output. \
 A picture has at most 2000 cycles. \
@@ -23,21 +23,21 @@ With `--progress before` it is told how far the run is while standard output get
 The program is proved to be safe and to end. Nothing is proved of what it shows; it reads the \
 machine that `flexpret` runs.";
 
-/// What an argument takes.
+/// The kind of an argument's value.
 #[derive(Clone, Copy)]
 enum Takes {
-    /// The name of the setup, which has to be given, without the argument's name before it.
+    /// The name of the setup, which is required, without the argument's name before it.
     Setup,
-    /// A cycle, which has to be given.
+    /// A cycle, which is required.
     Cycle,
-    /// The name of the file that gets a form.
+    /// The name of the file for a form.
     File,
-    /// Until when it is told how far the run is.
+    /// Until when progress is shown.
     Until,
 }
 
 impl Takes {
-    /// What help calls the value.
+    /// The value's name in the help.
     fn value_name(self) -> &'static str {
         match self {
             Takes::Setup => "SETUP",
@@ -47,12 +47,12 @@ impl Takes {
         }
     }
 
-    /// Whether an argument that takes it has to be given.
+    /// Whether an argument of this kind is required.
     fn is_required(self) -> bool {
         matches!(self, Takes::Setup | Takes::Cycle)
     }
 
-    /// What the value has to be.
+    /// The parser of the value.
     fn parser(self) -> ValueParser<'static> {
         match self {
             Takes::Cycle => ValueParser::Unsigned(0, Window::MOST),
@@ -67,13 +67,13 @@ impl Takes {
 struct ArgumentRow {
     /// Its name, without the hyphens of an option.
     name: &'static str,
-    /// What it takes.
+    /// The kind of its value.
     takes: Takes,
-    /// What help says of it.
+    /// Its help text.
     help: &'static str,
 }
 
-/// The arguments of `turns`, in the order in which help has them.
+/// The arguments of `turns`, in the order of the help.
 const TURNS_ARGUMENTS: [ArgumentRow; 7] = [
     ArgumentRow {
         name: "setup",
@@ -112,7 +112,7 @@ const TURNS_ARGUMENTS: [ArgumentRow; 7] = [
     },
 ];
 
-/// The options that name the file of a form: one of them is given at most.
+/// The options for the file of a form: at most one of them is given.
 const FORMS: [&str; 3] = ["konata", "vcd", "svg"];
 
 /// The argument of a row.
@@ -128,7 +128,7 @@ fn argument<'a>(alloc: Global, row: &ArgumentRow) -> Arg<'a> {
     }
 }
 
-/// The group of the options of which one is given at most.
+/// The group of these options, of which at most one is given.
 fn forms_group<'a>(alloc: Global) -> Result<ArgGroup<'a>, AllocError> {
     let names: &[&'a str] = &FORMS;
     ArgGroup::new(alloc, "form").args(names)
@@ -163,7 +163,7 @@ fn bare_program<'a>(alloc: Global) -> Command<'a> {
 ///
 /// # Errors
 ///
-/// Where memory was refused.
+/// If memory ran out.
 pub fn commands<'a>(alloc: Global) -> Result<Command<'a>, AllocError> {
     let turns = turns_command(alloc)?;
     bare_program(alloc).subcommand(turns)

@@ -1,11 +1,11 @@
-//! A line on standard error that tells how far a run is.
+//! A line on standard error with the progress of a run.
 
 use pipe_view::{Progress, Window};
 
 /// More blanks than a line has characters, which are 52 at most.
 const BLANKS: &str = "                                                            ";
 
-/// Until when it is told how far a run is.
+/// Until when progress is shown.
 #[derive(Clone, Copy, PartialEq, Eq)]
 pub enum Telling {
     /// Never.
@@ -16,20 +16,20 @@ pub enum Telling {
     All,
 }
 
-/// A line that takes the place of the one before it. Standard error is written as far as it takes
-/// it: what it refuses is lost, and the run goes on.
+/// A line that replaces the one before it. Output that standard error refuses is lost, and the run
+/// goes on.
 #[derive(Drop)]
 pub struct ProgressLine {
     rt: HostRuntime,
     telling: Telling,
     /// How many cycles the run has.
     cycles: u64,
-    /// Whether a line stands there.
+    /// Whether a line is shown.
     stands: bool,
 }
 
 impl ProgressLine {
-    /// A line that isn't there yet, for a run that shows a window.
+    /// A line that isn't shown yet, for a run that shows a window.
     pub fn new(rt: HostRuntime, telling: Telling, window: &Window) -> ProgressLine {
         ProgressLine {
             rt,
@@ -39,7 +39,7 @@ impl ProgressLine {
         }
     }
 
-    /// Takes the line away, if one stands there.
+    /// Removes the line, if one is shown.
     pub fn clear(&mut self) {
         if self.stands {
             let _ = eprint!(self.rt; "\r{BLANKS}\r");

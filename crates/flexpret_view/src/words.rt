@@ -1,4 +1,4 @@
-//! What the words of the command line ask.
+//! The command of the command line.
 
 use crate::options::{BEFORE, commands};
 use crate::progress::Telling;
@@ -10,10 +10,10 @@ use std::alloc::Global;
 /// The most columns of a picture.
 const MOST_COLUMNS: u64 = 2000;
 
-/// The file name that stands for standard output.
+/// The file name for standard output.
 pub const STANDARD_OUTPUT: &str = "-";
 
-/// What is asked.
+/// A command.
 #[derive(Clone, Copy)]
 pub struct Ask<'a> {
     /// The file name of the setup.
@@ -24,22 +24,22 @@ pub struct Ask<'a> {
     pub form: Form,
     /// The file that gets it; `-` for standard output.
     pub file: &'a str,
-    /// Until when it is told how far the run is.
+    /// Until when progress is shown.
     pub telling: Telling,
 }
 
-/// Why the words ask nothing.
+/// Why the arguments are no command.
 #[derive(Drop)]
 pub enum WordsNo {
-    /// The parser says what is wrong, or shows its help.
+    /// The parser reports what is wrong, or shows its help.
     Told(Error),
-    /// They name no command, or leave out what it needs.
+    /// They name no command, or leave out what it requires.
     Usage,
-    /// No cycle is to be shown.
+    /// The window has no cycle.
     EmptyWindow,
     /// A picture of more cycles than it has columns.
     WidePicture,
-    /// Memory was refused.
+    /// Memory ran out.
     NoMemory,
 }
 
@@ -52,7 +52,7 @@ impl From<Error> for WordsNo {
     }
 }
 
-/// The form that is asked for, and its file.
+/// The requested form, and its file.
 fn form_of<'a>(matches: &ArgMatches<'a>) -> (Form, &'a str) {
     if let Some(file) = matches.get_str("konata") {
         (Form::Konata, file)
@@ -65,7 +65,7 @@ fn form_of<'a>(matches: &ArgMatches<'a>) -> (Form, &'a str) {
     }
 }
 
-/// Until when it is told how far the run is, whose view goes to a file.
+/// Until when progress is shown. For a view that goes to a file, this is the end of the run.
 fn telling_of(matches: &ArgMatches<'_>, file: &str) -> Telling {
     match matches.get_str("progress") {
         None => Telling::Never,
@@ -79,14 +79,13 @@ fn cycle_of(matches: &ArgMatches<'_>, option: &str) -> Result<u64, WordsNo> {
     matches.get_one::<u64>(option).ok_or(WordsNo::Usage)
 }
 
-/// The cycles that the words of `turns` give, of which the parser takes none that is past the last
-/// one of a window.
+/// The window of the arguments of `turns`. The parser refuses cycles past the last one of a window.
 fn window_of(matches: &ArgMatches<'_>) -> Result<Window, WordsNo> {
     let (from, to) = (cycle_of(matches, "from")?, cycle_of(matches, "to")?);
     Window::new(from, to).ok_or(WordsNo::EmptyWindow)
 }
 
-/// What the words of `turns` ask, where its form can show its cycles.
+/// The command of the arguments of `turns`, if its form can show its cycles.
 fn asked<'a>(matches: &ArgMatches<'a>) -> Result<Ask<'a>, WordsNo> {
     let setup = matches.get_str("setup").ok_or(WordsNo::Usage)?;
     let window = window_of(matches)?;
@@ -103,18 +102,18 @@ fn asked<'a>(matches: &ArgMatches<'a>) -> Result<Ask<'a>, WordsNo> {
     })
 }
 
-/// What the parser makes of the words.
+/// The parser's matches for the arguments.
 fn parsed<'a>(alloc: Global, words: &'a [String]) -> Result<ArgMatches<'a>, Error> {
     commands(alloc)?.try_get_matches_from(words)
 }
 
-/// What the words of the command line ask, the program's name first.
+/// The command of the command line, which begins with the program's name.
 ///
 /// # Errors
 ///
-/// Told with the parser's text where they don't fit the options, or ask for help; EmptyWindow where
-/// `from` isn't below `to`, and WidePicture where a picture is asked for of more cycles than 2,000;
-/// NoMemory where memory was refused.
+/// `Told` with the parser's text if the arguments don't fit the options, or request help; `Usage`
+/// if they name no command or lack what it requires; `EmptyWindow` if `from` isn't below `to`;
+/// `WidePicture` if a picture of more than 2,000 cycles is requested; `NoMemory` if memory ran out.
 pub fn read_words<'a>(alloc: Global, words: &'a [String]) -> Result<Ask<'a>, WordsNo> {
     let matches = parsed(alloc, words)?;
     match matches.subcommand_matches("turns") {

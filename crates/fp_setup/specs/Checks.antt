@@ -18,7 +18,7 @@ use Rattle.fp_setup.specs.Values.{number, as_list, pair, input_of}
 abbrev pub Check : Type 0
 Check = Place → Data → Option Fault
 
--- the type comes first, and then what else is asked of the value
+-- the type comes first, and then the other requirements of the value
 abbrev pub typed : {A : Type 0} → Place → Option A → (A → Option Fault) → Option Fault
 typed place None check = fault no.WrongType place
 typed place (Some x) check = check x
@@ -81,7 +81,7 @@ eight_fault words place ds =
 unfoldable pub eight_check : Words → Check
 eight_check words place d = typed place (as_list d) (eight_fault words place)
 
--- an input, of which the one before has that cycle: a later cycle and a word
+-- an input after one with that cycle: a later cycle and a word
 abbrev pub is_after : Option ℕ → ℕ → Bool
 is_after None at = true
 is_after (Some before) at = nat_lt before at

@@ -18,8 +18,8 @@ use Rattle.fp_setup.specs.Values.{members, number_at, truth_at}
 use Rattle.fp_setup.specs.Checks.{Check, integer_check, fresh_check, bytes_check, word_check}
 use Rattle.fp_setup.specs.Checks.{truth_check, permit_check, eight_check, inputs_fault, list_check}
 
--- what stands around a value: the bytes of each scratchpad, the table that holds the value, and the
--- ids of the threads before
+-- the context of a value: the bytes of each scratchpad, the table that holds the value, and the ids
+-- of the threads before
 pub record Around : Type 0 where
   pub size : ℕ
   pub table : Members
@@ -31,7 +31,7 @@ integers low high = record { low = low; high = high; step = 1 }
 abbrev pub addresses : ℕ → ℕ → Range
 addresses low size = record { low = low; high = size - 4; step = 4 }
 
--- the check of a value of a kind, but for the tables of threads and loops
+-- the check of a value of a kind, except for the tables of threads and loops
 abbrev pub value_check : Around → Kind → Check
 value_check around (Integer low high) = integer_check (integers low high)
 value_check around (Fresh low high) = fresh_check (integers low high) around.ids
@@ -69,7 +69,7 @@ has_other_key known (member k d ms) =
 unfoldable pub unknown_fault : List Text → Place → Members → Option Fault
 unknown_fault known table ms = if has_other_key known ms then fault no.UnknownKey table else None
 
--- a table: keys that it doesn't know first, and then its keys
+-- a table: first its unknown keys, and then its keys
 abbrev pub table_fault : (Kind → Check) → List Key → Place → Members → Option Fault
 table_fault check keys table ms =
     first (unknown_fault (names keys) table ms) (keys_fault check table 1 keys ms)
@@ -92,7 +92,7 @@ abbrev pub loop_fault : ℕ → Place → Option Members → Option Fault
 loop_fault size row None = fault no.WrongType row
 loop_fault size row (Some ms) = loop_table_fault size row ms
 
--- the id that a thread's table names
+-- the id in a thread's table
 abbrev pub id_of : Data → ℕ
 id_of d = number_at (codes "id") (members d)
 
@@ -121,7 +121,7 @@ top_check around (Threads most) = list_check most (threads_fault around.size)
 top_check around (Loops most) = list_check most (loops_fault around.size)
 top_check around kind = value_check around kind
 
--- the first fault of the top table; its version tells the size of the scratchpads
+-- the first fault of the top table; its version determines the size of the scratchpads
 unfoldable pub top_fault : ℕ → Members → Option Fault
 top_fault size ms =
     table_fault (top_check (record { size = size; table = ms; ids = [] })) top_keys top ms

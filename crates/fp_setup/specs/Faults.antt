@@ -26,7 +26,7 @@ abbrev pub element_of : Place → ℕ → Place
 element_of value index =
     record { table = value.table; row = value.row; key = value.key; item = index + 1 }
 
--- a fault with its place, and the answer of a check that finds it
+-- a fault with its place, and the result of a check that finds it
 abbrev pub fault_at : SetupNo → Place → Fault
 fault_at code place = record { code = code; place = place }
 

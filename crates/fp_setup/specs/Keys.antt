@@ -15,7 +15,7 @@ pub data Kind : Type 0 where
   Fresh : ℕ → ℕ → Kind
   -- the address of a word of a scratchpad: a multiple of 4 from 0 to the scratchpad's last word
   Address : Kind
-  -- the same, but from the value of that key of the table on
+  -- the same, but no less than the value of that key of the table
   AddressFrom : Text → Kind
   -- a text of so many bytes, from the first number to the second
   Bytes : ℕ → ℕ → Kind
@@ -25,7 +25,7 @@ pub data Kind : Type 0 where
   Eight : Words → Kind
   -- a truth value
   Truth : Kind
-  -- a truth value, not true beside the other key of the table
+  -- a truth value, not true together with the other key of the table
   TruthWithout : Text → Kind
   -- a list of pairs of a cycle and a word, with at most so many
   Inputs : ℕ → Kind
@@ -33,7 +33,7 @@ pub data Kind : Type 0 where
   Threads : ℕ → Kind
   Loops : ℕ → Kind
 
--- a key of a table: its name, what its value is, and whether it has to be there
+-- a key of a table: its name, the kind of its value, and whether it is required
 pub record Key : Type 0 where
   pub name : Text
   pub kind : Kind

@@ -3,7 +3,7 @@ use Rattle.std.specs.Prelude.{ℕ, ◌≡◌, ◌%◌, ◌≤◌, List, length}
 use Rattle.std.specs.List.{All}
 use Rattle.fp_setup.specs.declared.loop_list.LoopSetup.{LoopSetup}
 
--- the largest bound of a loop: how often it may go back to its head for one entry
+-- the largest bound of a loop: how often its back edges may be taken for one entry
 abbrev pub most_rounds : ℕ
 most_rounds = 1048576
 

@@ -13,12 +13,12 @@ keys_in table =
     else if table == 3 then length loop_keys
     else 0
 
--- its table and its key are there
+-- its table and its key exist
 pub record IsPlace (p : Place) : Type 0 where
   pub table : p.table ≤ 3
   pub key : p.key ≤ keys_in p.table
 
--- a refusal with such a place, or for want of memory
+-- a refusal with such a place, or because memory ran out
 abbrev pub HasPlace : SetupRefused → Type 0
 HasPlace (refused.Fault code place) = IsPlace place
 HasPlace refused.NoMemory = Unit {0}

@@ -1,4 +1,4 @@
--- What the tables of threads say, as the reader keeps it.
+-- The settings in the tables of threads, as the reader keeps them.
 use Rattle.std.specs.Prelude.{List}
 use Rattle.toml.specs.Data.{Members}
 use Rattle.fp_setup.specs.declared.thread_rows.ThreadRow.{ThreadRow}

@@ -4,10 +4,10 @@ use Rattle.region_guard.specs.MemoryMap.{small_size, large_size}
 use Rattle.fp_setup.specs.declared.thread_list.ThreadSetup.{ThreadSetup}
 use Rattle.fp_setup.specs.declared.loop_list.LoopSetup.{LoopSetup}
 
--- what a setup says
+-- the settings of a setup
 pub record Settings : Type 0 where
   pub version : ℕ
-  -- nanoseconds of a cycle
+  -- nanoseconds per cycle
   pub period : ℕ
   -- the words of the registers of slots, modes and regions
   pub slots : ℕ

@@ -1,4 +1,4 @@
--- The setup that the bytes of a file mean, or its first fault.
+-- The setup of a file's bytes, or its first fault.
 use Rattle.std.specs.Prelude.{◌≡◌, ℕ, List, length, nat_lt, Option}
 use Rattle.std.specs.Prelude.{Some, None, Result, Ok, Err, if◌then◌else◌}
 use Rattle.std.specs.Str.{is_utf8}
@@ -18,7 +18,7 @@ abbrev pub unless : {A : Type 0} → Option Fault → A → Result A Fault
 unless None value = Ok value
 unless (Some found) value = Err found
 
--- the table that the text is, where it is one: the text is UTF-8
+-- the table of a text, if the text is UTF-8 and a document
 abbrev pub document : List ℕ → Option Members
 document bytes = if is_utf8 bytes then parse_document bytes else None
 
@@ -34,13 +34,13 @@ setup_in (Some ms) = setup_of ms
 abbrev pub most_setup_bytes : ℕ
 most_setup_bytes = 262144
 
--- the setup that the bytes mean, or its first fault
+-- the setup of a file's bytes, or its first fault
 unfoldable pub setup : List ℕ → Result Settings Fault
 setup bytes =
     if nat_lt most_setup_bytes (length bytes) then Err (fault_at no.TooLong no_place)
     else setup_in (document bytes)
 
--- a refusal for another cause than memory is that fault
+-- a refusal, unless memory ran out, is that fault
 abbrev pub IsFaultOf : {A : Type 0} → Result A Fault → SetupRefused → Type 0
 IsFaultOf defined (refused.Fault code place) = defined ≡ Err (fault_at code place)
 IsFaultOf defined refused.NoMemory = Unit {0}

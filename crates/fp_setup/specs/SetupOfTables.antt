@@ -1,4 +1,4 @@
--- What the tables of an accepted setup say.
+-- The settings in the tables of an accepted setup.
 use Rattle.std.specs.Prelude.{ℕ, ◌+◌, ◌*◌, ◌==◌, false, List, [], ◌∷◌, Option}
 use Rattle.std.specs.Prelude.{None, map, find, unwrap_or, option_map, codes}
 use Rattle.std.specs.Option.{option_map_or}
@@ -17,7 +17,7 @@ abbrev pub word_of : ℕ → List ℕ → ℕ
 word_of base [] = 0
 word_of base (digit ∷ digits) = digit + base * word_of base digits
 
--- the number that a text of a list stands for
+-- the number of a text of a list
 unfoldable pub number_of_name : Words → Text → ℕ
 number_of_name words t = unwrap_or (number_of words t) 0
 
@@ -33,7 +33,7 @@ loop_of row = record {
   limit = number_at (codes "bound") row;
 }
 
--- the table of a thread: its id and mode, and what else it says
+-- the table of a thread: its id and mode, and its other settings
 abbrev pub id_at : Members → ℕ
 id_at row = number_at (codes "id") row
 
@@ -49,14 +49,14 @@ thread_setup row = record {
   inputs = map input_of (elements_at (codes "inputs") row);
 }
 
--- a thread that no table names: soft and asleep, from address 0 on
+-- a thread without a table: soft and asleep, from address 0 on
 abbrev pub default_thread : ThreadSetup
 default_thread = record { entry = 0; confined = false; permit = false; unplug = None; inputs = [] }
 
 abbrev pub unnamed_mode : ℕ
 unnamed_mode = 3
 
--- the table that names a thread, and what the tables say of each of the eight threads
+-- the table of a thread, and the settings of each of the eight threads
 abbrev pub table_of : List Members → ℕ → Option Members
 table_of rows thread = find (λ row. id_at row == thread) rows
 
@@ -79,7 +79,7 @@ rows_at name ms = map members (elements_at name ms)
 abbrev pub version_at : Members → ℕ
 version_at ms = option_map_or number (get_member (codes "version") ms) 1
 
--- what the top table says
+-- the settings of the top table
 unfoldable pub settings : Members → Settings
 settings ms = record {
   version = version_at ms;

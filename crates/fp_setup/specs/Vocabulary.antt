@@ -1,4 +1,4 @@
--- The texts that stand for slots, owners of regions and modes, with their numbers.
+-- The texts for slots, owners of regions and modes, with their numbers.
 use Rattle.std.specs.Prelude.{ℕ, Bool, true, nat_lt, List, [], ◌∷◌, ◌++◌}
 use Rattle.std.specs.Prelude.{Option, Some, None, if◌then◌else◌, codes}
 use Rattle.std.specs.Str.{bytes_eq}
@@ -33,7 +33,7 @@ refusal Slots = no.BadSlot
 refusal Owners = no.BadRegion
 refusal Modes = no.BadMode
 
--- the number of a text in a list, none where it isn't there
+-- the number of a text in a list, or none
 abbrev pub number_in : List (Text × ℕ) → Text → Option ℕ
 number_in [] text = None
 number_in (e ∷ es) text = if bytes_eq text e.0 then Some e.1 else number_in es text
@@ -41,13 +41,13 @@ number_in (e ∷ es) text = if bytes_eq text e.0 then Some e.1 else number_in es
 unfoldable pub number_of : Words → Text → Option ℕ
 number_of words text = number_in (entries words) text
 
--- what the texts of a list stand for
+-- whether a number is that of some text of a list
 abbrev pub is_value : Words → ℕ → Bool
 is_value Slots n = is_slot n
 is_value Owners n = is_owner n
 is_value Modes n = nat_lt n 4
 
--- a word of eight of these, in the register that holds them; modes stand there in two bits each
+-- a word of eight of these, in the register that holds them; modes have two bits each
 abbrev pub is_word : Words → ℕ → Bool
 is_word Slots word = is_table word
 is_word Owners word = is_regions word

@@ -1,12 +1,11 @@
-//! The name of a file, as the words of a command line and setups give it.
+//! The name of a file, as command lines and setups give it.
 
 ghost use Rattle.std.specs.Prelude.{◌≡◌, IfOk};
 
 use std::alloc::{AllocError, Global};
 use std::marker::Model;
 
-/// The name of a file, as it is written: any text, which is handed to the files as it stands.
-/// Contracts see its bytes.
+/// The name of a file: any text, which is handed to the files unchanged. Contracts see its bytes.
 #[derive(Drop)]
 pub struct Name {
     text: String,
@@ -25,7 +24,7 @@ impl Name {
     ///
     /// # Errors
     ///
-    /// Only where memory was refused.
+    /// Only if memory ran out.
     pub fn from_str(alloc: Global, s: &str) -> Result<Name, AllocError>
         ensures { IfOk result (λ name. name ≡ s.now) }
     {

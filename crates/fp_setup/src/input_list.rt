@@ -1,4 +1,4 @@
-//! What is fed to a thread's port.
+//! The inputs of a thread's port.
 
 ghost use Rattle.std.specs.Prelude.{◌≡◌};
 
@@ -14,8 +14,8 @@ pub struct Input {
 }
 
 /// The words that are fed to a thread's port: at most 4,096, their cycles strictly rising and at
-/// most 4,000,000,000. Contracts see the list. Each list with rules, as this one and [`Loops`], is
-/// a type of its own: its rules are its invariant, which a type parameter can't give.
+/// most 4,000,000,000. Contracts see the list. Each list with rules, like this one and [`Loops`],
+/// is a type of its own. Its rules are its invariant, which a type parameter can't give.
 ///
 /// [`Loops`]: crate::Loops
 #[derive(Drop)]

@@ -42,7 +42,7 @@ fn comes_after(before: Option<u64>, at: u64) -> bool
     }
 }
 
-/// An input, which comes after the one with a cycle.
+/// An input that comes after one with the cycle `before`.
 #[tactic(auto, unfolding(crate::specs::Checks::input_check, crate::specs::Values::input_of))]
 fn input(value: &Value, before: Option<u64>, place: Place) -> Result<Input, Fault>
     ensures read { IsRead result

@@ -58,14 +58,14 @@ pub(crate) fn no_other_key(table: &Table, keys: &[&str], place: Place) -> Result
     Ok(())
 }
 
-/// What stands under a key of a table.
+/// The value under a key of a table.
 pub(crate) fn member<'a>(table: &'a Table, key: &str) -> Option<&'a Value>
     ensures { option_map (λ v. view v.now) result ≡ get_member key.now (table_view table.now) }
 {
     table.get(key)
 }
 
-/// An integer that is needed.
+/// A required integer.
 #[tactic(auto, unfolding(crate::specs::FaultOrder::key_fault))]
 pub(crate) fn needed_integer(
     table: &Table,
@@ -85,7 +85,7 @@ pub(crate) fn needed_integer(
     }
 }
 
-/// An integer that may be absent.
+/// An optional integer.
 #[tactic(auto, unfolding(crate::specs::FaultOrder::key_fault))]
 pub(crate) fn optional_integer(
     table: &Table,
@@ -105,7 +105,7 @@ pub(crate) fn optional_integer(
     }
 }
 
-/// The word of eight texts of a list, which are needed.
+/// The word of eight texts of a list, which are required.
 #[tactic(auto, unfolding(crate::specs::FaultOrder::key_fault))]
 pub(crate) fn needed_eight(
     table: &Table,
@@ -124,7 +124,7 @@ pub(crate) fn needed_eight(
     }
 }
 
-/// The number of a text of a list, which is needed.
+/// The number of a text of a list, which is required.
 #[tactic(auto, unfolding(crate::specs::FaultOrder::key_fault))]
 pub(crate) fn needed_word(table: &Table, key: &str, words: Words, place: Place) -> Result<u8, Fault>
     ensures read { IsRead result
@@ -151,7 +151,7 @@ pub(crate) fn truth_or_false(table: &Table, key: &str, place: Place) -> Result<b
     }
 }
 
-/// A truth value, false where it is absent, that isn't true beside another.
+/// A truth value, false where it is absent, that isn't true together with another.
 #[tactic(auto, unfolding(crate::specs::FaultOrder::key_fault))]
 pub(crate) fn permit_or_false(
     table: &Table,
@@ -170,7 +170,7 @@ pub(crate) fn permit_or_false(
     }
 }
 
-/// A name of so many bytes, which is needed.
+/// A required name of so many bytes.
 #[tactic(auto, unfolding(crate::specs::FaultOrder::key_fault))]
 pub(crate) fn needed_name(
     alloc: Global,
@@ -194,7 +194,7 @@ pub(crate) fn needed_name(
     }
 }
 
-/// An integer that is needed, and isn't among those that are taken.
+/// A required integer that isn't among those that are taken.
 #[tactic(auto, unfolding(crate::specs::FaultOrder::key_fault))]
 pub(crate) fn needed_fresh(
     table: &Table,

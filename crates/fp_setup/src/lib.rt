@@ -1,7 +1,7 @@
 //! A setup file: period, slots, regions, threads with their inputs, and the loops with their
 //! bounds.
 //!
-//! A setup is a TOML document. [`read_setup`] answers the setup that it means, or its first fault
+//! A setup is a TOML document. [`read_setup`] returns the setup of a document, or its first fault
 //! with the fault's place, in the order of checks of `docs/FORMATS.md`.
 #![tactic(auto)]
 

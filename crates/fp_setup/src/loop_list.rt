@@ -4,7 +4,7 @@ ghost use Rattle.std.specs.Prelude.{◌≡◌};
 
 use std::marker::Model;
 
-/// A loop of a program, and how often it goes back to its head at most.
+/// A loop of a program, and how often its back edges are taken at most.
 #[derive(Clone, Copy, Debug)]
 pub struct LoopSetup {
     /// The address of the loop's first word.

@@ -1,4 +1,4 @@
-//! Words of eight digits, and the texts that stand for them.
+//! Words of eight digits, and the texts of the digits.
 
 ghost use Rattle.std.specs.Prelude.{◌≡◌, ◌<◌, ◌≤◌, ◌^◌, IfOk, length, map, true, nat_lt, IsTrue};
 ghost use Rattle.std.specs.List.{list_all};
@@ -63,7 +63,7 @@ pub(crate) fn word_of_modes(modes: &[u8; 8]) -> u32
     word_of_digits(4, modes)
 }
 
-/// The word that eight texts of a list stand for.
+/// The word of eight texts of a list.
 #[tactic(auto, using(crate::proofs::Digits::eight), unfolding(crate::proofs::Opened::eight))]
 pub(crate) fn eight(value: &Value, words: Words, place: Place) -> Result<u32, Fault>
     ensures read { IsRead result

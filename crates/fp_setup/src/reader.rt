@@ -1,4 +1,4 @@
-//! The setup that the bytes of a file mean.
+//! Reads the setup of a file's bytes.
 
 ghost use Rattle.std.specs.Prelude.{◌≡◌, ◌⊎◌, false, IfOk, IfErr, Ok, Some, codes};
 ghost use Rattle.toml.specs.Data.{get_member};
@@ -124,24 +124,24 @@ fn setup_in_table(alloc: Global, table: &Table) -> Result<Setup, SetupRefused>
     top_table(alloc, table)
 }
 
-/// Reads a setup file: the setup that it means, or its first fault.
+/// Reads a setup file: returns its setup, or its first fault.
 ///
 /// # Errors
 ///
-/// [`SetupRefused::Fault`] exactly where the file has a fault, with the first one in the order of
-/// the checks and its place. [`SetupRefused::NoMemory`] where memory was refused.
+/// [`SetupRefused::Fault`] exactly if the file has a fault, with the first one in the order of the
+/// checks and its place. [`SetupRefused::NoMemory`] if memory ran out.
 #[tactic(auto, using(crate::proofs::PlaceLaws::fault_of_setup_at_place))]
 pub fn read_setup(alloc: Global, bytes: &[u8]) -> Result<Setup, SetupRefused>
     ensures ok { IfOk result (λ s. setup bytes.now ≡ Ok s) }
     ensures refused { IfErr result (IsFaultOf (setup bytes.now)) }
 
-    // The table and the key of the place are there.
+    // The table and the key of the place exist.
     ensures place { IfErr result HasPlace }
 {
     setup_in_bytes(alloc, bytes)
 }
 
-/// A setup that is accepted keeps the rules of its values. The contract is the law; the call does
+/// An accepted setup keeps the rules of its values. The contract is the theorem; the call does
 /// nothing.
 pub fn accepted_keep_rules()
     ensures { AcceptedKeepRules }

@@ -1,4 +1,4 @@
-//! Why a setup is refused, and where its fault stands.
+//! Why a setup is refused, and where its fault is.
 
 use std::alloc::{AllocError, AllocFailed};
 use thiserror::Error;
@@ -10,19 +10,19 @@ pub enum SetupNo {
     TooLong = 1,
     /// The file is no TOML document.
     Toml = 2,
-    /// A table has a key that it doesn't know.
+    /// A table has an unknown key.
     UnknownKey = 3,
-    /// A key that is needed isn't there.
+    /// A required key is missing.
     MissingKey = 4,
     /// A value isn't of the key's type.
     WrongType = 5,
     /// A number, a text's length or a list's length is out of its range.
     OutOfRange = 6,
-    /// A text names no slot.
+    /// A text isn't the name of a slot.
     BadSlot = 7,
-    /// A text names no mode.
+    /// A text isn't the name of a mode.
     BadMode = 8,
-    /// A text names no owner of a region.
+    /// A text isn't the name of an owner of a region.
     BadRegion = 9,
     /// A confined thread has a permit.
     ConfinedPermit = 10,
@@ -32,7 +32,7 @@ pub enum SetupNo {
     TooMany = 12,
 }
 
-/// Where a fault stands in a setup.
+/// The place of a fault in a setup.
 #[derive(Clone, Copy, Debug, PartialEq, Eq)]
 pub struct Place {
     /// 0 for the file as a whole, 1 for the top table, 2 for a `thread` table, 3 for a `loop`
@@ -109,7 +109,7 @@ impl Place {
         }
     }
 
-    /// An element of the list that stands here.
+    /// An element of the list at this place.
     pub(crate) fn element(self, index: u32) -> Place
         requires { index + 1 < 2 ^ 32 }
         ensures { result ≡ element_of self index }
@@ -128,7 +128,7 @@ impl Place {
 pub struct Fault {
     /// What is wrong.
     pub code: SetupNo,
-    /// Where it stands.
+    /// Where it is.
     pub place: Place,
 }
 
@@ -150,7 +150,7 @@ pub enum SetupRefused {
     /// The setup's first fault and its place.
     #[error("setup fault {code:?} at {place:?}")]
     Fault { code: SetupNo, place: Place },
-    /// Memory was refused.
+    /// Memory ran out.
     #[error("out of memory")]
     NoMemory,
 }

@@ -24,7 +24,7 @@ pub struct Setup {
     pub dregions: u32,
     /// The name of the image file, 1 to 255 bytes.
     pub image: Name,
-    /// What is said of each of the eight threads, but for their modes.
+    /// The settings of each of the eight threads, except their modes.
     pub threads: Threads,
     /// The loops of the program with their bounds, in the order of the file.
     pub loops: Loops,
@@ -86,7 +86,7 @@ impl Setup {
     ///
     /// # Errors
     ///
-    /// Memory was refused.
+    /// Memory ran out.
     #[expect(clippy::too_many_arguments)]
     pub fn of_words(
         alloc: Global,

@@ -7,12 +7,12 @@ use crate::input_list::Inputs;
 use std::alloc::Global;
 use std::marker::Model;
 
-/// What a setup says of a thread. Its mode stands in the setup's word of modes.
+/// The settings of a thread. Its mode is in the setup's word of modes.
 #[derive(Drop)]
 pub struct ThreadSetup {
     /// The address of the first instruction, a multiple of 4.
     pub entry: u32,
-    /// Whether the thread may load and fetch in its own and in read only regions alone.
+    /// Whether the thread may load and fetch only in its own and in read only regions.
     pub confined: bool,
     /// Whether the thread may read and write the registers of scheduling and regions. A confined
     /// thread may not.
@@ -40,7 +40,7 @@ impl ThreadSetup {
         }
     }
 
-    /// A thread that no table names.
+    /// A thread without a table.
     pub(crate) fn unnamed(alloc: Global) -> ThreadSetup
         ensures { result ≡ default_thread }
     {
@@ -75,7 +75,7 @@ impl Threads {
     ghost use Rattle.fp_setup.specs.SetupOfTables.{default_thread};
     ghost use Rattle.fp_setup.specs.Plain.{is_entry, plain_threads};
 
-    /// Eight threads that no table names.
+    /// Eight threads without tables.
     pub(crate) fn unnamed(alloc: Global) -> Threads
         ensures { result ≡ replicate 8 default_thread }
     {
@@ -109,7 +109,7 @@ impl Threads {
         threads
     }
 
-    /// Puts what a setup says of a thread in its place.
+    /// Replaces the settings of a thread.
     pub(crate) fn set(&mut self, thread: u8, setup: ThreadSetup)
         requires thread { thread < 8 }
         requires rules { IsThread setup }

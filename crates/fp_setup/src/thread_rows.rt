@@ -35,7 +35,7 @@ use toml::{Table, Value};
 /// The most tables of threads that a setup may have.
 const MOST_ROWS: usize = 8;
 
-/// The mode of a thread that no table names.
+/// The mode of a thread without a table.
 const UNNAMED_MODE: u8 = 3;
 
 /// The keys of a thread's table, in the order of their numbers.
@@ -43,7 +43,7 @@ const KEYS: [&str; 7] = [
     "id", "mode", "entry", "confined", "permit", "unplug", "inputs",
 ];
 
-/// What a table says of a thread.
+/// The settings in a thread's table.
 #[derive(Drop)]
 pub(crate) struct ThreadRow {
     pub id: u8,
@@ -51,7 +51,7 @@ pub(crate) struct ThreadRow {
     pub thread: ThreadSetup,
 }
 
-/// What the tables say of the eight threads: their modes, and the rest.
+/// The settings of the eight threads by the tables: their modes, and the rest.
 #[derive(Drop)]
 pub(crate) struct ThreadRows {
     pub modes: [u8; 8],
@@ -59,7 +59,7 @@ pub(crate) struct ThreadRows {
 }
 
 impl ThreadRows {
-    /// Before any table: no thread is named.
+    /// Before any table: no thread has one.
     fn unnamed(alloc: Global) -> ThreadRows
         ensures modes { result.modes ≡ replicate 8 unnamed_mode }
         ensures threads { result.threads ≡ replicate 8 default_thread }
@@ -70,7 +70,7 @@ impl ThreadRows {
         }
     }
 
-    /// Puts what a table says in the place of its thread.
+    /// Puts the settings of a table in the place of its thread.
     fn put(&mut self, row: ThreadRow)
         requires id { row.id < 8 }
         requires rules { IsThread row.thread }
@@ -93,7 +93,7 @@ fn as_cycle(moment: Option<u32>) -> Option<u64>
     }
 }
 
-/// What a table says of a thread, for scratchpads of a size in bytes, after the tables with some
+/// The settings in a thread's table, for scratchpads of a size in bytes, after the tables with some
 /// ids.
 fn thread_table(
     alloc: Global,
@@ -139,7 +139,7 @@ fn thread_table(
     })
 }
 
-/// What a row says of a thread.
+/// The settings in a thread's row.
 fn thread_in(
     alloc: Global,
     value: &Value,
@@ -167,7 +167,7 @@ fn thread_in(
     }
 }
 
-/// What the rows of a list say of the threads.
+/// The settings of the threads by the rows of a list.
 fn threads_in(alloc: Global, items: &[Value], size: u32) -> Result<ThreadRows, SetupRefused>
     requires few { length items.now ≤ 8 }
     requires low { 4 ≤ size }
@@ -195,7 +195,7 @@ fn threads_in(alloc: Global, items: &[Value], size: u32) -> Result<ThreadRows, S
     Ok(rows)
 }
 
-/// What the rows that a value lists say of the threads.
+/// The settings of the threads by the rows that a value lists.
 #[tactic(auto, unfolding(crate::proofs::Opened::threads))]
 fn threads(
     alloc: Global,
@@ -227,7 +227,7 @@ fn threads(
     threads_in(alloc, items, size)
 }
 
-/// No table names a thread.
+/// The settings of the threads without any table.
 #[tactic(auto, unfolding(crate::proofs::Opened::no_threads))]
 fn no_threads(alloc: Global) -> ThreadRows
     ensures read { result ≡ rows_of [] }
@@ -238,7 +238,7 @@ fn no_threads(alloc: Global) -> ThreadRows
     ThreadRows::unnamed(alloc)
 }
 
-/// What the rows under a key of a table say of the threads.
+/// The settings of the threads by the rows under a key of a table.
 #[tactic(auto, unfolding(crate::specs::FaultOrder::key_fault))]
 pub(crate) fn threads_or_none(
     alloc: Global,

@@ -93,7 +93,7 @@ pub(crate) fn truth_value(value: &Value, place: Place) -> Result<bool, Fault>
     }
 }
 
-/// A truth value that isn't true beside another.
+/// A truth value that isn't true together with another.
 #[tactic(auto, unfolding(crate::specs::Checks::permit_check))]
 pub(crate) fn permit(value: &Value, confined: bool, place: Place) -> Result<bool, Fault>
     ensures read { IsRead result

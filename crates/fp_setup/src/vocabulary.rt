@@ -1,4 +1,4 @@
-//! The texts that stand for slots, owners of regions and modes.
+//! The texts for slots, owners of regions and modes.
 
 ghost use Rattle.std.specs.Prelude.{◌≡◌, ◌<◌, IfSome, true};
 ghost use Rattle.fp_setup.specs.Vocabulary.{is_value, number_in, number_of, refusal, threads};
@@ -7,7 +7,7 @@ use crate::refusal::SetupNo;
 use region_guard::{READ_ONLY, SHARED};
 use slot_table::{DISABLED, SOFT};
 
-/// A list of texts, each of which stands for a number.
+/// A list of texts, each with a number.
 #[derive(Clone, Copy)]
 pub(crate) enum Words {
     /// The slots of the frame.
@@ -19,7 +19,7 @@ pub(crate) enum Words {
 }
 
 impl Words {
-    /// The number that a text stands for, if it is in the list.
+    /// The number of a text, if it is in the list.
     #[tactic(auto, unfolding(crate::specs::Vocabulary::number_of))]
     pub(crate) fn number(self, text: &str) -> Option<u8>
         ensures number { result ≡ number_of self text.now }

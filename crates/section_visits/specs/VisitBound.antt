@@ -40,7 +40,7 @@ AreLinked known way s (i ∷ (h ∷ before)) =
     × IsOwn s (i.cycle % length s.frame)
     × (known h.pc → h.traps ≡ false → Along way s h i)
 
--- the edges of a graph, as such a relation
+-- the edges of a graph, as a relation of words and their edges
 abbrev pub EdgeOf : Graph → ℕ → Edge → Type 0
 EdgeOf g u e = Contains (g.edges u) e
 

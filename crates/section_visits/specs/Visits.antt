@@ -14,7 +14,8 @@ pub record Issued : Type 0 where
   pub pc : ℕ
   pub traps : Bool
 
--- the issue of a turn in cycle c, if it is one of thread i's; a spinning one counts too
+-- the issue of a turn in cycle c, if it is one of thread i's; a spinning one, which has no effect,
+-- counts too
 abbrev pub issue_in : ℕ → ℕ → Took → List Issued
 issue_in i c (Ran k pc word effect) =
     if k == i then record { cycle = c; pc = pc; traps = is_trap effect } ∷ [] else []

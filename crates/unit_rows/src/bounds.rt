@@ -1,9 +1,9 @@
 //! The bounds of sections, and the refusals of those that have none. An executable model of the
-//! rules, which was written apart from the analyser, gave the answers.
+//! rules, which was written independently of the analyser, gave the answers.
 //!
 //! A call is the slots register, the thread, and the section's two ends; the loops, each as its
-//! head, its last word and its bound; the words of an image's file that has the section alone; with
-//! a tab between two of these. Numbers are hexadecimal, but for bounds.
+//! head, its last word and its bound; and the words of an image's file that has only the section. A
+//! tab separates these three. Numbers are hexadecimal, except for bounds.
 
 ghost use Rattle.std.specs.Prelude.{◌<◌, ◌↔◌, Contains, IsTrue};
 ghost use Rattle.fp_setup.specs.Loops.{IsLoop};
@@ -19,7 +19,7 @@ use row_text::RowText;
 use slot_table::SlotTable;
 use std::alloc::Global;
 
-/// What a bound is asked of, beside the image and the loops.
+/// The arguments of a bound, in addition to the image and the loops.
 #[derive(Clone, Copy)]
 struct Question {
     slots: SlotTable,
@@ -40,13 +40,13 @@ impl Question {
     }
 }
 
-/// What stands before the first tab of a text, and what stands behind it.
+/// The text before the first tab, and the text after it.
 fn field(text: &str) -> (&str, &str) {
     text.split_once('\t').unwrap_or((text, ""))
 }
 
 /// `bound` and the number, or `refused` with the number, the name and the address of the refusal; a
-/// dash where no bound may be asked.
+/// dash if no bound may be requested.
 pub fn push_answer(text: &mut RowText, alloc: Global, call: &str) {
     let (words, rest) = field(call);
     let (numbers, file) = field(rest);

@@ -1,8 +1,8 @@
 //! The images of executables, or their faults.
 //!
 //! GNU ld 2.40 and lld 14 linked some of the files, from random sources with linker scripts and
-//! options of all kinds; the others were made of single fields. An executable model of the rules,
-//! which was written apart from the reader, gave the answers.
+//! options of all kinds; the others were made from single fields. An executable model of the rules,
+//! which was written independently of the reader, gave the answers.
 
 ghost use Rattle.region_guard.specs.Regions.{IsSize};
 
@@ -12,8 +12,8 @@ use row_text::{RowText, push_bytes};
 use std::alloc::Global;
 
 /// `image` with its segments, each as its address and its words, or the fault of a file. A file is
-/// words of hexadecimal digits, two for a byte, in which a full stop is four bytes of 0; `*N`
-/// behind a word, also in an answer, says that it stands there N times.
+/// words of hexadecimal digits, two for a byte, and a full stop is four bytes of 0. `*N` after a
+/// word, also in an answer, repeats it N times.
 pub fn push_answer(text: &mut RowText, alloc: Global, call: &str) {
     let mut file = Vec::new(alloc);
     if push_bytes(&mut file, alloc, call).is_err() {
@@ -28,7 +28,7 @@ pub fn push_answer(text: &mut RowText, alloc: Global, call: &str) {
     }
 }
 
-/// The segments of an image as they are read from the bytes that are written of it.
+/// The segments of an image, as they are read back from its written bytes.
 fn push_written(text: &mut RowText, alloc: Global, image: &Image) {
     let Ok(written) = write_image(alloc, image) else {
         return text.refuse();
@@ -48,7 +48,7 @@ fn push_segments(text: &mut RowText, image: &Image) {
     }
 }
 
-/// Appends words, those that are the same and follow one another as one with its count.
+/// Appends words; a run of equal words is one word with its count.
 fn push_words(text: &mut RowText, bytes: &[u8]) {
     let mut same: &[u8] = &[];
     let mut count = 0u32;
@@ -63,7 +63,7 @@ fn push_words(text: &mut RowText, bytes: &[u8]) {
     push_word(text, same, count)
 }
 
-/// Appends a word that stands so many times, which may be none.
+/// Appends a word with its count, which may be 0.
 fn push_word(text: &mut RowText, word: &[u8], count: u32) {
     if count == 0 {
         return;

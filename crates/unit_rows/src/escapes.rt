@@ -15,8 +15,8 @@ enum Next {
     Low(u8),
 }
 
-/// The bytes of a text in which `\n`, `\r`, `\t`, `\\` and `\x` with two hexadecimal digits stand
-/// for one byte each. The answer to the call that has them notes if memory is refused.
+/// The bytes of a text in which `\n`, `\r`, `\t`, `\\` and `\x` with two hexadecimal digits are one
+/// byte each. The answer to the call notes if memory ran out.
 pub fn unescaped(answer: &mut RowText, alloc: Global, text: &str) -> Vec<u8> {
     let mut bytes = Vec::new(alloc);
     let mut next = Next::Plain;
@@ -32,7 +32,7 @@ pub fn unescaped(answer: &mut RowText, alloc: Global, text: &str) -> Vec<u8> {
     bytes
 }
 
-/// What comes after a byte of the text, and the byte that it completes.
+/// The state after a byte of the text, and the byte that it completes.
 fn step(next: Next, b: u8) -> (Next, Option<u8>) {
     match (next, b) {
         (Next::Plain, b'\\') => (Next::Escape, None),

@@ -1,5 +1,4 @@
-//! Files and sinks: those in memory with calls that fail, real ones, and those of a runtime that is
-//! slow.
+//! Files and sinks: those in memory with calls that fail, real ones, and those of a slow runtime.
 
 use crate::numbers::{head, low_word, number, numbers};
 use crate::short_io::ShortIo;
@@ -20,7 +19,8 @@ pub fn push_answer(text: &mut RowText, rt: HostRuntime, call: &str) {
     }
 }
 
-/// How many bytes a real file gives, of at most so many and one more, and how many of them are 0.
+/// The number of bytes that a real file gives, of at most so many and one more, and the number of
+/// zeros among them.
 fn push_real(text: &mut RowText, rt: HostRuntime, with: &str) {
     let (name, most) = head(with);
     let mut files = RealFiles::new(rt);
@@ -35,7 +35,7 @@ fn zeros(bytes: &[u8]) -> usize {
     bytes.iter().filter(|byte| **byte == 0).count()
 }
 
-/// What the slow runtime's files give.
+/// The bytes that the slow runtime's files give.
 fn push_slow(text: &mut RowText, alloc: Global, n: &[u64; 8]) {
     let mut files = RealFiles::new(ShortIo::new(low_word(n[0])));
     push_fetched(text, files.fetch(alloc, "a", low_word(n[1]) as usize))
@@ -49,7 +49,7 @@ fn push_fetched(text: &mut RowText, fetched: Result<Vec<u8>, FetchFault>) {
     }
 }
 
-/// Puts a text to the slow runtime's output and flushes it, and tells what it takes.
+/// Writes a text to the slow runtime's output and flushes it, and appends what it took.
 fn push_out(text: &mut RowText, with: &str) {
     let (failing, bytes) = head(with);
     let slow = ShortIo::new(low_word(number(failing)));
@@ -64,7 +64,7 @@ fn name_of(is_ok: bool) -> &'static str {
     if is_ok { "ok" } else { "failed" }
 }
 
-/// What steps tell over files in memory.
+/// Appends the results of steps over files in memory.
 fn push_files(text: &mut RowText, alloc: Global, steps: &str) {
     let mut files = MemFiles::new(alloc);
     for step in steps.split(';') {
@@ -73,7 +73,7 @@ fn push_files(text: &mut RowText, alloc: Global, steps: &str) {
 }
 
 /// `add NAME TEXT` gives a file, `fail CALL` lists a call as one that fails, `fetch NAME MOST`
-/// tells what is fetched.
+/// appends what is fetched.
 fn push_files_step(text: &mut RowText, alloc: Global, files: &mut MemFiles, step: &str) {
     let (call, with) = head(step);
     let (name, more) = head(with);
@@ -93,7 +93,7 @@ fn push_files_step(text: &mut RowText, alloc: Global, files: &mut MemFiles, step
     }
 }
 
-/// What steps tell over a sink in memory of eight bytes.
+/// Appends the results of steps over a sink in memory of eight bytes.
 fn push_sink(text: &mut RowText, alloc: Global, steps: &str) {
     let Ok(mut sink) = MemSink::new(alloc, 8) else {
         return text.refuse();
@@ -103,7 +103,7 @@ fn push_sink(text: &mut RowText, alloc: Global, steps: &str) {
     }
 }
 
-/// `fail CALL TAKEN` lists a call as one that fails, `put TEXT` tells what the sink has then.
+/// `fail CALL TAKEN` lists a call as one that fails, `put TEXT` appends the sink's content then.
 fn push_sink_step(text: &mut RowText, sink: &mut MemSink, step: &str) {
     let (call, with) = head(step);
     if call == "fail" {

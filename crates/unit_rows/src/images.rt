@@ -1,4 +1,4 @@
-//! What is read out of the bytes of an image.
+//! Images that are read from bytes.
 
 ghost use Rattle.region_guard.specs.Regions.{IsSize};
 

@@ -4,7 +4,7 @@
 //! architecture `rv32im_zicsr_zifencei`; those that are illegal are words of other extensions,
 //! which were made for `rv64imafdh_zicsr_zifencei_zba_zbb_zbc_zbs_zicbom_zicboz`. It also made the
 //! words of `results.txt`, for the architecture `rv32im`, and qemu-riscv32 7.2 ran them in a static
-//! program: each stands at an address of its own, in a field of jumps that keep where they stand.
+//! program. Each is at an address of its own, in a field of jumps that record their addresses.
 //! Operands are the edges of ranges in about half of the rows, and random in the others. Numbers
 //! that a kind of instruction doesn't use are 0.
 

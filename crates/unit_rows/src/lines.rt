@@ -8,7 +8,8 @@ use row_text::RowText;
 use rv_exec::{Effect, Event};
 use trace_print::{Refusal, line, refusal_line};
 
-/// `event CYCLE PC WORD EFFECT ..`, or a refusal's kind with its numbers. The line end isn't told.
+/// `event CYCLE PC WORD EFFECT ..`, or a refusal's kind with its numbers. The answer has no line
+/// end.
 pub fn push_answer(text: &mut RowText, call: &str) {
     let (name, with) = head(call);
     let n = numbers(with);

@@ -1,4 +1,4 @@
-//! That the machine's whole state stands in its fields.
+//! Checks that the machine's whole state is in its fields.
 
 ghost use Rattle.std.specs.Prelude.{◌≡◌, All, length, vec_len};
 ghost use Rattle.pipeline_core.specs.StageFacts.{IsPc};
@@ -65,7 +65,7 @@ fn push_lines(text: &mut RowText, trace: &str) {
     }
 }
 
-/// Appends the trace of thread 0 in eleven cycles beside these ports, and the cycle then.
+/// Appends the trace of thread 0 in eleven cycles with these ports, and the cycle then.
 fn push_run_beside(alloc: Global, text: &mut RowText, machine: &mut Machine, ports: &mut Ports)
     requires start { machine.old.at ≡ 0 }
     requires eight { vec_len ports.old ≡ 8 }

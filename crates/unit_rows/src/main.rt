@@ -1,6 +1,6 @@
-//! Compares what the libraries below the top call answer to calls with tables that were worked out
-//! apart from them. It stands apart so that none of those crates is proved a second time for its
-//! tests.
+//! Compares the answers of the libraries below the top call with tables that were worked out
+//! independently of them. It is a crate of its own so that none of those crates is proved a second
+//! time for its tests.
 //!
 //! The tables are in the folder where it runs. A line of a table is an answer, a tab, and the call
 //! with its arguments; in `setups.txt` a call is several lines after `=== `, and each line of its
@@ -35,7 +35,7 @@ mod words;
 use row_text::{RowText, Tally};
 use std::{fs, io};
 
-/// A table of calls, by what answers them.
+/// A table of calls, by the code that answers them.
 #[derive(Clone, Copy)]
 enum Table {
     Instructions,
@@ -78,7 +78,7 @@ const TABLES: [(&str, Table); 19] = [
 ];
 
 impl Table {
-    /// What stands between two rows.
+    /// The separator between two rows.
     fn separator(self) -> &'static str {
         match self {
             Table::Setups => "=== ",

@@ -1,4 +1,4 @@
-//! The words and numbers that a call is called with.
+//! The arguments and numbers of a call.
 
 ghost use Rattle.std.specs.Prelude.{◌<◌};
 

@@ -145,7 +145,7 @@ fn push_shown(
     push_beside(text, units, &mut ports, fed, second, cycles)
 }
 
-/// Appends the events of some cycles beside these ports, and the latch of thread 0's device then.
+/// Appends the events of some cycles with these ports, and the latch of thread 0's device then.
 fn push_beside(
     text: &mut RowText,
     units: &mut Units,

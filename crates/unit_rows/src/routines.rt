@@ -1,4 +1,4 @@
-//! What is read out of the bytes of a file of routines.
+//! Routines that are read from the bytes of a file.
 
 ghost use Rattle.region_guard.specs.Regions.{IsSize};
 

@@ -1,14 +1,14 @@
-//! What a run of one instruction leaves.
+//! The state after a run of one instruction.
 
 use crate::numbers::low_word;
 use row_text::RowText;
 use rv_decode::Ins;
 use rv_exec::{Lanes, execute, load_value, store_lanes};
 
-/// What an instruction leaves, by its pc, the values of its source registers, and what the aligned
-/// word holds that it loads from or stores to; these are the numbers of its call after its word. It
-/// is told as the value that its destination register gets, the next pc, and the address of that
-/// word with what the word holds then.
+/// The state after an instruction. The numbers of its call after its word are its pc, the values of
+/// its source registers, and the content of the aligned word that it loads from or stores to. The
+/// answer is the value of its destination register, the next pc, and the address of that word with
+/// its content then.
 pub fn push_run(text: &mut RowText, ins: &Ins, n: &[u64; 8]) {
     let (pc, a, b, content) = (
         low_word(n[1]),
@@ -23,8 +23,8 @@ pub fn push_run(text: &mut RowText, ins: &Ins, n: &[u64; 8]) {
     write!(text, "{value:x} {next:x} {address:x} {after:x}")
 }
 
-/// What an instruction leaves: a value, the next pc, the address of the aligned word, and what that
-/// holds. Nothing where it traps.
+/// The result of an instruction: a value, the next pc, the address of the aligned word, and its
+/// content then. Nothing if it traps.
 fn left_by(ins: &Ins, pc: u32, a: u32, b: u32, content: u32) -> Option<[u32; 4]> {
     let outcome = execute(ins, pc, a, b);
     if outcome.trap.is_some() {
@@ -41,7 +41,7 @@ fn left_by(ins: &Ins, pc: u32, a: u32, b: u32, content: u32) -> Option<[u32; 4]>
     Some([value, next, outcome.address & 0xffff_fffc, after])
 }
 
-/// A word with the bytes that lanes name in place of its own.
+/// A word in which the bytes of some lanes are replaced.
 fn merge(word: u32, lanes: Lanes) -> u32 {
     let mut bytes = word.to_le_bytes();
     for (lane, byte) in lanes.value.to_le_bytes().iter().enumerate() {

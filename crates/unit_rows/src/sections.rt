@@ -1,4 +1,4 @@
-//! What a tree of sections answers.
+//! The answers of a tree of sections.
 
 ghost use Rattle.std.specs.Prelude.{◌<◌, ◌≤◌};
 
@@ -26,7 +26,7 @@ const OUTSIDE: LoopSetup = LoopSetup {
 
 const SECTION: Section = Section { from: 0, to: 20 };
 
-/// What the tree of the whole file holds.
+/// The content of the tree of the whole file.
 pub fn push_answer(text: &mut RowText, alloc: Global) {
     match read_image(alloc, FILE, 16_384) {
         Ok(image) => push_built(text, alloc, &image),
@@ -34,7 +34,7 @@ pub fn push_answer(text: &mut RowText, alloc: Global) {
     }
 }
 
-/// What the tree of an image's section holds.
+/// The content of the tree of an image's section.
 fn push_built(text: &mut RowText, alloc: Global, image: &Image) {
     let Ok(loops) = vec![in alloc; OUTSIDE, ROUND] else {
         return text.refuse();

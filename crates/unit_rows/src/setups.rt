@@ -1,5 +1,5 @@
-//! What is read out of a setup, as text. An executable model of the format, which was written apart
-//! from the reader, gave the answers to the setups of the table.
+//! The text of a setup that was read. An executable model of the format, which was written
+//! independently of the reader, gave the answers to the setups of the table.
 
 use crate::escapes::unescaped;
 use crate::numbers::{low_word, number};
@@ -13,7 +13,7 @@ use std::alloc::Global;
 
 /// A name, and the lines of a setup; or `bytes: BYTES`, with escapes, `signs: COUNT` for so many
 /// bytes `#`, `file: NAME`, `words: given` for a setup of its registers' words, and `parts: given`
-/// for what the parts of a setup give back.
+/// for the values that the parts of a setup return.
 pub fn push_answer(text: &mut RowText, rt: HostRuntime, call: &str) {
     let (name, setup) = call.split_once('\n').unwrap_or((call, ""));
     match name.split_once(": ") {
@@ -49,7 +49,7 @@ fn push_file(text: &mut RowText, rt: HostRuntime, name: &str) {
     }
 }
 
-/// The refusal of a setup, or all that it says.
+/// The refusal of a setup, or all its settings.
 fn push_setup(text: &mut RowText, alloc: Global, bytes: &[u8]) {
     match read_setup(alloc, bytes) {
         Ok(setup) => push_accepted(text, &setup),
@@ -82,7 +82,7 @@ fn push_place(text: &mut RowText, place: Place) {
     }
 }
 
-/// What follows the name of a table.
+/// The text after the name of a table.
 fn key_name(table: u8, key: u8) -> &'static str {
     match (table, key) {
         (0, _) => "-",
@@ -110,7 +110,7 @@ fn key_name(table: u8, key: u8) -> &'static str {
     }
 }
 
-/// All that a setup says. Lines after the first begin as in the table.
+/// All settings of a setup. Lines after the first begin as in the table.
 fn push_accepted(text: &mut RowText, setup: &Setup) {
     push_registers(text, setup);
     for thread in 0..8 {

@@ -1,7 +1,7 @@
-//! The engine of one thread, from the thread's view alone and beside a port that isn't there. A
-//! call is a setup, an image, a thread and a number of cycles, as `plain.toml plain.fpx 0 1000`;
-//! its answer is how many bytes the thread's trace has. The trace itself goes nowhere, so that what
-//! takes time is the engine.
+//! The engine of one thread, from only the thread's view and with an absent port. A call is a
+//! setup, an image, a thread and a number of cycles, as `plain.toml plain.fpx 0 1000`. Its answer
+//! is how many bytes the thread's trace has. The trace itself is discarded, so that only the engine
+//! takes time.
 
 ghost use Rattle.std.specs.Prelude.{◌<◌, ◌≤◌, IfSome};
 ghost use Rattle.timer_unit.specs.Time.{most_cycles};
@@ -35,7 +35,7 @@ impl Sink for Tally {
     }
 }
 
-/// How many bytes a thread's trace has; None where memory was refused.
+/// How many bytes a thread's trace has; None if memory ran out.
 fn bytes_of(view: SoloView, cycles: u64) -> Option<u64>
     requires view { IsView view }
     requires limit { cycles ≤ most_cycles }
@@ -47,7 +47,7 @@ fn bytes_of(view: SoloView, cycles: u64) -> Option<u64>
     }
 }
 
-/// The view of a thread; None where setup or image is refused, or memory was.
+/// The view of a thread; None if setup or image is refused, or memory ran out.
 fn view_of(alloc: Global, setup: &[u8], image: &[u8], thread: u8) -> Option<SoloView>
     requires { thread < 8 }
     ensures { IfSome result IsView }
@@ -57,8 +57,8 @@ fn view_of(alloc: Global, setup: &[u8], image: &[u8], thread: u8) -> Option<Solo
     SoloView::of(alloc, &setup, &image, thread).ok()
 }
 
-/// How many bytes a thread's trace has; None where it has no view, memory was refused, or there
-/// aren't so many cycles.
+/// How many bytes a thread's trace has; None if it has no view, memory ran out, or there aren't so
+/// many cycles.
 fn trace_length(alloc: Global, setup: &[u8], image: &[u8], thread: u8, cycles: u64) -> Option<u64>
     requires { thread < 8 }
 {

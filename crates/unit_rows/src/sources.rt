@@ -12,7 +12,7 @@ use fp_asm::{AsmRefused, assemble};
 use row_text::RowText;
 use std::alloc::{AllocError, Global};
 
-/// `SOURCE`, or `COUNT` and a tab before it where its first byte stands so many times; with
+/// `SOURCE`, or `COUNT` and a tab before it if its first byte is repeated so many times; with
 /// escapes.
 pub fn push_answer(text: &mut RowText, alloc: Global, call: &str) {
     let (count, source) = call.split_once('\t').unwrap_or(("1", call));
@@ -37,7 +37,7 @@ fn push_image(text: &mut RowText, alloc: Global, source: &[u8]) {
     }
 }
 
-/// The bytes, of which the first stands so many times.
+/// The bytes, with the first one repeated so many times.
 fn with_first(alloc: Global, count: u32, bytes: &[u8]) -> Result<Vec<u8>, AllocError> {
     let [first, others @ ..] = bytes else {
         return Ok(Vec::new(alloc));

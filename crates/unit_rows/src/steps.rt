@@ -66,8 +66,8 @@ fn push_step(text: &mut RowText, units: &mut Units, unit: &str, step: &str) {
     }
 }
 
-/// `arm THREAD MOMENT`, `disarm THREAD`, and what `low THREAD NOW`, `high THREAD`, `due THREAD NOW`
-/// and `armed THREAD` tell.
+/// `arm THREAD MOMENT`, `disarm THREAD`, and the results of `low THREAD NOW`, `high THREAD`, `due
+/// THREAD NOW` and `armed THREAD`.
 fn push_timers(text: &mut RowText, timers: &mut Timers, call: &str, n: &[u64; 8]) {
     let thread = thread_of(n[0]);
     match call {
@@ -80,7 +80,7 @@ fn push_timers(text: &mut RowText, timers: &mut Timers, call: &str, n: &[u64; 8]
     }
 }
 
-/// `write THREAD REGISTER WORD`, and what `read THREAD REGISTER` tells.
+/// `write THREAD REGISTER WORD`, and the result of `read THREAD REGISTER`.
 fn push_bank(text: &mut RowText, bank: &mut Bank, call: &str, n: &[u64; 8]) {
     let (thread, x) = (thread_of(n[0]), low_byte(n[1]) % 32);
     if call == "write" {
@@ -90,8 +90,8 @@ fn push_bank(text: &mut RowText, bank: &mut Bank, call: &str, n: &[u64; 8]) {
     push_hexadecimal(text, u64::from(bank.read(thread, x)))
 }
 
-/// What `access PERMIT OPERATION CSR OPERAND WRITES` of thread 3, `value THREAD CSR`, `enter THREAD
-/// CAUSE PC`, `leave THREAD` and `words` tell.
+/// The results of `access PERMIT OPERATION CSR OPERAND WRITES` of thread 3, `value THREAD CSR`,
+/// `enter THREAD CAUSE PC`, `leave THREAD` and `words`.
 fn push_traps(text: &mut RowText, units: &mut Units, call: &str, n: &[u64; 8]) {
     let thread = thread_of(n[0]);
     let told = match call {
@@ -150,7 +150,7 @@ fn value(traps: &Traps, thread: u8, csr: u64) -> u32
     }
 }
 
-/// The words of the machine's registers.
+/// Appends words of the configuration registers: slots, modes and data regions.
 fn push_words(text: &mut RowText, units: &Units) {
     let (slots, modes) = (units.sched.slots.word(), units.sched.modes.word());
     write!(text, "{slots:x} {modes:x} {:x} ", units.guard.d.word())

@@ -1,4 +1,4 @@
-//! What the machine's units answer.
+//! The answers of the machine's units.
 
 ghost use Rattle.std.specs.Prelude.{◌<◌};
 

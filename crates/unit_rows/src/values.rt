@@ -1,4 +1,4 @@
-//! What is told of one value, with a space after it.
+//! Appends one value, with a space after it.
 
 use row_text::RowText;
 use std::fmt::Debug;

@@ -1,11 +1,11 @@
-//! What words ask.
+//! The commands of command-line arguments.
 
 use ask_words::{Ask, WordsNo, read_words};
 use region_tree::Section;
 use row_text::RowText;
 use std::alloc::{AllocError, Global};
 
-/// `none`, or the words after a colon: what they ask, with all values.
+/// `none`, or the arguments after a colon: their command, with all values.
 pub fn push_answer(text: &mut RowText, alloc: Global, call: &str) {
     match words_of(alloc, call) {
         Ok(words) => push_asked_by(text, alloc, &words),
@@ -13,7 +13,7 @@ pub fn push_answer(text: &mut RowText, alloc: Global, call: &str) {
     }
 }
 
-/// The words of a call.
+/// The arguments of a call.
 fn words_of(alloc: Global, call: &str) -> Result<Vec<String>, AllocError> {
     let mut words = Vec::new(alloc);
     if let Some(line) = call.strip_prefix(':') {
@@ -24,7 +24,7 @@ fn words_of(alloc: Global, call: &str) -> Result<Vec<String>, AllocError> {
     Ok(words)
 }
 
-/// What words ask.
+/// Appends the command of the arguments.
 fn push_asked_by(text: &mut RowText, alloc: Global, words: &[String]) {
     match read_words(alloc, words) {
         Ok(ask) => push_ask(text, &ask),
@@ -33,7 +33,7 @@ fn push_asked_by(text: &mut RowText, alloc: Global, words: &[String]) {
     }
 }
 
-/// A command as it is asked: its name, its file, its numbers, and the other file that it reads.
+/// Appends a command: its name, its file, its numbers, and the other file that it reads.
 fn push_ask(text: &mut RowText, ask: &Ask) {
     text.push_str(name_of(ask));
     match ask {
@@ -88,7 +88,7 @@ fn name_of(ask: &Ask) -> &'static str {
     }
 }
 
-/// The file that a command reads beside its first.
+/// Appends the file that a command reads in addition to its first.
 fn push_other_file(text: &mut RowText, ask: &Ask) {
     match ask {
         Ask::Check { trace: file, .. } | Ask::Calls { routines: file, .. } => {
