@@ -4,7 +4,7 @@ use Rattle.fp_setup.specs.declared.loop_list.LoopSetup.{LoopSetup}
 use Rattle.region_tree.specs.Graph.{Holds, Inside}
 use Rattle.region_tree.specs.Walk.{counter_after}
 
--- what a path uses: own u, u is an own position; arc u p d v q, a step leads from word u at
+-- the net of a path: own u, u is an own position; arc u p d v q, a step leads from word u at
 -- position p to word v at position q and costs d; loop j, j is a counting loop
 pub record Net : Type 1 where
   pub own : ℕ → Type 0

@@ -8,7 +8,7 @@ abbrev pub Shallow : ℕ → Net → Scope → Type 0
 Shallow zero g s = (j : LoopSetup) → s.loops j → ⊥
 Shallow (suc h) g s = (j : LoopSetup) → s.loops j → Shallow h g (body g j)
 
--- what h levels of loops, each with at most b rounds, can multiply a cost by: (b + 1)^h
+-- the most that h levels of loops, each with at most b rounds, can multiply a cost by: (b + 1)^h
 abbrev pub room : ℕ → ℕ → ℕ
 room b zero = 1
 room b (suc h) = room b h * (b + 1)

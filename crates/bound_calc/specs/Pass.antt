@@ -37,7 +37,7 @@ pub record Brings (x : Field) (s : Scope) (f : Edges) (w p c q : ℕ) : Type 0 w
   pub high : w ≤ s.high
   pub cost : c ≡ one + two
 
--- the costs at a word of a part: no step at its first word, or what edges bring
+-- the costs at a word of a part: no step at its first word, or the costs that edges bring
 abbrev pub Comes : Field → Scope → Edges → ℕ → Costs
 Comes x s f w p c q = ((w ≡ s.low) × Stays x.own p c q) ⊎ Brings x s f w p c q
 

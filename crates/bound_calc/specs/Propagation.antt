@@ -113,7 +113,7 @@ pub record FrontModel : Type 0 where
 abbrev pub abstract_front : Front → FrontModel
 abstract_front f = record { waiting = f.waiting.items; base = f.base.value; hops = f.hops.hops }
 
--- what was waiting at an index, or a matrix without sums
+-- the matrix that waited at an index, or a matrix without sums
 abbrev pub IsTaken : Option Matrix → Matrix → Type 0
 IsTaken waiting m = MatchOption waiting ((p q c : ℕ) → entry m p q ≡ Some c → ⊥) (λ n. m ≡ n)
 
@@ -214,7 +214,7 @@ pub record IsGone (t : Tree) (s : Positions) (way : Option Matrix) (e : Edges) (
       (Via (up_of t k last e.next) w (Then (In (entry old.base)) (move_costs s way e.next_lag))))
       (Via (up_of t k last e.jump) w (Then (In (entry old.base)) (move_costs s way 3))))
 
--- what a pass over a part needs
+-- the requirements of a pass over a part
 pub record IsReady (x : Field) (t : Tree) (s : Scope) (powers : Powers) : Type 0 where
   pub nested : IsNested (net x)
   pub part : IsScope (net x) s

@@ -31,8 +31,8 @@ abbrev pub Avoid : LoopSetup → List Step → Type 0
 Avoid j [] = Unit {0}
 Avoid j (t ∷ ts) = Avoid j ts × (t.to ≢ j.head)
 
--- Steps in a loop, from its head at position p to word v at position q, that keep the bounds of the
--- loops inside, each counter being 0 at the head.
+-- Steps in a loop, from its head at position p to word v at position q. They keep the bounds of the
+-- loops inside; each counter is 0 at the head.
 pub record AreSteps (x : Course) (j : LoopSetup) (p : ℕ) (ts : List Step) (v q : ℕ) : Type 0 where
   pub leads : Leads x j.head p ts v q
   pub within : AreIn j ts
@@ -78,9 +78,9 @@ StaysInRounds =
     AreBounded x j (position_after p before) during (word_after j.head during)
     (position_after (position_after p before) during)
 
--- In a section that has a bound, at most bound + 1 rounds of a loop whose head is reachable are
--- steps from the head that stay in the loop. Neither its counter nor one of a loop inside passes
--- its bound, each being 0 at first.
+-- Take at most bound + 1 rounds of a loop with a reachable head, in a section that has a bound.
+-- They are steps from the head that stay in the loop. Neither its counter nor one of a loop inside
+-- passes its bound, each being 0 at first.
 abbrev pub RoundsAreSteps : Type 0
 RoundsAreSteps =
     (t : Tree) (slots thread : ℕ) (j : LoopSetup) (p v q : ℕ) (ts : List Step) →

@@ -9,8 +9,8 @@ pub fn stays_in_rounds()
     ensures { StaysInRounds }
 {}
 
-/// In a section that isn't refused, at most as many rounds of a reachable loop as its bound, and
-/// one more, are steps that keep the bounds of the loop and of the loops inside it.
+/// Take at most bound + 1 rounds of a reachable loop, in a section that isn't refused. They are
+/// steps that keep the bounds of the loop and of the loops inside it.
 pub fn rounds_are_steps()
     ensures { RoundsAreSteps }
 {}

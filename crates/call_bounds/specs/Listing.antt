@@ -88,7 +88,7 @@ pub record IsCode (l : Listing) : Type 0 where
   pub listing : IsListing (calls l)
   pub words : length l.words ≡ large_size / 4
 
--- What holds of every tree of calls that was built.
+-- The invariant of every tree of calls that was built.
 pub record IsCallTree (l : Listing) (trees : List (Option Tree)) (ranks : List ℕ) : Type 0 where
   pub listing : IsListing (calls l)
   pub callable : IsCallable (calls l)

@@ -49,8 +49,9 @@ IsAnswerTo (Some asked) files ports x = IsAnswerOf asked files ports x
 abbrev pub IsAnswer : List (List ℕ) → FileMap → List (Option Row) → Answer → Type 0
 IsAnswer words files ports x = IsAnswerTo (ask words) files ports x
 
--- After so many cycles a port is there where it was handed in and isn't unplugged yet; it has the
--- latch of the world, and shows what it showed when it was handed in, with the setup's inputs fed.
+-- After so many cycles a port is there if it was handed in and isn't unplugged yet. It has the
+-- latch of the world, and shows the same words as when it was handed in, with the setup's inputs
+-- fed.
 pub record LeavesMachine (files : FileMap) (name : List ℕ) (n : ℕ)
     (before after : List (Option Row)) : Type 0 where
   pub made : Program

@@ -78,9 +78,9 @@ WritesAsRun (Some (Solo setup i n)) files ports before after =
     Appends before after (trace (machine_of p ports) i n)
 WritesAsRun _ files ports before after = Unit {0}
 
--- For every confined thread that no setting of the run makes soft active, in a run that writes no
--- region register, `run` wrote the text of the one-thread definition over the thread's view and
--- these settings. `phases` writes the lines of the settings.
+-- For every confined thread that no setting of the run makes soft active, `run` wrote the text of
+-- the one-thread definition over the thread's view and these settings. This holds in a run that
+-- writes no region register. `phases` writes the lines of the settings.
 abbrev pub WritesByPhases : Option Ask → FileMap → List (Option Row) → Option (List ℕ) →
     Option (List ℕ) → Type 0
 WritesByPhases (Some (Run setup i n)) files ports before after =

@@ -77,7 +77,7 @@ abbrev pub check_answer : FileMap → List (Option Row) → List ℕ → ℕ →
 check_answer files ports name i n trace =
     ends (then_by (alone_program files name i) (checked_of files ports i n trace))
 
--- a view of the thread in the machine of a program, but for the words of its port
+-- a view of the thread in the machine of a program, except for the words of its port
 pub record IsAloneOf (p : Program) (i n : ℕ) (a : Alone) : Type 0 where
   pub setup : a.setup ≡ p.setup
   pub thread : a.view.thread ≡ i

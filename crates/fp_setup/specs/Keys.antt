@@ -7,7 +7,7 @@ use Rattle.fp_setup.specs.Vocabulary.{Text}
 use Rattle.fp_setup.specs.Inputs.{most_inputs}
 use Rattle.fp_setup.specs.Loops.{most_rounds}
 
--- what a key's value is
+-- the kind of a key's value
 pub data Kind : Type 0 where
   -- an integer from the first number to the second
   Integer : ℕ → ℕ → Kind

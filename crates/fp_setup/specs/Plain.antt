@@ -6,7 +6,7 @@ use Rattle.fp_setup.specs.declared.thread_list.ThreadSetup.{ThreadSetup}
 use Rattle.fp_setup.specs.Settings.{Settings}
 use Rattle.fp_setup.specs.SetupOfTables.{the_threads}
 
--- where a thread of version 1 may start
+-- whether a thread of version 1 may start at an address
 abbrev pub is_entry : ℕ → Bool
 is_entry entry = nat_lt entry small_size && entry % 4 == 0
 

@@ -9,7 +9,7 @@ use Rattle.fp_setup.specs.Threads.{AreThreads}
 use Rattle.fp_setup.specs.Loops.{AreLoops}
 use Rattle.fp_setup.specs.Settings.{Settings, size_of}
 
--- what an accepted setup keeps; each of its words is below 2^32
+-- the rules of an accepted setup; each of its words is below 2^32
 pub record KeepsRules (s : Settings) : Type 0 where
   pub version : (s.version ≡ 1) ⊎ (s.version ≡ 2)
   pub period_low : 1 ≤ s.period

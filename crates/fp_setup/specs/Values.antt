@@ -1,5 +1,5 @@
--- What a value of a TOML document is, as a number, a text, a truth value or a list. One of another
--- type, or none, counts as 0, empty or false: the checks refuse it.
+-- The value of a TOML document as a number, a text, a truth value or a list. One of another type,
+-- or none, counts as 0, empty or false: the checks refuse it.
 use Rattle.std.specs.Prelude.{ℕ, ℤ, pos, negsuc, Option, option_map, Bool, false}
 use Rattle.std.specs.Prelude.{List, [], ◌∷◌, unwrap_or, Some, None, option_and_then}
 use Rattle.std.specs.Option.{option_map_or}

@@ -1,4 +1,4 @@
-//! What an integer of a setup may be.
+//! The ranges of a setup's integers.
 
 ghost use Rattle.std.specs.Prelude.{◌≡◌, ◌<◌, ◌≤◌};
 ghost use Rattle.fp_setup.specs.FaultOrder.{addresses, integers};

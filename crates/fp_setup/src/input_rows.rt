@@ -21,7 +21,7 @@ use toml::{Table, Value};
 /// The most inputs that a thread may have.
 const MOST_INPUTS: usize = 4096;
 
-/// Two integers, where the value is a list of exactly these.
+/// Two integers, if the value is a list of exactly two.
 #[tactic(auto, unfolding(crate::specs::Values::pair))]
 fn two_integers(value: &Value) -> Option<(i64, i64)>
     ensures { result ≡ pair (view value.now) }

@@ -19,7 +19,7 @@ pub struct ThreadSetup {
     pub permit: bool,
     /// The cycle from which on the thread's issues find no port, if there is one.
     pub unplug: Option<u64>,
-    /// What is fed to the thread's port.
+    /// The inputs of the thread's port.
     pub inputs: Inputs,
 }
 

@@ -20,13 +20,13 @@ pub record IsHardBy (slots thread : ℕ) (r : Registers) : Type 0 where
 abbrev pub IsSet : Start → ℕ → ℕ → ℕ → Type 0
 IsSet s slots thread c = IsHardBy slots thread (world s (c - 2)).registers
 
--- what holds in each cycle from the first to the last
+-- a condition holds in each cycle from the first to the last
 abbrev pub Throughout : (ℕ → Type 0) → ℕ → ℕ → Type 0
 Throughout set first last = (c : ℕ) → first ≤ c → c ≤ last → set c
 
 -- Issues, the newest first. One in a set cycle is at a position of the thread's. One at a known
--- word that doesn't trap is followed by the next one along an edge, if each cycle from the one to
--- the other is set.
+-- word that doesn't trap is followed by the next one along an edge. This needs each cycle from the
+-- one to the other to be set.
 abbrev pub AreLinkedIn : (ℕ → Type 0) → (ℕ → Type 0) → (ℕ → Edge → Type 0) → Positions →
     List Issued → Type 0
 AreLinkedIn set known way s [] = Unit {0}
@@ -44,17 +44,17 @@ pub record HasWords (s : Start) (t : Tree) : Type 0 where
   pub same_words : (u : ℕ) → Reachable (graph t) u → u < s.size →
       code_at s.size s.i_words u ≡ word_at t u
 
--- in every run of such a machine the thread's issues follow the edges of a section that has a
--- bound, while the slots and its mode don't change
+-- in every run of such a machine the thread's issues follow the edges of the section, while the
+-- slots and its mode don't change; the section has a bound
 abbrev pub IssuesFollowEdgesInSettings : Type 0
 IssuesFollowEdgesInSettings =
     (t : Tree) (slots thread : ℕ) (s : Start) (n : ℕ) → IsTree t → HasWords s t →
     AreLinkedIn (IsSet s slots thread) (Reachable (graph t)) (EdgeOf (graph t))
     (course t slots thread).positions (issues_of thread (world s n).turns)
 
--- In every run of such a machine a visit takes no longer than an upper bound on the cost of the
--- paths through the section. Picking uses these slots and a hard active mode of the thread during
--- the visit, which keeps the stated bounds of the loops.
+-- In a run of such a machine a visit takes no longer than an upper bound on the cost of the paths
+-- through the section. This holds if picking uses these slots and a hard active mode of the thread
+-- during the visit, and the visit keeps the stated bounds of the loops.
 abbrev pub VisitsAreBoundedInSettings : Type 0
 VisitsAreBoundedInSettings =
     (t : Tree) (slots thread b : ℕ) (s : Start) (n : ℕ) → IsTree t →

@@ -12,18 +12,18 @@ use Rattle.run_laws.specs.TraceLaws.{IsQuiet, Machine}
 use Rattle.section_visits.specs.SetupVisitBound.{issues}
 use Rattle.section_visits.specs.Visits.{Issued, first_of}
 
--- a machine with these slots, in which thread i is hard and active at the start, and whose image
--- has these words in all reached functions of a section with routines
+-- a machine with these slots, in which thread i is hard and active at the start; its image has
+-- these words in all reached functions of a section with routines
 pub record IsAlikeInParts (m : Machine) (i slots : ℕ) (x : Calls) : Type 0 where
   pub hard : mode_of m.setup.modes i ≡ 0
   pub same_slots : m.setup.slots ≡ slots
   pub same_words : (u : ℕ) → u % 4 ≡ 0 → IsMet x u → word m.image u ≡ x.word u
 
--- No call visit of thread i takes longer than an upper bound on the cost of the paths with matching
--- calls and returns through a section with routines. The visit's returns match its calls, and it
--- keeps the bounds of the loops that count. This holds in every quiet run of every machine whose
--- setup keeps the rules, as each accepted one does. The machine has the same slots, mode of i and
--- words of the reached functions; the rest of its setup and image, and its ports, don't matter.
+-- No call visit of thread i exceeds an upper bound on the cost of a section's paths with matching
+-- calls and returns, if its returns match its calls and it keeps the bounds of the loops that
+-- count. This holds in every quiet run of every machine whose setup keeps the rules, as each
+-- accepted one does. The machine must have the same slots, mode of i and words of the reached
+-- functions. The rest of its setup and image, and its ports, don't matter.
 abbrev pub CallVisitsStayBounded : Type 0
 CallVisitsStayBounded =
     (x : Calls) (slots i b : ℕ) (m : Machine) (n : ℕ) → IsListing x → IsCallable x →

@@ -53,9 +53,9 @@ pub record StartsHard (m : Machine) (i slots : ℕ) : Type 0 where
   pub same_slots : m.setup.slots ≡ slots
   pub hard : mode_of m.setup.modes i ≡ 0
 
--- A visit takes no longer than an upper bound on the cost of the section's paths, with any slots.
--- Picking uses these slots throughout, and thread i is hard and active. The visit keeps the bounds
--- of the loops.
+-- A visit takes no longer than an upper bound on the cost of the section's paths, for any slots.
+-- This holds if picking uses these slots throughout, thread i is hard and active, and the visit
+-- keeps the bounds of the loops.
 abbrev pub VisitsStayBoundedInSettings : Type 0
 VisitsStayBoundedInSettings =
     (setup : Settings) (image : List Segment) (s : Section) (slots i b : ℕ) (m : Machine) (n : ℕ) →

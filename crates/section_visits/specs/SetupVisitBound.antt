@@ -18,8 +18,8 @@ use Rattle.section_visits.specs.Visits.{Issued, IsVisit, KeepsBounds, first_of, 
 abbrev pub issues : Machine → ℕ → ℕ → List Issued
 issues m i n = issues_of i (world (start m.setup m.image m.ports n) n).turns
 
--- a machine with these slots, in which thread i is hard and active at the start, and whose image
--- has the same words in a section as this one
+-- a machine with these slots, in which thread i is hard and active at the start; its image has the
+-- same words in a section as this one
 pub record IsAlike (m : Machine) (i slots : ℕ) (image : List Segment) (s : Section) : Type 0 where
   pub hard : mode_of m.setup.modes i ≡ 0
   pub same_slots : m.setup.slots ≡ slots
@@ -29,11 +29,11 @@ pub record IsAlike (m : Machine) (i slots : ℕ) (image : List Segment) (s : Sec
 abbrev pub tree_in : Settings → List Segment → Section → Tree
 tree_in setup image s = tree_of (word image) s setup.loops
 
--- No visit of thread i that keeps the bounds of the setup's loops takes longer than an upper bound
--- on the cost of the paths through a section of the setup's image. This holds in every quiet run of
--- every machine whose setup keeps the rules, as each accepted one does. The machine has the same
--- slots, mode of i and words of the section; the rest of its setup and image, and its ports, don't
--- matter.
+-- No visit of thread i exceeds an upper bound on the cost of the paths through a section of the
+-- setup's image, if it keeps the bounds of the setup's loops. This holds in every quiet run of
+-- every machine whose setup keeps the rules, as each accepted one does. The machine must have the
+-- same slots, mode of i and words of the section. The rest of its setup and image, and its ports,
+-- don't matter.
 abbrev pub VisitsStayBounded : Type 0
 VisitsStayBounded =
     (setup : Settings) (image : List Segment) (s : Section) (i b : ℕ) (m : Machine) (n : ℕ) →

@@ -10,9 +10,9 @@ use Rattle.bound_calc.specs.Bound.{course}
 use Rattle.core_model.specs.World.{Start, is_quiet, world}
 use Rattle.section_visits.specs.Visits.{Issued, IsVisit, KeepsBounds, first_of, issues_of}
 
--- A machine with these slots, where the thread is hard and active at the start, and where the
--- section has the same words as far as the scratchpad goes. The other threads' code, the rights of
--- all threads and the rest of memory don't matter.
+-- A machine with these slots, where the thread is hard and active at the start. The section has the
+-- same words, as far as the scratchpad goes. The other threads' code, the rights of all threads and
+-- the rest of memory don't matter.
 pub record IsHost (s : Start) (t : Tree) (slots thread : ℕ) : Type 0 where
   pub eight : length s.threads ≡ 8
   pub hard : mode_of s.registers.modes thread ≡ 0
@@ -20,8 +20,8 @@ pub record IsHost (s : Start) (t : Tree) (slots thread : ℕ) : Type 0 where
   pub same_words : (u : ℕ) → u % 4 ≡ 0 → Lies (graph t) u → u < s.size →
       code_at s.size s.i_words u ≡ word_at t u
 
--- The second issue is at the target of an edge of the first one's word, at the thread's first turn
--- that is at least the edge's lag later.
+-- The second issue is at the target of an edge of the first one's word. It is at the thread's first
+-- turn that is at least the edge's lag later.
 pub record Along (way : ℕ → Edge → Type 0) (s : Positions) (first second : Issued) : Type 0 where
   pub edge : Edge
   pub known : way first.pc edge
@@ -55,9 +55,9 @@ IssuesFollowEdges =
     (t : Tree) (slots thread : ℕ) (s : Start) (n : ℕ) → IsTree t → IsHost s t slots thread →
     is_quiet s n ≡ true → FollowEdges (course t slots thread) (issues_of thread (world s n).turns)
 
--- In every quiet run of such a machine no visit of the section that keeps the stated bounds of its
--- loops takes longer, from its first issue to its last, than an upper bound on the cost of the
--- paths through the section.
+-- In a quiet run of such a machine no visit of the section exceeds an upper bound on the cost of
+-- the section's paths, if it keeps the stated bounds of the section's loops. A visit is measured
+-- from its first issue to its last.
 abbrev pub VisitsAreBounded : Type 0
 VisitsAreBounded =
     (t : Tree) (slots thread b : ℕ) (s : Start) (n : ℕ) → IsTree t →

@@ -6,16 +6,16 @@ ghost use Rattle.section_visits.specs.CallVisitBound.{CallVisitsAreBounded};
 ghost use Rattle.section_visits.specs.CallsInSettings.{CallVisitsAreBoundedInSettings};
 
 /// A call visit takes no longer than an upper bound on the cost of the section's paths with
-/// matching calls and returns. Picking uses the same slots, and the thread is hard and active
-/// during the visit. Its returns match its calls, and it keeps the stated bounds of the loops of
-/// reached functions.
+/// matching calls and returns. This holds if picking uses the same slots and the thread is hard and
+/// active during the visit. The visit's returns must match its calls, and it must keep the stated
+/// bounds of the loops of reached functions.
 pub fn stays_bounded_in_settings()
     ensures { CallVisitsAreBoundedInSettings }
 {}
 
-/// In a quiet run no call visit of a hard thread takes longer than an upper bound on the cost of
-/// the section's paths with matching calls and returns. The visit's returns match its calls, and it
-/// keeps the stated bounds of the loops of reached functions.
+/// In a quiet run no call visit of a hard thread exceeds an upper bound on the cost of the
+/// section's paths with matching calls and returns. This holds if the visit's returns match its
+/// calls, and it keeps the stated bounds of the loops of reached functions.
 pub fn stays_bounded()
     ensures { CallVisitsAreBounded }
 {

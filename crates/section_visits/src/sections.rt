@@ -7,15 +7,15 @@ ghost use Rattle.section_visits.specs.InSettings.{VisitsAreBoundedInSettings};
 ghost use Rattle.section_visits.specs.VisitBound.{IssuesFollowEdges, VisitsAreBounded};
 
 /// While picking uses the same slots, and a thread is hard and active, its issues follow the edges
-/// of the section, each at the thread's first turn after the edge's lag.
+/// of the section. Each is at the thread's first turn after the edge's lag.
 pub fn follows_edges_in_settings()
     ensures { IssuesFollowEdgesInSettings }
 {}
 
-/// A visit takes no longer than an upper bound on the cost of the section's paths. Picking uses the
-/// same slots, and the thread is hard and active during the visit, which keeps the stated bounds of
-/// the section's loops. Writes of region registers don't matter, nor do writes of slots and modes
-/// before and after the visit.
+/// A visit takes no longer than an upper bound on the cost of the section's paths. This holds if
+/// picking uses the same slots and the thread is hard and active during the visit, and the visit
+/// keeps the stated bounds of the section's loops. Writes of region registers don't matter, nor do
+/// writes of slots and modes before and after the visit.
 pub fn stays_bounded_in_settings()
     ensures { VisitsAreBoundedInSettings }
 {
@@ -30,8 +30,8 @@ pub fn follows_edges()
     follows_edges_in_settings();
 }
 
-/// In a quiet run no visit of a hard thread that keeps the stated bounds of the section's loops
-/// takes longer than an upper bound on the cost of the section's paths.
+/// In a quiet run no visit of a hard thread exceeds an upper bound on the cost of the section's
+/// paths, if it keeps the stated bounds of the section's loops.
 pub fn stays_bounded()
     ensures { VisitsAreBounded }
 {

@@ -14,8 +14,9 @@ ghost use Rattle.section_visits.specs.SetupVisitBound.{VisitsStayBounded};
 use core_model::tells_picks;
 
 /// A visit takes no longer than an upper bound on the cost of the section's paths with these slots.
-/// Picking uses the same slots, and the thread is hard and active during the visit, which keeps the
-/// stated bounds of the loops. The image needs only the same reachable words.
+/// This holds if picking uses the same slots and the thread is hard and active during the visit,
+/// and the visit keeps the stated bounds of the loops. The image needs only the same reachable
+/// words.
 pub fn stays_bounded_in_settings()
     ensures { VisitsStayBoundedInSettings }
 {
@@ -31,18 +32,18 @@ pub fn stays_bounded_by_phases()
     tells_picks();
 }
 
-/// While no issue writes slots or modes, no visit of a thread that starts hard and active takes
-/// longer than an upper bound on the cost of the section's paths. The visit keeps the stated bounds
-/// of the loops. Region registers may be written.
+/// While no issue writes slots or modes, no visit of a thread that starts hard and active exceeds
+/// an upper bound on the cost of the section's paths. This holds if the visit keeps the stated
+/// bounds of the loops. Region registers may be written.
 pub fn stays_bounded_while_scheduled()
     ensures { VisitsStayBoundedWhileScheduled }
 {
     stays_bounded_in_settings();
 }
 
-/// While no configuration register is written, no visit of a hard thread that keeps the stated
-/// bounds of the loops takes longer than an upper bound on the cost of the section's paths. The
-/// rest of the machine and the other threads' code don't matter.
+/// While no configuration register is written, no visit of a hard thread exceeds an upper bound on
+/// the cost of the section's paths. This holds if the visit keeps the stated bounds of the loops.
+/// The rest of the machine and the other threads' code don't matter.
 pub fn stays_bounded()
     ensures { VisitsStayBounded }
 {
@@ -50,8 +51,9 @@ pub fn stays_bounded()
 }
 
 /// A call visit takes no longer than an upper bound on the cost of the paths with matching calls
-/// and returns with these slots. Picking uses the same slots, and the thread is hard and active
-/// during the visit. Its returns match its calls, and it keeps the stated bounds of the loops.
+/// and returns with these slots. This holds if picking uses the same slots and the thread is hard
+/// and active during the visit. The visit's returns must match its calls, and it must keep the
+/// stated bounds of the loops.
 pub fn calls_stay_bounded_in_settings()
     ensures { CallVisitsStayBoundedInSettings }
 {
@@ -68,19 +70,19 @@ pub fn calls_stay_bounded_by_phases()
 }
 
 /// While no issue writes slots or modes, no call visit of a thread that starts hard and active
-/// takes longer than an upper bound on the cost of the paths with matching calls and returns. The
-/// visit's returns match its calls, and it keeps the stated bounds of the loops. Region registers
-/// may be written.
+/// exceeds an upper bound on the cost of the paths with matching calls and returns. This holds if
+/// the visit's returns match its calls, and it keeps the stated bounds of the loops. Region
+/// registers may be written.
 pub fn calls_stay_bounded_while_scheduled()
     ensures { CallVisitsStayBoundedWhileScheduled }
 {
     calls_stay_bounded_in_settings();
 }
 
-/// While no configuration register is written, no call visit of a hard thread takes longer than an
-/// upper bound on the cost of the paths with matching calls and returns. The visit's returns match
-/// its calls, and it keeps the stated bounds of the loops. The rest of the machine and the other
-/// threads' code don't matter.
+/// While no configuration register is written, no call visit of a hard thread exceeds an upper
+/// bound on the cost of the paths with matching calls and returns. This holds if the visit's
+/// returns match its calls, and it keeps the stated bounds of the loops. The rest of the machine
+/// and the other threads' code don't matter.
 pub fn calls_stay_bounded()
     ensures { CallVisitsStayBounded }
 {

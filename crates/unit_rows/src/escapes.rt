@@ -3,7 +3,7 @@
 use row_text::RowText;
 use std::alloc::Global;
 
-/// What comes next in a text with escapes.
+/// The next element of a text with escapes.
 #[derive(Clone, Copy)]
 enum Next {
     Plain,

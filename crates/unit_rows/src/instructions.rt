@@ -40,7 +40,7 @@ fn push_executed(text: &mut RowText, ins: &Ins, pc: u32, a: u32, b: u32) {
     )
 }
 
-/// What a load makes of a word at an address, or a store of a value there.
+/// The result of a load from a word at an address, or of a store of a value there.
 fn push_moved(text: &mut RowText, ins: &Ins, address: u32, value: u32) {
     match *ins {
         Ins::Load { op, .. } => push_loaded(text, op, address, value),

@@ -91,7 +91,7 @@ fn push_run(alloc: Global, text: &mut RowText, machine: &mut Machine)
     push_run_beside(alloc, text, machine, &mut ports)
 }
 
-/// Appends what a machine does that is built from the listed fields of `Machine`, `Pipe` and
+/// Appends the run of a machine that is built from the listed fields of `Machine`, `Pipe` and
 /// `Units`: with a further field this does not compile.
 pub fn state_of_fields(alloc: Global, text: &mut RowText) {
     let (Some(sched), Some(guard)) = (sched(0xffff_fff0, 0xfffc), guard(0xcccc_c810)) else {

@@ -2,7 +2,7 @@
 
 ghost use Rattle.std.specs.Prelude.{◌<◌};
 
-/// A text up to its first space, and what follows that.
+/// A text up to its first space, and the rest after it.
 pub fn head(text: &str) -> (&str, &str) {
     match text.split_once(' ') {
         Some(parts) => parts,

@@ -1,4 +1,4 @@
-//! What the assembler makes of sources.
+//! The assembler's images of sources.
 //!
 //! The answers of `sources.txt` were worked out from the rules of the language by hand and by a
 //! model in another language. GNU as 2.40 with GNU ld made the words of `gnu.txt`, for the
