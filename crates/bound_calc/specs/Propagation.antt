@@ -168,7 +168,8 @@ pub record IsFront (x : Field) (t : Tree) (s : Scope) (n : ℕ) (f : FrontModel)
   pub ahead : (k : ℕ) → n ≤ k → address t k ≤ s.high →
       AreBest (Ahead f n k) (Comes x s (Below x (address t n)) (address t k))
 
--- a word of straight code: nothing waits there, and its only edge is to the next word, by the turns
+-- a word of straight code: nothing waits there, it has no power of a loop, and its only edge is to
+-- the next word, by the turns
 pub record IsStraight (t : Tree) (e : Edges) (k last : ℕ) (way power : Option Matrix)
     (f : FrontModel) : Type 0 where
   pub jump : e.jump ≡ None
@@ -260,7 +261,8 @@ pub record IsMostFrom (t : Tree) (s : Positions) (here : Matrix) (e : Edges)
   pub by_next : IsOut s here (leaves t e.next) e.next_lag inner next
   pub by_jump : IsOut s here (leaves t e.jump) redirect_lag next new
 
--- the largest cost at the words with indices below n
+-- a cost of some path, no less than the costs at the words with indices below n, and on their edges
+-- out of the section
 pub record IsMost (x : Course) (t : Tree) (n most : ℕ) : Type 0 where
   pub met : (c : ℕ) × CostsOf x c × (min most ceiling ≡ min c ceiling)
   pub inside : (k p c q : ℕ) → k < n →

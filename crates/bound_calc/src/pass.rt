@@ -232,8 +232,8 @@ fn leads_on(tree: &LoopTree, edges: &Edges, index: usize, last: usize) -> bool
     edges.jump.is_none() && is_index(up_to(tree, index, last, edges.next), index + 1)
 }
 
-/// Whether a word is straight code, where a pass need not stop: nothing waits there, and its only
-/// edge is to the next word, by the turns.
+/// Whether a word is straight code, where a pass need not stop. Nothing waits there, it has no
+/// power of a loop, and its only edge is to the next word, by the turns.
 pub fn is_straight(
     tree: &LoopTree,
     edges: &Edges,
