@@ -13,7 +13,7 @@ pub enum WordsNo {
     /// The words ask nothing: no command has this name, or it doesn't take these words.
     #[error("the words ask nothing")]
     Usage = 1,
-    /// Memory was refused.
+    /// Out of memory.
     #[error("out of memory")]
     NoMemory = 2,
 }

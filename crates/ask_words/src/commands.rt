@@ -323,7 +323,7 @@ fn ask_of(alloc: Global, name: &str, command: Command, words: &[String]) -> Resu
 ///
 /// # Errors
 ///
-/// Usage exactly where they ask nothing, but for want of memory; NoMemory where memory was refused.
+/// Usage exactly where they ask nothing, but because memory ran out; NoMemory if memory ran out.
 pub fn read_words(alloc: Global, words: &[String]) -> Result<Ask, WordsNo>
     ensures asked { IfOk result (λ a. ask (map string_bytes words.now) ≡ Some a) }
     ensures refused { IfErr result (IsCauseOf (ask (map string_bytes words.now))) }

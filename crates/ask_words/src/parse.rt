@@ -148,8 +148,7 @@ fn values_for<'a>(
 ///
 /// # Errors
 ///
-/// Usage where the words don't give each exactly once and nothing else; NoMemory where memory was
-/// refused.
+/// Usage where the words don't give each exactly once and nothing else; NoMemory if memory ran out.
 pub fn texts_of<'a>(
     alloc: Global,
     name: &'a str,

@@ -21,7 +21,7 @@ use std::alloc::{AllocError, Global};
 pub enum NoTrace {
     /// The command ended with this status, 1 to 10.
     Status(u8),
-    /// Memory was refused.
+    /// Out of memory.
     NoMemory,
 }
 
@@ -52,7 +52,7 @@ fn write_trace<F: Files>(
 ///
 /// # Errors
 ///
-/// The status of the command, 8 where the trace has more bytes; or memory was refused.
+/// The status of the command, 8 where the trace has more bytes; or memory ran out.
 pub fn trace_beside<F: Files>(
     alloc: Global,
     words: &[String],

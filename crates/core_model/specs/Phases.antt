@@ -1,4 +1,4 @@
--- The settings of the scheduling in a run: what picking goes by, and from which cycle on.
+-- The settings of the scheduling in a run: what picking uses, and from which cycle on.
 use Rattle.std.specs.Prelude.{ℕ, ◌+◌, ◌-◌, ◌==◌, Bool, true, not, ◌||◌}
 use Rattle.std.specs.Prelude.{if◌then◌else◌, List, [], ◌∷◌, ◌++◌, length, Some}
 use Rattle.std.specs.List.{list_all}

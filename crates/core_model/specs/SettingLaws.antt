@@ -16,7 +16,7 @@ pub record Matches (p : Phase) (r : Registers) : Type 0 where
   pub slots : p.slots ≡ r.slots
   pub modes : p.modes ≡ r.modes
 
--- the setting of a cycle is what picking goes by in it, which is what stood in the registers two
+-- the setting of a cycle is what picking uses in it, which is what stood in the registers two
 -- cycles before; so a write that hasn't retired is seen by no issue that has
 abbrev pub SettingsOfPicks : Type 0
 SettingsOfPicks =

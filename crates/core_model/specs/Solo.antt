@@ -84,7 +84,7 @@ solo_turn s c port t =
 abbrev pub port_at : View → ℕ → ℕ
 port_at v c = slice_index_or v.shown c absent_word
 
--- the past with one more turn
+-- the past with the next turn
 abbrev pub add_turn : Past → Turned → Past
 add_turn p d = record { alone = d.alone; events = d.event ∷ p.events }
 

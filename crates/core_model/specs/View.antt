@@ -29,7 +29,7 @@ kind_at size kinds address = slice_index_or kinds (region_of size address) Forei
 
 -- what its instruction may do at a time, by what the regions are to it: it fetches and loads from
 -- regions that are its own or read only, and stores into regions that are its own or shared. At the
--- port it may load and store whole words. The machine's own registers are refused
+-- port it may load and store whole words. The configuration registers are refused
 unfoldable pub environment_by : ℕ → ℕ → List RegionKind → List RegionKind → ℕ → Environment
 environment_by thread size i_kinds d_kinds now =
     record {

@@ -23,7 +23,7 @@ use Rattle.core_model.specs.Solo.{contents_by}
 use Rattle.fp_ports.specs.PluggedPorts.{absent_word}
 use Rattle.core_model.specs.Cycles.{cycles_to_w}
 
--- the machine's own registers, 0x7C0 to 0x7C3
+-- the configuration registers, 0x7C0 to 0x7C3
 pub record Registers : Type 0 where
   pub slots : ℕ
   pub modes : ℕ
@@ -65,7 +65,7 @@ pub record World : Type 0 where
 abbrev pub thread_of : World → ℕ → Thread
 thread_of w k = slice_index_or w.threads k (fresh 0)
 
--- what picking goes by
+-- what picking uses
 abbrev pub sched_by : Registers → List ℕ → Sched
 sched_by r sleeps = record { slots = r.slots; modes = r.modes; sleep = sleeps }
 
@@ -73,7 +73,7 @@ sched_by r sleeps = record { slots = r.slots; modes = r.modes; sleep = sleeps }
 abbrev pub sched_of : World → Sched
 sched_of w = sched_by w.registers (map (λ t. t.own.sleep) w.threads)
 
--- one of the machine's own registers, by its number
+-- a configuration register, by its number
 abbrev pub config_register : Registers → ℕ → ℕ
 config_register r csr =
     if csr == csr_slots then r.slots
@@ -117,7 +117,7 @@ words_after size (Some (Store address width value)) words =
     if is_data size address then words_with_store size words address width value else words
 words_after size _ words = words
 
--- to the machine's own registers,
+-- to the configuration registers,
 abbrev pub registers_after : Option Effect → Registers → Registers
 registers_after (Some (Csr csr value rd old)) r =
     if csr == csr_slots then record r { slots = value }
@@ -173,7 +173,7 @@ after_pick s c w last (Issue k) =
     if nat_lt c (thread_of w k).ready then after_no_issue w last (Lost k)
     else after_issue s c w last k (issue_of s c w k)
 
--- the world after cycle c, from the world before it and what picking goes by
+-- the world after cycle c, from the world before it and what picking uses
 unfoldable pub after_turn : Start → ℕ → World → Sched → World
 after_turn s c w q = let p = pick q c (time s.period c) w.last in after_pick s c w p.last p.pick
 
@@ -226,12 +226,12 @@ events_of i (took ∷ turns) = events_of i turns ++ event_of i (length turns) to
 abbrev pub events : Start → ℕ → ℕ → List Event
 events s i n = events_of i (world s (n - cycles_to_w)).turns
 
--- whether a turn leaves the machine's own registers unwritten
+-- whether a turn leaves the configuration registers unwritten
 abbrev pub leaves_registers : Took → Bool
 leaves_registers (Ran k pc word (Some (Csr csr value rd old))) = not (is_shared csr)
 leaves_registers _ = true
 
--- a run of n cycles is quiet where no issue in it, retired or in flight, writes one of the
--- machine's own registers, be it with the word that stands there
+-- a run of n cycles is quiet where no issue in it, retired or in flight, writes a configuration
+-- register, be it with the word that stands there
 abbrev pub is_quiet : Start → ℕ → Bool
 is_quiet s n = list_all leaves_registers (world s n).turns

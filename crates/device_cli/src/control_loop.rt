@@ -39,7 +39,7 @@ impl ControlLoop {
     ///
     /// # Errors
     ///
-    /// Memory was refused.
+    /// Out of memory.
     pub fn new(alloc: Global, program: &Program, ports: Ports) -> Result<ControlLoop, AllocError>
         requires { vec_len ports ≡ 8 }
         ensures eight { IfOk result (λ l. vec_len l.ports ≡ 8) }
@@ -75,7 +75,7 @@ impl ControlLoop {
     ///
     /// # Errors
     ///
-    /// Memory was refused.
+    /// Out of memory.
     pub fn period(&mut self) -> Result<(), AllocError>
         requires eight { vec_len self.old.ports ≡ 8 }
         requires cycles { self.old.machine.at + 800 ≤ most_cycles }

@@ -66,7 +66,7 @@ fn assemble_lines(alloc: Global, lines: &[&[u8]]) -> Result<Image, AsmRefused>
 ///
 /// The first fault of the source, in this order: a source that is too long; the faults of a first
 /// pass over the lines, which knows locations and labels; those of a second pass, which knows all
-/// labels; more segments than an image may have. `NoMemory` where memory was refused.
+/// labels; more segments than an image may have. `NoMemory` if memory ran out.
 #[tactic(auto, unfolding(crate::specs::Source::assembly_of))]
 pub fn assemble(alloc: Global, source: &[u8]) -> Result<Image, AsmRefused>
     ensures image { IfOk result (λ image. assembly_of source.now ≡ Ok image) }

@@ -14,7 +14,7 @@ use std::collections::{BTreeMap, BTreeSet};
 ///
 /// # Errors
 ///
-/// Memory was refused.
+/// Out of memory.
 pub(crate) fn rising(alloc: Global, taken: &BTreeSet<u32>) -> Result<Vec<u32>, AllocError>
     ensures { IfOk result (λ list. list.items ≡ taken.now.keys) }
 {
@@ -49,7 +49,7 @@ fn bytes_of(alloc: Global, memory: &BTreeMap<u32, u32>, run: &Run) -> Result<Vec
 ///
 /// # Errors
 ///
-/// Memory was refused.
+/// Out of memory.
 #[tactic(auto, using(crate::proofs::Segments::all_short, crate::proofs::Segments::image_more))]
 pub(crate) fn image_of(
     alloc: Global,

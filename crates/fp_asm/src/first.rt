@@ -78,8 +78,7 @@ impl<'a> First<'a> {
     /// # Errors
     ///
     /// The first fault and the number of its line: one that the line has by itself, a label that
-    /// was there before, or a word outside the scratchpads or where there is one. Or memory was
-    /// refused.
+    /// was there before, or a word outside the scratchpads or where there is one. Or out of memory.
     pub(crate) fn pass(&mut self, alloc: Global, lines: &[&'a [u8]]) -> Result<(), AsmRefused>
         requires short { All (λ l. length l.now < 2 ^ 32) lines.now }
         requires few { length lines.now < 2 ^ 31 }

@@ -205,7 +205,7 @@ pub(crate) fn fill_all<'a>(
 ///
 /// # Errors
 ///
-/// Memory was refused.
+/// Out of memory.
 pub(crate) fn targets<'a>(
     alloc: Global,
     operands: &[&[Piece<'a>]],

@@ -252,7 +252,7 @@ fn rest(v: u32) -> i32
 ///
 /// # Errors
 ///
-/// Memory was refused.
+/// Out of memory.
 #[tactic(auto, unfolding(crate::specs::Words::halves))]
 pub(crate) fn halves(alloc: Global, rd: u8, v: u32) -> Result<Vec<u32>, AllocError>
     requires { rd < 32 }
@@ -272,7 +272,7 @@ pub(crate) fn halves(alloc: Global, rd: u8, v: u32) -> Result<Vec<u32>, AllocErr
 ///
 /// # Errors
 ///
-/// Memory was refused.
+/// Out of memory.
 #[tactic(auto, unfolding(crate::specs::Words::load_instructions))]
 pub(crate) fn load_words(alloc: Global, rd: u8, v: u32) -> Result<Vec<u32>, AllocError>
     requires { rd < 32 }

@@ -60,7 +60,7 @@ fn label_from<'a>(pieces: &[Piece<'a>], n: usize) -> Option<&'a [u8]>
 ///
 /// # Errors
 ///
-/// [`AsmNo::DoubleLabel`] where one of them was there before; or memory was refused.
+/// [`AsmNo::DoubleLabel`] where one of them was there before; or memory ran out.
 #[tactic(auto, using(crate::proofs::LabelByLabel::labelling))]
 pub(crate) fn add_labels<'a>(
     labels: &mut Labels<'a>,

@@ -22,7 +22,7 @@ fn without_return(line: &[u8]) -> &[u8]
 ///
 /// # Errors
 ///
-/// Memory was refused.
+/// Out of memory.
 pub(crate) fn lines<'a>(alloc: Global, source: &'a [u8]) -> Result<Vec<&'a [u8]>, AllocError>
     ensures lines { IfOk result (λ lines. map (λ line. line.now) lines.items
         ≡ lines_of source.now) }

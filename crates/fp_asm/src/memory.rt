@@ -10,7 +10,7 @@ use std::collections::BTreeMap;
 ///
 /// # Errors
 ///
-/// Memory was refused.
+/// Out of memory.
 pub(crate) fn write_words(
     memory: &mut BTreeMap<u32, u32>,
     location: u32,

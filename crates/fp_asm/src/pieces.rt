@@ -96,7 +96,7 @@ fn pieces_at<'a>(
 ///
 /// # Errors
 ///
-/// [`AsmNo::Lex`] where the line isn't one of tokens; or memory was refused.
+/// [`AsmNo::Lex`] where the line isn't one of tokens; or memory ran out.
 pub(crate) fn pieces<'a>(alloc: Global, line: &'a [u8]) -> Result<Vec<Piece<'a>>, Stop>
     requires { length line.now < 2 ^ 32 }
     ensures pieces { IfOk result
@@ -139,7 +139,7 @@ fn between_commas<'p, 'a>(
 ///
 /// # Errors
 ///
-/// Memory was refused.
+/// Out of memory.
 #[tactic(auto, unfolding(crate::specs::Pieces::operands_of))]
 pub(crate) fn operands<'p, 'a>(
     alloc: Global,

@@ -50,7 +50,7 @@ pub enum AsmRefused {
     /// The first fault. Lines count from 1; a fault of the whole source has line 0.
     #[error("line {line}: {code}")]
     Fault { line: u32, code: AsmNo },
-    /// Memory was refused.
+    /// Out of memory.
     #[error("out of memory")]
     NoMemory,
 }
@@ -60,7 +60,7 @@ pub enum AsmRefused {
 pub(crate) enum Stop {
     /// The line's first fault.
     Fault { code: AsmNo },
-    /// Memory was refused.
+    /// Out of memory.
     NoMemory,
 }
 

@@ -40,7 +40,7 @@ fn runs_after(alloc: Global, start: u32, others: &[u32]) -> Result<Vec<Run>, All
 ///
 /// # Errors
 ///
-/// Memory was refused.
+/// Out of memory.
 #[tactic(auto, unfolding(crate::specs::Runs::runs_of))]
 pub(crate) fn runs_of(alloc: Global, addresses: &[u32]) -> Result<Vec<Run>, AllocError>
     requires { length addresses.now < 2 ^ 30 }

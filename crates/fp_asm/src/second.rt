@@ -97,7 +97,7 @@ impl Second {
     ///
     /// The first fault and the number of its line: one that the line has by itself, a label that is
     /// nowhere, a jump to an address that is no multiple of four, or a number or a way outside its
-    /// range. Or memory was refused.
+    /// range. Or out of memory.
     pub(crate) fn pass(
         &mut self,
         alloc: Global,

@@ -157,7 +157,7 @@ fn named<'a>(alloc: Global, text: &[u8], pieces: &[Piece<'a>]) -> Result<Stateme
 /// # Errors
 ///
 /// The fault of the name, of the operands, or of a number that a directive or LI takes; or memory
-/// was refused.
+/// ran out.
 #[tactic(auto, unfolding(crate::specs::Statements::statement_of))]
 pub(crate) fn statement_after<'a>(
     alloc: Global,

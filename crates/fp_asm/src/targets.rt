@@ -44,7 +44,7 @@ pub(crate) fn resolve(labels: &Labels, target: &Target) -> Result<u32, AsmNo>
 ///
 /// # Errors
 ///
-/// [`AsmNo::NoLabel`] where a label is nowhere; or memory was refused.
+/// [`AsmNo::NoLabel`] where a label is nowhere; or memory ran out.
 pub(crate) fn resolve_all(
     alloc: Global,
     labels: &Labels,

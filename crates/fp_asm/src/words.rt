@@ -143,7 +143,7 @@ fn one_word(alloc: Global, word: Result<u32, AsmNo>) -> Result<Vec<u32>, Stop>
 /// # Errors
 ///
 /// A label that is nowhere, a branch or jump to an address that is no multiple of four, or a number
-/// or a way outside its range; or memory was refused.
+/// or a way outside its range; or memory ran out.
 #[tactic(auto, unfolding(crate::specs::Second::statement_words))]
 pub(crate) fn words_of(
     alloc: Global,

@@ -52,7 +52,7 @@ segment_checks size total from rest =
 abbrev pub end_checks : ℕ → List ℕ → List (Check ImageRefused)
 end_checks total rest = check (nat_lt 0 (length rest)) Trailing (total - length rest) ∷ []
 
--- a result that is the defined one, unless memory was refused
+-- a result that is the defined one, unless memory ran out
 abbrev pub IsUnlessMemory : {A : Type 0} → Result A ImageRefused → Result A ImageRefused → Type 0
 IsUnlessMemory result defined = (result ≡ Err NoMemory) ⊎ (result ≡ defined)
 

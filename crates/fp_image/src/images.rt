@@ -43,7 +43,7 @@ impl Image {
     ///
     /// # Errors
     ///
-    /// `AllocError` where memory was refused; the image is then as it was.
+    /// `AllocError` if memory ran out; the image is then as it was.
     pub fn add(&mut self, address: u32, bytes: Bytes) -> Result<(), AllocError>
         requires { IsImage large_size
             (self.old ++ record { address = address; bytes = bytes } ∷ []) }

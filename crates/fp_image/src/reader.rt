@@ -17,8 +17,7 @@ use std::alloc::Global;
 ///
 /// # Errors
 ///
-/// `Fault` where the file isn't an image, with its first fault; `NoMemory` where memory was
-/// refused.
+/// `Fault` where the file isn't an image, with its first fault; `NoMemory` if memory ran out.
 #[tactic(auto, unfolding(crate::specs::Format::image_of))]
 pub fn read_image(alloc: Global, bytes: &[u8], size: u32) -> Result<Image, ImageRefused>
     requires { IsSize size }

@@ -36,7 +36,7 @@ pub enum ImageRefused {
     /// segment's address field where that is at fault, and of the first byte that is too many.
     #[error("{code} (byte {offset})")]
     Fault { code: ImageNo, offset: u32 },
-    /// Memory was refused.
+    /// Out of memory.
     #[error("out of memory")]
     NoMemory,
 }

@@ -17,7 +17,7 @@ pub enum FetchFault {
     /// The file could not be read.
     #[error("the file could not be read")]
     Failed = 2,
-    /// Memory was refused.
+    /// Out of memory.
     #[error("out of memory")]
     NoMemory = 3,
 }
@@ -41,8 +41,8 @@ pub trait Files {
     /// # Errors
     ///
     /// `Missing` where the object tells its map and no file has the name, `Failed` where a fault
-    /// was counted in this call, `NoMemory` where memory was refused. With `NoMemory` no fault was
-    /// counted in this call, and the object doesn't tell that the file is missing.
+    /// was counted in this call, `NoMemory` if memory ran out. With `NoMemory` no fault was counted
+    /// in this call, and the object doesn't tell that the file is missing.
     fn fetch(&mut self, alloc: Global, name: &str, most: usize) -> Result<Vec<u8>, FetchFault>
         requires { most < 2 ^ 64 - 1 }
         ensures request { Asks (requests self.old) (requests self.new) ((name.now, most) ∷ []) }

@@ -62,7 +62,7 @@ impl MemFiles {
     ///
     /// # Errors
     ///
-    /// Where memory was refused; nothing changes then.
+    /// If memory ran out; nothing changes then.
     pub fn add(&mut self, name: &str, bytes: &[u8]) -> Result<(), AllocError>
         ensures after { self.new ≡ (if is_ok result
             then record self.old { named = map.insert self.old.named name.now bytes.now }
@@ -79,7 +79,7 @@ impl MemFiles {
     ///
     /// # Errors
     ///
-    /// Where memory was refused; nothing changes then.
+    /// If memory ran out; nothing changes then.
     pub fn fail_at(&mut self, call: u64) -> Result<(), AllocError>
         requires { call < 2 ^ 64 - 1 }
         ensures after { self.new ≡ (if is_ok result

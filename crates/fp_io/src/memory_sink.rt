@@ -53,7 +53,7 @@ impl MemSink {
     ///
     /// # Errors
     ///
-    /// Where memory was refused.
+    /// If memory ran out.
     pub fn new(alloc: Global, room: usize) -> Result<MemSink, AllocError>
         ensures { IfOk result (λ sink. sink ≡ empty_sink room) }
     {
@@ -72,7 +72,7 @@ impl MemSink {
     ///
     /// # Errors
     ///
-    /// Where memory was refused; nothing changes then.
+    /// If memory ran out; nothing changes then.
     pub fn fail_at(&mut self, call: u64, taken: usize) -> Result<(), AllocError>
         requires { call < 2 ^ 64 - 1 }
         ensures after { self.new ≡ (if is_ok result

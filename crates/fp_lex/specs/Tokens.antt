@@ -68,7 +68,7 @@ tokens_from zero i n (b ∷ bs) =
     else next (next (token_at i b bs) (counted n))
     (λ t. next (tokens_from (t.end - (i + 1)) (i + 1) (n + 1) bs) (λ ts. Ok (t ∷ ts)))
 
--- The tokens of a line. The answer is never that memory was refused.
+-- The tokens of a line. The answer is never that memory ran out.
 unfoldable pub tokens_of : List ℕ → Result (List Token) LexNo
 tokens_of line = tokens_from 0 0 0 line
 

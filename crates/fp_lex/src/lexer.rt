@@ -13,9 +13,9 @@ use std::alloc::Global;
 ///
 /// # Errors
 ///
-/// The leftmost fault of the line: `BadChar` and `BadNumber` with its column, and `TooMany` where
-/// a 65th token begins. At one index `BadNumber` comes before `TooMany`, and a byte that begins no
-/// token is `BadChar`. `NoMemory` where memory was refused.
+/// The leftmost fault of the line: `BadChar` and `BadNumber` with its column, and `TooMany` where a
+/// 65th token begins. At one index `BadNumber` comes before `TooMany`, and a byte that begins no
+/// token is `BadChar`. `NoMemory` if memory ran out.
 pub fn tokens(alloc: Global, line: &[u8]) -> Result<Tokens, LexNo>
     requires { length line.now < 2 ^ 32 }
     ensures tokens { IfOk result (λ ts. tokens_of line.now ≡ Ok ts) }

@@ -43,7 +43,7 @@ pub enum LexNo {
     /// More than 64 tokens.
     #[error("more than 64 tokens")]
     TooMany,
-    /// Memory was refused.
+    /// Out of memory.
     #[error("out of memory")]
     NoMemory,
 }

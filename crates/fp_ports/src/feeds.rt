@@ -45,7 +45,7 @@ impl Feeds {
     ///
     /// # Errors
     ///
-    /// Memory was refused; nothing was taken.
+    /// Out of memory; nothing was taken.
     pub fn push(&mut self, at: u64, word: u32) -> Result<(), AllocError>
         ensures { self.new ≡ (if is_ok result then record { at = at; word = word } ∷ self.old
             else self.old) }

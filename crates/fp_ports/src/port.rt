@@ -20,7 +20,7 @@ pub trait Port: Drop {
     ///
     /// # Errors
     ///
-    /// Where memory was refused; nothing changes then.
+    /// If memory ran out; nothing changes then.
     fn feed(&mut self, at: u64, word: u32) -> Result<(), AllocError>
         ensures ok { OnOk result (SameWords (fed_words (word_at self.old) at word)
             (word_at self.new)) }

@@ -53,7 +53,7 @@ pub fn write_port(ports: &mut Ports, thread: u8, word: u32)
 ///
 /// # Errors
 ///
-/// Where memory was refused; nothing changes then.
+/// If memory ran out; nothing changes then.
 pub fn feed_port(ports: &mut Ports, thread: u8, at: u64, word: u32) -> Result<(), AllocError>
     requires eight { vec_len ports.old ≡ 8 }
     requires thread { thread < 8 }

@@ -13,7 +13,7 @@ use machine::Machine;
 use std::alloc::AllocError;
 
 /// A machine that is fed while it runs refines a cycle of the world whose port shows the fed word
-/// from then on. The contract is the theorem; the call does nothing.
+/// from then on. The contract states the theorem; the call does nothing.
 pub fn feeds_running()
     ensures { FeedsRunning }
 {}
@@ -45,13 +45,13 @@ pub fn feed_now(
 }
 
 /// A machine whose ports forget the words that no load in flight finds refines the same cycle of
-/// the same world. The contract is the theorem; the call does nothing.
+/// the same world. The contract states the theorem; the call does nothing.
 pub fn forgets_running()
     ensures { ForgetsRunning }
 {}
 
 /// A device of fp_ports that is fed for rising cycles keeps at most three feeds of the cycles
-/// before the machine's, once it forgets. The contract is the theorem; the call does nothing.
+/// before the machine's, once it forgets. The contract states the theorem; the call does nothing.
 pub fn keeps_three()
     ensures { KeepsThree }
 {}

@@ -1,7 +1,7 @@
 -- What a dump shows of the world after n cycles. Stages, registers, memory and ports are some
 -- cycles behind the newest issue, as far as the pipeline has brought each: the registers show the
 -- issues up to cycle n - 5, memory and latches those up to n - 4, timers, trap registers, sleep
--- moments and the machine's own registers those up to n - 3. Before cycle 0 stands the start.
+-- moments and the configuration registers those up to n - 3. Before cycle 0 stands the start.
 -- Source: this project's format of dumps.
 use Rattle.std.specs.Prelude.{ℕ, ◌+◌, ◌-◌, ◌*◌, ◌/◌, ◌==◌, nat_lt, Bool, true}
 use Rattle.std.specs.Prelude.{false, ◌&&◌, if◌then◌else◌, List, [], ◌∷◌, ◌++◌}
@@ -45,7 +45,7 @@ stages_seen s n =
     ++ (stage_text (codes "M") (held_in (turn_before s n 3))
     ++ stage_text (codes "W") (held_in (turn_before s n 4)))))
 
--- the machine's own registers
+-- the configuration registers
 abbrev pub shared_seen : Registers → List ℕ
 shared_seen r =
     word_text (codes "slots") r.slots

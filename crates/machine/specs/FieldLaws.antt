@@ -1,4 +1,4 @@
--- The laws of a machine, by its fields, and of ports that refine a cycle of a world.
+-- The theorems of a machine, by its fields, and of ports that refine a cycle of a world.
 use Rattle.std.specs.Prelude.{◌≡◌, ℕ, suc, ◌+◌, ◌<◌, List, length, Option}
 use Rattle.core_model.specs.World.{Start}
 use Rattle.pipe_model.specs.Stages.{StageRegisters, State, Ticked}

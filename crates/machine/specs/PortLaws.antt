@@ -1,4 +1,4 @@
--- The laws of feeding, and of the ports that are left.
+-- The theorems of feeding, and of the ports that are left.
 use Rattle.std.specs.Prelude.{◌≡◌, ℕ, ◌^◌, ◌≤◌, List, length, Option}
 use Rattle.fp_image.specs.declared.parts.Segment.{Segment}
 use Rattle.fp_ports.specs.PluggedPorts.{Row}

@@ -18,7 +18,7 @@ use fp_ports::Ports;
 
 impl Machine {
     /// Puts the dump of the machine, each line by one call: the cycles done, what the stages hold,
-    /// the machine's own registers, those of each thread with its timer and latch, and the data
+    /// the configuration registers, those of each thread with its timer and latch, and the data
     /// scratchpad's words that aren't 0. It takes no memory.
     ///
     /// # Errors

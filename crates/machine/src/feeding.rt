@@ -14,7 +14,7 @@ use std::alloc::AllocError;
 ///
 /// # Errors
 ///
-/// Memory was refused; a front of the inputs has been fed then.
+/// Out of memory; a front of the inputs has been fed then.
 pub fn feed_inputs(setup: &Setup, ports: &mut Ports) -> Result<(), AllocError>
     requires { vec_len ports.old ≡ 8 }
     ensures ok { OnOk result (rows_of latched word_at ports.new.items
@@ -47,7 +47,8 @@ fn feed_thread(ports: &mut Ports, thread: u8, inputs: &[Input]) -> Result<(), Al
 }
 
 /// A machine beside ports that were fed with the inputs of its setup starts in the world of the
-/// setup and of the ports as they were handed in. The contract is the law; the call does nothing.
+/// setup and of the ports as they were handed in. The contract states the theorem; the call does
+/// nothing.
 pub fn feeds_the_start()
     ensures { FeedsStart }
 {}

@@ -60,7 +60,7 @@ fn confined(setup: &Setup) -> [bool; 8]
     ]
 }
 
-/// Whether each thread may access the machine's own registers.
+/// Whether each thread may access the configuration registers.
 fn permits(setup: &Setup) -> [bool; 8]
     ensures { result ≡ map (λ (t : ThreadSetup). t.permit) setup.now.threads }
 {
@@ -138,7 +138,7 @@ impl Machine {
     ///
     /// # Errors
     ///
-    /// Memory was refused.
+    /// Out of memory.
     pub fn load(alloc: Global, setup: &Setup, image: &Image) -> Result<Machine, AllocError>
         ensures refines { IfOk result
             (λ m. (ports : List (Option Row)) (n : ℕ) → length ports ≡ 8

@@ -16,7 +16,7 @@ use pipe_model::Held;
 use pipeline_core::Pipe;
 
 /// A cycle of an empty pipeline in which no thread is awake leaves all as it was, and no event
-/// retires in it. The contract is the law; the call does nothing.
+/// retires in it. The contract states the theorem; the call does nothing.
 pub fn sleeps_on()
     ensures { SleepsOn }
 {}

@@ -1,4 +1,4 @@
--- The laws of the pipeline.
+-- The theorems of the pipeline.
 use Rattle.std.specs.Prelude.{◌≡◌, ℕ, suc, ◌-◌, List, ◌++◌, map, slice_set, Option, None}
 use Rattle.fp_ports.specs.PluggedPorts.{Row}
 use Rattle.core_model.specs.World.{Start, start_world, events}

@@ -43,7 +43,7 @@ pub record StageRegisters : Type 0 where
   pub m : Held Stored
   pub w : Held Written
 
--- what the execute stage reads and writes: the machine's own registers, and of each thread the
+-- what the execute stage reads and writes: the configuration registers, and of each thread the
 -- timer, the trap registers and the moment until which it sleeps
 pub record Control : Type 0 where
   pub registers : Registers

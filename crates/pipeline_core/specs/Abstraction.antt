@@ -18,7 +18,7 @@ use Rattle.pipeline_core.specs.declared.units.Units.{Units}
 abbrev pub abstract_stages : Pipe → StageRegisters
 abstract_stages p = record { next = p.next; f = p.f; d = p.d; e = p.e; m = p.m; w = p.w }
 
--- the machine's own registers
+-- the configuration registers
 abbrev pub abstract_registers : Sched → Guard → Registers
 abstract_registers s g = record { slots = s.slots; modes = s.modes; dregions = g.d; iregions = g.i }
 

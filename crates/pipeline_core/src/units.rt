@@ -33,7 +33,7 @@ pub struct Units {
     pub traps: Traps,
     /// Whether a thread is confined to the regions that it owns or that are read only.
     pub confined: [bool; 8],
-    /// Whether a thread may access the machine's own registers.
+    /// Whether a thread may access the configuration registers.
     pub permit: [bool; 8],
     ghost imem_size: { length imem ≡ guard.size / 4 },
     ghost dmem_size: { length dmem ≡ guard.size / 4 },

@@ -36,7 +36,7 @@ impl Model for Draft {
 ///
 /// # Errors
 ///
-/// Memory was refused.
+/// Out of memory.
 #[tactic(auto, unfolding(crate::specs::Tree::section_words))]
 pub fn words(alloc: Global, image: &Image, section: Section) -> Result<Vec<u32>, AllocError>
     requires { IsSection section }
@@ -82,7 +82,7 @@ impl Draft {
     ///
     /// # Errors
     ///
-    /// Memory was refused.
+    /// Out of memory.
     pub fn from_words(
         alloc: Global,
         section: Section,
@@ -105,7 +105,7 @@ impl Draft {
     ///
     /// # Errors
     ///
-    /// Memory was refused.
+    /// Out of memory.
     pub fn new(
         alloc: Global,
         image: &Image,

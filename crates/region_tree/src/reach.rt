@@ -82,7 +82,7 @@ impl Frontier {
 ///
 /// # Errors
 ///
-/// Memory was refused.
+/// Out of memory.
 pub fn reachable(alloc: Global, draft: &Draft) -> Result<Vec<bool>, AllocError>
     ensures { IfOk result (λ met. IsMet draft.now met.items) }
 {

@@ -28,7 +28,7 @@ pub enum TreeNo {
     /// word's address.
     #[error("a way back without a bound at {address:#010x}")]
     UnboundedBackEdge { address: u32 },
-    /// Memory was refused.
+    /// Out of memory.
     #[error("out of memory")]
     NoMemory,
 }

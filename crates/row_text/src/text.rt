@@ -1,4 +1,4 @@
-//! Texts that note by themselves whether memory was refused.
+//! Texts that note by themselves whether memory ran out.
 
 use std::alloc::{AllocError, Global};
 use std::fmt::{Display, Write};
@@ -32,7 +32,7 @@ impl RowText {
         }
     }
 
-    /// Notes that memory was refused for what the text is made of.
+    /// Notes that memory ran out for what the text is made of.
     pub fn refuse(&mut self) {
         self.is_refused = true;
     }

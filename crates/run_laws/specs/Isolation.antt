@@ -35,7 +35,7 @@ PhasedIsolation =
     (s : Start) (i n : ℕ) → StartsConfined s i → list_all (is_never_soft i) (phases s n) ≡ true →
     keeps_regions s n ≡ true → events s i n ≡ phased (view s i) (phases s n) n
 
--- whatever the other threads run: while none of the machine's own registers is written, the events
+-- whatever the other threads run: while none of the configuration registers is written, the events
 -- of such a thread are those of the definition of one thread by itself, over its view
 abbrev pub Isolation : Type 0
 Isolation =

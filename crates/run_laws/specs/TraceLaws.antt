@@ -29,7 +29,7 @@ pub record Machine : Type 0 where
 abbrev pub trace : Machine → ℕ → ℕ → List ℕ
 trace m i n = text (events (start m.setup m.image m.ports n) i n)
 
--- no issue of n cycles writes one of the machine's own registers
+-- no issue of n cycles writes a configuration register
 abbrev pub IsQuiet : Machine → ℕ → Type 0
 IsQuiet m n = is_quiet (start m.setup m.image m.ports n) n ≡ true
 

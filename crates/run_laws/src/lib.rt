@@ -1,4 +1,4 @@
-//! The laws of runs: what the rest of the machine can't change for one thread, over a world and
+//! The theorems of runs: what the rest of the machine can't change for one thread, over a world and
 //! over the machine of a setup, and that each lag is the table's. Each law is the contract of a
 //! call that does nothing; the statements stand in specs/.
 

@@ -1,5 +1,5 @@
-//! The laws of isolation for the machine of a setup, an image and ports: what a trace can't depend
-//! on. Each is the contract of a call that does nothing; its statement stands in
+//! The theorems of isolation for the machine of a setup, an image and ports: what a trace can't
+//! depend on. Each is the contract of a call that does nothing; its statement is in
 //! specs/TraceLaws.antt.
 
 ghost use Rattle.run_laws.specs.TraceLaws.{EqualTraces, QuietSetup, TraceAlone};

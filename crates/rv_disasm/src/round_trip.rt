@@ -3,7 +3,7 @@
 ghost use Rattle.rv_disasm.specs.RoundTrip.{TakesOneWord, AssemblesBack};
 
 /// The text of each word, assembled at the word's address, is a statement of one word without a
-/// label, and gives the word back. The contract is the theorem; the call does nothing.
+/// label, and gives the word back. The contract states the theorem; the call does nothing.
 pub fn texts_assemble_back()
     ensures one { TakesOneWord }
     ensures back { AssemblesBack }

@@ -62,7 +62,7 @@ fn thread_bytes(alloc: Global, k: u8, first: u32) -> Result<(Vec<u8>, u32), Allo
 ///
 /// # Errors
 ///
-/// Memory was refused.
+/// Out of memory.
 pub fn drawn_image(alloc: Global, number: u32) -> Result<Image, AllocError>
     ensures { IfOk result (λ i. i ≡ programs number) }
 {
@@ -81,7 +81,7 @@ pub fn drawn_image(alloc: Global, number: u32) -> Result<Image, AllocError>
 ///
 /// # Errors
 ///
-/// Memory was refused.
+/// Out of memory.
 pub fn own_setup(alloc: Global) -> Result<Setup, AllocError>
     ensures { IfOk result (λ s. s ≡ own_setup) }
 {

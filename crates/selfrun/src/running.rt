@@ -106,7 +106,7 @@ impl Selfrun {
     ///
     /// # Errors
     ///
-    /// Memory was refused.
+    /// Out of memory.
     pub fn new(alloc: Global, number: u32) -> Result<Selfrun, AllocError>
         ensures tallies { IfOk result (λ r. r.tallies ≡ own_tallies number) }
         ensures text { IfOk result (λ r. tallies_text r.tallies ≡ selfrun_text number) }

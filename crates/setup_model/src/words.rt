@@ -11,7 +11,7 @@ use std::alloc::{AllocError, Global};
 ///
 /// # Errors
 ///
-/// Memory was refused.
+/// Out of memory.
 #[tactic(auto, unfolding(crate::specs::Start::words_from))]
 pub fn word_list(alloc: Global, image: &Image, base: u32, size: u32) -> Result<Vec<u32>, AllocError>
     requires { base + size < 2 ^ 32 }

@@ -8,7 +8,7 @@ use crate::mode_word::Modes;
 use slot_table::{DISABLED, SlotTable};
 use std::marker::Model;
 
-/// What picking goes by.
+/// What picking uses.
 #[derive(Clone, Copy, Debug)]
 pub struct Sched {
     /// Who shares the cycles: the register slots (0x7C0).

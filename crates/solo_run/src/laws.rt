@@ -3,7 +3,8 @@
 ghost use Rattle.solo_run.specs.Setup.{SetupViews};
 
 /// The view that is made of a setup and an image is the thread's view in the world of their
-/// machine, for any ports and number of cycles. The contract is the theorem; the call does nothing.
+/// machine, for any ports and number of cycles. The contract states the theorem; the call does
+/// nothing.
 pub fn setup_views_are_views()
     ensures { SetupViews }
 {}
