@@ -1,4 +1,4 @@
--- Control and status registers: a thread's own, and those of the machine.
+-- Control and status registers: a thread's own, and the configuration registers.
 use Rattle.std.specs.Prelude.{ℕ, ◌-◌, ◌*◌, ◌/◌, ◌^◌, ◌==◌, nat_le, Bool, true}
 use Rattle.std.specs.Prelude.{false, ◌&&◌, ◌||◌, if◌then◌else◌, Option, Some, None}
 use Rattle.rv_decode.specs.declared.instruction.AluOp.TheVariants.{Or, And}
@@ -18,12 +18,13 @@ use Rattle.core_model.specs.Thread.{Execution}
 use Rattle.core_model.specs.Traps.{trapped}
 use Rattle.core_model.specs.Outcomes.{advance, write}
 
--- the number is one of the machine's registers: slots, modes, dregions, iregions
+-- the number is that of a configuration register: slots, modes, dregions, iregions
 abbrev pub is_shared : ℕ → Bool
 is_shared csr = nat_le csr_slots csr && nat_le csr csr_iregions
 
--- a register by its number (RISC-V privileged manual, "CSR Listing"): mtvec, mscratch, mepc, mcause
--- and mhartid, or one of the machine's; none where the number is none, or the access is refused
+-- the value of a register by its number (RISC-V privileged manual, "CSR Listing"): mtvec, mscratch,
+-- mepc, mcause, mhartid, or a configuration register; None if no register has the number or the
+-- access is refused
 abbrev pub csr_value : ℕ → Own → ℕ → Option ℕ → Option ℕ
 csr_value thread t csr shared =
     if csr == csr_mtvec then Some t.trap.mtvec
@@ -40,7 +41,7 @@ csr_update Swap old operand = operand
 csr_update Set old operand = alu_result Or old operand
 csr_update Clear old operand = alu_result And old (2 ^ 32 - 1 - operand)
 
--- the words that may be written to a register; mhartid takes none
+-- whether a word may be written to a register; no word may be written to mhartid
 unfoldable pub may_hold : ℕ → ℕ → Bool
 may_hold csr value =
     if csr == csr_mhartid then false
@@ -53,7 +54,7 @@ may_hold csr value =
 abbrev pub legal_value : ℕ → ℕ → ℕ
 legal_value csr value = if csr == csr_mtvec || csr == csr_mepc then value / 4 * 4 else value
 
--- a thread with another value in one of its own registers
+-- a thread with a new value in one of its own registers
 abbrev pub with_csr : Own → ℕ → ℕ → Own
 with_csr t csr value =
     if csr == csr_mtvec then record t { trap = record t.trap { mtvec = value } }
@@ -62,25 +63,25 @@ with_csr t csr value =
     else if csr == csr_mcause then record t { trap = record t.trap { mcause = value } }
     else t
 
--- a write that is done: the old value goes to `rd`
+-- an allowed write: the old value goes to `rd`
 abbrev pub csr_write : ℕ → Own → ℕ → ℕ → ℕ → ℕ → ℕ → Execution
 csr_write pc t word rd csr value old =
     advance pc (with_csr t csr value) word redirect_lag (Csr csr value rd old)
 
--- a write, refused where the register may not hold the word
+-- a write, refused if the register may not hold the word
 abbrev pub csr_put : ℕ → Own → ℕ → ℕ → ℕ → ℕ → ℕ → Execution
 csr_put pc t word rd csr new old =
     if may_hold csr new then csr_write pc t word rd csr (legal_value csr new) old
     else trapped pc t word cause_illegal
 
--- an access to a register whose value is known, refused where there is none
+-- an access to a register with its old value, refused if that is None
 abbrev pub csr_done : ℕ → Own → ℕ → ℕ → ℕ → CsrOp → ℕ → Bool → Option ℕ → Execution
 csr_done pc t word rd csr op operand writes None = trapped pc t word cause_illegal
 csr_done pc t word rd csr op operand writes (Some old) =
     if writes then csr_put pc t word rd csr (csr_update op old operand) old
     else write pc t word redirect_lag rd old
 
--- an access to a register; a refused one is an illegal instruction
+-- an access to a register; a refused access raises an illegal-instruction trap
 unfoldable pub csr_access : ℕ → ℕ → Own → ℕ → ℕ → ℕ → CsrOp → ℕ → Bool → Option ℕ → Execution
 csr_access thread pc t word rd csr op operand writes shared =
     csr_done pc t word rd csr op operand writes (csr_value thread t csr shared)

@@ -1,8 +1,8 @@
--- The way of an instruction through the pipeline, in cycles.
+-- The passage of an instruction through the pipeline, in cycles.
 use Rattle.std.specs.Prelude.{ℕ}
 
--- How many cycles after its issue, in F, an instruction is in W, the last stage: an issue of cycle
--- c has retired after n cycles where c + cycles_to_w < n. These are the issues of the first
--- n - cycles_to_w cycles.
+-- The number of cycles from an instruction's issue, in F, to the last stage, W. An issue of cycle c
+-- has retired after n cycles if c + cycles_to_w < n. So the issues of the first n - cycles_to_w
+-- cycles have retired.
 abbrev pub cycles_to_w : ℕ
 cycles_to_w = 4

@@ -1,4 +1,4 @@
--- One whole instruction of one thread, over what it asks of its surroundings.
+-- One whole instruction of one thread, as a function of its environment and of the words it reads.
 use Rattle.std.specs.Prelude.{ℕ, ◌+◌, ◌/◌, ◌%◌, ◌^◌, ◌==◌, Bool, true, false}
 use Rattle.std.specs.Prelude.{not, if◌then◌else◌, List, Option, Some, None}
 use Rattle.rv_decode.specs.Table.{ins}
@@ -28,7 +28,7 @@ use Rattle.core_model.specs.Outcomes.{advance, write, load, store, go_to, branch
 use Rattle.core_model.specs.Delays.{delay, wait, with_armed, with_high}
 use Rattle.core_model.specs.Csr.{csr_access}
 
--- the register that a CSR instruction reads, x0 where it has an immediate
+-- the register that a CSR instruction reads, x0 if it has an immediate
 abbrev pub csr_source : CsrKind → ℕ → ℕ
 csr_source Rw src = src
 csr_source Rs src = src
@@ -37,7 +37,7 @@ csr_source Rwi src = 0
 csr_source Rsi src = 0
 csr_source Rci src = 0
 
--- the registers that an instruction reads, x0 where it reads none
+-- the first register that an instruction reads, x0 if it reads none
 abbrev pub source_1 : Ins → ℕ
 source_1 (Jalr rd rs1 imm) = rs1
 source_1 (Branch op rs1 rs2 off) = rs1
@@ -53,7 +53,7 @@ source_1 (Wu rs1 rs2) = rs1
 source_1 (Ee rs1 rs2) = rs1
 source_1 _ = 0
 
--- the second of them
+-- the second register that it reads, x0 if it reads none
 abbrev pub source_2 : Ins → ℕ
 source_2 (Branch op rs1 rs2 off) = rs2
 source_2 (Store op rs1 rs2 imm) = rs2
@@ -64,7 +64,7 @@ source_2 (Wu rs1 rs2) = rs2
 source_2 (Ee rs1 rs2) = rs2
 source_2 _ = 0
 
--- the register of an instruction whose value comes late
+-- the destination register of an instruction whose value comes late
 abbrev pub late_rd : Ins → Option ℕ
 late_rd (Load op rd rs1 imm) = Some rd
 late_rd (Muldiv op rd rs1 rs2) = Some rd
@@ -75,13 +75,13 @@ abbrev pub is_load : Ins → Bool
 is_load (Load op rd rs1 imm) = true
 is_load _ = false
 
--- that value, by the loaded word, its address and the values of the sources
+-- the late value, from the loaded word, its address and the values of the sources
 abbrev pub late_value : Ins → ℕ → ℕ → ℕ → ℕ → ℕ
 late_value (Load op rd rs1 imm) word address x y = loaded_value op address word
 late_value (Muldiv op rd rs1 rs2) word address x y = mul_result op x y
 late_value _ word address x y = 0
 
--- the six forms on control registers: what they do, with which operand, and whether they write
+-- the operation of each of the six CSR instructions
 abbrev pub csr_op : CsrKind → CsrOp
 csr_op Rw = Swap
 csr_op Rs = Set
@@ -90,7 +90,7 @@ csr_op Rwi = Swap
 csr_op Rsi = Set
 csr_op Rci = Clear
 
--- the operand: the value of the source, or the immediate
+-- its operand: the value of the source register, or the immediate
 abbrev pub csr_operand : CsrKind → ℕ → ℕ → ℕ
 csr_operand Rw src x = x
 csr_operand Rs src x = x
@@ -99,7 +99,7 @@ csr_operand Rwi src x = src
 csr_operand Rsi src x = src
 csr_operand Rci src x = src
 
--- whether it writes: always where it swaps, else where its source field is not 0
+-- whether it writes: a swap always does, the others if their source field is not 0
 abbrev pub csr_writes : CsrKind → ℕ → Bool
 csr_writes Rw src = true
 csr_writes Rs src = not (src == 0)
@@ -108,8 +108,8 @@ csr_writes Rwi src = true
 csr_writes Rsi src = not (src == 0)
 csr_writes Rci src = not (src == 0)
 
--- an instruction whose result has no trap, by that result and the values of its sources. The last
--- line stands for ECALL, EBREAK and an illegal word, whose result always has one
+-- the execution of an instruction without a trap, from its result and the values of its sources.
+-- The last line covers ECALL, EBREAK and an illegal word; their result always has a trap
 unfoldable pub execute_untrapped : Environment → ℕ → Own → ℕ → ℕ → ℕ → Outcome → Ins → Execution
 execute_untrapped a pc t word x y o (Lui rd imm) = write pc t word plain_lag rd o.value
 execute_untrapped a pc t word x y o (Auipc rd imm) = write pc t word plain_lag rd o.value
@@ -141,37 +141,37 @@ execute_untrapped a pc t word x y o (Ee rs1 rs2) =
 execute_untrapped a pc t word x y o De = advance pc (with_armed t None) word redirect_lag Nothing
 execute_untrapped a pc t word x y o _ = trapped pc t word cause_illegal
 
--- what an instruction does, with the values of its sources
+-- the execution of an instruction, from the values of its sources
 unfoldable pub run_at : Environment → ℕ → Own → ℕ → ℕ → ℕ → Ins → Execution
 run_at a pc t word x y i =
     let o = result_of i pc x y in
     unless_trap pc t word o.trap (execute_untrapped a pc t word x y o i)
 
--- the instruction executed, but for a late value. An expiry comes before all else and disarms; then
--- a fetch that is refused. Neither shows a word
+-- the execution of a word, without its late value. An expiry comes before all else and disarms the
+-- timer; then comes a refused fetch. Both have the word 0
 unfoldable pub execute_in : Environment → ℕ → Own → Bool → ℕ → ℕ → ℕ → Execution
 execute_in a pc t expired word x y =
     if expired then trapped pc (with_armed t None) 0 cause_expiry
     else if a.fetch pc then run_at a pc t word x y (ins word)
     else trapped pc t 0 cause_fetch_fault
 
--- a word executed at the thread's pc, with the thread's own sources
+-- the execution of a word at the thread's pc, with the thread's own registers
 unfoldable pub execute_word : Environment → ℕ → Thread → Execution
 execute_word a word t =
     execute_in a t.pc t.own (is_due t.own.timer.armed a.now) word
     (reg_in t.regs (source_1 (ins word))) (reg_in t.regs (source_2 (ins word)))
 
--- the late value, by the registers and the words that the instruction finds
+-- the late value, from the registers and the words that the instruction reads
 abbrev pub value_in : Contents → List ℕ → Execution → ℕ
 value_in m regs d =
     let i = ins d.word in
     late_value i (m.at d.address) d.address (reg_in regs (source_1 i)) (reg_in regs (source_2 i))
 
--- the whole effect: a late value stands in its place
+-- the whole effect, with the late value in its place
 unfoldable pub effect_of : Contents → List ℕ → Execution → Option Effect
 effect_of m regs d = with_late_value (late_rd (ins d.word)) (value_in m regs d) d.effect
 
--- what the thread is once the instruction is done
+-- the thread after the instruction, with its word and effect
 abbrev pub completion_of : ℕ → List ℕ → Execution → Option Effect → Completion
 completion_of c regs d e = record {
   thread = record { pc = d.pc; ready = c + d.lag; own = d.own; regs = regs_after e regs };

@@ -1,4 +1,4 @@
--- The words of the two scratchpads. size is that of each scratchpad, in bytes.
+-- The words of the two scratchpads. `size` is the size of each scratchpad, in bytes.
 use Rattle.std.specs.Prelude.{ℕ, List, slice_index_or, slice_set, if◌then◌else◌}
 use Rattle.rv_exec.specs.Access.{lanes_at, merged_word}
 use Rattle.region_guard.specs.Regions.{is_code, is_data, index_of}
@@ -17,7 +17,7 @@ words_with_store size words address width value =
 unfoldable pub code_at : ℕ → List ℕ → ℕ → ℕ
 code_at size i_words pc = if is_code size pc then word_at size i_words pc else 0
 
--- the word at an address where a load is allowed: in a scratchpad, or at the port
+-- the word at an address from which a load is allowed: in a scratchpad, or at the port
 unfoldable pub data_at : ℕ → List ℕ → List ℕ → ℕ → ℕ → ℕ
 data_at size i_words d_words port address =
     if is_code size address then word_at size i_words address

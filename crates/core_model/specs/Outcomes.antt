@@ -1,5 +1,5 @@
--- The outcomes of an instruction, each over plain answers. A lag is the number of cycles after
--- which the thread's next instruction may issue.
+-- The outcomes of an instruction. Each definition takes its inputs as plain values. A lag is the
+-- number of cycles after which the thread's next instruction may issue.
 use Rattle.std.specs.Prelude.{ℕ, ◌+◌, ◌%◌, ◌^◌, Bool, if◌then◌else◌, Some}
 use Rattle.rv_decode.specs.Lag.{plain_lag, late_lag, redirect_lag}
 use Rattle.rv_exec.specs.declared.outcome.Effect.{Effect}
@@ -9,16 +9,16 @@ use Rattle.core_model.specs.declared.own.Own.{Own}
 use Rattle.core_model.specs.Thread.{Execution, reg_effect}
 use Rattle.core_model.specs.Traps.{trapped}
 
--- an address some bytes on; addresses wrap
+-- the address b bytes after a; addresses wrap
 abbrev pub plus : ℕ → ℕ → ℕ
 plus a b = (a + b) % 2 ^ 32
 
--- the thread goes on to the next word after a lag
+-- the thread continues at the next word after a lag
 abbrev pub advance : ℕ → Own → ℕ → ℕ → Effect → Execution
 advance pc t word lag effect =
     record { pc = plus pc 4; own = t; lag = lag; word = word; address = 0; effect = Some effect }
 
--- a register is written, and the thread goes on to the next word
+-- a register is written, and the thread continues at the next word
 abbrev pub write : ℕ → Own → ℕ → ℕ → ℕ → ℕ → Execution
 write pc t word lag rd value = advance pc t word lag (reg_effect rd value)
 
@@ -33,19 +33,19 @@ access pc t word lag address effect = record {
   effect = Some effect;
 }
 
--- a load that is refused is a load access fault
+-- a load; a refused one raises a load access fault
 unfoldable pub load : ℕ → Own → ℕ → ℕ → Bool → Execution
 load pc t word address allowed =
     if allowed then access pc t word late_lag address Nothing
     else trapped pc t word cause_load_fault
 
--- a store that is refused is a store access fault
+-- a store; a refused one raises a store access fault
 unfoldable pub store : ℕ → Own → ℕ → ℕ → ℕ → ℕ → Bool → Execution
 store pc t word address width value allowed =
     if allowed then access pc t word plain_lag address (Store address width value)
     else trapped pc t word cause_store_fault
 
--- a jump, with what it does to a register
+-- a jump, with its effect on a register
 abbrev pub go_to : Own → ℕ → ℕ → Effect → Execution
 go_to t word target effect = record {
   pc = target;

@@ -1,5 +1,5 @@
--- One thread by itself over settings of the scheduling: it goes as alone, but at the positions that
--- are its own by the setting of the cycle.
+-- One thread alone over settings of the scheduling. It runs as in `Solo`, but at the positions that
+-- the setting of each cycle gives it.
 use Rattle.std.specs.Prelude.{ℕ, zero, suc, ◌-◌, ◌==◌, nat_le, Bool}
 use Rattle.std.specs.Prelude.{if◌then◌else◌, List, [], ◌∷◌, map}
 use Rattle.rv_exec.specs.declared.outcome.Event.{Event}
@@ -10,29 +10,29 @@ use Rattle.core_model.specs.Solo.{Past, solo_turn, port_at, add_turn, oldest_fir
 use Rattle.core_model.specs.declared.phase.Phase.{Phase}
 use Rattle.core_model.specs.Cycles.{cycles_to_w}
 
--- the positions that are thread i's: those of its number in the frame of the slots, while its mode
--- is hard active, and else none
+-- whether each position of the frame is thread i's: those with its number, while its mode is hard
+-- active, and else none
 abbrev pub positions : ℕ → Phase → List Bool
 positions i p = if mode_of p.modes i == 0 then map (λ slot. slot == i) (frame p.slots) else []
 
--- the setting with the own positions that a phase gives
+-- the setting with the thread's positions in a phase
 abbrev pub setting_in : Setting → Phase → Setting
 setting_in s p = record s { own = positions s.thread p }
 
--- the last setting of a list that begins in cycle c or before, p where there is none
+-- the last setting of a list that begins in cycle c or before; p if there is none
 abbrev pub latest : ℕ → Phase → List Phase → Phase
 latest c p [] = p
 latest c p (q ∷ qs) = latest c (if nat_le q.from c then q else p) qs
 
--- nobody's: an empty frame
+-- the setting of no thread: an empty frame
 abbrev pub no_phase : Phase
 no_phase = record { from = 0; slots = 0xFFFFFFFF; modes = 0 }
 
--- the phase that holds in a cycle
+-- the phase of a cycle
 abbrev pub phase_at : List Phase → ℕ → Phase
 phase_at phases c = latest c no_phase phases
 
--- the cycles before c
+-- the thread's state and events after the cycles before c
 unfoldable pub phased_at : View → List Phase → ℕ → Past
 phased_at v phases zero =
     record { alone = record { thread = v.first; words = v.d_words }; events = [] }

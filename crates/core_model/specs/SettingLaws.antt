@@ -1,4 +1,4 @@
--- What the settings of a run tell, and where a thread has its positions by them.
+-- Theorems on the settings of a run, and on a thread's positions in them.
 use Rattle.std.specs.Prelude.{◌≡◌, ℕ, ◌+◌, ◌-◌, ◌<◌, ◌≤◌, ◌==◌, Bool, false, ◌&&◌}
 use Rattle.slot_table.specs.Frame.{turn}
 use Rattle.slot_table.specs.declared.frame.Turn.{Turn}
@@ -16,8 +16,8 @@ pub record Matches (p : Phase) (r : Registers) : Type 0 where
   pub slots : p.slots ≡ r.slots
   pub modes : p.modes ≡ r.modes
 
--- the setting of a cycle is what picking uses in it, which is what stood in the registers two
--- cycles before; so a write that hasn't retired is seen by no issue that has
+-- picking in a cycle uses the setting of that cycle, which is the content of the registers two
+-- cycles before; so no retired issue sees an unretired write
 abbrev pub SettingsOfPicks : Type 0
 SettingsOfPicks =
     (s : Start) (n c : ℕ) → c ≤ n - cycles_to_w + 2 →
@@ -34,13 +34,13 @@ pub record IsSettled (s : Start) (n c : ℕ) : Type 0 where
 abbrev pub UnretiredUnseen : Type 0
 UnretiredUnseen = (s : Start) (n c : ℕ) → c ≤ n - cycles_to_w + 2 → IsSettled s n c
 
--- whether a turn of the frame is a thread's own
+-- whether a turn of the frame is thread i's
 abbrev pub is_turn_of : Turn → ℕ → Bool
 is_turn_of (Thread k) i = k == i
 is_turn_of Soft i = false
 is_turn_of Nobody i = false
 
--- a thread has a cycle exactly where the turn of the slots is its own and its mode is hard active
+-- a thread has a cycle exactly if the slot of that cycle is its own and its mode is hard active
 abbrev pub OwnPositions : Type 0
 OwnPositions =
     (i c : ℕ) (p : Phase) → i < 8 →

@@ -1,5 +1,5 @@
--- One thread by itself, from its view: no other thread, no pick and no pipeline stage has a part in
--- it.
+-- One thread alone, computed from its view. No other thread, no pick and no pipeline stage is
+-- involved.
 use Rattle.std.specs.Prelude.{ℕ, zero, suc, ◌-◌, ◌%◌, nat_le, Bool, false, ◌&&◌, if◌then◌else◌}
 use Rattle.std.specs.Prelude.{List, [], ◌∷◌, ◌++◌, slice_index_or, length, Option, Some, None}
 use Rattle.rv_exec.specs.declared.outcome.Effect.{Effect}
@@ -14,12 +14,12 @@ use Rattle.core_model.specs.View.{Setting, View, kind_at, solo_environment}
 use Rattle.fp_ports.specs.PluggedPorts.{absent_word}
 use Rattle.core_model.specs.Cycles.{cycles_to_w}
 
--- the thread, and the words of the data scratchpad as it knows them
+-- the thread, and the words of the data scratchpad as it sees them
 pub record Alone : Type 0 where
   pub thread : Thread
   pub words : List ℕ
 
--- what a cycle leaves, and its event if it has one
+-- the state after a cycle, and the cycle's event if it has one
 pub record Turned : Type 0 where
   pub alone : Alone
   pub event : Option Event
@@ -29,16 +29,16 @@ pub record Past : Type 0 where
   pub alone : Alone
   pub events : List (Option Event)
 
--- the words that an instruction finds, with the word of the port
+-- the words that an instruction reads, with the word of the port
 abbrev pub contents_by : ℕ → List ℕ → List ℕ → ℕ → Contents
 contents_by size i_words d_words port =
     record { code = code_at size i_words; at = data_at size i_words d_words port }
 
--- what a load and a fetch find, by the thread's own words and port
+-- the words that a load and a fetch read, from the thread's own words and port
 abbrev pub contents_alone : Setting → ℕ → List ℕ → Contents
 contents_alone s port words = contents_by s.size s.i_words words port
 
--- a store into a region of its own changes its words; every other one is an event alone
+-- a store into one of its own regions changes its words; every other store is only an event
 abbrev pub own_by : ℕ → List RegionKind → Option Effect → List ℕ → List ℕ
 own_by size d_kinds (Some (Store address width value)) words =
     if is_data size address && is_mine (kind_at size d_kinds address)
@@ -46,26 +46,25 @@ own_by size d_kinds (Some (Store address width value)) words =
     else words
 own_by size d_kinds _ words = words
 
--- its words after an effect
+-- the thread's words after an effect
 abbrev pub own_after : Setting → Option Effect → List ℕ → List ℕ
 own_after s effect words = own_by s.size s.d_kinds effect words
 
--- the event of an issue in cycle c at a pc, if it has one
+-- the event of an issue in cycle c at a pc, if it has an effect
 abbrev pub own_event : Setting → ℕ → ℕ → ℕ → Option Effect → Option Event
 own_event s c pc word None = None
 own_event s c pc word (Some effect) =
     Some (record { cycle = c; thread = s.thread; pc = pc; word = word; effect = effect })
 
--- whether cycle c has a position of the frame that is the thread's
+-- whether the frame's position in cycle c is the thread's
 abbrev pub has_position : List Bool → ℕ → Bool
 has_position own c = slice_index_or own (c % length own) false
 
--- whether the thread issues in cycle c: at a position of its own, from its first ready cycle on,
--- awake
+-- whether the thread issues in cycle c: the position is its own, it is ready, and it is awake
 unfoldable pub may_go : Setting → ℕ → Thread → Bool
 may_go s c t = has_position s.own c && nat_le t.ready c && nat_le t.own.sleep (time s.period c)
 
--- an issue: the thread after it, with its words and the event
+-- an issue: the thread and its words after it, and the event
 abbrev pub solo_issue : Setting → ℕ → Alone → Completion → Turned
 solo_issue s c t d =
     record {
@@ -84,7 +83,7 @@ solo_turn s c port t =
 abbrev pub port_at : View → ℕ → ℕ
 port_at v c = slice_index_or v.shown c absent_word
 
--- the past with the next turn
+-- the past, extended by a turn
 abbrev pub add_turn : Past → Turned → Past
 add_turn p d = record { alone = d.alone; events = d.event ∷ p.events }
 
@@ -93,7 +92,7 @@ unfoldable pub solo_at : View → ℕ → Past
 solo_at v zero = record { alone = record { thread = v.first; words = v.d_words }; events = [] }
 solo_at v (suc c) = let p = solo_at v c in add_turn p (solo_turn v.setting c (port_at v c) p.alone)
 
--- the events alone, the oldest first
+-- only the events, the oldest first
 abbrev pub oldest_first : List (Option Event) → List Event
 oldest_first [] = []
 oldest_first (None ∷ events) = oldest_first events

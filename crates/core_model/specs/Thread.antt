@@ -1,4 +1,4 @@
--- A thread, what an instruction of it asks and finds, and what is known after each half of it.
+-- A thread, the inputs of its instructions, and the results of each half of an instruction.
 use Rattle.std.specs.Prelude.{ℕ, ◌-◌, ◌==◌, Bool, if◌then◌else◌, List}
 use Rattle.std.specs.Prelude.{slice_index_or, slice_set, Option, Some, replicate}
 use Rattle.rv_exec.specs.declared.outcome.Effect.{Effect}
@@ -13,7 +13,7 @@ pub record Thread : Type 0 where
   pub own : Own
   pub regs : List ℕ  -- x1 to x31
 
--- what an instruction asks while it is executed
+-- the permissions, the time and the registers that an instruction queries while it is executed
 pub record Environment : Type 0 where
   pub thread : ℕ
   pub now : ℕ  -- the time of its cycle, in nanoseconds
@@ -22,12 +22,12 @@ pub record Environment : Type 0 where
   pub store : ℕ → ℕ → Bool  -- whether a store at an address, of a width, is allowed
   pub shared : ℕ → Option ℕ  -- a register of the machine, 0x7C0 to 0x7C3, or a refusal
 
--- the words that it finds
+-- the words that it reads
 pub record Contents : Type 0 where
   pub code : ℕ → ℕ  -- at a pc
   pub at : ℕ → ℕ  -- the aligned word of the address of a load
 
--- the result of the execute stage: all but a late value, in whose place the effect is Nothing
+-- the result of the execute stage: all but a late value; for a late value the effect is Nothing
 pub record Execution : Type 0 where
   pub pc : ℕ
   pub own : Own
@@ -42,7 +42,7 @@ pub record Completion : Type 0 where
   pub word : ℕ
   pub effect : Option Effect
 
--- nothing is armed, nothing sleeps, and every register is 0
+-- no timer is armed, the thread doesn't sleep, and every trap register is 0
 abbrev pub no_own : Own
 no_own =
     record {
@@ -67,13 +67,13 @@ reg_set regs x value = if x == 0 then regs else slice_set regs (x - 1) value
 abbrev pub reg_effect : ℕ → ℕ → Effect
 reg_effect rd value = if rd == 0 then Nothing else Reg rd value
 
--- what an effect does to the registers of its thread
+-- the registers of a thread after an effect
 abbrev pub regs_after : Option Effect → List ℕ → List ℕ
 regs_after (Some (Reg rd value)) regs = reg_set regs rd value
 regs_after (Some (Csr csr value rd old)) regs = reg_set regs rd old
 regs_after _ regs = regs
 
--- a late value goes to its register, where Nothing stands for it
+-- the effect with the late value written to its register, in place of Nothing
 abbrev pub with_late_value : Option ℕ → ℕ → Option Effect → Option Effect
 with_late_value (Some rd) value (Some Nothing) = Some (reg_effect rd value)
 with_late_value _ value effect = effect

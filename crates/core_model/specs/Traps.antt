@@ -1,5 +1,5 @@
--- Traps: what one saves, where MRET goes, and that a trap of an instruction's result comes before
--- all else that the instruction does.
+-- Traps: the registers that a trap saves, and the target of MRET. A trap in an instruction's result
+-- takes precedence over its other effects.
 use Rattle.std.specs.Prelude.{ℕ, Option, Some, None}
 use Rattle.rv_decode.specs.Lag.{redirect_lag}
 use Rattle.rv_exec.specs.declared.outcome.Effect.TheVariants.{Nothing, Trap}
@@ -30,7 +30,7 @@ trap_return t word =
       effect = Some Nothing;
     }
 
--- a result with a trap comes first
+-- a trap of the result takes precedence
 abbrev pub unless_trap : ℕ → Own → ℕ → Option ℕ → Execution → Execution
 unless_trap pc t word (Some cause) d = trapped pc t word cause
 unless_trap pc t word None d = d

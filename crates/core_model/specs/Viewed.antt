@@ -1,4 +1,4 @@
--- The view of one thread: what it may depend on.
+-- The view of one thread in a start of the machine.
 use Rattle.std.specs.Prelude.{ℕ, suc, ◌/◌, ◌==◌, Bool, if◌then◌else◌}
 use Rattle.std.specs.Prelude.{List, [], ◌∷◌, slice_index_or, map}
 use Rattle.slot_table.specs.Nibbles.{nibbles}
@@ -9,12 +9,12 @@ use Rattle.core_model.specs.Thread.{fresh}
 use Rattle.core_model.specs.View.{Setting, View}
 use Rattle.core_model.specs.World.{Start}
 
--- the words that are seen, 0 for the others; k is the index of the first
+-- the words whose index `sees` accepts, 0 for the others; k is the index of the first
 abbrev pub seen_from : (ℕ → Bool) → ℕ → List ℕ → List ℕ
 seen_from sees k [] = []
 seen_from sees k (x ∷ xs) = (if sees k then x else 0) ∷ seen_from sees (suc k) xs
 
--- whether the word of an index lies in a region that the thread may read; a region has size / 32
+-- whether the word with index k is in a region that the thread may read; a region has size / 32
 -- words
 abbrev pub sees : ℕ → List RegionKind → ℕ → Bool
 sees size kinds k = is_readable (slice_index_or kinds (k / (size / 32)) Foreign)
@@ -23,11 +23,11 @@ sees size kinds k = is_readable (slice_index_or kinds (k / (size / 32)) Foreign)
 abbrev pub seen_words : ℕ → List RegionKind → List ℕ → List ℕ
 seen_words size kinds words = seen_from (sees size kinds) 0 words
 
--- what each region is to thread i, by the region register
+-- the kind that each region has for thread i, from the region register
 abbrev pub region_kinds : ℕ → ℕ → List RegionKind
 region_kinds i regions = map (region_kind i) (nibbles regions)
 
--- what stays through a quiet run
+-- the constant part of thread i's view, in a quiet run
 unfoldable pub setting_of : Start → ℕ → Setting
 setting_of s i =
     record {

@@ -30,7 +30,7 @@ pub record Registers : Type 0 where
   pub dregions : ℕ
   pub iregions : ℕ
 
--- what a run starts from; each list but the words has an entry for each of the eight threads
+-- the start of a run; each list but those of words has an entry for each of the eight threads
 pub record Start : Type 0 where
   pub period : ℕ  -- of a cycle, in nanoseconds
   pub size : ℕ  -- of each scratchpad, in bytes
@@ -45,8 +45,8 @@ pub record Start : Type 0 where
   pub unplugs : List (Option ℕ)  -- the cycle from which on it isn't there, if there is one
   pub latches : List ℕ  -- what stands at the port
 
--- what a cycle was: nobody's, lost by a thread that wasn't ready, or one instruction of a thread,
--- which has an effect unless it was held
+-- the turn of a cycle: nobody's, lost by a thread that wasn't ready, or one instruction of a
+-- thread. The instruction has an effect unless it is a DU that waits
 pub data Took : Type 0 where
   Idle : Took
   Lost : ℕ → Took
@@ -65,11 +65,11 @@ pub record World : Type 0 where
 abbrev pub thread_of : World → ℕ → Thread
 thread_of w k = slice_index_or w.threads k (fresh 0)
 
--- what picking uses
+-- the inputs of picking
 abbrev pub sched_by : Registers → List ℕ → Sched
 sched_by r sleeps = record { slots = r.slots; modes = r.modes; sleep = sleeps }
 
--- the same of a world
+-- the inputs of picking in a world
 abbrev pub sched_of : World → Sched
 sched_of w = sched_by w.registers (map (λ t. t.own.sleep) w.threads)
 
@@ -81,11 +81,11 @@ config_register r csr =
     else if csr == csr_dregions then r.dregions
     else r.iregions
 
--- a value, where there is a permit
+-- a value, if there is a permit
 abbrev pub if_permitted : Bool → ℕ → Option ℕ
 if_permitted allowed value = if allowed then Some value else None
 
--- what thread k may do at a time, by the registers as they stand
+-- the environment of thread k at a time, with these values of the registers
 unfoldable pub environment : ℕ → ℕ → List Bool → List Bool → Registers → ℕ → Environment
 environment now size confined permit r k =
     record {
@@ -103,21 +103,21 @@ environment now size confined permit r k =
 abbrev pub port_word : Start → ℕ → ℕ → ℕ
 port_word s c k = slice_index_or (slice_index_or s.shown k []) c absent_word
 
--- what an issue of thread k in cycle c asks
+-- the environment of an issue of thread k in cycle c
 abbrev pub environment_at : Start → ℕ → World → ℕ → Environment
 environment_at s c w k = environment (time s.period c) s.size s.confined s.permit w.registers k
 
--- the words that an issue of thread k in cycle c finds
+-- the words that an issue of thread k in cycle c reads
 abbrev pub contents : Start → ℕ → World → ℕ → Contents
 contents s c w k = contents_by s.size s.i_words w.d_words (port_word s c k)
 
--- what an effect does outside its thread: to the words of the data scratchpad,
+-- an effect outside its thread: on the words of the data scratchpad,
 abbrev pub words_after : ℕ → Option Effect → List ℕ → List ℕ
 words_after size (Some (Store address width value)) words =
     if is_data size address then words_with_store size words address width value else words
 words_after size _ words = words
 
--- to the configuration registers,
+-- on the configuration registers,
 abbrev pub registers_after : Option Effect → Registers → Registers
 registers_after (Some (Csr csr value rd old)) r =
     if csr == csr_slots then record r { slots = value }
@@ -127,7 +127,7 @@ registers_after (Some (Csr csr value rd old)) r =
     else r
 registers_after _ r = r
 
--- and to the latch of the thread's port, if that is there
+-- and on the latch of the thread's port, if the port is there
 abbrev pub latches_with : Bool → ℕ → Option Effect → List ℕ → List ℕ
 latches_with there k (Some (Store address width value)) latches =
     if address == port_address && there then slice_set latches k value else latches
@@ -150,7 +150,7 @@ latches_after s c k effect latches = latches_with (has_port s k c) k effect latc
 abbrev pub issue_of : Start → ℕ → World → ℕ → Completion
 issue_of s c w k = issue (environment_at s c w k) (contents s c w k) c (thread_of w k)
 
--- the world after it
+-- the world after that instruction
 abbrev pub after_issue : Start → ℕ → World → ℕ → ℕ → Completion → World
 after_issue s c w last k d =
     record {
@@ -173,7 +173,7 @@ after_pick s c w last (Issue k) =
     if nat_lt c (thread_of w k).ready then after_no_issue w last (Lost k)
     else after_issue s c w last k (issue_of s c w k)
 
--- the world after cycle c, from the world before it and what picking uses
+-- the world after cycle c, from the world before it and the inputs of picking
 unfoldable pub after_turn : Start → ℕ → World → Sched → World
 after_turn s c w q = let p = pick q c (time s.period c) w.last in after_pick s c w p.last p.pick
 
@@ -192,24 +192,24 @@ start_world s = record {
 abbrev pub newest : World → Took
 newest w = slice_index_or w.turns 0 Idle
 
--- the worlds before the cycles c, c - 1 and c - 2; before cycle 0 stands the start
+-- the worlds before the cycles c, c - 1 and c - 2; before cycle 0 the world is the start
 pub record Recent : Type 0 where
   pub now : World
   pub before : World
   pub earlier : World
 
--- picking in cycle c goes by slots, modes and sleep moments as they stood before cycle c - 2
+-- picking in cycle c uses the slots, modes and sleep moments from before cycle c - 2
 unfoldable pub recent : Start → ℕ → Recent
 recent s zero = record { now = start_world s; before = start_world s; earlier = start_world s }
 recent s (suc c) =
     let r = recent s c in
     record { now = after_turn s c r.now (sched_of r.earlier); before = r.now; earlier = r.before }
 
--- the world before cycle c, which is that after c cycles
+-- the world before cycle c, after c cycles
 unfoldable pub world : Start → ℕ → World
 world s c = (recent s c).now
 
--- the event of a turn in cycle c, if it is one of thread i's that has an effect
+-- the event of a turn in cycle c, if the turn is thread i's and has an effect
 abbrev pub event_of : ℕ → ℕ → Took → List Event
 event_of i c (Ran k pc word (Some effect)) =
     if k == i
@@ -217,7 +217,7 @@ event_of i c (Ran k pc word (Some effect)) =
     else []
 event_of i c _ = []
 
--- the events of thread i, the oldest first, by the turns of the cycles so far
+-- the events of thread i, the oldest first, from the turns of the cycles so far
 abbrev pub events_of : ℕ → List Took → List Event
 events_of i [] = []
 events_of i (took ∷ turns) = events_of i turns ++ event_of i (length turns) took
@@ -231,7 +231,7 @@ abbrev pub leaves_registers : Took → Bool
 leaves_registers (Ran k pc word (Some (Csr csr value rd old))) = not (is_shared csr)
 leaves_registers _ = true
 
--- a run of n cycles is quiet where no issue in it, retired or in flight, writes a configuration
--- register, be it with the word that stands there
+-- a run of n cycles is quiet if no issue in it, retired or in flight, writes a configuration
+-- register, even with its current value
 abbrev pub is_quiet : Start → ℕ → Bool
 is_quiet s n = list_all leaves_registers (world s n).turns

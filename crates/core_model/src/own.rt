@@ -8,7 +8,7 @@ use timer_unit::Timer;
 pub struct Trapping {
     /// The address to which a trap goes.
     pub mtvec: u32,
-    /// A word for the program's own use.
+    /// Scratch register of the program.
     pub mscratch: u32,
     /// The address at which the last trap was taken, or what was written since.
     pub mepc: u32,
@@ -23,12 +23,12 @@ pub struct Own {
     pub timer: Timer,
     /// The trap registers.
     pub trap: Trapping,
-    /// The moment in nanoseconds from which the thread is awake; 0 where it never slept.
+    /// The moment, in nanoseconds, from which the thread is awake; 0 if it never slept.
     pub sleep: u64,
 }
 
-/// What a CSR instruction does with the old value and its operand (RISC-V unprivileged manual,
-/// "Zicsr"): it puts the operand in its place, or sets or clears the operand's bits in it.
+/// The operation of a CSR instruction (RISC-V unprivileged manual, "Zicsr"): replaces the old value
+/// by the operand, or sets or clears the operand's bits in it.
 #[derive(Clone, Copy, Debug)]
 pub enum CsrOp {
     /// CSRRW and CSRRWI: the operand.

@@ -2,7 +2,8 @@
 
 ghost use Rattle.core_model.specs.SettingLaws.{OwnPositions, SettingsOfPicks, UnretiredUnseen};
 
-/// What picking uses from a cycle on: the words of the slots and of the modes.
+/// A setting of the scheduling: the words of the slots and of the modes that picking uses from a
+/// cycle on.
 #[derive(Clone, Copy, Debug)]
 pub struct Phase {
     /// The first cycle whose picking uses it.
@@ -13,20 +14,19 @@ pub struct Phase {
     pub modes: u32,
 }
 
-/// The setting of a cycle is what picking uses in it. The contract states the theorem; the call
+/// Picking in a cycle uses the setting of that cycle. The contract states the theorem; the call
 /// does nothing.
 pub fn tells_picks()
     ensures { SettingsOfPicks }
 {}
 
-/// No issue that has retired sees a write of slots or modes that has not: the settings so far
-/// decide picking in its cycle, whatever comes later. The contract states the theorem; the call
-/// does nothing.
+/// No retired issue sees an unretired write of slots or modes. The settings so far decide picking
+/// in its cycle, whatever comes later. The contract states the theorem; the call does nothing.
 pub fn unretired_is_unseen()
     ensures { UnretiredUnseen }
 {}
 
-/// A thread has a cycle where the turn of the slots is its own and its mode is hard active. The
+/// A thread has a cycle if the slot of that cycle is its own and its mode is hard active. The
 /// contract states the theorem; the call does nothing.
 pub fn has_own_turns()
     ensures { OwnPositions }

@@ -3,8 +3,8 @@
 
 ghost use Rattle.core_model.specs.NextWorld.{NextWorld};
 
-/// The theorem of the world's cycles: each world comes from the one before it and what picking uses
-/// two cycles earlier. The contract states the theorem; the call does nothing.
+/// Each world is computed from the world before it. Its pick uses slots, modes and sleep moments as
+/// they were two cycles earlier. The contract states the theorem; the call does nothing.
 pub fn goes_by_turns()
     ensures { NextWorld }
 {}

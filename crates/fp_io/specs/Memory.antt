@@ -1,4 +1,4 @@
--- What files and a sink in memory hold, and what a call leaves of it.
+-- The state of files and of a sink in memory, and its change by a call.
 use Rattle.std.specs.Prelude.{ℕ, ◌-◌, ◌≤◌, ◌<◌, ◌||◌, Bool, List, [], ◌++◌}
 use Rattle.std.specs.Prelude.{length, take, min, nat_lt, Option, Some, None, refl}
 use Rattle.std.specs.Ordering.{nat_cmp}
@@ -46,13 +46,13 @@ fetched_from m = record m { calls = risen m.calls; faults = risen_if (next_fails
 abbrev pub FaultsAreListed : MemoryFiles → Type 0
 FaultsAreListed m = m.faults ≤ listed_before (is_listed m.failing) m.calls
 
--- what files keep of their calls
+-- the invariant of files in memory
 pub record FilesAreSound (failing : List ℕ) (calls faults : ℕ) : Type 0 where
   pub below : AreBelowLast (is_listed failing)
   pub few : faults ≤ listed_before (is_listed failing) calls
 
--- a sink in memory: the bytes taken so far, how many it has room for in all, the calls of `put`
--- that are cut and fail, how many calls were made, and how many faults there were
+-- a sink in memory: the bytes taken so far, its total room in bytes, the calls of `put` that are
+-- cut and fail, the number of calls made, and the number of faults
 pub record MemorySink : Type 0 where
   pub bytes : List ℕ
   pub room : ℕ
@@ -64,11 +64,11 @@ pub record MemorySink : Type 0 where
 abbrev pub empty_sink : ℕ → MemorySink
 empty_sink room = record { bytes = []; room = room; cuts = []; calls = 0; faults = 0 }
 
--- how many of these bytes fit
+-- the number of these bytes that fit
 abbrev pub fitting : MemorySink → List ℕ → ℕ
 fitting s bytes = min (length bytes) (s.room - length s.bytes)
 
--- of as many bytes as fit, how many a call takes that is cut, or not
+-- the number of bytes that a call takes, cut or not, from those that fit
 abbrev pub taken_by : Option ℕ → ℕ → ℕ
 taken_by None fits = fits
 taken_by (Some most) fits = min most fits
@@ -89,8 +89,8 @@ put_into s bytes = record s {
 abbrev pub FaultsAreCut : MemorySink → Type 0
 FaultsAreCut s = length s.bytes < s.room → s.faults ≤ listed_before (is_cut s.cuts) s.calls
 
--- what a sink keeps: the bytes are within its room, for which the memory is there, and the same of
--- its calls while there is room
+-- the invariant of a sink: the bytes fit its room, the memory for the room is allocated, and the
+-- counts of calls and faults are sound while there is room
 pub record SinkIsSound (bytes : List ℕ) (room capacity : ℕ) (cuts : List Cut)
     (calls faults : ℕ) : Type 0 where
   pub within : length bytes ≤ room

@@ -8,7 +8,7 @@ ghost use Rattle.fp_io.specs.Content.{Asks, FileMap, Fetched, Lacks, Request};
 use std::alloc::Global;
 use thiserror::Error;
 
-/// Why a file was not fetched.
+/// The reason why a file was not fetched.
 #[derive(Clone, Copy, Debug, PartialEq, Eq, Error)]
 pub enum FetchFault {
     /// No file has the name.
@@ -24,25 +24,25 @@ pub enum FetchFault {
 
 /// A map from names to the bytes of files, and a count of the faults met in reading them.
 pub trait Files {
-    // The map, where the object tells it.
+    // The map, if the object's contract exposes it.
     ghost told: { Self → Option FileMap };
 
-    // The calls of `fetch` so far, in order, where the object tells them.
+    // The calls of `fetch` so far, in order, if the object's contract exposes them.
     ghost requests: { Self → Option (List Request) };
 
-    // How many faults of reading there were: it never falls, and stays at 2^64 - 1.
+    // The number of read faults so far. It never decreases, and saturates at 2^64 - 1.
     ghost faults: { Self → ℕ };
 
-    /// The first `most + 1` bytes of a file, or the whole file where it is shorter.
+    /// Returns the first `most + 1` bytes of a file, or the whole file if it is shorter.
     ///
-    /// With `most` as the largest length that is accepted, an answer of `most + 1` bytes shows that
-    /// the file is too long, whatever it holds after them.
+    /// If `most` is the largest accepted length, a result of `most + 1` bytes means that the file
+    /// is too long.
     ///
     /// # Errors
     ///
-    /// `Missing` where the object tells its map and no file has the name, `Failed` where a fault
-    /// was counted in this call, `NoMemory` if memory ran out. With `NoMemory` no fault was counted
-    /// in this call, and the object doesn't tell that the file is missing.
+    /// `Missing` if the object exposes its map and no file has the name. `Failed` if a fault was
+    /// counted in this call. `NoMemory` if memory ran out; then no fault was counted in this call,
+    /// and the map, if exposed, doesn't lack the file.
     fn fetch(&mut self, alloc: Global, name: &str, most: usize) -> Result<Vec<u8>, FetchFault>
         requires { most < 2 ^ 64 - 1 }
         ensures request { Asks (requests self.old) (requests self.new) ((name.now, most) ∷ []) }

@@ -1,4 +1,4 @@
-//! A sink that gathers bytes for another one.
+//! A sink that buffers bytes for another sink.
 
 ghost use Rattle.std.specs.Prelude.{◌≡◌, ◌≢◌, [], ◌++◌, ◌+◌, ◌<◌, ◌≤◌, None, length, OnOk, OnErr};
 ghost use Rattle.std.specs.Io.KnownBytes.{Appends};
@@ -9,24 +9,24 @@ ghost use Rattle.fp_io.specs.Gathered.{followed, gathered_with};
 use crate::sink::{PutFailed, Sink};
 use std::marker::Model;
 
-/// How many bytes are gathered at most before they are handed on.
+/// The size of the buffer, in bytes.
 const ROOM: usize = 8192;
 
-/// A sink that gathers bytes, and hands them on to another sink many at a time: by
-/// [`Gathered::flush`], and by a `put` that finds no room for its own.
+/// A sink that buffers bytes and passes them to another sink in large pieces: in
+/// [`Gathered::flush`], and in a `put` whose bytes don't fit.
 ///
-/// It tells no bytes as a sink, since those gathered may never be handed on. What it has handed on,
-/// in order and once, is said of the sink behind it: contracts see that sink, and the bytes
-/// gathered.
+/// As a sink it exposes no bytes, since buffered bytes may never be passed on. Contracts refer to
+/// the sink behind it and to the buffered bytes. They state that the bytes reach that sink in order
+/// and once.
 ///
-/// The bytes stand in an array, of which the first `len` count, and not in an `ArrayVec`, whose
-/// `clear` writes over each byte: a line of a run takes some 40 instructions less so.
+/// The bytes are the first `len` of an array. An `ArrayVec` would cost some 40 instructions more
+/// per line of a run, since its `clear` overwrites each byte.
 #[derive(Drop)]
 pub struct Gathered<K> {
     sink: K,
-    /// The bytes gathered, and behind them bytes that were handed on.
+    /// The buffered bytes, followed by bytes that were passed on.
     room: [u8; ROOM],
-    /// How many bytes are gathered.
+    /// The number of buffered bytes.
     len: usize,
 }
 
@@ -44,7 +44,7 @@ impl<K> Model for Gathered<K> {
 }
 
 impl<K: Sink + Drop> Gathered<K> {
-    /// Gathers for a sink.
+    /// Buffers for a sink.
     pub fn new(sink: K) -> Gathered<K>
         ensures { result ≡ (sink, []) }
     {
@@ -55,12 +55,12 @@ impl<K: Sink + Drop> Gathered<K> {
         }
     }
 
-    /// Hands on what is gathered, in one call, or does nothing where there is nothing.
+    /// Passes the buffered bytes on in one call, or does nothing if there are none.
     ///
     /// # Errors
     ///
-    /// `PutFailed` where the sink behind it answers that. It has taken the first of the bytes then,
-    /// and the others are gone.
+    /// `PutFailed` if the sink behind it returns that. That sink has then taken a prefix of the
+    /// bytes, and the others are lost.
     pub fn flush(&mut self) -> Result<(), PutFailed>
         ensures ok { OnOk result (Appends (K.taken self.old.0) (K.taken self.new.0) self.old.1) }
         ensures err { OnErr result (AppendsFront (K.taken self.old.0) (K.taken self.new.0)
@@ -79,13 +79,13 @@ impl<K: Sink + Drop> Gathered<K> {
         put
     }
 
-    /// Hands on what is gathered, and then bytes that have no room beside it. It stands apart from
-    /// `put`, so that a put with room, which nearly each is, saves no registers for it: that was
-    /// half of its instructions.
+    /// Passes on the buffered bytes, and then bytes that don't fit with them. It is separate from
+    /// `put`, so that the fast path, nearly every put, saves no registers. Saving them would double
+    /// its instructions.
     ///
     /// # Errors
     ///
-    /// `PutFailed` where the sink behind answers that, at what is gathered or at the bytes.
+    /// `PutFailed` if the sink behind returns that, for the buffered bytes or for `bytes`.
     #[cold]
     #[inline(never)]
     fn hand_on(&mut self, bytes: &[u8]) -> Result<(), PutFailed>

@@ -1,8 +1,8 @@
-//! The outside of the program: files that are read whole by name, and a sink that takes bytes.
+//! Input and output of the program: files that are read whole by name, and a sink that takes bytes.
 //!
-//! Both are traits, so that the layers above are proved for every kind of file and sink. An object
-//! may tell its content, and it counts its faults; the count lets a caller's contract say that a
-//! fault was answered only where one came up.
+//! Both are traits, so that the layers above are proved for every kind of file and sink. An
+//! object's contract may expose its content, and it counts its faults. With the count, a caller's
+//! contract can state that a fault is returned only if one occurred.
 
 #![tactic(auto)]
 

@@ -11,10 +11,10 @@ use std::alloc::{AllocError, Global};
 use std::collections::BTreeMap;
 use std::marker::Model;
 
-/// Files in memory, of which chosen calls of `fetch` fail.
+/// Files in memory. Chosen calls of `fetch` fail.
 ///
-/// They tell their map. Their count is never above the number of listed calls that were made, so
-/// without a listing it stays 0.
+/// Their contract exposes the map. Their count of faults is at most the number of listed calls
+/// made, so without a listing it stays 0.
 #[derive(Drop)]
 pub struct MemFiles {
     alloc: Global,
@@ -58,11 +58,11 @@ impl MemFiles {
         }
     }
 
-    /// Gives the name these bytes, in place of earlier ones.
+    /// Sets the bytes of the file with this name, in place of earlier ones.
     ///
     /// # Errors
     ///
-    /// If memory ran out; nothing changes then.
+    /// Out of memory; nothing changes then.
     pub fn add(&mut self, name: &str, bytes: &[u8]) -> Result<(), AllocError>
         ensures after { self.new ≡ (if is_ok result
             then record self.old { named = map.insert self.old.named name.now bytes.now }
@@ -79,7 +79,7 @@ impl MemFiles {
     ///
     /// # Errors
     ///
-    /// If memory ran out; nothing changes then.
+    /// Out of memory; nothing changes then.
     pub fn fail_at(&mut self, call: u64) -> Result<(), AllocError>
         requires { call < 2 ^ 64 - 1 }
         ensures after { self.new ≡ (if is_ok result
@@ -91,7 +91,7 @@ impl MemFiles {
         Ok(())
     }
 
-    /// Counts a call of `fetch`, and says whether it fails.
+    /// Counts a call of `fetch`, and returns whether it fails.
     fn count_call(&mut self) -> bool
         ensures fails { result ≡ next_fails self.old }
         ensures after { self.new ≡ fetched_from self.old }

@@ -14,13 +14,14 @@ use std::marker::Model;
 pub struct Cut {
     /// The number of the call, counted from 0.
     pub call: u64,
-    /// How many bytes it takes, at most.
+    /// The most bytes that it takes.
     pub taken: usize,
 }
 
-/// A sink in memory with a fixed room, of which chosen calls of `put` fail.
+/// A sink in memory with a fixed capacity. Chosen calls of `put` fail.
 ///
-/// It tells the bytes taken so far. `put` takes no memory: it writes into the room taken by `new`.
+/// Its contract exposes the bytes taken so far. `put` allocates no memory: it writes into the
+/// memory allocated by `new`.
 #[derive(Drop)]
 pub struct MemSink {
     bytes: Vec<u8>,
@@ -49,11 +50,11 @@ impl Model for MemSink {
 }
 
 impl MemSink {
-    /// A sink with room for `room` bytes, whose memory is taken here, and no call that fails.
+    /// A sink with room for `room` bytes, allocated here, and no call that fails.
     ///
     /// # Errors
     ///
-    /// If memory ran out.
+    /// Out of memory.
     pub fn new(alloc: Global, room: usize) -> Result<MemSink, AllocError>
         ensures { IfOk result (λ sink. sink ≡ empty_sink room) }
     {
@@ -68,11 +69,11 @@ impl MemSink {
 
     /// Lists a call of `put`, counted from 0, as one that takes at most `taken` bytes and fails.
     ///
-    /// Of two listings of one call the first counts.
+    /// If a call is listed twice, the first listing counts.
     ///
     /// # Errors
     ///
-    /// If memory ran out; nothing changes then.
+    /// Out of memory; nothing changes then.
     pub fn fail_at(&mut self, call: u64, taken: usize) -> Result<(), AllocError>
         requires { call < 2 ^ 64 - 1 }
         ensures after { self.new ≡ (if is_ok result
@@ -95,7 +96,7 @@ impl MemSink {
     }
 }
 
-/// How many bytes a call takes where it is listed.
+/// The most bytes that a call takes, if it is listed.
 fn cut_of(cuts: &[Cut], call: u64) -> Option<usize>
     ensures { result ≡ cut_of cuts.now call }
 {

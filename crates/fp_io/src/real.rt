@@ -14,10 +14,11 @@ use std::io::{Read, Write};
 use std::marker::Model;
 use std::{fs, io, rt};
 
-/// How many bytes one read asks for at most.
+/// The most bytes that one read requests.
 const PIECE: usize = 4096;
 
-/// The runtime's files. They tell no map: nothing is claimed of what a real file holds.
+/// The runtime's files. Their contract exposes no map: nothing is claimed about the content of a
+/// real file.
 ///
 /// A file that is not there is `Failed`, never `Missing`.
 #[derive(Drop)]
@@ -68,8 +69,8 @@ impl<R: rt::Files + Drop> Files for RealFiles<R> {
     }
 }
 
-/// The runtime's standard output. It tells no bytes: nothing is claimed of what a terminal or a
-/// pipe takes. Each `put` is written at once.
+/// The runtime's standard output. Its contract exposes no bytes: nothing is claimed about the bytes
+/// that a terminal or a pipe takes. Each `put` is written at once.
 #[derive(Drop)]
 pub struct OutSink<R> {
     rt: R,
@@ -114,7 +115,7 @@ impl<R: Print + Drop> Sink for OutSink<R> {
     }
 }
 
-/// The first `most + 1` bytes of a file of the runtime, or the whole file where it is shorter.
+/// The first `most + 1` bytes of a file of the runtime, or the whole file if it is shorter.
 fn read_file<R: rt::Files>(
     rt: &R,
     alloc: Global,
@@ -129,8 +130,8 @@ fn read_file<R: rt::Files>(
     read_up_to(alloc, &mut file, most)
 }
 
-/// The first `most + 1` bytes that a reader gives, or all where it gives fewer. A read that gives
-/// nothing is the end.
+/// The first `most + 1` bytes of a reader, or all if it has fewer. A read that returns no bytes is
+/// the end.
 fn read_up_to<F: Read>(alloc: Global, file: &mut F, most: usize) -> Result<Vec<u8>, FetchFault>
     requires { most < 2 ^ 64 - 1 }
     ensures within { IfOk result (λ bytes. vec_len bytes ≤ most + 1) }
@@ -155,7 +156,7 @@ fn read_up_to<F: Read>(alloc: Global, file: &mut F, most: usize) -> Result<Vec<u
     Ok(bytes)
 }
 
-/// Writes all bytes. A write that takes nothing of a piece is an error, since no piece is empty.
+/// Writes all bytes. A write that takes no bytes is an error, since no piece is empty.
 fn write_whole<W: Write>(to: &mut W, bytes: &[u8]) -> Result<(), PutFailed>
     ensures ok { OnOk result (Appends (W.contents to.old) (W.contents to.new) bytes.now) }
     ensures err { OnErr result (AppendsFront (W.contents to.old) (W.contents to.new) bytes.now) }

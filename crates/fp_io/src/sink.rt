@@ -14,18 +14,18 @@ pub struct PutFailed;
 
 /// The bytes taken so far, in order, and a count of the faults met in taking them.
 pub trait Sink {
-    // The bytes taken so far, where the object tells them.
+    // The bytes taken so far, if the object's contract exposes them.
     ghost taken: { Self → Option (List ℕ) };
 
-    // How many faults of writing there were: it never falls, and stays at 2^64 - 1.
+    // The number of write faults so far. It never decreases, and saturates at 2^64 - 1.
     ghost faults: { Self → ℕ };
 
     /// Takes the bytes after those taken so far.
     ///
     /// # Errors
     ///
-    /// `PutFailed` where a fault was counted in this call. The first of the bytes, all or none of
-    /// them among the cases, are then taken.
+    /// `PutFailed` if a fault was counted in this call. Then a prefix of the bytes was taken,
+    /// possibly none or all of them.
     fn put(&mut self, bytes: &[u8]) -> Result<(), PutFailed>
         ensures counted { faults self.old ≤ faults self.new }
         ensures ok { OnOk result (Appends (taken self.old) (taken self.new) bytes.now) }

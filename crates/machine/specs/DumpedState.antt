@@ -1,7 +1,7 @@
--- What a dump shows of the world after n cycles. Stages, registers, memory and ports are some
--- cycles behind the newest issue, as far as the pipeline has brought each: the registers show the
--- issues up to cycle n - 5, memory and latches those up to n - 4, timers, trap registers, sleep
--- moments and the configuration registers those up to n - 3. Before cycle 0 stands the start.
+-- The dump of the world after n cycles. Stages, registers, memory and ports are some cycles behind
+-- the newest issue, as the pipeline updates each in its stage. The registers show the issues up to
+-- cycle n - 5, and memory and latches those up to n - 4. Timers, trap registers, sleep moments and
+-- the configuration registers show those up to n - 3. Before cycle 0 the world is the start.
 -- Source: this project's format of dumps.
 use Rattle.std.specs.Prelude.{ℕ, ◌+◌, ◌-◌, ◌*◌, ◌/◌, ◌==◌, nat_lt, Bool, true}
 use Rattle.std.specs.Prelude.{false, ◌&&◌, if◌then◌else◌, List, [], ◌∷◌, ◌++◌}
@@ -24,19 +24,19 @@ use Rattle.core_model.specs.Cycles.{cycles_to_w}
 abbrev pub turn_before : Start → ℕ → ℕ → Took
 turn_before s n e = slice_index_or (world s n).turns e Idle
 
--- what the first stage shows of a turn, and the later ones
+-- the content of the first stage, from its turn
 abbrev pub picked_in : Took → StageContent
 picked_in Idle = Nothing
 picked_in (Lost k) = Picked k
 picked_in (Ran k pc word effect) = Picked k
 
--- what a later stage shows
+-- the content of a later stage, from its turn
 abbrev pub held_in : Took → StageContent
 held_in Idle = Nothing
 held_in (Lost k) = Flushed k
 held_in (Ran k pc word effect) = Issue k pc word
 
--- the five stages, from the first on
+-- the five stages, in order
 abbrev pub stages_seen : Start → ℕ → List ℕ
 stages_seen s n =
     stage_text (codes "F") (picked_in (turn_before s n 0))
@@ -74,13 +74,13 @@ traps_seen i t = thread_words_text i (codes "csr") (t.mtvec ∷ t.mscratch ∷ t
 abbrev pub timer_seen : ℕ → Timer → ℕ → List ℕ
 timer_seen i t sleep = timer_text i t.armed sleep t.high
 
--- whether a port that was handed in is still there after n cycles: the issues from its unplugging
--- on find none, and they come to it three cycles later
+-- whether a port that was handed in is still there after n cycles. The issues from cycle `unplug`
+-- on find none, and they reach the port three cycles later
 abbrev pub is_port_left : Option ℕ → ℕ → Bool
 is_port_left None n = true
 is_port_left (Some unplug) n = nat_lt n (unplug + cycles_to_w)
 
--- its latch, where it is there
+-- the latch of a thread's port, if the port is there
 abbrev pub latch_seen : Start → ℕ → ℕ → Option ℕ
 latch_seen s n i =
     if slice_index_or s.handed i false && is_port_left (slice_index_or s.unplugs i None) n
@@ -95,7 +95,7 @@ thread_seen s n i =
     ++ (traps_seen i own.trap
     ++ (timer_seen i own.timer own.sleep ++ latch_text i (latch_seen s n i)))
 
--- eight words of the data scratchpad, by the number of the line, where they aren't all 0
+-- the line of eight words of the data scratchpad, by its number; empty if all are 0
 unfoldable pub words_seen : List ℕ → ℕ → List ℕ
 words_seen words k =
     let row = eight_from (λ j. slice_index_or words j 0) (8 * k) in

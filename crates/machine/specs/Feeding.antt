@@ -12,16 +12,16 @@ fed_word thread ports input = slice_set ports thread (fed (row_at ports thread) 
 abbrev pub fed_words : ℕ → List (Option Row) → List Input → List (Option Row)
 fed_words thread ports inputs = fold (fed_word thread) ports inputs
 
--- the inputs of the first k threads, threads rising
+-- the ports after the inputs of the first k threads are fed, in order
 abbrev pub fed_first : Settings → List (Option Row) → ℕ → List (Option Row)
 fed_first s ports zero = ports
 fed_first s ports (suc k) = fed_words k (fed_first s ports k) (thread_setup_of s k).inputs
 
--- all inputs
+-- the ports after all inputs are fed
 abbrev pub fed_all : Settings → List (Option Row) → List (Option Row)
 fed_all s ports = fed_first s ports 8
 
--- some of them: those of the first threads, and of the next one the first inputs
+-- a prefix of the inputs was fed: all of the first threads, and the first ones of the next thread
 abbrev pub IsFedFront : Settings → List (Option Row) → List (Option Row) → Type 0
 IsFedFront s before after =
     (k : ℕ) × (j : ℕ)

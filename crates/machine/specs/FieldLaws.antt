@@ -1,4 +1,4 @@
--- The theorems of a machine, by its fields, and of ports that refine a cycle of a world.
+-- Theorems on the fields of a machine, and on ports that refine a cycle of a world.
 use Rattle.std.specs.Prelude.{◌≡◌, ℕ, suc, ◌+◌, ◌<◌, List, length, Option}
 use Rattle.core_model.specs.World.{Start}
 use Rattle.pipe_model.specs.Stages.{StageRegisters, State, Ticked}
@@ -7,24 +7,24 @@ use Rattle.machine.specs.DumpedState.{seen}
 use Rattle.machine.specs.Fields.{dump_of}
 use Rattle.machine.specs.FieldRelation.{FieldsRefine, ports_left_in}
 
--- the units with the ports of the cycle
+-- the units with the ports that are left in the cycle
 abbrev pub with_ports_left : State → ℕ → List (Option ℕ) → State
 with_ports_left u c unplugs = record u { ports = ports_left_in unplugs c u.ports 8 }
 
--- what refines a cycle does so without the ports that are due, and these are then as the
--- pipeline finds them
+-- without the ports that are due, the fields still refine the cycle, and the ports are as the
+-- pipeline reads them
 pub record Unplugged (s : Start) (c : ℕ) (p : StageRegisters) (u : State) : Type 0 where
   pub refines : Refines s c p u
   pub shows : PortsRefine s c u.ports
 
--- taking the ports that are due away leaves what stands
+-- removing the ports that are due keeps the refinement
 abbrev pub Unplugs : Type 0
 Unplugs =
     (s : Start) (c n : ℕ) (p : StageRegisters) (u : State) (at : ℕ) (unplugs : List (Option ℕ)) →
     FieldsRefine s c n p u at unplugs → c < n + 3 → length u.ports ≡ 8 →
     Unplugged s c p (with_ports_left u c unplugs)
 
--- what the pipeline then leaves refines the next cycle
+-- the state after the pipeline's step refines the next cycle
 abbrev pub GoesOn : Type 0
 GoesOn =
     (s : Start) (c n : ℕ) (p : StageRegisters) (u : State) (at : ℕ) (unplugs : List (Option ℕ))
@@ -32,7 +32,7 @@ GoesOn =
     RefinesNext s c (with_ports_left u c unplugs).ports t →
     FieldsRefine s (suc c) n t.stage_registers t.state (suc at) unplugs
 
--- the lines of the machine's fields are those of the world
+-- the dump lines from the machine's fields are those of the world
 abbrev pub Dumps : Type 0
 Dumps =
     (s : Start) (c n : ℕ) (p : StageRegisters) (u : State) (at : ℕ) (unplugs : List (Option ℕ)) →

@@ -1,4 +1,4 @@
--- The lines of a dump by the machine's fields, each by its number.
+-- The lines of a dump from the machine's fields, each by its number.
 use Rattle.std.specs.Prelude.{ℕ, ◌+◌, ◌-◌, ◌/◌, ◌%◌, ◌==◌, nat_lt, not, ◌||◌, if◌then◌else◌}
 use Rattle.std.specs.Prelude.{List, [], flat_map, slice_index_or, Bool, true, codes}
 use Rattle.std.specs.List.{range_with_len}
@@ -22,39 +22,39 @@ use Rattle.pipe_model.specs.Stages.{StageRegisters, State}
 use Rattle.machine.specs.DumpedState.{eight_from, traps_seen, timer_seen, words_seen}
 use Rattle.core_model.specs.Thread.{reg_in}
 
--- what a stage register shows
+-- the content of the first stage
 abbrev pub fetched_held : InStage Fetched → StageContent
 fetched_held stage.Bubble = Nothing
 fetched_held (stage.Flushed k) = Picked k
 fetched_held (stage.Issue k x) = Picked k
 
--- the word isn't shown where an expiry or a refused fetch will take the turn
+-- the word that the second stage shows: 0 if an expiry or a refused fetch will take the turn
 abbrev pub shown_word : ℕ → List Bool → ℕ → ℕ → Decoded → ℕ
 shown_word size confined iregions k x =
     if x.expired || not (may_fetch k size (slice_index_or confined k true) iregions x.pc)
     then 0
     else x.word
 
--- what the second stage shows
+-- the content of the second stage
 abbrev pub decoded_held : ℕ → List Bool → ℕ → InStage Decoded → StageContent
 decoded_held size confined iregions stage.Bubble = Nothing
 decoded_held size confined iregions (stage.Flushed k) = Flushed k
 decoded_held size confined iregions (stage.Issue k x) =
     Issue k x.pc (shown_word size confined iregions k x)
 
--- what the third stage shows
+-- the content of the third stage
 abbrev pub executed_held : InStage Executed → StageContent
 executed_held stage.Bubble = Nothing
 executed_held (stage.Flushed k) = Flushed k
 executed_held (stage.Issue k x) = Issue k x.pc x.word
 
--- what the fourth stage shows
+-- the content of the fourth stage
 abbrev pub stored_held : InStage Stored → StageContent
 stored_held stage.Bubble = Nothing
 stored_held (stage.Flushed k) = Flushed k
 stored_held (stage.Issue k x) = Issue k x.pc x.word
 
--- what the fifth stage shows
+-- the content of the fifth stage
 abbrev pub written_held : InStage Written → StageContent
 written_held stage.Bubble = Nothing
 written_held (stage.Flushed k) = Flushed k
@@ -91,7 +91,7 @@ thread_line u i k =
     (slice_index_or u.control.sleeps i 0)
     else latch_text i (rows.latch_seen (rows.row_at u.ports i))
 
--- any line; from number 66 on those of the data scratchpad
+-- the line with number k; the lines from 66 on are those of the data scratchpad
 unfoldable pub dump_line : StageRegisters → State → ℕ → ℕ → List ℕ
 dump_line p u at k =
     if nat_lt k 10 then head_line p u.size u.confined u.control.registers at k
@@ -102,6 +102,6 @@ dump_line p u at k =
 abbrev pub lines_before : StageRegisters → State → ℕ → ℕ → List ℕ
 lines_before p u at k = flat_map (dump_line p u at) (range_with_len 0 k)
 
--- the whole dump, by the fields of a machine
+-- the whole dump, from the fields of a machine
 abbrev pub dump_of : StageRegisters → State → ℕ → List ℕ
 dump_of p u at = lines_before p u at (66 + u.size / 32)

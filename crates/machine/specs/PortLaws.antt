@@ -1,4 +1,4 @@
--- The theorems of feeding, and of the ports that are left.
+-- Theorems on feeding the ports, and on the ports that are left.
 use Rattle.std.specs.Prelude.{◌≡◌, ℕ, ◌^◌, ◌≤◌, List, length, Option}
 use Rattle.fp_image.specs.declared.parts.Segment.{Segment}
 use Rattle.fp_ports.specs.PluggedPorts.{Row}
@@ -9,15 +9,15 @@ use Rattle.machine.specs.declared.state.Machine.{Machine}
 use Rattle.machine.specs.Feeding.{fed_all}
 use Rattle.machine.specs.WorldRelation.{Refines, AreLeft, PortsAfter, start_beside}
 
--- the start beside ports that were fed with the setup's inputs is the start of the setup beside the
--- ports as they were handed in
+-- the start with ports that were fed the setup's inputs is the start of the setup with the ports
+-- before they were fed
 abbrev pub FeedsStart : Type 0
 FeedsStart =
     (s : Settings) (image : List Segment) (ports : List (Option Row)) (n : ℕ) → length ports ≡ 8 →
     n ≤ 2 ^ 64 → start_beside s image (fed_all s ports) n ≡ start s image ports n
 
--- ports that refine cycle c of a world, and show the words that those before showed, are those
--- before with the world's latches, but for the ones that are gone
+-- ports that refine cycle c of a world and show the same words as earlier ports are those earlier
+-- ports with the world's latches, without the removed ones
 abbrev pub LeavesPorts : Type 0
 LeavesPorts =
     (s : Start) (c n : ℕ) (m : Machine) (before after : List (Option Row)) → Refines s c n m after →

@@ -1,4 +1,4 @@
--- Cycles in which nobody is awake and nothing is in the pipeline.
+-- Cycles with no thread awake and an empty pipeline.
 use Rattle.std.specs.Prelude.{◌≡◌, ℕ, ◌-◌, ◌<◌, ◌≤◌, false, List, Option, None}
 use Rattle.fp_ports.specs.PluggedPorts.{Row}
 use Rattle.slot_scheduler.specs.declared.picking.Sched.{Sched}
@@ -16,19 +16,19 @@ use Rattle.core_model.specs.Cycles.{cycles_to_w}
 abbrev pub NobodyAwake : Sched → ℕ → Type 0
 NobodyAwake s now = (thread : ℕ) → thread < 8 → is_awake s now thread ≡ false
 
--- an empty pipeline and its units as they were, and no event
+-- the result of an idle cycle: an empty pipeline, unchanged units, and no event
 abbrev pub idle_tick : List ℕ → State → Ticked
 idle_tick next u = record { stage_registers = empty next; state = u; event = None }
 
--- so a cycle leaves them in which nobody is awake
+-- a cycle of an empty pipeline with no thread awake is idle
 abbrev pub SleepsOn : Type 0
 SleepsOn =
     (next : List ℕ) (u : State) (c : ℕ) →
     NobodyAwake (sched_by u.control.registers u.control.sleeps) (time u.period c) →
     step (empty next) u c ≡ idle_tick next u
 
--- the machine and the ports refine the cycle that the machine has come to, and in the cycles from c
--- on to it no event retired
+-- the machine and the ports refine the machine's current cycle, and no event retired in the cycles
+-- from c to it
 pub record PassedOver (s : Start) (c n : ℕ) (m : Machine) (ports : List (Option Row)) : Type 0 where
   pub refines : Refines s m.at n m ports
   pub quiet : (k : ℕ) → c ≤ k → k < m.at → event_in (k - cycles_to_w) (turn_at s k 3) ≡ None

@@ -28,7 +28,7 @@ abbrev pub Refines : Start → ℕ → ℕ → Machine → List (Option Row) →
 Refines s c n m ports =
     FieldsRefine s c n (abstract_stages m.pipe) (abstract_state m.units ports) m.at m.unplugs
 
--- the start of a run of n cycles beside ports that were fed already
+-- the start of a run of n cycles with ports that were fed already
 abbrev pub start_beside : Settings → List Segment → List (Option Row) → ℕ → Start
 start_beside s image ports n = record (start s image ports n) {
   shown = map (λ i. shown (row_at ports i) [] (thread_setup_of s i).unplug n) the_threads;
@@ -39,34 +39,33 @@ abbrev pub IsLeft : Option Row → Option Row → Type 0
 IsLeft before None = Unit {0}
 IsLeft before (Some row) = port_words before ≡ Some row.words
 
--- the same of the ports of all threads
+-- the same for the ports of all threads
 abbrev pub AreLeft : List (Option Row) → List (Option Row) → Type 0
 AreLeft before after = (k : ℕ) → k < 8 → IsLeft (row_at before k) (row_at after k)
 
--- what a cycle left refines the next one, and its answer is the event that retires
+-- the state after a cycle refines the next one, and the result is the event that retires
 pub record Ticks (s : Start) (c n : ℕ) (before : List (Option Row)) (m : Machine)
     (ports : List (Option Row)) (event : Option Event) : Type 0 where
   pub refines : Refines s (suc c) n m ports
   pub event_is : event ≡ event_in (c - cycles_to_w) (turn_at s c 3)
   pub left : AreLeft before ports
 
--- k cycles of a run of n have put the text of the thread's events so far, and machine and ports
--- refine cycle k
+-- k cycles of a run of n have put the text of the thread's events so far. Machine and ports refine
+-- cycle k
 pub record HasRun (s : Start) (k n thread : ℕ) (first : List (Option Row)) (m : Machine)
     (ports : List (Option Row)) (before after : Option (List ℕ)) : Type 0 where
   pub put : Appends before after (text (events s thread k))
   pub refines : Refines s k n m ports
   pub left : AreLeft first ports
 
--- bytes were appended that begin with these
+-- the bytes appended begin with these
 abbrev pub AppendsBeyond : Option (List ℕ) → Option (List ℕ) → List ℕ → Type 0
 AppendsBeyond None after bytes = ⊤
 AppendsBeyond (Some xs) None bytes = ⊥
 AppendsBeyond (Some xs) (Some ys) bytes = (rest : List ℕ) × (ys ≡ (xs ++ bytes) ++ rest)
 
--- a run that was stopped has put a front of the text of all, and machine and ports refine the
--- cycles done: what was put begins with the text of all of them but the last one, and is a front of
--- the text of all of them
+-- machine and ports of a stopped run refine the cycles done. The bytes put begin with the text of
+-- all these cycles but the last, and are a prefix of the text of all of them
 pub record Stopped (s : Start) (n thread : ℕ) (first : List (Option Row)) (m : Machine)
     (ports : List (Option Row)) (before after : Option (List ℕ)) : Type 0 where
   pub put : AppendsFront before after (text (events s thread n))
@@ -76,8 +75,8 @@ pub record Stopped (s : Start) (n thread : ℕ) (first : List (Option Row)) (m :
   pub refines : Refines s m.at n m ports
   pub left : AreLeft first ports
 
--- what is left of a thread's row after n cycles of a world: the port with the world's latch, and
--- with its words as they were; none where none was handed in or it is gone
+-- a thread's row after n cycles of a world: the port with the world's latch and its words
+-- unchanged; None if none was handed in or it was removed
 abbrev pub row_after : Start → ℕ → ℕ → Option Row → Option Row
 row_after s n k row =
     if slice_index_or s.handed k false && is_port_left (slice_index_or s.unplugs k None) n
@@ -88,7 +87,7 @@ row_after s n k row =
 abbrev pub PortsAfter : Start → ℕ → List (Option Row) → List (Option Row) → Type 0
 PortsAfter s n before after = (k : ℕ) → k < 8 → row_at after k ≡ row_after s n k (row_at before k)
 
--- the units at the start of a setup and an image, beside ports
+-- the units at the start of a setup and an image, with the ports
 abbrev pub units_at_start : Settings → List Segment → List (Option Row) → State
 units_at_start s image ports =
     record {

@@ -17,13 +17,13 @@ use fp_io::{PutFailed, Sink};
 use fp_ports::Ports;
 
 impl Machine {
-    /// Puts the dump of the machine, each line by one call: the cycles done, what the stages hold,
-    /// the configuration registers, those of each thread with its timer and latch, and the data
-    /// scratchpad's words that aren't 0. It takes no memory.
+    /// Puts the dump of the machine, each line by one call: the cycles done, the contents of the
+    /// stages, the configuration registers, the registers, timer and latch of each thread, and the
+    /// nonzero words of the data scratchpad. It allocates no memory.
     ///
     /// # Errors
     ///
-    /// A fault of the sink was counted in this call; the dump was put as far as that.
+    /// The sink counted a fault in this call. The dump was put up to that point.
     pub fn dump<K: Sink>(&self, ports: &Ports, out: &mut K) -> Result<(), PutFailed>
         requires { vec_len ports.now ≡ 8 }
         ensures ok { OnOk result ((s : Start) (c n : ℕ)

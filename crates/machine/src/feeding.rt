@@ -9,12 +9,12 @@ use fp_ports::{Ports, feed_port};
 use fp_setup::{Input, Setup};
 use std::alloc::AllocError;
 
-/// Feeds each thread's inputs to its port, in order, threads rising. An empty port takes them
-/// without effect.
+/// Feeds each thread's inputs to its port, in order, from thread 0 to thread 7. An absent port
+/// ignores them.
 ///
 /// # Errors
 ///
-/// Out of memory; a front of the inputs has been fed then.
+/// Out of memory. A prefix of the inputs has been fed then.
 pub fn feed_inputs(setup: &Setup, ports: &mut Ports) -> Result<(), AllocError>
     requires { vec_len ports.old ≡ 8 }
     ensures ok { OnOk result (rows_of latched word_at ports.new.items
@@ -46,9 +46,8 @@ fn feed_thread(ports: &mut Ports, thread: u8, inputs: &[Input]) -> Result<(), Al
     Ok(())
 }
 
-/// A machine beside ports that were fed with the inputs of its setup starts in the world of the
-/// setup and of the ports as they were handed in. The contract states the theorem; the call does
-/// nothing.
+/// A machine with ports that were fed the inputs of its setup starts in the world of the setup and
+/// of the ports before they were fed. The contract states the theorem; the call does nothing.
 pub fn feeds_the_start()
     ensures { FeedsStart }
 {}

@@ -28,7 +28,7 @@ use trace_print::{
 /// The number of the first line of the data scratchpad.
 pub const FIRST_OF_MEMORY: u32 = 66;
 
-/// What F shows: it isn't seen there whether the turn will be flushed.
+/// Shows F. In F it isn't known yet whether the turn will be flushed.
 fn fetched_shown(held: &Held<Fetched>) -> Shown
     ensures { result ≡ fetched_held held.now }
 {
@@ -38,7 +38,7 @@ fn fetched_shown(held: &Held<Fetched>) -> Shown
     }
 }
 
-/// What E shows.
+/// Shows E.
 fn executed_shown(held: &Held<Executed>) -> Shown
     ensures { result ≡ executed_held held.now }
 {
@@ -53,7 +53,7 @@ fn executed_shown(held: &Held<Executed>) -> Shown
     }
 }
 
-/// What M shows.
+/// Shows M.
 fn stored_shown(held: &Held<Stored>) -> Shown
     ensures { result ≡ stored_held held.now }
 {
@@ -68,7 +68,7 @@ fn stored_shown(held: &Held<Stored>) -> Shown
     }
 }
 
-/// What W shows.
+/// Shows W.
 fn written_shown(held: &Held<Written>) -> Shown
     ensures { result ≡ written_held held.now }
 {
@@ -113,7 +113,7 @@ impl Machine {
             .unwrap_or(true)
     }
 
-    /// The word that D shows: 0 where an expiry or a refused fetch will take the turn.
+    /// The word that D shows: 0 if an expiry or a refused fetch will take the turn.
     fn word_shown(&self, thread: u8, what: &Decoded) -> u32
         requires { thread < 8 }
         ensures { result ≡ shown_word self.now.units.guard.size self.now.units.confined
@@ -127,7 +127,7 @@ impl Machine {
         }
     }
 
-    /// What D shows.
+    /// Shows D.
     fn decoded_shown(&self) -> Shown
         ensures { result ≡ decoded_held self.now.units.guard.size self.now.units.confined
             self.now.units.guard.i self.now.pipe.d }
@@ -256,8 +256,7 @@ impl Machine {
         ]
     }
 
-    /// The line of eight words of the data scratchpad, by its number; empty where all of them are
-    /// 0.
+    /// The line of eight words of the data scratchpad, by its number; empty if all of them are 0.
     #[tactic(auto, unfolding(crate::specs::DumpedState::words_seen))]
     fn words_line(&self, k: u32) -> ArrayString<96>
         requires { k < self.now.units.guard.size / 32 }
@@ -271,7 +270,7 @@ impl Machine {
         }
     }
 
-    /// The line of a number; empty where it isn't shown.
+    /// The line with number `k`; empty if it isn't shown.
     #[tactic(auto, unfolding(crate::specs::Fields::dump_line))]
     pub(crate) fn line(&self, ports: &Ports, k: u32) -> ArrayString<96>
         requires eight { vec_len ports.now ≡ 8 }

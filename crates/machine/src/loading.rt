@@ -77,7 +77,7 @@ fn permits(setup: &Setup) -> [bool; 8]
     ]
 }
 
-/// The cycle from which on each thread's issues find no port, if there is one.
+/// The cycle from which each thread's issues find no port, if there is one.
 fn unplugs(setup: &Setup) -> [Option<u64>; 8]
     ensures { result ≡ map (λ (t : ThreadSetup). t.unplug) setup.now.threads }
 {
@@ -133,8 +133,8 @@ fn units(alloc: Global, setup: &Setup, image: &Image) -> Result<Units, AllocErro
 }
 
 impl Machine {
-    /// The machine at cycle 0 of a setup and an image. Words that the image doesn't have are 0;
-    /// words past the setup's scratchpads aren't taken.
+    /// The machine at cycle 0 of a setup and an image. Words that the image doesn't define are 0.
+    /// Words past the setup's scratchpads are ignored.
     ///
     /// # Errors
     ///

@@ -15,25 +15,25 @@ use crate::state::Machine;
 use pipe_model::Held;
 use pipeline_core::Pipe;
 
-/// A cycle of an empty pipeline in which no thread is awake leaves all as it was, and no event
-/// retires in it. The contract states the theorem; the call does nothing.
+/// In a cycle with an empty pipeline and no thread awake nothing changes, and no event retires. The
+/// contract states the theorem; the call does nothing.
 pub fn sleeps_on()
     ensures { SleepsOn }
 {}
 
-/// What stands for the sleep moment of a thread that isn't active: the last moment there is.
+/// The sleep moment used for a thread that isn't active: the greatest u64.
 const NEVER: u64 = u64::MAX;
 
 impl Machine {
-    /// Passes over the cycles before `end` in which every thread sleeps and the pipeline is empty,
-    /// as one step: the machine then stands as after as many ticks, which change no field but `at`,
-    /// no port, and of which no event comes. It may pass over fewer cycles than there are, or none:
-    /// it does so where any port is ever taken away, since that would have to be done in its cycle.
+    /// Skips cycles before `end` in which every thread sleeps and the pipeline is empty, in one
+    /// step. The machine is then in the state after as many ticks; these change only `at`, no port,
+    /// and retire no event. It may skip fewer such cycles than there are, or none. It skips none if
+    /// any port is ever removed, since a port must be removed in its cycle.
     ///
     /// This is a special case of [`tick`](Machine::tick), for setups whose threads sleep through
-    /// most cycles. With six threads that wake each 2,000 nanoseconds it took more than half of the
-    /// instructions from a cycle of `run`; a cycle in which somebody has a turn it costs two or
-    /// three.
+    /// most cycles. With six threads that wake every 2,000 nanoseconds it saves more than half of
+    /// the instructions of a cycle of `run`. In a cycle in which a thread has a turn it costs two
+    /// or three instructions.
     #[inline(always)]
     pub fn skip_sleep(&mut self, end: u64)
         requires { self.old.at ≤ end }
@@ -49,8 +49,8 @@ impl Machine {
         }
     }
 
-    /// The same, where the cycle before picked nobody. It isn't inlined, so that the cycles of a
-    /// run in which somebody is picked don't pay for it.
+    /// The same, if the cycle before picked no thread. It isn't inlined, so that cycles in which a
+    /// thread is picked don't pay for it.
     #[cold]
     #[inline(never)]
     fn skip_empty(&mut self, end: u64)
@@ -67,7 +67,7 @@ impl Machine {
         }
     }
 
-    /// Whether nothing is in the pipeline.
+    /// Whether the pipeline is empty.
     fn is_empty(&self) -> bool
         ensures { result ≡ true
             → abstract_stages self.now.pipe ≡ empty self.now.pipe.next }
@@ -85,7 +85,7 @@ impl Machine {
         )
     }
 
-    /// The first cycle in which a thread is awake, as modes and sleep moments stand.
+    /// The first cycle in which a thread is awake, by the current modes and sleep moments.
     fn first_awake_cycle(&self) -> u64
         ensures { (c : ℕ) → c < result
             → NobodyAwake self.now.units.sched (time self.now.units.clock c) }
@@ -108,7 +108,7 @@ impl Machine {
         first
     }
 
-    /// The sleep moment of a thread that is active, and [`NEVER`] for another.
+    /// The sleep moment of a thread if it is active, else [`NEVER`].
     fn sleep_moment(&self, thread: u8) -> u64
         requires { thread < 8 }
         ensures { is_active (mode_of self.now.units.sched.modes thread) ≡ true
