@@ -1,4 +1,4 @@
--- What the code's values are.
+-- Specification values of the code's values.
 use Rattle.std.specs.Prelude.{ℕ, ◌==◌, List, Option, Some, None}
 use Rattle.std.specs.Prelude.{option_map, Bool, true, false, unwrap_or, []}
 use Rattle.std.specs.Option.{option_map_or}
@@ -35,17 +35,17 @@ abbrev pub is_bad_form : Form → Bool
 is_bad_form bad = true
 is_bad_form _ = false
 
--- the word gives a value to this name
+-- the argument gives a value to this name
 abbrev pub gives_to : Form → Text → Bool
 gives_to (gives name value) wanted = bytes_eq name wanted
 gives_to _ wanted = false
 
--- the option whose value is the next word
+-- the option whose value is the next argument
 abbrev pub opened_by : Form → Option Text
 opened_by (opens name) = Some name
 opened_by _ = None
 
--- how often the name is given a value in the words, where each word has a place
+-- the number of values given to the name in the arguments, if each argument is allowed
 abbrev pub count_in : List Text → Text → Option Text → List Text → Option ℕ
 count_in names name waiting words = option_map (count_of name) (pairs names waiting words)
 
@@ -53,10 +53,10 @@ abbrev pub is_one : Option ℕ → Bool
 is_one None = false
 is_one (Some n) = n == 1
 
--- the words give the file name and each option exactly once, and nothing else
+-- the arguments give the file name and each option exactly once, and nothing else
 abbrev pub has_forms : List Text → List Text → Bool
 has_forms names words = option_map_or (each_once names) (pairs names None words) false
 
--- all that the words give
+-- all pairs that the arguments give
 abbrev pub pairs_in : List Text → List Text → Pairs
 pairs_in names words = unwrap_or (pairs names None words) []

@@ -1,4 +1,4 @@
--- The commands, and what words ask.
+-- The commands, and the command that arguments give.
 use Rattle.std.specs.Prelude.{ℕ, List, [], ◌∷◌, Option, Some, None}
 use Rattle.std.specs.Prelude.{option_map, option_and_then, codes, find}
 use Rattle.std.specs.Str.{bytes_eq}
@@ -10,14 +10,14 @@ use Rattle.ask_words.specs.declared.asked.Ask.{Ask}
 use Rattle.ask_words.specs.declared.asked.Ask.TheVariants.{Run, Dump, Asm, Bound, Selfrun}
 use Rattle.ask_words.specs.declared.asked.Ask.TheVariants.{Phases, Solo, Check, Elf, Calls}
 
--- a command: its name, its options in order, and what it asks by the file name (of `selfrun`: the
--- number, which is given as a file name is) and the options' values in that order
+-- a command: its name, its options in order, and its meaning, from the file name and the options'
+-- values in that order. `selfrun` has a number in place of the file name
 pub record CommandRow : Type 0 where
   pub name : Text
   pub options : List Text
   pub asks : List Text → Option Ask
 
--- what two or three values make, where each is one
+-- a command from two or three values, if all are present
 abbrev pub of_two : {A : Type 0} → {B : Type 0} → (A → B → Ask) → Option A → Option B → Option Ask
 of_two make (Some a) (Some b) = Some (make a b)
 of_two make _ _ = None
@@ -31,7 +31,7 @@ of_three make _ _ _ = None
 abbrev pub cycles_in : Text → Option ℕ
 cycles_in = number_in most_cycles
 
--- What each command asks, by the texts of its file name and of its options in order.
+-- The meaning of each command, from the texts of its file name and of its options in order.
 abbrev pub run_asks : List Text → Option Ask
 run_asks (setup ∷ thread ∷ cycles ∷ []) = of_two (Run setup) (thread_in thread) (cycles_in cycles)
 run_asks _ = None
@@ -44,7 +44,7 @@ abbrev pub asm_asks : List Text → Option Ask
 asm_asks (source ∷ []) = Some (Asm source)
 asm_asks _ = None
 
--- a bound by its addresses
+-- a bound, from its addresses
 abbrev pub bound_of : Text → ℕ → ℕ → ℕ → Ask
 bound_of setup thread from to = Bound setup thread (record { from = from; to = to })
 
@@ -141,16 +141,16 @@ commands =
     run_row ∷ dump_row ∷ asm_row ∷ bound_row ∷ selfrun_row ∷ phases_row ∷ solo_row ∷ check_row
     ∷ elf_row ∷ calls_row ∷ []
 
--- what the words after a command's name ask
+-- the command that the arguments after its name give
 unfoldable pub ask_of_words : CommandRow → List Text → Option Ask
 ask_of_words row words = option_and_then row.asks (texts_in row.options words)
 
--- what the words after the name ask, where that is a command's
+-- the same, if the name is that of a command
 abbrev pub asked_by : Option CommandRow → List Text → Option Ask
 asked_by None words = None
 asked_by (Some row) words = ask_of_words row words
 
--- what the words of the command line ask, or none: the first word is a command's name
+-- the command that the arguments give, if any; the first argument is a command's name
 abbrev pub ask : List Text → Option Ask
 ask [] = None
 ask (name ∷ words) = asked_by (find (λ row. bytes_eq name row.name) commands) words

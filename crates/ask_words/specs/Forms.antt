@@ -1,4 +1,4 @@
--- The forms of the words after a command's name.
+-- The forms of the arguments after a command's name.
 use Rattle.std.specs.Prelude.{ℕ, ◌==◌, ◌+◌, Bool, false, not, List, [], ◌∷◌}
 use Rattle.std.specs.Prelude.{Option, Some, None, map, unwrap_or, option_map}
 use Rattle.std.specs.Prelude.{option_and_then, if◌then◌else◌, codes, find}
@@ -8,16 +8,16 @@ use Rattle.std.specs.Str.{bytes_eq}
 abbrev pub Text : Type 0
 Text = List ℕ
 
--- what follows this first byte
+-- the text after this first byte
 abbrev pub after_byte : ℕ → Text → Option Text
 after_byte b [] = None
 after_byte b (x ∷ xs) = if x == b then Some xs else None
 
--- what follows `--` (45, 45)
+-- the text after `--` (45, 45)
 abbrev pub after_dashes : Text → Option Text
 after_dashes word = option_and_then (after_byte 45) (after_byte 45 word)
 
--- the word may be a file name or a value: it isn't empty and doesn't begin with `-` (45)
+-- the argument may be a file name or a value: it isn't empty and doesn't begin with `-` (45)
 abbrev pub is_plain : Text → Bool
 is_plain [] = false
 is_plain (x ∷ xs) = not (x == 45)
@@ -30,18 +30,18 @@ is_equals b = b == 61
 abbrev pub is_among : List Text → Text → Bool
 is_among names name = list_any (λ n. bytes_eq n name) names
 
--- what a word does: it gives a value to an option, or the file name; it is an option whose value is
--- the next word; or it has no place
+-- the role of an argument: it gives a value to an option, or the file name; it is an option whose
+-- value is the next argument; or it isn't allowed
 pub data Form : Type 0 where
   gives : Text → Text → Form
   opens : Text → Form
   bad : Form
 
--- under which the file name stands beside the options
+-- the name under which the file name is listed with the options
 abbrev pub file_id : Text
 file_id = codes "file"
 
--- `name=value`, or `name` alone
+-- `name=value`, or only `name`
 abbrev pub option_form : List Text → Text → Form
 option_form names rest =
     let name = before_first is_equals rest in
@@ -56,7 +56,8 @@ abbrev pub dashed_form : List Text → Option Text → Form
 dashed_form names None = bad
 dashed_form names (Some rest) = option_form names rest
 
--- what a word does in a command with these options, where an option may wait for its value
+-- the role of an argument in a command with these options; the second parameter is the option that
+-- waits for its value, if any
 unfoldable pub form : List Text → Option Text → Text → Form
 form names None word =
     if is_plain word then gives file_id word else dashed_form names (after_dashes word)
@@ -69,13 +70,14 @@ Pairs = List (Text × Text)
 abbrev pub and_pair : Text → Text → Option Pairs → Option Pairs
 and_pair name value = option_map (λ ps. (name, value) ∷ ps)
 
--- what a word gives by its form, and then what the words after it give
+-- the pairs that an argument gives by its form, followed by those of the arguments after it
 abbrev pub with_form : Form → Option Pairs → (Text → Option Pairs) → Option Pairs
 with_form (gives name value) next after = and_pair name value next
 with_form (opens name) next after = after name
 with_form bad next after = None
 
--- all that the words give, in their order; none where a word has no place or a value is missing
+-- all pairs that the arguments give, in their order; None if an argument isn't allowed or a value
+-- is missing
 unfoldable pub pairs : List Text → Option Text → List Text → Option Pairs
 pairs names None [] = Some []
 pairs names (Some name) [] = None
@@ -83,7 +85,7 @@ pairs names waiting (word ∷ rest) =
     with_form (form names waiting word) (pairs names None rest)
     (λ name. pairs names (Some name) rest)
 
--- how often a name is given a value
+-- the number of values given to a name
 abbrev pub count_of : Text → Pairs → ℕ
 count_of name [] = 0
 count_of name (p ∷ ps) = (if bytes_eq p.0 name then 1 else 0) + count_of name ps
@@ -104,7 +106,7 @@ texts_of names None = None
 texts_of names (Some ps) =
     if each_once names ps then Some (map (text_in ps) (file_id ∷ names)) else None
 
--- the file name and then the options' values in the order of `names`, where the words, in any
+-- the file name and then the options' values in the order of `names`, if the arguments, in any
 -- order, give each exactly once and nothing else
 unfoldable pub texts_in : List Text → List Text → Option (List Text)
 texts_in names words = texts_of names (pairs names None words)

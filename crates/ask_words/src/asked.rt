@@ -1,4 +1,4 @@
-//! What the words of the command line may ask.
+//! The commands that the arguments may give.
 
 ghost use Rattle.std.specs.Prelude.{◌≡◌};
 
@@ -7,10 +7,10 @@ use region_tree::Section;
 use std::alloc::AllocError;
 use thiserror::Error;
 
-/// Why words give no command.
+/// The reason why arguments give no command.
 #[derive(Clone, Copy, Debug, PartialEq, Eq, Drop, Error)]
 pub enum WordsNo {
-    /// The words ask nothing: no command has this name, or it doesn't take these words.
+    /// Usage error: no command has this name, or it doesn't take these arguments.
     #[error("the words ask nothing")]
     Usage = 1,
     /// Out of memory.
@@ -18,9 +18,9 @@ pub enum WordsNo {
     NoMemory = 2,
 }
 
-/// A command with its values. Those that [`read_words`](crate::read_words) answers have `thread` 0
-/// to 7, `cycles` at most 4,000,000,000 (at most 1,000,000 for `check`), and as `section` the two
-/// addresses as they were given: whether the section may be asked for goes by the setup.
+/// A command with its values. [`read_words`](crate::read_words) returns commands with `thread` 0 to
+/// 7 and `cycles` at most 4,000,000,000 (at most 1,000,000 for `check`). `section` has the two
+/// addresses as they were given; it depends on the setup whether the section is allowed.
 #[derive(Drop)]
 pub enum Ask {
     /// `run SETUP --thread i --cycles n`: the trace of a thread.
@@ -29,7 +29,7 @@ pub enum Ask {
         thread: u8,
         cycles: u64,
     },
-    /// `dump SETUP --cycles n`: what is seen of the machine after n cycles.
+    /// `dump SETUP --cycles n`: the visible state of the machine after n cycles.
     Dump {
         setup: Name,
         cycles: u64,
@@ -53,7 +53,7 @@ pub enum Ask {
         setup: Name,
         cycles: u64,
     },
-    /// `solo SETUP --thread i --cycles n`: the trace of a thread from its view alone.
+    /// `solo SETUP --thread i --cycles n`: the trace of a thread, computed only from its view.
     Solo {
         setup: Name,
         thread: u8,

@@ -166,7 +166,7 @@ fn bound(alloc: Global, texts: &[&str]) -> Result<Ask, WordsNo>
     }
 }
 
-/// `selfrun NUMBER`, whose number stands as the other commands' file name does.
+/// `selfrun NUMBER`, with the number in place of the other commands' file name.
 fn selfrun(texts: &[&str]) -> Result<Ask, WordsNo>
     ensures asked { IfOk result (λ a. selfrun_asks (map (λ t. t.now) texts.now) ≡ Some a) }
     ensures refused { IfErr result (IsCauseOf (selfrun_asks (map (λ t. t.now) texts.now))) }
@@ -284,7 +284,8 @@ fn calls(alloc: Global, texts: &[&str]) -> Result<Ask, WordsNo>
     }
 }
 
-/// What a command asks by its texts: the file name or number, and the options' values in order.
+/// The command with its values, from its texts: the file name or number, and the options' values in
+/// order.
 fn ask_by(alloc: Global, command: Command, texts: &[&str]) -> Result<Ask, WordsNo>
     ensures asked { IfOk result
         (λ a. (row_of command).asks (map (λ t. t.now) texts.now) ≡ Some a) }
@@ -306,7 +307,7 @@ fn ask_by(alloc: Global, command: Command, texts: &[&str]) -> Result<Ask, WordsN
     }
 }
 
-/// What the words after the name of a command ask.
+/// The command with its values, from the arguments after its name.
 #[tactic(auto, unfolding(crate::specs::Commands::ask_of_words))]
 fn ask_of(alloc: Global, name: &str, command: Command, words: &[String]) -> Result<Ask, WordsNo>
     ensures asked { IfOk result (λ a.
@@ -319,11 +320,11 @@ fn ask_of(alloc: Global, name: &str, command: Command, words: &[String]) -> Resu
     ask_by(alloc, command, texts.as_slice())
 }
 
-/// What the words of the command line, after the program's name, ask.
+/// The command that the arguments give; they come after the program's name.
 ///
 /// # Errors
 ///
-/// Usage exactly where they ask nothing, but because memory ran out; NoMemory if memory ran out.
+/// Usage exactly if the arguments give no command, unless memory ran out; then NoMemory.
 pub fn read_words(alloc: Global, words: &[String]) -> Result<Ask, WordsNo>
     ensures asked { IfOk result (λ a. ask (map string_bytes words.now) ≡ Some a) }
     ensures refused { IfErr result (IsCauseOf (ask (map string_bytes words.now))) }

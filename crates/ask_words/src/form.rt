@@ -1,33 +1,33 @@
-//! The forms of the words after a command's name.
+//! The forms of the arguments after a command's name.
 
 ghost use Rattle.std.specs.Prelude.{◌≡◌, map, option_map};
 ghost use Rattle.ask_words.specs.Forms.{is_plain, is_among, option_form};
 ghost use Rattle.ask_words.specs.Forms.{dashed_form, after_dashes, form};
 ghost use Rattle.ask_words.specs.Code.{form_value, is_bad_form, gives_to, opened_by};
 
-/// Under which the file name stands beside the options.
+/// The name under which the file name is listed with the options.
 pub const FILE: &str = "file";
 
-/// What a word does among those after a command's name.
+/// The role of an argument after a command's name.
 #[derive(Clone, Copy)]
 pub enum Form<'a> {
     /// It gives a value to an option, or the file name.
     Gives { name: &'a str, value: &'a str },
-    /// It is an option whose value is the next word.
+    /// It is an option whose value is the next argument.
     Opens(&'a str),
-    /// It has no place.
+    /// It isn't allowed.
     Bad,
 }
 
 impl<'a> Form<'a> {
-    /// Whether the word has no place.
+    /// Whether the argument isn't allowed.
     pub fn is_bad(self) -> bool
         ensures { result ≡ is_bad_form (form_value self.entry) }
     {
         matches!(self, Form::Bad)
     }
 
-    /// Whether the word gives a value to this name.
+    /// Whether the argument gives a value to this name.
     pub fn gives_to(self, wanted: &str) -> bool
         ensures { result ≡ gives_to (form_value self.entry) wanted.now }
     {
@@ -37,7 +37,7 @@ impl<'a> Form<'a> {
         }
     }
 
-    /// The option whose value is the next word.
+    /// The option whose value is the next argument.
     pub fn opened(self) -> Option<&'a str>
         ensures { option_map (λ n. n.now) result ≡ opened_by (form_value self.entry) }
     {
@@ -48,7 +48,7 @@ impl<'a> Form<'a> {
     }
 }
 
-/// Whether a word may be a file name or a value: it isn't empty and doesn't begin with `-`.
+/// Whether an argument may be a file name or a value: it isn't empty and doesn't begin with `-`.
 fn has_plain_form(word: &str) -> bool
     ensures { result ≡ is_plain word.now }
 {
@@ -65,7 +65,7 @@ fn has_name(options: &[&str], name: &str) -> bool
     options.contains(&name)
 }
 
-/// The form of a word by what follows its dashes, `name` or `name=value`.
+/// The form of an argument, from the text after its dashes, `name` or `name=value`.
 fn option_form_of<'a>(options: &[&str], rest: &'a str) -> Form<'a>
     ensures { form_value result ≡ option_form (map (λ n. n.now) options.now) rest.entry.now }
 {
@@ -78,7 +78,7 @@ fn option_form_of<'a>(options: &[&str], rest: &'a str) -> Form<'a>
     }
 }
 
-/// The form of a word that begins with `-`, as `--name` or `--name=value`.
+/// The form of an argument that begins with `-`, as `--name` or `--name=value`.
 fn dashed_form_of<'a>(options: &[&str], word: &'a str) -> Form<'a>
     ensures { form_value result ≡
         dashed_form (map (λ n. n.now) options.now) (after_dashes word.entry.now) }
@@ -89,7 +89,7 @@ fn dashed_form_of<'a>(options: &[&str], word: &'a str) -> Form<'a>
     }
 }
 
-/// The form of a word, where an option may wait for its value.
+/// The form of an argument; `waiting` is the option that waits for its value, if any.
 #[tactic(auto, unfolding(crate::specs::Forms::form))]
 pub fn form_of<'a>(options: &[&str], waiting: Option<&'a str>, word: &'a str) -> Form<'a>
     ensures { form_value result ≡

@@ -1,11 +1,11 @@
-//! Whether words give what a command wants.
+//! Whether arguments give the values that a command requires.
 
 ghost use Rattle.std.specs.Prelude.{◌≡◌, None, map, string_bytes};
 ghost use Rattle.ask_words.specs.Code.{count_in, is_one, has_forms};
 
 use crate::form::{FILE, form_of};
 
-/// How often a name is given a value; None where a word has no place or a value is missing.
+/// The number of values given to a name; None if an argument isn't allowed or a value is missing.
 fn times_given(options: &[&str], name: &str, words: &[String]) -> Option<usize>
     ensures { result ≡
         count_in (map (λ n. n.now) options.now) name.now None (map string_bytes words.now) }
@@ -26,7 +26,7 @@ fn times_given(options: &[&str], name: &str, words: &[String]) -> Option<usize>
     }
 }
 
-/// Whether each word has a place and a name is given a value exactly once.
+/// Whether each argument is allowed and a name is given a value exactly once.
 fn is_given_once(options: &[&str], name: &str, words: &[String]) -> bool
     ensures { result ≡
         is_one (count_in (map (λ n. n.now) options.now) name.now None
@@ -38,7 +38,7 @@ fn is_given_once(options: &[&str], name: &str, words: &[String]) -> bool
     }
 }
 
-/// Whether the words, in any order, give the file name and each option exactly once and nothing
+/// Whether the arguments, in any order, give the file name and each option exactly once and nothing
 /// else.
 pub fn gives_each_once(options: &[&str], words: &[String]) -> bool
     ensures { result ≡ has_forms (map (λ n. n.now) options.now) (map string_bytes words.now) }

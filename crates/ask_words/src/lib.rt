@@ -1,4 +1,4 @@
-//! What the words of the command line ask.
+//! The command that the arguments of the command line give.
 #![tactic(auto)]
 
 mod asked;

@@ -1,4 +1,4 @@
-//! Numbers in words.
+//! Numbers in arguments.
 
 ghost use Rattle.std.specs.Prelude.{◌≡◌, ◌≤◌, ◌<◌, IfSome, length};
 ghost use Rattle.ask_words.specs.Numbers.{decimal_after, decimal_in, hexadecimal_after};
@@ -21,7 +21,7 @@ pub fn thread_of(word: &str) -> Option<u8>
     }
 }
 
-/// The decimal value of at most ten digits; None where a byte is no digit.
+/// The decimal value of at most ten digits; None if a byte is no digit.
 fn decimal_value(digits: &[u8]) -> Option<u64>
     requires { length digits.now ≤ 10 }
     ensures { result ≡ decimal_after 0 digits.now }
@@ -36,7 +36,7 @@ fn decimal_value(digits: &[u8]) -> Option<u64>
     Some(value)
 }
 
-/// The number that one to ten decimal digits say.
+/// The value of one to ten decimal digits.
 fn decimal_of(word: &str) -> Option<u64>
     ensures { result ≡ decimal_in word.now }
 {
@@ -60,7 +60,7 @@ fn digit_value(digit: u8) -> Option<u8>
     }
 }
 
-/// The hexadecimal value of at most eight digits; None where a byte is no digit.
+/// The hexadecimal value of at most eight digits; None if a byte is no digit.
 fn hexadecimal_value(digits: &[u8]) -> Option<u64>
     requires { length digits.now ≤ 8 }
     ensures { result ≡ hexadecimal_after 0 digits.now }
@@ -75,7 +75,7 @@ fn hexadecimal_value(digits: &[u8]) -> Option<u64>
     Some(value)
 }
 
-/// The number that one to eight hexadecimal digits say.
+/// The value of one to eight hexadecimal digits.
 fn hexadecimal_of(digits: &str) -> Option<u64>
     ensures { result ≡ hexadecimal_in digits.now }
 {

@@ -1,4 +1,4 @@
-//! The texts that words give, by the parser of command lines.
+//! The texts that arguments give, found with the library's command-line parser.
 
 ghost use Rattle.std.specs.Prelude.{◌≡◌, ◌∷◌, [], map, string_bytes};
 ghost use Rattle.std.specs.Prelude.{IfOk, IfErr, true, false, Some};
@@ -19,7 +19,7 @@ use clap::error::ErrorKind;
 use clap::{Arg, ArgAction, ArgMatches, Command};
 use std::alloc::{AllocError, Global};
 
-/// An argument that has to be given, with one value.
+/// A required argument with one value.
 fn required_argument<'a>(alloc: Global, id: &'a str) -> Arg<'a>
     ensures rule { rule_of result ≡
         record (new_rule id.entry.now) { action = Some Set; required = true } }
@@ -36,7 +36,7 @@ fn named_command<'a>(alloc: Global, name: &'a str) -> Result<Command<'a>, AllocE
     Command::new(alloc, name).no_binary_name(true).arg(file)
 }
 
-/// A command with one option more.
+/// A command with an additional option.
 fn with_option<'a>(
     alloc: Global,
     command: Command<'a>,
@@ -63,7 +63,7 @@ fn command_of<'a>(
     Ok(command)
 }
 
-/// The matches of words that the command takes: only memory can be wanting.
+/// The matches of arguments that the command takes. It can only fail if memory runs out.
 fn matches_taken<'a>(
     command: Command<'a>,
     words: &'a [String],
@@ -108,7 +108,7 @@ fn values_of<'a>(
     Ok(values)
 }
 
-/// The matches of words that give the file name and each option exactly once, and nothing else.
+/// The matches of arguments that give the file name and each option exactly once, and nothing else.
 fn matches_for<'a>(
     alloc: Global,
     name: &'a str,
@@ -125,7 +125,7 @@ fn matches_for<'a>(
     matches_taken(command_of(alloc, name, options)?, words)
 }
 
-/// The values that words give, where they give each exactly once and nothing else.
+/// The values that arguments give, if they give each exactly once and nothing else.
 fn values_for<'a>(
     alloc: Global,
     name: &'a str,
@@ -143,12 +143,13 @@ fn values_for<'a>(
     values_of(alloc, options, &matches)
 }
 
-/// The file name that the words after a command's name give, and the options' values in the order
-/// of the options.
+/// The file name that the arguments after a command's name give, and the options' values in the
+/// order of the options.
 ///
 /// # Errors
 ///
-/// Usage where the words don't give each exactly once and nothing else; NoMemory if memory ran out.
+/// Usage if the arguments don't give each exactly once and nothing else; NoMemory if memory ran
+/// out.
 pub fn texts_of<'a>(
     alloc: Global,
     name: &'a str,

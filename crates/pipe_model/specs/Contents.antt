@@ -1,5 +1,5 @@
--- What the stage registers hold of the last five turns, said by the pc, the word and the effect of
--- each turn and by the registers of its thread before it.
+-- The contents of the stage registers for the last five turns, from the pc, word and effect of each
+-- turn and the registers of its thread before it.
 use Rattle.std.specs.Prelude.{◌≡◌, ℕ, ◌-◌, ◌==◌, Bool, false, List, Option, Some}
 use Rattle.rv_decode.specs.Table.{ins}
 use Rattle.rv_decode.specs.declared.instruction.Ins.{Ins}
@@ -48,18 +48,18 @@ abbrev pub before_late : Option ℕ → Option Effect → Option Effect
 before_late (Some rd) (Some (Reg x value)) = Some Nothing
 before_late _ effect = effect
 
--- the address of a load or store that doesn't trap, by the value of its base register, else 0
+-- the address of a load or store, from the value of its base register; 0 for other instructions
 abbrev pub address_of : Ins → ℕ → ℕ
 address_of (instruction.Load op rd rs1 imm) a = offset a imm
 address_of (instruction.Store op rs1 rs2 imm) a = offset a imm
 address_of _ a = 0
 
--- that address, but 0 where the turn traps
+-- that address, but 0 if the turn traps
 abbrev pub unless_trapped : Option Effect → ℕ → ℕ
 unless_trapped (Some (Trap cause target)) address = 0
 unless_trapped effect address = address
 
--- e: the turn's pc and word, the values of the word's sources, and the effect but for a late value
+-- e: the turn's pc and word, the values of the word's sources, and the effect without a late value
 abbrev pub executed_by : List ℕ → ℕ → ℕ → Option Effect → Executed
 executed_by regs pc word effect =
     let a = reg_in regs (source_1 (ins word)) in

@@ -1,4 +1,4 @@
--- The theorems of the pipeline.
+-- Theorems on the pipeline.
 use Rattle.std.specs.Prelude.{◌≡◌, ℕ, suc, ◌-◌, List, ◌++◌, map, slice_set, Option, None}
 use Rattle.fp_ports.specs.PluggedPorts.{Row}
 use Rattle.core_model.specs.World.{Start, start_world, events}
@@ -10,13 +10,13 @@ use Rattle.pipe_model.specs.Relation.{Refines, PortsRefine, Begins, RefinesNext,
 use Rattle.pipe_model.specs.Relation.{bank_in, control_in, turn_at, event_in, of_thread}
 use Rattle.core_model.specs.Cycles.{cycles_to_w}
 
--- a cycle takes what refines it to what refines the next one
+-- if a state refines a cycle, its state after one cycle refines the next one
 abbrev pub StepRefines : Type 0
 StepRefines =
     (s : Start) (c : ℕ) (p : StageRegisters) (u : State) → Begins s → PortsRefine s c u.ports →
     Refines s c p u → RefinesNext s c u.ports (step p u c)
 
--- nothing in the stage registers, and the threads' pcs to fetch next
+-- empty stage registers, with the pcs that the threads fetch next
 abbrev pub empty : List ℕ → StageRegisters
 empty next = record { next = next; f = Bubble; d = Bubble; e = Bubble; m = Bubble; w = Bubble }
 
@@ -36,30 +36,30 @@ first_units s ports =
       ports = ports;
     }
 
--- these refine cycle 0, beside ports with the first latches
+-- an empty pipeline and these units refine cycle 0, with ports that have the first latches
 abbrev pub StartRefines : Type 0
 StartRefines =
     (s : Start) (ports : List (Option Row)) → Begins s → HasLatches (start_world s) ports →
     Refines s 0 (empty (map (λ t. t.pc) s.threads)) (first_units s ports)
 
--- a port may be taken away
+-- the refinement holds after a port is removed
 abbrev pub RefinesWithoutPort : Type 0
 RefinesWithoutPort =
     (s : Start) (c : ℕ) (p : StageRegisters) (u : State) (k : ℕ) → Refines s c p u →
     Refines s c p (record u { ports = slice_set u.ports k None })
 
--- after one more cycle a thread has the events of before, and then that of the turn that retires,
--- if it is its own
+-- after each cycle a thread has its earlier events, followed by the event of the turn that retires,
+-- if the turn is its own
 abbrev pub EventsGrow : Type 0
 EventsGrow =
     (s : Start) (i c : ℕ) →
     events s i (suc c) ≡ events s i c ++ of_thread i (event_in (c - cycles_to_w) (turn_at s c 3))
 
--- what refines a cycle shows its turns
+-- stage registers that refine a cycle show its turns
 abbrev pub ShowsTurns : Type 0
 ShowsTurns = (s : Start) (c : ℕ) (p : StageRegisters) (u : State) → Refines s c p u → Shown s c p u
 
--- and the stage registers hold what each of them is to hold of its turn
+-- and they hold the defined contents of these turns
 abbrev pub HoldsTurns : Type 0
 HoldsTurns =
     (s : Start) (c : ℕ) (p : StageRegisters) (u : State) → Begins s → Refines s c p u →

@@ -1,8 +1,8 @@
--- Which stage registers, units and ports refine a cycle of a world. The turn of cycle c is in F in
--- that cycle, in D at c + 1, in E at c + 2, in M at c + 3 and in W at c + 4; so before cycle c the
--- registers are those of the world four cycles before, memory and ports those of three cycles
--- before, and what E changes that of two cycles before. Before cycle 0 stands the start, and a
--- cycle before it is nobody's.
+-- When stage registers, units and ports refine a cycle of a world. The turn of cycle c is in F in
+-- that cycle, in D at c + 1, in E at c + 2, in M at c + 3 and in W at c + 4. So before cycle c the
+-- registers are those of the world four cycles before, and memory and ports those of three cycles
+-- before. The state that E changes is that of two cycles before. Before cycle 0 the world is the
+-- start, and no thread has a turn.
 use Rattle.std.specs.Prelude.{◌≡◌, ℕ, suc, ◌+◌, ◌-◌, ◌<◌, ◌≤◌, ◌==◌, nat_lt, nat_le, Bool}
 use Rattle.std.specs.Prelude.{true, false, ◌&&◌, if◌then◌else◌, List, [], ◌∷◌, slice_index_or}
 use Rattle.std.specs.Prelude.{map, length, Option, Some, None, IfSome, option_map, is_some}
@@ -32,7 +32,7 @@ use Rattle.core_model.specs.Cycles.{cycles_to_w}
 abbrev pub turn_at : Start → ℕ → ℕ → Took
 turn_at s c e = slice_index_or (world s c).turns e Idle
 
--- what w holds of a turn, and m
+-- the content of w for a turn, and of m
 abbrev pub in_write : Took → Held Written
 in_write Idle = Bubble
 in_write (Lost k) = Flushed k
@@ -43,14 +43,14 @@ in_memory Idle = Bubble
 in_memory (Lost k) = Flushed k
 in_memory (Ran k pc word effect) = Issue k (record { pc = pc; word = word; effect = effect })
 
--- e: what the instruction of thread k did in cycle n, in the world w before it, but for a late
--- value
+-- e: the execution of the instruction of thread k in cycle n, in the world w before it, without a
+-- late value
 abbrev pub execution_in : Start → ℕ → World → ℕ → Execution
 execution_in s n w k =
     execute_word (environment_at s n w k) (code_at s.size s.i_words (thread_of w k).pc)
     (thread_of w k)
 
--- with the values of the sources of the word that it shows
+-- with the values of the sources of its word
 abbrev pub executed_in : Execution → Thread → Executed
 executed_in d t =
     record {
@@ -85,7 +85,7 @@ in_decode s n w Idle = Bubble
 in_decode s n w (Lost k) = Flushed k
 in_decode s n w (Ran k pc word effect) = Issue k (decoded_in s n (thread_of w k))
 
--- whether a turn is an issue of the thread, and whom it picked
+-- whether a turn is an issue of the thread, and the thread that it picked
 abbrev pub issues : ℕ → Took → Bool
 issues k Idle = false
 issues k (Lost j) = false
@@ -96,18 +96,18 @@ pick_in Idle = chosen.Bubble
 pick_in (Lost k) = chosen.Issue k
 pick_in (Ran k pc word effect) = chosen.Issue k
 
--- the pc after one more word of the thread, if there is one
+-- the pc after one issue of the thread, if there is one
 abbrev pub pc_after_issue : Bool → ℕ → ℕ
 pc_after_issue there pc = if there then plus pc 4 else pc
 
--- f: what is fetched before the instruction ahead is executed: the word that follows it. turn is
--- that of c - 2, in the world w before it, and thread k was picked in c - 1
+-- f: the fetch made before the preceding instruction is executed reads the word that follows it.
+-- `turn` is the turn of c - 2, w the world before it, and thread k was picked in c - 1
 abbrev pub fetched_in : Start → World → Took → ℕ → Fetched
 fetched_in s w turn k =
     let pc = pc_after_issue (issues k turn) (thread_of w k).pc in
     record { pc = pc; word = code_at s.size s.i_words pc }
 
--- it is flushed already where an instruction of c - 3 or before keeps the thread from being ready
+-- f is already flushed if an instruction of c - 3 or before keeps the thread from being ready
 abbrev pub in_fetch : Start → ℕ → World → Took → Pick → Held Fetched
 in_fetch s c w turn chosen.Bubble = Bubble
 in_fetch s c w turn (chosen.Issue k) =
@@ -124,7 +124,7 @@ abbrev pub next_of : World → Took → Held Fetched → ℕ → ℕ
 next_of w turn f k =
     pc_after_issue (fetches k f) (pc_after_issue (issues k turn) (thread_of w k).pc)
 
--- what E reads and writes, by the world
+-- the state that E reads and writes, from the world
 abbrev pub control_in : World → Control
 control_in w =
     record {
@@ -134,11 +134,11 @@ control_in w =
       sleeps = map (λ t. t.own.sleep) w.threads;
     }
 
--- the registers of each thread, by the world
+-- the registers of each thread, from the world
 abbrev pub bank_in : World → List (List ℕ)
 bank_in w = map (λ t. t.regs) w.threads
 
--- what the units hold before cycle c, beside the ports
+-- the contents of the units before cycle c, with the ports
 abbrev pub units_of : Start → ℕ → List (Option Row) → State
 units_of s c ports =
     record {
@@ -154,7 +154,7 @@ units_of s c ports =
       ports = ports;
     }
 
--- what the stage registers hold before cycle c, beside the pcs to fetch next
+-- the contents of the stage registers before cycle c, with the pcs to fetch next
 abbrev pub stage_registers_of : Start → ℕ → List ℕ → StageRegisters
 stage_registers_of s c next =
     record {
@@ -172,7 +172,7 @@ pub record Fronts (s : Start) (c : ℕ) (f : Held Fetched) (pcs : List ℕ) : Ty
   pub next : (k : ℕ) → k < 8 →
       slice_index_or pcs k 0 ≡ next_of (world s (c - 2)) (turn_at s c 1) f k
 
--- each port that is there has the latch of a world
+-- each port that is there has the latch of the world
 abbrev pub HasLatches : World → List (Option Row) → Type 0
 HasLatches w ports =
     (k : ℕ) → k < 8 → IfSome (row_at ports k) (λ row. row.latch ≡ slice_index_or w.latches k 0)
@@ -184,31 +184,31 @@ pub record Refines (s : Start) (c : ℕ) (p : StageRegisters) (u : State) : Type
   pub units : u ≡ units_of s c u.ports
   pub ports : HasLatches (world s (c - 3)) u.ports
 
--- a machine of eight threads, each of them ready
+-- a start with eight threads, all ready
 pub record Begins (s : Start) : Type 0 where
   pub eight : length s.threads ≡ 8
   pub ready : (k : ℕ) → (slice_index_or s.threads k (fresh 0)).ready ≡ 0
   pub latches : length s.latches ≡ 8
 
--- a port that was handed in is there up to cycle unplug + 2, since the turn that goes to it in
+-- a port that was handed in is there up to cycle unplug + 2, since the turn that accesses it in
 -- cycle c was issued in c - 3
 abbrev pub stays_in : Option ℕ → ℕ → Bool
 stays_in None c = true
 stays_in (Some unplug) c = nat_lt c (unplug + 3)
 
--- the ports in cycle c: who is there, and the words that the turn issued in c - 3 finds
+-- the ports in cycle c: which are there, and the words that the turn issued in c - 3 reads
 pub record PortsRefine (s : Start) (c : ℕ) (ports : List (Option Row)) : Type 0 where
   pub there : (k : ℕ) → k < 8 → is_some (row_at ports k)
       ≡ (slice_index_or s.handed k false && stays_in (slice_index_or s.unplugs k None) c)
   pub words : (k : ℕ) → k < 8 → 3 ≤ c → word_seen (row_at ports k) (c - 3) ≡ port_word s (c - 3) k
 
--- the event that retires, by its cycle and turn
+-- the event that retires, from its cycle and turn
 abbrev pub event_in : ℕ → Took → Option Event
 event_in cycle Idle = None
 event_in cycle (Lost k) = None
 event_in cycle (Ran k pc word effect) = event_at cycle k pc word effect
 
--- what a port shows in each cycle, if it is there
+-- the word that a port shows in each cycle, if it is there
 abbrev pub port_words : Option Row → Option (ℕ → ℕ)
 port_words row = option_map (λ r. r.words) row
 
@@ -216,14 +216,14 @@ port_words row = option_map (λ r. r.words) row
 abbrev pub SamePorts : List (Option Row) → List (Option Row) → Type 0
 SamePorts before after = (k : ℕ) → port_words (row_at after k) ≡ port_words (row_at before k)
 
--- what a cycle left refines the next one; the event is that of the issue in W, and the ports show
--- what they did
+-- the state after a cycle refines the next one. The event is that of the issue in W, and the ports
+-- show the same words as before
 pub record RefinesNext (s : Start) (c : ℕ) (before : List (Option Row)) (t : Ticked) : Type 0 where
   pub refines : Refines s (suc c) t.stage_registers t.state
   pub event : t.event ≡ event_in (c - cycles_to_w) (turn_at s c 3)
   pub ports : SamePorts before t.state.ports
 
--- an event, where it is one of the thread's
+-- the event, if it is one of the thread's
 abbrev pub of_thread : ℕ → Option Event → List Event
 of_thread i None = []
 of_thread i (Some e) = if e.thread == i then e ∷ [] else []

@@ -1,4 +1,4 @@
--- What the stage registers show of the turns that they hold: whose they are, with pc and word.
+-- The view that the stage registers give of their turns: thread, pc and word.
 use Rattle.std.specs.Prelude.{◌≡◌, ℕ, Bool, true, if◌then◌else◌, List, slice_index_or, Option}
 use Rattle.rv_exec.specs.declared.outcome.Effect.{Effect}
 use Rattle.slot_scheduler.specs.declared.picking.Pick.{Pick}
@@ -16,13 +16,13 @@ use Rattle.pipe_model.specs.declared.stage_registers.Written.{Written}
 use Rattle.pipe_model.specs.Stages.{StageRegisters, State, writeback_stage}
 use Rattle.pipe_model.specs.Relation.{turn_at, pick_in, in_write}
 
--- f: whom the cycle picked. Whether the turn will be flushed isn't known yet
+-- f: the thread that the cycle picked. It isn't known yet whether the turn will be flushed
 unfoldable pub fetch_shown : Held Fetched → Pick
 fetch_shown Bubble = chosen.Bubble
 fetch_shown (Flushed k) = chosen.Issue k
 fetch_shown (Issue k x) = chosen.Issue k
 
--- d: the word is 0 where an expiry or a refused fetch takes the turn
+-- d: the word is 0 if an expiry or a refused fetch takes the turn
 abbrev pub decoded_word : ℕ → List Bool → ℕ → ℕ → Decoded → ℕ
 decoded_word size confined iregions k x =
     if x.expired then 0
@@ -41,8 +41,8 @@ execute_shown Bubble = Bubble
 execute_shown (Flushed k) = Flushed k
 execute_shown (Issue k x) = Issue k (record { pc = x.pc; word = x.word })
 
--- f before a turn is known to be flushed: it is Flushed only for a turn that is lost, and for an
--- issue it holds the turn's pc and the word there
+-- f, before it is known whether the turn will be flushed. It is Flushed only for a lost turn. For
+-- an issue it holds the turn's pc and the word there
 pub record FetchHolds (s : Start) (f : Held Fetched) (turn : Took) : Type 0 where
   pub flushed : (k : ℕ) → f ≡ Flushed k → turn ≡ Lost k
   pub issue : (k pc word : ℕ) (effect : Option Effect) → turn ≡ Ran k pc word effect →

@@ -1,16 +1,16 @@
-//! What stands between two stages. A turn goes from stage to stage, one in each cycle: F fetches, D
-//! reads registers, E executes, M goes to memory and to the ports, and W writes registers.
+//! The registers between two stages. A turn moves one stage per cycle: F fetches, D reads
+//! registers, E executes, M accesses memory and ports, and W writes registers.
 
 use rv_exec::Effect;
 
-/// What a stage register holds of a turn.
+/// The content of a stage register.
 #[derive(Clone, Copy, Debug)]
 pub enum Held<T> {
-    /// Nobody was picked.
+    /// No thread was picked.
     Bubble,
     /// The turn of a thread that wasn't ready.
     Flushed { thread: u8 },
-    /// An instruction of a thread, 0 to 7, with what is known of it.
+    /// An instruction of a thread, 0 to 7, with the data known in this stage.
     Issue { thread: u8, what: T },
 }
 
@@ -23,8 +23,8 @@ pub struct Fetched {
     pub word: u32,
 }
 
-/// After D: the word with the values of its source registers, 0 where it has none. `expired` says
-/// that the thread's armed moment was reached in the cycle of the issue.
+/// After D: the word with the values of its source registers, 0 if it has none. `expired` is
+/// whether the thread's armed moment was reached in the cycle of the issue.
 #[derive(Clone, Copy, Debug)]
 pub struct Decoded {
     /// The address of the word, in bytes.
@@ -39,9 +39,9 @@ pub struct Decoded {
     pub b: u32,
 }
 
-/// After E: the word is 0 where an expiry or a refused fetch took the turn, and so are the sources.
-/// `address` is that of a load or store that doesn't trap, else 0. `effect` is none for an
-/// instruction that was held, and `Nothing` where M works out the value.
+/// After E: the word and the sources are 0 if an expiry or a refused fetch took the turn. `address`
+/// is the address of a load or store that doesn't trap, else 0. `effect` is None for a DU that
+/// waits, and `Nothing` if M computes the value.
 #[derive(Clone, Copy, Debug)]
 pub struct Executed {
     /// The address of the word, in bytes.
@@ -52,13 +52,13 @@ pub struct Executed {
     pub a: u32,
     /// The value of rs2.
     pub b: u32,
-    /// Where M loads or stores, in bytes.
+    /// The address that M loads or stores, in bytes.
     pub address: u32,
-    /// The effect but for a late value.
+    /// The effect, without a late value.
     pub effect: Option<Effect>,
 }
 
-/// After M: the effect is the event's, none for an instruction that was held.
+/// After M: the effect is the event's; None for a DU that waits.
 #[derive(Clone, Copy, Debug)]
 pub struct Stored {
     /// The address of the word, in bytes.
@@ -96,6 +96,6 @@ pub struct Redirect {
     pub thread: u8,
     /// The address of the word that it fetches next, in bytes, a multiple of 4.
     pub pc: u32,
-    /// Which of them are.
+    /// Which of its turns are flushed.
     pub flush: Flush,
 }

@@ -22,18 +22,18 @@ abstract_stages p = record { next = p.next; f = p.f; d = p.d; e = p.e; m = p.m; 
 abbrev pub abstract_registers : Sched → Guard → Registers
 abstract_registers s g = record { slots = s.slots; modes = s.modes; dregions = g.d; iregions = g.i }
 
--- what the execute stage reads and writes
+-- the state that the execute stage reads and writes
 abbrev pub abstract_control : Sched → Guard → List Timer → List Trapping → Control
 abstract_control s g timers traps =
     record { registers = abstract_registers s g; timers = timers; traps = traps; sleeps = s.sleep }
 
--- what the execute stage makes of a turn in a cycle
+-- the result of the execute stage for a turn in a cycle
 abbrev pub executed_by : Units → ℕ → Held Decoded → After
 executed_by u cycle d =
     execute_stage u.guard.size u.confined u.permit (time u.clock (cycle - 2))
     (abstract_control u.sched u.guard u.timers u.traps) d
 
--- what the units hold, beside the ports
+-- the contents of the units, with the ports
 abbrev pub abstract_state : Units → List (Option Row) → State
 abstract_state u ports =
     record {
@@ -49,7 +49,7 @@ abstract_state u ports =
       ports = ports;
     }
 
--- what a cycle left, and the event that it answered
+-- the state after a cycle, and the event that the cycle returned
 abbrev pub abstract_ticked : Pipe → Units → List (Option Row) → Option Event → Ticked
 abstract_ticked p u ports event =
     record { stage_registers = abstract_stages p; state = abstract_state u ports; event = event }

@@ -1,4 +1,4 @@
--- What holds of everything that stands in a stage register.
+-- Invariants of the contents of the stage registers.
 use Rattle.std.specs.Prelude.{◌≡◌, ℕ, ◌<◌, ◌%◌, ◌==◌, Bool, false}
 use Rattle.std.specs.Prelude.{not, ◌&&◌, ◌||◌, Option, Some, None}
 use Rattle.std.proofs.Common.{inl, inr, ap, arith}
@@ -33,8 +33,8 @@ IsPc pc = pc % 4 ≡ 0
 abbrev pub EffectFits : Option Effect → Type 0
 EffectFits e = IsPrintableEffect e × IsAlignedStore e
 
--- a turn is one of a thread's, 0 to 7. Issues in f and d have a pc, those in e and m an effect, and
--- the address in e is aligned for a load or store
+-- the thread of a turn is 0 to 7. Issues in f and d have a pc, those in e and m an effect that
+-- fits, and the address in e is aligned for a load or store
 abbrev pub FetchedFits : Held Fetched → Type 0
 FetchedFits Bubble = Unit {0}
 FetchedFits (Flushed k) = k < 8
@@ -73,7 +73,7 @@ abbrev pub effect_uses_port : ℕ → Executed → Option Effect → Bool
 effect_uses_port size x (Some effect.Nothing) = loads_port size x
 effect_uses_port size x e = at_port e
 
--- whether a turn that goes to M reads or writes the port of its thread
+-- whether a turn that enters M reads or writes the port of its thread
 abbrev pub uses_port : ℕ → Held Executed → Bool
 uses_port size (Issue k x) = effect_uses_port size x x.effect
 uses_port size _ = false
@@ -83,7 +83,7 @@ abbrev pub IsPrintableEvent : Option Event → Type 0
 IsPrintableEvent (Some e) = IsPrintable e.effect
 IsPrintableEvent None = Unit {0}
 
--- a redirect is of a thread, to a pc
+-- a redirect has a thread below 8 and a pc
 abbrev pub RedirectFits : Option Redirect → Type 0
 RedirectFits (Some r) = (r.thread < 8) × IsPc r.pc
 RedirectFits None = Unit {0}

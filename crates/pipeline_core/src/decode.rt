@@ -1,4 +1,4 @@
-//! D: registers are read, with what is on its way to them.
+//! D: registers are read, with forwarding.
 
 ghost use Rattle.std.specs.Prelude.{◌≡◌, ◌-◌, ◌<◌, ℕ, List, length};
 ghost use Rattle.timer_unit.specs.Time.{is_due, time, timer_of, most_cycles};
@@ -19,7 +19,7 @@ use pipe_model::{Decoded, Executed, Fetched, Held, Redirect, Stored};
 use regfile_bank::Bank;
 use rv_exec::Effect;
 
-/// Whether a redirect flushes a thread's turn in D: each one of its own thread does.
+/// Whether a redirect flushes a thread's turn in D: every redirect of that thread does.
 fn flushes_d(thread: u8, redirect: Option<Redirect>) -> bool
     ensures { result ≡ flushes_d thread redirect }
 {
@@ -29,7 +29,7 @@ fn flushes_d(thread: u8, redirect: Option<Redirect>) -> bool
     }
 }
 
-/// The value of a register, where an effect is on its way to it, else the older value.
+/// The forwarded value of a register if the effect writes it, else the older value.
 fn newer(effect: Option<Effect>, x: u8, older: u32) -> u32
     requires x { x < 32 }
     requires fits { EffectFits effect }
@@ -42,7 +42,7 @@ fn newer(effect: Option<Effect>, x: u8, older: u32) -> u32
     }
 }
 
-/// Two registers of a thread by the bank and the turn in `m`.
+/// Two registers of a thread, from the bank and the turn in `m`.
 fn settled(bank: &Bank, m: &Held<Stored>, thread: u8, x: u8, y: u8) -> (u32, u32)
     requires thread { thread < 8 }
     requires x { x < 32 }
@@ -62,7 +62,7 @@ fn settled(bank: &Bank, m: &Held<Stored>, thread: u8, x: u8, y: u8) -> (u32, u32
     }
 }
 
-/// Two registers of a thread by the bank and the turns in `m` and `e`, of which the younger counts.
+/// Two registers of a thread, from the bank and the turns in `m` and `e`; the younger turn counts.
 #[tactic(auto, using(crate::proofs::Forwarding::from_m_length))]
 fn sources(
     bank: &Bank,
@@ -137,8 +137,8 @@ fn decoded(
     }
 }
 
-/// Leaves an issue in `d`. Where an issue stands there, as in most cycles, its fields are written
-/// one by one, so that no byte between them is written: that takes two instructions from a cycle.
+/// Writes an issue to `d`. If an issue is there, as in most cycles, its fields are written one by
+/// one, so that no padding is written. That saves two instructions per cycle.
 #[inline(always)]
 fn put_decoded(thread: u8, what: Decoded, d: &mut Held<Decoded>)
     ensures { d.new ≡ Issue thread what }
@@ -159,8 +159,9 @@ fn put_decoded(thread: u8, what: Decoded, d: &mut Held<Decoded>)
     }
 }
 
-/// Leaves in `d` the turn with its sources, and whether its thread's armed moment was reached when
-/// it was issued, in the cycle before this one, if the turn isn't flushed. Inlined, as `fetch` is.
+/// Writes the turn to `d`, flushed or with its sources. It also writes whether the thread's armed
+/// moment was reached when the turn was issued, in the cycle before this one. Inlined, as `fetch`
+/// is.
 #[tactic(auto, unfolding(pipe_model::specs::Stages::decode_stage))]
 #[inline(always)]
 pub fn decode_stage(

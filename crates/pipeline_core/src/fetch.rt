@@ -12,7 +12,7 @@ use region_guard::Guard;
 use scratchpad::Spm;
 use slot_scheduler::Pick;
 
-/// Whether a redirect flushes a thread's turn in F: only one that leads elsewhere does.
+/// Whether a redirect flushes a thread's turn in F: only a redirect with `DecodeAndFetch` does.
 fn flushes_f(thread: u8, redirect: Option<Redirect>) -> bool
     ensures { result ≡ flushes_f thread redirect }
 {
@@ -25,7 +25,7 @@ fn flushes_f(thread: u8, redirect: Option<Redirect>) -> bool
     }
 }
 
-/// The thread of a redirect fetches next where that says.
+/// Sets the pc that the redirect's thread fetches next.
 #[tactic(auto, unfolding(crate::proofs::Opened::redirecting), using(crate::proofs::Pcs::pcs_set))]
 pub fn redirect_to(next: &mut [u32; 8], redirect: Redirect)
     requires pcs { All IsPc next.old }
@@ -36,8 +36,8 @@ pub fn redirect_to(next: &mut [u32; 8], redirect: Redirect)
     next[redirect.thread as usize] = redirect.pc;
 }
 
-/// Leaves in `f` the next word of the picked thread, if its turn isn't flushed. Inlined, as D is:
-/// each stands twice in the step, of which the one without a redirect has no test of it.
+/// Writes the next word of the picked thread to `f`, if its turn isn't flushed. Inlined, as D is:
+/// the step contains each twice, and the copy without a redirect doesn't test for one.
 #[tactic(auto, unfolding(crate::proofs::Opened::fetching), using(crate::proofs::Pcs::moving))]
 #[inline(always)]
 pub fn fetch_stage(

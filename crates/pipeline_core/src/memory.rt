@@ -1,4 +1,4 @@
-//! The words of the two scratchpads, as fetches, loads and stores reach them.
+//! The words of the two scratchpads, as fetches, loads and stores access them.
 
 ghost use Rattle.std.specs.Prelude.{◌≡◌, ◌-◌, ◌<◌, ◌/◌, ◌%◌, ◌||◌, true, length, vec_len};
 ghost use Rattle.region_guard.specs.Regions.{is_code, is_data};
@@ -29,7 +29,7 @@ pub fn code_word(guard: &Guard, imem: &Spm, pc: u32) -> u32
     }
 }
 
-/// The word that a thread's load finds at an address; outside the scratchpads it is the word that
+/// The word that a thread's load reads at an address; outside the scratchpads it is the word that
 /// the thread's port showed three cycles ago.
 #[tactic(auto, unfolding(core_model::specs::Memory::data_at))]
 pub fn data_word(
@@ -75,7 +75,7 @@ fn lanes_of(size: u8, address: u32, value: u32) -> Lanes
     }
 }
 
-/// Does what an effect does to the data scratchpad.
+/// Applies an effect to the data scratchpad.
 pub fn store_word(guard: &Guard, dmem: &mut Spm, effect: &Option<Effect>)
     requires dmem { length dmem.old ≡ guard.now.size / 4 }
     requires fits { EffectFits effect.now }

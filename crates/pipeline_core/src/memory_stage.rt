@@ -1,4 +1,4 @@
-//! M: loads and stores reach the scratchpads and the ports.
+//! M: loads and stores access the scratchpads and the ports.
 
 ghost use Rattle.std.specs.Prelude.{◌≡◌, ◌-◌, ◌<◌, ◌/◌, Some, false, length, vec_len};
 ghost use Rattle.rv_decode.specs.Table.{ins};
@@ -22,8 +22,8 @@ use rv_decode::{Ins, decode};
 use rv_exec::Effect;
 use scratchpad::Spm;
 
-/// The effect of an instruction whose value may come late, with that value: until then it does
-/// nothing. A load at the port finds the word of three cycles ago, when it was issued.
+/// The effect of an instruction whose value may come late, with that value. Until M its effect is
+/// `Nothing`. A load at the port reads the word of three cycles ago, when it was issued.
 fn late_effect(
     guard: &Guard,
     imem: &Spm,
@@ -59,7 +59,7 @@ fn late_effect(
     finish(Some(Effect::Nothing), &i, found, x.address, sources)
 }
 
-/// What stands in the stage register of an instruction with its effect.
+/// The stage register's content for an instruction with its effect.
 fn stored(x: &Executed, effect: Option<Effect>) -> Stored
     ensures { result ≡ record { pc = x.now.pc; word = x.now.word; effect = effect } }
 {
@@ -70,8 +70,8 @@ fn stored(x: &Executed, effect: Option<Effect>) -> Stored
     }
 }
 
-/// Leaves in `m` an instruction that gives a register its value: a function of its own, so that no
-/// byte of another effect is moved.
+/// Writes to `m` an instruction that writes a register. It is a separate function, so that only
+/// this variant's fields are copied.
 #[inline(always)]
 fn put_register(thread: u8, x: &Executed, rd: u8, value: u32, m: &mut Held<Stored>)
     ensures { m.new ≡ Issue thread (record {
@@ -84,8 +84,8 @@ fn put_register(thread: u8, x: &Executed, rd: u8, value: u32, m: &mut Held<Store
     *m = Held::Issue { thread, what };
 }
 
-/// Leaves in `m` an instruction whose value may have come late. It has a register's value, or did
-/// nothing, and of these no more than their own fields is moved.
+/// Writes to `m` an instruction whose value may have come late. Its effect is `Reg` or `Nothing`,
+/// and only the variant's own fields are copied.
 #[inline(always)]
 fn put_late(thread: u8, x: &Executed, effect: Option<Effect>, m: &mut Held<Stored>)
     ensures { m.new ≡ Issue thread (record {
@@ -107,7 +107,7 @@ fn put_late(thread: u8, x: &Executed, effect: Option<Effect>, m: &mut Held<Store
     }
 }
 
-/// Does what a thread's effect does at its port.
+/// Applies a thread's effect to its port.
 fn put_word(ports: &mut Ports, thread: u8, effect: &Option<Effect>)
     requires eight { vec_len ports.old ≡ 8 }
     requires thread { thread < 8 }
@@ -123,8 +123,8 @@ fn put_word(ports: &mut Ports, thread: u8, effect: &Option<Effect>)
     }
 }
 
-/// Leaves in `m` what M makes of an instruction that was issued three cycles ago, and stores what
-/// it stores, in the data scratchpad or at its thread's port.
+/// Writes to `m` the result of M for an instruction that was issued three cycles ago. Does its
+/// store, in the data scratchpad or at its thread's port.
 #[tactic(auto, unfolding(crate::proofs::Opened::storing))]
 fn access_issue(
     guard: &Guard,
@@ -150,12 +150,12 @@ fn access_issue(
     ensures idle { uses_port guard.now.size (Issue thread x.now) ≡ false → ports.new ≡ ports.old }
     ensures eight { vec_len ports.new ≡ 8 }
 {
-    // The most frequent effect stores nothing, and no more than its own fields is moved.
+    // The most frequent effect stores nothing, and only its own fields are copied.
     if let Some(Effect::Reg { rd, value }) = x.effect {
         put_register(thread, x, rd, value, m);
         return;
     }
-    // What comes late stores nothing either, so no test for a store is on its way.
+    // A late value stores nothing either, so this path has no test for a store.
     if let Some(Effect::Nothing) = x.effect {
         let effect = late_effect(guard, imem, dmem, ports, thread, cycle, x);
         put_late(thread, x, effect, m);
@@ -167,8 +167,7 @@ fn access_issue(
     *m = Held::Issue { thread, what };
 }
 
-/// Leaves in `m` what M makes of a turn that was issued three cycles ago, and stores what it
-/// stores.
+/// Writes to `m` the result of M for a turn that was issued three cycles ago, and does its store.
 #[tactic(auto, unfolding(crate::proofs::Opened::storing))]
 pub fn memory_stage(
     guard: &Guard,

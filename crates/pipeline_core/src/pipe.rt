@@ -23,8 +23,8 @@ use pipe_model::{
 use rv_exec::Event;
 use slot_scheduler::Pick;
 
-/// What stands between the stages: the turns of the last five cycles. Before cycle c, `f` holds the
-/// turn of c − 1, `d` that of c − 2, and so on to `w` with that of c − 5.
+/// The stage registers, with the turns of the last five cycles. Before cycle c, `f` holds the turn
+/// of c − 1, `d` that of c − 2, and so on to `w` with that of c − 5.
 ///
 /// Threads are 0 to 7, pcs are multiples of four, effects can be shown in a line of a trace, and
 /// the addresses of loads and stores are aligned for their sizes.
@@ -32,15 +32,15 @@ use slot_scheduler::Pick;
 pub struct Pipe {
     /// The pc that each thread fetches next.
     pub next: [u32; 8],
-    /// What F left.
+    /// The result of F.
     pub f: Held<Fetched>,
-    /// What D left.
+    /// The result of D.
     pub d: Held<Decoded>,
-    /// What E left.
+    /// The result of E.
     pub e: Held<Executed>,
-    /// What M left.
+    /// The result of M.
     pub m: Held<Stored>,
-    /// What W left.
+    /// The result of W.
     pub w: Held<Written>,
     ghost pcs: { All IsPc next } by { Prim.hlevel props },
     ghost fetched: { FetchedFits f } by { FetchedFits-prop f },
@@ -68,9 +68,8 @@ impl Pipe {
     ghost use Rattle.pipeline_core.specs.Abstraction.{executed_by, abstract_stages};
     ghost use Rattle.pipeline_core.specs.Abstraction.{abstract_state, abstract_ticked};
 
-    /// A pipeline with nothing in it, whose threads start at these entries. It refines cycle 0
-    /// of each world whose threads start there, beside units and ports that hold that world's
-    /// start.
+    /// An empty pipeline whose threads start at these entries. With units and ports that hold a
+    /// world's start, it refines cycle 0 of that world, if the world's threads start there.
     pub fn new(entries: [u32; 8]) -> Pipe
         requires { All IsPc entries }
         ensures stage_registers { abstract_stages result ≡ empty entries }
@@ -90,9 +89,9 @@ impl Pipe {
         }
     }
 
-    /// One cycle of the core. Where pipeline, units and ports refine the cycle of a world, they
-    /// refine its next cycle afterwards, and the answer is the event of the issue of four cycles
-    /// ago, or None where that has none or there is no issue.
+    /// Does one cycle of the core. If pipeline, units and ports refine the cycle of a world, they
+    /// refine its next cycle afterwards. Returns the event of the issue of four cycles ago, or None
+    /// if there is no such issue or event.
     #[inline(always)]
     pub fn tick(&mut self, units: &mut Units, ports: &mut Ports, cycle: u64) -> Option<Event>
         requires cycle { cycle < most_cycles }
@@ -118,15 +117,15 @@ impl Pipe {
         event
     }
 
-    /// One cycle, stage by stage. The older stages go first, so that the younger ones go by what
-    /// they leave; the pick goes by slots, modes and sleep moments as they stand before. The turn
-    /// in M was issued three cycles ago, and finds at its thread's port the word of that cycle; the
-    /// turn in E was issued two cycles ago, that in D one cycle ago, and they go by the times of
+    /// Does one cycle, stage by stage. The older stages run first, so that the younger ones use
+    /// their results. The pick uses slots, modes and sleep moments from before the cycle. The turn
+    /// in M was issued three cycles ago, and reads the word of that cycle at its thread's port. The
+    /// turn in E was issued two cycles ago and the turn in D one cycle ago; they use the times of
     /// those cycles.
     ///
-    /// Inlined, and so is `tick`: a loop over cycles then has the stages as its own, which takes 15
-    /// instructions from each. A program should have one such loop: with a second copy the
-    /// compiler leaves calls in both.
+    /// Inlined, and so is `tick`: a loop over cycles then contains the stages, which saves 15
+    /// instructions per cycle. A program should have one such loop: with a second copy the compiler
+    /// leaves calls in both.
     #[inline(always)]
     fn step(&mut self, units: &mut Units, ports: &mut Ports, cycle: u64)
         requires cycle { cycle < most_cycles }
@@ -151,8 +150,8 @@ impl Pipe {
         self.younger_stages(units, redirects, redirect, pick, cycle);
     }
 
-    /// W and M: the turn that M left writes its register, and the one that E left goes to memory
-    /// and to its thread's port.
+    /// W and M: the turn in `m` writes its register, and the turn in `e` accesses memory and its
+    /// thread's port.
     #[inline(always)]
     fn older_stages(&mut self, units: &mut Units, ports: &mut Ports, cycle: u64)
         requires eight { vec_len ports.old ≡ 8 }
@@ -185,8 +184,8 @@ impl Pipe {
         );
     }
 
-    /// E. The answer is whether a thread's next turns are flushed; where they are, `redirect` tells
-    /// where it goes on.
+    /// E. Returns whether turns of a thread are flushed; if so, `redirect` has the thread and the
+    /// pc at which it continues.
     #[inline(always)]
     fn execute(&mut self, units: &mut Units, cycle: u64, redirect: &mut Redirect) -> bool
         requires cycle { cycle < most_cycles }
@@ -207,8 +206,8 @@ impl Pipe {
         execute_stage(units, cycle, &self.d, &mut self.e, redirect)
     }
 
-    /// D and F, by what E tells: where its answer was that a thread's next turns are flushed, that
-    /// thread fetches next where the redirect says.
+    /// D and F, from the result of E: if E flushes turns of a thread, that thread fetches next at
+    /// the redirect's pc.
     #[inline(always)]
     fn younger_stages(
         &mut self,
@@ -241,8 +240,8 @@ impl Pipe {
         }
     }
 
-    /// D and F, by what the older stages left. Inlined at each of its two calls: in most cycles
-    /// there is no redirect, and then nothing asks for one.
+    /// D and F, from the results of the older stages. Inlined at both of its calls: in most cycles
+    /// there is no redirect, and that copy doesn't test for one.
     #[inline(always)]
     fn follow(&mut self, units: &Units, redirect: Option<Redirect>, pick: Pick, cycle: u64)
         requires cycle { cycle < most_cycles }

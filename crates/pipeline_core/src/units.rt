@@ -1,4 +1,4 @@
-//! What the stages work on.
+//! The units that the stages use.
 
 ghost use Rattle.std.specs.Prelude.{◌≡◌, ◌/◌, length};
 
@@ -23,7 +23,7 @@ pub struct Units {
     pub guard: Guard,
     /// The round-robin pointer of donation.
     pub scheduler: Scheduler,
-    /// Slots, modes and sleep moments, as the execute stage leaves them.
+    /// Slots, modes and sleep moments, as written by the execute stage.
     pub sched: Sched,
     /// The length of a cycle, in nanoseconds.
     pub clock: Clock,

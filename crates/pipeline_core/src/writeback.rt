@@ -12,7 +12,7 @@ use pipe_model::{Held, Stored, Written};
 use regfile_bank::Bank;
 use rv_exec::{Effect, Event};
 
-/// The event that retires in a cycle, if there is one: that of the turn in W, which was issued
+/// The event that retires in a cycle, if there is one: the event of the turn in W, which was issued
 /// [`CYCLES_TO_W`] cycles ago.
 #[tactic(auto, unfolding(pipe_model::specs::Stages::retired_event))]
 pub fn retire(held: &Held<Stored>, cycle: u64) -> Option<Event>
@@ -32,8 +32,8 @@ pub fn retire(held: &Held<Stored>, cycle: u64) -> Option<Event>
     })
 }
 
-/// Writes the register of a control and status register's access. It is rare, and apart so that the
-/// way of all others carries nothing of it.
+/// Writes the destination register of a CSR access. It is rare, and a separate function so that the
+/// common path doesn't pay for it.
 #[cold]
 #[inline(never)]
 fn write_old(bank: &mut Bank, thread: u8, rd: u8, old: u32)
@@ -53,8 +53,8 @@ fn write_register(bank: &mut Bank, thread: u8, effect: &Option<Effect>)
     ensures { bank.new ≡ slice_set bank.old thread
         (regs_after effect.now (slice_index_or bank.old thread [])) }
 {
-    // One test for the most frequent effect, and the other one behind it: a match of both asks
-    // first whether it is any of the two.
+    // The most frequent effect is tested first, and then the other one: a match on both would first
+    // test whether it is either of them.
     if let Some(Effect::Reg { rd, value }) = effect {
         bank.write(thread, *rd, *value);
     } else if let Some(Effect::Csr { rd, old, .. }) = effect {
@@ -62,8 +62,8 @@ fn write_register(bank: &mut Bank, thread: u8, effect: &Option<Effect>)
     }
 }
 
-/// Leaves the turn in `w`. It isn't inlined, so that W tells an issue, which it leaves there
-/// itself, from all other turns by one test.
+/// Writes the turn to `w`. It isn't inlined, so that W, which writes an issue itself, separates
+/// issues from all other turns by one test.
 #[inline(never)]
 #[tactic(auto, unfolding(pipe_model::specs::Stages::writeback_stage))]
 fn leave_written(held: &Held<Stored>, w: &mut Held<Written>)
@@ -84,7 +84,7 @@ fn leave_written(held: &Held<Stored>, w: &mut Held<Written>)
     };
 }
 
-/// Writes the register of the turn's effect, if it has one, and leaves the turn in `w`.
+/// Writes the register of the turn's effect, if it has one, and writes the turn to `w`.
 #[tactic(auto, unfolding(crate::proofs::Opened::writing_back))]
 pub fn writeback_stage(bank: &mut Bank, held: &Held<Stored>, w: &mut Held<Written>)
     requires { StoredFits held.now }
