@@ -1,4 +1,4 @@
-//! What the program answers to a command.
+//! The program's result for a command.
 
 use crate::cases::{Case, Command, Cut, Fails, Wanted};
 use crate::devices::{CountPort, DropPort, StepPort};
@@ -14,25 +14,25 @@ use std::rc::Rc;
 /// More than the bytes of any text of the tables.
 pub const ROOM: usize = 65_536;
 
-/// For how many cycles each word of the ramp stands, as in the program of the examples with it.
+/// The number of cycles for which the ramp shows each word, as in the example program with a ramp.
 const EVERY: u64 = 16;
 
 /// No status of the program.
 const NO_PORTS: u8 = 255;
 
-/// A command's status, what it wrote, what it left at the ports, and the calls that it made.
+/// A command's status, its output, the final state of the ports, and the calls that it made.
 #[derive(Drop)]
 pub struct Answer {
     status: u8,
     pub text: Vec<u8>,
     ports: String,
     pub calls: String,
-    /// How many bytes the calls have after each fetch.
+    /// The length of the calls' text after each fetch, in bytes.
     pub fetches: Vec<usize>,
     pub puts: Vec<Put>,
 }
 
-/// The words of a line.
+/// The arguments in a line.
 pub fn words_of(alloc: Global, line: &str) -> Result<Vec<String>, AllocError> {
     let mut words = Vec::new(alloc);
     for word in line.split_whitespace() {
@@ -41,7 +41,7 @@ pub fn words_of(alloc: Global, line: &str) -> Result<Vec<String>, AllocError> {
     Ok(words)
 }
 
-/// The files that a case gives before a command, of which a call of `fetch` may fail.
+/// The files that a case has before a command. A call of `fetch` may fail.
 fn files_of(
     alloc: Global,
     case: &Case<'_>,
@@ -58,7 +58,7 @@ fn files_of(
     Ok(files)
 }
 
-/// A sink of which a call of `put` fails.
+/// A sink; a call of `put` fails if `cut` is given.
 pub fn sink_of(alloc: Global, cut: Option<Cut>) -> Result<MemSink, AllocError> {
     let mut out = MemSink::new(alloc, ROOM)?;
     if let Some(Cut { call, taken }) = cut {
@@ -67,7 +67,7 @@ pub fn sink_of(alloc: Global, cut: Option<Cut>) -> Result<MemSink, AllocError> {
     Ok(out)
 }
 
-/// What a command is run with, and what it writes to.
+/// The inputs of a command's run, and its sink.
 #[derive(Drop)]
 struct Bench<'a> {
     words: Vec<String>,
@@ -93,7 +93,7 @@ impl<'a> Bench<'a> {
     }
 }
 
-/// Runs a command beside these devices, and lets go of them. Appends what it leaves there.
+/// Runs a command with these devices, and drops them. Appends the final state of the ports.
 fn run_over(
     alloc: Global,
     bench: &mut Bench<'_>,
@@ -116,7 +116,7 @@ fn run_over(
     status
 }
 
-/// A device for a port, or none if memory for it was refused, which the text notes.
+/// A device for a port, or none if memory ran out; the text notes that.
 macro_rules! plugged {
     ($left:expr, $made:expr) => {
         match $made {
@@ -129,11 +129,11 @@ macro_rules! plugged {
     };
 }
 
-/// Runs a command beside devices of some kinds, and appends what it leaves there. The kinds have a
-/// space between two: `h` is a device that holds what it is fed, `wN` a square wave, `step` one
-/// that shows the cycle, `ramp` one that rises, `drop` one that counts its drops, `count` one whose
-/// calls are counted, `+` one that holds what it is fed and notes its calls, `+N` one that does so
-/// and can be fed N times, `-` none.
+/// Runs a command with devices of some kinds, and appends the final state of the ports. The kinds
+/// are separated by spaces: `h` is a device that holds the words it is fed, `wN` a square wave,
+/// `step` one that shows the cycle, `ramp` a rising one, `drop` one that counts its drops, `count`
+/// one that counts its calls, `+` one that holds the words it is fed and notes its calls, `+N` the
+/// same with room for N feedings, `-` none.
 fn run_beside(
     alloc: Global,
     kinds: &str,
@@ -161,7 +161,7 @@ fn run_beside(
     run_over(alloc, bench, ports, notes, left)
 }
 
-/// The answer to a command of a case, while some calls fail.
+/// The result of a command of a case, while some calls fail.
 pub fn answer_to(
     alloc: Global,
     case: &Case<'_>,
@@ -190,8 +190,8 @@ pub fn answer_to(
     })
 }
 
-/// Whether each put is one line, or the only one a whole image, and none comes after one that
-/// fails.
+/// Whether each put is one line, or the only put is a whole image, and no put follows a failing
+/// one.
 fn are_lines(puts: &[Put], command: &Command<'_>, wanted: Wanted<'_>) -> bool {
     let is_image = command.has_image() && puts.len() == 1;
     let ends = match wanted.fails.put {
@@ -203,7 +203,7 @@ fn are_lines(puts: &[Put], command: &Command<'_>, wanted: Wanted<'_>) -> bool {
         .all(|put| put.is_line || is_image && put.bytes > 0)
 }
 
-/// Whether an answer is the one that is wanted of a command.
+/// Whether a result is the expected one.
 pub fn is_wanted(answer: &Answer, command: &Command<'_>, wanted: Wanted<'_>) -> bool {
     let calls = answer.calls.as_str().strip_suffix('\n').unwrap_or("");
     answer.status == wanted.status
@@ -213,7 +213,7 @@ pub fn is_wanted(answer: &Answer, command: &Command<'_>, wanted: Wanted<'_>) -> 
         && are_lines(&answer.puts, command, wanted)
 }
 
-/// Appends an answer. The bytes of an image are written in hexadecimal digits.
+/// Appends a result. The bytes of an image are written in hexadecimal digits.
 pub fn push_answer(to: &mut RowText, answer: &Answer) {
     let Answer {
         status,

@@ -1,17 +1,17 @@
-//! The tables of command lines with their answers.
+//! The tables of command lines with their expected results.
 
 use crate::expanded::{push_event, push_expanded};
 use row_text::push_bytes;
 use std::alloc::{AllocError, Global};
 
-/// A file that is there from its row of the table on.
+/// A file that exists from its row of the table on.
 #[derive(Drop)]
 pub struct File<'a> {
     pub name: &'a str,
     pub bytes: Vec<u8>,
 }
 
-/// A call of `put` that fails, and how many bytes it takes.
+/// A call of `put` that fails, and the number of bytes that it takes.
 #[derive(Clone, Copy)]
 pub struct Cut {
     pub call: u32,
@@ -33,7 +33,7 @@ impl Fails {
         }
     }
 
-    /// A call of `fetch` alone.
+    /// Only a call of `fetch`.
     pub fn at_fetch(call: u32) -> Fails {
         Fails {
             fetch: Some(call),
@@ -41,7 +41,7 @@ impl Fails {
         }
     }
 
-    /// A call of `put` alone.
+    /// Only a call of `put`.
     pub fn at_put(call: u32, taken: usize) -> Fails {
         Fails {
             fetch: None,
@@ -50,11 +50,10 @@ impl Fails {
     }
 }
 
-/// How the lines of a text are written in the table.
+/// The notation of a text's lines in the table.
 #[derive(Clone, Copy)]
 enum Style {
-    /// As they are. No line end follows a line whose last byte is a backslash, and that isn't
-    /// written.
+    /// Verbatim. A backslash at the end of a line removes itself and the line end.
     Plain,
     /// With the abbreviations of a dump, or of a trace, as those of settings.
     Dump,
@@ -63,9 +62,9 @@ enum Style {
     Digits,
 }
 
-/// A command line, with how many of the case's files are there and which calls fail; and its
-/// answer: its status, what it writes, and where that is asked what is left at the ports, which
-/// calls it makes, and what the machine shows that a failing put has stopped.
+/// A command line, with the number of the case's files that exist, the calls that fail, and the
+/// expected result. The result has the status and the output. Optional parts are the final state of
+/// the ports, the calls made, and the dump of a machine that a failing put stopped.
 #[derive(Drop)]
 pub struct Command<'a> {
     pub line: &'a str,
@@ -74,12 +73,12 @@ pub struct Command<'a> {
     pub status: u8,
     pub text: Vec<u8>,
     pub ports: Option<&'a str>,
-    /// A line each, with no line end after the last.
+    /// One line each, with no line end after the last.
     pub calls: Option<&'a str>,
     pub dump: Option<Vec<u8>>,
 }
 
-/// The calls that fail while a command runs, and the answer then, as a command has it.
+/// The calls that fail while a command runs, and the expected result, as in a `Command`.
 #[derive(Clone, Copy)]
 pub struct Wanted<'a> {
     pub fails: Fails,
@@ -90,7 +89,7 @@ pub struct Wanted<'a> {
 }
 
 impl Command<'_> {
-    /// The answer in the table.
+    /// The expected result in the table.
     pub fn wanted(&self) -> Wanted<'_> {
         Wanted {
             fails: self.fails,
@@ -101,7 +100,7 @@ impl Command<'_> {
         }
     }
 
-    /// Whether it writes an image where it isn't refused.
+    /// Whether the command writes an image if it succeeds.
     pub fn has_image(&self) -> bool {
         self.line.starts_with("asm") || self.line.starts_with("elf")
     }
@@ -116,7 +115,7 @@ pub struct Case<'a> {
     pub commands: Vec<Command<'a>>,
 }
 
-/// How the text of a command is written.
+/// The notation of a command's text.
 fn style_of(status: u8, line: &str) -> Style {
     match (status, line.split(' ').next().unwrap_or("")) {
         (0, "run" | "solo" | "phases") => Style::Trace,
@@ -126,7 +125,7 @@ fn style_of(status: u8, line: &str) -> Style {
     }
 }
 
-/// Appends a line that is written so.
+/// Appends a line in a notation.
 fn push_line(to: &mut Vec<u8>, alloc: Global, style: Style, line: &str) -> Result<(), AllocError> {
     match style {
         Style::Digits => return push_bytes(to, alloc, line),
@@ -141,7 +140,7 @@ fn push_line(to: &mut Vec<u8>, alloc: Global, style: Style, line: &str) -> Resul
     Ok(())
 }
 
-/// Appends lines that are written so.
+/// Appends lines in a notation.
 fn push_lines(
     to: &mut Vec<u8>,
     alloc: Global,
@@ -156,7 +155,7 @@ fn push_lines(
     Ok(())
 }
 
-/// The calls that fail, of a command's head as `7 fetch 0` or `8 put 3 5`.
+/// The calls that fail, from a command's head such as `7 fetch 0` or `8 put 3 5`.
 fn fails_of(head: &str) -> Fails {
     let mut words = head.split_whitespace().skip(1);
     let kind = words.next().unwrap_or("");
@@ -169,7 +168,7 @@ fn fails_of(head: &str) -> Fails {
     }
 }
 
-/// The status of a command's head.
+/// The status in a command's head.
 fn status_of(head: &str) -> u8 {
     let word = head.split_whitespace().next().unwrap_or("");
     word.parse().unwrap_or(255)
@@ -186,7 +185,7 @@ impl<'a> Case<'a> {
         }
     }
 
-    /// Takes a section: a heading, and the lines below it.
+    /// Reads a section: a heading, and the lines below it.
     fn take(&mut self, alloc: Global, section: &'a str) -> Result<(), AllocError> {
         let (heading, lines) = match section.split_once('\n') {
             Some((heading, lines)) => (heading, Some(lines)),
@@ -201,7 +200,7 @@ impl<'a> Case<'a> {
         }
     }
 
-    /// Takes a command, of its head, its line and the lines that it writes.
+    /// Reads a command from its head, its line and the lines that it writes.
     fn take_command(
         &mut self,
         alloc: Global,
@@ -225,8 +224,8 @@ impl<'a> Case<'a> {
         Ok(())
     }
 
-    /// Takes a file of a kind: `text`, `bytes` in hexadecimal digits, or `written`, which begins
-    /// with what the last command writes.
+    /// Reads a file of a kind: `text`, `bytes` in hexadecimal digits, or `written`, which begins
+    /// with the output of the last command.
     fn take_file(
         &mut self,
         alloc: Global,
@@ -248,7 +247,7 @@ impl<'a> Case<'a> {
         Ok(())
     }
 
-    /// Takes a part of the last command's answer beside its text.
+    /// Reads a part of the last command's expected result other than its text.
     fn take_rest(
         &mut self,
         alloc: Global,
@@ -271,7 +270,7 @@ impl<'a> Case<'a> {
     }
 }
 
-/// The case of a text that begins with its name and its ports, a line each.
+/// The case from a text that begins with its name and its ports, one line each.
 fn case_of(alloc: Global, text: &str) -> Result<Case<'_>, AllocError> {
     let mut sections = text.split("\n--- ");
     let first = sections.next().unwrap_or("");

@@ -1,4 +1,4 @@
-//! Devices of kinds that the crates below don't know.
+//! Kinds of devices that the crates below don't have.
 ghost use Rattle.std.specs.Prelude.{◌%◌, ◌^◌, nat_le, if◌then◌else◌};
 ghost use Rattle.std.specs.Option.{option_map_or};
 ghost use Rattle.fp_ports.specs.Kinds.{held_word};
@@ -15,7 +15,7 @@ struct Fed {
     word: u32,
 }
 
-/// Shows the number of the cycle until it is fed, and refuses to be fed a second time.
+/// Shows the number of the cycle until it is fed, and refuses a second feeding.
 #[derive(Drop)]
 pub struct StepPort {
     fed: Option<Fed>,
@@ -61,7 +61,7 @@ impl Port for StepPort {
     }
 }
 
-/// Counts the calls that are made of it in the notes, and shows 0.
+/// Counts its calls in the notes, and shows 0.
 #[derive(Drop)]
 pub struct CountPort {
     latch: u32,
@@ -105,7 +105,7 @@ impl Port for CountPort {
     }
 }
 
-/// Holds what it is fed, and counts its drop in the notes.
+/// Holds the words it is fed, and counts its drop in the notes.
 pub struct DropPort {
     held: HeldPort,
     notes: Rc<Notes>,

@@ -1,5 +1,5 @@
-//! The examples of the repository: commands over their files, of which copies stand in the folder
-//! where it runs.
+//! The examples of the repository: commands over their files. Copies of the files are in the folder
+//! in which the program runs.
 
 use crate::cases::{Case, Command, Fails, File};
 use crate::count;
@@ -23,7 +23,7 @@ const FILES: [(&str, &str); 13] = [
     ("examples/c/pid.toml", "pid.toml"),
 ];
 
-/// Commands, each with the file that has what it writes.
+/// Commands, each with the file that has its expected output.
 const COMMANDS: [(&str, &str); 11] = [
     ("asm examples/drive.s", "drive.fpx"),
     (
@@ -57,14 +57,14 @@ const COMMANDS: [(&str, &str); 11] = [
     ),
 ];
 
-/// The files of the example with a device of one's own, each with its copy.
+/// The files of the example with a custom device, each with its copy.
 const DEVICE_FILES: [(&str, &str); 3] = [
     ("examples/device/ramp.s", "ramp.s"),
     ("examples/device/ramp.fpx", "ramp.fpx"),
     ("examples/device/ramp.toml", "ramp.toml"),
 ];
 
-/// Its commands, each with the file that has what it writes.
+/// Its commands, each with the file that has its expected output.
 const DEVICE_COMMANDS: [(&str, &str); 2] = [
     ("asm examples/device/ramp.s", "ramp.fpx"),
     (
@@ -73,7 +73,7 @@ const DEVICE_COMMANDS: [(&str, &str); 2] = [
     ),
 ];
 
-/// Compares what the commands write.
+/// Compares the output of the commands.
 pub fn compare(rt: HostRuntime) -> io::Result<()> {
     let case = Case::new(rt.alloc(), "examples", "h h h h h h h h");
     compare_by(rt, case, &FILES, &COMMANDS)?;
@@ -81,7 +81,7 @@ pub fn compare(rt: HostRuntime) -> io::Result<()> {
     compare_by(rt, case, &DEVICE_FILES, &DEVICE_COMMANDS)
 }
 
-/// Compares what commands over files write, for a case that has neither as yet.
+/// Compares the output of commands over files. The case has no files or commands yet.
 fn compare_by(
     rt: HostRuntime,
     mut case: Case<'static>,
@@ -111,7 +111,7 @@ fn add_file(
     Ok(())
 }
 
-/// Adds a command that is to write what a file has.
+/// Adds a command whose expected output is the content of a file.
 fn add_command(
     rt: HostRuntime,
     case: &mut Case<'static>,

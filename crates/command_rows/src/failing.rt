@@ -1,5 +1,5 @@
-//! Commands of which each call of `fetch`, and each call of `put`, fails in turn: what was written
-//! before it stays, and nothing is called after it.
+//! Commands in which each call of `fetch` and each call of `put` fails in turn. The output before
+//! it remains, and no call follows it.
 
 use crate::agrees;
 use crate::answer::{Answer, answer_to};
@@ -19,8 +19,8 @@ pub fn compare(rt: HostRuntime, name: &str, title: &str) -> io::Result<()> {
     tally.print(rt, title, "commands")
 }
 
-/// Counts the commands of a case with each of their calls failing. One in which a call fails
-/// already is left out.
+/// Counts the commands of a case with each of their calls failing. Commands in which a call fails
+/// already are skipped.
 fn count(rt: HostRuntime, tally: &mut Tally, case: &Case<'_>) -> io::Result<()> {
     for command in &case.commands {
         if command.fails.fetch.is_none() && command.fails.put.is_none() {
@@ -63,8 +63,8 @@ fn count_puts(
     Ok(())
 }
 
-/// Counts a command with a put failing, before which so many bytes were written. It takes none,
-/// half or all of its own.
+/// Counts a command with a put failing; `before` bytes were written before that put. The put takes
+/// none, half or all of its own bytes.
 fn count_put(
     rt: HostRuntime,
     tally: &mut Tally,
@@ -95,7 +95,7 @@ fn front(whole: &Answer, end: usize) -> &str {
     lines.strip_suffix('\n').unwrap_or("")
 }
 
-/// What is wanted of a command that a failing call stops.
+/// The expected result of a command that a failing call stops.
 fn stopped<'a>(fails: Fails, status: Status, text: &'a [u8], calls: &'a str) -> Wanted<'a> {
     Wanted {
         fails,

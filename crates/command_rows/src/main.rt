@@ -1,10 +1,10 @@
-//! Compares what the program answers to command lines with tables that were worked out apart from
-//! it: its status, what it writes, what is left of the devices at the ports, and the calls that it
-//! makes. `commands.txt` says at its head how the tables are written.
+//! Compares the program's results for command lines with independently computed tables. A result
+//! has the status, the output, the final state of the devices at the ports, and the calls made. The
+//! head of `commands.txt` describes the notation of the tables.
 //!
-//! The tables are in the folder where it runs, with copies of the files of the repository's
-//! examples and what commands over them write. Standard output has each command at which the two
-//! differ, and for each table how many there are and how many differ.
+//! The tables are in the folder in which the program runs, with copies of the files of the
+//! repository's examples and the expected output of commands over them. Standard output has each
+//! command whose result differs, and for each table the number of commands and of differences.
 #![tactic(auto)]
 
 mod answer;
@@ -35,14 +35,14 @@ const TABLES: [&str; 8] = [
     "stopped.txt",
 ];
 
-/// Those whose commands are run again with each fetch and each put failing, with what is printed of
-/// these runs.
+/// The tables whose commands are run again with each fetch and each put failing, and the title
+/// printed for these runs.
 const FAILING: [(&str, &str); 2] = [
     ("worked.txt", "worked.txt, each fetch and put failing"),
     ("noted.txt", "noted.txt, each fetch and put failing"),
 ];
 
-/// Whether a command has the answer that is wanted. One that differs is printed.
+/// Whether a command has the expected result. Prints a result that differs.
 pub fn agrees(
     rt: HostRuntime,
     case: &Case<'_>,
@@ -57,7 +57,7 @@ pub fn agrees(
     Ok(agrees)
 }
 
-/// Prints the answer to a command.
+/// Prints the result of a command.
 fn print_answer(
     rt: HostRuntime,
     case: &Case<'_>,
@@ -69,7 +69,8 @@ fn print_answer(
     println!(rt; "{}, {}: {}", case.name, command.line, text.as_str()?)
 }
 
-/// Whether the machine of a command is left as is wanted, where that is. One that isn't is printed.
+/// Whether the machine of a command ends in the expected state, if the table has one. Prints a
+/// command if not.
 fn is_left(rt: HostRuntime, case: &Case<'_>, command: &Command<'_>) -> io::Result<bool> {
     let is_left = is_shown(rt.alloc(), case, command);
     if !is_left {

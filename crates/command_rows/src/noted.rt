@@ -9,7 +9,7 @@ use std::cell::{Cell, RefCell};
 use std::fmt::Display;
 use std::rc::Rc;
 
-/// The calls so far, a line each, and what devices count.
+/// The calls so far, one line each, and the counts of the devices.
 #[derive(Drop)]
 pub struct Notes {
     text: RefCell<RowText>,
@@ -17,9 +17,9 @@ pub struct Notes {
     is_cut: Cell<bool>,
     /// Whether the command has ended, so that no call is noted.
     is_over: Cell<bool>,
-    /// How many calls were made of devices that count them.
+    /// The number of calls of devices that count them.
     pub calls: Cell<u32>,
-    /// How many devices that count it were dropped.
+    /// The number of drops of devices that count them.
     pub drops: Cell<u32>,
 }
 
@@ -55,7 +55,7 @@ impl Notes {
         self.is_over.set(true);
     }
 
-    /// How many bytes the notes have.
+    /// The length of the notes, in bytes.
     fn len(&self) -> usize {
         match self.text.try_borrow() {
             Ok(text) => text.len(),
@@ -63,7 +63,7 @@ impl Notes {
         }
     }
 
-    /// The notes. An error if memory for some of them was refused.
+    /// The notes. An error if memory ran out for some of them.
     pub fn text(&self, alloc: Global) -> Result<String, AllocError> {
         match self.text.try_borrow() {
             Ok(text) if !self.is_cut.get() => String::from_str(alloc, text.as_str()?),
@@ -77,7 +77,7 @@ impl Notes {
 pub struct NotedFiles<'a, F> {
     files: F,
     notes: &'a Notes,
-    /// How many bytes the notes had after each call.
+    /// The length of the notes after each call, in bytes.
     pub ends: Vec<usize>,
 }
 
@@ -110,11 +110,11 @@ impl<F: Files + Drop> Files for NotedFiles<'_, F> {
 /// A call of `put`.
 #[derive(Clone, Copy)]
 pub struct Put {
-    /// How many bytes it was given.
+    /// The number of bytes passed to it.
     pub bytes: usize,
-    /// Whether these are one line, whole and no more.
+    /// Whether these are exactly one whole line.
     pub is_line: bool,
-    /// How many bytes the notes had after it.
+    /// The length of the notes after it, in bytes.
     pub end: usize,
 }
 
@@ -163,12 +163,12 @@ impl<K: Sink + Drop> Sink for NotedSink<'_, K> {
     }
 }
 
-/// Holds what it is fed while it has room, and then refuses to be fed. Its calls and its drop are
-/// noted.
+/// Holds the words it is fed while it has room, and then refuses feedings. Its calls and its drop
+/// are noted.
 pub struct NotedPort {
     held: HeldPort,
     thread: usize,
-    /// How many times it can still be fed.
+    /// The number of feedings that it still accepts.
     room: u32,
     notes: Rc<Notes>,
 }

@@ -1,4 +1,4 @@
-//! What stands at the ports before a command and after it.
+//! The state of the ports before and after a command.
 
 ghost use Rattle.std.specs.Prelude.{◌<◌, ◌≡◌, vec_len};
 
@@ -14,8 +14,8 @@ pub fn half_of(kind: &str) -> u64 {
     }
 }
 
-/// How many times a device can be fed that notes its calls, by its kind `+`, without an end, or
-/// `+N`; None for other kinds.
+/// The number of feedings that a device noting its calls accepts, from its kind: `+` without a
+/// limit, or `+N`. None for other kinds.
 pub fn room_of(kind: &str) -> Option<u32> {
     match kind.strip_prefix('+') {
         Some(digits) => Some(digits.parse().unwrap_or(u32::MAX)),
@@ -23,7 +23,8 @@ pub fn room_of(kind: &str) -> Option<u32> {
     }
 }
 
-/// Appends a thread's latch and the word that its device shows in cycle 0; `-` where there is none.
+/// Appends a thread's latch and the word that its device shows in cycle 0; `-` if there is no
+/// device.
 fn push_port(text: &mut RowText, ports: &mut Ports, thread: u8)
     requires eight { vec_len ports.old ≡ 8 }
     requires thread { thread < 8 }
@@ -36,8 +37,8 @@ fn push_port(text: &mut RowText, ports: &mut Ports, thread: u8)
     }
 }
 
-/// Appends what is left at the ports, and how many devices were dropped, before the rest is dropped
-/// and then.
+/// Appends the final state of the ports, and the number of dropped devices before and after the
+/// rest is dropped.
 pub fn push_left(text: &mut RowText, mut ports: Ports, notes: &Notes) {
     for thread in 0..THREADS {
         if ports.len() == 8 {

@@ -1,4 +1,4 @@
-//! What a machine shows whose run a failing put has stopped.
+//! The dump of a machine whose run a failing put stopped.
 ghost use Rattle.std.specs.Prelude.{◌<◌, ◌≡◌, ◌≤◌, vec_len};
 ghost use Rattle.timer_unit.specs.Time.{most_cycles};
 
@@ -12,7 +12,7 @@ use fp_setup::{Setup, read_setup};
 use machine::{Machine, feed_inputs};
 use std::alloc::Global;
 
-/// Whether the machine of a command shows what is wanted after its run, where that is asked.
+/// Whether the machine of a command has the expected dump after its run, if the table has one.
 pub fn is_shown(alloc: Global, case: &Case<'_>, command: &Command<'_>) -> bool {
     match &command.dump {
         Some(wanted) => match shown_after(alloc, case, command) {
@@ -23,7 +23,7 @@ pub fn is_shown(alloc: Global, case: &Case<'_>, command: &Command<'_>) -> bool {
     }
 }
 
-/// The bytes of a file that is there before a command; none where it isn't.
+/// The bytes of a file that exists before a command; none if it doesn't exist.
 fn file<'a>(case: &'a Case<'_>, command: &Command<'_>, name: &str) -> &'a [u8] {
     let mut bytes: &[u8] = &[];
     for file in case.files.iter().take(command.files) {
@@ -41,7 +41,7 @@ struct Program {
     image: Image,
 }
 
-/// The program of a setup's file; None where setup or image is refused.
+/// The program of a setup's file; None if setup or image is refused.
 fn program_of(
     alloc: Global,
     case: &Case<'_>,
@@ -54,8 +54,8 @@ fn program_of(
     Some(Program { setup, image })
 }
 
-/// The dump after a run; None where the words ask none, setup or image is refused, no put fails, or
-/// memory is refused.
+/// The dump after a run; None if the arguments aren't those of a run, setup or image is refused, no
+/// put fails, or memory runs out.
 fn shown_after(alloc: Global, case: &Case<'_>, command: &Command<'_>) -> Option<MemSink> {
     let words = words_of(alloc, command.line).ok()?;
     match read_words(alloc, &words) {
@@ -73,8 +73,8 @@ fn shown_after(alloc: Global, case: &Case<'_>, command: &Command<'_>) -> Option<
     }
 }
 
-/// The dump after a program's run beside devices that hold what they are fed; None where no put
-/// fails or memory is refused.
+/// The dump after a program's run with devices that hold the words they are fed; None if no put
+/// fails or memory runs out.
 fn shown_by(
     alloc: Global,
     program: &Program,
@@ -97,8 +97,7 @@ fn shown_by(
     shown_beside(alloc, program, thread, cycles, &mut ports, cut)
 }
 
-/// The dump after a program's run beside these devices; None where no put fails or memory is
-/// refused.
+/// The dump after a program's run with these devices; None if no put fails or memory runs out.
 fn shown_beside(
     alloc: Global,
     program: &Program,

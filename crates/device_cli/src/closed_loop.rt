@@ -1,12 +1,12 @@
-//! A closed loop: the controller of `examples/c/t0_pid.c`, and a plant at its port that answers to
-//! what it writes.
+//! A closed loop: the controller of `examples/c/t0_pid.c`, and a plant at its port that responds to
+//! the words it writes.
 //!
-//! A device at a port shows words that don't hang on what is written to it, so the plant is none.
-//! It stands beside the machine, which goes on cycle by cycle; between two cycles the latch of the
-//! port is read, and the plant's answer is fed to the port. That all of this is safe and ends is
-//! proved. No clause says what a run is: each cycle is the machine's, but after a feeding the
-//! machine stands for no cycle of a world that is known from the start, and so no theorem on runs,
-//! traces and isolation speaks of it.
+//! The words that a device at a port shows don't depend on the words written to it, so the plant is
+//! not a device. It is simulated next to the machine, which runs cycle by cycle. Between two cycles
+//! the program reads the latch of the port, and feeds the plant's response to the port. Safety and
+//! termination are proved. No clause defines a run. Each cycle is the machine's, but after a
+//! feeding the machine refines no world that is known from the start. So the theorems on runs,
+//! traces and isolation don't cover it.
 
 ghost use Rattle.std.specs.Prelude.{◌≡◌, vec_len};
 
@@ -24,7 +24,7 @@ const SETUP: &str = "examples/device/loop.toml";
 /// How many periods of the controller the run has.
 const PERIODS: u64 = 160;
 
-/// What the controller is to hold, as it is written there.
+/// The controller's set point, as in its source.
 const SET_POINT: Fixed = Fixed(16 * 0x1_0000);
 
 /// The setup and its image.
@@ -33,8 +33,8 @@ fn read_program(rt: HostRuntime) -> Result<Program, Stop> {
     load(rt.alloc(), &name, &mut RealFiles::new(rt))
 }
 
-/// Prints a line: the time in nanoseconds, the set point, what drives the plant, and what its
-/// sensor shows.
+/// Prints a line: the time in nanoseconds, the set point, the plant's input, and its sensor's
+/// value.
 fn print_line(rt: HostRuntime, ns: u64, closed: &ControlLoop) -> io::Result<()>
     requires { vec_len closed.now.ports ≡ 8 }
 {
@@ -75,7 +75,7 @@ fn run(rt: HostRuntime, program: &Program) -> io::Result<()> {
     close_over(rt, program, ports)
 }
 
-/// Closes the loop, and gives the status: Read also where the setup or its image has a fault.
+/// Runs the closed loop, and returns the status: Read also if the setup or its image has a fault.
 pub fn status(rt: HostRuntime) -> Status {
     let program = match read_program(rt) {
         Ok(program) => program,

@@ -1,4 +1,4 @@
-//! The machine with a plant beside it.
+//! The machine with a plant next to it.
 
 ghost use Rattle.std.specs.Prelude.{◌≡◌, ◌+◌, ◌≤◌, IfOk, OnOk, vec_len};
 ghost use Rattle.timer_unit.specs.Time.{most_cycles};
@@ -12,20 +12,20 @@ use std::alloc::{AllocError, Global};
 /// The thread of the controller.
 const CONTROLLER: u8 = 0;
 
-/// For how many cycles the plant is driven by the same word.
+/// The number of cycles for which the same word drives the plant.
 const CYCLES: u64 = 100;
 
-/// How many such steps of the plant a period of the controller has.
+/// The number of such steps of the plant in a period of the controller.
 const STEPS: u8 = 8;
 
-/// The cycle from which on the plant has a load.
+/// The cycle from which the plant has a load.
 const LOADED: u64 = 64_000;
 
-/// The load, with 16 bits behind the point.
+/// The load, with 16 fractional bits.
 const LOAD: i32 = 4 * 0x1_0000;
 
-/// The machine, with a plant that is driven by the latch of the controller's port and answers at
-/// that port.
+/// The machine, with a plant that the latch of the controller's port drives. The plant's response
+/// is shown at that port.
 #[derive(Drop)]
 pub struct ControlLoop {
     machine: Machine,
@@ -34,8 +34,8 @@ pub struct ControlLoop {
 }
 
 impl ControlLoop {
-    /// The machine of a setup and its image at cycle 0 beside devices that show what they are fed,
-    /// the plant at rest. The setup's inputs are left out.
+    /// The machine of a setup and its image at cycle 0, with devices that show the words they are
+    /// fed, and the plant at rest. The setup's inputs are ignored.
     ///
     /// # Errors
     ///
@@ -59,19 +59,19 @@ impl ControlLoop {
         self.machine.cycle()
     }
 
-    /// What the controller has written last, as a number with 16 bits behind the point.
+    /// The controller's last written word, as a number with 16 fractional bits.
     pub fn drive(&self) -> i32
         requires { vec_len self.now.ports ≡ 8 }
     {
         latch_of(&self.ports, CONTROLLER).unwrap_or(0).cast_signed()
     }
 
-    /// What the plant's sensor shows.
+    /// The value of the plant's sensor.
     pub fn measured(&self) -> i32 {
         self.plant.measured()
     }
 
-    /// Goes on for a period of the controller.
+    /// Runs for a period of the controller.
     ///
     /// # Errors
     ///
@@ -88,8 +88,8 @@ impl ControlLoop {
         Ok(())
     }
 
-    /// Goes on for a step of the plant: the machine does its cycles, and the plant answers to the
-    /// word that then stands in the latch, from the next cycle on.
+    /// Runs for a step of the plant: the machine does its cycles, and the plant responds to the
+    /// word then in the latch. The response is shown from the next cycle on.
     fn plant_step(&mut self) -> Result<(), AllocError>
         requires eight { vec_len self.old.ports ≡ 8 }
         requires cycles { self.old.machine.at + 100 ≤ most_cycles }

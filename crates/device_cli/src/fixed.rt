@@ -2,12 +2,12 @@
 
 use std::fmt;
 
-/// A number with 16 bits behind the point, as the controller has them at its port.
+/// A number with 16 fractional bits, as used at the controller's port.
 #[derive(Clone, Copy)]
 pub struct Fixed(pub i32);
 
 impl fmt::Display for Fixed {
-    /// In decimal, with four digits behind the point; the rest is cut off.
+    /// In decimal, with four digits after the point; the rest is truncated.
     fn fmt<W: fmt::Write>(&self, f: &mut fmt::Formatter<W>) -> fmt::Result {
         let sign = if self.0 < 0 { "-" } else { "" };
         let size = self.0.unsigned_abs();

@@ -1,6 +1,6 @@
-//! The program of `flexpret_cli` with a device of one's own: thread 0's port shows a ramp. By the
-//! word `loop` it closes a loop instead. It is an example to copy, so it has `answer` and
-//! `read_args` of its own.
+//! The program of `flexpret_cli` with a custom device: thread 0's port shows a ramp. With the
+//! argument `loop` it runs a closed loop instead. It is an example to copy, so it has its own
+//! `answer` and `read_args`.
 #![tactic(auto)]
 
 ghost use Rattle.std.specs.Prelude.{◌≡◌, vec_len};
@@ -17,14 +17,13 @@ use std::alloc::AllocError;
 use std::process::ExitCode;
 use std::{env, io};
 
-/// For how many cycles each word of the ramp stands.
+/// The number of cycles for which the ramp shows each word.
 const EVERY: u64 = 16;
 
-/// The word that asks for the closed loop.
+/// The argument that selects the closed loop.
 const LOOP: &str = "loop";
 
-/// Runs the command that the words ask beside the devices at the ports, and writes all that it
-/// says.
+/// Runs the command that the arguments give, with the devices at the ports, and writes its output.
 fn answer(rt: HostRuntime, words: &[String], ports: &mut Ports) -> u8
     requires { vec_len ports.old ≡ 8 }
 {
@@ -37,8 +36,8 @@ fn answer(rt: HostRuntime, words: &[String], ports: &mut Ports) -> u8
     }
 }
 
-/// The status of the command, beside a ramp at thread 0's port and a device at each other one that
-/// shows 0 until it is fed.
+/// The status of the command, run with a ramp at thread 0's port. At each other port a device shows
+/// 0 until it is fed.
 fn run(rt: HostRuntime, words: &[String]) -> Result<u8, AllocError> {
     let alloc = rt.alloc();
     let mut ports: Ports = Vec::new(alloc);
@@ -49,7 +48,7 @@ fn run(rt: HostRuntime, words: &[String]) -> Result<u8, AllocError> {
     Ok(answer(rt, words, &mut ports))
 }
 
-/// The words after the program's name, or the status where they can't be made.
+/// The arguments after the program's name, or the status if reading them fails.
 fn read_args(rt: HostRuntime) -> Result<Vec<String>, Status> {
     match env::args(&rt) {
         Ok(args) => args
@@ -61,7 +60,7 @@ fn read_args(rt: HostRuntime) -> Result<Vec<String>, Status> {
     }
 }
 
-/// The status of what the words ask: the closed loop, or a command beside the ramp.
+/// The status of the closed loop or of a command with the ramp, as the arguments select.
 fn status_of(rt: HostRuntime, words: &[String]) -> u8 {
     match words.first() {
         Some(word) if words.len() == 1 && word.as_str() == LOOP => closed_loop::status(rt).number(),

@@ -8,8 +8,8 @@ const BODY: u32 = 7;
 /// The sensor's.
 const SENSOR: u32 = 3;
 
-/// A body that is heated, and a sensor in it: one lag of first order behind another. All numbers
-/// have 16 bits behind the point.
+/// A body that is heated, and a sensor in it: two first-order lags in series. All numbers have 16
+/// fractional bits.
 #[derive(Clone, Copy)]
 pub struct Plant {
     body: i32,
@@ -20,7 +20,7 @@ impl Plant {
     /// All at rest at 0.
     pub const REST: Plant = Plant { body: 0, sensor: 0 };
 
-    /// Goes on for a step, in which it is driven by `drive` and loses `load` of that.
+    /// Does one step with the input `drive`, reduced by `load`.
     pub fn step(&mut self, drive: i32, load: i32) {
         self.body = lagging(self.body, drive.saturating_sub(load), BODY);
         self.sensor = lagging(self.sensor, self.body, SENSOR);
@@ -32,7 +32,7 @@ impl Plant {
     }
 }
 
-/// A value that goes on towards another one, by a part of what lies between them.
+/// A value moved towards another one, by a fraction of their difference.
 fn lagging(value: i32, towards: i32, bits: u32) -> i32
     requires { bits < 32 }
 {

@@ -5,11 +5,11 @@ use Rattle.fp_asm.specs.AbstractPieces.{abstract_labels}
 use Rattle.fp_asm.specs.declared.first.First.{First}
 use Rattle.fp_asm.specs.declared.second.Second.{Second}
 
--- what the first pass knows, as plain data
+-- the state of the first pass, as plain data
 abbrev pub abstract_first : First → Placed
 abstract_first f =
     record { location = f.location; labels = abstract_labels f.labels; taken = f.taken.keys }
 
--- what the second pass knows, as plain data
+-- the state of the second pass, as plain data
 abbrev pub abstract_second : Second → Written
 abstract_second s = record { location = s.location; memory = s.memory.entries }

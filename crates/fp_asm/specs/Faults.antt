@@ -6,12 +6,12 @@ use Rattle.fp_asm.specs.declared.refusal.AsmRefused.TheVariants as refused
 use Rattle.fp_asm.specs.declared.refusal.Stop.{Stop}
 use Rattle.fp_asm.specs.declared.refusal.Stop.TheVariants as stop
 
--- what follows, where there was no fault
+-- the next result, if there was no fault
 abbrev pub next : {A B E : Type 0} → Result A E → (A → Result B E) → Result B E
 next (Ok x) f = f x
 next (Err e) f = Err e
 
--- a test that must hold before what follows
+-- a test that must hold before the next result
 abbrev pub holds : {A E : Type 0} → Bool → E → Result A E → Result A E
 holds test fault rest = if test then rest else Err fault
 
@@ -30,7 +30,7 @@ abbrev pub IsFaultOf : {A : Type 0} → Result A AsmRefused → AsmRefused → T
 IsFaultOf defined (refused.Fault line code) = defined ≡ Err (refused.Fault line code)
 IsFaultOf defined refused.NoMemory = Unit {0}
 
--- what stops the code in a line: the line's first fault, or want of memory
+-- the cause that stops the code in a line: the line's first fault, or out of memory
 abbrev pub IsStopOf : {A : Type 0} → Result A AsmNo → Stop → Type 0
 IsStopOf defined (stop.Fault code) = defined ≡ Err code
 IsStopOf defined stop.NoMemory = Unit {0}

@@ -24,7 +24,7 @@ Labels = List (Text × ℕ)
 abbrev pub location_of : Labels → Text → Option ℕ
 location_of labels x = lookup (is_at (slice_cmp nat_cmp x)) labels
 
--- with one more label at a location, which must be new
+-- the labels with a new label at a location; a label that exists is a fault
 unfoldable pub with_label : ℕ → Labels → Text → Result Labels AsmNo
 with_label location labels x =
     if is_some (location_of labels x) then Err no.DoubleLabel
@@ -65,7 +65,7 @@ take_addresses taken more =
     holds (list_all is_inside more) no.OutsideMemory
     (holds (list_all (λ a. not (is_taken taken a)) more) no.Overlap (Ok (with_taken taken more)))
 
--- What the first pass knows: the location, the labels, and the addresses that were placed.
+-- The state of the first pass: the location, the labels, and the addresses of placed words.
 pub record Placed : Type 0 where
   pub location : ℕ
   pub labels : Labels

@@ -9,7 +9,7 @@ without_return line =
     then take (length line - 1) line
     else line
 
--- The lines: what stands between line feeds, where one carriage return before a line feed is
--- dropped. What follows the last line feed is a line too; where it is empty it has no effect.
+-- The lines: the parts between line feeds, without one carriage return before a line feed. The part
+-- after the last line feed is a line too; if it is empty it has no effect.
 unfoldable pub lines_of : List ℕ → List (List ℕ)
 lines_of source = between (λ b. b == 10) without_return (λ line. line) source

@@ -1,5 +1,5 @@
--- The mnemonics: the name of each, the form of its operands, and what it makes of them. An operand
--- that a row does not have is register 0 or the number 0, so a pseudo-instruction is one more row.
+-- The mnemonics: the name of each, the form of its operands, and its output. An operand that a row
+-- does not have is register 0 or the number 0, so a pseudo-instruction is only a row.
 --
 -- Source: RISC-V unprivileged manual, "RISC-V Assembly Programmer's Handbook", for the names, forms
 -- and pseudo-instructions of the instruction set; `gt`, `gth`, `du`, `wu`, `ee`, `de`, and which of
@@ -26,7 +26,7 @@ use Rattle.rv_decode.specs.declared.instruction.MulOp.TheVariants.{Mul, Mulh, Mu
 use Rattle.rv_decode.specs.declared.instruction.MulOp.TheVariants.{Div, Divu, Rem, Remu}
 use Rattle.rv_decode.specs.declared.instruction.CsrKind.TheVariants.{Rw, Rs, Rc, Rwi, Rsi, Rci}
 
--- a mnemonic: its name, what stands between its commas, and what it makes
+-- a mnemonic: its name, the form of its operands, and its output
 pub record Mnemonic : Type 0 where
   pub name : Text
   pub form : List Slot
@@ -36,7 +36,7 @@ pub record Mnemonic : Type 0 where
 abbrev pub row : Text → List Slot → Makes → Mnemonic
 row name form makes = record { name = name; form = form; makes = makes }
 
--- the forms of more than one row
+-- the forms that several rows share
 abbrev pub rd_rs1_rs2 : List Slot
 rd_rs1_rs2 = Rd ∷ Rs1 ∷ Rs2 ∷ []
 

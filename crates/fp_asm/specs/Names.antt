@@ -5,7 +5,7 @@ use Rattle.rv_decode.specs.CsrNumbers.{csr_mtvec, csr_mscratch, csr_mepc, csr_mc
 use Rattle.rv_decode.specs.CsrNumbers.{csr_slots, csr_modes, csr_dregions, csr_iregions}
 use Rattle.fp_asm.specs.Pieces.{Text}
 
--- what stands beside a name in a table
+-- the value of a name in a table
 abbrev pub value_named : List (Text × ℕ) → Text → Option ℕ
 value_named rows text = option_map (λ row. row.1) (find (λ row. bytes_eq row.0 text) rows)
 

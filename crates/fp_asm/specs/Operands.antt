@@ -11,7 +11,7 @@ pub data Target : Type 0 where
   plain : ℤ → Target
   label : Text → ℤ → Target
 
--- What the operands of a line give.
+-- The operands of a line.
 pub record Operands : Type 0 where
   pub rd : ℕ
   pub rs1 : ℕ
@@ -40,7 +40,7 @@ number_in (number n ∷ []) = Some (pos n)
 number_in (minus ∷ number n ∷ []) = Some (neg_ℤ (pos n))
 number_in _ = None
 
--- a number with an optional `-`, or a label, alone or plus or minus a number
+-- a number with an optional `-`, or a label, or a label plus or minus a number
 unfoldable pub target_in : List Piece → Option Target
 target_in (name x ∷ []) = Some (label x (pos 0))
 target_in (name x ∷ plus ∷ number n ∷ []) = Some (label x (pos n))
@@ -61,7 +61,7 @@ memory_in (minus ∷ number n ∷ opening ∷ name x ∷ closing ∷ []) =
     option_map (λ base. (neg_ℤ (pos n), base)) (register_number x)
 memory_in _ = None
 
--- with one more operand
+-- the operands with the next one added
 unfoldable pub with_operand : Slot → List Piece → Operands → Option Operands
 with_operand Rd ps o = option_map (λ r. record o { rd = r }) (register_in ps)
 with_operand Rs1 ps o = option_map (λ r. record o { rs1 = r }) (register_in ps)

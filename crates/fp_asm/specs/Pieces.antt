@@ -58,11 +58,11 @@ abbrev pub is_comma : Piece → Bool
 is_comma comma = true
 is_comma _ = false
 
--- what stands between commas
+-- the pieces between commas
 unfoldable pub commas : List Piece → List (List Piece)
 commas ps = between is_comma (λ operand. operand) (λ operand. operand) ps
 
--- the operands: what stands between commas, and none where there is nothing
+-- the operands: the pieces between commas, and none if there are no pieces
 unfoldable pub operands_of : List Piece → List (List Piece)
 operands_of [] = []
 operands_of (p ∷ ps) = commas (p ∷ ps)

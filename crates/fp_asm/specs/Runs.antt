@@ -9,7 +9,7 @@ use Rattle.fp_asm.specs.First.{is_inside}
 use Rattle.fp_asm.specs.Second.{Memory}
 use Rattle.fp_asm.specs.declared.runs.Run.{Run}
 
--- the maximal runs of rising addresses, where one of n words from a on stands before the list
+-- the maximal runs of rising addresses, with a run of n words from a on before the list
 unfoldable pub runs_from : ℕ → ℕ → List ℕ → List Run
 runs_from a n [] = record { first = a; count = n } ∷ []
 runs_from a n (b ∷ bs) =
@@ -21,7 +21,7 @@ unfoldable pub runs_of : List ℕ → List Run
 runs_of [] = []
 runs_of (a ∷ bs) = runs_from a 1 bs
 
--- the word that was written at an address, 0 where none was
+-- the word that was written at an address, 0 if none was
 abbrev pub word_at : Memory → ℕ → ℕ
 word_at memory a = unwrap_or (lookup (is_at (nat_cmp a)) memory) 0
 

@@ -21,7 +21,7 @@ use Rattle.fp_asm.specs.declared.refusal.AsmNo.{AsmNo}
 use Rattle.fp_asm.specs.declared.refusal.AsmNo.TheVariants as no
 use Rattle.fp_asm.specs.declared.refusal.AsmRefused.{AsmRefused}
 
--- what follows the labels at the head of the pieces
+-- the pieces after the labels at their head
 unfoldable pub after_labels : List Piece → List Piece
 after_labels (name x ∷ colon ∷ ps) = after_labels ps
 after_labels ps = ps
@@ -38,17 +38,16 @@ all_resolved labels [] = Ok []
 all_resolved labels (v ∷ vs) =
     next (target_word labels v) (λ a. next (all_resolved labels vs) (λ others. Ok (a ∷ others)))
 
--- a number that a word holds, with or without sign; a label is one always
+-- whether a word can hold the number, with or without sign; a label always fits
 abbrev pub fits_word : Target → Bool
 fits_word (plain n) = is_within (neg_ℤ (pos (2 ^ 31))) (pos (2 ^ 32 - 1)) n
 fits_word (label x n) = true
 
--- the way from a location to an address, modulo 2^32 and read with sign
+-- the offset from a location to an address, modulo 2^32, as a signed number
 abbrev pub way : ℕ → ℕ → ℤ
 way location to = sign_extended 32 ((to + (2 ^ 32 - location)) % 2 ^ 32)
 
--- the way that a branch or a jump takes, which has a range, to an address that must be a multiple
--- of four
+-- the offset of a branch or a jump, which must be in a range; its target must be a multiple of four
 unfoldable pub jump : ℤ → ℤ → ℕ → ℕ → Result ℤ AsmNo
 jump low high location to =
     holds (is_within low high (way location to)) no.OutOfRange
@@ -70,7 +69,7 @@ jal_word labels location o =
     next (target_word labels o.target) (λ to. next
     (jump (neg_ℤ (pos 1048576)) (pos 1048574) location to) (λ off. Ok (encoding_of (Jal o.rd off))))
 
--- the words that give a register an address
+-- the words that load an address into a register
 unfoldable pub address_words : Labels → Operands → Result (List ℕ) AsmNo
 address_words labels o =
     next (target_word labels o.target)
@@ -86,7 +85,7 @@ value_words labels values =
 abbrev pub one_word : Result ℕ AsmNo → Result (List ℕ) AsmNo
 one_word r = next r (λ w. Ok (w ∷ []))
 
--- the words by what the statement makes
+-- the words of a statement, from its kind of output
 abbrev pub words_as : Makes → Labels → ℕ → Statement → Result (List ℕ) AsmNo
 words_as (makes.Plain p) labels location s = one_word (plain_word p s.operands)
 words_as (makes.Branch op) labels location s = one_word (branch_word op labels location s.operands)
@@ -98,7 +97,7 @@ words_as makes.Words labels location s = value_words labels s.values
 words_as makes.Org labels location s = Ok []
 words_as makes.Space labels location s = Ok (replicate (size_of s) 0)
 
--- the words that a statement makes at a location
+-- the words of a statement at a location
 unfoldable pub statement_words : Labels → ℕ → Statement → Result (List ℕ) AsmNo
 statement_words labels location s = words_as s.makes labels location s
 
@@ -112,7 +111,7 @@ with_words memory location [] = memory
 with_words memory location (w ∷ ws) =
     with_words (insert_entry nat_cmp memory location w) ((location + 4) % 2 ^ 32) ws
 
--- What the second pass knows: the location, and the words so far.
+-- The state of the second pass: the location, and the words so far.
 pub record Written : Type 0 where
   pub location : ℕ
   pub memory : Memory

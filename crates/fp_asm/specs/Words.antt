@@ -17,7 +17,7 @@ use Rattle.fp_asm.specs.declared.table.Plain.TheVariants as plain
 abbrev pub is_within : ℤ → ℤ → ℤ → Bool
 is_within low high n = le_z low n && le_z n high
 
--- a value where a test holds
+-- a value if a test holds
 abbrev pub where_true : {A : Type 0} → Bool → A → Option A
 where_true test x = if test then Some x else None
 
@@ -29,17 +29,17 @@ signed_12 n = where_true (is_within (neg_ℤ (pos 2048)) (pos 2047) n) n
 unfoldable pub up_to : ℕ → ℤ → Option ℕ
 up_to most n = where_true (is_within (pos 0) (pos most) n) (nat_abs n)
 
--- a value made of a number, if there is one
+-- a value computed from a number, if there is one
 abbrev pub with_number : {A B : Type 0} → Option A → (A → B) → Option B
 with_number None f = None
 with_number (Some n) f = Some (f n)
 
--- a value made of two, if there are both
+-- a value computed from two others, if both are there
 abbrev pub with_both : {A B C : Type 0} → Option A → Option B → (A → B → C) → Option C
 with_both (Some a) (Some b) f = Some (f a b)
 with_both _ _ f = None
 
--- The instruction of a row that names no address. None where a number is out of range.
+-- The instruction of a row without an address. None if a number is out of range.
 unfoldable pub instruction : Plain → Operands → Option Ins
 instruction (plain.Op op) o = Some (Op op o.rd o.rs1 o.rs2)
 instruction (plain.Muldiv op) o = Some (Muldiv op o.rd o.rs1 o.rs2)
@@ -69,7 +69,7 @@ instruction plain.FenceI o = Some (Fence 0x0000100f)
 instruction plain.Not o = Some (OpImm Xori o.rd o.rs1 (negsuc 0))
 instruction plain.Ret o = Some (Jalr 0 1 (pos 0))
 
--- a word in two parts: the upper twenty bits, so that the rest, read with sign, is added to them
+-- a word in two parts: the upper twenty bits, chosen so that the signed rest is added to them
 abbrev pub upper : ℕ → ℕ
 upper v = (v + 2048) / 4096 % 2 ^ 20
 
@@ -77,11 +77,11 @@ upper v = (v + 2048) / 4096 % 2 ^ 20
 abbrev pub rest : ℕ → ℤ
 rest v = sign_extended 12 (v % 4096)
 
--- the instructions that give a register the word v, always two
+-- the two instructions that load the word v into a register
 unfoldable pub halves : ℕ → ℕ → List Ins
 halves rd v = Lui rd (upper v) ∷ OpImm Addi rd rd (rest v) ∷ []
 
--- the same in as few as serve: one where the word, read with sign, has twelve bits, or where its
+-- the same with as few instructions as possible: one if the signed word has twelve bits, or if its
 -- low twelve bits are 0
 unfoldable pub load_instructions : ℕ → ℕ → List Ins
 load_instructions rd v =

@@ -69,8 +69,8 @@ fn take(taken: &mut BTreeSet<u32>, location: u32, n: u32) -> Result<(), AllocErr
 ///
 /// # Errors
 ///
-/// [`AsmNo::OutsideMemory`] where a word is outside the scratchpads, and then [`AsmNo::Overlap`]
-/// where there is a word at one of the locations; or memory ran out.
+/// [`AsmNo::OutsideMemory`] if a word is outside the scratchpads, and then [`AsmNo::Overlap`] if
+/// there is a word at one of the locations; or out of memory.
 #[tactic(auto, unfolding(crate::specs::First::take_addresses))]
 pub(crate) fn take_addresses(taken: &mut BTreeSet<u32>, location: u32, n: u32) -> Result<(), Stop>
     ensures ok { OnOk result (take_addresses_of taken.old.keys (addresses location n)

@@ -21,7 +21,7 @@ pub const MOST_SOURCE_BYTES: usize = 1_048_576;
 /// How many runs of words an image may have.
 const MOST_SEGMENTS: usize = fp_image::MOST_SEGMENTS as usize;
 
-// The image of the words at the addresses that were taken, of at most MOST_SEGMENTS runs.
+// The image of the words at the placed addresses, with at most MOST_SEGMENTS runs.
 #[tactic(auto, unfolding(crate::specs::Source::segments_at))]
 fn image_at(
     alloc: Global,
@@ -64,9 +64,9 @@ fn assemble_lines(alloc: Global, lines: &[&[u8]]) -> Result<Image, AsmRefused>
 ///
 /// # Errors
 ///
-/// The first fault of the source, in this order: a source that is too long; the faults of a first
-/// pass over the lines, which knows locations and labels; those of a second pass, which knows all
-/// labels; more segments than an image may have. `NoMemory` if memory ran out.
+/// The first fault of the source, in this order: a source that is too long; the faults of the first
+/// pass, which computes locations and labels; the faults of the second pass, which resolves labels;
+/// more segments than an image may have. `NoMemory` if memory ran out.
 #[tactic(auto, unfolding(crate::specs::Source::assembly_of))]
 pub fn assemble(alloc: Global, source: &[u8]) -> Result<Image, AsmRefused>
     ensures image { IfOk result (λ image. assembly_of source.now ≡ Ok image) }

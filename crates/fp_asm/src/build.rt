@@ -1,4 +1,4 @@
-//! The image of what was placed and written.
+//! The image of the placed and written words.
 
 ghost use Rattle.std.specs.Prelude.{◌≡◌, ◌<◌, ◌+◌, ◌*◌, ◌^◌, IfOk, map, length};
 ghost use Rattle.region_guard.specs.MemoryMap.{large_size};
@@ -21,7 +21,7 @@ pub(crate) fn rising(alloc: Global, taken: &BTreeSet<u32>) -> Result<Vec<u32>, A
     taken.iter().copied().collect(alloc)
 }
 
-// The word that was written at an address, 0 where none was.
+// The word that was written at an address, 0 if none was.
 fn word_at(memory: &BTreeMap<u32, u32>, a: u32) -> u32
     ensures { result ≡ word_at_of memory.now.entries a }
 {

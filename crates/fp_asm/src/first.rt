@@ -16,7 +16,7 @@ use super::statement::statement_after;
 use std::alloc::Global;
 use std::collections::{BTreeMap, BTreeSet};
 
-/// What the first pass knows after some lines.
+/// The state of the first pass after some lines.
 #[derive(Drop)]
 pub(crate) struct First<'a> {
     /// The address at which the next word is placed.
@@ -77,8 +77,8 @@ impl<'a> First<'a> {
     ///
     /// # Errors
     ///
-    /// The first fault and the number of its line: one that the line has by itself, a label that
-    /// was there before, or a word outside the scratchpads or where there is one. Or out of memory.
+    /// The first fault and the number of its line: a fault of the line itself, a label that exists
+    /// already, or a word that is outside the scratchpads or overlaps another. Or out of memory.
     pub(crate) fn pass(&mut self, alloc: Global, lines: &[&'a [u8]]) -> Result<(), AsmRefused>
         requires short { All (λ l. length l.now < 2 ^ 32) lines.now }
         requires few { length lines.now < 2 ^ 31 }

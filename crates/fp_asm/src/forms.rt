@@ -125,7 +125,7 @@ fn memory_in(pieces: &[Piece]) -> Option<(i64, u8)>
     }
 }
 
-/// The operands with one more.
+/// The operands with the next one added.
 #[tactic(auto, unfolding(crate::specs::Operands::with_operand))]
 fn fill<'a>(slot: Slot, pieces: &[Piece<'a>], operands: &Operands<'a>) -> Option<Operands<'a>>
     requires { HasRegisters (abstract_operands operands.now) }
@@ -175,7 +175,7 @@ fn fill<'a>(slot: Slot, pieces: &[Piece<'a>], operands: &Operands<'a>) -> Option
     }
 }
 
-/// The operands with one more for each slot of a form.
+/// The operands with one added for each slot of a form.
 #[tactic(auto, using(crate::proofs::Filling::fill_short), unfolding(crate::proofs::Opened::filled))]
 pub(crate) fn fill_all<'a>(
     form: &[Slot],

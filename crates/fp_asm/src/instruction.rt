@@ -177,7 +177,7 @@ fn csr_imm(op: CsrKind, operands: &Operands) -> Option<Ins>
     })
 }
 
-/// The instruction of a row that names no address, where each number is in its range.
+/// The instruction of a row without an address, if each number is in its range.
 #[tactic(auto, unfolding(crate::specs::Words::instruction))]
 pub(crate) fn instruction(plain: Plain, operands: &Operands) -> Option<Ins>
     requires { HasRegisters (abstract_operands operands.now) }
@@ -248,7 +248,7 @@ fn rest(v: u32) -> i32
     if low < 2048 { low } else { low - 4096 }
 }
 
-/// The words of the two instructions that give a register the word `v`.
+/// The words of the two instructions that load the word `v` into a register.
 ///
 /// # Errors
 ///
@@ -268,7 +268,7 @@ pub(crate) fn halves(alloc: Global, rd: u8, v: u32) -> Result<Vec<u32>, AllocErr
     Ok(vec![in alloc; lui, addi]?)
 }
 
-/// The words of the instructions that give a register the word `v`, as few as serve.
+/// The words of the instructions that load the word `v` into a register, as few as possible.
 ///
 /// # Errors
 ///
@@ -295,7 +295,7 @@ pub(crate) fn load_words(alloc: Global, rd: u8, v: u32) -> Result<Vec<u32>, Allo
     halves(alloc, rd, v)
 }
 
-/// How many instructions give a register the word `v`.
+/// The number of instructions that load the word `v` into a register.
 #[tactic(auto, unfolding(crate::specs::Words::load_instructions, crate::specs::Words::halves))]
 pub(crate) fn load_size(v: u32) -> u32
     ensures size { result ≡ length (load_instructions 0 v) }

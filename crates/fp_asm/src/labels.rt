@@ -12,7 +12,7 @@ use super::pieces::Piece;
 use super::refusal::{AsmNo, Stop};
 use std::collections::BTreeMap;
 
-/// The locations of labels, whose names are slices of the source.
+/// The locations of labels; their names are slices of the source.
 pub(crate) type Labels<'a> = BTreeMap<&'a [u8], u32>;
 
 #[tactic(auto, using(crate::proofs::LabelByLabel::added))]
@@ -44,7 +44,7 @@ fn label_at<'a>(pieces: &[Piece<'a>]) -> Option<&'a [u8]>
     }
 }
 
-// The label at an index of the pieces, where there is one.
+// The label at an index of the pieces, if there is one.
 #[tactic(auto, using(crate::proofs::LabelByLabel::rest_all, crate::proofs::LabelByLabel::two_more))]
 fn label_from<'a>(pieces: &[Piece<'a>], n: usize) -> Option<&'a [u8]>
     requires { n ≤ length pieces.now }
@@ -56,11 +56,11 @@ fn label_from<'a>(pieces: &[Piece<'a>], n: usize) -> Option<&'a [u8]>
     label_at(&pieces[n..])
 }
 
-/// Adds the labels at the head of the pieces, and tells how many pieces they are.
+/// Adds the labels at the head of the pieces, and returns the number of their pieces.
 ///
 /// # Errors
 ///
-/// [`AsmNo::DoubleLabel`] where one of them was there before; or memory ran out.
+/// [`AsmNo::DoubleLabel`] if one of them exists already; or out of memory.
 #[tactic(auto, using(crate::proofs::LabelByLabel::labelling))]
 pub(crate) fn add_labels<'a>(
     labels: &mut Labels<'a>,

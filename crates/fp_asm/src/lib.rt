@@ -1,8 +1,8 @@
 //! The assembler: from a source text to an image, or to the first fault with its line.
 //!
-//! [`assemble`] makes two passes over the lines. The first knows the locations of labels and of
-//! what each line places, and the second makes the words. The mnemonics are one table of rows, and
-//! the words are those of `rv_decode`.
+//! [`assemble`] makes two passes over the lines. The first computes the locations of labels and of
+//! each line's words, and the second makes the words. The mnemonics are one table of rows, and the
+//! words are those of `rv_decode`.
 
 #![tactic(auto)]
 

@@ -1,4 +1,4 @@
-//! What the operands of a line give.
+//! The operands of a line.
 
 /// An address or a word: a number, or a label plus a number.
 #[derive(Clone, Copy)]
@@ -9,7 +9,7 @@ pub(crate) enum Target<'a> {
     Label { name: &'a [u8], plus: i64 },
 }
 
-/// The operands of a line. One that is not given is register 0 or the number 0.
+/// The operands of a line. A missing one is register 0 or the number 0.
 #[derive(Clone, Copy)]
 pub(crate) struct Operands<'a> {
     /// The register that is written, 0 to 31.

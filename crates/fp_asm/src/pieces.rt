@@ -1,4 +1,4 @@
-//! The tokens of a line with their texts, and what stands between commas.
+//! The tokens of a line with their texts, and the pieces between commas.
 
 ghost use Rattle.std.specs.Prelude.{◌≡◌, ◌<◌, ◌≤◌, ◌+◌, ◌^◌, IfOk, IfErr, Ok, map, length, All};
 ghost use Rattle.fp_lex.specs.Tokens.{tokens_of};
@@ -96,7 +96,7 @@ fn pieces_at<'a>(
 ///
 /// # Errors
 ///
-/// [`AsmNo::Lex`] where the line isn't one of tokens; or memory ran out.
+/// [`AsmNo::Lex`] if the line isn't a sequence of tokens; or out of memory.
 pub(crate) fn pieces<'a>(alloc: Global, line: &'a [u8]) -> Result<Vec<Piece<'a>>, Stop>
     requires { length line.now < 2 ^ 32 }
     ensures pieces { IfOk result
@@ -135,7 +135,7 @@ fn between_commas<'p, 'a>(
     Ok(list)
 }
 
-/// The operands: what stands between commas, and none where there is nothing.
+/// The operands: the pieces between commas, and none if there are no pieces.
 ///
 /// # Errors
 ///

@@ -5,23 +5,23 @@ ghost use Rattle.std.specs.Prelude.{◌≡◌};
 use std::alloc::{AllocError, AllocFailed};
 use thiserror::Error;
 
-/// What is wrong with a source. The numbers are shown to the user.
+/// The faults of a source. The numbers are shown to the user.
 #[derive(Clone, Copy, Debug, PartialEq, Eq, Error)]
 pub enum AsmNo {
     /// More than 1,048,576 bytes.
     #[error("the source is too long")]
     TooLong = 1,
-    /// The line isn't one of tokens: a bad byte, a bad number, or more than 64 tokens.
+    /// The line isn't a sequence of tokens: a bad byte, a bad number, or more than 64 tokens.
     #[error("a bad byte, a bad number or too many tokens")]
     Lex = 2,
     /// The name before the operands is no mnemonic.
     #[error("an unknown name")]
     UnknownName = 3,
-    /// The operands' number or form is wrong, one is no name of a register or of a CSR, or what
-    /// follows the labels begins with no name.
+    /// The operands' number or form is wrong, an operand is no name of a register or of a CSR, or
+    /// the text after the labels doesn't begin with a name.
     #[error("wrong operands")]
     Operands = 4,
-    /// A number or a way is outside its range.
+    /// A number, or the offset of a branch or jump, is outside its range.
     #[error("a number out of range")]
     OutOfRange = 5,
     /// A label that was there before.
@@ -36,7 +36,7 @@ pub enum AsmNo {
     /// A word outside the scratchpads.
     #[error("a word outside the scratchpads")]
     OutsideMemory = 9,
-    /// A word where one was placed before.
+    /// A word at the address of another one.
     #[error("a word where there is one already")]
     Overlap = 10,
     /// More than 16 runs of placed words.
@@ -55,7 +55,7 @@ pub enum AsmRefused {
     NoMemory,
 }
 
-/// What stops the work on a line.
+/// The cause that stops the work on a line.
 #[derive(Clone, Copy)]
 pub(crate) enum Stop {
     /// The line's first fault.

@@ -15,7 +15,7 @@ pub(crate) struct Run {
     pub(crate) count: u32,
 }
 
-// The runs, the first of which begins at an address.
+// The runs; the first one begins at an address.
 fn runs_after(alloc: Global, start: u32, others: &[u32]) -> Result<Vec<Run>, AllocError>
     requires { length others.now < 2 ^ 30 }
     ensures { IfOk result (λ runs. runs_from start 1 others.now ≡ runs.items) }

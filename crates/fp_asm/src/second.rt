@@ -20,7 +20,7 @@ use super::words::words_of;
 use std::alloc::Global;
 use std::collections::BTreeMap;
 
-/// What the second pass knows after some lines: the location, and the words by address.
+/// The state of the second pass after some lines: the location, and the words by address.
 #[derive(Drop)]
 pub(crate) struct Second {
     /// The address at which the next word is placed.
@@ -95,8 +95,8 @@ impl Second {
     ///
     /// # Errors
     ///
-    /// The first fault and the number of its line: one that the line has by itself, a label that is
-    /// nowhere, a jump to an address that is no multiple of four, or a number or a way outside its
+    /// The first fault and the number of its line: a fault of the line itself, an undefined label,
+    /// a jump to an address that is no multiple of four, or a number or an offset outside its
     /// range. Or out of memory.
     pub(crate) fn pass(
         &mut self,

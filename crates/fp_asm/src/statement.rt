@@ -20,12 +20,12 @@ use super::table::{Makes, Row, mnemonic};
 use region_guard::SMALL_SIZE;
 use std::alloc::{AllocError, Global};
 
-/// What a mnemonic makes, with its operands. The values are those of `.word`.
+/// The output of a mnemonic, with its operands. The values are those of `.word`.
 #[derive(Drop)]
 pub(crate) struct Statement<'a> {
-    /// What the mnemonic makes.
+    /// The mnemonic's kind of output.
     pub(crate) makes: Makes,
-    /// The operands, but for the values of `.word`.
+    /// The operands, except the values of `.word`.
     pub(crate) operands: Operands<'a>,
     /// The values of `.word`; none for another mnemonic.
     pub(crate) values: Vec<Target<'a>>,
@@ -37,7 +37,7 @@ fn is_words(makes: Makes) -> bool
     matches!(makes, Makes::Words)
 }
 
-// One operand or more, each as a target.
+// One or more operands, each as a target.
 #[tactic(auto, unfolding(crate::specs::Statements::some_targets))]
 fn some_targets<'a>(
     alloc: Global,
@@ -55,7 +55,7 @@ fn some_targets<'a>(
     }
 }
 
-// The statement of a row with its operands, where their number and form are right.
+// The statement of a row with its operands, if their number and form are right.
 #[tactic(auto, unfolding(crate::specs::Statements::statement_in))]
 fn statement_in<'a>(
     alloc: Global,
@@ -105,7 +105,7 @@ fn aligned_to(most: u32, number: i64) -> Result<(), AsmNo>
     Ok(())
 }
 
-// The checks of a number that come before any label is known.
+// The checks of a number that precede the resolution of labels.
 #[tactic(auto, unfolding(crate::specs::Statements::statement_check))]
 fn check(statement: &Statement) -> Result<(), AsmNo>
     ensures { result ≡ statement_check (abstract_statement statement.now) }
@@ -125,7 +125,7 @@ fn check(statement: &Statement) -> Result<(), AsmNo>
     }
 }
 
-// The statement of a name and what follows it.
+// The statement from a name and the pieces after it.
 #[tactic(auto, unfolding(crate::specs::Statements::statement_named))]
 fn named<'a>(alloc: Global, text: &[u8], pieces: &[Piece<'a>]) -> Result<Statement<'a>, Stop>
     ensures statement { IfOk result
@@ -152,12 +152,12 @@ fn named<'a>(alloc: Global, text: &[u8], pieces: &[Piece<'a>]) -> Result<Stateme
     Ok(statement)
 }
 
-/// The statement that follows the labels, where there is one.
+/// The statement after the labels, if there is one.
 ///
 /// # Errors
 ///
-/// The fault of the name, of the operands, or of a number that a directive or LI takes; or memory
-/// ran out.
+/// The fault of the name, of the operands, or of a number that a directive or LI takes; or out of
+/// memory.
 #[tactic(auto, unfolding(crate::specs::Statements::statement_of))]
 pub(crate) fn statement_after<'a>(
     alloc: Global,

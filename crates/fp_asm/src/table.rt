@@ -1,4 +1,4 @@
-//! The mnemonics: the name of each, the form of its operands, and what it makes of them.
+//! The mnemonics: the name of each, the form of its operands, and its kind of output.
 
 ghost use Rattle.std.specs.Prelude.{◌≡◌, find, map, option_map, take, drop};
 ghost use Rattle.std.specs.Option.{option_copied};
@@ -8,7 +8,7 @@ ghost use Rattle.fp_asm.specs.AbstractPieces.{abstract_mnemonic};
 
 use rv_decode::{AluOp, BranchOp, CsrKind, ImmOp, LoadOp, MulOp, ShiftOp, StoreOp};
 
-/// What an operand is, and where it goes.
+/// The kind of an operand, and the field that it sets.
 #[derive(Clone, Copy)]
 pub(crate) enum Slot {
     /// A register that is written.
@@ -27,7 +27,7 @@ pub(crate) enum Slot {
     Value,
 }
 
-/// An instruction whose operands are registers and numbers alone.
+/// An instruction whose operands are only registers and numbers.
 #[derive(Clone, Copy)]
 pub(crate) enum Plain {
     /// An operation on two registers.
@@ -80,10 +80,10 @@ pub(crate) enum Plain {
     Ret,
 }
 
-/// What a mnemonic makes of its operands.
+/// The output of a mnemonic.
 #[derive(Clone, Copy)]
 pub(crate) enum Makes {
-    /// An instruction whose operands are registers and numbers alone.
+    /// An instruction whose operands are only registers and numbers.
     Plain(Plain),
     /// A conditional branch to an address.
     Branch(BranchOp),
@@ -102,14 +102,14 @@ pub(crate) enum Makes {
 }
 
 /// A row of the table. An operand that it does not have is register 0 or the number 0. `.word`
-/// takes one operand or more of its form.
+/// takes one or more operands of its form.
 #[derive(Clone, Copy)]
 pub(crate) struct Row {
     /// The mnemonic, as a source has it.
     pub(crate) name: &'static [u8],
-    /// What stands between the commas, from left to right.
+    /// The operands between the commas, from left to right.
     pub(crate) form: &'static [Slot],
-    /// What it makes.
+    /// Its output.
     pub(crate) makes: Makes,
 }
 

@@ -26,7 +26,7 @@ fn location_of(labels: &Labels, name: &[u8]) -> Option<u32>
 ///
 /// # Errors
 ///
-/// [`AsmNo::NoLabel`] where the label is nowhere.
+/// [`AsmNo::NoLabel`] if the label is undefined.
 #[tactic(auto, unfolding(crate::specs::Second::target_word))]
 pub(crate) fn resolve(labels: &Labels, target: &Target) -> Result<u32, AsmNo>
     ensures { result ≡ target_word (abstract_labels labels.now) (abstract_target target.now) }
@@ -44,7 +44,7 @@ pub(crate) fn resolve(labels: &Labels, target: &Target) -> Result<u32, AsmNo>
 ///
 /// # Errors
 ///
-/// [`AsmNo::NoLabel`] where a label is nowhere; or memory ran out.
+/// [`AsmNo::NoLabel`] if a label is undefined; or out of memory.
 pub(crate) fn resolve_all(
     alloc: Global,
     labels: &Labels,
@@ -64,7 +64,7 @@ pub(crate) fn resolve_all(
     Ok(list)
 }
 
-/// Whether a word holds the target.
+/// Whether a word can hold the target.
 pub(crate) fn fits_word(target: &Target) -> bool
     ensures { result ≡ fits_word_of (abstract_target target.now) }
 {
@@ -80,7 +80,7 @@ fn each_fits(targets: &[Target]) -> bool
     targets.iter().all(|target| fits_word(target))
 }
 
-/// Whether a word holds each target.
+/// Whether a word can hold each target.
 #[tactic(auto, using(crate::proofs::TargetByTarget::all_fit))]
 pub(crate) fn all_fit(targets: &[Target]) -> bool
     ensures { result ≡ list_all fits_word_of (map abstract_target targets.now) }

@@ -1,4 +1,4 @@
-//! The words that a statement makes.
+//! The words of a statement.
 
 ghost use Rattle.std.specs.Prelude.{◌≡◌, ◌≤◌, ◌<◌, ◌%◌, ◌^◌, IfOk, IfErr, Ok, Err, map};
 ghost use Rattle.std.specs.Prelude.{length, pos, neg_ℤ, ◌∷◌, [], replicate, ◌/◌, nat_abs, ◌≤ℤ◌};
@@ -33,7 +33,8 @@ fn way(location: u32, to: u32) -> i32
     to.wrapping_sub(location).cast_signed()
 }
 
-// The way from a location to an address, which must be in a range and lead to a multiple of four.
+// The offset from a location to an address. It must be in a range, and the address a multiple of
+// four.
 #[tactic(auto, using(crate::proofs::Ways::way_even), unfolding(crate::specs::Second::jump))]
 fn jump(low: i32, high: i32, location: u32, to: u32) -> Result<i32, AsmNo>
     requires { location % 4 ≡ 0 }
@@ -129,7 +130,7 @@ fn values(alloc: Global, labels: &Labels, targets: &[Target]) -> Result<Vec<u32>
     Ok(words)
 }
 
-// A word as a list, where there is one.
+// A word as a list, if there is one.
 fn one_word(alloc: Global, word: Result<u32, AsmNo>) -> Result<Vec<u32>, Stop>
     ensures words { IfOk result (λ words. one_word_of word ≡ Ok words.items) }
     ensures refused { IfErr result (IsStopOf (one_word_of word)) }
@@ -138,12 +139,12 @@ fn one_word(alloc: Global, word: Result<u32, AsmNo>) -> Result<Vec<u32>, Stop>
     Ok(vec![in alloc; word]?)
 }
 
-/// The words that a statement makes at a location.
+/// The words of a statement at a location.
 ///
 /// # Errors
 ///
-/// A label that is nowhere, a branch or jump to an address that is no multiple of four, or a number
-/// or a way outside its range; or memory ran out.
+/// An undefined label, a branch or jump to an address that is no multiple of four, or a number or
+/// an offset outside its range; or out of memory.
 #[tactic(auto, unfolding(crate::specs::Second::statement_words))]
 pub(crate) fn words_of(
     alloc: Global,

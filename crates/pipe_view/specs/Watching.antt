@@ -1,5 +1,5 @@
--- What is seen of one cycle of the machine: what it holds at the cycle's start, the turns in the
--- stages, and the line that the picked turn leaves.
+-- The observation of one cycle of the machine: its state at the cycle's start, the turns in the
+-- stages, and the line of the picked turn's event.
 use Rattle.std.specs.Prelude.{ℕ, ◌≡◌, ◌+◌, ◌-◌, ◌<◌, ◌%◌, ◌==◌, ◌||◌, not, nat_lt}
 use Rattle.std.specs.Prelude.{Bool, true, false, List, [], ◌∷◌, map, slice_index_or}
 use Rattle.std.specs.Prelude.{Option, Some, None, option_map, length, slice_range, codes}
@@ -27,15 +27,15 @@ use Rattle.pipe_view.specs.declared.cycle.CycleStart.{CycleStart}
 use Rattle.pipe_view.specs.declared.watch.Watch.{Watch}
 use Rattle.core_model.specs.Cycles.{cycles_to_w}
 
--- whether a thread's mode is asleep at the start of a machine's next cycle, or the moment until
--- which it sleeps lies ahead
+-- whether a thread's mode is asleep at the start of a machine's next cycle, or its sleep moment is
+-- in the future
 abbrev pub is_asleep : Machine → ℕ → Bool
 is_asleep m k =
     mode_of m.units.sched.modes k % 2 == 1
     || nat_lt (time m.units.clock m.at) (slice_index_or m.units.sched.sleep k 0)
 
--- what is seen of a thread there: whether it is asleep, its armed moment, its port's latch, and
--- what an issue of the cycle finds at the port
+-- the observed state of a thread: whether it is asleep, its armed moment, its port's latch, and the
+-- word that an issue of the cycle reads at the port
 abbrev pub thread_state : Machine → List (Option Row) → ℕ → ThreadState
 thread_state m rows k =
     record {
@@ -45,7 +45,7 @@ thread_state m rows k =
       input = port_read (slice_index_or m.unplugs k None) (row_at rows k) m.at;
     }
 
--- what is seen of the machine at the start of its next cycle
+-- the observed state of the machine at the start of its next cycle
 abbrev pub start_of : Machine → List (Option Row) → CycleStart
 start_of m rows =
     record {
@@ -89,7 +89,7 @@ is_trapped_turn _ = false
 abbrev pub effect_column : ℕ
 effect_column = 29
 
--- the text of what became of a turn, by the line that it leaves
+-- the text of a turn's outcome, from its line
 abbrev pub IsOutcome : Held Stored → Option (List ℕ) → List ℕ → Type 0
 IsOutcome Bubble line text = text ≡ []
 IsOutcome (Flushed k) line text = text ≡ codes "flushed"
@@ -98,15 +98,13 @@ IsOutcome (Issue k x) (Some line) text =
     IsCharBoundary line effect_column →
     text ≡ trim_end (slice_range line effect_column (length line))
 
--- the line of the picked turn's event is that of a trace, and there is one where the turn has an
--- event
+-- the line of the picked turn's event is its trace line; there is one if the turn has an event
 abbrev pub HasLine : Cycle → Type 0
 HasLine cycle =
     option_map (λ text. text.bytes) cycle.line
     ≡ option_map line_text (retired_event cycle.start.cycle (picked_turn cycle))
 
--- what is kept once one more cycle was seen, which began so, and at whose end this turn came out of
--- M
+-- the watch after the next cycle, with this start, and with this turn out of M at its end
 abbrev pub seen_after : Watch → CycleStart → Held Stored → Watch
 seen_after w start turn =
     record {

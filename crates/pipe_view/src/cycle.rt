@@ -1,4 +1,4 @@
-//! What is seen of one cycle.
+//! The observation of one cycle.
 
 ghost use Rattle.std.specs.Prelude.{◌≡◌, option_map};
 ghost use Rattle.pipe_view.specs.Watching.{IsOutcome, is_donated, is_flushed};
@@ -9,23 +9,23 @@ use pipeline_core::{Held, Stored};
 use rv_exec::Effect;
 use slot_table::Turn;
 
-/// Where the effect begins in a line of a trace.
+/// The column of the effect in a trace line.
 const EFFECT_COLUMN: usize = 29;
 
-/// What a thread's mode, timer and port are at the start of a cycle.
+/// The state of a thread's mode, timer and port at the start of a cycle.
 #[derive(Clone, Copy)]
 pub struct ThreadState {
-    /// Whether its mode is asleep, or the moment until which it sleeps lies ahead.
+    /// Whether its mode is asleep, or its sleep moment is in the future.
     pub asleep: bool,
     /// The armed moment, in nanoseconds, if there is one.
     pub armed: Option<u64>,
-    /// What its port's latch holds, if it has a port.
+    /// Its port's latch, if it has a port.
     pub latch: Option<u32>,
-    /// The word that an issue of the cycle finds at its port: ones where there is none.
+    /// The word that an issue of the cycle reads at its port; all ones if there is no port.
     pub input: u32,
 }
 
-/// What the machine holds at the start of a cycle.
+/// The observed state of the machine at the start of a cycle.
 #[derive(Clone, Copy)]
 pub struct CycleStart {
     /// The number of the cycle.
@@ -40,15 +40,15 @@ pub struct CycleStart {
     pub threads: [ThreadState; 8],
 }
 
-/// A cycle, once all is known of the turn that it picked.
+/// A cycle, complete with the outcome of the turn that it picked.
 #[derive(Drop)]
 pub struct Cycle {
-    /// What the machine held at its start.
+    /// The state at its start.
     pub start: CycleStart,
-    /// The turns that stood in F, D, E, M and W during it. Each is shown as it came out of M, so a
-    /// turn that is flushed in F or D is a flushed one in every stage.
+    /// The turns that were in F, D, E, M and W during it. Each is shown as it came out of M, so a
+    /// turn that is flushed in F or D is shown as flushed in every stage.
     pub turns: [Held<Stored>; 5],
-    /// The line that the turn in F leaves in its thread's trace, if it leaves one.
+    /// The line of the turn in F in its thread's trace, if it has one.
     pub line: Option<ArrayString<96>>,
 }
 
@@ -100,8 +100,8 @@ impl Cycle {
         }
     }
 
-    /// What became of the picked turn: the effect as the trace words it, `held` where it stays at a
-    /// DU and leaves no line, `flushed` where it is lost; nothing where nobody was picked.
+    /// The outcome of the picked turn: the effect as in the trace; `held` if it waits at a DU and
+    /// has no line; `flushed` if it is lost; empty if no thread was picked.
     pub fn outcome(&self) -> &str
         ensures { IsOutcome (picked_turn self.now)
             (option_map (λ text. text.bytes) self.now.line) result.now }

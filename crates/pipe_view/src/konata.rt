@@ -66,7 +66,7 @@ impl Writing for Konata {
 }
 
 impl Konata {
-    /// The turn with the next number, where somebody was picked.
+    /// The turn with the next number, if a thread was picked.
     fn shown(&mut self, turn: &Held<Stored>) -> Option<Shown> {
         let thread = thread_of(turn)?;
         let id = self.count;
@@ -78,8 +78,8 @@ impl Konata {
         })
     }
 
-    /// Moves the turns on by a stage, with the next one in F. The answer is the one that was in W,
-    /// and the one that was in D where it is flushed.
+    /// Moves the turns by one stage, with the next one in F. Returns the turn that was in W, and
+    /// the turn that was in D if it is flushed.
     fn advance(&mut self, next: Option<Shown>) -> (Option<Shown>, Option<Shown>) {
         let [in_f, in_d, in_e, in_m, in_w] = self.stages;
         let (out_of_d, lost) = behind_d(in_d);
@@ -88,7 +88,7 @@ impl Konata {
     }
 }
 
-/// The turn that comes out of D, and the one that is flushed and so ends there, of the one in D.
+/// From the turn in D: the turn that leaves D, and the turn that is flushed and so ends there.
 fn behind_d(turn: Option<Shown>) -> (Option<Shown>, Option<Shown>) {
     match turn {
         Some(shown) if shown.is_flushed => (None, turn),

@@ -1,9 +1,9 @@
-//! What is seen of the machine cycle by cycle, and four forms that show it: lines of text, the log
+//! The observation of the machine cycle by cycle, and four output formats: lines of text, the log
 //! of the Konata viewer, a value change dump, and a picture.
 //!
-//! The contracts say what is seen: what the machine holds at a cycle's start, the turns in the
-//! stages, and the line that the picked turn leaves. A watched cycle is one cycle of the machine.
-//! Of the forms they promise that each function is safe and ends, and nothing of the texts.
+//! The contracts state the observation: the machine's state at a cycle's start, the turns in the
+//! stages, and the line of the picked turn. A watched cycle is one cycle of the machine. For the
+//! formats only safety and termination are proved; the texts are not specified.
 #![tactic(auto)]
 
 mod cycle;

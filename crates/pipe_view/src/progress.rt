@@ -1,9 +1,9 @@
 //! How far a run is.
 
-/// After how many cycles each it is told how far a run is.
+/// The number of cycles between two reports of progress.
 const EACH: u64 = 1 << 20;
 
-/// Who is told how far a run is.
+/// The receiver of progress reports.
 pub trait Progress {
     /// So many cycles are done.
     fn tell(&mut self, done: u64);
@@ -12,7 +12,7 @@ pub trait Progress {
     fn begin_window(&mut self);
 }
 
-/// Tells that so many cycles are done, where it is time to.
+/// Reports the number of cycles done, if a report is due.
 pub(crate) fn tell_at<P: Progress>(progress: &mut P, done: u64) {
     if done % EACH == 0 {
         progress.tell(done);

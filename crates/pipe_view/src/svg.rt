@@ -9,13 +9,13 @@ use crate::window::Window;
 use std::io;
 use std::io::Write;
 
-/// Where the columns begin, in pixels.
+/// The left edge of the columns, in pixels.
 const LEFT: u64 = 44;
 
 /// The width of a column.
 const COLUMN: u64 = 12;
 
-/// The room that a cycle and its time take above their column, with up to 13 digits.
+/// The width of a cycle and its time above their column, with up to 13 digits.
 const TIME_WIDTH: u64 = 84;
 
 /// The least width, which the legend needs.
@@ -48,12 +48,12 @@ const FRAME: &[u8] = b"<style>\ntext{font:10px monospace;fill:#222}\nrect{stroke
 /// A picture that is written cycle by cycle.
 #[derive(Drop)]
 pub struct Svg {
-    /// Where the next column begins.
+    /// The left edge of the next column.
     x: u64,
 }
 
 impl Writing for Svg {
-    /// Begins a picture as wide as its cycles want, with the names of its rows and its legend.
+    /// Begins a picture as wide as its cycles need, with the names of its rows and its legend.
     fn begin<W: Write>(out: &mut W, window: &Window) -> io::Result<Svg> {
         let columns = COLUMN.saturating_mul(window.len());
         let width = LEAST_WIDTH.max(columns.saturating_add(LEFT + TIME_WIDTH));
@@ -84,7 +84,7 @@ impl Writing for Svg {
     }
 }
 
-/// Where a thread's row begins, under those of the cycles, the times and the slots.
+/// The top of a thread's row, under the rows of the cycles, the times and the slots.
 fn row_of(thread: u8) -> u64
     ensures { result ≤ 4642 }
 {
@@ -137,8 +137,8 @@ fn class_of(cycle: &Cycle) -> &'static str {
     }
 }
 
-/// Puts the cell of the picked turn, with its text as a tooltip. Of the characters that a text of
-/// XML may not have, none stands in it.
+/// Puts the cell of the picked turn, with its text as a tooltip. The text contains no character
+/// that XML forbids.
 fn put_cell<W: Write>(out: &mut W, x: u64, cycle: &Cycle) -> io::Result<()> {
     let Some(thread) = thread_of(cycle.turn()) else {
         return Ok(());

@@ -9,7 +9,7 @@ use slot_table::Turn;
 use std::io::Write;
 use std::{fmt, io};
 
-/// The name of a slot: `T0` to `T7`, `S` for the soft threads, `-` for nobody.
+/// The name of a slot: `T0` to `T7`, `S` for the soft threads, `-` for none.
 pub(crate) fn slot_name(slot: Turn) -> &'static str {
     match slot {
         Turn::Thread(0) => "T0",
@@ -52,7 +52,7 @@ impl Writing for Rows {
     }
 }
 
-/// Puts what stands in the five stages.
+/// Puts the content of the five stages.
 fn put_stages<W: Write>(out: &mut W, turns: &[Held<Stored>; 5]) -> io::Result<()> {
     for turn in turns {
         put_stage(out, turn)?;
@@ -60,7 +60,7 @@ fn put_stages<W: Write>(out: &mut W, turns: &[Held<Stored>; 5]) -> io::Result<()
     Ok(())
 }
 
-/// Puts what stands in a stage: the thread, with an `x` where its turn is flushed, or a point.
+/// Puts the content of a stage: the thread, with an `x` if its turn is flushed, or a full stop.
 fn put_stage<W: Write>(out: &mut W, turn: &Held<Stored>) -> io::Result<()> {
     let Some(thread) = thread_of(turn) else {
         return out.write_all(b" . ");

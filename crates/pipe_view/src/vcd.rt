@@ -32,7 +32,7 @@ macro_rules! declarations {
     };
 }
 
-/// What a dump begins with. A signal's name in it is a letter and its thread.
+/// The head of a dump. A signal's name in it is a letter and its thread.
 const DECLARATIONS: &str = declarations!(0 1 2 3 4 5 6 7);
 
 /// That no thread issues and none is flushed.
@@ -42,7 +42,7 @@ const ZEROS: &str =
 /// A dump that is written cycle by cycle.
 #[derive(Drop)]
 pub struct Vcd {
-    /// What the machine held at the start of the cycle before, if one was put.
+    /// The machine's state at the start of the previous cycle, if one was put.
     before: Option<CycleStart>,
     /// The turn that the cycle before picked.
     turn: Held<Stored>,
@@ -58,7 +58,7 @@ impl Writing for Vcd {
         })
     }
 
-    /// Puts what changes with a cycle, at the cycle's time.
+    /// Puts the changes of a cycle, at the cycle's time.
     fn put<W: Write>(&mut self, out: &mut W, cycle: &Cycle) -> io::Result<()> {
         self.put_changes(out, cycle)?;
         self.before = Some(cycle.start);
@@ -66,14 +66,14 @@ impl Writing for Vcd {
         Ok(())
     }
 
-    /// Ends a dump at the time of the cycle that is shown no more.
+    /// Ends a dump at the time of the first cycle that isn't shown.
     fn end<W: Write>(self, out: &mut W, time: u64) -> io::Result<()> {
         write!(out, "#{time}\n")
     }
 }
 
 impl Vcd {
-    /// Puts a cycle's time, and what changes with it.
+    /// Puts a cycle's time, and its changes.
     fn put_changes<W: Write>(&self, out: &mut W, cycle: &Cycle) -> io::Result<()> {
         let before = self.before.as_ref();
         let now = &cycle.start;
@@ -96,7 +96,7 @@ fn put_time<W: Write>(
     write!(out, "#{time}\n{zeros}")
 }
 
-/// Puts the slot, where it changes.
+/// Puts the slot if it changes.
 fn put_slot<W: Write>(
     out: &mut W,
     before: Option<&CycleStart>,
@@ -109,7 +109,7 @@ fn put_slot<W: Write>(
     }
 }
 
-/// Puts the modes, where they change.
+/// Puts the modes if they change.
 fn put_modes<W: Write>(
     out: &mut W,
     before: Option<&CycleStart>,
@@ -138,14 +138,14 @@ fn flush_of(turn: &Held<Stored>) -> Option<u8> {
     }
 }
 
-/// Puts who issues and who is flushed, where that changes, and what is issued.
+/// Puts the issuing and the flushed thread if they change, and the issued instruction.
 fn put_turn<W: Write>(out: &mut W, before: &Held<Stored>, now: &Held<Stored>) -> io::Result<()> {
     put_pulse(out, 'i', issue_of(before), issue_of(now))?;
     put_pulse(out, 'f', flush_of(before), flush_of(now))?;
     put_instruction(out, now)
 }
 
-/// Puts the signal of one letter, which is 1 at one thread at most, where that changes.
+/// Puts the signal of one letter if it changes; it is 1 for one thread at most.
 fn put_pulse<W: Write>(
     out: &mut W,
     letter: char,
@@ -187,7 +187,7 @@ impl fmt::Display for Joined<'_> {
     }
 }
 
-/// Puts what changes of the threads' modes, timers and ports.
+/// Puts the changes of the threads' modes, timers and ports.
 fn put_threads<W: Write>(
     out: &mut W,
     before: Option<&CycleStart>,
@@ -217,7 +217,7 @@ fn signals_of(state: &ThreadState) -> [(char, Option<u64>); 4] {
     ]
 }
 
-/// Puts what changes of a thread's mode, timer and port.
+/// Puts the changes of a thread's mode, timer and port.
 fn put_thread<W: Write>(
     out: &mut W,
     thread: usize,
@@ -237,8 +237,8 @@ fn put_thread<W: Write>(
     Ok(())
 }
 
-/// Puts a signal's letter and value: the one of `s` is a bit; of the others `z` stands for nothing
-/// armed, and for the latch of a port that isn't there.
+/// Puts a signal's letter and value. The value of `s` is a bit. For the others `z` means that no
+/// moment is armed, or that the port with the latch isn't there.
 fn put_signal<W: Write>(out: &mut W, thread: usize, signal: (char, Option<u64>)) -> io::Result<()> {
     let (letter, value) = signal;
     match value {

@@ -1,4 +1,4 @@
-//! A run of which a window of cycles is shown.
+//! A run with a window of cycles that are shown.
 
 ghost use Rattle.std.specs.Prelude.{◌≡◌, ◌+◌, ◌<◌, ◌≤◌, vec_len};
 ghost use Rattle.timer_unit.specs.Time.{most_cycles};
@@ -50,7 +50,7 @@ pub(crate) trait Writing {
     /// The writer's.
     fn put<W: Write>(&mut self, out: &mut W, cycle: &Cycle) -> io::Result<()>;
 
-    /// Ends the form, with the time of the cycle behind the window, in nanoseconds.
+    /// Ends the output, with the time of the first cycle after the window, in nanoseconds.
     ///
     /// # Errors
     ///
@@ -72,7 +72,7 @@ fn go<P: Progress>(machine: &mut Machine, ports: &mut Ports, cycles: u64, progre
     }
 }
 
-/// Does a cycle of which nothing is kept.
+/// Does a cycle and discards its observation.
 fn pass_over(machine: &mut Machine, ports: &mut Ports)
     requires cycle { machine.old.at < most_cycles }
     requires eight { vec_len ports.old ≡ 8 }
@@ -102,8 +102,8 @@ fn put_cycle<V: Writing, W: Write>(
     }
 }
 
-/// Runs a machine from a cycle on until all is known of a window's cycles, and puts them as they
-/// come.
+/// Runs a machine from a cycle on until all cycles of a window are complete, and puts each as soon
+/// as it is complete.
 fn put_window<V: Writing, W: Write, P: Progress>(
     out: &mut W,
     writing: &mut V,
@@ -122,8 +122,8 @@ fn put_window<V: Writing, W: Write, P: Progress>(
     Ok(())
 }
 
-/// Runs a machine from a cycle on until all is known of a window's cycles, and puts them in a form
-/// as they come.
+/// Runs a machine from a cycle on until all cycles of a window are complete, and puts each in a
+/// format as soon as it is complete.
 fn put_form<V: Writing + Drop, W: Write, P: Progress>(
     out: &mut W,
     window: &Window,
@@ -138,8 +138,8 @@ fn put_form<V: Writing + Drop, W: Write, P: Progress>(
     writing.end(out, machine.units.clock.now(window.to()))
 }
 
-/// Runs a machine from cycle 0 on until all is known of a window's cycles, and puts them as they
-/// come. It is told now and then how far the run is. It takes no memory.
+/// Runs a machine from cycle 0 on until all cycles of a window are complete, and puts each as soon
+/// as it is complete. It reports progress at intervals. It allocates no memory.
 ///
 /// # Errors
 ///

@@ -20,7 +20,7 @@ use pipeline_core::{Held, Stored};
 use rv_exec::Event;
 use trace_print::line;
 
-/// What is kept of the last cycles until all is known of them.
+/// The last cycles, kept until they are complete.
 #[derive(Drop)]
 pub struct Watch {
     /// The starts of the last three cycles, the newest first.
@@ -30,7 +30,7 @@ pub struct Watch {
 }
 
 impl Watch {
-    /// One that has seen no cycle.
+    /// A watch that has seen no cycle.
     pub fn new() -> Watch
         ensures starts { result.starts ≡ None ∷ None ∷ None ∷ [] }
         ensures turns { result.turns ≡ Bubble ∷ Bubble ∷ Bubble ∷ Bubble ∷ [] }
@@ -41,8 +41,8 @@ impl Watch {
         }
     }
 
-    /// One cycle of the machine. The answer is the cycle of three cycles ago, whose turn is through
-    /// M now, or None where that wasn't seen. Its turns are whole once seven cycles were seen, or
+    /// Does one cycle of the machine. Returns the cycle of three cycles ago, whose turn has now
+    /// passed M, or None if it wasn't seen. Its turns are complete once seven cycles were seen, or
     /// all since cycle 0.
     pub fn tick(&mut self, machine: &mut Machine, ports: &mut Ports) -> Option<Cycle>
         requires cycle { machine.old.at < most_cycles }
@@ -65,7 +65,7 @@ impl Watch {
         whole_cycle(machine, start, turns)
     }
 
-    /// Keeps the start of a cycle, and gives that of three cycles before, if it was seen.
+    /// Keeps the start of a cycle, and returns the start of three cycles before, if it was seen.
     fn keep_start(&mut self, start: CycleStart) -> Option<CycleStart>
         ensures third { result ≡ whole_next self.old }
         ensures starts { self.new.starts ≡ Some start ∷ slice_index_or self.old.starts 0 None
@@ -77,7 +77,7 @@ impl Watch {
         third
     }
 
-    /// Keeps a turn that came out of M, and gives it with the four before it, the newest first.
+    /// Keeps a turn that came out of M, and returns it with the four before it, the newest first.
     fn keep_turn(&mut self, turn: Held<Stored>) -> [Held<Stored>; 5]
         ensures turns { result ≡ turn ∷ self.old.turns }
         ensures newest { self.new.turns ≡ turn ∷ slice_index_or self.old.turns 0 Bubble
@@ -90,7 +90,7 @@ impl Watch {
     }
 }
 
-/// The cycle that began so, if it was seen, with these turns, of which M holds the first one now.
+/// The cycle with this start, if it was seen, and these turns. M holds the first of them now.
 fn whole_cycle(
     machine: &Machine,
     start: Option<CycleStart>,
@@ -108,7 +108,7 @@ fn whole_cycle(
     })
 }
 
-/// The line of the turn that M holds, which was issued in this cycle, if it leaves one.
+/// The line of the turn in M, which was issued in this cycle, if it has one.
 #[tactic(auto, unfolding(pipe_model::specs::Stages::retired_event))]
 fn line_in_m(machine: &Machine, cycle: u64) -> Option<ArrayString<96>>
     ensures { option_map (λ text. text.bytes) result
@@ -129,8 +129,8 @@ fn line_in_m(machine: &Machine, cycle: u64) -> Option<ArrayString<96>>
     }))
 }
 
-/// Whether a thread's mode is asleep at the start of the next cycle, or the moment until which it
-/// sleeps lies ahead.
+/// Whether a thread's mode is asleep at the start of the next cycle, or its sleep moment is in the
+/// future.
 fn is_asleep(machine: &Machine, thread: u8) -> bool
     requires cycle { machine.now.at < most_cycles }
     requires thread { thread < 8 }
@@ -141,7 +141,7 @@ fn is_asleep(machine: &Machine, thread: u8) -> bool
         || units.clock.now(machine.at) < units.sched.sleep[usize::from(thread)]
 }
 
-/// What a thread's mode, timer and port are at the start of the next cycle.
+/// The state of a thread's mode, timer and port at the start of the next cycle.
 fn thread_state(machine: &Machine, ports: &mut Ports, thread: u8) -> ThreadState
     requires cycle { machine.now.at < most_cycles }
     requires eight { vec_len ports.old ≡ 8 }
@@ -160,9 +160,9 @@ fn thread_state(machine: &Machine, ports: &mut Ports, thread: u8) -> ThreadState
     }
 }
 
-/// The word that an issue of the next cycle finds at a thread's port: ones from the cycle on from
-/// which the port is gone, though the machine takes it away three cycles later, when the issues
-/// before are through.
+/// The word that an issue of the next cycle reads at a thread's port. It is all ones from the cycle
+/// in which the port is unplugged. The machine removes the port three cycles later, when earlier
+/// issues have passed it.
 fn input_of(machine: &Machine, ports: &mut Ports, thread: u8) -> u32
     requires cycle { machine.now.at < most_cycles }
     requires eight { vec_len ports.old ≡ 8 }
@@ -180,7 +180,7 @@ fn input_of(machine: &Machine, ports: &mut Ports, thread: u8) -> u32
     }
 }
 
-/// What a machine holds at the start of its next cycle.
+/// The observed state of a machine at the start of its next cycle.
 fn start_of(machine: &Machine, ports: &mut Ports) -> CycleStart
     requires cycle { machine.now.at < most_cycles }
     requires eight { vec_len ports.old ≡ 8 }

@@ -5,7 +5,7 @@ ghost use Rattle.timer_unit.specs.Time.{most_cycles};
 
 use timer_unit::MOST_CYCLES;
 
-/// How many cycles after its issue a turn comes out of M.
+/// The number of cycles from a turn's issue until it comes out of M.
 const UNTIL_WHOLE: u64 = 3;
 
 /// The cycles that are shown: from `from` on, up to the one before `to`.
@@ -18,7 +18,7 @@ pub struct Window {
 }
 
 impl Window {
-    /// The last cycle before which a window may end: the machine does three more.
+    /// The greatest end of a window: the machine does three more cycles.
     pub const MOST: u64 = MOST_CYCLES - UNTIL_WHOLE;
 
     /// The window of these cycles, if it is one: not empty, and before the last cycle.
@@ -41,7 +41,7 @@ impl Window {
         self.from
     }
 
-    /// The cycle behind the last one that is shown.
+    /// The cycle after the last one that is shown.
     pub fn to(&self) -> u64
         ensures at { result ≡ self.now.to }
         ensures limit { result + 3 ≤ most_cycles }
@@ -56,7 +56,8 @@ impl Window {
         self.to - self.from
     }
 
-    /// How many cycles a machine does, from cycle 0 on, until all is known of the window's.
+    /// The number of cycles that a machine does, from cycle 0 on, until the window's cycles are
+    /// complete.
     pub fn run_len(&self) -> u64
         ensures at { result ≡ self.now.to + 3 }
         ensures limit { result ≤ most_cycles }
