@@ -1,5 +1,5 @@
--- Where a word of code leads, for the control graph. Source: this project's profile; targets are
--- those of the RISC-V unprivileged manual, "Control Transfer Instructions".
+-- The edges of a word of code, for the control-flow graph. Source: this project's profile; targets
+-- are those of the RISC-V unprivileged manual, "Control Transfer Instructions".
 use Rattle.std.specs.Prelude.{ℕ, ◌+◌, ◌%◌, ◌^◌, ◌==◌, ℤ, pos, ◌+ℤ◌}
 use Rattle.std.specs.Prelude.{if◌then◌else◌, Option, Some, None}
 use Rattle.rv_decode.specs.Encoding.{low_bits}
@@ -17,7 +17,7 @@ use Rattle.region_tree.specs.declared.edges.Edges.{Edges}
 abbrev pub offset : ℕ → ℤ → ℕ
 offset address off = low_bits 32 (pos address +ℤ off)
 
--- a jump's target, where it is a multiple of four: a jump elsewhere traps
+-- a jump's target, if it is a multiple of four: any other jump traps
 abbrev pub aligned_target : ℕ → Option ℕ
 aligned_target target = if target % 4 == 0 then Some target else None
 

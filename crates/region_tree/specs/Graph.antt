@@ -20,8 +20,8 @@ edge_to (Some v) lag = record { to = v; lag = lag } ∷ []
 abbrev pub edge_list : Edges → List Edge
 edge_list e = edge_to e.next e.next_lag ++ edge_to e.jump redirect_lag
 
--- The words of a section are those from `from` to below `to`. Edges are told by the address that
--- they leave.
+-- The words of a section are those from `from` to below `to`. An edge is identified by its source
+-- address.
 pub record Graph : Type 0 where
   pub from : ℕ
   pub to : ℕ
@@ -42,8 +42,8 @@ Holds j u = (j.head ≤ u) × (u ≤ j.last)
 abbrev pub Inside : LoopSetup → LoopSetup → Type 0
 Inside j i = (j.head < i.head) × (i.last ≤ j.last)
 
--- A word is reachable where edges inside the section lead to it from the section's first word.
--- Bounds of loops play no part in that.
+-- A word is reachable if edges inside the section lead to it from the section's first word. The
+-- loops' bounds are ignored.
 pub data Reachable (g : Graph) : ℕ → Type 0 where
   first : Reachable g g.from
   next : {u : ℕ} (e : Edge) → Reachable g u → Contains (g.edges u) e → Lies g e.to →

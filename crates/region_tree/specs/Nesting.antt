@@ -1,5 +1,4 @@
--- The nesting of loops that is refused: loops that cross, lie too deep, or are entered past their
--- head.
+-- Refused nestings of loops: loops that cross, are nested too deep, or are entered past their head.
 use Rattle.std.specs.Prelude.{◌≡◌, ◌≢◌, ℕ, ◌<◌, ◌≤◌, ◌⊎◌, nat_le, ◌&&◌, Bool}
 use Rattle.std.specs.Prelude.{List, length, slice_index_or, count_by, Contains}
 use Rattle.fp_setup.specs.declared.loop_list.LoopSetup.{LoopSetup}
@@ -25,27 +24,27 @@ pub record CrossedAt (loops : List LoopSetup) (a : ℕ) : Type 0 where
   pub crosses : Crosses (loop_at loops earlier) (loop_at loops later)
   pub address : a ≡ (loop_at loops later).head
 
--- whether the second loop holds all of the first
+-- whether the second loop contains all of the first
 abbrev pub around : LoopSetup → LoopSetup → Bool
 around j i = nat_le i.head j.head && nat_le j.last i.last
 
--- how many loops lie around one, itself among them
+-- the nesting depth of a loop: the number of loops around it, including itself
 abbrev pub depth : List LoopSetup → LoopSetup → ℕ
 depth loops j = count_by (around j) loops
 
--- how many loops may lie around one, itself among them
+-- the greatest allowed nesting depth
 abbrev pub most_depth : ℕ
 most_depth = 4
 
--- the head of a loop that lies deeper
+-- the head of a loop that is nested deeper
 pub record DeepAt (loops : List LoopSetup) (a : ℕ) : Type 0 where
   pub deep : LoopSetup
   pub known : Contains loops deep
   pub depth : most_depth < depth loops deep
   pub address : a ≡ deep.head
 
--- the head of a loop into which a reachable edge leads from outside, but not to its head. A
--- section's first word enters a loop at its head alone, since no counting loop begins before it.
+-- the head of a loop that a reachable edge enters from outside past its head. The section's first
+-- word can enter a loop only at its head, since no counting loop begins before it.
 pub record EnteredAt (g : Graph) (a : ℕ) : Type 0 where
   pub entered : LoopSetup
   pub known : Contains g.loops entered
@@ -58,6 +57,7 @@ pub record EnteredAt (g : Graph) (a : ℕ) : Type 0 where
   pub other : by.to ≢ entered.head
   pub address : a ≡ entered.head
 
--- Nesting is refused at an address: loops cross, are too deep, or are entered past their head.
+-- Nesting is refused at an address: loops cross, are nested too deep, or are entered past their
+-- head.
 abbrev pub NestingAt : Graph → ℕ → Type 0
 NestingAt g a = CrossedAt g.loops a ⊎ (DeepAt g.loops a ⊎ EnteredAt g a)

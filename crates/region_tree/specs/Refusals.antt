@@ -1,4 +1,4 @@
--- The sections and loops of which no bound is told, and why.
+-- The sections and loops without a bound, and the reasons.
 use Rattle.std.specs.Prelude.{◌≡◌, ℕ, ◌≤◌, ◌⊎◌, Contains}
 use Rattle.fp_setup.specs.declared.loop_list.LoopSetup.{LoopSetup}
 use Rattle.region_tree.specs.Graph.{Edge, Graph, Lies, Holds, Reachable}
@@ -16,8 +16,8 @@ IndirectAt g u = Reachable g u × (g.stop u ≡ Indirect)
 abbrev pub TimedAt : Graph → ℕ → Type 0
 TimedAt g u = Reachable g u × (g.stop u ≡ Timed)
 
--- a reachable word with an edge to itself or down, inside the section, that isn't to the head of a
--- counting loop that holds the word
+-- a reachable word with an edge to itself or to a lower word inside the section, except to the head
+-- of a counting loop that contains the word
 pub record UnboundedAt (g : Graph) (u : ℕ) : Type 0 where
   pub by : Edge
   pub reached : Reachable g u
@@ -26,17 +26,17 @@ pub record UnboundedAt (g : Graph) (u : ℕ) : Type 0 where
   pub down : by.to ≤ u
   pub unbounded : (j : LoopSetup) → Contains g.loops j → by.to ≡ j.head → Holds j u → ⊥
 
--- it holds at no address
+-- P holds at no address
 abbrev pub Nowhere : (ℕ → Type 0) → Type 0
 Nowhere P = (a : ℕ) → P a → ⊥
 
--- it holds at this address and at none below
+-- P holds at this address and at none below
 pub record IsLowest (P : ℕ → Type 0) (a : ℕ) : Type 0 where
   pub holds : P a
   pub lowest : (b : ℕ) → P b → a ≤ b
 
--- The first of the four that holds anywhere, with the lowest address. Memory may be refused
--- whatever holds.
+-- The first of the four that holds anywhere, with the lowest address. Memory may run out in any
+-- case.
 abbrev pub IsRefused : Graph → TreeNo → Type 0
 IsRefused g (Nesting a) = IsLowest (NestingAt g) a
 IsRefused g (IndirectJump a) = Nowhere (NestingAt g) × IsLowest (IndirectAt g) a

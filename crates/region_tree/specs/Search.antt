@@ -1,4 +1,4 @@
--- What the search for refusals finds on its way.
+-- Intermediate results of the search for refusals.
 use Rattle.std.specs.Prelude.{◌≡◌, ◌≢◌, ℕ, ◌+◌, ◌-◌, ◌*◌, ◌/◌, ◌<◌, ◌≤◌, ◌⊎◌, ◌&&◌, ◌↔◌, nat_le}
 use Rattle.std.specs.Prelude.{nat_lt, min, Bool, true, false, cond, if◌then◌else◌, Option, Some}
 use Rattle.std.specs.Prelude.{None, List, length, slice_index_or, sum_by, MatchOption, Contains}
@@ -14,7 +14,7 @@ use Rattle.region_tree.specs.Tree.{Tree, graph, word_at}
 abbrev pub address : Tree → ℕ → ℕ
 address t k = t.section.from + 4 * k
 
--- the index of the word at a target, where it lies in the section
+-- the index of the word at a target, if it is in the section
 abbrev pub index_of : Section → Option ℕ → Option ℕ
 index_of s None = None
 index_of s (Some v) = if nat_le s.from v && nat_lt v s.to then Some ((v - s.from) / 4) else None
@@ -23,7 +23,7 @@ index_of s (Some v) = if nat_le s.from v && nat_lt v s.to then Some ((v - s.from
 abbrev pub is_met : List Bool → ℕ → Bool
 is_met met k = slice_index_or met k false
 
--- a word is met exactly where it is reachable
+-- a word is visited exactly if it is reachable
 pub record IsMet (t : Tree) (met : List Bool) : Type 0 where
   pub count : length met ≡ length t.words
   pub exact : (k : ℕ) → k < length t.words →
@@ -50,7 +50,7 @@ IsClosed t met k =
     (e : Edge) → Contains ((graph t).edges (address t k)) e → Lies (graph t) e.to →
     is_met met ((e.to - t.section.from) / 4) ≡ true
 
--- Words that are met are reachable, and each is still to be done, or left out, or closed.
+-- Visited words are reachable, and each is still pending, or excepted, or closed.
 pub record IsGathered (t : Tree) (out : ℕ → Type 0) (met : List Bool) (todo : List ℕ) : Type 0 where
   pub count : length met ≡ length t.words
   pub first : is_met met 0 ≡ true
@@ -58,28 +58,28 @@ pub record IsGathered (t : Tree) (out : ℕ → Type 0) (met : List Bool) (todo 
   pub known : (k : ℕ) → Contains todo k → is_met met k ≡ true
   pub closed : (k : ℕ) → is_met met k ≡ true → (Contains todo k ⊎ out k) ⊎ IsClosed t met k
 
--- the lowest address of which a fact holds, or none
+-- the lowest address at which a fact holds, or None
 abbrev pub LowestOf : (ℕ → Type 0) → Option ℕ → Type 0
 LowestOf P r = MatchOption r (Nowhere P) (IsLowest P)
 
--- the lower of two addresses, where there are any
+-- the lower of two optional addresses
 unfoldable pub lower_of : Option ℕ → Option ℕ → Option ℕ
 lower_of None b = b
 lower_of (Some x) None = Some x
 lower_of (Some x) (Some y) = Some (min x y)
 
--- what holds for one of the indices below n
+-- a fact that holds for one of the indices below n
 abbrev pub Before : (ℕ → ℕ → Type 0) → ℕ → ℕ → Type 0
 Before C n a = (k : ℕ) × (k < n) × C k a
 
--- the head of the loop at an index, where an earlier loop crosses it
+-- the head of the loop at an index, if an earlier loop crosses it
 pub record CrossedHere (loops : List LoopSetup) (later a : ℕ) : Type 0 where
   pub earlier : ℕ
   pub order : earlier < later
   pub crosses : Crosses (loop_at loops earlier) (loop_at loops later)
   pub address : a ≡ (loop_at loops later).head
 
--- the head of the loop at an index, where it lies deeper than `most_depth`
+-- the head of the loop at an index, if it is nested deeper than `most_depth`
 pub record DeepHere (loops : List LoopSetup) (k a : ℕ) : Type 0 where
   pub depth : most_depth < depth loops (loop_at loops k)
   pub address : a ≡ (loop_at loops k).head
@@ -110,7 +110,7 @@ pub record EnteredFrom (t : Tree) (k a : ℕ) : Type 0 where
 abbrev pub GoesBack : List LoopSetup → ℕ → ℕ → Type 0
 GoesBack loops u v = (j : LoopSetup) × Contains loops j × (v ≡ j.head) × Holds j u
 
--- a target inside the section, at or below u, that is no head of a loop that holds u
+-- a target inside the section, at or below u, that is no head of a loop that contains u
 pub record ReturnsBadly (t : Tree) (u : ℕ) (target : Option ℕ) : Type 0 where
   pub to : ℕ
   pub is : target ≡ Some to

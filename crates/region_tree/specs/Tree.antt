@@ -1,4 +1,4 @@
--- What a tree of loops holds: a section, its words, and the loops that count in it.
+-- A tree of loops: a section, its words, and the loops that count in it.
 use Rattle.std.specs.Prelude.{◌≡◌, ℕ, ◌+◌, ◌-◌, ◌*◌, ◌/◌, ◌%◌, ◌<◌, ◌≤◌, ◌&&◌, nat_le}
 use Rattle.std.specs.Prelude.{nat_lt, Bool, List, length, map, filter, slice_index, Contains}
 use Rattle.std.specs.List.{range_with_len}
@@ -10,8 +10,7 @@ use Rattle.region_tree.specs.Graph.{Graph, edge_list}
 use Rattle.region_tree.specs.Refusals.{IsAllowed}
 use Rattle.region_tree.specs.declared.section.Section.{Section}
 
--- a section that may be asked for: not empty, aligned, and inside the largest instruction
--- scratchpad
+-- a valid section: not empty, aligned, and inside the largest instruction scratchpad
 pub record IsSection (s : Section) : Type 0 where
   pub order : s.from < s.to
   pub from_aligned : s.from % 4 ≡ 0
@@ -24,11 +23,11 @@ pub record Tree : Type 0 where
   pub words : List ℕ
   pub loops : List LoopSetup
 
--- the words of a section of a memory that is told by its words
+-- the words of a section of a memory, given as a function from addresses to words
 unfoldable pub section_words : (ℕ → ℕ) → Section → List ℕ
 section_words memory s = map (λ k. memory (s.from + 4 * k)) (range_with_len 0 ((s.to - s.from) / 4))
 
--- a loop counts where its head and its last word lie in the section
+-- a loop counts if its head and its last word are in the section
 abbrev pub counts : Section → LoopSetup → Bool
 counts s j =
     (nat_le s.from j.head && nat_lt j.head s.to) && (nat_le s.from j.last && nat_lt j.last s.to)
@@ -55,8 +54,7 @@ graph t = record {
   loops = t.loops;
 }
 
--- A section that may be asked for, with as many words, and loops that count in it and keep their
--- own rules.
+-- A valid section, with as many words, and loops that count in it and keep their own rules.
 pub record IsDraft (t : Tree) : Type 0 where
   pub section : IsSection t.section
   pub words : t.section.to ≡ t.section.from + 4 * length t.words
@@ -64,7 +62,7 @@ pub record IsDraft (t : Tree) : Type 0 where
   pub counting : (j : LoopSetup) → Contains t.loops j →
       (t.section.from ≤ j.head) × (j.last < t.section.to)
 
--- What holds of every tree that was accepted.
+-- The invariant of accepted trees.
 pub record IsTree (t : Tree) : Type 0 where
   pub draft : IsDraft t
   pub allowed : IsAllowed (graph t)

@@ -1,4 +1,4 @@
--- Walks through a section, by the turns of a thread.
+-- Paths through a section, by the turns of a thread.
 use Rattle.std.specs.Prelude.{◌≡◌, ℕ, ◌+◌, ◌%◌, ◌<◌, ◌≤◌, ◌==◌, ◌&&◌, nat_le}
 use Rattle.std.specs.Prelude.{if◌then◌else◌, List, [], ◌∷◌, length, slice_index, Contains}
 use Rattle.fp_setup.specs.declared.loop_list.LoopSetup.{LoopSetup}
@@ -23,13 +23,13 @@ pub record IsNextTurn (s : Positions) (lag p d q : ℕ) : Type 0 where
   pub own : IsOwn s q
   pub first : (e : ℕ) → lag ≤ e → e < d → IsOwn s ((p + e) % length s.frame) → ⊥
 
--- What walks go over.
+-- The inputs of paths: the graph and the positions.
 pub record Course : Type 0 where
   pub graph : Graph
   pub positions : Positions
 
--- A step: the word and the position of an issue, the lag of the edge that is taken, the cycles
--- until the next issue, and the word and the position of that one.
+-- A step: the word and the position of an issue, the lag of the edge taken, the cycles until the
+-- next issue, and the word and the position of the next issue.
 pub record Step : Type 0 where
   pub from : ℕ
   pub at : ℕ
@@ -38,13 +38,13 @@ pub record Step : Type 0 where
   pub to : ℕ
   pub position : ℕ
 
--- A step of a walk goes along an edge of the graph, and to the first turn after its lag.
+-- A step of a path follows an edge of the graph, to the first turn after its lag.
 pub record IsStep (x : Course) (t : Step) : Type 0 where
   pub edge : Contains (x.graph.edges t.from) (record { to = t.to; lag = t.lag })
   pub turn : IsNextTurn x.positions t.lag t.at t.cost t.position
 
--- Steps inside the section, the newest first, each from where the one before it ended: from word u
--- at position p to word v at position q.
+-- Steps inside the section, the newest first, from word u at position p to word v at position q.
+-- Each begins at the end of the one before it.
 abbrev pub Leads : Course → ℕ → ℕ → List Step → ℕ → ℕ → Type 0
 Leads x u p [] v q = (v ≡ u) × (q ≡ p)
 Leads x u p (t ∷ ts) v q =
@@ -55,32 +55,32 @@ abbrev pub cost : List Step → ℕ
 cost [] = 0
 cost (t ∷ ts) = cost ts + t.cost
 
--- A loop's counter after a step from u to v: one more where a word of the loop leads to its head, 0
--- where another word does, else as before.
+-- A loop's counter after a step from u to v: incremented if a word of the loop leads to its head, 0
+-- if another word does, else unchanged.
 unfoldable pub counter_after : ℕ → ℕ → LoopSetup → ℕ → ℕ
 counter_after u v j n =
     if v == j.head then (if nat_le j.head u && nat_le u j.last then n + 1 else 0) else n
 
--- after these steps, the newest first, where it was n before them
+-- the counter after these steps, the newest first, from n
 abbrev pub counter : LoopSetup → ℕ → List Step → ℕ
 counter j n [] = n
 counter j n (t ∷ ts) = counter_after t.from t.to j (counter j n ts)
 
--- no counter ever passes its loop's bound, where loop j's was k j at first
+-- no counter ever exceeds its loop's bound; the counter of loop j begins at k j
 abbrev pub Keeps : List LoopSetup → (LoopSetup → ℕ) → List Step → Type 0
 Keeps loops k [] = Unit {0}
 Keeps loops k (t ∷ ts) =
     Keeps loops k ts × ((j : LoopSetup) → Contains loops j → counter j (k j) (t ∷ ts) ≤ j.limit)
 
--- A walk that keeps the bounds: from the section's first word at own position p to word v at
+-- A path that keeps the bounds: from the section's first word at own position p to word v at
 -- position q.
 pub record IsWalk (x : Course) (p : ℕ) (ts : List Step) (v q : ℕ) : Type 0 where
   pub own : IsOwn x.positions p
   pub leads : Leads x x.graph.from p ts v q
   pub keeps : Keeps x.graph.loops (λ j. 0) ts
 
--- What walks that keep the bounds cost: a walk may end anywhere, and a step out of the section ends
--- it.
+-- The costs of paths that keep the bounds: a path may end anywhere, and a step out of the section
+-- ends it.
 pub data CostsOf (x : Course) : ℕ → Type 0 where
   ends : {p v q : ℕ} (ts : List Step) → IsWalk x p ts v q → CostsOf x (cost ts)
   leaves : {p : ℕ} (ts : List Step) (t : Step) → IsWalk x p ts t.from t.at → IsStep x t →

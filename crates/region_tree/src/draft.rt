@@ -11,8 +11,7 @@ use fp_setup::{LoopSetup, Loops};
 use std::alloc::{AllocError, Global};
 use std::marker::Model;
 
-/// A section, its words and the loops that count in it. Nothing is known yet of how they fit
-/// together.
+/// A section, its words and the loops that count in it, before the nesting is checked.
 #[derive(Drop)]
 pub struct Draft {
     section: Section,
@@ -32,7 +31,7 @@ impl Model for Draft {
         (record { section = t.section; words = t.words.items; loops = t.loops.items }) };
 }
 
-/// The words of an image in a section, by rising addresses; 0 where no segment has one.
+/// The words of an image in a section, by rising addresses; 0 if no segment has the word.
 ///
 /// # Errors
 ///
@@ -78,7 +77,7 @@ impl Draft {
     ghost use Rattle.region_tree.specs.Search.{address, index_of};
     ghost use Rattle.region_tree.specs.Tree.{IsDraft, IsSection, tree_of, tree_with, word_at};
 
-    /// A section with these words, and with those of the loops that count in it.
+    /// A section with these words, and with the listed loops that count in it.
     ///
     /// # Errors
     ///
@@ -101,7 +100,7 @@ impl Draft {
         })
     }
 
-    /// A section of an image, with those of the loops that count in it.
+    /// A section of an image, with the listed loops that count in it.
     ///
     /// # Errors
     ///
@@ -174,7 +173,7 @@ impl Draft {
         edges_of(self.word(address), address)
     }
 
-    /// The index of the word at a target, where it lies in the section.
+    /// The index of the word at a target, if it is in the section.
     pub fn index_of(&self, target: Option<u32>) -> Option<usize>
         ensures { result ≡ index_of self.now.section target }
     {

@@ -1,4 +1,4 @@
-//! Where a word of code leads.
+//! The edges of a word of code.
 
 ghost use Rattle.std.specs.Prelude.{◌≡◌, ℤ};
 ghost use Rattle.region_tree.specs.Edges.{aligned_target, edges_from, edges_of};
@@ -6,10 +6,10 @@ ghost use Rattle.region_tree.specs.Edges.{offset, next_edge, no_edges};
 
 use rv_decode::{Ins, LATE_LAG, PLAIN_LAG, REDIRECT_LAG, decode};
 
-/// Why the way on from a word isn't known.
+/// The reason why a word's successor isn't known.
 #[derive(Clone, Copy, Debug, PartialEq, Eq)]
 pub enum Stop {
-    /// It is known, or there is none.
+    /// The successor is known, or there is none.
     No,
     /// The word jumps to an address out of a register.
     Indirect,
@@ -20,13 +20,13 @@ pub enum Stop {
 /// The edges of a word: to the next word, and to a jump's target. A jump has the lag [`JUMP_LAG`].
 #[derive(Clone, Copy, Debug)]
 pub struct Edges {
-    /// The address of the next word, where the word can lead on to it.
+    /// The address of the next word, if it is a successor.
     pub next: Option<u32>,
-    /// The least number of cycles until the next word issues; 0 where `next` is none.
+    /// The least number of cycles until the next word issues; 0 if `next` is None.
     pub next_lag: u64,
-    /// The target of a branch or a jump, where it is a multiple of four.
+    /// The target of a branch or a jump, if it is a multiple of four.
     pub jump: Option<u32>,
-    /// Why nothing is known of the way on.
+    /// The reason why the successor isn't known.
     pub stop: Stop,
 }
 
@@ -59,7 +59,7 @@ impl Edges {
     }
 }
 
-/// The target at this offset, where it is a multiple of four.
+/// The target at this offset, if it is a multiple of four.
 fn target(address: u32, off: i32) -> Option<u32>
     ensures { result ≡ aligned_target (offset address off) }
 {
@@ -91,7 +91,7 @@ fn edges_from(address: u32, instruction: Ins) -> Edges
     }
 }
 
-/// The edges of the word `word` that stands at `address`. Addresses wrap modulo 2^32.
+/// The edges of the word `word` at `address`. Addresses wrap modulo 2^32.
 #[tactic(auto, unfolding(crate::specs::Edges::edges_of))]
 pub fn edges_of(word: u32, address: u32) -> Edges
     ensures { result ≡ edges_of word address }

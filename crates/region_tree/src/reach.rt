@@ -10,7 +10,7 @@ ghost use Rattle.region_tree.specs.Tree.{IsDraft, graph};
 use crate::draft::Draft;
 use std::alloc::{AllocError, Global};
 
-/// Which words are met, and those of them whose edges haven't been followed yet.
+/// The visited words, and those whose edges haven't been followed yet.
 #[derive(Drop)]
 struct Frontier {
     met: Vec<bool>,
@@ -18,7 +18,7 @@ struct Frontier {
 }
 
 impl Frontier {
-    /// Nothing is met.
+    /// No word is visited.
     fn new(alloc: Global, count: usize) -> Result<Frontier, AllocError>
         ensures { IfOk result (λ f. (length f.met.items ≡ count)
             × ((k : ℕ) → is_met f.met.items k ≡ false) × (f.todo.items ≡ [])) }
@@ -64,7 +64,7 @@ impl Frontier {
         self.visit(draft.index_of(edges.jump))
     }
 
-    /// Follows edges until no word is left to do.
+    /// Follows edges until no word is pending.
     fn search(&mut self, draft: &Draft) -> Result<(), AllocError>
         requires rules { IsDraft draft.now }
         requires gathered { IsGathered draft.now (λ _. ⊥) self.old.met.items

@@ -17,7 +17,7 @@ use crate::edges::Stop;
 use crate::tree::TreeNo;
 use fp_setup::LoopSetup;
 
-/// The lower of two addresses, where there are any.
+/// The lower of two optional addresses.
 #[tactic(auto, unfolding(crate::specs::Search::lower_of))]
 pub fn lower(a: Option<u32>, b: Option<u32>) -> Option<u32>
     ensures { result ≡ lower_of a b }
@@ -49,7 +49,7 @@ fn crosses(j: &LoopSetup, i: &LoopSetup) -> bool
     j.head <= i.last && i.head <= j.last && !is_inside(j, i) && !is_inside(i, j)
 }
 
-/// The head of the loop at an index, where an earlier one crosses it.
+/// The head of the loop at an index, if an earlier one crosses it.
 fn crossed_here(loops: &[LoopSetup], later: usize) -> Option<u32>
     requires { later < length loops.now }
     ensures { LowestOf (CrossedHere loops.now later) result }
@@ -86,7 +86,7 @@ fn depth(loops: &[LoopSetup], j: LoopSetup) -> usize
         .count()
 }
 
-/// The head of the loop at an index, where it lies deeper than [`DEEPEST`].
+/// The head of the loop at an index, if it is nested deeper than [`DEEPEST`].
 fn deep_here(loops: &[LoopSetup], index: usize) -> Option<u32>
     requires { index < length loops.now }
     ensures { LowestOf (DeepHere loops.now index) result }
@@ -99,7 +99,7 @@ fn deep_here(loops: &[LoopSetup], index: usize) -> Option<u32>
     }
 }
 
-/// The lowest head of a loop that lies deeper than [`DEEPEST`].
+/// The lowest head of a loop that is nested deeper than [`DEEPEST`].
 fn deep(loops: &[LoopSetup]) -> Option<u32>
     ensures { LowestOf (DeepAt loops.now) result }
 {
@@ -117,7 +117,7 @@ fn enters_off(j: &LoopSetup, from: u32, to: u32) -> bool
     holds(j, to) && !holds(j, from) && to != j.head
 }
 
-/// The head of the loop at an index, where an edge enters it, but not there.
+/// The head of the loop at an index, if an edge enters the loop past its head.
 fn entered_here(loops: &[LoopSetup], from: u32, to: u32, index: usize) -> Option<u32>
     requires { index < length loops.now }
     ensures { LowestOf (EnteredHere loops.now from to index) result }
@@ -144,8 +144,8 @@ fn entered_by(loops: &[LoopSetup], from: u32, target: Option<u32>) -> Option<u32
 
 /// The lowest head of a loop that an edge of the word at an index enters, but not there.
 ///
-/// Only its jump is looked at: a loop that holds the next word and not this one has its head there,
-/// since words are four bytes apart. Few words jump; to hold the others against every loop would be
+/// Only its jump is tested: a loop that contains the next word but not this one has its head there,
+/// since words are four bytes apart. Few words jump; testing the others against every loop would be
 /// a fifth of all steps of a large bound.
 fn entered_from(draft: &Draft, met: &[bool], index: usize) -> Option<u32>
     requires rules { IsDraft draft.now }
@@ -195,7 +195,7 @@ fn stopped(draft: &Draft, met: &[bool], stop: Stop) -> Option<u32>
     None
 }
 
-/// Whether an edge leads back to the head of a loop that holds the word that it leaves.
+/// Whether an edge leads back to the head of a loop that contains the edge's source.
 fn goes_back(loops: &[LoopSetup], from: u32, to: u32) -> bool
     ensures { IsTrue result ↔ GoesBack loops.now from to }
 {
@@ -207,7 +207,7 @@ fn goes_back(loops: &[LoopSetup], from: u32, to: u32) -> bool
     false
 }
 
-/// Whether a target lies in the section, at or below a word, and is no head of a loop around it.
+/// Whether a target is in the section, at or below a word, and is no head of a loop around it.
 fn returns_badly(draft: &Draft, from: u32, target: Option<u32>) -> bool
     ensures { IsTrue result ↔ ReturnsBadly draft.now from target }
 {
@@ -250,7 +250,7 @@ fn unbounded(draft: &Draft, met: &[bool]) -> Option<u32>
     None
 }
 
-/// Refuses a section that has no bound: nesting first, then jumps, waits and ways back.
+/// Refuses a section that has no bound: nesting first, then jumps, waits and back edges.
 ///
 /// # Errors
 ///

@@ -15,7 +15,7 @@ use thiserror::Error;
 /// Why a section with loops has no bound, in the order in which the causes count.
 #[derive(Clone, Copy, Debug, PartialEq, Eq, Error)]
 pub enum TreeNo {
-    /// Loops overlap, lie too deep or are entered not at their head; the head of such a loop.
+    /// Loops overlap, are nested too deep, or are entered past their head; the head of such a loop.
     #[error("loops are nested badly at {address:#010x}")]
     Nesting { address: u32 },
     /// A reachable word jumps to an address out of a register; the word's address.

@@ -1,4 +1,4 @@
--- What the rest of the machine can't change for one thread.
+-- Isolation: the rest of the machine can't change a thread's events.
 use Rattle.std.specs.Prelude.{◌≡◌, ℕ, ◌<◌, true, false, length, slice_index_or}
 use Rattle.std.specs.List.{list_all}
 use Rattle.region_guard.specs.Regions.{IsSize}
@@ -27,16 +27,16 @@ pub record StartsConfined (s : Start) (i : ℕ) : Type 0 where
   pub confined : slice_index_or s.confined i true ≡ true
   pub permit : slice_index_or s.permit i false ≡ false
 
--- whatever the other threads run, and whatever they write to slots and modes: while no region
--- register is written, and no setting of the scheduling makes such a thread soft active, its events
--- are those of the definition of one thread by itself, over its view and the run's settings
+-- if no region register is written, and no setting of the scheduling makes such a thread soft
+-- active, its events are those of the definition of one thread alone, over its view and the run's
+-- settings. The other threads may run any code and write slots and modes
 abbrev pub PhasedIsolation : Type 0
 PhasedIsolation =
     (s : Start) (i n : ℕ) → StartsConfined s i → list_all (is_never_soft i) (phases s n) ≡ true →
     keeps_regions s n ≡ true → events s i n ≡ phased (view s i) (phases s n) n
 
--- whatever the other threads run: while none of the configuration registers is written, the events
--- of such a thread are those of the definition of one thread by itself, over its view
+-- if no configuration register is written, the events of such a thread are those of the definition
+-- of one thread alone, over its view. The other threads may run any code
 abbrev pub Isolation : Type 0
 Isolation =
     (s : Start) (i n : ℕ) → StartsConfinedHard s i → is_quiet s n ≡ true →
@@ -48,7 +48,7 @@ EqualViews =
     (s t : Start) (i n : ℕ) → StartsConfinedHard s i → StartsConfinedHard t i →
     is_quiet s n ≡ true → is_quiet t n ≡ true → view s i ≡ view t i → events s i n ≡ events t i n
 
--- where no thread has a permit, every run is quiet
+-- if no thread has a permit, every run is quiet
 abbrev pub QuietUnpermitted : Type 0
 QuietUnpermitted =
     (s : Start) → ((k : ℕ) → slice_index_or s.permit k false ≡ false) → (n : ℕ) →

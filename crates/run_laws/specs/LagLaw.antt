@@ -1,4 +1,4 @@
--- What an issue's lag is by the table of lags.
+-- The lag of an issue, by the table of lags.
 use Rattle.std.specs.Prelude.{◌≡◌, ℕ, ◌+◌, Bool, true, false, Option, Some}
 use Rattle.rv_decode.specs.Table.{ins}
 use Rattle.rv_decode.specs.Lag.{lag}
@@ -19,8 +19,8 @@ is_taken_at m t =
     let i = ins (m.code t.pc) in
     (result_of i t.pc (reg_in t.regs (source_1 i)) (reg_in t.regs (source_2 i))).taken
 
--- the lag of the instruction at the thread's pc, by whether it took a branch, and whether what was
--- left is a trap: one of the instruction's own, or an expiry or a refused fetch in its place
+-- the lag of the instruction at the thread's pc. It depends on whether it takes a branch, and
+-- whether it traps: by itself, or by an expiry or a refused fetch in its place
 abbrev pub lag_at : Contents → Thread → Completion → ℕ
 lag_at m t d = lag (ins (m.code t.pc)) (is_taken_at m t) (is_trap d.effect)
 

@@ -11,16 +11,14 @@ use Rattle.run_laws.specs.Isolation.{StartsConfined, StartsConfinedHard, StartsU
 use Rattle.run_laws.specs.Wide.{wide_view, wide_solo}
 use Rattle.core_model.specs.Cycles.{cycles_to_w}
 
--- Where no issue that has retired writes a configuration register, the events of a confined hard
--- thread are those of the definition of one thread over its view. The issues in flight may write
--- what they like.
+-- If no retired issue writes a configuration register, the events of a confined hard thread are
+-- those of the definition of one thread over its view. The issues in flight may write anything.
 abbrev pub RetiredIsolation : Type 0
 RetiredIsolation =
     (s : Start) (i n : ℕ) → StartsConfinedHard s i → is_quiet s (n - cycles_to_w) ≡ true →
     events s i n ≡ solo (view s i) n
 
--- the same by the settings of slots and modes, where no issue that has retired writes a region
--- register
+-- the same over the settings of slots and modes, if no retired issue writes a region register
 abbrev pub RetiredPhasedIsolation : Type 0
 RetiredPhasedIsolation =
     (s : Start) (i n : ℕ) → StartsConfined s i → list_all (is_never_soft i) (phases s n) ≡ true →

@@ -1,5 +1,5 @@
--- The same theorems for the traces of a setup's machine: what a trace of n cycles can't depend on,
--- with premises only on the issues that have retired.
+-- The same theorems for the traces of a setup's machine, with premises only on the issues that have
+-- retired in n cycles.
 use Rattle.std.specs.Prelude.{◌≡◌, ℕ, ◌-◌, true}
 use Rattle.fp_setup.specs.Rules.{KeepsRules}
 use Rattle.core_model.specs.Solo.{solo}

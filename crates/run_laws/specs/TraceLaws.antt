@@ -1,5 +1,5 @@
--- What the trace of a thread can't depend on, for the machine of a setup that keeps the rules, as
--- each accepted one does, of an image and of ports.
+-- Isolation of traces, for the machine of a setup that keeps the rules, an image, and ports. Each
+-- accepted setup keeps the rules.
 use Rattle.std.specs.Prelude.{◌≡◌, ℕ, true, false, List, map, slice_index_or, Option}
 use Rattle.std.specs.List.{All, list_all}
 use Rattle.fp_image.specs.declared.parts.Segment.{Segment}
@@ -33,7 +33,7 @@ trace m i n = text (events (start m.setup m.image m.ports n) i n)
 abbrev pub IsQuiet : Machine → ℕ → Type 0
 IsQuiet m n = is_quiet (start m.setup m.image m.ports n) n ≡ true
 
--- what thread i may depend on in n cycles
+-- the view of thread i over n cycles
 abbrev pub view_of : Machine → ℕ → ℕ → View
 view_of m i n = view (start m.setup m.image m.ports n) i
 
@@ -71,7 +71,7 @@ pub record IsConfinedThrough (m : Machine) (i n : ℕ) : Type 0 where
 abbrev pub KeepsRegions : Machine → ℕ → Type 0
 KeepsRegions m n = keeps_regions (start m.setup m.image m.ports n) n ≡ true
 
--- then the trace of such a thread is that of the definition of one thread over its view and those
+-- the trace of such a thread is that of the definition of one thread over its view and those
 -- settings
 abbrev pub TraceByPhases : Type 0
 TraceByPhases =
@@ -85,7 +85,7 @@ EqualTraces =
     IsConfinedHard k i → IsQuiet m n → IsQuiet k n → view_of m i n ≡ view_of k i n →
     trace m i n ≡ trace k i n
 
--- a setup without a permit has quiet runs alone, whatever the image and the ports
+-- a setup without a permit has only quiet runs, for any image and ports
 abbrev pub QuietSetup : Type 0
 QuietSetup =
     (m : Machine) (n : ℕ) →

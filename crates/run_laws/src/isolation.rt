@@ -1,4 +1,4 @@
-//! The theorems of isolation: what the rest of the machine can't change for one thread. Each is the
+//! The theorems of isolation: the rest of the machine can't change a thread's events. Each is the
 //! contract of a call that does nothing; its statement is in specs/Isolation.antt.
 
 ghost use Rattle.run_laws.specs.Isolation.{EqualViews, Isolation, PhasedIsolation};
@@ -33,9 +33,9 @@ pub fn stays_quiet()
     ensures { QuietUnpermitted }
 {}
 
-/// A hard thread that isn't confined runs by its wide view: in a quiet run its events are those of
-/// the definition of one thread, over the view, all code, what its loads find where others may
-/// write, and with a permit the configuration registers.
+/// A hard thread that isn't confined depends only on its wide view. In a quiet run its events are
+/// those of the definition of one thread, over the view, all code, the words that its loads read
+/// where others may write, and with a permit the configuration registers.
 pub fn runs_by_wide_view()
     ensures { WideIsolation }
 {

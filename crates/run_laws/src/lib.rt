@@ -1,6 +1,6 @@
-//! The theorems of runs: what the rest of the machine can't change for one thread, over a world and
-//! over the machine of a setup, and that each lag is the table's. Each law is the contract of a
-//! call that does nothing; the statements stand in specs/.
+//! Theorems on runs: the rest of the machine can't change a thread's events, over a world and over
+//! the machine of a setup, and that each lag is the table's. Each theorem is the contract of a call
+//! that does nothing; the statements are in specs/.
 
 #![tactic(auto)]
 

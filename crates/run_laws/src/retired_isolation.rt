@@ -4,29 +4,28 @@
 ghost use Rattle.run_laws.specs.RetiredIsolation.{RetiredEqualViews, RetiredIsolation};
 ghost use Rattle.run_laws.specs.RetiredIsolation.{RetiredPhasedIsolation, RetiredWideIsolation};
 
-/// While no issue that has retired writes a configuration register, a confined hard thread without
-/// a permit runs as if it were alone: its events are those of the definition of one thread over its
-/// view.
+/// If no retired issue writes a configuration register, a confined hard thread without a permit
+/// runs as if it were alone: its events are those of the definition of one thread over its view.
 pub fn runs_alone()
     ensures { RetiredIsolation }
 {}
 
-/// While no issue that has retired writes a region register, a confined thread without a permit
-/// that is never soft and active runs as if it were alone over the settings of slots and modes.
+/// If no retired issue writes a region register, a confined thread without a permit that is never
+/// soft and active runs as if it were alone over the settings of slots and modes.
 pub fn runs_by_phases()
     ensures { RetiredPhasedIsolation }
 {}
 
-/// While no issue that has retired writes a configuration register, two machines that agree in a
-/// confined hard thread's view show equal events of it.
+/// If no retired issue writes a configuration register, two machines that agree in a confined hard
+/// thread's view show equal events of it.
 pub fn shows_equal_events()
     ensures { RetiredEqualViews }
 {
     runs_alone();
 }
 
-/// While no issue that has retired writes a configuration register, a hard thread that isn't
-/// confined runs by its wide view.
+/// If no retired issue writes a configuration register, a hard thread that isn't confined runs by
+/// its wide view.
 pub fn runs_by_wide_view()
     ensures { RetiredWideIsolation }
 {}

@@ -5,33 +5,33 @@
 ghost use Rattle.run_laws.specs.RetiredTraces.{RetiredEqualTraces, RetiredTraceAlone};
 ghost use Rattle.run_laws.specs.RetiredTraces.{RetiredTraceByPhases, RetiredTraceByWideView};
 
-/// While no issue that has retired writes a configuration register, the trace of a confined hard
-/// thread is that of the definition of one thread over its view, whatever the seven others run.
+/// If no retired issue writes a configuration register, the trace of a confined hard thread is that
+/// of the definition of one thread over its view. The seven others may run any code.
 pub fn traces_alone()
     ensures { RetiredTraceAlone }
 {
     crate::retired_isolation::runs_alone();
 }
 
-/// While no issue that has retired writes a region register, and no setting of slots and modes
-/// makes it soft and active, the trace of a confined thread is that of the definition of one thread
-/// over its view and these settings.
+/// If no retired issue writes a region register, and no setting of slots and modes makes it soft
+/// and active, the trace of a confined thread is that of the definition of one thread over its view
+/// and these settings.
 pub fn traces_by_phases()
     ensures { RetiredTraceByPhases }
 {
     crate::retired_isolation::runs_by_phases();
 }
 
-/// While no issue that has retired writes a configuration register, machines that agree in a
-/// confined hard thread's view write equal traces of it.
+/// If no retired issue writes a configuration register, machines that agree in a confined hard
+/// thread's view write equal traces of it.
 pub fn writes_equal_traces()
     ensures { RetiredEqualTraces }
 {
     traces_alone();
 }
 
-/// While no issue that has retired writes a configuration register, the trace of a hard thread that
-/// isn't confined follows from its wide view.
+/// If no retired issue writes a configuration register, the trace of a hard thread that isn't
+/// confined follows from its wide view.
 pub fn traces_by_wide_view()
     ensures { RetiredTraceByWideView }
 {

@@ -1,12 +1,11 @@
-//! The theorems of isolation for the machine of a setup, an image and ports: what a trace can't
-//! depend on. Each is the contract of a call that does nothing; its statement is in
-//! specs/TraceLaws.antt.
+//! The theorems of isolation for the traces of the machine of a setup, an image and ports. Each is
+//! the contract of a call that does nothing; its statement is in specs/TraceLaws.antt.
 
 ghost use Rattle.run_laws.specs.TraceLaws.{EqualTraces, QuietSetup, TraceAlone};
 ghost use Rattle.run_laws.specs.TraceLaws.{TraceByPhases, TraceByWideView};
 
 /// In a quiet run the trace of a confined hard thread is that of the definition of one thread over
-/// its view, whatever the seven others run.
+/// its view. The seven others may run any code.
 pub fn traces_alone()
     ensures { TraceAlone }
 {
@@ -29,7 +28,7 @@ pub fn writes_equal_traces()
     crate::retired_traces::writes_equal_traces();
 }
 
-/// A setup without a permit has quiet runs alone.
+/// A setup without a permit has only quiet runs.
 pub fn stays_quiet()
     ensures { QuietSetup }
 {

@@ -15,6 +15,7 @@ hex (suc width) n = hex width (n / 16) ++ hex_digit (n % 16) ∷ []
 unfoldable pub two_digits : ℕ → List ℕ
 two_digits n = (48 + n / 10) ∷ (48 + n % 10) ∷ []
 
--- a number in decimal, right in so many columns filled with spaces; longer where it needs more
+-- a number in decimal, right-aligned in a number of columns and filled with spaces; longer if it
+-- needs more columns
 unfoldable pub right : ℕ → ℕ → List ℕ
 right width n = replicate (width - length (decimal n)) 32 ++ decimal n

@@ -13,7 +13,8 @@ cycles_text n = codes "cycles " ++ (decimal n ++ codes "\n")
 unfoldable pub thread_text : ℕ → List ℕ
 thread_text thread = codes "T" ++ decimal thread
 
--- what a stage holds: nothing, a picked thread, a flushed turn, or an issue with its pc and word
+-- the content of a stage: nothing, a picked thread, a flushed turn, or an issue with its pc and
+-- word
 unfoldable pub held_text : StageContent → List ℕ
 held_text Nothing = codes "-"
 held_text (Picked thread) = thread_text thread
@@ -21,7 +22,7 @@ held_text (Flushed thread) = thread_text thread ++ codes " flushed"
 held_text (Issue thread pc word) =
     thread_text thread ++ (codes " " ++ (hex 8 pc ++ (codes " " ++ hex 8 word)))
 
--- the line of a stage: its name and what it holds
+-- the line of a stage: its name and its content
 unfoldable pub stage_text : List ℕ → StageContent → List ℕ
 stage_text name held = name ++ (codes " " ++ (held_text held ++ codes "\n"))
 
@@ -51,7 +52,7 @@ timer_text thread armed sleep high =
     ++ (moment_text armed ++ (codes " sleep " ++ (hex 16 sleep ++ (codes " high " ++
     (hex 8 high ++ codes "\n"))))))
 
--- a latch, or that no port is there
+-- a latch, or the mark of an absent port
 unfoldable pub port_text : Option ℕ → List ℕ
 port_text None = codes "open"
 port_text (Some latch) = hex 8 latch

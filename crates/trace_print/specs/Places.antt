@@ -1,4 +1,4 @@
--- Where a fault stands in a setup file, as a text.
+-- The place of a fault in a setup file, as a text.
 use Rattle.std.specs.Prelude.{ℕ, ◌-◌, ◌==◌, List, [], ◌∷◌, ◌++◌, decimal, codes, if◌then◌else◌}
 use Rattle.fp_setup.specs.Keys.{Key, names, top_keys, thread_keys, loop_keys}
 use Rattle.fp_setup.specs.declared.refusal.Place.{Place}
@@ -11,7 +11,7 @@ keys_of table =
     else if table == 3 then loop_keys
     else []
 
--- an entry of a list by its number, from 1; none where the list has no such entry
+-- an entry of a list by its number, from 1; empty if the list has no such entry
 abbrev pub entry_of : List (List ℕ) → ℕ → List ℕ
 entry_of [] number = []
 entry_of (entry ∷ entries) number = if number == 1 then entry else entry_of entries (number - 1)

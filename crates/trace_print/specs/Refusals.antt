@@ -1,4 +1,4 @@
--- The lines that say why something is refused, by this project's format of refusals.
+-- The lines that report refusals, in this project's format of refusals.
 use Rattle.std.specs.Prelude.{ℕ, ◌==◌, ◌%◌, ◌^◌, List, [], ◌∷◌, ◌++◌, decimal, codes, if◌then◌else◌}
 use Rattle.trace_print.specs.declared.refusals.Refusal.{Refusal}
 use Rattle.trace_print.specs.declared.refusals.Refusal.TheVariants.{Setup, Section, Image}
@@ -14,12 +14,12 @@ pub record Named : Type 0 where
 abbrev pub named : ℕ → List ℕ → Named
 named code name = record { code = code; name = name }
 
--- the name of a code in a table; none where the table lacks it
+-- the name of a code in a table; empty if the table lacks it
 abbrev pub name_of : List Named → ℕ → List ℕ
 name_of [] code = []
 name_of (entry ∷ table) code = if code == entry.code then entry.name else name_of table code
 
--- what is wrong with a setup
+-- the names of the faults of a setup
 unfoldable pub setup_names : List Named
 setup_names =
     named 1 (codes "TooLong")
@@ -36,7 +36,7 @@ setup_names =
     ∷ named 12 (codes "TooMany")
     ∷ []
 
--- with the section or the thread that is asked for
+-- the names of the faults of the requested section or thread
 unfoldable pub section_names : List Named
 section_names =
     named 1 (codes "NotHard")
@@ -99,7 +99,7 @@ bound_names =
     ∷ named 10 (codes "Escape")
     ∷ []
 
--- with a line of a list of routines
+-- the names of the faults of a line of a list of routines
 unfoldable pub routine_names : List Named
 routine_names =
     named 1 (codes "TooMany")
@@ -112,12 +112,12 @@ routine_names =
 abbrev pub code_text : List Named → ℕ → List ℕ
 code_text table code = decimal code ++ (codes " " ++ name_of table code)
 
--- the number that a bound's refusal tells: Overflow's in decimal, else an address in eight
+-- the number in a bound's refusal: for Overflow the bound in decimal, else an address in eight
 -- hexadecimal digits
 unfoldable pub bound_value : ℕ → ℕ → List ℕ
 bound_value code value = if code == 6 then decimal value else hex 8 (value % 2 ^ 32)
 
--- the line of a refusal: what is refused, the code with its name, and where
+-- the line of a refusal: the refused object, the code with its name, and the place
 unfoldable pub refusal_text : Refusal → List ℕ
 refusal_text (Setup code place) =
     codes "refused setup "

@@ -14,15 +14,15 @@ unfoldable pub store_text : ℕ → ℕ → ℕ → List ℕ
 store_text address size value =
     codes "[" ++ (hex 8 address ++ (codes "]/" ++ (decimal size ++ (codes "=" ++ hex 8 value))))
 
--- a CSR and the value that it keeps
+-- a CSR and its new value
 unfoldable pub csr_text : ℕ → ℕ → List ℕ
 csr_text csr value = codes "csr " ++ (hex 3 csr ++ (codes "=" ++ hex 8 value))
 
--- a cause and the address where the thread goes on
+-- a cause and the address at which the thread continues
 unfoldable pub trap_text : ℕ → ℕ → List ℕ
 trap_text cause target = codes "trap " ++ (decimal cause ++ (codes " -> " ++ hex 8 target))
 
--- an effect; a CSR's old value stands before it where a register gets it
+-- an effect; if a register gets a CSR's old value, that comes first
 unfoldable pub effect_text : Effect → List ℕ
 effect_text Nothing = codes "-"
 effect_text (Reg rd value) = register_text rd value

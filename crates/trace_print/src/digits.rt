@@ -17,8 +17,8 @@ pub fn push_decimal<I: Integer>(text: &mut ArrayString<96>, number: I)
     text.push_str(Buffer::new().format(number));
 }
 
-/// Appends a number in decimal, right in `width` columns filled with spaces. A number that needs
-/// more columns takes them.
+/// Appends a number in decimal, right-aligned in `width` columns and filled with spaces. A longer
+/// number uses more columns.
 #[tactic(auto, unfolding(crate::specs::Digits::right))]
 pub fn push_right(text: &mut ArrayString<96>, number: u64, width: usize)
     requires few { width ≤ 20 }
@@ -54,8 +54,8 @@ pub fn push_word(text: &mut ArrayString<96>, word: u32)
     ensures len { array_string_len text.new ≡ array_string_len text.old + 8 }
 {
     let digits = word_digits(word);
-    // Digits are ASCII, which is text as it is. A test of each byte would cost more than the digits
-    // do.
+    // Digits are ASCII and so valid UTF-8. A test of each byte would cost more than making the
+    // digits.
     text.push_str(unsafe { str::from_utf8_unchecked(&digits) });
 }
 

@@ -11,12 +11,12 @@ ghost use Rattle.trace_print.specs.DumpLines.{port_text, latch_text, memory_text
 use crate::digits::{push_decimal, push_hex, push_word};
 use arrayvec::ArrayString;
 
-/// What a stage holds, as a dump shows it.
+/// The content of a stage, as in a dump.
 #[derive(Clone, Copy, Debug)]
 pub enum StageContent {
     /// No turn.
     Nothing,
-    /// The picked thread, of which it isn't shown whether its turn will be flushed.
+    /// The picked thread. It isn't shown whether its turn will be flushed.
     Picked { thread: u8 },
     /// A turn of the thread that was flushed.
     Flushed { thread: u8 },
@@ -36,7 +36,7 @@ pub fn cycles_line(n: u64) -> ArrayString<96>
     text
 }
 
-/// The line of a stage: its name, of at most 16 bytes, and what it holds.
+/// The line of a stage: its name, of at most 16 bytes, and its content.
 #[tactic(auto, unfolding(crate::specs::DumpLines::stage_text))]
 pub fn stage_line(name: &str, held: &StageContent) -> ArrayString<96>
     requires { length name.now ≤ 16 }
@@ -108,7 +108,7 @@ fn push_sleep(text: &mut ArrayString<96>, sleep: u64, high: u32)
     push_word(text, high);
 }
 
-/// The line of a thread's latch, which is open where no port is there.
+/// The line of a thread's latch; without a port the latch is `open`.
 #[tactic(auto, unfolding(crate::specs::DumpLines::latch_text))]
 pub fn latch_line(thread: u8, latch: Option<u32>) -> ArrayString<96>
     ensures { result.bytes ≡ latch_text thread latch }
@@ -147,7 +147,7 @@ fn push_thread(text: &mut ArrayString<96>, thread: u8)
     push_decimal(text, thread);
 }
 
-/// Appends what a stage holds.
+/// Appends the content of a stage.
 #[tactic(auto, unfolding(crate::specs::DumpLines::held_text))]
 fn push_held(text: &mut ArrayString<96>, held: &StageContent)
     requires room { array_string_len text.old + 22 ≤ 96 }

@@ -16,23 +16,23 @@ use std::marker::Model;
 /// How many cycles have the same upper digits.
 const SAME: u64 = 10_000;
 
-/// The first cycle that is kept where no cycle's upper digits are: one that no line shows.
+/// The value of `first` if no cycle's upper digits are kept: a cycle that no line shows.
 const NONE: u64 = 10_000_000_000;
 
 /// The line of an event, in a buffer that is used again for the line of the next one: empty at
 /// first.
 ///
-/// It has the bytes that [`line`](crate::line) makes, and takes about a fifth of its instructions.
-/// A run with four hard threads spent a third of its instructions in lines: hence this special
-/// case. Digits come in pairs from a table and are written where they stand, and the upper six
-/// columns of the cycle, which change once in 10,000 cycles, are left from the line before.
+/// It has the same bytes as [`line`](crate::line), with about a fifth of its instructions. With
+/// [`line`](crate::line), a run with four hard threads spends a third of its instructions on lines:
+/// hence this special case. Digits come in pairs from a table and are written in place. The upper
+/// six columns of the cycle change once in 10,000 cycles and are reused from the previous line.
 #[derive(Drop)]
 pub struct EventLine {
-    /// The line, and behind it bytes of earlier lines.
+    /// The line, followed by bytes of earlier lines.
     text: [u8; ROOM],
     /// How many bytes the line has.
     len: usize,
-    /// The first cycle with the upper digits that stand in the text.
+    /// The first cycle with the upper digits that are in the text.
     first: u64,
 }
 
@@ -70,10 +70,10 @@ impl EventLine {
         &self.text[..self.len]
     }
 
-    /// Makes the line of an event in the place of the one before. The cycle is below
-    /// 10,000,000,000, so that it has ten digits at most; `pc` and `word` are any, and the effect
-    /// is one that a line can show: a register below 32, a CSR's number below 4096, and a store of
-    /// 1, 2 or 4 bytes whose value fits them.
+    /// Makes the line of an event in place of the previous one. The cycle is below 10,000,000,000,
+    /// so that it has ten digits at most. `pc` and `word` are arbitrary. The effect is printable: a
+    /// register below 32, a CSR's number below 4096, and a store of 1, 2 or 4 bytes with a value
+    /// that fits.
     #[inline(always)]
     pub fn set(&mut self, cycle: u64, pc: u32, word: u32, effect: &Effect)
         requires cycle { cycle < 10 ^ 10 }
@@ -98,7 +98,7 @@ impl EventLine {
     }
 }
 
-/// Writes a cycle right in ten columns, and answers the first cycle with its upper digits.
+/// Writes a cycle right-aligned in ten columns, and returns the first cycle with its upper digits.
 #[inline(always)]
 fn set_cycle(text: &mut [u8; ROOM], first: u64, cycle: u64) -> u64
     requires cycle { cycle < 10 ^ 10 }
@@ -118,8 +118,7 @@ fn set_cycle(text: &mut [u8; ROOM], first: u64, cycle: u64) -> u64
     first
 }
 
-/// Writes a cycle whose upper digits don't stand in the text, or that has spaces among its lower
-/// digits.
+/// Writes a cycle whose upper digits aren't in the text, or that has spaces among its lower digits.
 #[cold]
 #[inline(never)]
 fn set_upper(text: &mut [u8; ROOM], cycle: u64) -> u64
@@ -138,7 +137,7 @@ fn set_upper(text: &mut [u8; ROOM], cycle: u64) -> u64
     }
 }
 
-/// Writes an effect after the first 29 bytes, and answers where it ends.
+/// Writes an effect after the first 29 bytes, and returns the index of its end.
 #[inline(always)]
 fn set_effect(text: &mut [u8; ROOM], effect: &Effect) -> usize
     requires { IsPrintable effect.now }
@@ -175,7 +174,7 @@ fn set_effect(text: &mut [u8; ROOM], effect: &Effect) -> usize
     }
 }
 
-/// Writes an effect that few lines show, as [`line`](crate::line) does.
+/// Writes a rare effect, as [`line`](crate::line) does.
 #[cold]
 #[inline(never)]
 fn set_rare_effect(text: &mut [u8; ROOM], effect: &Effect) -> usize

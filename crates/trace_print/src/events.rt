@@ -80,7 +80,7 @@ fn push_register(text: &mut ArrayString<96>, rd: u8, value: u32)
     push_word(text, value);
 }
 
-/// Appends what is stored where.
+/// Appends a store's address and value.
 #[tactic(auto, unfolding(crate::specs::Text::store_text))]
 fn push_store(text: &mut ArrayString<96>, address: u32, size: u8, value: u32)
     requires room { array_string_len text.old + 23 ≤ 96 }
@@ -95,7 +95,7 @@ fn push_store(text: &mut ArrayString<96>, address: u32, size: u8, value: u32)
     push_word(text, value);
 }
 
-/// Appends a CSR and the value that it keeps.
+/// Appends a CSR and its new value.
 #[tactic(auto, unfolding(crate::specs::Text::csr_text))]
 fn push_csr(text: &mut ArrayString<96>, csr: u16, value: u32)
     requires room { array_string_len text.old + 16 ≤ 96 }
@@ -108,7 +108,7 @@ fn push_csr(text: &mut ArrayString<96>, csr: u16, value: u32)
     push_word(text, value);
 }
 
-/// Appends a trap's cause and the address where the thread goes on.
+/// Appends a trap's cause and the address at which the thread continues.
 #[tactic(auto, unfolding(crate::specs::Text::trap_text))]
 fn push_trap(text: &mut ArrayString<96>, cause: u8, target: u32)
     requires room { array_string_len text.old + 20 ≤ 96 }

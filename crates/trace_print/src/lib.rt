@@ -1,5 +1,5 @@
 //! The texts of events, refusals, bounds and dumps, each in a buffer of fixed size: no memory is
-//! taken and nothing can fail.
+//! allocated and nothing can fail.
 #![tactic(auto)]
 
 mod bounds;

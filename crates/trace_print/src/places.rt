@@ -1,4 +1,4 @@
-//! Where a fault stands in a setup file.
+//! The place of a fault in a setup file.
 
 ghost use Rattle.std.specs.Prelude.{◌≡◌, ◌+◌, ◌≤◌, ◌++◌, length};
 ghost use Rattle.arrayvec.specs.ArrayString.{array_string_len};
@@ -39,7 +39,7 @@ fn push_row(text: &mut ArrayString<96>, table: u8, row: u32)
     push_index(text, row);
 }
 
-/// Appends a key's value, or where `item` isn't 0 the element with that number.
+/// Appends a key's value, or if `item` isn't 0 the element with that number.
 #[tactic(auto, unfolding(crate::specs::Places::value_text))]
 fn push_value(text: &mut ArrayString<96>, table: u8, key: u8, item: u32)
     requires room { array_string_len text.old + 21 ≤ 96 }

@@ -11,25 +11,25 @@ use crate::places::push_place;
 use arrayvec::ArrayString;
 use fp_setup::Place;
 
-/// Why something is refused, by the code of its fault. A code without a name prints none.
+/// The reason of a refusal, by the code of its fault. A code without a name is printed without one.
 #[derive(Clone, Copy, Debug)]
 pub enum Refusal {
     /// A setup, with the place of the fault.
     Setup { code: u8, place: Place },
-    /// The section or the thread that is asked for.
+    /// The requested section or thread.
     Section { code: u8 },
     /// An image or an ELF file, with the offset of the fault in bytes.
     Image { code: u8, offset: u32 },
     /// A source, with the line of the fault, counted from 1; 0 for the source as a whole.
     Source { line: u32, code: u8 },
-    /// A bound, with the address of the fault, or where the bound is too large (code 6) the bound,
-    /// of one through calls 2^64.
+    /// A bound, with the address of the fault. If the bound is too large (code 6), the value is the
+    /// bound, or 2^64 for a bound through calls.
     Bound { code: u8, value: u128 },
     /// A list of routines, with the line of the fault, counted from 1.
     Routines { line: u32, code: u8 },
 }
 
-/// The line of a refusal: what is refused, the code with its name, and where.
+/// The line of a refusal: the refused object, the code with its name, and the place.
 #[tactic(auto, unfolding(crate::specs::Refusals::refusal_text))]
 pub fn refusal_line(r: &Refusal) -> ArrayString<96>
     ensures { result.bytes ≡ refusal_text r.now }
@@ -107,7 +107,7 @@ fn push_source(text: &mut ArrayString<96>, line: u32, code: u8)
     push_line_code(text, line, code, source_name(code));
 }
 
-/// Appends the number that a bound's refusal tells.
+/// Appends the number of a bound's refusal.
 #[tactic(auto, unfolding(crate::specs::Refusals::bound_value))]
 fn push_bound_value(text: &mut ArrayString<96>, code: u8, value: u128)
     requires room { array_string_len text.old + 39 ≤ 96 }
