@@ -1,5 +1,5 @@
--- A thread that is protected beside a load: a setup with its image and ports, in which the seven
--- other threads run something.
+-- A thread that is protected from a load. A load is a setup with its image and ports, in which the
+-- seven other threads run any code.
 use Rattle.std.specs.Prelude.{◌≡◌, ℕ, Bool, true, List, Option, Some, Ok, IfSome}
 use Rattle.flexpret_top.specs.Ask.TheVariants.{Run}
 use Rattle.flexpret_top.specs.Commands.{ask}
@@ -15,8 +15,8 @@ use Rattle.flexpret_top.specs.ThreadView.{View}
 use Rattle.flexpret_top.specs.TraceLaws.{IsConfinedHard, view_of}
 
 -- The files have a setup of this name, in which thread i is confined, and hard and active at the
--- start; its view over n cycles is v; and no issue that has retired writes a configuration
--- register. Nothing is said of the other threads.
+-- start. Its view over n cycles is v, and no retired issue writes a configuration register. The
+-- other threads are arbitrary.
 pub record IsProtected (files : FileMap) (ports : List (Option Row)) (setup : List ℕ) (i n : ℕ)
     (v : View) : Type 0 where
   pub loaded : Program
@@ -25,14 +25,14 @@ pub record IsProtected (files : FileMap) (ports : List (Option Row)) (setup : Li
   pub quiet : IsRetiredQuiet (machine_of loaded ports) n
   pub view : view_of (machine_of loaded ports) i n ≡ v
 
--- Where the words ask for the trace of a thread that is protected beside a load, these bytes are
--- it: the text of the definition of one thread over its view.
+-- If the arguments request the trace of a thread that is protected from the load, these bytes are
+-- that trace: the text of the definition of one thread over its view.
 pub record IsTraceBeside (told : Option FileMap) (words : List (List ℕ)) (ports : List (Option Row))
     (bytes : List ℕ) : Type 0 where
   pub text_of : IfSome told (λ files. (setup : List ℕ) (i n : ℕ) (v : View) → ask words
       ≡ Some (Run setup i n) → IsProtected files ports setup i n v → bytes ≡ text (solo v n))
 
--- The answer is true where a thread is protected beside both loads, with the same view.
+-- The result is true if a thread is protected from both loads, with the same view.
 pub record IsSameBeside (one other : Option FileMap) (words : List (List ℕ))
     (ports_of_one ports_of_other : List (Option Row)) (same : Bool) : Type 0 where
   pub always : IfSome one (λ first. IfSome other (λ second. (setup : List ℕ) (i n : ℕ) (v : View) →

@@ -1,8 +1,8 @@
-//! An example of a program over the theorems of this project. It shows that a control thread writes
-//! the same trace beside two loads, whatever these are.
+//! An example of a program over the theorems of this project. It shows that a control thread has
+//! the same trace with any two loads.
 //!
-//! Its line of crates.txt names `flexpret_top` alone, which hands on the definitions, the theorems
-//! and the types that are used here.
+//! Its line of crates.txt names only `flexpret_top`, which re-exports the definitions, theorems and
+//! types used here.
 
 #![tactic(auto)]
 
@@ -31,7 +31,7 @@ impl From<AllocError> for NoTrace {
     }
 }
 
-/// Lets the command of some words write into a sink that is empty, and answers its status.
+/// Runs the command of some arguments with an empty sink, and returns its status.
 fn write_trace<F: Files>(
     alloc: Global,
     words: &[String],
@@ -47,12 +47,12 @@ fn write_trace<F: Files>(
     flexpret(alloc, words, files, out, ports)
 }
 
-/// The trace that the command of some words writes beside a load, in a sink with room for so many
-/// bytes: the files hold the setup and the image with the load, and the ports have its devices.
+/// The trace that the command of some arguments writes with a load, in a sink with room for `room`
+/// bytes. The files have the setup and the image with the load, and the ports have its devices.
 ///
 /// # Errors
 ///
-/// The status of the command, 8 where the trace has more bytes; or memory ran out.
+/// The status of the command, 8 if the trace has more bytes; or out of memory.
 pub fn trace_beside<F: Files>(
     alloc: Global,
     words: &[String],
@@ -78,13 +78,13 @@ fn have_same(one: &MemSink, other: &MemSink) -> bool
     one.bytes() == other.bytes()
 }
 
-/// Whether the command of some words writes the same trace beside two loads. Where both leave the
-/// thread protected, with the same view, it does: its own code, slots, private memory and inputs
-/// are the same, and nothing else of the loads has a part in its trace.
+/// Whether the command of some arguments writes the same trace with two loads. It does if the
+/// thread is protected from both, with the same view: its own code, slots, private memory and
+/// inputs are the same, and its trace depends on nothing else.
 ///
 /// # Errors
 ///
-/// As for [`trace_beside`], of the first load or else of the second one.
+/// As for [`trace_beside`], for the first load or else for the second one.
 #[tactic(auto, using(crate::proofs::Traces::same_beside))]
 pub fn is_same_beside<F: Files>(
     alloc: Global,

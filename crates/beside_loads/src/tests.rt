@@ -1,4 +1,4 @@
-//! A control loop beside two loads.
+//! A control loop with two loads.
 
 ghost use Rattle.std.specs.Prelude.{◌≡◌, IfOk, vec_len};
 
@@ -23,7 +23,7 @@ const CONTROL: &str = "lui t0, 0x40000\nloop:\nlw t1, 0(t0)\nsw t1, 0(t0)\nj loo
 /// A load that counts.
 const COUNTS: &str = "count:\naddi t0, t0, 1\nj count\n";
 
-/// A load that stores where it may, and where it may not.
+/// A load that stores to allowed and to forbidden addresses.
 const STORES: &str =
     "lui t0, 0x20000\nlui t1, 0x20001\nstore:\nsw t1, 0(t1)\nsw t1, 0(t0)\nj store\n";
 

@@ -17,8 +17,8 @@ use Rattle.fp_image.specs.declared.refusals.ImageNo.TheVariants.{BadSegment, Ove
 use Rattle.fp_image.specs.declared.refusals.ImageRefused.{ImageRefused}
 use Rattle.fp_image.specs.declared.refusals.ImageRefused.TheVariants.{Fault, NoMemory}
 
--- the longest file, by the size of a scratchpad: the bytes of both, and an eighth of one of them
--- for what stands around the segments, which is more than they need
+-- the greatest length of a file, from the size of a scratchpad: the bytes of both scratchpads, plus
+-- an eighth of one for the headers of the segments, which is more than they need
 abbrev pub longest : ℕ → ℕ
 longest size = if size == small_size then 34816 else 139264
 
@@ -26,7 +26,7 @@ longest size = if size == small_size then 34816 else 139264
 abbrev pub number_at : ℕ → List ℕ → ℕ
 number_at offset bytes = little_number 4 (drop offset bytes)
 
--- a check by whether it fails, its fault and the offset that tells it
+-- a check: whether it fails, its fault and the offset that is reported
 abbrev pub check : Bool → ImageNo → ℕ → Check ImageRefused
 check fails code offset = record { fails = fails; fault = Fault code offset }
 
@@ -38,7 +38,7 @@ header_checks size file = check (nat_lt (longest size) (length file)) TooLong 0
     ∷ check (nat_lt most_segments (number_at 4 file)) BadSegment 4
     ∷ []
 
--- the checks of a segment, in their order: of a file of so many bytes in all, `rest` is what stands
+-- the checks of a segment, in their order, in a file of a given total length. `rest` is the file
 -- from the segment's address field on, and the segment before ends at `from`
 abbrev pub segment_checks : ℕ → ℕ → ℕ → List ℕ → List (Check ImageRefused)
 segment_checks size total from rest =
@@ -60,7 +60,7 @@ IsUnlessMemory result defined = (result ≡ Err NoMemory) ⊎ (result ≡ define
 unfoldable pub count_of : ℕ → List ℕ → Result ℕ ImageRefused
 count_of size file = unless (first_fault (header_checks size file)) (number_at 4 file)
 
--- a segment, which stands at the front of the rest
+-- the segment at the front of the rest
 unfoldable pub segment_of : ℕ → ℕ → ℕ → List ℕ → Result Segment ImageRefused
 segment_of size total from rest = unless (first_fault (segment_checks size total from rest))
     (record { address = number_at 0 rest; bytes = take (number_at 4 rest) (drop 8 rest) })
@@ -87,7 +87,7 @@ unfoldable pub file_of : List Segment → List ℕ
 file_of segments =
     codes "FPX1" ++ (little_bytes 4 (length segments) ++ flat_map segment_written segments)
 
--- The file is read as these segments, for each size whose scratchpads they lie inside.
+-- Reading the file returns these segments, for each size whose scratchpads contain them.
 abbrev pub IsReadBack : List ℕ → List Segment → Type 0
 IsReadBack file segments =
     (size : ℕ) → IsSize size → IsImage size segments → image_of size file ≡ Ok segments

@@ -1,5 +1,5 @@
--- The rules that the segments of an image keep, and the words that they hold. Source: this
--- project's profile (the memory map and the image format).
+-- The rules that the segments of an image keep, and the words of an image. Source: this project's
+-- profile (the memory map and the image format).
 use Rattle.std.specs.Prelude.{◌≤◌, ℕ, ◌+◌, ◌-◌, ◌%◌, ◌==◌, nat_lt, nat_le}
 use Rattle.std.specs.Prelude.{Bool, ◌&&◌, ◌||◌, if◌then◌else◌, IsTrue, List, []}
 use Rattle.std.specs.Prelude.{◌∷◌, length, drop, Option, Some, None, unwrap_or}
@@ -36,13 +36,13 @@ pub record IsImage (size : ℕ) (segments : List Segment) : Type 0 where
   pub few : length segments ≤ most_segments
   pub rising : Rises size 0 segments
 
--- the word of a segment at an address, where the segment has all its bytes
+-- the word of a segment at an address, if the segment has all its bytes
 abbrev pub word_in : Segment → ℕ → Option ℕ
 word_in s address = if nat_le s.address address && nat_le (address + 4) (end_of s)
     then Some (little_number 4 (drop (address - s.address) s.bytes))
     else None
 
--- The word of an image at an address: that of the first segment that has it, 0 where none has it.
+-- The word of an image at an address: that of the first segment that has it, 0 if none has it.
 abbrev pub word : List Segment → ℕ → ℕ
 word [] address = 0
 word (s ∷ more) address = unwrap_or (word_in s address) (word more address)

@@ -30,7 +30,7 @@ impl Model for Image {
 }
 
 impl Image {
-    /// The image without segments. Later segments take their memory from `alloc`.
+    /// The image without segments. Later segments are allocated in `alloc`.
     pub fn new(alloc: Global) -> Image
         ensures { result ≡ [] }
     {
@@ -62,7 +62,7 @@ impl Image {
         self.segments.as_slice()
     }
 
-    /// The word at an address: 0 where no segment has all of its bytes.
+    /// The word at an address: 0 if no segment has all of its bytes.
     pub fn word(&self, address: u32) -> u32
         ensures { result ≡ word self.now address }
     {
@@ -74,8 +74,8 @@ impl Image {
         0
     }
 
-    /// The word of the instruction scratchpad at an address, a multiple of four below 65,536: 0
-    /// where no segment has it.
+    /// The word of the instruction scratchpad at an address, a multiple of four below 65,536: 0 if
+    /// no segment has it.
     pub fn code_word(&self, address: u32) -> u32
         requires aligned { address % 4 ≡ 0 }
         requires inside { address < large_size }
@@ -85,7 +85,7 @@ impl Image {
     }
 }
 
-/// The word of a segment at an address, where the segment has all its bytes.
+/// The word of a segment at an address, if the segment has all its bytes.
 fn word_in(segment: &Segment, address: u32) -> Option<u32>
     ensures { result ≡ word_in segment.now address }
 {

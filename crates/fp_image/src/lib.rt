@@ -1,4 +1,4 @@
-//! The image of a program: the segments of its two scratchpads, and the file that they come in.
+//! The image of a program: the segments of its two scratchpads, and its file format.
 
 #![tactic(auto)]
 

@@ -1,4 +1,4 @@
-//! What an image is made of.
+//! The parts of an image.
 
 ghost use Rattle.std.specs.Prelude.{◌≡◌, List, ℕ, Option};
 ghost use Rattle.std.specs.Prelude.{length};

@@ -17,7 +17,7 @@ use std::alloc::Global;
 ///
 /// # Errors
 ///
-/// `Fault` where the file isn't an image, with its first fault; `NoMemory` if memory ran out.
+/// `Fault` if the file isn't an image, with its first fault; `NoMemory` if memory ran out.
 #[tactic(auto, unfolding(crate::specs::Format::image_of))]
 pub fn read_image(alloc: Global, bytes: &[u8], size: u32) -> Result<Image, ImageRefused>
     requires { IsSize size }
@@ -96,7 +96,7 @@ fn read_segments(
     Ok(image)
 }
 
-/// The segment at the front of `rest`, the end of a file of `total` bytes, where the one before it
+/// The segment at the front of `rest`, the end of a file of `total` bytes. The segment before it
 /// ends at the address `from`.
 #[tactic(auto, unfolding(crate::specs::Format::segment_of))]
 fn read_segment(

@@ -4,7 +4,7 @@ ghost use Rattle.std.specs.Prelude.{◌≡◌};
 
 use thiserror::Error;
 
-/// What is wrong with an image file, by its number in a refusal line.
+/// The faults of an image file, with their numbers in a refusal line.
 #[derive(Clone, Copy, Debug, PartialEq, Eq, Error)]
 pub enum ImageNo {
     /// The file has more bytes than an image for scratchpads of the given size can need.
@@ -31,9 +31,9 @@ pub enum ImageNo {
 /// Why an image was not read.
 #[derive(Clone, Copy, Debug, PartialEq, Eq, Error)]
 pub enum ImageRefused {
-    /// The first fault of the file, and the offset in the file that tells it: 0 for the whole file,
-    /// the file's length where it ends too early, the offset of the number of segments or of a
-    /// segment's address field where that is at fault, and of the first byte that is too many.
+    /// The first fault of the file, and its offset in the file: 0 for the whole file; the file's
+    /// length if it ends too early; the offset of the number of segments or of a segment's address
+    /// field at fault; the offset of the first excess byte.
     #[error("{code} (byte {offset})")]
     Fault { code: ImageNo, offset: u32 },
     /// Out of memory.

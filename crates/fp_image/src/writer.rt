@@ -12,8 +12,8 @@ use crate::parts::Segment;
 use byteorder::{ByteOrder, LittleEndian};
 use std::alloc::{AllocError, Global};
 
-/// The file of an image. [`crate::read_image`] gives the image back, for each size of which the
-/// scratchpads hold its segments.
+/// The file of an image. [`crate::read_image`] reads it back as the same image, for each size whose
+/// scratchpads contain its segments.
 ///
 /// # Errors
 ///

@@ -70,14 +70,14 @@ impl LoopTree {
     ghost use Rattle.region_tree.specs.Refusals.{IsAllowed, IsRefused};
     ghost use Rattle.region_tree.specs.Tree.{IsSection, IsTree, graph, tree_of, tree_with, word_at};
 
-    /// The tree of a section of an image and of the loops that count in it: those of the listed
-    /// loops whose head and last word lie in the section. The section isn't empty, its ends are
-    /// multiples of four, and it ends at most at 65,536.
+    /// The tree of a section of an image and of the loops that count in it: the listed loops with
+    /// head and last word in the section. The section isn't empty, its ends are multiples of four,
+    /// and it ends at most at 65,536.
     ///
     /// # Errors
     ///
-    /// [`TreeNo`] exactly where the section has no bound: the first of its causes that holds
-    /// anywhere, with the lowest address at which it holds. Besides, memory may be refused.
+    /// [`TreeNo`] exactly if the section has no bound: the first of its causes that holds anywhere,
+    /// with the lowest address at which it holds. Or out of memory.
     pub fn build(
         alloc: Global,
         image: &Image,
@@ -95,8 +95,8 @@ impl LoopTree {
         LoopTree::of_draft(alloc, Draft::new(alloc, image, section, loops)?)
     }
 
-    /// The tree of a section with these words, as many as it holds, and of the loops that count in
-    /// it.
+    /// The tree of a section with these words, as many as the section has, and of the loops that
+    /// count in it.
     ///
     /// # Errors
     ///

@@ -10,11 +10,11 @@ use Rattle.core_model.specs.World.{Start, events}
 use Rattle.selfrun.specs.declared.tally.Tally.{Tally}
 use Rattle.selfrun.specs.Text.{fold_of, tally_at, tally_of}
 
--- a tally with one more event
+-- a tally with the next event added
 abbrev pub with_event : Tally → Event → Tally
 with_event t e = record { events = t.events + 1; fold = fold_of t.fold (line_text e) }
 
--- those of all threads with the event of a cycle, if there is one
+-- the tallies of all threads with the event of a cycle, if there is one
 abbrev pub tallies_with : List Tally → Option Event → List Tally
 tallies_with tallies None = tallies
 tallies_with tallies (Some e) =
@@ -24,7 +24,7 @@ tallies_with tallies (Some e) =
 abbrev pub AreFew : List Tally → ℕ → Type 0
 AreFew tallies most = (k : ℕ) → (tally_at tallies k).events ≤ most
 
--- those of the first n cycles of a world
+-- the tallies of the first n cycles of a world
 abbrev pub tallies_of : Start → ℕ → List Tally
 tallies_of s n = map (λ k. tally_of (events s k n)) the_threads
 

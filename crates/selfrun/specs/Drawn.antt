@@ -45,9 +45,8 @@ drawn_ins x =
     form (x / 2 ^ 28 % 8) (1 + x / 2 ^ 8 % 7) (1 + x / 2 ^ 12 % 7) (1 + x / 2 ^ 16 % 7)
     (4 * (x / 2 ^ 20 % 64))
 
--- what thread k has before the drawn instructions: it puts the address of region k of the data
--- scratchpad, 0x20000000 + 2048 * k, into x8, as a multiple of 4,096 from which an odd k takes
--- 2,048
+-- the instructions of thread k before the drawn ones: they load the address of region k of the data
+-- scratchpad, 0x20000000 + 2048 * k, into x8, as a multiple of 4,096 minus 2,048 for an odd k
 abbrev pub first_ins : ℕ → List Ins
 first_ins k =
     Lui 8 (0x20000 + (k + 1) / 2) ∷ OpImm Addi 8 8 (if k % 2 == 0 then pos 0 else negsuc 2047) ∷ []
@@ -77,9 +76,9 @@ segment number k =
 unfoldable pub programs : ℕ → List Segment
 programs number = map (segment number) the_threads
 
--- A cycle has 10 nanoseconds. T0 to T3 are hard, confined and in turn, then come four slots for T4
--- to T7, which are soft. Each thread has a region of the instruction scratchpad. Of the data
--- scratchpad T0 to T3 have one each, three are shared, and the last one is read only.
+-- A cycle has 10 nanoseconds. T0 to T3 are hard and confined, with one slot each; four slots follow
+-- for T4 to T7, which are soft. Each thread has a region of the instruction scratchpad. In the data
+-- scratchpad T0 to T3 have one region each, three are shared, and the last one is read only.
 abbrev pub own_setup : Settings
 own_setup =
     plain_setup 10 0xeeee3210 0xaa00 0x76543210 0xc8883210

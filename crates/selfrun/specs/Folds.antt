@@ -1,4 +1,4 @@
--- The fold of a text, worked out from the text's parts.
+-- The hash of a text, computed from the text's parts.
 use Rattle.std.specs.Prelude.{◌≡◌, ℕ, ◌+◌, ◌*◌, ◌/◌, ◌%◌, ◌^◌, ◌<◌, ◌≤◌, ◌==◌, List, []}
 use Rattle.std.specs.Prelude.{◌∷◌, ◌++◌, codes, replicate, slice_index_or, if◌then◌else◌}
 use Rattle.trace_print.specs.Digits.{hex, hex_digit, right, two_digits}
@@ -6,7 +6,7 @@ use Rattle.selfrun.specs.Text.{fold_of}
 use Rattle.selfrun.specs.declared.piece.Piece.{Piece}
 use Rattle.selfrun.specs.declared.sites.Site.{Site}
 
--- what a text does to the fold before it
+-- the effect of a text on the hash before it
 abbrev pub IsPiece : Piece → List ℕ → Type 0
 IsPiece p bytes = (h : ℕ) → h < 2 ^ 32 → fold_of h bytes ≡ (h * p.weight + p.sum) % 2 ^ 32
 
@@ -21,11 +21,11 @@ pair_text byte = hex_digit (byte / 16) ∷ hex_digit (byte % 16) ∷ []
 abbrev pub pair_sum : ℕ → ℕ
 pair_sum byte = hex_digit (byte / 16) * 31 + hex_digit (byte % 16)
 
--- a table of these folds, by byte
+-- a table of the hashes of two hexadecimal digits, by byte
 abbrev pub ArePairs : List ℕ → Type 0
 ArePairs pairs = (byte : ℕ) → byte < 256 → slice_index_or pairs byte 0 ≡ pair_sum byte
 
--- a register's name and the sign behind it, by register
+-- a register's name and the sign after it, by register
 abbrev pub name_text : ℕ → List ℕ
 name_text rd = codes "x" ++ (two_digits rd ++ codes "=")
 
@@ -37,7 +37,7 @@ AreNames names = (rd : ℕ) → rd < 32 → IsPieceAt names rd (name_text rd)
 abbrev pub cycle_text : ℕ → List ℕ
 cycle_text cycle = right 10 cycle ++ codes " "
 
--- what stands in some columns before the last digit of a number, by the tenth of the number
+-- the text in some columns before the last digit of a number, from a tenth of the number
 unfoldable pub upper_text : ℕ → ℕ → List ℕ
 upper_text width tens = if tens == 0 then replicate width 32 else right width tens
 
@@ -53,11 +53,11 @@ AreLower lower = (n : ℕ) → n < 100 → IsPieceAt lower n (lower_text n)
 abbrev pub IsFirst : ℕ → Type 0
 IsFirst first = (100 ≤ first) × (first % 100 ≡ 0) × (first < 10 ^ 10)
 
--- a pc and a word, each with a space behind it
+-- a pc and a word, each followed by a space
 abbrev pub site_text : ℕ → ℕ → List ℕ
 site_text pc word = (hex 8 pc ++ codes " ") ++ (hex 8 word ++ codes " ")
 
--- the piece that is kept for a pc and a word is that of their text
+-- the piece that is cached for a pc and a word is that of their text
 abbrev pub IsSite : Site → Type 0
 IsSite s = IsPiece s.piece (site_text s.pc s.word)
 

@@ -1,5 +1,5 @@
--- What is told of the machine's own run: of each thread, how many events retired, and a fold of the
--- text of its trace. Source: this project's profile.
+-- The output of the machine's own run: the number of retired events of each thread, and a hash of
+-- the text of its trace. Source: this project's profile.
 use Rattle.std.specs.Prelude.{ℕ, ◌+◌, ◌*◌, ◌%◌, ◌^◌, List, ◌++◌, length, decimal}
 use Rattle.std.specs.Prelude.{codes, fold, map, flat_map, slice_index_or}
 use Rattle.fp_setup.specs.SetupOfTables.{the_threads}
@@ -11,7 +11,7 @@ use Rattle.core_model.specs.World.{Start, events}
 use Rattle.selfrun.specs.declared.tally.Tally.{Tally}
 use Rattle.selfrun.specs.Drawn.{own_setup, programs}
 
--- a fold with one more byte
+-- a hash with one byte appended
 abbrev pub with_byte : ℕ → ℕ → ℕ
 with_byte h byte = (h * 31 + byte) % 2 ^ 32
 
@@ -19,7 +19,7 @@ with_byte h byte = (h * 31 + byte) % 2 ^ 32
 unfoldable pub fold_of : ℕ → List ℕ → ℕ
 fold_of h bytes = fold with_byte h bytes
 
--- what is kept of a thread's events
+-- the tally of a thread's events
 unfoldable pub tally_of : List Event → Tally
 tally_of es = record { events = length es; fold = fold_of 0 (text es) }
 
@@ -33,7 +33,7 @@ tally_line k t =
 unfoldable pub own_start : ℕ → ℕ → Start
 own_start number n = start own_setup (programs number) no_ports n
 
--- what the threads did in the first 100,000 cycles
+-- the tallies of the threads after the first 100,000 cycles
 unfoldable pub own_tallies : ℕ → List Tally
 own_tallies number = map (λ k. tally_of (events (own_start number 100000) k 100000)) the_threads
 

@@ -17,8 +17,8 @@ fn blanks(width: usize) -> Piece
     piece
 }
 
-/// What stands before the last digit of a number that is right in some columns, by the tenth of the
-/// number and how many columns those are.
+/// The text before the last digit of a right-aligned number, from a tenth of the number and the
+/// number of columns.
 fn upper(width: usize, tens: u64) -> Piece
     ensures { IsPiece result (upper_text width tens) }
 {
@@ -40,15 +40,15 @@ fn lower_pieces() -> [Piece; 100]
     pieces
 }
 
-/// What is kept for the texts of cycles. A hundred cycles have the same text before their last two
-/// digits: that of the last such hundred is kept. Contracts see nothing of it.
+/// A cache for the texts of cycles. A hundred cycles have the same text before their last two
+/// digits; that of the last such hundred is cached. Contracts don't depend on it.
 #[derive(Drop)]
 pub struct Cycles {
-    /// The last two digits of a cycle and the space behind it, by these digits.
+    /// The last two digits of a cycle and the space after it, by these digits.
     lower: [Piece; 100],
     /// The first one of the hundred cycles, 100 or more: below that, spaces stand for digits.
     first: u64,
-    /// What stands before their last two digits.
+    /// The text before their last two digits.
     upper: Piece,
 }
 
@@ -91,8 +91,8 @@ impl Cycles {
         self.lower[lower as usize].after(self.upper.after(h))
     }
 
-    /// A fold with a cycle and a space, where the cycle isn't one of the hundred. Those with it are
-    /// kept from then on.
+    /// A hash with a cycle and a space appended, if the cycle isn't one of the cached hundred. Its
+    /// hundred is cached from then on.
     #[cold]
     #[inline(never)]
     fn fold_other(&mut self, h: u32, cycle: u64) -> u32

@@ -28,7 +28,7 @@ fn push_ins(bytes: &mut Vec<u8>, ins: &Ins) -> Result<(), AllocError>
     bytes.extend_from_slice(&buffer)
 }
 
-/// Appends so many drawn instructions, and gives the last draw.
+/// Appends a number of drawn instructions, and returns the last draw.
 fn push_drawn(bytes: &mut Vec<u8>, first: u32) -> Result<u32, AllocError>
     ensures bytes { OnOk result (bytes.new.items ≡ bytes.old.items
         ++ bytes_of (drawn_from first 124)) }
@@ -58,7 +58,7 @@ fn thread_bytes(alloc: Global, k: u8, first: u32) -> Result<(Vec<u8>, u32), Allo
 }
 
 /// The programs that a number draws: a segment of 128 words for each thread k, at the address 2,048
-/// k. Each thread draws on from where the one before it ended.
+/// k. Each thread's draws continue after those of the thread before it.
 ///
 /// # Errors
 ///

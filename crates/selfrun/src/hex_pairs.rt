@@ -35,7 +35,8 @@ fn pair_sums() -> [u32; 256]
     sums
 }
 
-/// The folds of two hexadecimal digits, by the byte that they show. Contracts see nothing of them.
+/// The hashes of two hexadecimal digits, by the byte that they show. Contracts don't depend on
+/// them.
 #[derive(Drop)]
 pub struct HexPairs {
     sums: [u32; 256],
@@ -56,7 +57,7 @@ impl HexPairs {
     ghost use Rattle.trace_print.specs.Digits.{hex};
     ghost use Rattle.selfrun.specs.Folds.{IsPiece, pair_text};
 
-    /// Those of all bytes.
+    /// The hashes for all bytes.
     pub fn new() -> HexPairs {
         HexPairs { sums: pair_sums() }
     }

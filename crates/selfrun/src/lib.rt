@@ -1,5 +1,5 @@
-//! The machine's own run: eight programs that a simple generator draws from a number, and what each
-//! thread did in it, as a count of its events and a fold of the text of its trace.
+//! The machine's own run: eight programs that a simple generator draws from a number. Its result
+//! has for each thread the number of its events and a hash of the text of its trace.
 
 #![tactic(auto)]
 

@@ -1,4 +1,4 @@
-//! The fold of a line, worked out from the parts of the line: no text is made.
+//! The hash of a line, computed from the parts of the line without making its text.
 
 ghost use Rattle.std.specs.Prelude.{◌≡◌, ℕ, ◌<◌};
 ghost use Rattle.rv_exec.specs.Line.{IsPrintable};
@@ -14,7 +14,7 @@ use rv_exec::{Effect, Event};
 use std::marker::Model;
 use trace_print::line;
 
-/// The names of the registers, each with the sign behind it.
+/// The names of the registers, each with the sign after it.
 fn register_names() -> [Piece; 32]
     ensures { AreNames result }
 {
@@ -27,7 +27,7 @@ fn register_names() -> [Piece; 32]
     names
 }
 
-/// A fold with the line of an event whose effect few lines show.
+/// A hash with the line of an event with a rare effect appended.
 #[cold]
 #[inline(never)]
 fn rare_line(h: u32, cycle: u64, thread: u8, pc: u32, word: u32, effect: &Effect) -> u32
@@ -50,7 +50,7 @@ fn rare_line(h: u32, cycle: u64, thread: u8, pc: u32, word: u32, effect: &Effect
     folded(h, line(&event).as_bytes())
 }
 
-/// What is kept for the folds of lines: the parts that come again. Contracts see nothing of it.
+/// A cache for the hashes of lines: the parts that recur. Contracts don't depend on it.
 #[derive(Drop)]
 pub struct LineFolder {
     pairs: HexPairs,
@@ -75,7 +75,7 @@ impl LineFolder {
     ghost use Rattle.trace_print.specs.Text.{line_text, register_text, store_text, trap_text};
     ghost use Rattle.selfrun.specs.Text.{fold_of};
 
-    /// One that was asked nothing yet.
+    /// An empty cache.
     pub fn new() -> LineFolder {
         let pairs = HexPairs::new();
         let sites = Sites::new(&pairs);
@@ -136,7 +136,7 @@ impl LineFolder {
         self.pairs.word(value).after(h)
     }
 
-    /// A fold with what is stored where, of at most nine bytes.
+    /// A hash with a store's address and value appended, at most nine bytes of value.
     #[inline(always)]
     fn store(&self, h: u32, address: u32, size: u8, value: u32) -> u32
         requires { size < 10 }
@@ -148,7 +148,7 @@ impl LineFolder {
         self.pairs.word(value).after(h)
     }
 
-    /// A fold with a trap's cause, of one digit, and where the thread goes on.
+    /// A hash with a trap's cause, of one digit, and target appended.
     #[inline(always)]
     fn trap(&self, h: u32, cause: u8, target: u32) -> u32
         requires { cause < 10 }

@@ -41,8 +41,8 @@ fn no_ports(alloc: Global) -> Result<Ports, AllocError>
     Ok(ports)
 }
 
-/// Counts the event of the turn that retires in a cycle, if it has one: it was issued
-/// [`CYCLES_TO_W`] cycles ago. The turn is looked at where it stands, so that no event is made.
+/// Counts the event of the turn that retires in a cycle, if it has one; the turn was issued
+/// [`CYCLES_TO_W`] cycles ago. It reads the turn in place, so that no event is made.
 #[inline(always)]
 #[tactic(auto, unfolding(pipe_model::specs::Stages::retired_event))]
 fn count(tallies: &mut [Tally; 8], folder: &mut LineFolder, turn: &Held<Stored>, cycle: u64)
@@ -74,8 +74,8 @@ fn own_machine(alloc: Global, number: u32) -> Result<Machine, AllocError>
     Machine::load(alloc, &setup, &image)
 }
 
-/// Runs a machine for so many cycles from its start, and counts the events of each thread as they
-/// retire.
+/// Runs a machine for a number of cycles from its start, and counts the events of each thread as
+/// they retire.
 fn tallies(machine: &mut Machine, cycles: u64, ports: &mut Ports) -> [Tally; 8]
     requires start { machine.old.at ≡ 0 }
     requires limit { cycles ≤ 100000 }
@@ -93,7 +93,7 @@ fn tallies(machine: &mut Machine, cycles: u64, ports: &mut Ports) -> [Tally; 8]
     tallies
 }
 
-/// What each thread did in the machine's own run.
+/// The tallies of the threads in the machine's own run.
 #[derive(Clone, Copy, Debug)]
 pub struct Selfrun {
     /// By thread, 0 to 7.
@@ -124,7 +124,7 @@ impl Selfrun {
     ///
     /// # Errors
     ///
-    /// A fault of the sink was counted in this call; a front of the text was put.
+    /// The sink counted a fault in this call. A prefix of the text was put.
     pub fn put<K: Sink>(&self, out: &mut K) -> Result<(), PutFailed>
         ensures ok { OnOk result (Appends (K.taken out.old) (K.taken out.new)
             (tallies_text self.now.tallies)) }

@@ -1,4 +1,4 @@
-//! What a line shows of an instruction: its pc and its word.
+//! The part of a line for an instruction: its pc and its word.
 
 ghost use Rattle.std.specs.Prelude.{◌≡◌};
 ghost use Rattle.selfrun.specs.Folds.{IsSite};
@@ -10,7 +10,7 @@ use std::marker::Model;
 /// How many words a thread's own program has.
 const WORDS: usize = 128;
 
-/// How many sites are kept for eight threads.
+/// The number of sites cached for eight threads.
 const ENTRIES: usize = 8 * WORDS;
 
 /// A pc and the word that an event showed there.
@@ -18,7 +18,7 @@ const ENTRIES: usize = 8 * WORDS;
 struct Site {
     pc: u32,
     word: u32,
-    /// Both in hexadecimal digits, each with a space behind it.
+    /// Both in hexadecimal digits, each followed by a space.
     piece: Piece,
 }
 
@@ -37,11 +37,11 @@ fn site_of(pairs: &HexPairs, pc: u32, word: u32) -> Site
     }
 }
 
-/// The sites of the last events. A thread has as many entries as its own program has words, so that
-/// nearly each event finds its site. Contracts see nothing of them.
+/// A cache of the sites of the last events. A thread has as many entries as its own program has
+/// words, so that nearly every event hits. Contracts don't depend on it.
 ///
-/// Of the 42 bytes of most lines 18 are the pc and the word, which a loop shows again and again.
-/// That they are kept saves 21 instructions of an event.
+/// Most lines have 42 bytes, and 18 of them are the pc and the word, which recur in a loop. Caching
+/// them saves 21 instructions per event.
 #[derive(Drop)]
 pub struct Sites {
     kept: [Site; ENTRIES],
@@ -62,14 +62,14 @@ impl Sites {
     ghost use Rattle.selfrun.specs.Folds.{site_text};
     ghost use Rattle.selfrun.specs.Text.{fold_of};
 
-    /// In each entry that of the word 0 at the pc 0.
+    /// A cache with the site of the word 0 at the pc 0 in each entry.
     pub fn new(pairs: &HexPairs) -> Sites {
         Sites {
             kept: [site_of(pairs, 0, 0); ENTRIES],
         }
     }
 
-    /// A fold with a pc and a word of a thread, each with a space behind it.
+    /// A hash with a thread's pc and word appended, each followed by a space.
     #[inline(always)]
     pub fn fold(&mut self, h: u32, pairs: &HexPairs, thread: u8, pc: u32, word: u32) -> u32
         requires { thread < 8 }
@@ -83,8 +83,8 @@ impl Sites {
         site.piece.after(h)
     }
 
-    /// A fold with a pc and a word, each with a space behind it, which are kept in an entry from
-    /// then on.
+    /// A hash with a pc and a word appended, each followed by a space. They are cached in an entry
+    /// from then on.
     #[cold]
     #[inline(never)]
     fn fold_other(&mut self, h: u32, pairs: &HexPairs, index: usize, pc: u32, word: u32) -> u32

@@ -1,4 +1,4 @@
-//! What is kept of a thread's events, and its line.
+//! The tally of a thread's events, and its line.
 
 ghost use Rattle.std.specs.Prelude.{◌≡◌, ◌<◌, ◌^◌};
 ghost use Rattle.rv_exec.specs.Line.{IsPrintable};
@@ -10,7 +10,7 @@ use arrayvec::ArrayString;
 use rv_exec::Effect;
 use trace_print::{push_decimal, push_hex};
 
-/// What is kept of a thread's events.
+/// The tally of a thread's events.
 #[derive(Clone, Copy, Debug)]
 pub struct Tally {
     /// How many there are.
@@ -20,7 +20,7 @@ pub struct Tally {
 }
 
 impl Tally {
-    /// Counts one more event.
+    /// Counts an event.
     #[inline(always)]
     pub(crate) fn add(
         &mut self,

@@ -1,4 +1,4 @@
--- The slots register: eight slots, of which those that aren't disabled take turns.
+-- The slots register: eight slots. Those that aren't disabled form the frame.
 use Rattle.std.specs.Prelude.{ℕ, ◌<◌, ◌%◌, ◌==◌, nat_lt, Bool, not, ◌||◌, if◌then◌else◌}
 use Rattle.std.specs.Prelude.{List, [], ◌∷◌, slice_index_or, filter, length}
 use Rattle.slot_table.specs.Nibbles.{nibbles}
@@ -12,11 +12,11 @@ soft_slot = 14
 abbrev pub disabled_slot : ℕ
 disabled_slot = 15
 
--- what may stand in a slot: a thread, soft or disabled
+-- the allowed nibbles of a slot: a thread, soft or disabled
 abbrev pub is_slot : ℕ → Bool
 is_slot nibble = nat_lt nibble 8 || nibble == soft_slot || nibble == disabled_slot
 
--- a slot that takes part
+-- a slot of the frame
 abbrev pub is_used : ℕ → Bool
 is_used nibble = not (nibble == disabled_slot)
 
@@ -24,11 +24,11 @@ is_used nibble = not (nibble == disabled_slot)
 unfoldable pub frame : ℕ → List ℕ
 frame slots = filter is_used (nibbles slots)
 
--- whose turn a slot of the frame is
+-- the turn of a slot of the frame
 abbrev pub turn_of_slot : ℕ → Turn
 turn_of_slot nibble = if nat_lt nibble 8 then Thread nibble else Soft
 
--- the turn that a nibble names, of those that may stand in a slot
+-- the turn of a nibble that is allowed in a slot
 abbrev pub turn_named : ℕ → Turn
 turn_named nibble = if nibble == disabled_slot then Nobody else turn_of_slot nibble
 
@@ -38,11 +38,11 @@ turn_in [] c = Nobody
 turn_in (slot ∷ slots) c =
     turn_of_slot (slice_index_or (slot ∷ slots) (c % length (slot ∷ slots)) soft_slot)
 
--- whose turn cycle c is, by the word of the register
+-- the turn of cycle c, from the word of the register
 unfoldable pub turn : ℕ → ℕ → Turn
 turn slots c = turn_in (frame slots) c
 
--- a turn of a thread is that of one of the eight
+-- the thread of a turn is one of the eight
 abbrev pub IsTurn : Turn → Type 0
 IsTurn (Thread thread) = thread < 8
 IsTurn Soft = Unit {0}

@@ -7,6 +7,6 @@ nibbles w =
     w % 16 ∷ (w / 16) % 16 ∷ (w / 256) % 16 ∷ (w / 4096) % 16
     ∷ (w / 65536) % 16 ∷ (w / 1048576) % 16 ∷ (w / 16777216) % 16 ∷ (w / 268435456) % 16 ∷ []
 
--- one of them; past the eighth it counts as 15, which in no register names a thread
+-- one of the nibbles; past the eighth it is 15, which no register uses for a thread
 abbrev pub nibble_at : ℕ → ℕ → ℕ
 nibble_at w k = slice_index_or (nibbles w) k 15

@@ -1,4 +1,4 @@
--- The slots register as the type that holds it.
+-- The slots register as a type.
 use Rattle.std.specs.Prelude.{ℕ, ◌+◌, ◌-◌, ◌/◌, ◌%◌, max, Bool, not, List, ◌++◌, length}
 use Rattle.std.specs.Prelude.{replicate, position, Option, Some, None, Result, Ok, Err}
 use Rattle.std.specs.List.{list_all}
@@ -7,7 +7,7 @@ use Rattle.slot_table.specs.declared.frame.Frame.{Frame}
 use Rattle.slot_table.specs.declared.frame.BadSlot.{BadSlot}
 use Rattle.slot_table.specs.Frame.{disabled_slot, is_slot}
 
--- whether a word may stand in the register
+-- whether a word is allowed in the register
 unfoldable pub is_table : ℕ → Bool
 is_table word = list_all is_slot (nibbles word)
 
@@ -20,11 +20,11 @@ abbrev pub unless_bad : ℕ → Option ℕ → Result ℕ BadSlot
 unless_bad word None = Ok word
 unless_bad word (Some index) = Err (record { index = index })
 
--- the word is accepted as it is, or the lowest slot that is refused is named
+-- the word unchanged if it is accepted, else the lowest refused slot
 unfoldable pub table_of : ℕ → Result ℕ BadSlot
 table_of word = unless_bad word (bad_slot word)
 
--- the slots of a frame in eight positions, of which those past its end are disabled
+-- the slots of a frame in eight positions; positions past its end are disabled
 abbrev pub in_positions : List ℕ → List ℕ
 in_positions slots = slots ++ replicate (8 - length slots) disabled_slot
 

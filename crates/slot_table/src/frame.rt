@@ -7,7 +7,7 @@ ghost use Rattle.slot_table.specs.Table.{laid_out, magic_of};
 
 use thiserror::Error;
 
-/// Whose turn a cycle is, by the frame of slots.
+/// The turn of a cycle, from the frame of slots.
 #[derive(Clone, Copy, Debug)]
 pub enum Turn {
     /// A hardware thread's own slot.
@@ -18,7 +18,7 @@ pub enum Turn {
     Nobody,
 }
 
-/// A slot that names neither a thread nor the soft threads nor nobody (a nibble from 8 to 13).
+/// A slot that is neither a thread nor soft nor disabled (a nibble from 8 to 13).
 #[derive(Clone, Copy, Debug, PartialEq, Eq, Error)]
 #[error("slot {index} names no thread, nor the soft threads, nor nobody")]
 pub struct BadSlot {
@@ -31,24 +31,23 @@ pub struct BadSlot {
 pub struct Frame {
     pub slots: [u8; 8],
     pub len: u8,
-    /// What a cycle is multiplied by for its position: 2^64 / `len`, rounded up, and 0 for one
-    /// slot.
+    /// The factor that gives a cycle's position: 2^64 / `len`, rounded up, and 0 for one slot.
     ///
-    /// It is kept because a division by a length that isn't known takes longer than all else that
-    /// a pick does, and one by each of the eight lengths needs a jump by a table.
+    /// It is stored because a division by a variable length takes longer than the rest of a pick,
+    /// and a division by each of the eight constant lengths needs a jump table.
     pub magic: u64,
 }
 
 /// The nibble of a slot for the soft threads.
 pub const SOFT: u8 = 14;
 
-/// The nibble of a slot that nobody has.
+/// The nibble of a disabled slot.
 pub const DISABLED: u8 = 15;
 
-/// From this cycle on, 2^61, the multiplication need not give the position. No run comes so far.
+/// From this cycle on, 2^61, the multiplication may give a wrong position. No run gets that far.
 const EARLY: u64 = 0x2000_0000_0000_0000;
 
-// Whether a nibble may stand in a slot.
+// Whether a nibble is allowed in a slot.
 fn is_slot(nibble: u8) -> bool
     ensures { result ≡ is_slot nibble }
 {
@@ -63,7 +62,7 @@ pub fn bad_slot(slots: &[u8; 8]) -> Option<usize>
     slots.iter().position(|nibble| !is_slot(*nibble))
 }
 
-/// The turn that a nibble names, of those that may stand in a slot.
+/// The turn of a nibble that is allowed in a slot.
 pub fn turn_named(nibble: u8) -> Turn
     ensures { result ≡ turn_named nibble }
 {
@@ -74,7 +73,7 @@ pub fn turn_named(nibble: u8) -> Turn
     }
 }
 
-// What a cycle is multiplied by for its position in a frame of this length.
+// The factor that gives a cycle's position in a frame of this length.
 fn magic_of(len: u8) -> u64
     requires { len ≤ 8 }
     ensures { result ≡ magic_of len }
@@ -102,8 +101,8 @@ impl Frame {
         }
     }
 
-    /// The position of a cycle in the frame: its number modulo the frame's length, and 0 where that
-    /// is 0.
+    /// The position of a cycle in the frame: its number modulo the frame's length, and 0 if the
+    /// length is 0.
     pub fn position_of(&self, cycle: u64) -> u64
         requires len { self.now.len ≤ 8 }
         requires magic { self.now.magic ≡ magic_of self.now.len }

@@ -1,5 +1,5 @@
-//! The slots register: the frame of slots that share the cycles, and whose turn each cycle is.
-//! Words as eight fields of four bits, which the region registers are too.
+//! The slots register: the frame of slots that share the cycles, and the turn of each cycle. Also
+//! words as eight fields of four bits, as used by the region registers too.
 #![tactic(auto)]
 
 mod frame;

@@ -1,4 +1,4 @@
--- What the regions of a scratchpad are to the thread: the code's values as those of the
+-- The kinds of a scratchpad's regions for the thread: the code's values as those of the
 -- definitions.
 use Rattle.std.specs.Prelude.{ℕ, ◌==◌, if◌then◌else◌, List, map}
 use Rattle.region_guard.specs.Regions.{RegionKind}
@@ -17,7 +17,7 @@ abstract_kind Foreign = foreign
 abbrev pub abstract_kinds : List Given → List RegionKind
 abstract_kinds kinds = map abstract_kind kinds
 
--- by the number that stands for it in a view
+-- from its number in a view
 abbrev pub kind_of_number : ℕ → RegionKind
 kind_of_number number =
     if number == 0 then mine

@@ -8,7 +8,7 @@ use Rattle.hart_exec.specs.Units.{row_of}
 use Rattle.solo_run.specs.declared.thread_state.ThreadState.{ThreadState}
 use Rattle.solo_run.specs.declared.thread_state.Issued.{Issued}
 
--- what the units hold of the thread
+-- the thread's own state in the units
 abbrev pub own_of : ThreadState → Own
 own_of h =
     row_of h.thread
@@ -17,12 +17,12 @@ own_of h =
 abbrev pub abstract_thread : ThreadState → Thread
 abstract_thread h = record { pc = h.pc; ready = h.ready; own = own_of h; regs = h.registers }
 
--- what an issue left
+-- the result of an issue
 abbrev pub abstract_issue : ThreadState → Issued → Completion
 abstract_issue h issued =
     record { thread = abstract_thread h; word = issued.word; effect = issued.effect }
 
--- what its instructions may do at a time
+-- the environment of its instructions at a time
 abbrev pub abstract_environment : ℕ → ThreadState → Environment
 abstract_environment now h =
     environment_by h.thread h.guard.size (region_kinds h.thread h.guard.i)

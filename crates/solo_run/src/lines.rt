@@ -22,7 +22,7 @@ pub(crate) fn set_line(line: &mut EventLine, event: &Event)
     line.set(event.cycle, event.pc, event.word, &event.effect);
 }
 
-/// Puts the line of an event, if there is one. The line is made in the place of an earlier one.
+/// Puts the line of an event, if there is one. The line is made in place of an earlier one.
 #[inline(always)]
 pub(crate) fn put_event<K: Sink>(
     out: &mut K,

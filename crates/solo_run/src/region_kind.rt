@@ -1,6 +1,6 @@
-//! What a region of a scratchpad is to the thread.
+//! The kind of a scratchpad's region for the thread.
 
-/// What a region of a scratchpad is to the thread, with the cases of the definition of that name.
+/// The kind of a scratchpad's region for the thread, with the cases of the definition of that name.
 #[derive(Clone, Copy, Debug, PartialEq, Eq)]
 pub enum RegionKind {
     /// The thread owns it: it may fetch, load and store there.

@@ -1,4 +1,4 @@
-//! The region registers of a view: who owns each region, as far as the thread can tell.
+//! The region registers of a view: each region's owner, as far as the view determines it.
 
 ghost use Rattle.std.specs.Prelude.{◌≡◌, ◌<◌, nat_lt, true};
 ghost use Rattle.std.specs.List.{list_all};
@@ -10,8 +10,8 @@ ghost use Rattle.solo_run.specs.RegionKinds.{kind_of_number, kinds_of_numbers};
 
 use region_guard::{READ_ONLY, Regions, SHARED};
 
-/// The nibble of a region that is to a thread what a number of a view says. Another thread's is any
-/// other one's.
+/// The nibble of a region with a kind, given by its number in a view. For a region of another
+/// thread it is any other thread's number.
 #[tactic(auto, unfolding(region_guard::specs::Regions::region_kind))]
 fn owner(number: u8, thread: u8) -> u8
     requires { thread < 8 }
@@ -40,7 +40,8 @@ fn word_of(digits: &[u8; 8]) -> u32
     word
 }
 
-/// A region register in which each region is to a thread what the numbers of a view say.
+/// A region register in which each region has the kind for the thread that the numbers of a view
+/// give.
 pub fn regions(numbers: [u8; 8], thread: u8) -> Regions
     requires { thread < 8 }
     ensures { region_kinds thread result ≡ kinds_of_numbers numbers }

@@ -35,7 +35,7 @@ pub struct ThreadState {
     pub ready: u64,
     /// x1 to x31.
     pub registers: Registers,
-    /// What each region is to it.
+    /// The kind of each region for it.
     pub guard: Guard,
     /// The moment until which it sleeps.
     pub sched: Sched,
@@ -51,9 +51,9 @@ pub struct ThreadState {
 /// The word of an issue, and its effect if it has an event.
 #[derive(Clone, Copy)]
 pub struct Issued {
-    /// The word that the event shows: 0 where an expiry or a refused fetch took the turn.
+    /// The word that the event shows: 0 if an expiry or a refused fetch took the turn.
     pub word: u32,
-    /// The effect of the event; None for an instruction that was held.
+    /// The effect of the event; None for a DU that waits.
     pub effect: Option<Effect>,
 }
 
@@ -62,7 +62,7 @@ impl ThreadState {
     ghost use Rattle.solo_run.specs.ThreadState.{abstract_thread, abstract_issue};
     ghost use Rattle.solo_run.specs.ThreadState.{abstract_environment, own_of};
 
-    /// A thread at its entry, with the regions that it knows.
+    /// A thread at its entry, with the region registers of its view.
     pub fn new(thread: u8, entry: u32, guard: Guard) -> ThreadState
         requires thread { thread < 8 }
         requires entry { entry % 4 ≡ 0 }
@@ -82,7 +82,7 @@ impl ThreadState {
         }
     }
 
-    /// Executes the word at the pc at a time, but for a late value.
+    /// Executes the word at the pc at a time, without its late value.
     #[tactic(auto, unfolding(core_model::specs::Issue::execute_word))]
     fn execute_word(&mut self, now: u64, i: &Spm) -> ExecResult
         requires { length i.now ≡ self.old.guard.size / 4 }
@@ -118,7 +118,7 @@ impl ThreadState {
         execute_in(&mut hart, at, expired, sources)
     }
 
-    /// The effect of an executed instruction, with its late value. A load alone reads a device.
+    /// The effect of an executed instruction, with its late value. Only a load reads a device.
     #[tactic(auto, unfolding(core_model::specs::Issue::effect_of))]
     fn late<W: Shown>(
         &self,
@@ -191,7 +191,7 @@ impl ThreadState {
     }
 }
 
-/// Scheduling in which no thread has ever slept. Slots and modes play no part.
+/// A scheduling state in which no thread has ever slept. Slots and modes are irrelevant.
 fn idle() -> Sched
     ensures { result.sleep ≡ replicate 8 0 }
 {
