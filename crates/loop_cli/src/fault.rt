@@ -10,15 +10,15 @@ use trace_print::Refusal;
 const PLANTS_MESSAGE: &str = "loop_cli: PLANTS has other lines than `THREAD body|motor STEPS`, \
     `THREAD table|recorded WORD ..` and `THREAD pipe`, or two of a thread, or two pipes";
 
-/// The exit status where the plant at the pipe ended the run.
+/// The exit status if the plant at the pipe ended the run.
 const PLANT_STATUS: u8 = 10;
 
 /// Why a run ended before its trace.
 #[derive(Clone, Copy)]
 pub enum Fault {
-    /// The arguments ask for no run.
+    /// Usage error: the arguments give no run.
     Usage,
-    /// A line of the list of plants names no plant.
+    /// A line of the list of plants gives no plant.
     Plants,
     /// The setup has a fault.
     Setup,
@@ -30,9 +30,9 @@ pub enum Fault {
     Write,
     /// Out of memory.
     NoMemory,
-    /// The plant at the pipe takes no line, or gives none.
+    /// The plant at the pipe reads no line, or writes none.
     PlantEnded,
-    /// The plant at the pipe answered no word.
+    /// The plant at the pipe responded with no word.
     NoWord,
 }
 

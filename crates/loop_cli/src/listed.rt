@@ -1,4 +1,4 @@
-//! The list of plants: a line for each, with its thread, its kind and its numbers.
+//! The list of plants: one line each, with its thread, its kind and its numbers.
 
 ghost use Rattle.std.specs.Prelude.{◌≡◌, ◌<◌, IfOk, IfSome, OnOk, length, vec_len};
 
@@ -16,9 +16,9 @@ const MOST_BYTES: usize = 67_108_864;
 /// A plant of the list.
 #[derive(Drop)]
 pub enum Listed {
-    /// A heated body, whose load comes in this step.
+    /// A heated body; its load begins in this step.
     Body(u32),
-    /// A motor, whose load comes in this step.
+    /// A motor; its load begins in this step.
     Motor(u32),
     /// A table.
     Table(Vec<u32>),
@@ -29,11 +29,11 @@ pub enum Listed {
 }
 
 /// Reads the plants of the eight threads that a file lists. Empty lines, and lines that begin with
-/// `#` and a blank, are left out.
+/// `#` and a blank, are skipped.
 ///
 /// # Errors
 ///
-/// `Plants` for a line that names no plant, a second plant of a thread, or a file that isn't text;
+/// `Plants` for a line that gives no plant, a second plant of a thread, or a file that isn't text;
 /// `Read`; `NoMemory`.
 pub fn read_plants<F: Files>(
     alloc: Global,
@@ -75,7 +75,7 @@ pub fn pipe_thread(plants: &[Option<Listed>]) -> Result<Option<u8>, Fault>
     Ok(pipe)
 }
 
-/// Puts the plant of each line to its thread.
+/// Assigns the plant of each line to its thread.
 fn add_lines(alloc: Global, text: &str, plants: &mut Vec<Option<Listed>>) -> Result<(), Fault>
     requires { vec_len plants.old ≡ 8 }
     ensures { OnOk result (vec_len plants.new ≡ 8) }
@@ -96,7 +96,7 @@ fn add_lines(alloc: Global, text: &str, plants: &mut Vec<Option<Listed>>) -> Res
     Ok(())
 }
 
-/// The plant of a line, by the words after its thread.
+/// The plant of a line, from the words after its thread.
 fn plant_of(alloc: Global, mut words: SplitWhitespace<'_>) -> Result<Listed, Fault> {
     match words.next() {
         Some("body") => Ok(Listed::Body(last_number(words)?)),

@@ -1,5 +1,5 @@
 //! Runs a machine in closed loops with plants: `loop_cli SETUP PLANTS THREAD EVERY CYCLES`. It
-//! prints the trace of a thread. The file PLANTS lists the plants, which do a step each EVERY
+//! prints the trace of a thread. The file PLANTS lists the plants, which do a step every EVERY
 //! cycles. With a plant at the pipe, standard output and standard input are the pipe, and the trace
 //! goes to standard error.
 #![tactic(auto)]
@@ -99,7 +99,7 @@ fn run_program(
     }
 }
 
-/// Does what the arguments ask. Each thread has a port, which shows 0 until it is fed.
+/// Does the run that the arguments give. Each thread has a port, which shows 0 until it is fed.
 fn answer(rt: HostRuntime, question: &Question) -> Result<(), Fault> {
     let alloc = rt.alloc();
     let mut files = RealFiles::new(rt);
@@ -144,7 +144,7 @@ fn read_args(rt: HostRuntime) -> Result<Vec<String>, Fault> {
     }
 }
 
-/// Does what the command line asks.
+/// Does the run that the command line gives.
 fn run(rt: HostRuntime) -> Result<(), Fault> {
     let args = read_args(rt)?;
     answer(rt, &Question::of_args(rt.alloc(), &args)?)

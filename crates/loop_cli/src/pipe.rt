@@ -1,5 +1,5 @@
 //! A plant in another process. A line `CYCLE WORD` on standard output is sent to it, and a line
-//! `WORD` on standard input is its answer.
+//! `WORD` on standard input is its response.
 
 ghost use Rattle.std.specs.Prelude.{◌≤◌};
 
@@ -8,10 +8,10 @@ use fp_io::{PutFailed, Sink};
 use std::alloc::{AllocError, Global};
 use std::io::{Read, Write};
 
-/// The most bytes of an answer, with its end of line.
+/// The most bytes of a response, with its end of line.
 const ROOM: usize = 64;
 
-/// The answers of a plant: lines that a reader gives.
+/// The responses of a plant: lines from a reader.
 #[derive(Drop)]
 struct Answers<R> {
     reader: R,
@@ -85,7 +85,7 @@ pub struct Pipe<R, K> {
 }
 
 impl<R: Read + Drop, K: Sink + Drop> Pipe<R, K> {
-    /// A plant that receives lines by a sink, and answers by a reader.
+    /// A plant that receives lines through a sink, and responds through a reader.
     pub fn new(alloc: Global, reader: R, out: K) -> Pipe<R, K> {
         Pipe {
             alloc,
@@ -103,7 +103,7 @@ impl<R: Read + Drop, K: Sink + Drop> Pipe<R, K> {
     ///
     /// # Errors
     ///
-    /// `PlantEnded` where the plant takes no line or gives none; `NoWord`; `NoMemory`.
+    /// `PlantEnded` if the plant reads no line or writes none; `NoWord`; `NoMemory`.
     pub fn send(&mut self, cycle: u64, drive: u32) -> Result<u32, Fault> {
         let line = format!(in self.alloc; "{cycle} {drive}\n")?;
         if self.out.put(line.as_bytes()).is_err() {

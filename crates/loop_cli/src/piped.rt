@@ -1,6 +1,6 @@
-//! A run with a plant at the pipe. Nothing is known of what such a plant answers: of the run itself
-//! only safety and termination are proved. A recorded plant that gives the same words again is a
-//! [`loop_runs::Plant`], so that run has the theorems of `loop_runs`.
+//! A run with a plant at the pipe. The responses of such a plant are unknown, so only safety and
+//! termination of the run are proved. A recorded plant that replays the same words is a
+//! [`loop_runs::Plant`], so the theorems of `loop_runs` cover that run.
 
 ghost use Rattle.std.specs.Prelude.{◌≡◌, ◌<◌, ◌≤◌, vec_len};
 
@@ -14,7 +14,7 @@ use machine::Machine;
 use std::io::Read;
 
 /// Runs a machine with its plants, and with the plant at the pipe at a thread's port. There is an
-/// exchange each `every` cycles, the first at cycle 0. A line `> CYCLE WORD ANSWER` for each
+/// exchange every `every` cycles, the first at cycle 0. A line `> CYCLE WORD ANSWER` for each
 /// exchange goes before the events of its cycles.
 ///
 /// # Errors
@@ -54,7 +54,7 @@ pub fn run_piped<R: Read + Drop, A: Sink + Drop, K: Sink>(
     Ok(())
 }
 
-/// Sends the latch of the thread's port to the plant, and feeds the answer to the port. Does
+/// Sends the latch of the thread's port to the plant, and feeds the response to the port. Does
 /// nothing if the thread has no port.
 fn exchange<R: Read + Drop, A: Sink + Drop, K: Sink>(
     machine: &Machine,

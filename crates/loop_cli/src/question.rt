@@ -1,4 +1,4 @@
-//! What the command line asks.
+//! The run that the command line gives.
 
 ghost use Rattle.std.specs.Prelude.{◌<◌, ◌≤◌, IfOk};
 ghost use Rattle.timer_unit.specs.Time.{most_cycles};
@@ -17,7 +17,7 @@ pub struct Question {
     pub plants: Name,
     /// The thread whose trace is printed.
     pub thread: u8,
-    /// How many cycles a step of the plants takes.
+    /// The number of cycles of a step of the plants.
     pub every: u64,
     /// How many cycles are run.
     pub cycles: u64,
@@ -27,8 +27,8 @@ pub struct Question {
 }
 
 impl Question {
-    /// The run that five arguments ask for: the setup, the plants, the thread, the cycles of a
-    /// step, and all cycles.
+    /// The run that five arguments give: the setup, the plants, the thread, the cycles of a step,
+    /// and all cycles.
     ///
     /// # Errors
     ///

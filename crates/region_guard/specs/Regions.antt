@@ -1,5 +1,5 @@
--- The regions of the two scratchpads, and who may fetch, load and store where. `size` is that of
--- each scratchpad, in bytes; each has eight regions of a size / 8 bytes.
+-- The regions of the two scratchpads, and the permissions of threads to fetch, load and store.
+-- `size` is that of each scratchpad, in bytes; each has eight regions of a size / 8 bytes.
 use Rattle.std.specs.Prelude.{◌≡◌, ◌⊎◌, ℕ, ◌+◌, ◌/◌, ◌%◌, ◌==◌, nat_lt, nat_le}
 use Rattle.std.specs.Prelude.{Bool, true, false, not, ◌&&◌, ◌||◌, if◌then◌else◌}
 use Rattle.std.proofs.Common.{inl, inr, ap, arith}
@@ -11,7 +11,7 @@ use Rattle.region_guard.specs.MemoryMap.{small_size, large_size, data_start, por
 abbrev pub IsSize : ℕ → Type 0
 IsSize size = (size ≡ small_size) ⊎ (size ≡ large_size)
 
--- a size is one of them in one way
+-- IsSize is a proposition
 pub IsSize-prop : (size : ℕ) → IsProp (IsSize size)
 IsSize-prop size (inl a) (inl b) = ap inl (ℕ_set size small_size a b)
 IsSize-prop size (inl a) (inr b) = absurd (omega arith)
@@ -25,11 +25,11 @@ shared_region = 8
 abbrev pub read_only_region : ℕ
 read_only_region = 12
 
--- what may stand in a region register for a region: a thread, shared or read only
+-- the allowed nibbles of a region register: a thread, shared or read only
 abbrev pub is_owner : ℕ → Bool
 is_owner nibble = nat_le nibble shared_region || nibble == read_only_region
 
--- what a region is to a thread
+-- the kind of a region for a thread
 pub data RegionKind : Type 0 where
   Mine : RegionKind
   ReadOnly : RegionKind
@@ -44,21 +44,21 @@ region_kind thread nibble =
     else if nibble == read_only_region then ReadOnly
     else Foreign
 
--- where a confined thread may load and fetch
+-- whether a confined thread may load and fetch in a region of this kind
 abbrev pub is_readable : RegionKind → Bool
 is_readable Mine = true
 is_readable ReadOnly = true
 is_readable Shared = false
 is_readable Foreign = false
 
--- where a thread may store
+-- whether a thread may store in a region of this kind
 abbrev pub is_writable : RegionKind → Bool
 is_writable Mine = true
 is_writable ReadOnly = false
 is_writable Shared = true
 is_writable Foreign = false
 
--- where a store changes what the thread reads
+-- whether a store in a region of this kind changes the words that the thread reads
 abbrev pub is_mine : RegionKind → Bool
 is_mine Mine = true
 is_mine ReadOnly = false
@@ -82,7 +82,7 @@ region_of size address = address % size / (size / 8)
 unfoldable pub index_of : ℕ → ℕ → ℕ
 index_of size address = address % size / 4
 
--- what the region of an address is to a thread, by the region register
+-- the kind of an address's region for a thread, from the region register
 abbrev pub region_kind_at : ℕ → ℕ → ℕ → ℕ → RegionKind
 region_kind_at thread size regions address =
     region_kind thread (nibble_at regions (region_of size address))
@@ -92,7 +92,8 @@ abbrev pub may_read : ℕ → ℕ → Bool → ℕ → ℕ → Bool
 may_read thread size confined regions address =
     not confined || is_readable (region_kind_at thread size regions address)
 
--- who may fetch, load and store where. The address is aligned for the width, which is in bytes
+-- whether a thread may fetch, load and store at an address. The address is aligned for the width,
+-- which is in bytes
 unfoldable pub may_fetch : ℕ → ℕ → Bool → ℕ → ℕ → Bool
 may_fetch thread size confined iregions address =
     is_code size address && may_read thread size confined iregions address

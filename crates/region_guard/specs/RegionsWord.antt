@@ -7,7 +7,7 @@ use Rattle.slot_table.specs.Masks.{mask_of}
 use Rattle.region_guard.specs.declared.register.BadRegion.{BadRegion}
 use Rattle.region_guard.specs.Regions.{RegionKind, is_owner, region_kind}
 
--- whether a word may stand in the register
+-- whether a word is allowed in the register
 unfoldable pub is_regions : ℕ → Bool
 is_regions word = list_all is_owner (nibbles word)
 
@@ -20,20 +20,20 @@ abbrev pub unless_bad : ℕ → Option ℕ → Result ℕ BadRegion
 unless_bad word None = Ok word
 unless_bad word (Some index) = Err (record { index = index })
 
--- the word is accepted as it is, or the lowest region that is refused is named
+-- the word unchanged if it is accepted, else the lowest refused region
 unfoldable pub regions_of : ℕ → Result ℕ BadRegion
 regions_of word = unless_bad word (bad_region word)
 
--- the regions that are to a thread what passes a test, of which region i is bit i
+-- the regions with a kind for a thread that passes a test; region i is bit i
 abbrev pub regions_that : (RegionKind → Bool) → ℕ → ℕ → ℕ
 regions_that test word thread =
     mask_of (map (λ nibble. test (region_kind thread nibble)) (nibbles word))
 
--- those of each of the eight threads
+-- these masks for each of the eight threads
 unfoldable pub by_thread : (RegionKind → Bool) → ℕ → List ℕ
 by_thread test word = map (regions_that test word) (0 ∷ 1 ∷ 2 ∷ 3 ∷ 4 ∷ 5 ∷ 6 ∷ 7 ∷ [])
 
--- for each thread the regions whose nibble is its own or another
+-- for each thread the regions whose nibble is its own number or the given other nibble
 abbrev pub masks_by : ℕ → List ℕ → List ℕ
 masks_by other regions =
     map (λ thread. mask_of (map (λ nibble. nibble == thread || nibble == other) regions))

@@ -1,4 +1,4 @@
-//! Who may fetch, load and store where.
+//! The permissions of threads to fetch, load and store.
 
 ghost use Rattle.std.specs.Prelude.{◌≡◌, ◌<◌, ◌/◌, not, ◌||◌, IsTrue};
 ghost use Rattle.region_guard.specs.Regions.{IsSize, IsSize-prop, index_of, is_code};
@@ -11,8 +11,8 @@ use crate::register::Regions;
 /// The owners of the regions of both scratchpads.
 ///
 /// The instruction scratchpad begins at address 0, the data scratchpad at [`DATA_START`], and the
-/// word of a thread's port stands at [`PORT_ADDRESS`]. Each scratchpad has eight regions of
-/// `size / 8` bytes.
+/// word of a thread's port is at [`PORT_ADDRESS`]. Each scratchpad has eight regions of `size / 8`
+/// bytes.
 #[derive(Clone, Copy, Debug)]
 pub struct Guard {
     /// The regions of the instruction scratchpad: the register iregions (0x7C3).
@@ -88,8 +88,8 @@ impl Guard {
         !confined || regions.is_readable(region_of(self.size, address), thread)
     }
 
-    /// Whether a thread may fetch at an address: in the instruction scratchpad, and if it is
-    /// confined only where it owns the region or the region is read only.
+    /// Whether a thread may fetch at an address: in the instruction scratchpad; a confined thread
+    /// only in its own and read-only regions.
     #[tactic(auto, unfolding(crate::specs::Regions::may_fetch))]
     pub fn may_fetch(&self, thread: u8, confined: bool, address: u32) -> bool
         ensures { result ≡ may_fetch thread self.now.size confined self.now.i address }
@@ -98,8 +98,8 @@ impl Guard {
     }
 
     /// Whether a thread may load `size` bytes at an address that is aligned for them: in both
-    /// scratchpads, and if it is confined only where it owns the region or the region is read only;
-    /// and four bytes at the port.
+    /// scratchpads, a confined thread only in its own and read-only regions; and four bytes at the
+    /// port.
     #[tactic(auto, unfolding(crate::specs::Regions::may_load))]
     pub fn may_load(&self, thread: u8, confined: bool, address: u32, size: u8) -> bool
         ensures { result
@@ -114,8 +114,8 @@ impl Guard {
         }
     }
 
-    /// Whether a thread may store `size` bytes at an address that is aligned for them: in the data
-    /// scratchpad where it owns the region or the region is shared, and four bytes at the port.
+    /// Whether a thread may store `size` bytes at an address that is aligned for them: in its own
+    /// and shared regions of the data scratchpad, and four bytes at the port.
     #[tactic(auto, unfolding(crate::specs::Regions::may_store))]
     pub fn may_store(&self, thread: u8, address: u32, size: u8) -> bool
         ensures { result ≡ may_store thread self.now.size self.now.d address size }

@@ -1,5 +1,5 @@
-//! The region registers: who owns the regions of the two scratchpads, and so who may fetch, load
-//! and store where.
+//! The region registers: the owners of the regions of the two scratchpads, and the resulting
+//! permissions to fetch, load and store.
 #![tactic(auto)]
 
 mod access;

@@ -1,5 +1,5 @@
-//! Where the scratchpads and the port stand in the address space. The instruction scratchpad begins
-//! at 0, and both have the same size. Source: this project's profile.
+//! The addresses of the scratchpads and the port. The instruction scratchpad begins at 0, and both
+//! have the same size. Source: this project's profile.
 
 /// The smaller of the two sizes of a scratchpad, in bytes.
 pub const SMALL_SIZE: u32 = 16_384;

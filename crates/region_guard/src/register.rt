@@ -17,9 +17,9 @@ use thiserror::Error;
 #[derive(Clone, Copy, Debug)]
 pub struct Regions {
     word: u32,
-    // For each thread the regions that it may read where it is confined, and those that it may
-    // write; region i is bit i. They are kept because each fetch and each access asks one: a bit
-    // test takes the place of the region's nibble and two comparisons.
+    // For each thread the regions that it may read if it is confined, and those that it may write;
+    // region i is bit i. They are stored because each fetch and each access tests one: a bit test
+    // replaces extracting the region's nibble and two comparisons.
     readable: [u8; 8],
     writable: [u8; 8],
 }
@@ -72,7 +72,7 @@ fn bad_region(nibbles: &[u8; 8]) -> Option<usize>
     nibbles.iter().position(|nibble| !is_owner(*nibble))
 }
 
-/// Whether a nibble names a region where a confined thread may load and fetch.
+/// Whether a confined thread may load and fetch in a region with a nibble.
 #[tactic(auto, unfolding(crate::specs::Regions::region_kind))]
 fn is_readable(nibble: u8, thread: u8) -> bool
     ensures { result ≡ is_readable (region_kind thread nibble) }
@@ -80,7 +80,7 @@ fn is_readable(nibble: u8, thread: u8) -> bool
     nibble == thread || nibble == READ_ONLY
 }
 
-/// Whether a nibble names a region where a thread may store.
+/// Whether a thread may store in a region with a nibble.
 #[tactic(auto, unfolding(crate::specs::Regions::region_kind))]
 fn is_writable(nibble: u8, thread: u8) -> bool
     ensures { result ≡ is_writable (region_kind thread nibble) }
@@ -88,7 +88,7 @@ fn is_writable(nibble: u8, thread: u8) -> bool
     nibble == thread || nibble == SHARED
 }
 
-/// 1 where a region is the thread's or has the other nibble, and else 0.
+/// 1 if a region is the thread's or has the other nibble, else 0.
 fn bit(nibble: u8, thread: u8, other: u8) -> u8
     ensures bit { result ≡ bit_of (nibble == thread || nibble == other) }
     ensures small { result < 2 }
@@ -96,7 +96,7 @@ fn bit(nibble: u8, thread: u8, other: u8) -> u8
     u8::from(nibble == thread || nibble == other)
 }
 
-/// The regions that are a thread's or have the other nibble, of which region i is bit i.
+/// The regions that are a thread's or have the other nibble; region i is bit i.
 fn mask_for(nibbles: &[u8; 8], thread: u8, other: u8) -> u8
     ensures { result
         ≡ mask_of (map (λ nibble. nibble == thread || nibble == other) nibbles.now) }
@@ -128,11 +128,11 @@ fn masks_for(nibbles: &[u8; 8], other: u8) -> [u8; 8]
 }
 
 impl Regions {
-    /// The regions of a word of the register, which is kept as it is.
+    /// The regions of a word of the register; the word is stored unchanged.
     ///
     /// # Errors
     ///
-    /// [`BadRegion`] exactly where a nibble is none of 0 to 8 and 12.
+    /// [`BadRegion`] exactly if a nibble is none of 0 to 8 and 12.
     #[tactic(auto, unfolding(crate::specs::RegionsWord::regions_of))]
     pub fn from_word(word: u32) -> Result<Regions, BadRegion>
         ensures regions { result ≡ regions_of word }
@@ -149,7 +149,7 @@ impl Regions {
         }
     }
 
-    /// The word of the register, of which no nibble is 9 to 11 or above 12.
+    /// The word of the register; no nibble is 9 to 11 or above 12.
     pub fn word(&self) -> u32
         ensures word { result ≡ self.now }
         ensures accepted { IsTrue (is_regions result) }

@@ -1,12 +1,12 @@
 -- The numbers of the control and status registers. Source: RISC-V privileged manual, "CSR Listing",
--- for the first five; the last four, at numbers which that leaves free, are this project's.
+-- for the first five; the last four are this project's, at numbers that the manual leaves free.
 use Rattle.std.specs.Prelude.{ℕ}
 
--- where traps go
+-- the target of traps
 abbrev pub csr_mtvec : ℕ
 csr_mtvec = 0x305
 
--- a word that traps leave alone
+-- a scratch word that traps don't change
 abbrev pub csr_mscratch : ℕ
 csr_mscratch = 0x340
 
@@ -18,7 +18,7 @@ csr_mepc = 0x341
 abbrev pub csr_mcause : ℕ
 csr_mcause = 0x342
 
--- the thread's own number, which takes no write
+-- the thread's own number, read only
 abbrev pub csr_mhartid : ℕ
 csr_mhartid = 0xF14
 
@@ -34,6 +34,6 @@ csr_modes = 0x7C1
 abbrev pub csr_dregions : ℕ
 csr_dregions = 0x7C2
 
--- who has those of the instruction scratchpad
+-- the owners of the regions of the instruction scratchpad
 abbrev pub csr_iregions : ℕ
 csr_iregions = 0x7C3

@@ -1,6 +1,6 @@
--- The word of an instruction, by the formats of the manual (RISC-V unprivileged manual, "Base
--- Instruction Formats" and "Immediate Encoding Variants"), each part times the power of two at
--- which it stands.
+-- The word of an instruction, in the formats of the manual (RISC-V unprivileged manual, "Base
+-- Instruction Formats" and "Immediate Encoding Variants"). Each part is multiplied by the power of
+-- two of its position.
 use Rattle.std.specs.Prelude.{ℕ, ◌+◌, ◌-◌, ◌*◌, ◌%◌, ◌^◌, ℤ, pos, negsuc}
 use Rattle.rv_decode.specs.Fields.{field}
 use Rattle.rv_decode.specs.declared.instruction.Ins.{Ins}
@@ -30,7 +30,7 @@ use Rattle.rv_decode.specs.declared.instruction.MulOp.TheVariants.{Div, Divu, Re
 use Rattle.rv_decode.specs.declared.instruction.CsrKind.{CsrKind}
 use Rattle.rv_decode.specs.declared.instruction.CsrKind.TheVariants.{Rw, Rs, Rc, Rwi, Rsi, Rci}
 
--- the lowest bits, as many as count, of a whole number in two's complement
+-- the lowest `count` bits of an integer in two's complement
 abbrev pub low_bits : ℕ → ℤ → ℕ
 low_bits count (pos n) = n % 2 ^ count
 low_bits count (negsuc n) = 2 ^ count - 1 - n % 2 ^ count

@@ -2,7 +2,7 @@
 -- "Base Instruction Formats" and "Immediate Encoding Variants").
 use Rattle.std.specs.Prelude.{ℕ, ◌-◌, ◌+◌, ◌*◌, ◌/◌, ◌%◌, ◌^◌, ℤ, pos, ◌-ℤ◌, nat_lt, if◌then◌else◌}
 
--- the number in the bits from low on, as many as count
+-- the number in `count` bits from bit `low` on
 abbrev pub field : ℕ → ℕ → ℕ → ℕ
 field w low count = w / 2 ^ low % 2 ^ count
 
@@ -22,8 +22,8 @@ rs1 w = field w 15 5
 abbrev pub rs2 : ℕ → ℕ
 rs2 w = field w 20 5
 
--- the immediates of the formats I, S, B, U and J, with their bits where the manual's figures have
--- them; that of U is the field alone, without the twelve zero bits below it
+-- the immediates of the formats I, S, B, U and J, with their bits as in the manual's figures; the U
+-- immediate is only the field, without the twelve zero bits below it
 abbrev pub imm_i : ℕ → ℤ
 imm_i w = sign_extended 12 (field w 20 12)
 

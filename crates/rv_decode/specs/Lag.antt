@@ -7,7 +7,7 @@ use Rattle.rv_decode.specs.declared.instruction.Ins.TheVariants.{Muldiv, Ecall, 
 use Rattle.rv_decode.specs.declared.instruction.Ins.TheVariants.{Csr, Du, Wu, Ee, De, Illegal}
 
 -- the three lags: of an instruction that the next word follows at once, of one whose value comes
--- late, and of one behind which the thread is redirected
+-- late, and of one that redirects the thread
 abbrev pub plain_lag : ℕ
 plain_lag = 1
 
@@ -17,8 +17,8 @@ late_lag = 2
 abbrev pub redirect_lag : ℕ
 redirect_lag = 3
 
--- By the instruction, whether it is a branch that is taken, and whether it traps. ECALL, EBREAK and
--- a word that is no instruction trap always, so their rows say so without being told.
+-- The lag of an instruction, from whether it is a taken branch and whether it traps. ECALL, EBREAK
+-- and a word that is no instruction always trap, so their rows ignore both arguments.
 unfoldable pub lag : Ins → Bool → Bool → ℕ
 lag i taken true = redirect_lag
 lag (Load op rd rs1 imm) taken false = late_lag

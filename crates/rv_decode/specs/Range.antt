@@ -17,8 +17,8 @@ IsSigned count n = (pos 0 ≤ℤ (n +ℤ pos (2 ^ (count - 1)))) × (n <ℤ pos 
 abbrev pub IsEven : ℤ → Type 0
 IsEven n = (k : ℤ) × (n ≡ k +ℤ k)
 
--- Registers are below 32, immediates and offsets are what the word has room for, and a word that is
--- kept whole is of the variant that keeps it.
+-- Registers are below 32, immediates and offsets fit their fields, and a word that is stored whole
+-- belongs to the variant that stores it.
 abbrev pub InRange : Ins → Type 0
 InRange (Lui rd imm) = (rd < 32) × (imm < 2 ^ 20)
 InRange (Auipc rd imm) = (rd < 32) × (imm < 2 ^ 20)
@@ -44,8 +44,8 @@ InRange (Ee rs1 rs2) = (rs1 < 32) × (rs2 < 32)
 InRange De = Unit {0}
 InRange (Illegal w) = ins w ≡ Illegal w
 
--- Every register that the instruction names is below 32, and so is the value of the immediate CSR
--- forms, which stands in a register's place.
+-- Every register of the instruction is below 32, and so is the immediate of the immediate CSR
+-- forms, which is in a register's field.
 abbrev pub HasRegisters : Ins → Type 0
 HasRegisters (Lui rd imm) = rd < 32
 HasRegisters (Auipc rd imm) = rd < 32

@@ -1,5 +1,5 @@
--- The instruction table: what a 32-bit word means. A word is the first row that it fits, with its
--- fields, and no instruction where it fits none.
+-- The instruction table: the instruction of a 32-bit word. The first row that the word matches
+-- decides; a word that matches no row is no instruction.
 --
 -- Source: RISC-V unprivileged manual, "RV32/64G Instruction Set Listings", for RV32I, M, Zicsr and
 -- Zifencei; RISC-V privileged manual, "Trap-Return Instructions", for MRET; the rows of opcode 0x0b
@@ -33,13 +33,13 @@ use Rattle.rv_decode.specs.declared.instruction.MulOp.TheVariants.{Div, Divu, Re
 use Rattle.rv_decode.specs.declared.instruction.CsrKind.{CsrKind}
 use Rattle.rv_decode.specs.declared.instruction.CsrKind.TheVariants.{Rw, Rs, Rc, Rwi, Rsi, Rci}
 
--- A field that a row fixes: its lowest bit, its width, and the number that stands there.
+-- A field that a row fixes: its lowest bit, its width, and its value.
 pub record FixedField : Type 0 where
   pub low : ℕ
   pub count : ℕ
   pub is : ℕ
 
--- A row: its opcode, the further fields that it fixes, and what a word that fits means.
+-- A row: its opcode, the further fields that it fixes, and the instruction of a matching word.
 pub record Row : Type 0 where
   pub code : ℕ
   pub fields : List FixedField
@@ -49,11 +49,11 @@ pub record Row : Type 0 where
 abbrev pub fixed_field : ℕ → ℕ → ℕ → FixedField
 fixed_field low count is = record { low = low; count = count; is = is }
 
--- a row by its opcode, its other fixed fields, and what its words are read as
+-- a row from its opcode, its other fixed fields, and the instruction of its words
 abbrev pub row : ℕ → List FixedField → (ℕ → Ins) → Row
 row code parts reads = record { code = code; fields = parts; reads = reads }
 
--- the fields by their names in the manual, with the number that stands there
+-- the fields by their names in the manual, with their values
 abbrev pub funct3 : ℕ → FixedField
 funct3 is = fixed_field 12 3 is
 
@@ -77,7 +77,7 @@ rs2_is is = fixed_field 20 5 is
 abbrev pub word_is : ℕ → FixedField
 word_is is = fixed_field 0 32 is
 
--- Rows that differ in a field and an operation alone.
+-- Rows that differ only in a field and an operation.
 abbrev pub branch_row : ℕ → BranchOp → Row
 branch_row f3 op = row 0x63 (funct3 f3 ∷ []) (λ w. Branch op (rs1 w) (rs2 w) (imm_b w))
 
@@ -105,7 +105,7 @@ op_row f3 f7 op = row 0x33 (funct3 f3 ∷ funct7 f7 ∷ []) (λ w. Op op (rd w) 
 abbrev pub mul_row : ℕ → MulOp → Row
 mul_row f3 op = row 0x33 (funct3 f3 ∷ funct7 1 ∷ []) (λ w. Muldiv op (rd w) (rs1 w) (rs2 w))
 
--- FENCE or FENCE.I, whose other fields are ignored
+-- FENCE or FENCE.I; their other fields are ignored
 abbrev pub fence_row : ℕ → Row
 fence_row f3 = row 0x0f (funct3 f3 ∷ []) (λ w. Fence w)
 
@@ -203,11 +203,11 @@ all_hold (p ∷ more) w = (field w p.low p.count == p.is) && all_hold more w
 abbrev pub fits : Row → ℕ → Bool
 fits r w = (field w 0 7 == r.code) && all_hold r.fields w
 
--- what the first row that fits makes of the word
+-- the instruction of the word in the first row that it matches
 abbrev pub read_by : List Row → ℕ → Ins
 read_by [] w = Illegal w
 read_by (r ∷ more) w = if fits r w then r.reads w else read_by more w
 
--- What a word means.
+-- The instruction of a word.
 unfoldable pub ins : ℕ → Ins
 ins w = read_by rows w

@@ -1,11 +1,11 @@
 //! The numbers of the control and status registers. Source: RISC-V privileged manual, "CSR
-//! Listing", for the first five; the last four, at numbers which that leaves free, are this
-//! project's.
+//! Listing", for the first five; the last four are this project's, at numbers that the manual
+//! leaves free.
 
-/// mtvec: where traps go.
+/// mtvec: the target of traps.
 pub const MTVEC: u16 = 0x305;
 
-/// mscratch: a word that traps leave alone.
+/// mscratch: a scratch word that traps don't change.
 pub const MSCRATCH: u16 = 0x340;
 
 /// mepc: the pc of a trap.
@@ -14,7 +14,7 @@ pub const MEPC: u16 = 0x341;
 /// mcause: the cause of a trap.
 pub const MCAUSE: u16 = 0x342;
 
-/// mhartid: the thread's own number, which takes no write.
+/// mhartid: the thread's own number, read only.
 pub const MHARTID: u16 = 0xF14;
 
 /// slots: who has the slots of the frame.
@@ -26,5 +26,5 @@ pub const MODES: u16 = 0x7C1;
 /// dregions: who has the regions of the data scratchpad.
 pub const DREGIONS: u16 = 0x7C2;
 
-/// iregions: who has those of the instruction scratchpad.
+/// iregions: the owners of the regions of the instruction scratchpad.
 pub const IREGIONS: u16 = 0x7C3;

@@ -10,10 +10,10 @@ ghost use Rattle.rv_decode.specs.Table.{imm_rows, op_rows, fence_rows, system_ro
 use crate::fields::{csr, funct3, funct7, imm_b, imm_i, imm_j, imm_s, imm_u, opcode, rd, rs1, rs2};
 use crate::instruction::{AluOp, BranchOp, CsrKind, ImmOp, Ins, LoadOp, MulOp, ShiftOp, StoreOp};
 
-/// The instruction that the word `w` is: [`Ins::Illegal`] where it is none (RISC-V unprivileged
-/// manual, "RV32/64G Instruction Set Listings", for RV32I, M, Zicsr and Zifencei; privileged
-/// manual, "Trap-Return Instructions", for MRET). The rows of opcode 0x0b, the timing instructions,
-/// are this project's own.
+/// The instruction of the word `w`; [`Ins::Illegal`] if it is none (RISC-V unprivileged manual,
+/// "RV32/64G Instruction Set Listings", for RV32I, M, Zicsr and Zifencei; privileged manual,
+/// "Trap-Return Instructions", for MRET). The rows of opcode 0x0b, the timing instructions, are
+/// this project's own.
 #[inline(always)]
 pub fn decode(w: u32) -> Ins
     ensures table { result ≡ ins w }

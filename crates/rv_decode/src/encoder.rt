@@ -11,7 +11,7 @@ ghost use Rattle.rv_decode.specs.Table.{ins};
 
 use crate::instruction::{AluOp, BranchOp, CsrKind, ImmOp, Ins, LoadOp, MulOp, ShiftOp, StoreOp};
 
-/// The word of the instruction `i`, whose fields are in range: [`crate::decode`] gives `i` back
+/// The word of the instruction `i`, whose fields are in range; [`crate::decode`] returns `i` for it
 /// (RISC-V unprivileged manual, "Base Instruction Formats").
 pub fn encode(i: &Ins) -> u32
     requires { InRange i.now }

@@ -49,9 +49,9 @@ pub enum StoreOp {
 pub enum ImmOp {
     /// The sum modulo 2^32.
     Addi,
-    /// 1 where the register is less, both signed, else 0.
+    /// 1 if the register is less, both signed, else 0.
     Slti,
-    /// 1 where the register is less than the sign-extended immediate, both unsigned, else 0.
+    /// 1 if the register is less than the sign-extended immediate, both unsigned, else 0.
     Sltiu,
     /// Bitwise exclusive or.
     Xori,
@@ -64,11 +64,11 @@ pub enum ImmOp {
 /// A shift by a constant amount ("Integer Register-Immediate Instructions").
 #[derive(Clone, Copy, Debug)]
 pub enum ShiftOp {
-    /// Left; zeros come in.
+    /// Left; zeros are shifted in.
     Slli,
-    /// Right; zeros come in.
+    /// Right; zeros are shifted in.
     Srli,
-    /// Right; copies of the sign bit come in.
+    /// Right; copies of the sign bit are shifted in.
     Srai,
 }
 
@@ -79,17 +79,17 @@ pub enum AluOp {
     Add,
     /// The difference modulo 2^32.
     Sub,
-    /// Left by the low five bits of `rs2`; zeros come in.
+    /// Left by the low five bits of `rs2`; zeros are shifted in.
     Sll,
-    /// 1 where `rs1` is less, both signed, else 0.
+    /// 1 if `rs1` is less, both signed, else 0.
     Slt,
-    /// 1 where `rs1` is less, both unsigned, else 0.
+    /// 1 if `rs1` is less, both unsigned, else 0.
     Sltu,
     /// Bitwise exclusive or.
     Xor,
-    /// Right by the low five bits of `rs2`; zeros come in.
+    /// Right by the low five bits of `rs2`; zeros are shifted in.
     Srl,
-    /// Right by the low five bits of `rs2`; copies of the sign bit come in.
+    /// Right by the low five bits of `rs2`; copies of the sign bit are shifted in.
     Sra,
     /// Bitwise or.
     Or,
@@ -112,27 +112,27 @@ pub enum MulOp {
     Div,
     /// The unsigned quotient; 2^32 - 1 by 0.
     Divu,
-    /// What the signed quotient leaves, with the dividend's sign; the dividend by 0, and 0 of -2^31
-    /// by -1.
+    /// The signed remainder, with the dividend's sign; the dividend for a division by 0, and 0 for
+    /// -2^31 by -1.
     Rem,
-    /// What the unsigned quotient leaves; the dividend by 0.
+    /// The unsigned remainder; the dividend for a division by 0.
     Remu,
 }
 
-/// What a CSR instruction does with the old value, by a register or by an immediate ("Zicsr").
+/// The operation of a CSR instruction on the old value, with a register or an immediate ("Zicsr").
 #[derive(Clone, Copy, Debug)]
 pub enum CsrKind {
-    /// CSRRW: the register takes its place.
+    /// CSRRW: the register replaces it.
     Rw,
-    /// CSRRS: the register's bits are set in it; no write where the register is x0.
+    /// CSRRS: the register's bits are set in it; no write if the register is x0.
     Rs,
-    /// CSRRC: the register's bits are cleared in it; no write where the register is x0.
+    /// CSRRC: the register's bits are cleared in it; no write if the register is x0.
     Rc,
-    /// CSRRWI: the immediate takes its place.
+    /// CSRRWI: the immediate replaces it.
     Rwi,
-    /// CSRRSI: the immediate's bits are set in it; no write where it is 0.
+    /// CSRRSI: the immediate's bits are set in it; no write if it is 0.
     Rsi,
-    /// CSRRCI: the immediate's bits are cleared in it; no write where it is 0.
+    /// CSRRCI: the immediate's bits are cleared in it; no write if it is 0.
     Rci,
 }
 
@@ -165,7 +165,7 @@ pub enum Ins {
     Jalr {
         /// The register that is written, 0 to 31; x0 keeps 0.
         rd: u8,
-        /// The register whose value the address is counted from, 0 to 31.
+        /// The base register of the address, 0 to 31.
         rs1: u8,
         /// The offset from the base, -2,048 to 2,047 bytes.
         imm: i32,
@@ -187,7 +187,7 @@ pub enum Ins {
         op: LoadOp,
         /// The register that is written, 0 to 31; x0 keeps 0.
         rd: u8,
-        /// The register whose value the address is counted from, 0 to 31.
+        /// The base register of the address, 0 to 31.
         rs1: u8,
         /// The offset from the base, -2,048 to 2,047 bytes.
         imm: i32,
@@ -196,7 +196,7 @@ pub enum Ins {
     Store {
         /// The width.
         op: StoreOp,
-        /// The register whose value the address is counted from, 0 to 31.
+        /// The base register of the address, 0 to 31.
         rs1: u8,
         /// The register that is stored, 0 to 31.
         rs2: u8,
@@ -216,7 +216,7 @@ pub enum Ins {
     },
     /// A shift by a constant amount.
     Shift {
-        /// The direction and what comes in.
+        /// The direction, and the bits shifted in.
         op: ShiftOp,
         /// The register that is written, 0 to 31; x0 keeps 0.
         rd: u8,
@@ -247,7 +247,7 @@ pub enum Ins {
         /// The second register that is read, 0 to 31.
         rs2: u8,
     },
-    /// FENCE or FENCE.I; the word is kept, since its other bits are ignored.
+    /// FENCE or FENCE.I; the word is stored, since its other bits are ignored.
     Fence {
         /// The whole word.
         word: u32,
@@ -261,7 +261,7 @@ pub enum Ins {
     /// A CSR instruction ("Zicsr"): `src` is a register, or the value itself in the immediate
     /// forms.
     Csr {
-        /// What it does, and whether `src` is a register.
+        /// Its operation, and whether `src` is a register.
         op: CsrKind,
         /// The register that gets the old value, 0 to 31; x0 keeps 0.
         rd: u8,
@@ -287,7 +287,7 @@ pub enum Ins {
         /// The register with its low word, 0 to 31.
         rs2: u8,
     },
-    /// Wait until that moment, or the armed one where that is earlier, giving the slots away.
+    /// Wait until that moment, or the armed one if that is earlier, and donate the slots.
     Wu {
         /// The register with the high word of the moment in nanoseconds, 0 to 31.
         rs1: u8,

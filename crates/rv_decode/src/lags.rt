@@ -12,12 +12,12 @@ pub const PLAIN_LAG: u64 = 1;
 /// division.
 pub const LATE_LAG: u64 = 2;
 
-/// The lag of an instruction behind which the thread is redirected, in cycles.
+/// The lag of an instruction that redirects the thread, in cycles.
 pub const REDIRECT_LAG: u64 = 3;
 
-/// The lag of `i`, 1 to 3 cycles: an issue of it in cycle c lets the thread's next instruction
-/// issue from cycle c plus the lag on. `taken` says whether `i` is a branch that is taken, and
-/// `trapped` whether it traps. The table is this project's profile.
+/// The lag of `i`, 1 to 3 cycles: after its issue in cycle c, the thread's next instruction may
+/// issue from cycle c plus the lag on. `taken` is whether `i` is a taken branch, and `trapped`
+/// whether it traps. The table is this project's profile.
 #[tactic(auto, unfolding(crate::specs::Lag::lag))]
 pub fn lag_of(i: &Ins, taken: bool, trapped: bool) -> u64
     ensures table { result ≡ lag i.now taken trapped }

@@ -1,5 +1,5 @@
--- Loads and stores: the bytes of the aligned word that holds them, little endian ("Load and Store
--- Instructions").
+-- Loads and stores: their bytes in the aligned word that contains them, little endian ("Load and
+-- Store Instructions").
 use Rattle.std.specs.Prelude.{◌≡◌, ℕ, ◌+◌, ◌-◌, ◌*◌, ◌/◌, ◌%◌, ◌^◌}
 use Rattle.std.specs.Prelude.{◌==◌, Bool, nat_lt, if◌then◌else◌}
 use Rattle.rv_exec.specs.Words.{bit}
@@ -11,7 +11,7 @@ use Rattle.rv_decode.specs.declared.instruction.StoreOp.TheVariants.{Sb, Sh, Sw}
 use Rattle.rv_decode.specs.declared.instruction.Ins.{Ins}
 use Rattle.rv_decode.specs.declared.instruction.Ins.TheVariants.{Load, Store}
 
--- the number of bytes that a load or store takes
+-- the size of a load or store, in bytes
 abbrev pub load_size : LoadOp → ℕ
 load_size Lb = 1
 load_size Lh = 2
@@ -43,7 +43,7 @@ bytes_at size address w = w / 256 ^ (address % 4) % 256 ^ size
 abbrev pub sign_extension : ℕ → ℕ → ℕ
 sign_extension size n = if nat_lt n (256 ^ size / 2) then n else n + (2 ^ 32 - 256 ^ size)
 
--- the value of a load, out of the aligned word that holds the address
+-- the value of a load, from the aligned word that contains the address
 unfoldable pub loaded_value : LoadOp → ℕ → ℕ → ℕ
 loaded_value Lb address w = sign_extension 1 (bytes_at 1 address w)
 loaded_value Lh address w = sign_extension 2 (bytes_at 2 address w)
@@ -51,15 +51,15 @@ loaded_value Lw address w = bytes_at 4 address w
 loaded_value Lbu address w = bytes_at 1 address w
 loaded_value Lhu address w = bytes_at 2 address w
 
--- so many low bytes of a value in their lanes in the aligned word, with 0 in the others, and the
--- mask of these lanes
+-- a number of low bytes of a value in their lanes in the aligned word, with 0 in the others, and
+-- the mask of these lanes
 unfoldable pub lanes_at : ℕ → ℕ → ℕ → Lanes
 lanes_at size address value = record {
   mask = (2 ^ size - 1) * 2 ^ (address % 4);
   value = value % 256 ^ size * 256 ^ (address % 4);
 }
 
--- what a store writes
+-- the lanes that a store writes
 abbrev pub lanes : StoreOp → ℕ → ℕ → Lanes
 lanes op address b = lanes_at (store_size op) address b
 
@@ -67,7 +67,8 @@ lanes op address b = lanes_at (store_size op) address b
 abbrev pub byte : ℕ → ℕ → ℕ
 byte w lane = w / 256 ^ lane % 256
 
--- the byte at a lane once lanes are written: theirs where the mask names it, else the old one
+-- the byte at a lane after lanes are written: the new byte if the mask has the lane, else the old
+-- one
 abbrev pub merged_byte : ℕ → Lanes → ℕ → ℕ
 merged_byte old l lane = if bit l.mask lane == 1 then byte l.value lane else byte old lane
 

@@ -29,8 +29,8 @@ alu_result Sra a b = word (floor_div (signed a) (2 ^ (b % 32)))
 alu_result Or a b = bitwise (λ x y. x + y - x * y) 32 a b
 alu_result And a b = bitwise (λ x y. x * y) 32 a b
 
--- "Integer Register-Immediate Instructions": the sign extended immediate stands for its word, also
--- where the comparison has no sign (SLTIU)
+-- "Integer Register-Immediate Instructions": the immediate is sign extended to a word, also for the
+-- unsigned comparison (SLTIU)
 unfoldable pub alu_result_with : ImmOp → ℕ → ℤ → ℕ
 alu_result_with Addi a imm = alu_result Add a (word imm)
 alu_result_with Slti a imm = alu_result Slt a (word imm)

@@ -1,4 +1,4 @@
--- What an instruction gives, from its pc and the values a and b of rs1 and rs2.
+-- The outcome of an instruction, from its pc and the values a and b of rs1 and rs2.
 use Rattle.std.specs.Prelude.{ℕ, ◌+◌, ◌-◌, ◌*◌, ◌%◌, ◌^◌, ◌==◌, ℤ, pos, ◌+ℤ◌, Bool}
 use Rattle.std.specs.Prelude.{false, not, Option, Some, None, nat_lt, if◌then◌else◌}
 use Rattle.rv_exec.specs.Words.{signed, word, below}
@@ -35,11 +35,11 @@ offset a n = word (pos a +ℤ n)
 abbrev pub even_below : ℕ → ℕ
 even_below a = a - a % 2
 
--- a trap's cause where a test fails
+-- a trap's cause if a test fails
 abbrev pub unless : Bool → ℕ → Option ℕ
 unless b cause = if b then None else Some cause
 
--- nothing but what comes from elsewhere
+-- an empty outcome; a value for rd, if any, comes from elsewhere
 abbrev pub nothing : Outcome
 nothing = record { value = 0; address = 0; target = 0; taken = false; trap = None }
 
@@ -47,16 +47,16 @@ nothing = record { value = 0; address = 0; target = 0; taken = false; trap = Non
 abbrev pub of_value : ℕ → Outcome
 of_value n = record nothing { value = n }
 
--- a trap and nothing else
+-- only a trap
 abbrev pub of_trap : ℕ → Outcome
 of_trap cause = record nothing { trap = Some cause }
 
--- an access of so many bytes at an address, which traps where it isn't aligned
+-- an access of a number of bytes at an address; it traps if it isn't aligned
 abbrev pub of_access : ℕ → ℕ → ℕ → Outcome
 of_access address size cause =
     record nothing { address = address; trap = unless (is_aligned address size) cause }
 
--- a jump with the word for rd, which traps where its target is no multiple of 4
+-- a jump with the word for rd; it traps if its target is no multiple of 4
 abbrev pub of_jump : ℕ → ℕ → Outcome
 of_jump link target = record nothing {
   value = link;
@@ -64,7 +64,7 @@ of_jump link target = record nothing {
   trap = unless (is_aligned target 4) cause_misaligned_target;
 }
 
--- a branch, which traps where it is taken to a target that is no multiple of 4
+-- a branch; it traps if it is taken to a target that is no multiple of 4
 abbrev pub of_branch : Bool → ℕ → Outcome
 of_branch taken target = record nothing {
   target = target;

@@ -1,16 +1,16 @@
--- The causes of traps. Source: RISC-V privileged manual, "Machine Cause Register"; an expiry is
--- this project's, at a number which that leaves to a platform.
+-- The causes of traps. Source: RISC-V privileged manual, "Machine Cause Register"; the expiry is
+-- this project's, at a number that the manual leaves to the platform.
 use Rattle.std.specs.Prelude.{ℕ}
 
 -- a jump or a taken branch to an address that is no multiple of 4
 abbrev pub cause_misaligned_target : ℕ
 cause_misaligned_target = 0
 
--- a fetch that is refused
+-- a refused fetch
 abbrev pub cause_fetch_fault : ℕ
 cause_fetch_fault = 1
 
--- a word that is no instruction, or an access to a register that is refused
+-- a word that is no instruction, or a refused access to a register
 abbrev pub cause_illegal : ℕ
 cause_illegal = 2
 
@@ -18,14 +18,14 @@ cause_illegal = 2
 abbrev pub cause_breakpoint : ℕ
 cause_breakpoint = 3
 
--- a load whose address isn't aligned, and one that is refused
+-- a load with an unaligned address, and a refused load
 abbrev pub cause_misaligned_load : ℕ
 cause_misaligned_load = 4
 
 abbrev pub cause_load_fault : ℕ
 cause_load_fault = 5
 
--- a store whose address isn't aligned, and one that is refused
+-- a store with an unaligned address, and a refused store
 abbrev pub cause_misaligned_store : ℕ
 cause_misaligned_store = 6
 

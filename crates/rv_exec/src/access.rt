@@ -1,4 +1,4 @@
-//! What a load takes out of an aligned word, and which of its bytes a store writes.
+//! The bytes of an aligned word that a load reads and a store writes.
 
 ghost use Rattle.std.specs.Prelude.{◌≡◌, ◌<◌, ◌*◌, ◌/◌, ◌%◌, ◌^◌};
 ghost use Rattle.rv_exec.specs.Access.{load_size, store_size, loaded_value, lanes};
@@ -7,7 +7,7 @@ ghost use Rattle.rv_exec.specs.Line.{IsWidth};
 use crate::outcome::Lanes;
 use rv_decode::{LoadOp, StoreOp};
 
-/// The number of bytes that a load takes: 1, 2 or 4.
+/// The size of a load: 1, 2 or 4 bytes.
 pub fn load_size(op: LoadOp) -> u8
     ensures size { result ≡ load_size op }
     ensures width { IsWidth result }
@@ -31,8 +31,8 @@ pub fn store_size(op: StoreOp) -> u8
     }
 }
 
-/// The value of a load at `address`, a multiple of its size, out of the aligned word that holds it.
-/// The word is little endian (RISC-V unprivileged manual, "Load and Store Instructions").
+/// The value of a load at `address`, a multiple of its size, from the aligned word that contains
+/// it. The word is little endian (RISC-V unprivileged manual, "Load and Store Instructions").
 #[tactic(auto, unfolding(crate::specs::Access::loaded_value))]
 pub fn load_value(op: LoadOp, address: u32, word: u32) -> u32
     requires { address % load_size op ≡ 0 }
@@ -59,7 +59,7 @@ fn bytes_from(word: u32, address: u32) -> u32
 }
 
 /// The bytes of `b` that a store at `address`, a multiple of its size, writes in the aligned word
-/// that holds it (RISC-V unprivileged manual, "Load and Store Instructions").
+/// that contains it (RISC-V unprivileged manual, "Load and Store Instructions").
 #[tactic(auto, unfolding(crate::specs::Access::lanes_at))]
 pub fn store_lanes(op: StoreOp, address: u32, b: u32) -> Lanes
     requires { address % store_size op ≡ 0 }

@@ -12,8 +12,8 @@ use crate::outcome::Outcome;
 use rv_decode::{BranchOp, Ins};
 
 /// The outcome of an instruction at the address `pc`, with `a` and `b` as the values of `rs1` and
-/// `rs2`. Addresses wrap modulo 2^32. A trap that comes of these alone is told; whether an access
-/// or a register is allowed is not asked here.
+/// `rs2`. Addresses wrap modulo 2^32. It includes a trap that follows only from these. It doesn't
+/// check whether an access or a register is allowed.
 #[tactic(auto, unfolding(crate::specs::Result::result_of))]
 #[inline(always)]
 pub fn execute(i: &Ins, pc: u32, a: u32, b: u32) -> Outcome

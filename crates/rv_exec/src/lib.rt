@@ -1,4 +1,4 @@
-//! What an instruction gives, from its pc and the values of its source registers.
+//! The outcome of an instruction, from its pc and the values of its source registers.
 
 #![tactic(auto)]
 

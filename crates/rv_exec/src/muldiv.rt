@@ -34,7 +34,7 @@ fn high_word(product: i64) -> u32
     (product.cast_unsigned() >> 32) as u32
 }
 
-/// The signed quotient; it wraps where the least number is divided by -1.
+/// The signed quotient; it wraps if the least number is divided by -1.
 fn divide(a: u32, b: u32) -> u32
     requires { b ≢ 0 }
     ensures { result ≡ word (quotient (signed a) (signed b)) }
@@ -44,7 +44,7 @@ fn divide(a: u32, b: u32) -> u32
         .cast_unsigned()
 }
 
-/// What the signed quotient leaves: its sign is the dividend's.
+/// The signed remainder: its sign is the dividend's.
 fn remain(a: u32, b: u32) -> u32
     requires { b ≢ 0 }
     ensures { result ≡ word (signed a -ℤ signed b *ℤ quotient (signed a) (signed b)) }

@@ -1,12 +1,12 @@
-//! What an instruction gives, and what an issue of it does.
+//! The outcome of an instruction, and the effect of its issue.
 
 use crate::cause;
 
-/// What follows from an instruction, its pc and the values of its source registers alone. A field
-/// that the instruction doesn't use is 0, false or `None`.
+/// The results that follow only from an instruction, its pc and the values of its source registers.
+/// A field that the instruction doesn't use is 0, false or `None`.
 #[derive(Clone, Copy, Debug)]
 pub struct Outcome {
-    /// The word for `rd`; 0 where it comes from elsewhere (loads, CSR instructions, GT and GTH).
+    /// The word for `rd`; 0 if it comes from elsewhere (loads, CSR instructions, GT and GTH).
     pub value: u32,
     /// The address of a load or store, in bytes.
     pub address: u32,
@@ -14,7 +14,7 @@ pub struct Outcome {
     pub target: u32,
     /// Whether a branch is taken.
     pub taken: bool,
-    /// The trap's cause, one of those of [`cause`] that follow from these alone.
+    /// The trap's cause, one of those of [`cause`] that follow only from these.
     pub trap: Option<u8>,
 }
 
@@ -23,7 +23,7 @@ impl Outcome {
     ghost use Rattle.rv_exec.specs.TrapCauses.{cause_misaligned_load, cause_misaligned_store};
     ghost use Rattle.rv_exec.specs.Result.{of_value, of_trap, of_access, of_jump, of_branch};
 
-    /// An instruction that gives nothing, or whose word comes from elsewhere.
+    /// The outcome of an instruction without a result, or with a word that comes from elsewhere.
     pub(crate) const NOTHING: Self = Self {
         value: 0,
         address: 0,
@@ -43,7 +43,7 @@ impl Outcome {
         }
     }
 
-    /// A trap and nothing else.
+    /// Only a trap.
     #[inline(always)]
     pub(crate) fn of_trap(cause: u8) -> Self
         ensures { result ≡ of_trap cause }
@@ -54,7 +54,7 @@ impl Outcome {
         }
     }
 
-    /// A load of `size` bytes, which traps where its address isn't aligned.
+    /// A load of `size` bytes; it traps if its address isn't aligned.
     #[inline(always)]
     pub(crate) fn of_load(address: u32, size: u8) -> Self
         requires { 0 < size }
@@ -63,7 +63,7 @@ impl Outcome {
         Self::of_access(address, size, cause::MISALIGNED_LOAD)
     }
 
-    /// A store of `size` bytes, which traps where its address isn't aligned.
+    /// A store of `size` bytes; it traps if its address isn't aligned.
     #[inline(always)]
     pub(crate) fn of_store(address: u32, size: u8) -> Self
         requires { 0 < size }
@@ -72,7 +72,7 @@ impl Outcome {
         Self::of_access(address, size, cause::MISALIGNED_STORE)
     }
 
-    /// An access of `size` bytes, which traps with `cause` where its address isn't aligned.
+    /// An access of `size` bytes; it traps with `cause` if its address isn't aligned.
     #[inline(always)]
     fn of_access(address: u32, size: u8, cause: u8) -> Self
         requires { 0 < size }
@@ -108,7 +108,7 @@ impl Outcome {
         }
     }
 
-    /// A branch, which can trap only where it is taken.
+    /// A branch; it can trap only if it is taken.
     #[inline(always)]
     pub(crate) fn of_branch(taken: bool, target: u32) -> Self
         ensures { result ≡ of_branch taken target }
@@ -127,8 +127,8 @@ impl Outcome {
     }
 }
 
-/// The bytes of an aligned word that a store writes: bit k of `mask` stands for byte k, and
-/// `value` has the bytes in their lanes, with 0 in the others.
+/// The bytes of an aligned word that a store writes: bit k of `mask` is set for byte k, and `value`
+/// has the bytes in their lanes, with 0 in the others.
 #[derive(Clone, Copy, Debug)]
 pub struct Lanes {
     /// A bit for each byte that is written, 1 to 15.
@@ -137,7 +137,7 @@ pub struct Lanes {
     pub value: u32,
 }
 
-/// What an issue does, as a trace shows it.
+/// The effect of an issue, as in a trace.
 #[derive(Clone, Copy, Debug)]
 pub enum Effect {
     /// No register, memory word, port or CSR changes.
@@ -158,29 +158,29 @@ pub enum Effect {
         /// The value, below 256^`size`.
         value: u32,
     },
-    /// A CSR keeps a value; unless `rd` is 0, that register gets the old one.
+    /// A CSR is set to a value; unless `rd` is 0, that register gets the old one.
     Csr {
         /// The number of the control and status register.
         csr: u16,
-        /// The value as the register keeps it.
+        /// The value as stored in the register.
         value: u32,
         /// The register that gets the old value, 0 to 31.
         rd: u8,
         /// The value before.
         old: u32,
     },
-    /// A trap is taken, and the thread goes to `target`.
+    /// A trap is taken, and the thread continues at `target`.
     Trap {
         /// The cause, as mcause then has it: 0 to 7, 11 or 24.
         cause: u8,
-        /// The address that mtvec holds.
+        /// The address in mtvec.
         target: u32,
     },
     /// A WU puts its thread to sleep.
     Wait,
 }
 
-/// An issue of a thread's instruction that was neither flushed nor held.
+/// An issue of a thread's instruction that was neither flushed nor waiting at a DU.
 #[derive(Clone, Copy, Debug)]
 pub struct Event {
     /// The cycle in which it was issued.
@@ -189,8 +189,8 @@ pub struct Event {
     pub thread: u8,
     /// The address at which it was issued.
     pub pc: u32,
-    /// The word at the pc; 0 where the trap's cause is 1 (fetch access) or 24 (expiry).
+    /// The word at the pc; 0 if the trap's cause is 1 (fetch access) or 24 (expiry).
     pub word: u32,
-    /// What it did.
+    /// Its effect.
     pub effect: Effect,
 }

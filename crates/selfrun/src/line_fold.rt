@@ -136,7 +136,7 @@ impl LineFolder {
         self.pairs.word(value).after(h)
     }
 
-    /// A hash with a store's address and value appended, at most nine bytes of value.
+    /// A hash with a store's address, size (below ten bytes) and value appended.
     #[inline(always)]
     fn store(&self, h: u32, address: u32, size: u8, value: u32) -> u32
         requires { size < 10 }

@@ -8,8 +8,8 @@ use crate::frame::{BadSlot, Frame, Turn, bad_slot, turn_named};
 use crate::nibbles::nibbles_of;
 use std::marker::Model;
 
-/// A word of the register slots (0x7C0): a nibble for each of eight slots, slot i in bits 4i to
-/// 4i + 3, which names a thread (0 to 7), the soft threads (14) or nobody (15, disabled).
+/// A word of the register slots (0x7C0): a nibble for each of eight slots, slot i in bits 4i to 4i
+/// + 3. A nibble is a thread (0 to 7), the soft threads (14) or disabled (15).
 #[derive(Clone, Copy, Debug)]
 pub struct SlotTable {
     word: u32,
@@ -32,11 +32,11 @@ impl Model for SlotTable {
 }
 
 impl SlotTable {
-    /// The table of a word of the register, which is kept as it is.
+    /// The table of a word of the register; the word is stored unchanged.
     ///
     /// # Errors
     ///
-    /// [`BadSlot`] exactly where a nibble is 8 to 13.
+    /// [`BadSlot`] exactly if a nibble is 8 to 13.
     #[tactic(auto, unfolding(crate::specs::Table::table_of, crate::specs::Frame::frame))]
     pub fn from_word(word: u32) -> Result<SlotTable, BadSlot>
         ensures table { result ≡ table_of word }
@@ -52,7 +52,7 @@ impl SlotTable {
         }
     }
 
-    /// The word of the register, of which no nibble is 8 to 13.
+    /// The word of the register; no nibble is 8 to 13.
     pub fn word(&self) -> u32
         ensures word { result ≡ self.now }
         ensures accepted { IsTrue (is_table result) }
@@ -67,11 +67,11 @@ impl SlotTable {
         self.layout.len
     }
 
-    /// The slot of a cycle: that of the frame's entry which has the cycle's number modulo the
-    /// frame's length, as its nibble (0 to 7 or 14), and 15 exactly where the frame is empty.
+    /// The nibble of a cycle's slot, 0 to 7 or 14: the frame's entry at the cycle's number modulo
+    /// the frame's length. It is 15 exactly if the frame is empty.
     ///
-    /// It stands beside [`turn`](SlotTable::turn) because a mask of threads is asked by the nibble
-    /// alone, with no case for each kind of turn.
+    /// It exists in addition to [`turn`](SlotTable::turn) because a mask of threads can be tested
+    /// with the nibble, without a case for each kind of turn.
     pub fn slot(&self, cycle: u64) -> u8
         ensures slot { IsTrue (is_slot result) }
         ensures turn { turn_named result ≡ turn self.now cycle }
@@ -79,8 +79,8 @@ impl SlotTable {
         self.layout.slots[self.layout.position_of(cycle) as usize]
     }
 
-    /// Whose turn a cycle is: that of the frame's entry which has the cycle's number modulo the
-    /// frame's length, and nobody's exactly where the frame is empty.
+    /// The turn of a cycle: that of the frame's entry at the cycle's number modulo the frame's
+    /// length, and nobody's exactly if the frame is empty.
     pub fn turn(&self, cycle: u64) -> Turn
         ensures turn { result ≡ turn self.now cycle }
         ensures thread { IsTurn result }
