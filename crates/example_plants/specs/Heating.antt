@@ -13,11 +13,11 @@ pub record Heated : Type 0 where
 abbrev pub cold : ℕ → Heated
 cold unloaded = record { body = pos 0; sensor = pos 0; unloaded = unloaded }
 
--- the load, which takes 4.0 from the heating once no step is left without it
+-- the load: 4.0 of the heating once no unloaded step is left
 abbrev pub load : ℕ → ℤ
 load unloaded = if unloaded == 0 then pos 0x40000 else pos 0
 
--- after a step that takes a word as heating
+-- the body after a step that takes a word as heating
 abbrev pub after : Heated → ℕ → Heated
 after heated word =
     let unloaded = heated.unloaded - 1 in

@@ -13,13 +13,13 @@ pub record Turning : Type 0 where
 abbrev pub resting : ℕ → Turning
 resting unloaded = record { current = pos 0; speed = pos 0; unloaded = unloaded }
 
--- the load, which takes 4.0 from the torque once no step is left without it
+-- the load: 4.0 of the torque once no unloaded step is left
 abbrev pub torque_of_load : ℕ → ℤ
 torque_of_load unloaded = if unloaded == 0 then pos 0x40000 else pos 0
 
--- after a step that takes a word as voltage: the current approaches the voltage less the speed,
--- with a time constant of 16 steps, and the speed approaches the current less the load, with one of
--- 64
+-- the motor after a step that takes a word as voltage: the current approaches the voltage less the
+-- speed, with a time constant of 16 steps, and the speed approaches the current less the load, with
+-- one of 64
 abbrev pub motor_after : Turning → ℕ → Turning
 motor_after motor word =
     let unloaded = motor.unloaded - 1 in

@@ -1,4 +1,4 @@
--- A plant by recorded words.
+-- A plant that replays recorded words.
 use Rattle.std.specs.Prelude.{ℕ, ◌+◌, ◌-◌, List, fold, length, min, slice_index_or}
 
 -- the words, and the number of the one that the plant shows
@@ -19,6 +19,6 @@ next_word recording drive =
 abbrev pub word_now : Recorded → ℕ
 word_now recording = slice_index_or recording.words recording.at 0
 
--- the word after steps, whatever they take
+-- the word after steps, for any words that they take
 abbrev pub played_after : Recorded → List ℕ → ℕ
 played_after recording taken = word_now (fold next_word recording taken)

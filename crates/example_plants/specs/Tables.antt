@@ -1,4 +1,4 @@
--- A plant by a table of words.
+-- A plant defined by a table of words.
 use Rattle.std.specs.Prelude.{ℕ, ◌+◌, ◌*◌, ◌%◌, List, fold, length, slice_index_or}
 
 -- the table, and the last two words that the plant took
@@ -11,7 +11,7 @@ pub record Tabled : Type 0 where
 abbrev pub unused : List ℕ → Tabled
 unused words = record { words = words; before = 0; last = 0 }
 
--- after a step that takes a word
+-- the plant after a step that takes a word
 abbrev pub table_after : Tabled → ℕ → Tabled
 table_after table word = record table { before = table.last; last = word }
 

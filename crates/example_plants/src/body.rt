@@ -34,7 +34,7 @@ impl Model for HeatedBody {
 }
 
 impl HeatedBody {
-    /// A cold body, whose load comes in step `unloaded`.
+    /// A cold body; its load begins in step `unloaded`.
     pub fn cold(unloaded: u32) -> HeatedBody
         ensures { result ≡ cold unloaded }
     {
@@ -74,7 +74,7 @@ impl Plant for HeatedBody {
     }
 }
 
-/// The load, if no step is left without it.
+/// The load, if no unloaded step is left.
 fn load_of(unloaded: u32) -> i32
     ensures { result ≡ load unloaded }
 {

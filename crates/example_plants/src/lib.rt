@@ -1,4 +1,4 @@
-//! Examples of plants: a heated body, a motor, a plant by a table, and one by recorded words.
+//! Examples of plants: a heated body, a motor, a plant with a table, and one with recorded words.
 
 #![tactic(auto)]
 

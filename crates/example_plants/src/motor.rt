@@ -34,7 +34,7 @@ impl Model for Motor {
 }
 
 impl Motor {
-    /// A motor at rest, whose load comes in step `unloaded`.
+    /// A motor at rest; its load begins in step `unloaded`.
     pub fn resting(unloaded: u32) -> Motor
         ensures { result ≡ resting unloaded }
     {
@@ -75,7 +75,7 @@ impl Plant for Motor {
     }
 }
 
-/// The load, if no step is left without it.
+/// The load, if no unloaded step is left.
 fn torque_of_load(unloaded: u32) -> i32
     ensures { result ≡ torque_of_load unloaded }
 {

@@ -1,5 +1,5 @@
-//! A plant by recorded words: after some steps its word is the entry of that number, and from the
-//! last entry on it stays.
+//! A plant that replays recorded words: its word after n steps is entry n; after the last entry the
+//! word stays.
 
 ghost use Rattle.std.specs.Prelude.{◌≡◌, ◌<◌, vec_len};
 ghost use Rattle.example_plants.specs.Recordings.{played_after, unplayed};
@@ -7,8 +7,8 @@ ghost use Rattle.example_plants.specs.Recordings.{played_after, unplayed};
 use loop_runs::Plant;
 use std::marker::Model;
 
-/// Recorded words, and how many steps they have played, up to the last word. What a step takes
-/// makes no difference.
+/// Recorded words, and the number of steps played, up to the last word. The words that steps take
+/// are ignored.
 #[derive(Drop)]
 pub struct RecordedPlant {
     words: Vec<u32>,
@@ -27,7 +27,7 @@ impl Model for RecordedPlant {
 }
 
 impl RecordedPlant {
-    /// A plant by at least one recorded word.
+    /// A plant with at least one recorded word.
     pub fn new(words: Vec<u32>) -> RecordedPlant
         requires { 0 < vec_len words }
         ensures { result ≡ unplayed words.items }

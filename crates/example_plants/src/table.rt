@@ -1,4 +1,4 @@
-//! A plant by a table: its word is the entry for the last two words that it took.
+//! A plant with a table: its word is the entry for the last two words that it took.
 
 ghost use Rattle.std.specs.Prelude.{◌≡◌, ◌<◌, vec_len};
 ghost use Rattle.example_plants.specs.Tables.{entry_after, entry_of, unused};
@@ -26,7 +26,7 @@ impl Model for TablePlant {
 }
 
 impl TablePlant {
-    /// A plant by a table that has at least one word.
+    /// A plant with a table of at least one word.
     pub fn new(words: Vec<u32>) -> TablePlant
         requires { 0 < vec_len words }
         ensures { result ≡ unused words.items }

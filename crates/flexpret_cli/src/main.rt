@@ -1,4 +1,4 @@
-//! The program: `flexpret run SETUP --thread i --cycles n`, and the commands beside it.
+//! The program: `flexpret run SETUP --thread i --cycles n`, and the other commands.
 #![tactic(auto)]
 
 ghost use Rattle.std.specs.Prelude.{◌≡◌, vec_len};
@@ -28,8 +28,8 @@ fn complaint(status: u8) -> Option<&'static str> {
     None
 }
 
-/// The words after the program's name, or the status where they can't be made. A word that isn't
-/// UTF-8 is no word of a command.
+/// The arguments after the program's name, or the status if reading them fails. No command takes an
+/// argument that isn't UTF-8.
 fn read_args(rt: HostRuntime) -> Result<Vec<String>, Status> {
     match env::args(&rt) {
         Ok(args) => args
@@ -41,8 +41,8 @@ fn read_args(rt: HostRuntime) -> Result<Vec<String>, Status> {
     }
 }
 
-/// Runs the command that the words ask beside the devices at the ports. A command is done once all
-/// that it wrote has left the program.
+/// Runs the command that the arguments give, with the devices at the ports. A command is done only
+/// after its whole output is flushed.
 fn answer(rt: HostRuntime, words: &[String], ports: &mut Ports) -> u8
     requires { vec_len ports.old ≡ 8 }
 {
@@ -55,7 +55,7 @@ fn answer(rt: HostRuntime, words: &[String], ports: &mut Ports) -> u8
     }
 }
 
-/// The status of the command, beside a device at each of the eight ports that shows 0 until it is
+/// The status of the command, run with a device at each of the eight ports that shows 0 until it is
 /// fed.
 fn run(rt: HostRuntime, words: &[String]) -> Result<u8, AllocError> {
     let alloc = rt.alloc();
@@ -66,7 +66,8 @@ fn run(rt: HostRuntime, words: &[String]) -> Result<u8, AllocError> {
     Ok(answer(rt, words, &mut ports))
 }
 
-/// The status of the program: that of the command, or that the words or the devices can't be made.
+/// The status of the program: that of the command, or of a failure to read the arguments or make
+/// the devices.
 fn status(rt: HostRuntime) -> u8 {
     match read_args(rt) {
         Ok(words) => run(rt, &words).unwrap_or(Status::NoMemory.number()),

@@ -14,11 +14,11 @@ is_digit b = is_between 48 57 b
 abbrev pub is_hex : ℕ → Bool
 is_hex b = is_digit b || (is_between 65 70 b || is_between 97 102 b)
 
--- what a name begins with: a letter of either case, `_` or `.`
+-- the first byte of a name: a letter of either case, `_` or `.`
 abbrev pub is_head : ℕ → Bool
 is_head b = (is_between 65 90 b || is_between 97 122 b) || (b == 95 || b == 46)
 
--- what a name goes on with
+-- a later byte of a name
 abbrev pub is_rest : ℕ → Bool
 is_rest b = is_head b || is_digit b
 

@@ -25,7 +25,7 @@ pub record IsMark (text : List ℕ) (value : ℕ) : Type 0 where
   pub marks : IsTrue (is_mark value)
   pub alone : text ≡ value ∷ []
 
--- what the text of a token is, by its kind and value
+-- the text of a token, from its kind and value
 abbrev pub IsText : Kind → List ℕ → ℕ → Type 0
 IsText Name text value = IsName text value
 IsText Number text value =

@@ -8,7 +8,7 @@ use Rattle.fp_lex.specs.declared.token.Kind.TheVariants.{Name, Number, Mark}
 use Rattle.fp_lex.specs.declared.token.LexNo.{LexNo}
 use Rattle.fp_lex.specs.declared.token.LexNo.TheVariants as no
 
--- what follows, where there was no fault
+-- the next result, if there was no fault
 abbrev pub next : {A B : Type 0} → Result A LexNo → (A → Result B LexNo) → Result B LexNo
 next (Ok x) f = f x
 next (Err e) f = Err e
@@ -19,7 +19,7 @@ is_prefixed (a ∷ b ∷ bs) = a == 48 && b == 120
 is_prefixed _ = false
 
 -- A number at column i with `count` digits after `skip` bytes. It is refused with no digit, past 32
--- bits, and where the head of a name follows directly.
+-- bits, and if the head of a name follows directly.
 unfoldable pub digits_at : ℕ → ℕ → ℕ → ℕ → List ℕ → Result Token LexNo
 digits_at i skip base count bs =
     let value = number_of base (take count (drop skip bs)) in
@@ -49,7 +49,7 @@ token_at i b bs =
     else if is_mark b then Ok (mark_at i b)
     else Err (no.BadChar i)
 
--- the token, where fewer than 64 stand before it
+-- the token, if fewer than 64 are before it
 abbrev pub counted : ℕ → Token → Result Token LexNo
 counted n t = if nat_lt n 64 then Ok t else Err no.TooMany
 
@@ -68,7 +68,7 @@ tokens_from zero i n (b ∷ bs) =
     else next (next (token_at i b bs) (counted n))
     (λ t. next (tokens_from (t.end - (i + 1)) (i + 1) (n + 1) bs) (λ ts. Ok (t ∷ ts)))
 
--- The tokens of a line. The answer is never that memory ran out.
+-- The tokens of a line. The result is never out of memory.
 unfoldable pub tokens_of : List ℕ → Result (List Token) LexNo
 tokens_of line = tokens_from 0 0 0 line
 

@@ -13,15 +13,15 @@ use std::alloc::Global;
 ///
 /// # Errors
 ///
-/// The leftmost fault of the line: `BadChar` and `BadNumber` with its column, and `TooMany` where a
-/// 65th token begins. At one index `BadNumber` comes before `TooMany`, and a byte that begins no
-/// token is `BadChar`. `NoMemory` if memory ran out.
+/// The leftmost fault of the line: `BadChar` and `BadNumber` with its column, and `TooMany` at the
+/// first byte of a 65th token. At one index `BadNumber` comes before `TooMany`, and a byte that
+/// begins no token is `BadChar`. `NoMemory` if memory ran out.
 pub fn tokens(alloc: Global, line: &[u8]) -> Result<Tokens, LexNo>
     requires { length line.now < 2 ^ 32 }
     ensures tokens { IfOk result (λ ts. tokens_of line.now ≡ Ok ts) }
     ensures refused { IfErr result (IsFaultOf (tokens_of line.now)) }
 
-    // What each token is, by its text.
+    // The kind and value of each token, from its text.
     ensures texts { IfOk result (All (IsTokenOf line.now)) }
     ensures rising { IfOk result (AreRising 0) }
     ensures few { IfOk result (λ ts. length ts ≤ 64) }

@@ -16,7 +16,7 @@ fn digit(b: u8) -> u32
     }
 }
 
-// The number with one more digit.
+// The number with a digit appended.
 #[tactic(auto, unfolding(crate::specs::Bytes::fit))]
 fn longer(base: u32, n: u32, b: u8) -> Option<u32>
     ensures fits { result ≡ fit (n * base + digit_of b) }
@@ -25,7 +25,7 @@ fn longer(base: u32, n: u32, b: u8) -> Option<u32>
     n.checked_mul(base)?.checked_add(digit(b))
 }
 
-/// The number of digits, where 32 bits hold it.
+/// The value of the digits, if it fits 32 bits.
 #[tactic(auto, using(crate::proofs::Runs::counting), unfolding(crate::specs::Bytes::number_of))]
 pub(crate) fn number(base: u32, digits: &[u8]) -> Option<u32>
     requires { 0 < base }

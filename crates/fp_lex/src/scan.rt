@@ -84,7 +84,7 @@ fn number_at(i: u32, bytes: &[u8]) -> Result<Token, LexNo>
     }
 }
 
-// The token at column i, where these bytes begin.
+// The token at column i; these bytes begin there.
 #[tactic(auto, unfolding(crate::specs::Tokens::token_at))]
 fn token_at(i: u32, bytes: &[u8]) -> Result<Token, LexNo>
     requires end { i + length bytes.now < 2 ^ 32 }
@@ -128,7 +128,7 @@ fn counted(n: usize, token: Token) -> Result<Token, LexNo>
 ///
 /// # Errors
 ///
-/// The token's own fault where it has one; else [`LexNo::TooMany`] where there are 64 others.
+/// The token's own fault if it has one; else [`LexNo::TooMany`] if there are 64 others.
 #[tactic(auto, unfolding(crate::specs::Tokens::token_in))]
 pub(crate) fn token_in(line: &[u8], i: usize, n: usize) -> Result<Token, LexNo>
     requires short { length line.now < 2 ^ 32 }

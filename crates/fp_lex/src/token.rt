@@ -6,7 +6,7 @@ use std::alloc::AllocFailed;
 use std::marker::Model;
 use thiserror::Error;
 
-/// What a token is.
+/// The kind of a token.
 #[derive(Clone, Copy, Debug)]
 pub enum Kind {
     /// A letter, `_` or `.`, and then letters, digits, `_` and `.`.
@@ -20,7 +20,7 @@ pub enum Kind {
 /// A token, whose text is the slice of its line from `start` to before `end`, in bytes.
 #[derive(Clone, Copy, Debug)]
 pub struct Token {
-    /// What the token is.
+    /// The token's kind.
     pub kind: Kind,
     /// The index of its first byte in the line, from 0.
     pub start: u32,
@@ -33,7 +33,7 @@ pub struct Token {
 /// Why a line was refused. A column is the index of a byte in the line, from 0.
 #[derive(Clone, Copy, Debug, PartialEq, Eq, Error)]
 pub enum LexNo {
-    /// A byte that stands outside comments and begins no token.
+    /// A byte outside comments that begins no token.
     #[error("byte {column} begins no token")]
     BadChar { column: u32 },
     /// A number that begins at the column and passes 2^32 - 1, has no digit after `0x`, or has a

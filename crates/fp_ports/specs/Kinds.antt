@@ -3,18 +3,18 @@ use Rattle.std.specs.Prelude.{ℕ, ◌/◌, ◌%◌, List, [], ◌∷◌, Option
 use Rattle.std.specs.Prelude.{unwrap_or, find, nat_le, if◌then◌else◌}
 use Rattle.fp_ports.specs.declared.feeds.Feed.{Feed}
 
--- the word that was fed for a cycle, if one was. Of the feeds, the newest first, the first one at
--- or before the cycle counts
+-- the word that was fed for a cycle, if one was. The feeds are newest first; the first one at or
+-- before the cycle counts
 abbrev pub fed_word : List Feed → ℕ → Option ℕ
 fed_word feeds c = option_map (λ feed. feed.word) (find (λ feed. nat_le feed.at c) feeds)
 
--- the feeds that some cycle from `first` on shows. Of the feeds, the newest first, these are the
--- ones up to the first one at or before that cycle
+-- the feeds that some cycle from `first` on shows. The feeds are newest first; these are the ones
+-- up to the first one at or before that cycle
 abbrev pub kept_from : ℕ → List Feed → List Feed
 kept_from first [] = []
 kept_from first (feed ∷ older) = feed ∷ (if nat_le feed.at first then [] else kept_from first older)
 
--- a port that holds the fed word
+-- a port that shows the fed word
 pub record HeldModel : Type 0 where
   pub feeds : List Feed
   pub latch : ℕ

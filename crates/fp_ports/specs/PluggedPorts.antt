@@ -1,16 +1,16 @@
--- Eight ports, seen as eight rows: a row is none where no port is plugged in, or what the port
--- means.
+-- Eight ports as eight rows: a row is None if no port is plugged in, else the meaning of the port.
 use Rattle.std.specs.Prelude.{◌≡◌, ℕ, ◌^◌, ◌≤◌, ⊤, List, map, Option, Some, None}
 use Rattle.std.specs.Prelude.{option_map, fold, nat_lt, if◌then◌else◌, slice_index_or}
 use Rattle.std.specs.Option.{option_map_or}
 use Rattle.fp_ports.specs.PortWords.{fed_words}
 
--- what a port means: its latch, and its word for each cycle
+-- the meaning of a port: its latch, and its word for each cycle
 pub record Row : Type 0 where
   pub latch : ℕ
   pub words : ℕ → ℕ
 
--- the words of the cycles that fit 64 bits, of which alone a port claims something, and 0 past them
+-- the words of the cycles that fit 64 bits, and 0 past them; a port's claims cover only these
+-- cycles
 abbrev pub claim_of : (ℕ → ℕ) → ℕ → ℕ
 claim_of words c = if nat_lt c (2 ^ 64) then words c else 0
 
@@ -28,7 +28,7 @@ rows_of latched word_at ports = map (row_of latched word_at) ports
 abbrev pub row_at : List (Option Row) → ℕ → Option Row
 row_at rows thread = slice_index_or rows thread None
 
--- the word that is read where no port is plugged in: all ones
+-- the word that is read if no port is plugged in: all ones
 abbrev pub absent_word : ℕ
 absent_word = 0xFFFFFFFF
 
@@ -36,21 +36,21 @@ absent_word = 0xFFFFFFFF
 abbrev pub word_seen : Option Row → ℕ → ℕ
 word_seen row c = option_map_or (λ r. r.words c) row absent_word
 
--- the latch, where a port is plugged in
+-- the latch, if a port is plugged in
 abbrev pub latch_seen : Option Row → Option ℕ
 latch_seen row = option_map (λ r. r.latch) row
 
--- after a word was written: it is the latch. Where no port is plugged in nothing changes
+-- the row after a word was written: the word is the latch. If no port is plugged in nothing changes
 abbrev pub row_with_word : Option Row → ℕ → Option Row
 row_with_word row word = option_map {T = Row} (λ r. record r { latch = word }) row
 
--- after a word was fed at a cycle. Where no port is plugged in nothing changes
+-- the row after a word was fed at a cycle. If no port is plugged in nothing changes
 abbrev pub fed : Option Row → ℕ → ℕ → Option Row
 fed row at word =
     option_map {T = Row} (λ r. record r { words = claim_of (fed_words r.words at word) }) row
 
--- after the words before a cycle were forgotten: the latch stays, and so do the words from the
--- cycle on. Where no port is plugged in nothing changes
+-- a row after the words before a cycle were forgotten: the latch stays, and so do the words from
+-- the cycle on. If no port is plugged in nothing changes
 abbrev pub Forgot : ℕ → Option Row → Option Row → Type 0
 Forgot first (Some before) (Some after) =
     (after.latch ≡ before.latch) × ((c : ℕ) → first ≤ c → after.words c ≡ before.words c)

@@ -1,5 +1,5 @@
--- What a port means is a word for each cycle, and a latch. Every claim on the words is on cycles
--- that fit 64 bits.
+-- The meaning of a port is a word for each cycle, and a latch. Every claim on the words covers only
+-- cycles that fit 64 bits.
 use Rattle.std.specs.Prelude.{◌≡◌, ℕ, ◌^◌, ◌<◌, ◌≤◌, nat_le, if◌then◌else◌}
 
 -- the words are those from before

@@ -3,8 +3,8 @@ use Rattle.std.specs.Prelude.{ℕ, ◌/◌, ◌%◌, ◌^◌, Bool, false, Optio
 use Rattle.std.specs.Prelude.{Some, None, nat_le, if◌then◌else◌}
 use Rattle.fp_ports.specs.Kinds.{HeldModel, new_held, held_word}
 
--- a port that shows a ramp until it is fed: for how many cycles each word of the ramp stands, the
--- first fed cycle, and what was fed
+-- a port that shows a ramp until it is fed: the number of cycles of each word of the ramp, the
+-- first fed cycle, and the feeds
 pub record Ramp : Type 0 where
   pub every : ℕ
   pub first : Option ℕ
@@ -14,7 +14,7 @@ pub record Ramp : Type 0 where
 abbrev pub new_ramp : ℕ → Ramp
 new_ramp every = record { every = every; first = None; held = new_held }
 
--- it rises by 1 every so many cycles, from 0 in cycle 0, and begins anew past 32 bits
+-- the ramp rises by 1 every `every` cycles, from 0 in cycle 0, and wraps at 32 bits
 abbrev pub ramp : ℕ → ℕ → ℕ
 ramp every c = c / every % 2 ^ 32
 

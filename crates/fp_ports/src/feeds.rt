@@ -41,11 +41,11 @@ impl Feeds {
         }
     }
 
-    /// Takes a word to be shown from the cycle `at` on.
+    /// Adds a word to be shown from the cycle `at` on.
     ///
     /// # Errors
     ///
-    /// Out of memory; nothing was taken.
+    /// Out of memory; nothing was added.
     pub fn push(&mut self, at: u64, word: u32) -> Result<(), AllocError>
         ensures { self.new ≡ (if is_ok result then record { at = at; word = word } ∷ self.old
             else self.old) }
@@ -54,7 +54,7 @@ impl Feeds {
         Ok(())
     }
 
-    /// Forgets the words that no cycle from `before` on shows. It takes no memory.
+    /// Forgets the words that no cycle from `before` on shows. It allocates no memory.
     pub fn forget(&mut self, before: u64)
         ensures { self.new ≡ kept_from before self.old }
     {
@@ -77,7 +77,7 @@ fn newest(fed: &[Feed], at: u64) -> Option<&Feed>
     fed.iter().rev().find(|feed| feed.at <= at)
 }
 
-/// How many of the oldest feeds no cycle from `before` on shows.
+/// The number of oldest feeds that no cycle from `before` on shows.
 fn count_unseen(fed: &[Feed], before: u64) -> usize
     ensures kept { reverse (drop result fed.entry.now) ≡ kept_from before (reverse fed.entry.now) }
     ensures within { result ≤ length fed.entry.now }

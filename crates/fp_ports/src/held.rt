@@ -1,4 +1,4 @@
-//! A device that shows what it was fed.
+//! A device that shows the words that it was fed.
 
 ghost use Rattle.std.specs.Prelude.{◌≡◌, ℕ};
 ghost use Rattle.fp_ports.specs.Kinds.{new_held, held_word};

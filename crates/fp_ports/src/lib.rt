@@ -1,4 +1,4 @@
-//! The ports of the eight hardware threads: boxed devices of any kind, known by what they mean.
+//! The ports of the eight hardware threads: boxed devices of any kind, specified by their meaning.
 
 #![tactic(auto)]
 

@@ -37,7 +37,7 @@ pub fn read_port(ports: &mut Ports, thread: u8, at: u64) -> u32
     read_entry(&mut ports[thread as usize], at)
 }
 
-/// Puts a word into the latch of a thread's device. An empty port takes it without effect.
+/// Puts a word into the latch of a thread's device. An empty port ignores it.
 pub fn write_port(ports: &mut Ports, thread: u8, word: u32)
     requires eight { vec_len ports.old ≡ 8 }
     requires thread { thread < 8 }
@@ -49,11 +49,11 @@ pub fn write_port(ports: &mut Ports, thread: u8, word: u32)
     write_entry(&mut ports[thread as usize], word);
 }
 
-/// Lets a thread's device show the word from the cycle `at` on. At an empty port nothing happens.
+/// Makes a thread's device show the word from the cycle `at` on. At an empty port nothing happens.
 ///
 /// # Errors
 ///
-/// If memory ran out; nothing changes then.
+/// Out of memory; nothing changes then.
 pub fn feed_port(ports: &mut Ports, thread: u8, at: u64, word: u32) -> Result<(), AllocError>
     requires eight { vec_len ports.old ≡ 8 }
     requires thread { thread < 8 }
@@ -68,7 +68,7 @@ pub fn feed_port(ports: &mut Ports, thread: u8, at: u64, word: u32) -> Result<()
     feed_entry(&mut ports[thread as usize], at, word)
 }
 
-/// Lets a thread's device forget its words of the cycles before `before`. Its latch stays, and so
+/// Makes a thread's device forget its words of the cycles before `before`. Its latch stays, and so
 /// do its words from that cycle on. At an empty port nothing happens.
 pub fn forget_port(ports: &mut Ports, thread: u8, before: u64)
     requires eight { vec_len ports.old ≡ 8 }
@@ -82,7 +82,7 @@ pub fn forget_port(ports: &mut Ports, thread: u8, before: u64)
     forget_entry(&mut ports[thread as usize], before);
 }
 
-/// The last word that was written to a thread's device, or none where the port is empty.
+/// The last word that was written to a thread's device, or None if the port is empty.
 pub fn latch_of(ports: &Ports, thread: u8) -> Option<u32>
     requires eight { vec_len ports.now ≡ 8 }
     requires thread { thread < 8 }
@@ -91,7 +91,7 @@ pub fn latch_of(ports: &Ports, thread: u8) -> Option<u32>
     latch_entry(&ports[thread as usize])
 }
 
-/// Takes a thread's device away and drops it. The port is then empty.
+/// Removes a thread's device and drops it. The port is then empty.
 pub fn unplug(ports: &mut Ports, thread: u8)
     requires eight { vec_len ports.old ≡ 8 }
     requires thread { thread < 8 }

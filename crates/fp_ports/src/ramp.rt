@@ -1,4 +1,4 @@
-//! A device that shows a ramp. It is the example of a device of one's own.
+//! A device that shows a ramp. It is the example of a custom device.
 
 ghost use Rattle.std.specs.Prelude.{◌≡◌, ℕ, ◌<◌};
 ghost use Rattle.fp_ports.specs.Ramp.{new_ramp, ramp, shown_word};

@@ -11,8 +11,8 @@ use Rattle.loop_laws.specs.Loop.{port_stores, without_port_words}
 abbrev pub stores_before : Start → ℕ → ℕ → List PortStore
 stores_before s i c = port_stores (events_of i (world s c).turns)
 
--- a plant answers thread i for n cycles: in each of them the thread's port shows the plant's
--- response to the stores that the thread issued before
+-- a plant responds to thread i for n cycles: in each cycle the thread's port shows the plant's
+-- response to the thread's earlier stores
 abbrev pub IsAnswered : Plant → Start → ℕ → ℕ → Type 0
 IsAnswered plant s i n = (c : ℕ) → c < n → port_word s c i ≡ plant (stores_before s i c) c
 
@@ -36,8 +36,8 @@ inputs_of s i = input_plant (slice_index_or s.shown i [])
 abbrev pub plant_at : ℕ → Plant → Start → ℕ → Plant
 plant_at i plant s k = if k == i then plant else inputs_of s k
 
--- the words of the eight ports in the first c cycles, where each thread has its plant: a cycle's
--- word is the plant's response in the run with the words before it
+-- the words of the eight ports in the first c cycles, if each thread has its plant: a cycle's word
+-- is the plant's response in the run with the words before it
 unfoldable pub closed_words : (ℕ → Plant) → Start → ℕ → List (List ℕ)
 closed_words plants s zero = []
 closed_words plants s (suc c) =

@@ -18,7 +18,8 @@ pub record PortStore : Type 0 where
   pub cycle : ℕ  -- in which the store issued
   pub word : ℕ
 
--- a plant: the word that the port shows in a cycle, by the stores issued before it (oldest first)
+-- a plant: the word that the port shows in a cycle, as a function of the stores issued before it
+-- (oldest first)
 abbrev pub Plant : Type 0
 Plant = List PortStore → ℕ → ℕ
 

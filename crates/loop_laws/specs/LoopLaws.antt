@@ -1,4 +1,5 @@
--- Theorems on threads in closed loops: what the rest of the machine can't change for such a thread.
+-- Theorems on threads in closed loops: the rest of the machine can't change the events of such a
+-- thread.
 use Rattle.std.specs.Prelude.{◌≡◌, ℕ, ◌<◌, true, false, List, slice_index_or}
 use Rattle.std.specs.List.{list_all}
 use Rattle.core_model.specs.View.{View}
@@ -12,8 +13,8 @@ use Rattle.loop_laws.specs.Loop.{Plant, input_plant, phased_in_loop}
 use Rattle.loop_laws.specs.Loop.{solo_in_loop, without_port_words}
 use Rattle.loop_laws.specs.Answered.{IsAnswered, closed_start, inputs_of, loop_view, with_all_shown}
 
--- in a quiet run, whatever the other threads run, the events of a confined hard thread that a plant
--- answers are those of the thread alone in the loop with the plant
+-- in a quiet run, the events of a confined hard thread with a responding plant are those of the
+-- thread alone in the loop with the plant. The other threads may run any code
 abbrev pub LoopIsolation : Type 0
 LoopIsolation = (plant : Plant) (s : Start) (i n : ℕ) → StartsConfinedHard s i → is_quiet s n ≡ true
     → IsAnswered plant s i n → events s i n ≡ solo_in_loop (loop_view s i) plant n
@@ -33,23 +34,23 @@ PhasedLoops = (plant : Plant) (s : Start) (i n : ℕ) → StartsConfined s i
     → list_all (is_never_soft i) (phases s n) ≡ true → keeps_regions s n ≡ true
     → IsAnswered plant s i n → events s i n ≡ phased_in_loop (loop_view s i) plant (phases s n) n
 
--- for all plants there is a run in which each thread is answered by its own
+-- for all plants there is a run in which each plant responds to its thread
 abbrev pub LoopsExist : Type 0
 LoopsExist = (plants : ℕ → Plant) (s : Start) (i n : ℕ) → i < 8
     → IsAnswered (plants i) (closed_start plants s n) i n
 
--- where no thread has a permit, that run is quiet: each confined hard thread runs as if it were
--- alone in the loop with its plant
+-- if no thread has a permit, that run is quiet: each confined hard thread runs as if it were alone
+-- in the loop with its plant
 abbrev pub LoopsWithoutPermits : Type 0
 LoopsWithoutPermits = (plants : ℕ → Plant) (s : Start) (i n : ℕ) → StartsConfinedHard s i
     → ((k : ℕ) → slice_index_or s.permit k false ≡ false)
     → events (closed_start plants s n) i n ≡ solo_in_loop (loop_view s i) (plants i) n
 
--- fixed input words are a plant that ignores all stores: it answers each thread in each run
+-- fixed input words are a plant that ignores all stores: it responds to each thread in each run
 abbrev pub InputsAnswer : Type 0
 InputsAnswer = (s : Start) (i n : ℕ) → IsAnswered (inputs_of s i) s i n
 
--- and alone in the loop with it a thread does what it does alone with these words
+-- alone in the loop with this plant a thread has the same events as alone with these words
 abbrev pub InputsAreLoops : Type 0
 InputsAreLoops = (v : View) (n : ℕ)
     → solo_in_loop (without_port_words v) (input_plant v.shown) n ≡ solo v n

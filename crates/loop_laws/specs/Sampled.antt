@@ -1,5 +1,5 @@
--- A plant that is sampled: each so many cycles it takes the latch of its port, and it shows one
--- word until the next sample.
+-- A plant that is sampled: at a fixed period of cycles it takes the latch of its port, and it shows
+-- one word until the next sample.
 use Rattle.std.specs.Prelude.{◌≡◌, ℕ, zero, suc, ◌+◌, ◌*◌, ◌-◌, ◌/◌, ◌<◌, ◌≤◌, nat_lt, true, List}
 use Rattle.std.specs.Prelude.{[], ◌∷◌, ◌++◌, filter, length, slice_index_or, Option, Some, None}
 use Rattle.core_model.specs.World.{Start, has_port, port_word, world}
@@ -36,12 +36,13 @@ abbrev pub sampled_at : Start → ℕ → ℕ → (List ℕ → ℕ) → Plant
 sampled_at s every i response =
     plant_behind_port (has_port s i) (sampled response every (slice_index_or s.latches i 0))
 
--- the plant of thread i, by the response of its sampled plant, or its input words if it has none
+-- the plant of thread i, from the response of its sampled plant, or its input words if it has none
 abbrev pub plant_of : Start → ℕ → ℕ → Option (List ℕ → ℕ) → Plant
 plant_of s every i None = inputs_of s i
 plant_of s every i (Some response) = sampled_at s every i response
 
--- the start of a run of n cycles in loops with sampled plants, by the response of each thread's
+-- the start of a run of n cycles in loops with sampled plants, from the response of each thread's
+-- plant
 abbrev pub sampled_start : (ℕ → Option (List ℕ → ℕ)) → ℕ → Start → ℕ → Start
 sampled_start responses every s n = closed_start (λ k. plant_of s every k (responses k)) s n
 
@@ -62,7 +63,7 @@ LatchOfStores = (s : Start) (i c : ℕ) → i < length s.latches
     → slice_index_or (world s c).latches i 0
     ≡ last_word (slice_index_or s.latches i 0) (present_stores s i (stores_before s i c))
 
--- the delay of a store: a sample in cycle c knows the stores issued in cycle c - 4 and before
+-- the delay of a store: a sample in cycle c includes the stores issued in cycle c - 4 and before
 abbrev pub StoreDelay : Type 0
 StoreDelay = (s : Start) (i a c : ℕ) → c ≤ a + 3
     → arrived_stores c (stores_before s i a) ≡ stores_before s i (c - 3)

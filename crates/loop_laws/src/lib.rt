@@ -32,8 +32,8 @@ pub fn runs_by_phases_in_loop()
     ensures { PhasedLoops }
 {}
 
-/// Fixed input words are a plant that ignores all stores: it answers each thread in each run, and
-/// alone in the loop with it a thread does what it does alone with these words.
+/// Fixed input words are a plant that ignores all stores: it responds to each thread in each run,
+/// and alone in the loop with it a thread has the same events as alone with these words.
 pub fn takes_inputs_as_plants()
     ensures answered { InputsAnswer }
     ensures alone { InputsAreLoops }
@@ -53,14 +53,14 @@ pub fn depends_on_past_words()
     ensures { PastWords }
 {}
 
-/// For each start, all plants and each length there is a run in which each plant answers its
+/// For each start, all plants and each length there is a run in which each plant responds to its
 /// thread.
 pub fn has_closed_loops()
     ensures { LoopsExist }
 {}
 
-/// Where no thread has a permit, each confined hard thread runs as if it were alone in the loop
-/// with its plant.
+/// If no thread has a permit, each confined hard thread runs as if it were alone in the loop with
+/// its plant.
 pub fn runs_alone_without_permits()
     ensures { LoopsWithoutPermits }
 {
@@ -75,7 +75,7 @@ pub fn latches_last_store()
     ensures { LatchOfStores }
 {}
 
-/// A sample of a latch in cycle c knows the stores issued in cycle c - 4 and before.
+/// A sample of a latch in cycle c includes the stores issued in cycle c - 4 and before.
 pub fn delays_stores()
     ensures { StoreDelay }
 {}

@@ -16,7 +16,7 @@ abbrev pub words_fed : Start → ℕ → ℕ → ℕ → ℕ → List ℕ
 words_fed s i at word n =
     map (λ c. if nat_le at c && has_port s i c then word else port_word s c i) (range_with_len 0 n)
 
--- the start whose port of thread i shows them
+-- the start whose port of thread i shows these words
 abbrev pub fed_start : Start → ℕ → ℕ → ℕ → ℕ → Start
 fed_start s i at word n = with_shown s i (words_fed s i at word n)
 
@@ -26,7 +26,7 @@ fed_ports ports i at word = slice_set ports i (fed (row_at ports i) at word)
 
 -- machine and ports refine cycle c of a world. If a port is fed at cycle c or later, they refine
 -- cycle c of the world whose port shows the fed word. The loads issued in cycles c - 3 to c - 1,
--- which are still in flight, find the earlier words
+-- which are still in flight, read the earlier words
 abbrev pub FeedsRunning : Type 0
 FeedsRunning = (s : Start) (c n : ℕ) (m : Machine) (ports : List (Option Row)) (i at word : ℕ)
     → Refines s c n m ports → length ports ≡ 8 → i < 8 → i < length s.shown → n ≤ 2 ^ 64
@@ -47,7 +47,7 @@ abbrev pub FallsBelow : ℕ → List Feed → Type 0
 FallsBelow c [] = ⊤
 FallsBelow c (feed ∷ older) = (feed.at < c) × FallsBelow feed.at older
 
--- of such feeds a device of fp_ports keeps at most three, once it forgets the cycles before c - 3
+-- a device of fp_ports keeps at most three of such feeds, once it forgets the cycles before c - 3
 abbrev pub KeepsThree : Type 0
 KeepsThree = (feeds : List Feed) (c : ℕ) → 0 < c → FallsBelow c feeds
     → length (kept_from (c - 3) feeds) ≤ 3

@@ -11,17 +11,17 @@ use Rattle.loop_laws.specs.Answered.{with_all_shown}
 use Rattle.loop_laws.specs.Sampled.{latch_samples}
 use Rattle.loop_runs.specs.Plants.{Continues, Response, loop_start, response_at}
 
--- the plants of the first i threads have done step q, the others only the steps before it: how many
--- samples the plant of thread j has taken. Step 0 takes none
+-- the number of samples that the plant of thread j has taken, when the plants of the first i
+-- threads have done step q and the others only the steps before it. Step 0 takes none
 abbrev pub samples_taken : ℕ → ℕ → ℕ → ℕ
 samples_taken q i j = if nat_lt j i then q else q - 1
 
--- and the first cycle for which its port has no word of the plant yet
+-- the first cycle for which its port has no word of the plant yet
 abbrev pub words_end : ℕ → ℕ → ℕ → ℕ → ℕ
 words_end every q i j = (if nat_lt j i then suc q else q) * every
 
 -- a machine at cycle c of a run of n cycles, whose plants had these responses first and have those
--- now. Its ports show words that are those of the closed run as far as plants have answered
+-- now. Its ports show the words of the closed run as far as the plants have responded
 pub record Looping (first now : List (Option Response)) (every : ℕ) (s : Start) (n q i c : ℕ)
     (m : Machine) (ports : List (Option Row)) : Type 0 where
   pub shown : List (List ℕ)

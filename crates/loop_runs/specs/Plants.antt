@@ -1,5 +1,5 @@
--- The plants of the eight threads, seen as their responses. A response is the plant's word after
--- some steps, by the words that the steps take.
+-- The plants of the eight threads, as their responses. A response is the plant's word after some
+-- steps, as a function of the words that the steps take.
 use Rattle.std.specs.Prelude.{◌≡◌, ◌≢◌, ℕ, List, [], ◌∷◌, ◌++◌, map}
 use Rattle.std.specs.Prelude.{Option, Some, None, slice_index_or, ⊤}
 use Rattle.core_model.specs.World.{Start}
@@ -28,7 +28,7 @@ Continues (Some first) (Some now) words = (more : List ℕ) → now more ≡ fir
 Continues None (Some now) words = ⊥
 Continues (Some first) None words = ⊥
 
--- a plant's word, where there is a plant
+-- a plant's word, if there is a plant
 abbrev pub IsWord : Option Response → List ℕ → Option ℕ → Type 0
 IsWord None words None = ⊤
 IsWord (Some response) words (Some word) = word ≡ response words
@@ -43,6 +43,6 @@ pub record HasStepped (before after : List (Option Response)) (thread taken : �
   pub word_is : IsWord (response_at before thread) (taken ∷ []) word
   pub others : (k : ℕ) → k ≢ thread → response_at after k ≡ response_at before k
 
--- the start of a run of n cycles in loops with these plants, which are sampled each `every` cycles
+-- the start of a run of n cycles in loops with these plants, which are sampled every `every` cycles
 abbrev pub loop_start : List (Option Response) → ℕ → Start → ℕ → Start
 loop_start responses every s n = sampled_start (response_at responses) every s n

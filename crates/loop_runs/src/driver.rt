@@ -1,4 +1,4 @@
-//! The machine in loops with its plants. Each `every` cycles the driver samples the latches of the
+//! The machine in loops with its plants. Every `every` cycles the driver samples the latches of the
 //! ports, steps the plants, and feeds their words to the ports.
 
 ghost use Rattle.std.specs.Prelude.{◌≡◌, ℕ, suc, ◌+◌, ◌*◌, ◌^◌, ◌<◌, ◌≤◌, true, false, Err};
@@ -89,7 +89,7 @@ fn begin_thread(
 }
 
 /// Samples the latch of a thread's port, steps the thread's plant and feeds its word to the port.
-/// Nothing changes where the thread has no plant, or no port.
+/// Nothing changes if the thread has no plant or no port.
 fn sample_thread(
     machine: &Machine,
     ports: &mut Ports,
@@ -218,9 +218,9 @@ pub fn begin_loops(machine: &Machine, ports: &mut Ports, plants: &Plants) -> Res
     begin_all(machine, ports, plants)
 }
 
-/// Continues closed loops for some steps of the plants, one each `every` cycles, and puts the lines
-/// of a thread. Machine, ports and text are then those of the run in which each plant answers its
-/// thread.
+/// Continues closed loops for some steps of the plants, one every `every` cycles, and puts the
+/// lines of a thread. Machine, ports and text are then those of the run in which each plant
+/// responds to its thread.
 ///
 /// # Errors
 ///
@@ -266,10 +266,10 @@ pub fn continue_loops<K: Sink>(
     Ok(())
 }
 
-/// Runs a machine from cycle 0 on in closed loops with its plants, which do a step each `every`
-/// cycles, and puts the lines of a thread. They are the text of the run in which each plant answers
-/// its thread; and so, whatever the other threads run, the text of the thread alone in the loop
-/// with its plant.
+/// Runs a machine from cycle 0 on in closed loops with its plants, which do a step every `every`
+/// cycles, and puts the lines of a thread. They are the text of the run in which each plant
+/// responds to its thread. So they are the text of the thread alone in the loop with its plant, for
+/// any code of the other threads.
 ///
 /// # Errors
 ///

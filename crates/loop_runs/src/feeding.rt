@@ -44,7 +44,7 @@ pub fn feed_now(
     feed_port(ports, thread, machine.cycle(), word)
 }
 
-/// A machine whose ports forget the words that no load in flight finds refines the same cycle of
+/// A machine whose ports forget the words that no load in flight reads refines the same cycle of
 /// the same world. The contract states the theorem; the call does nothing.
 pub fn forgets_running()
     ensures { ForgetsRunning }
@@ -56,8 +56,8 @@ pub fn keeps_three()
     ensures { KeepsThree }
 {}
 
-/// Lets all ports forget their words of the cycles before those of the loads in flight. It takes no
-/// memory.
+/// Makes all ports forget their words of the cycles before those of the loads in flight. It
+/// allocates no memory.
 pub fn forget_past(machine: &Machine, ports: &mut Ports)
     requires eight { vec_len ports.old ≡ 8 }
     ensures forgot { AllForgot (machine.now.at - 3) (rows_of latched word_at ports.old.items)

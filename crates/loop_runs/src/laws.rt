@@ -3,8 +3,8 @@
 
 ghost use Rattle.loop_runs.specs.SampledLaws.{SampledAlone, SampledPhased, SampledUnpermitted};
 
-/// In a quiet run a confined hard thread does what it does alone in the loop with its plant,
-/// whatever the other threads run.
+/// In a quiet run a confined hard thread has the same events as alone in the loop with its plant.
+/// The other threads may run any code.
 pub fn runs_alone_in_loops()
     ensures { SampledAlone }
 {
@@ -12,7 +12,7 @@ pub fn runs_alone_in_loops()
     loop_laws::has_closed_loops();
 }
 
-/// The same without permits, where each run is quiet.
+/// The same without permits; then each run is quiet.
 pub fn runs_alone_without_permits()
     ensures { SampledUnpermitted }
 {

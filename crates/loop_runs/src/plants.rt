@@ -7,7 +7,7 @@ ghost use Rattle.loop_runs.specs.Plants.{response_at, response_of, responses_of}
 /// A plant in steps: each step takes the word that the controller stored last, and returns the word
 /// that the controller's port shows until the next step.
 pub trait Plant: Drop {
-    // The plant's word after some steps, by the words that they take.
+    // The plant's word after some steps, as a function of the words that they take.
     ghost response: { Self → List ℕ → ℕ };
 
     /// The plant's word now.

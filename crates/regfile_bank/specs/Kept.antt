@@ -1,5 +1,4 @@
--- How the bank keeps its registers: a row of 32 words for each thread, of which the first is
--- x0's 0.
+-- The bank's storage of its registers: a row of 32 words for each thread; the first word is x0's 0.
 use Rattle.std.specs.Prelude.{◌≡◌, ℕ, List, [], ◌∷◌, All, map, drop, length}
 use Rattle.std.proofs.Common.{refl, sym, ap₂, zero, suc, zero-lt-suc, suc-le-suc}
 

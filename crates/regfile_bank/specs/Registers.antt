@@ -5,7 +5,7 @@ use Rattle.std.specs.Prelude.{ℕ, ◌-◌, ◌==◌, if◌then◌else◌, List,
 abbrev pub register : List ℕ → ℕ → ℕ
 register regs x = if x == 0 then 0 else slice_index_or regs (x - 1) 0
 
--- the registers of one thread after a write; x0 takes none
+-- the registers of one thread after a write; a write to x0 is ignored
 abbrev pub with_register : List ℕ → ℕ → ℕ → List ℕ
 with_register regs x value = if x == 0 then regs else slice_set regs (x - 1) value
 

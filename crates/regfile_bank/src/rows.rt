@@ -48,7 +48,7 @@ impl Bank {
         row[x as usize]
     }
 
-    /// Gives a thread's register a word.
+    /// Writes a word to a thread's register.
     pub fn write(&mut self, thread: u8, x: u8, v: u32)
         requires thread { thread < 8 }
         requires register { x < 32 }

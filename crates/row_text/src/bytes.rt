@@ -2,8 +2,8 @@
 
 use std::alloc::{AllocError, Global};
 
-/// Appends the bytes of words of hexadecimal digits, two for a byte; a full stop is four bytes of
-/// 0, and `*N` behind a word says that its bytes stand there N times.
+/// Appends the bytes of words of hexadecimal digits, two for a byte. A full stop is four bytes of
+/// 0, and `*N` after a word repeats its bytes N times.
 pub fn push_bytes(to: &mut Vec<u8>, alloc: Global, line: &str) -> Result<(), AllocError> {
     for word in line.split(' ') {
         push_word(to, alloc, word)?;
@@ -18,7 +18,7 @@ fn push_word(to: &mut Vec<u8>, alloc: Global, word: &str) -> Result<(), AllocErr
     push_times(to, &bytes, count.parse().unwrap_or(0))
 }
 
-/// The bytes of digits. What are no digits has none.
+/// The bytes of digits; none if the text isn't digits.
 fn bytes_of(alloc: Global, digits: &str) -> Result<Vec<u8>, AllocError> {
     let mut bytes = Vec::new(alloc);
     let mut zeros: &[u8] = &[];

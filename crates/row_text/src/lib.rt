@@ -1,5 +1,5 @@
-//! What the programs `unit_rows` and `command_rows` read tables with, what they write answers to,
-//! and how they count.
+//! Shared code of the programs `unit_rows` and `command_rows`: reading tables, writing results, and
+//! counting.
 #![tactic(auto)]
 
 mod bytes;

@@ -14,7 +14,7 @@ impl Tally {
         Tally { rows: 0, differ: 0 }
     }
 
-    /// Counts a row, whose answer is as wanted or not.
+    /// Counts a row; `agrees` is whether its result is the expected one.
     pub fn count(&mut self, agrees: bool) {
         self.rows = self.rows.saturating_add(1);
         if !agrees {
@@ -22,7 +22,7 @@ impl Tally {
         }
     }
 
-    /// Prints how many there are under the table's name, by what its rows are.
+    /// Prints the counts under the table's name; `rows` is the kind of its rows.
     pub fn print(self, rt: HostRuntime, name: &str, rows: &str) -> io::Result<()> {
         println!(rt; "{name}: {} {rows}, {} differ", self.rows, self.differ)
     }

@@ -3,8 +3,8 @@
 use std::alloc::{AllocError, Global};
 use std::fmt::{Display, Write};
 
-/// A text that is compared with a row, or printed. If memory for a part of it was refused, it can't
-/// be read.
+/// A text that is compared with a row, or printed. If memory ran out for a part of it, it can't be
+/// read.
 #[derive(Drop)]
 pub struct RowText {
     text: String,
@@ -32,7 +32,7 @@ impl RowText {
         }
     }
 
-    /// Notes that memory ran out for what the text is made of.
+    /// Notes that memory ran out for a part of the text.
     pub fn refuse(&mut self) {
         self.is_refused = true;
     }
@@ -42,7 +42,7 @@ impl RowText {
         self.text.len()
     }
 
-    /// The text. An error if memory for a part of it was refused.
+    /// The text. An error if memory ran out for a part of it.
     pub fn as_str(&self) -> Result<&str, AllocError> {
         if self.is_refused {
             Err(AllocError)

@@ -21,12 +21,12 @@ use Rattle.rv_disasm.specs.TextTokens.{with_memory, with_csr, with_upper, with_t
 abbrev pub word_line : ℕ → Line
 word_line w = line (codes ".word") (digits 8 w ∷ [])
 
--- where a branch or a jump leads
+-- the target of a branch or a jump
 abbrev pub target : ℕ → ℤ → ℕ
 target pc off = (pc + low_bits 32 off) % 2 ^ 32
 
--- A branch or a jump to an address, which is a word as it is where the address is no multiple of
--- four: the assembler has no text for that.
+-- The line of a branch or a jump to an address. It is `.word` if the address is no multiple of
+-- four: the assembler has no other text for that.
 abbrev pub leading : ℕ → ℕ → Text → List TextToken → Line
 leading w to name operands = if to % 4 == 0 then line name operands else word_line w
 
@@ -37,7 +37,7 @@ abbrev pub branch_line : ℕ → ℕ → BranchOp → ℕ → ℕ → ℤ → Li
 branch_line pc w op rs1 rs2 off =
     leading w (target pc off) (branch_name op) (with_branch rs1 rs2 (target pc off))
 
--- FENCE and FENCE.I with the bits that their texts give; other words of theirs have no text
+-- FENCE and FENCE.I with the bits that their texts assemble to; their other words have no text
 abbrev pub fence_line : ℕ → Line
 fence_line w =
     if w == 0x0ff0000f then line (codes "fence") []
@@ -52,7 +52,7 @@ csr_source Rwi src = counted src
 csr_source Rsi src = counted src
 csr_source Rci src = counted src
 
--- The line of the word w at an address, where it means an instruction.
+-- The line of the word w at an address, from its instruction.
 unfoldable pub line_of : ℕ → ℕ → Ins → Line
 line_of pc w (Lui rd imm) = line (codes "lui") (with_upper rd imm)
 line_of pc w (Auipc rd imm) = line (codes "auipc") (with_upper rd imm)

@@ -1,4 +1,4 @@
--- What stands in the line of an instruction.
+-- The tokens in the line of an instruction.
 use Rattle.std.specs.Prelude.{ℕ, suc, ◌==◌, ℤ, pos, negsuc, List, [], ◌∷◌}
 use Rattle.std.specs.Prelude.{◌++◌, codes, decimal, flat_map, if◌then◌else◌}
 use Rattle.rv_decode.specs.CsrNumbers.{csr_mtvec, csr_mscratch, csr_mepc, csr_mcause, csr_mhartid}
@@ -9,7 +9,7 @@ use Rattle.trace_print.specs.Digits.{hex}
 abbrev pub Text : Type 0
 Text = List ℕ
 
--- A name, a number in decimal, so many hexadecimal digits of a number behind `0x`, or a mark.
+-- A name, a number in decimal, `0x` and a number of hexadecimal digits, or a mark.
 pub data TextToken : Type 0 where
   named : Text → TextToken
   counted : ℕ → TextToken
@@ -37,7 +37,7 @@ pub record Line : Type 0 where
 abbrev pub line : Text → List TextToken → Line
 line mnemonic operands = record { mnemonic = mnemonic; operands = operands }
 
--- the operands behind a space, where there are any
+-- the operands after a space, if there are any
 abbrev pub behind : List TextToken → Text
 behind [] = []
 behind (p ∷ ps) = codes " " ++ flat_map token_text (p ∷ ps)
@@ -55,7 +55,7 @@ abbrev pub signed : ℤ → List TextToken
 signed (pos n) = counted n ∷ []
 signed (negsuc n) = minus ∷ counted (suc n) ∷ []
 
--- a control and status register: by its name where it has one, else by its number
+-- a control and status register: its name if it has one, else its number
 abbrev pub csr_token : ℕ → TextToken
 csr_token n =
     if n == csr_mtvec then named (codes "mtvec")

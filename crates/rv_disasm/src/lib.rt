@@ -1,5 +1,5 @@
-//! The text of a word at its address, as the assembler reads it. Assembled there, the text gives
-//! the word back.
+//! The text of a word at its address, as the assembler reads it. Assembled there, the text is the
+//! word again.
 #![tactic(auto)]
 
 mod names;

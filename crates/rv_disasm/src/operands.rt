@@ -14,7 +14,7 @@ use arrayvec::ArrayString;
 use rv_decode::CsrKind;
 use trace_print::{push_decimal, push_hex, push_word};
 
-/// A mnemonic alone.
+/// Only a mnemonic.
 pub fn alone(name: &str) -> ArrayString<96>
     requires short { length name.now ≤ 8 }
     ensures text { result.bytes ≡ line_text (line name.now []) }

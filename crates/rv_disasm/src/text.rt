@@ -14,10 +14,10 @@ use crate::operands::{
 use arrayvec::ArrayString;
 use rv_decode::{BranchOp, Ins, StoreOp, decode};
 
-/// The text of a word at its address: its mnemonic with its operands, a branch's or a jump's target
-/// as an address. A word that the assembler has no text for is `.word` with the word: one that is
-/// no instruction, a FENCE with other bits than those that its text gives, and a branch or a jump
-/// to no multiple of four (RISC-V unprivileged manual, "RISC-V Assembly Programmer's Handbook").
+/// The text of a word at its address: its mnemonic with its operands, and a branch's or a jump's
+/// target as an address. A word that the assembler has no other text for is `.word` with the word:
+/// no instruction, a FENCE with other bits than those of its text, or a branch or a jump to no
+/// multiple of four (RISC-V unprivileged manual, "RISC-V Assembly Programmer's Handbook").
 #[tactic(auto, unfolding(crate::specs::Text::text_at))]
 pub fn text_at(pc: u32, word: u32) -> ArrayString<96>
     ensures { result.bytes ≡ text_of pc word }
@@ -25,7 +25,7 @@ pub fn text_at(pc: u32, word: u32) -> ArrayString<96>
     line_of(pc, word, &decode(word))
 }
 
-/// Where a branch or a jump leads.
+/// The target of a branch or a jump.
 fn target(pc: u32, off: i32) -> u32
     ensures { result ≡ target pc off }
 {
@@ -56,7 +56,7 @@ fn branch_line(pc: u32, word: u32, op: BranchOp, rs1: u8, rs2: u8, off: i32) -> 
     }
 }
 
-/// The text of a store: the register with the value, then where it goes.
+/// The text of a store: the register with the value, then the address.
 fn store_line(op: StoreOp, rs1: u8, rs2: u8, imm: i32) -> ArrayString<96>
     ensures { result.bytes ≡ line_text (line (store_name op) (with_memory rs2 imm rs1)) }
 {

@@ -106,7 +106,7 @@ impl Spm {
     ///
     /// # Errors
     ///
-    /// [`AllocError`] where memory is refused.
+    /// [`AllocError`] if memory runs out.
     pub fn new(alloc: Global, size: u32) -> Result<Spm, AllocError>
         requires { IsSize size }
         ensures words { IfOk result (λ s. s ≡ replicate (size / 4) 0) }

@@ -1,5 +1,4 @@
--- The start of the machine that a setup and an image give, beside eight ports as they are handed
--- in.
+-- The start of the machine of a setup and an image, with eight ports as they are handed in.
 use Rattle.std.specs.Prelude.{ℕ, ◌+◌, ◌*◌, ◌/◌, Bool, true, false, List}
 use Rattle.std.specs.Prelude.{slice_index_or, map, replicate, Option, Some, None}
 use Rattle.std.specs.List.{range_with_len}
@@ -27,7 +26,7 @@ i_words_of s image = words_from image 0 (size_of s.version)
 abbrev pub d_words_of : Settings → List Segment → List ℕ
 d_words_of s image = words_from image data_start (size_of s.version)
 
--- what a setup says of one of the threads
+-- a setup's settings of one of the threads
 abbrev pub thread_setup_of : Settings → ℕ → ThreadSetup
 thread_setup_of s i = slice_index_or s.threads i default_thread
 
@@ -35,7 +34,7 @@ thread_setup_of s i = slice_index_or s.threads i default_thread
 abbrev pub inputs_of : ThreadSetup → List (ℕ × ℕ)
 inputs_of t = map (λ (input : Input). (input.at, input.word)) t.inputs
 
--- the words that a thread finds at its port in the first n cycles
+-- the words that a thread reads at its port in the first n cycles
 abbrev pub shown_to : Settings → List (Option Row) → ℕ → ℕ → List ℕ
 shown_to s ports n i =
     shown (row_at ports i) (inputs_of (thread_setup_of s i)) (thread_setup_of s i).unplug n
@@ -45,7 +44,7 @@ abbrev pub is_handed : Option Row → Bool
 is_handed None = false
 is_handed (Some row) = true
 
--- a port that isn't there has no latch, and counts as 0
+-- the latch of a port at the start; an absent port counts as 0
 abbrev pub first_latch : Option Row → ℕ
 first_latch None = 0
 first_latch (Some row) = row.latch
@@ -69,6 +68,6 @@ start s image ports n =
       latches = map first_latch ports;
     }
 
--- eight ports of which none was handed in
+-- eight absent ports
 abbrev pub no_ports : List (Option Row)
 no_ports = replicate 8 None

@@ -1,5 +1,5 @@
-//! The machine that a setup and an image give: its registers and the words of its scratchpads at
-//! the start, with the definition of that start.
+//! The machine of a setup and an image: its registers and the words of its scratchpads at the
+//! start, with the definition of that start.
 
 #![tactic(auto)]
 

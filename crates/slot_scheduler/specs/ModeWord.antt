@@ -4,11 +4,11 @@ use Rattle.std.specs.Prelude.{if◌then◌else◌, List, [], ◌∷◌, map, Res
 use Rattle.slot_table.specs.Masks.{mask_of}
 use Rattle.slot_scheduler.specs.declared.mode_word.BadMode.{BadMode}
 
--- whether a word may stand in the register: its bits above 15 are 0
+-- whether a word is allowed in the register: its bits above 15 are 0
 abbrev pub is_modes : ℕ → Bool
 is_modes word = nat_lt word 65536
 
--- the word is accepted as it is, or refused
+-- the word unchanged if it is accepted, else a refusal
 abbrev pub modes_of : ℕ → Result ℕ BadMode
 modes_of word = if is_modes word then Ok word else Err (record {})
 
@@ -27,6 +27,6 @@ is_active mode = mode == 0 || mode == 2
 abbrev pub is_soft : ℕ → Bool
 is_soft mode = mode == 2
 
--- the threads whose mode passes a test, of which thread i is bit i
+-- the threads whose mode passes a test; thread i is bit i
 unfoldable pub threads_that : (ℕ → Bool) → ℕ → ℕ
 threads_that test modes = mask_of (map test (mode_list modes))

@@ -9,13 +9,13 @@ use Rattle.slot_scheduler.specs.declared.picking.Pick.{Pick}
 use Rattle.slot_scheduler.specs.declared.picking.Pick.TheVariants.{Issue, Bubble}
 use Rattle.slot_scheduler.specs.declared.picking.Sched.{Sched}
 
--- a thread is awake where it is active and the time has reached its sleep moment
+-- a thread is awake if it is active and the time has reached its sleep moment
 unfoldable pub is_awake : Sched → ℕ → ℕ → Bool
 is_awake s now thread =
     is_active (mode_of s.modes thread)
     && nat_le (slice_index_or s.sleep thread 0) now
 
--- a thread that may take a slot that is soft, or whose thread isn't awake
+-- whether a thread may take a soft slot, or a slot whose thread isn't awake
 abbrev pub takes_donated : Sched → ℕ → ℕ → Bool
 takes_donated s now thread = is_soft (mode_of s.modes thread) && is_awake s now thread
 
@@ -28,12 +28,13 @@ pub record Picked : Type 0 where
   pub pick : Pick
   pub last : ℕ
 
--- what the search for a soft thread found; it goes on from there
+-- the pick from the result of the search for a soft thread; the next search continues after it
 abbrev pub pick_of_search : Option ℕ → ℕ → Picked
 pick_of_search None last = record { pick = Bubble; last = last }
 pick_of_search (Some thread) last = record { pick = Issue thread; last = thread }
 
--- the pick of a slot that is soft, or whose thread isn't awake: the next soft thread that is awake
+-- the pick of a soft slot, or of a slot whose thread isn't awake: the next soft thread that is
+-- awake
 unfoldable pub donation : Sched → ℕ → ℕ → Picked
 donation s now last = pick_of_search (find (takes_donated s now) (after_last last)) last
 
@@ -49,7 +50,7 @@ pick_in s now last (Thread thread) =
 unfoldable pub pick : Sched → ℕ → ℕ → ℕ → Picked
 pick s cycle now last = pick_in s now last (turn s.slots cycle)
 
--- a pick of a thread is that of one of the eight
+-- the thread of a pick is one of the eight
 abbrev pub IsPick : Pick → Type 0
 IsPick (Issue thread) = thread < 8
 IsPick Bubble = Unit {0}

@@ -8,20 +8,19 @@ ghost use Rattle.slot_scheduler.specs.ModeWord.{mode_of, modes_of, threads_that}
 use std::marker::Model;
 use thiserror::Error;
 
-/// A word of the register modes (0x7C1): two bits for each thread, of which thread i has bits 2i
-/// and 2i + 1. 0 is hard active, 1 hard asleep, 2 soft active, 3 soft asleep. The bits above 15
-/// are 0.
+/// A word of the register modes (0x7C1): two bits for each thread, bits 2i and 2i + 1 for thread i.
+/// 0 is hard active, 1 hard asleep, 2 soft active, 3 soft asleep. The bits above 15 are 0.
 #[derive(Clone, Copy, Debug)]
 pub struct Modes {
     word: u32,
-    // The active threads, and those of them that are soft; thread i is bit i. They are kept because
-    // a pick asks them in each cycle: a bit test by the slot's nibble answers for a thread, a soft
-    // slot and a disabled one alike, and the search meets soft threads alone.
+    // The active threads, and the soft ones among them; thread i is bit i. They are stored because
+    // each pick tests them. A bit test with the slot's nibble covers a thread, a soft slot and a
+    // disabled one alike, and the search visits only soft threads.
     active: u16,
     soft: u16,
 }
 
-/// A word with a bit above 15 set, which the modes register doesn't take.
+/// A word with a bit above 15 set, which the modes register refuses.
 #[derive(Clone, Copy, Debug, PartialEq, Eq, Error)]
 #[error("a bit above 15 is set")]
 pub struct BadMode;
@@ -76,7 +75,7 @@ fn bit(mode: u8, other: u8) -> u16
     u16::from(mode == other || mode == SOFT)
 }
 
-/// The threads that are soft and active or have the other mode, of which thread i is bit i.
+/// The threads that are soft and active or have the other mode; thread i is bit i.
 fn threads_of(modes: &[u8; 8], other: u8) -> u16
     ensures { result ≡ mask_of (map (λ mode. mode == other || mode == 2) modes.now) }
 {
@@ -91,11 +90,11 @@ fn threads_of(modes: &[u8; 8], other: u8) -> u16
 }
 
 impl Modes {
-    /// The modes of a word of the register, which is kept as it is.
+    /// The modes of a word of the register; the word is stored unchanged.
     ///
     /// # Errors
     ///
-    /// [`BadMode`] exactly where a bit above 15 is set.
+    /// [`BadMode`] exactly if a bit above 15 is set.
     #[tactic(auto, unfolding(crate::specs::ModeWord::threads_that))]
     pub fn from_word(word: u32) -> Result<Modes, BadMode>
         ensures { result ≡ modes_of word }
@@ -112,7 +111,7 @@ impl Modes {
         }
     }
 
-    /// The word of the register, whose bits above 15 are 0.
+    /// The word of the register; its bits above 15 are 0.
     pub fn word(&self) -> u32
         ensures word { result ≡ self.now }
         ensures accepted { result < 65536 }
@@ -129,7 +128,7 @@ impl Modes {
         (self.active >> slot) % 2 == 1
     }
 
-    /// The threads that are soft and active, of which thread i is bit i.
+    /// The threads that are soft and active; thread i is bit i.
     pub(crate) fn soft(&self) -> u16
         ensures { result ≡ threads_that is_soft self.now }
     {

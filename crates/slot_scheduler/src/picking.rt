@@ -8,14 +8,14 @@ use crate::mode_word::Modes;
 use slot_table::{DISABLED, SlotTable};
 use std::marker::Model;
 
-/// What picking uses.
+/// The inputs of picking.
 #[derive(Clone, Copy, Debug)]
 pub struct Sched {
     /// Who shares the cycles: the register slots (0x7C0).
     pub slots: SlotTable,
     /// Which threads are active, and which are soft: the register modes (0x7C1).
     pub modes: Modes,
-    /// For each thread, the time in nanoseconds from which it is awake, 0 where it never slept.
+    /// For each thread, the time in nanoseconds from which it is awake, 0 if it never slept.
     pub sleep: [u64; 8],
 }
 
@@ -24,7 +24,7 @@ pub struct Sched {
 pub enum Pick {
     /// A thread, which issues an instruction if it is ready.
     Issue { thread: u8 },
-    /// Nobody.
+    /// No thread.
     Bubble,
 }
 
@@ -47,8 +47,8 @@ impl Model for Scheduler {
 }
 
 impl Sched {
-    // Whether a slot's nibble, which is below 16, names a thread that is active and whose sleep
-    // moment the time, in nanoseconds, has reached.
+    // Whether a slot's nibble, below 16, is an active thread whose sleep moment has been reached by
+    // the time, in nanoseconds.
     #[tactic(auto, unfolding(crate::specs::Picking::is_awake))]
     fn is_awake(&self, slot: u8, now: u64) -> bool
         requires { slot < 16 }
@@ -59,8 +59,8 @@ impl Sched {
 
     // The first soft thread that is awake, of those after the last one and that one at the end.
     //
-    // Bit j of `left` is the thread j after `first`, and each turn of the loop takes the
-    // lowest one away: so no hard thread is visited, and it ends at once where none is soft.
+    // Bit j of `left` is the thread j after `first`, and each iteration clears the lowest bit. So
+    // the loop visits no hard thread, and ends at once if no thread is soft.
     fn next_soft(&self, now: u64, last: u8) -> Option<u8>
         requires { last < 8 }
         ensures first { result ≡ find (takes_donated self.now now) (after_last last) }
@@ -92,8 +92,8 @@ impl Scheduler {
     }
 
     /// The pick of a cycle, at a time in nanoseconds: the thread of the cycle's slot if it is
-    /// awake; else, if the frame isn't empty, the next soft thread that is awake, from which the
-    /// next search goes on.
+    /// awake; else, if the frame isn't empty, the next soft thread that is awake. The next search
+    /// continues after that thread.
     #[tactic(auto, unfolding(crate::specs::Picking::pick))]
     pub fn pick(&mut self, s: &Sched, cycle: u64, now: u64) -> Pick
         ensures pick { result ≡ (pick s.now cycle now self.old).pick }

@@ -1,4 +1,4 @@
--- Time in nanoseconds, and what each thread has in the timers.
+-- Time in nanoseconds, and each thread's state in the timers.
 use Rattle.std.specs.Prelude.{ℕ, ◌+◌, ◌*◌, ◌/◌, ◌%◌, nat_le, Bool, false}
 use Rattle.std.specs.Prelude.{List, slice_index_or, Option, Some, None}
 use Rattle.timer_unit.specs.declared.row.Timer.{Timer}
@@ -8,7 +8,7 @@ use Rattle.timer_unit.specs.declared.row.Timer.{Timer}
 abbrev pub most_cycles : ℕ
 most_cycles = 4000000000
 
--- the last cycle whose time the clock tells: ten past those of a run
+-- the last cycle whose time the clock computes: ten past the most cycles of a run
 abbrev pub last_timed_cycle : ℕ
 last_timed_cycle = most_cycles + 10
 
@@ -32,7 +32,7 @@ abbrev pub is_due : Option ℕ → ℕ → Bool
 is_due None now = false
 is_due (Some armed) now = nat_le armed now
 
--- a thread's timer at the start: nothing is armed, and the latch is 0
+-- a thread's timer at the start: no moment is armed, and the latch is 0
 abbrev pub no_timer : Timer
 no_timer = record { armed = None; high = 0 }
 
@@ -48,6 +48,6 @@ latch_high timer now = record timer { high = high_word now }
 abbrev pub armed_at : Timer → ℕ → Timer
 armed_at timer armed = record timer { armed = Some armed }
 
--- a timer once nothing is armed
+-- a timer after disarming
 abbrev pub disarm : Timer → Timer
 disarm timer = record timer { armed = None }

@@ -9,7 +9,7 @@ use std::marker::Model;
 /// in 64 bits with every period.
 pub const MOST_CYCLES: u64 = 4_000_000_000;
 
-/// The last cycle whose time a [`Clock`] tells: ten past the most that a run may have.
+/// The last cycle whose time a [`Clock`] computes: ten past the most cycles of a run.
 pub const LAST_TIMED_CYCLE: u64 = MOST_CYCLES + 10;
 
 /// The clock of the core, whose cycles have a period of 1 to 1,000 nanoseconds.

@@ -26,7 +26,7 @@ impl Model for Timers {
 }
 
 impl Timers {
-    /// Timers of which none is armed, and whose latches are 0.
+    /// Timers with no moment armed and all latches 0.
     pub fn new() -> Timers
         ensures { result ≡ replicate 8 no_timer }
     {
@@ -38,7 +38,7 @@ impl Timers {
         }
     }
 
-    /// What a thread, which is 0 to 7, has in the timers.
+    /// The timer of a thread, 0 to 7.
     pub fn row(&self, thread: u8) -> Timer
         requires { thread < 8 }
         ensures { result ≡ timer_of self.now thread }
@@ -46,8 +46,8 @@ impl Timers {
         self.rows[thread as usize]
     }
 
-    /// The low word of a time in nanoseconds, which GT reads. The bits 32 to 63 of the time
-    /// are latched for the thread, whose armed moment stays.
+    /// The low word of a time in nanoseconds, which GT reads. The bits 32 to 63 of the time are
+    /// latched for the thread; its armed moment stays.
     pub fn get_low(&mut self, thread: u8, now: u64) -> u32
         requires { thread < 8 }
         ensures low { result ≡ low_word now }
@@ -59,7 +59,7 @@ impl Timers {
         (now % 0x1_0000_0000) as u32
     }
 
-    /// The high word that is latched for the thread: 0 where no low word was read.
+    /// The high word that is latched for the thread: 0 if no low word was read.
     pub fn get_high(&self, thread: u8) -> u32
         requires { thread < 8 }
         ensures { result ≡ (timer_of self.now thread).high }
@@ -77,7 +77,7 @@ impl Timers {
         self.rows[thread as usize].armed = Some(moment);
     }
 
-    /// Leaves nothing armed for the thread.
+    /// Disarms the thread's timer.
     pub fn disarm(&mut self, thread: u8)
         requires { thread < 8 }
         ensures disarmed { self.new
@@ -87,7 +87,7 @@ impl Timers {
         self.rows[thread as usize].armed = None;
     }
 
-    /// The moment, in nanoseconds, that is armed for the thread; `None` where nothing is armed.
+    /// The moment, in nanoseconds, that is armed for the thread; `None` if no moment is armed.
     pub fn armed(&self, thread: u8) -> Option<u64>
         requires { thread < 8 }
         ensures { result ≡ (timer_of self.now thread).armed }

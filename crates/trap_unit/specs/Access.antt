@@ -1,4 +1,4 @@
--- An access to a register by its number: when it is refused, what it answers and what it writes.
+-- An access to a register by its number: its refusals, its result and its write.
 use Rattle.std.specs.Prelude.{ℕ, ◌==◌, Bool, not, ◌&&◌, if◌then◌else◌, List}
 use Rattle.std.specs.Prelude.{slice_set, Option, Some, None, Result, Ok, Err}
 use Rattle.rv_decode.specs.CsrNumbers.{csr_mhartid, csr_slots, csr_modes}
@@ -21,12 +21,12 @@ shared_value s g csr =
     else if csr == csr_dregions then g.d
     else g.i
 
--- a register by its number, none where the number is none
+-- the value of a register by its number; None if no register has the number
 unfoldable pub value_by : List Trapping → Sched → Guard → ℕ → ℕ → Option ℕ
 value_by traps s g thread csr =
     csr_value thread (with_trap (trap_of traps thread)) csr (Some (shared_value s g csr))
 
--- the old value, and the value that is written, as the register keeps it
+-- the old value, and the written value, as stored in the register
 abbrev pub done_with : CsrOp → ℕ → ℕ → Bool → ℕ → CsrDone
 done_with op csr operand writes old =
     record {
@@ -34,8 +34,8 @@ done_with op csr operand writes old =
       written = if writes then Some (legal_value csr (csr_update op old operand)) else None;
     }
 
--- the answer of an access, by the register's old value: the first of the refusals that holds, else
--- what is done. mhartid (0xF14) takes no write
+-- the result of an access, from the register's old value: the first refusal that applies, else the
+-- values of the access. mhartid (0xF14) is read only
 abbrev pub answer_by : Bool → CsrOp → ℕ → ℕ → Bool → Option ℕ → Result CsrDone CsrNo
 answer_by permit op csr operand writes None = Err Unknown
 answer_by permit op csr operand writes (Some old) =
@@ -49,13 +49,13 @@ abbrev pub written_in : Result CsrDone CsrNo → Option ℕ
 written_in (Ok done) = done.written
 written_in (Err refusal) = None
 
--- the threads' registers after a write to one of them; other numbers change nothing of them
+-- the threads' registers after a write to one of them; other numbers don't change them
 abbrev pub traps_after : List Trapping → ℕ → ℕ → Option ℕ → List Trapping
 traps_after traps thread csr None = traps
 traps_after traps thread csr (Some value) =
     slice_set traps thread (with_csr (with_trap (trap_of traps thread)) csr value).trap
 
--- slots and modes after a write to one of them; other numbers change nothing of them
+-- slots and modes after a write to one of them; other numbers don't change them
 abbrev pub sched_after : Sched → ℕ → Option ℕ → Sched
 sched_after s csr None = s
 sched_after s csr (Some value) =
@@ -63,7 +63,7 @@ sched_after s csr (Some value) =
     else if csr == csr_modes then record s { modes = value }
     else s
 
--- the region registers after a write to one of them; other numbers change nothing of them
+-- the region registers after a write to one of them; other numbers don't change them
 abbrev pub guard_after : Guard → ℕ → Option ℕ → Guard
 guard_after g csr None = g
 guard_after g csr (Some value) =

@@ -22,7 +22,7 @@ IsAlignedTrap trap = (trap.mtvec % 4 ≡ 0) × (trap.mepc % 4 ≡ 0)
 abbrev pub is_trap : ℕ → Bool
 is_trap csr = csr == csr_mtvec || csr == csr_mscratch || csr == csr_mepc || csr == csr_mcause
 
--- a thread with these trap registers, as the definitions of one thread take it
+-- a thread's state with these trap registers, as input of the definitions of one thread
 abbrev pub with_trap : Trapping → Own
 with_trap trap = record no_own { trap = trap }
 

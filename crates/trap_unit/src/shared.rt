@@ -22,8 +22,8 @@ pub(crate) fn read_shared(sched: &Sched, guard: &Guard, csr: u16) -> u32
     }
 }
 
-/// Writes one of the machine's registers, 0x7C0 to 0x7C3, which may hold the word. Other numbers
-/// change nothing.
+/// Writes a configuration register, 0x7C0 to 0x7C3, with an allowed word. Other numbers change
+/// nothing.
 #[tactic(auto, unfolding(core_model::specs::Csr::may_hold), using(crate::proofs::Held::slots_kept))]
 pub(crate) fn write_shared(sched: &mut Sched, guard: &mut Guard, csr: u16, word: u32)
     requires { IsTrue (may_hold csr word) }

@@ -16,17 +16,16 @@ use slot_scheduler::Sched;
 use std::marker::Model;
 use thiserror::Error;
 
-/// What an access has done: the old value, and the value that was written, as the register keeps
-/// it.
+/// The result of an access: the old value, and the written value, as stored in the register.
 #[derive(Clone, Copy, Debug)]
 pub struct CsrDone {
     /// The value before the access.
     pub old: u32,
-    /// The value that was written, as the register keeps it; `None` where the access only reads.
+    /// The written value, as stored in the register; `None` if the access only reads.
     pub written: Option<u32>,
 }
 
-/// Why an access was refused.
+/// The reason why an access was refused.
 #[derive(Clone, Copy, Debug, PartialEq, Eq, Error)]
 pub enum CsrNo {
     /// The number is none of a register.
@@ -35,10 +34,10 @@ pub enum CsrNo {
     /// The register is one of the machine's, and the thread has no permit.
     #[error("the thread has no permit for the register")]
     NoPermit = 2,
-    /// The register, mhartid, takes no write.
+    /// The register, mhartid, is read only.
     #[error("the register takes no write")]
     ReadOnly = 3,
-    /// The register doesn't take the new word.
+    /// The new word isn't allowed in the register.
     #[error("the register doesn't take the word")]
     BadValue = 4,
 }
@@ -89,7 +88,7 @@ impl Traps {
         self.rows[thread as usize]
     }
 
-    /// Gives a thread other trap registers.
+    /// Sets a thread's trap registers.
     fn set_row(&mut self, thread: u8, row: Trapping)
         requires thread { thread < 8 }
         requires aligned { IsAlignedTrap row }
@@ -115,8 +114,8 @@ impl Traps {
         }
     }
 
-    /// A trap: it saves the pc, whose two low bits mepc doesn't keep, and the cause. The answer is
-    /// mtvec, where the thread goes on.
+    /// A trap: it saves the pc and the cause; mepc drops the two low bits of the pc. Returns mtvec,
+    /// at which the thread continues.
     pub fn enter(&mut self, thread: u8, cause: u8, epc: u32) -> u32
         requires { thread < 8 }
         ensures target { result ≡ (trap_of self.old thread).mtvec }
@@ -138,7 +137,7 @@ impl Traps {
         row.mtvec
     }
 
-    /// A return from a trap. The answer is mepc, where the thread goes on.
+    /// A return from a trap. Returns mepc, at which the thread continues.
     pub fn leave(&self, thread: u8) -> u32
         requires { thread < 8 }
         ensures target { result ≡ (trap_of self.now thread).mepc }
@@ -147,7 +146,7 @@ impl Traps {
         self.row(thread).mepc
     }
 
-    /// A register by its number; None where the number is none.
+    /// The value of a register by its number; None if no register has the number.
     #[tactic(auto, unfolding(crate::specs::Access::value_by))]
     fn value_of(&self, sched: &Sched, guard: &Guard, thread: u8, csr: u16) -> Option<u32>
         requires { thread < 8 }
@@ -163,7 +162,7 @@ impl Traps {
         }
     }
 
-    /// Gives one of the thread's own registers a value that it keeps. Other numbers change nothing.
+    /// Sets one of the thread's own registers to a legal value. Other numbers change nothing.
     fn put(&mut self, thread: u8, csr: u16, value: u32)
         requires thread { thread < 8 }
         requires kept { legal_value csr value ≡ value }
@@ -189,12 +188,12 @@ impl Traps {
         self.set_row(thread, row);
     }
 
-    /// A thread's access to a register by its number. The operand takes the old value's place, or
-    /// its bits are set or cleared in it, where the access `writes`.
+    /// A thread's access to a register by its number. If the access `writes`, the operand replaces
+    /// the old value, or its bits are set or cleared in it.
     ///
     /// # Errors
     ///
-    /// [`CsrNo`] by the first of its causes that holds; nothing changes then.
+    /// [`CsrNo`] for the first of its causes that holds; nothing changes then.
     #[tactic(auto, using(crate::proofs::Aligned::held_as_kept))]
     pub fn access(
         &mut self,

@@ -1,4 +1,4 @@
-//! The word that an access writes: what the register would hold, whether it may, and what it keeps.
+//! The word that an access writes: its computation, whether it is allowed, and its legal value.
 
 ghost use Rattle.std.specs.Prelude.{◌≡◌};
 ghost use Rattle.core_model.specs.Csr.{csr_update, may_hold, legal_value};
@@ -22,8 +22,8 @@ pub(crate) fn change(op: CsrOp, old: u32, operand: u32) -> u32
     }
 }
 
-/// Whether a register may hold a word. mhartid takes none; slots, modes and regions take those
-/// whose fields all have a meaning, the others every word.
+/// Whether a word may be written to a register. mhartid allows none; slots, modes and regions allow
+/// words whose fields are all valid; the others allow every word.
 #[tactic(auto, unfolding(core_model::specs::Csr::may_hold))]
 pub(crate) fn may_hold(csr: u16, word: u32) -> bool
     ensures { result ≡ may_hold csr word }
@@ -37,7 +37,7 @@ pub(crate) fn may_hold(csr: u16, word: u32) -> bool
     }
 }
 
-/// The word as a register keeps it: mtvec and mepc without the two low bits.
+/// The word as stored in a register: mtvec and mepc without the two low bits.
 pub(crate) fn keep(csr: u16, word: u32) -> u32
     ensures { result ≡ legal_value csr word }
 {

@@ -5,7 +5,7 @@ use Rattle.rv_exec.specs.declared.outcome.Event.{Event}
 use Rattle.core_model.specs.Thread.{fresh}
 use Rattle.core_model.specs.World.{Start}
 
--- the words of a scratchpad of a size in bytes, of which the first are given
+-- the words of a scratchpad of a size in bytes; the first words are given, the others 0
 abbrev pub words : ℕ → List ℕ → List ℕ
 words size first = first ++ replicate (size / 4 - length first) 0
 

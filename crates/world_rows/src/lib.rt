@@ -1,3 +1,3 @@
-//! Programs with their traces, which the definitions of the world and of one thread compute. They
-//! stand in proofs/.
+//! Programs with their traces, computed by the definitions of the world and of one thread. They are
+//! in proofs/.
 #![tactic(auto)]
