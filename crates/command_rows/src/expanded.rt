@@ -1,9 +1,9 @@
-//! The abbreviations of the tables: a full stop stands for eight zeros, a star for eight words of
-//! zeros, each with a space before it.
+//! The abbreviations of the tables: a full stop is eight zeros, a star is eight words of zeros,
+//! each with a space before it.
 
 use std::alloc::AllocError;
 
-/// What a star stands for.
+/// The expansion of a star.
 const WORDS: &[u8] = b" 00000000 00000000 00000000 00000000 00000000 00000000 00000000 00000000";
 
 /// Appends a text with these abbreviations.

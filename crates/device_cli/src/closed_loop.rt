@@ -43,8 +43,8 @@ fn print_line(rt: HostRuntime, ns: u64, closed: &ControlLoop) -> io::Result<()>
     println!(rt; "{ns} {SET_POINT} {drive} {measured}")
 }
 
-/// Does the periods of a run from cycle 0 on, of so many nanoseconds a cycle, and prints a line
-/// after each.
+/// Does the periods of a run from cycle 0 on, with a cycle of the given nanoseconds, and prints a
+/// line after each.
 fn print_periods(rt: HostRuntime, closed: &mut ControlLoop, ns: u64) -> io::Result<()>
     requires eight { vec_len closed.old.ports ≡ 8 }
     requires start { closed.old.machine.at ≡ 0 }

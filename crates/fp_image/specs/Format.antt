@@ -65,7 +65,7 @@ unfoldable pub segment_of : ℕ → ℕ → ℕ → List ℕ → Result Segment 
 segment_of size total from rest = unless (first_fault (segment_checks size total from rest))
     (record { address = number_at 0 rest; bytes = take (number_at 4 rest) (drop 8 rest) })
 
--- the segments in the rest of the file, so many of them
+-- a number of segments in the rest of the file
 unfoldable pub segments_of : ℕ → ℕ → ℕ → ℕ → List ℕ → Result (List Segment) ImageRefused
 segments_of size total zero from rest = unless (first_fault (end_checks total rest)) []
 segments_of size total (suc n) from rest =

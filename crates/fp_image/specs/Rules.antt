@@ -7,8 +7,8 @@ use Rattle.byteorder.specs.Endian.{little_number}
 use Rattle.region_guard.specs.MemoryMap.{data_start}
 use Rattle.fp_image.specs.declared.parts.Segment.{Segment}
 
--- Whether so many bytes from the address on may be a segment: whole words, at least one, inside the
--- instruction scratchpad or the data scratchpad.
+-- Whether a number of bytes from the address on may be a segment: whole words, at least one, inside
+-- the instruction scratchpad or the data scratchpad.
 abbrev pub is_placed : ℕ → ℕ → ℕ → Bool
 is_placed size address len =
     (address % 4 == 0) && (len % 4 == 0) && nat_lt 0 len

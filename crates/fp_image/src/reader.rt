@@ -138,7 +138,7 @@ fn read_segment(
     }
 }
 
-/// Whether a segment may stand there: whole words inside one scratchpad.
+/// Whether a segment is placed correctly: whole words inside one scratchpad.
 fn is_placed(address: u32, len: u32, size: u32) -> bool
     requires { IsSize size }
     ensures { result ≡ is_placed size address len }

@@ -50,7 +50,7 @@ fn is_prefixed(bytes: &[u8]) -> bool
     matches!(bytes, [b'0', b'x', ..])
 }
 
-// A number at column i with so many digits after so many bytes.
+// A number at column i with a number of digits after a number of bytes.
 #[tactic(auto, unfolding(crate::specs::Tokens::digits_at, crate::specs::Bytes::fit))]
 fn digits_at(i: u32, skip: usize, base: u32, count: usize, bytes: &[u8]) -> Result<Token, LexNo>
     requires inside { skip + count ≤ length bytes.now }

@@ -195,7 +195,7 @@ abbrev pub flushes_f : ℕ → Option Redirect → Bool
 flushes_f k None = false
 flushes_f k (Some r) = r.thread == k && includes_fetch r.flush
 
--- forwarding: a value on its way to its register
+-- forwarding: a value that isn't in its register yet
 abbrev pub forward : Option Effect → List ℕ → List ℕ
 forward (Some (Reg rd value)) regs = reg_set regs rd value
 forward _ regs = regs

@@ -58,7 +58,7 @@ pub(crate) trait Writing {
     fn end<W: Write>(self, out: &mut W, time: u64) -> io::Result<()>;
 }
 
-/// Does so many cycles from cycle 0 on.
+/// Does a number of cycles from cycle 0 on.
 fn go<P: Progress>(machine: &mut Machine, ports: &mut Ports, cycles: u64, progress: &mut P)
     requires start { machine.old.at ≡ 0 }
     requires limit { cycles ≤ most_cycles }

@@ -88,7 +88,7 @@ abbrev pub RedirectFits : Option Redirect → Type 0
 RedirectFits (Some r) = (r.thread < 8) × IsPc r.pc
 RedirectFits None = Unit {0}
 
--- each of these holds in one way
+-- each of these is a proposition
 width-prop : (size : ℕ) → IsProp (IsWidth size)
 width-prop size (inl a) (inl b) = ap inl (ℕ_set size 1 a b)
 width-prop size (inl a) (inr (inl b)) = absurd (omega arith)

@@ -32,7 +32,7 @@ fn bytes_of(alloc: Global, digits: &str) -> Result<Vec<u8>, AllocError> {
     Ok(bytes)
 }
 
-/// Appends bytes so many times.
+/// Appends bytes a number of times.
 fn push_times(to: &mut Vec<u8>, bytes: &[u8], count: u32) -> Result<(), AllocError> {
     for _time in 0..count {
         to.extend_from_slice(bytes)?;

@@ -6,7 +6,7 @@ use Rattle.std.specs.Prelude.{ℕ, ◌-◌, ◌+◌, ◌*◌, ◌/◌, ◌%◌, 
 abbrev pub field : ℕ → ℕ → ℕ → ℕ
 field w low count = w / 2 ^ low % 2 ^ count
 
--- a number of so many bits, with its top bit read as the sign
+-- a number of a given width in bits, in two's complement
 abbrev pub sign_extended : ℕ → ℕ → ℤ
 sign_extended count n = if nat_lt n (2 ^ (count - 1)) then pos n else pos n -ℤ pos (2 ^ count)
 

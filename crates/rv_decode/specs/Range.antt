@@ -9,7 +9,7 @@ use Rattle.rv_decode.specs.declared.instruction.Ins.TheVariants.{Op, Muldiv, Fen
 use Rattle.rv_decode.specs.declared.instruction.Ins.TheVariants.{Ebreak, Mret, Csr, Gt, Gth}
 use Rattle.rv_decode.specs.declared.instruction.Ins.TheVariants.{Du, Wu, Ee, De, Illegal}
 
--- a whole number that so many bits hold with their top bit as the sign
+-- an integer that fits a number of bits in two's complement
 abbrev pub IsSigned : ℕ → ℤ → Type 0
 IsSigned count n = (pos 0 ≤ℤ (n +ℤ pos (2 ^ (count - 1)))) × (n <ℤ pos (2 ^ (count - 1)))
 

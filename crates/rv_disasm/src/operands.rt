@@ -94,7 +94,7 @@ pub fn with_memory(name: &str, register: u8, offset: i32, base: u8) -> ArrayStri
     text
 }
 
-/// With a register and so many hexadecimal digits of a number.
+/// With a register and a number of hexadecimal digits.
 pub fn with_digits(name: &str, rd: u8, width: usize, number: u32) -> ArrayString<96>
     requires short { length name.now ≤ 8 }
     requires width { width ≤ 8 }

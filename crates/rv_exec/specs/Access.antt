@@ -35,11 +35,11 @@ IsAligned (Load op rd rs1 imm) address = address % load_size op ≡ 0
 IsAligned (Store op rs1 rs2 imm) address = address % store_size op ≡ 0
 IsAligned _ address = Unit {0}
 
--- the bytes of a word from an address on, so many of them, as a number
+-- a number of bytes of a word from an address on, as a number
 abbrev pub bytes_at : ℕ → ℕ → ℕ → ℕ
 bytes_at size address w = w / 256 ^ (address % 4) % 256 ^ size
 
--- a number of so many bytes, its top bit copied upward to 32 bits
+-- a number of a given width in bytes, sign extended to 32 bits
 abbrev pub sign_extension : ℕ → ℕ → ℕ
 sign_extension size n = if nat_lt n (256 ^ size / 2) then n else n + (2 ^ 32 - 256 ^ size)
 

@@ -9,7 +9,7 @@ word_in bytes offset =
     + slice_index_or bytes (4 * offset + 2) 0 * 0x10000
     + slice_index_or bytes (4 * offset + 3) 0 * 0x1000000
 
--- the first so many words
+-- a number of first words
 abbrev pub first_words : List ℕ → ℕ → List ℕ
 first_words bytes count = map (word_in bytes) (range_with_len 0 count)
 

@@ -20,7 +20,7 @@ tallies_with tallies None = tallies
 tallies_with tallies (Some e) =
     slice_set tallies e.thread (with_event (tally_at tallies e.thread) e)
 
--- each of them has at most so many events
+-- each of them has at most a given number of events
 abbrev pub AreFew : List Tally → ℕ → Type 0
 AreFew tallies most = (k : ℕ) → (tally_at tallies k).events ≤ most
 

@@ -1,5 +1,5 @@
--- The programs of the machine's own run: each thread has 128 words, of which 124 are drawn by a
--- simple generator of numbers. Source: this project's profile.
+-- The programs of the machine's own run: each thread has 128 words; a simple generator of numbers
+-- draws 124 of them. Source: this project's profile.
 use Rattle.std.specs.Prelude.{ℕ, zero, suc, ◌+◌, ◌*◌, ◌/◌, ◌%◌, ◌^◌, ◌==◌, pos, negsuc}
 use Rattle.std.specs.Prelude.{if◌then◌else◌, true, false, List, [], ◌∷◌, ◌++◌, map, flat_map}
 use Rattle.std.specs.List.{range_with_len}
@@ -22,7 +22,7 @@ use Rattle.fp_setup.specs.Plain.{plain_setup}
 unfoldable pub next_draw : ℕ → ℕ
 next_draw x = (x * 1664525 + 1013904223) % 2 ^ 32
 
--- the number after so many draws
+-- the number after a number of draws
 unfoldable pub draw : ℕ → ℕ → ℕ
 draw first zero = first
 draw first (suc n) = next_draw (draw first n)

@@ -6,7 +6,7 @@ use Rattle.std.specs.Prelude.{◌∷◌, ◌++◌, length, replicate, decimal, i
 abbrev pub hex_digit : ℕ → ℕ
 hex_digit n = if nat_lt n 10 then 48 + n else 87 + n
 
--- so many hexadecimal digits of a number, the lowest last
+-- a number's hexadecimal digits in a given count, the lowest last
 unfoldable pub hex : ℕ → ℕ → List ℕ
 hex zero n = []
 hex (suc width) n = hex width (n / 16) ++ hex_digit (n % 16) ∷ []
