@@ -12,7 +12,7 @@ abbrev pub thread_in : Text → Option ℕ
 thread_in (d ∷ []) = if is_between 48 55 d then Some (d - 48) else None
 thread_in _ = None
 
--- the decimal value of digits after others; none where a byte is no digit
+-- the decimal value of digits after others; None if a byte is no digit
 abbrev pub decimal_after : ℕ → Text → Option ℕ
 decimal_after value [] = Some value
 decimal_after value (d ∷ ds) =
@@ -25,7 +25,7 @@ hexadecimal_digit b =
     else (if is_between 97 102 b then Some (b - 97 + 10)
     else (if is_between 65 70 b then Some (b - 65 + 10) else None))
 
--- the hexadecimal value of digits after others; none where a byte is no digit
+-- the hexadecimal value of digits after others; None if a byte is no digit
 abbrev pub hexadecimal_after : ℕ → Text → Option ℕ
 hexadecimal_after value [] = Some value
 hexadecimal_after value (d ∷ ds) =
@@ -50,7 +50,7 @@ within most (Some n) = if nat_le n most then Some n else None
 unfoldable pub number_in : ℕ → Text → Option ℕ
 number_in most ds = within most (decimal_in ds)
 
--- what follows `0x` (48, 120)
+-- the text after `0x` (48, 120)
 abbrev pub after_prefix : Text → Option Text
 after_prefix word = option_and_then (after_byte 120) (after_byte 48 word)
 

@@ -6,7 +6,7 @@ use Rattle.rv_exec.specs.declared.outcome.Effect.TheVariants.{Nothing, Trap}
 use Rattle.core_model.specs.declared.own.Own.{Own}
 use Rattle.core_model.specs.Thread.{Execution}
 
--- a trap saves pc and cause, and goes to mtvec (RISC-V privileged manual, "Machine-Level CSRs")
+-- a trap saves pc and cause, and jumps to mtvec (RISC-V privileged manual, "Machine-Level CSRs")
 abbrev pub trapped : ℕ → Own → ℕ → ℕ → Execution
 trapped pc t word cause =
     record {
@@ -18,7 +18,7 @@ trapped pc t word cause =
       effect = Some (Trap cause t.trap.mtvec);
     }
 
--- MRET goes to mepc (RISC-V privileged manual, "Trap-Return Instructions")
+-- MRET jumps to mepc (RISC-V privileged manual, "Trap-Return Instructions")
 abbrev pub trap_return : Own → ℕ → Execution
 trap_return t word =
     record {

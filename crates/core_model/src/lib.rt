@@ -1,6 +1,6 @@
-//! The definitions of the core: what one instruction of one thread does, what a thread does by
-//! itself, the machine cycle by cycle, and its settings of slots and modes. The definitions are in
-//! specs/, below every engine.
+//! The definitions of the core: one instruction of one thread, one thread alone, the machine cycle
+//! by cycle, and its settings of slots and modes. The definitions are in specs/, below every
+//! engine.
 
 #![tactic(auto)]
 

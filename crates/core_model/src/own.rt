@@ -1,4 +1,4 @@
-//! What a thread has besides its pc and its registers x1 to x31.
+//! The state of a thread in addition to its pc and its registers x1 to x31.
 
 use timer_unit::Timer;
 
@@ -6,13 +6,13 @@ use timer_unit::Timer;
 /// of `mtvec` and `mepc` are 0.
 #[derive(Clone, Copy, Debug)]
 pub struct Trapping {
-    /// The address to which a trap goes.
+    /// The address at which a trap continues.
     pub mtvec: u32,
     /// Scratch register of the program.
     pub mscratch: u32,
-    /// The address at which the last trap was taken, or what was written since.
+    /// The address at which the last trap was taken, or the value written since.
     pub mepc: u32,
-    /// The cause of the last trap, or what was written since.
+    /// The cause of the last trap, or the value written since.
     pub mcause: u32,
 }
 

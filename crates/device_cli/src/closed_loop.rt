@@ -21,7 +21,7 @@ use std::io;
 /// The setup, whose thread 0 is the controller.
 const SETUP: &str = "examples/device/loop.toml";
 
-/// How many periods of the controller the run has.
+/// The number of periods of the controller in the run.
 const PERIODS: u64 = 160;
 
 /// The controller's set point, as in its source.

@@ -52,7 +52,7 @@ impl ControlLoop {
         })
     }
 
-    /// How many cycles were done.
+    /// The number of cycles done.
     pub fn cycle(&self) -> u64
         ensures { result ≡ self.now.machine.at }
     {

@@ -10,7 +10,7 @@ use std::alloc::AllocError;
 use std::process::ExitCode;
 use std::{env, io};
 
-/// The lines that standard error gets, by the status.
+/// The lines for standard error, by the status.
 const COMPLAINTS: [(Status, &str); 4] = [
     (Status::Usage, "flexpret: usage"),
     (Status::Read, "flexpret: read failed"),
@@ -18,7 +18,7 @@ const COMPLAINTS: [(Status, &str); 4] = [
     (Status::NoMemory, "flexpret: out of memory"),
 ];
 
-/// The line that standard error gets for a status, if it gets one.
+/// The line for standard error for a status, if there is one.
 fn complaint(status: u8) -> Option<&'static str> {
     for (told, line) in COMPLAINTS {
         if status == told.number() {

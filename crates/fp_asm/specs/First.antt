@@ -75,7 +75,7 @@ pub record Placed : Type 0 where
 abbrev pub start : Placed
 start = record { location = 0; labels = []; taken = [] }
 
--- how many words the statement that follows the labels places, and the location after it
+-- the number of words that the statement after the labels places, and the location after it
 unfoldable pub placed_size : ℕ → List Piece → Result (Option (ℕ × ℕ)) AsmNo
 placed_size location ps =
     next (statement_of ps) (λ s. Ok (option_map (λ s. (size_of s, location_after location s)) s))

@@ -79,7 +79,7 @@ size_as Org n values = 0
 size_as Space n values = nat_abs n / 4
 size_as _ n values = 1
 
--- how many words the statement places
+-- the number of words that the statement places
 unfoldable pub size_of : Statement → ℕ
 size_of s = size_as s.makes s.operands.given s.values
 

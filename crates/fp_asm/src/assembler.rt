@@ -15,10 +15,10 @@ use fp_image::Image;
 use std::alloc::Global;
 use std::collections::{BTreeMap, BTreeSet};
 
-/// How many bytes a source may have.
+/// The most bytes of a source.
 pub const MOST_SOURCE_BYTES: usize = 1_048_576;
 
-/// How many runs of words an image may have.
+/// The most runs of words of an image.
 const MOST_SEGMENTS: usize = fp_image::MOST_SEGMENTS as usize;
 
 // The image of the words at the placed addresses, with at most MOST_SEGMENTS runs.

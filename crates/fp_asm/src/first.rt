@@ -27,7 +27,7 @@ pub(crate) struct First<'a> {
     pub(crate) taken: BTreeSet<u32>,
 }
 
-// How many words the statement that follows the labels places, and the location after it.
+// The number of words that the statement after the labels places, and the location after it.
 #[tactic(auto, unfolding(crate::specs::First::placed_size))]
 fn sized(alloc: Global, location: u32, pieces: &[Piece]) -> Result<Option<(u32, u32)>, Stop>
     requires { length pieces.now ≤ 64 }

@@ -1,4 +1,4 @@
-//! The instructions that mnemonics make.
+//! The instructions of mnemonics.
 
 ghost use Rattle.std.specs.Prelude.{◌≡◌, ◌≤◌, ◌<◌, ◌^◌, IfOk, IfSome, map, length, pos, neg_ℤ};
 ghost use Rattle.rv_decode.specs.Encoding.{low_bits, encoding_of};

@@ -85,7 +85,7 @@ pub(crate) fn add_labels<'a>(
     Ok(n)
 }
 
-/// How many pieces the labels at the head are.
+/// The number of pieces of the labels at the head.
 #[tactic(auto, using(crate::proofs::LabelByLabel::skipping))]
 pub(crate) fn skip_labels(pieces: &[Piece]) -> usize
     ensures rest { after_labels (map abstract_piece pieces.now)

@@ -1,4 +1,4 @@
-//! Why a source was refused.
+//! The reason why a source was refused.
 
 ghost use Rattle.std.specs.Prelude.{◌≡◌};
 

@@ -6,7 +6,7 @@ ghost use Rattle.fp_asm.specs.Runs.{runs_from, runs_of as runs_of_addresses};
 
 use std::alloc::{AllocError, Global};
 
-/// A maximal run of placed words: the address of the first, and how many there are.
+/// A maximal run of placed words: the address of the first, and their number.
 #[derive(Clone, Copy)]
 pub(crate) struct Run {
     /// The address of the first word.

@@ -1,4 +1,4 @@
-//! How many words a statement places, and the location after it.
+//! The number of words that a statement places, and the location after it.
 
 ghost use Rattle.std.specs.Prelude.{◌≡◌, ◌≤◌, ◌<◌, ◌%◌, ◌^◌, Ok, length, nat_abs};
 ghost use Rattle.fp_asm.specs.Statements.{statement_check, size_of};
@@ -16,7 +16,7 @@ fn magnitude(operands: &Operands) -> u64
     operands.given.unsigned_abs()
 }
 
-/// How many words the statement places.
+/// The number of words that the statement places.
 #[tactic(auto, using(crate::proofs::Checks::values_count), unfolding(crate::proofs::Opened::sizes))]
 pub(crate) fn size(statement: &Statement) -> u32
     requires checked { statement_check (abstract_statement statement.now) ≡ Ok tt }

@@ -156,7 +156,7 @@ static COMPUTING: [Row; 27] = [
     plain!(b"srai", [Rd, Rs1, Number], Shift(ShiftOp::Srai)),
 ];
 
-/// The rows that access memory, lead elsewhere, or concern the thread and its time.
+/// The rows that access memory, change control flow, or concern the thread and its time.
 static ACTING: [Row; 35] = [
     plain!(b"lb", [Rd, Memory], Load(LoadOp::Lb)),
     plain!(b"lh", [Rd, Memory], Load(LoadOp::Lh)),

@@ -27,7 +27,7 @@ Rises size from (s ∷ more) =
     IsTrue (is_placed size s.address (length s.bytes)) × (from ≤ s.address)
     × Rises size (end_of s) more
 
--- how many segments an image may have
+-- the most segments of an image
 abbrev pub most_segments : ℕ
 most_segments = 16
 

@@ -5,7 +5,7 @@ ghost use Rattle.std.specs.Prelude.{length};
 
 use std::marker::Model;
 
-/// Bytes that a segment holds.
+/// The bytes of a segment.
 #[derive(Drop)]
 pub struct Bytes {
     bytes: Vec<u8>,

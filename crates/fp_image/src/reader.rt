@@ -28,7 +28,7 @@ pub fn read_image(alloc: Global, bytes: &[u8], size: u32) -> Result<Image, Image
     read_segments(alloc, &bytes[8..], count, size, bytes.len() as u32)
 }
 
-/// How many segments an image may have.
+/// The most segments of an image.
 pub const MOST_SEGMENTS: u32 = 16;
 
 /// The number of segments of a file.
@@ -64,7 +64,7 @@ pub fn longest(size: u32) -> usize
     if size == SMALL_SIZE { 34_816 } else { 139_264 }
 }
 
-/// The image of `count` segments that `bytes`, the end of a file of `total` bytes, holds.
+/// The image of the `count` segments in `bytes`, the end of a file of `total` bytes.
 fn read_segments(
     alloc: Global,
     bytes: &[u8],

@@ -1,4 +1,4 @@
-//! Why an image file is refused.
+//! The reason why an image file is refused.
 
 ghost use Rattle.std.specs.Prelude.{◌≡◌};
 

@@ -13,8 +13,8 @@ use Rattle.fp_io.specs.Listed.{is_listed, cut_of, is_cut, listed_before, AreBelo
 abbrev pub Named : Type 0
 Named = map.FinMap (slice_cmp nat_cmp) (List ℕ)
 
--- files in memory: the bytes of each name, the numbers of the calls of `fetch` that fail, how many
--- calls were made, and how many faults there were
+-- files in memory: the bytes of each name, the numbers of the calls of `fetch` that fail, the
+-- number of calls made, and the number of faults
 pub record MemoryFiles : Type 0 where
   pub named : Named
   pub failing : List ℕ

@@ -30,7 +30,7 @@ is_blank b = b == 32 || b == 9
 abbrev pub is_mark : ℕ → Bool
 is_mark b = (b == 44 || b == 58) || ((b == 40 || b == 41) || (b == 43 || b == 45))
 
--- how many bytes at the head pass a test
+-- the number of bytes at the head that pass a test
 unfoldable pub run : (ℕ → Bool) → List ℕ → ℕ
 run p bs = length (take_while p bs)
 
@@ -52,6 +52,6 @@ number_from base n (b ∷ bs) = number_from base (n * base + digit b) bs
 unfoldable pub number_of : ℕ → List ℕ → ℕ
 number_of base bs = number_from base 0 bs
 
--- a number that 32 bits hold
+-- a number that fits 32 bits
 unfoldable pub fit : ℕ → Option ℕ
 fit n = if nat_lt (2 ^ 32 - 1) n then None else Some n

@@ -26,7 +26,7 @@ pub(crate) fn is_head(b: u8) -> bool
     b.is_ascii_alphabetic() || b == b'_' || b == b'.'
 }
 
-/// Whether a name may go on with the byte: a letter, a digit, `_` or `.`.
+/// Whether the byte may continue a name: a letter, a digit, `_` or `.`.
 pub(crate) fn is_rest(b: u8) -> bool
     ensures { result ≡ is_rest_of b }
 {

@@ -30,7 +30,7 @@ pub struct Token {
     pub value: u32,
 }
 
-/// Why a line was refused. A column is the index of a byte in the line, from 0.
+/// The reason why a line was refused. A column is the index of a byte in the line, from 0.
 #[derive(Clone, Copy, Debug, PartialEq, Eq, Error)]
 pub enum LexNo {
     /// A byte outside comments that begins no token.

@@ -12,7 +12,7 @@ ghost use Rattle.fp_ports.specs.PortWords.{SameWords, fed_words};
 use crate::port::Port;
 use std::alloc::AllocError;
 
-/// How many hardware threads there are, each with a port.
+/// The number of hardware threads, each with a port.
 pub const THREADS: u8 = 8;
 
 /// The devices at the ports of the eight threads, in the threads' order. A port may be empty.

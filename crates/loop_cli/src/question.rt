@@ -19,7 +19,7 @@ pub struct Question {
     pub thread: u8,
     /// The number of cycles of a step of the plants.
     pub every: u64,
-    /// How many cycles are run.
+    /// The number of cycles of the run.
     pub cycles: u64,
 
     ghost some: { 0 < every },

@@ -85,7 +85,7 @@ abbrev pub is_trapped_turn : Held Stored → Bool
 is_trapped_turn (Issue k x) = is_trap x.effect
 is_trapped_turn _ = false
 
--- where the effect begins in a line of a trace
+-- the column of the effect in a trace line
 abbrev pub effect_column : ℕ
 effect_column = 29
 

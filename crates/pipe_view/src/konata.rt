@@ -31,7 +31,7 @@ struct Shown {
 /// A log that is written cycle by cycle.
 #[derive(Drop)]
 pub struct Konata {
-    /// How many turns were shown.
+    /// The number of turns shown.
     count: u64,
     /// The turns in F, D, E, M and W, of those that are shown.
     stages: [Option<Shown>; 5],

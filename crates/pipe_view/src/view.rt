@@ -17,7 +17,7 @@ use machine::Machine;
 use std::io;
 use std::io::Write;
 
-/// How many cycles before the first one that is shown are watched: the turn that is in W then was
+/// The number of cycles that are watched before the first one shown: the turn that is then in W was
 /// issued in the earliest of them.
 const BEFORE: u64 = CYCLES_TO_W;
 

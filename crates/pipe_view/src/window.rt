@@ -49,7 +49,7 @@ impl Window {
         self.to
     }
 
-    /// How many cycles it has.
+    /// The number of its cycles.
     pub fn len(&self) -> u64
         ensures { self.now.from + result ≡ self.now.to }
     {

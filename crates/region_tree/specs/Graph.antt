@@ -38,7 +38,7 @@ pub record Lies (g : Graph) (u : ℕ) : Type 0 where
 abbrev pub Holds : LoopSetup → ℕ → Type 0
 Holds j u = (j.head ≤ u) × (u ≤ j.last)
 
--- the second loop lies in the first, and its head above the first one's
+-- the second loop is inside the first, with its head above the first one's
 abbrev pub Inside : LoopSetup → LoopSetup → Type 0
 Inside j i = (j.head < i.head) × (i.last ≤ j.last)
 

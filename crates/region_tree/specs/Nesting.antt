@@ -8,7 +8,7 @@ use Rattle.region_tree.specs.Graph.{Edge, Graph, Holds, Inside, Reachable}
 abbrev pub loop_at : List LoopSetup → ℕ → LoopSetup
 loop_at loops k = slice_index_or loops k (record { head = 0; last = 0; limit = 0 })
 
--- Two loops overlap and neither lies in the other with its head above the other's.
+-- Two loops overlap, and neither is inside the other with its head above the other's.
 pub record Crosses (j i : LoopSetup) : Type 0 where
   pub below : j.head ≤ i.last
   pub above : i.head ≤ j.last

@@ -29,11 +29,11 @@ pub record IsMet (t : Tree) (met : List Bool) : Type 0 where
   pub exact : (k : ℕ) → k < length t.words →
       (is_met met k ≡ true) ↔ Reachable (graph t) (address t k)
 
--- how many words aren't met yet
+-- the number of words that aren't visited yet
 abbrev pub unmet_count : List Bool → ℕ
 unmet_count met = sum_by (λ b. cond b 0 1) met
 
--- a word at an index was met, and put on the list of words to do if it wasn't met before
+-- a word at an index was visited, and added to the pending words if it wasn't visited before
 pub record IsVisited (index : Option ℕ) (met met' : List Bool) (todo todo' : List ℕ) : Type 0 where
   pub count : length met' ≡ length met
   pub grows : (k : ℕ) → is_met met k ≡ true → is_met met' k ≡ true
@@ -44,7 +44,7 @@ pub record IsVisited (index : Option ℕ) (met met' : List Bool) (todo todo' : L
   pub came : (k : ℕ) → Contains todo' k → Contains todo k ⊎ (index ≡ Some k)
   pub less : 2 * unmet_count met' + length todo' ≤ 2 * unmet_count met + length todo
 
--- every edge of the word at an index leads to a word that is met, or out of the section
+-- every edge of the word at an index leads to a visited word, or out of the section
 abbrev pub IsClosed : Tree → List Bool → ℕ → Type 0
 IsClosed t met k =
     (e : Edge) → Contains ((graph t).edges (address t k)) e → Lies (graph t) e.to →

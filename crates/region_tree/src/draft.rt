@@ -126,7 +126,7 @@ impl Draft {
         self.section
     }
 
-    /// How many words the section has.
+    /// The number of words of the section.
     pub fn len(&self) -> usize
         ensures value { result ≡ length self.now.words }
         ensures some { 0 < result }

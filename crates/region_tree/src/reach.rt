@@ -1,4 +1,4 @@
-//! The words to which edges inside a section lead.
+//! The words that are reachable through edges inside a section.
 
 ghost use Rattle.std.specs.Prelude.{◌≡◌, ℕ, ◌+◌, ◌*◌, ◌<◌, ◌≤◌, ◌⊎◌, length};
 ghost use Rattle.std.specs.Prelude.{OnOk, IfOk, IfSome, Some, vec_len, false, []};
@@ -47,7 +47,7 @@ impl Frontier {
         Ok(())
     }
 
-    /// Meets the words to which the edges of the word at an index lead.
+    /// Visits the targets of the edges of the word at an index.
     fn follow(&mut self, draft: &Draft, index: usize) -> Result<(), AllocError>
         requires rules { IsDraft draft.now }
         requires within { index < length draft.now.words }
@@ -78,7 +78,8 @@ impl Frontier {
     }
 }
 
-/// Which words edges inside the section lead to from its first word, by their indices.
+/// Whether each word, by its index, is reachable from the section's first word through edges inside
+/// the section.
 ///
 /// # Errors
 ///

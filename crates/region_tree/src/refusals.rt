@@ -35,14 +35,14 @@ fn holds(j: &LoopSetup, address: u32) -> bool
     j.head <= address && address <= j.last
 }
 
-/// Whether the second loop lies in the first, and its head above the first one's.
+/// Whether the second loop is inside the first, with its head above the first one's.
 fn is_inside(outer: &LoopSetup, inner: &LoopSetup) -> bool
     ensures { IsTrue result ↔ Inside outer.now inner.now }
 {
     outer.head < inner.head && inner.last <= outer.last
 }
 
-/// Whether two loops overlap, and neither lies in the other with its head above the other's.
+/// Whether two loops overlap, and neither is inside the other with its head above the other's.
 fn crosses(j: &LoopSetup, i: &LoopSetup) -> bool
     ensures { IsTrue result ↔ Crosses j.now i.now }
 {
@@ -73,10 +73,11 @@ fn crossed(loops: &[LoopSetup]) -> Option<u32>
     found
 }
 
-/// How many of the loops may hold all of a loop, the loop itself among them.
+/// The greatest allowed nesting depth: the number of loops that contain all of a loop, including
+/// itself.
 const DEEPEST: usize = 4;
 
-/// How many of the loops hold all of a loop.
+/// The number of loops that contain all of a loop.
 fn depth(loops: &[LoopSetup], j: LoopSetup) -> usize
     ensures { result ≡ depth loops.now j }
 {

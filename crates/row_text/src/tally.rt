@@ -1,8 +1,8 @@
-//! How many rows a table has, and how many of them differ.
+//! The number of rows of a table, and of those that differ.
 
 use std::io;
 
-/// How many rows there are, and how many differ.
+/// The number of rows, and of those that differ.
 #[derive(Clone, Copy)]
 pub struct Tally {
     rows: u32,

@@ -37,7 +37,7 @@ impl RowText {
         self.is_refused = true;
     }
 
-    /// How many bytes the text has.
+    /// The number of bytes of the text.
     pub fn len(&self) -> usize {
         self.text.len()
     }

@@ -153,14 +153,14 @@ pub enum Ins {
         /// The immediate without the twelve zero bits below it, 0 to 2^20 - 1.
         imm: u32,
     },
-    /// JAL: goes to the pc plus `off`; `rd` gets the pc plus 4 ("Unconditional Jumps").
+    /// JAL: jumps to the pc plus `off`; `rd` gets the pc plus 4 ("Unconditional Jumps").
     Jal {
         /// The register that is written, 0 to 31; x0 keeps 0.
         rd: u8,
         /// The offset in bytes: even, -2^20 to 2^20 - 2.
         off: i32,
     },
-    /// JALR: goes to `rs1` plus `imm`, with bit 0 cleared; `rd` gets the pc plus 4 ("Unconditional
+    /// JALR: jumps to `rs1` plus `imm`, with bit 0 cleared; `rd` gets the pc plus 4 ("Unconditional
     /// Jumps").
     Jalr {
         /// The register that is written, 0 to 31; x0 keeps 0.
@@ -256,7 +256,7 @@ pub enum Ins {
     Ecall,
     /// EBREAK: a trap with cause 3 ("Environment Call and Breakpoints").
     Ebreak,
-    /// MRET: goes to mepc (privileged manual, "Trap-Return Instructions").
+    /// MRET: jumps to mepc (privileged manual, "Trap-Return Instructions").
     Mret,
     /// A CSR instruction ("Zicsr"): `src` is a register, or the value itself in the immediate
     /// forms.

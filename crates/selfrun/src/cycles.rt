@@ -78,7 +78,7 @@ impl Cycles {
         }
     }
 
-    /// A fold with a cycle and a space.
+    /// A hash with a cycle and a space appended.
     #[inline(always)]
     pub fn fold(&mut self, h: u32, cycle: u64) -> u32
         requires { cycle < 10 ^ 10 }

@@ -14,7 +14,7 @@ use fp_setup::Setup;
 use rv_decode::{Ins, encode};
 use std::alloc::{AllocError, Global};
 
-/// How many instructions of a thread are drawn.
+/// The number of drawn instructions of a thread.
 const DRAWS: usize = 124;
 
 /// Appends an instruction's word.

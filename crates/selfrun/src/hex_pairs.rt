@@ -16,7 +16,7 @@ fn hex_byte(digit: u32) -> u32
     if digit < 10 { 48 + digit } else { 87 + digit }
 }
 
-/// The fold of the two hexadecimal digits of a byte.
+/// The hash of the two hexadecimal digits of a byte.
 fn pair_sum(byte: usize) -> u32
     requires { byte < 256 }
     ensures { result ≡ pair_sum byte }
@@ -24,7 +24,7 @@ fn pair_sum(byte: usize) -> u32
     hex_byte(byte as u32 / 16) * BASE + hex_byte(byte as u32 % 16)
 }
 
-/// The fold of the two hexadecimal digits of each byte.
+/// The hash of the two hexadecimal digits of each byte.
 fn pair_sums() -> [u32; 256]
     ensures { ArePairs result }
 {

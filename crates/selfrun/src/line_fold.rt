@@ -87,8 +87,8 @@ impl LineFolder {
         }
     }
 
-    /// A fold with the line of an event: its cycle, its pc and word, its effect and a line feed,
-    /// one after another.
+    /// A hash with the line of an event appended: its cycle, its pc and word, its effect and a line
+    /// feed, one after another.
     #[inline(always)]
     pub fn line(
         &mut self,
@@ -126,7 +126,7 @@ impl LineFolder {
         with_byte(shown, b'\n')
     }
 
-    /// A fold with a register and its value.
+    /// A hash with a register and its value appended.
     #[inline(always)]
     fn register(&self, h: u32, rd: u8, value: u32) -> u32
         requires { rd < 32 }

@@ -68,7 +68,7 @@ impl Piece {
         })
     }
 
-    /// A fold with the text.
+    /// A hash with the text appended.
     pub fn after(&self, h: u32) -> u32
         ensures { (bytes : List ℕ) → IsPiece self.now bytes → result ≡ fold_of h bytes }
     {

@@ -26,7 +26,7 @@ use machine::Machine;
 use pipe_model::{Held, Stored, events_grow};
 use std::alloc::{AllocError, Global};
 
-/// How many cycles the machine runs.
+/// The number of cycles that the machine runs.
 const CYCLES: u64 = 100_000;
 
 /// Eight ports that aren't there.

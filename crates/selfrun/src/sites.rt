@@ -7,7 +7,7 @@ use crate::hex_pairs::HexPairs;
 use crate::piece::Piece;
 use std::marker::Model;
 
-/// How many words a thread's own program has.
+/// The number of words of a thread's own program.
 const WORDS: usize = 128;
 
 /// The number of sites cached for eight threads.

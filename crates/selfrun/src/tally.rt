@@ -13,9 +13,9 @@ use trace_print::{push_decimal, push_hex};
 /// The tally of a thread's events.
 #[derive(Clone, Copy, Debug)]
 pub struct Tally {
-    /// How many there are.
+    /// The number of events.
     pub events: u32,
-    /// The fold of their lines: for each byte, the fold so far times 31 and the byte, modulo 2^32.
+    /// The hash of their lines: for each byte, the hash so far times 31 plus the byte, modulo 2^32.
     pub fold: u32,
 }
 

@@ -60,7 +60,7 @@ impl SlotTable {
         self.word
     }
 
-    /// How many slots share the cycles, 0 to 8: those that aren't disabled.
+    /// The number of slots that share the cycles, 0 to 8: those that aren't disabled.
     pub fn frame_len(&self) -> u8
         ensures { result ≡ length (frame self.now) }
     {

@@ -5,7 +5,7 @@ use Rattle.trace_print.specs.declared.dump_lines.StageContent.{StageContent}
 use Rattle.trace_print.specs.declared.dump_lines.StageContent.TheVariants.{Nothing, Picked}
 use Rattle.trace_print.specs.declared.dump_lines.StageContent.TheVariants.{Flushed, Issue}
 
--- how many cycles were done
+-- the number of cycles done
 unfoldable pub cycles_text : ℕ → List ℕ
 cycles_text n = codes "cycles " ++ (decimal n ++ codes "\n")
 

@@ -9,7 +9,7 @@ use Rattle.trace_print.specs.Digits.{hex, two_digits, right}
 unfoldable pub register_text : ℕ → ℕ → List ℕ
 register_text rd value = codes "x" ++ (two_digits rd ++ (codes "=" ++ hex 8 value))
 
--- an address, how many bytes are stored there, and the value
+-- an address, the number of bytes stored there, and the value
 unfoldable pub store_text : ℕ → ℕ → ℕ → List ℕ
 store_text address size value =
     codes "[" ++ (hex 8 address ++ (codes "]/" ++ (decimal size ++ (codes "=" ++ hex 8 value))))

@@ -13,7 +13,7 @@ use arrayvec::ArrayString;
 use rv_exec::Effect;
 use std::marker::Model;
 
-/// How many cycles have the same upper digits.
+/// The number of cycles with the same upper digits.
 const SAME: u64 = 10_000;
 
 /// The value of `first` if no cycle's upper digits are kept: a cycle that no line shows.
@@ -30,7 +30,7 @@ const NONE: u64 = 10_000_000_000;
 pub struct EventLine {
     /// The line, followed by bytes of earlier lines.
     text: [u8; ROOM],
-    /// How many bytes the line has.
+    /// The length of the line, in bytes.
     len: usize,
     /// The first cycle with the upper digits that are in the text.
     first: u64,

@@ -3,7 +3,7 @@
 ghost use Rattle.std.specs.Prelude.{◌≡◌, ◌+◌, ◌<◌, ◌≤◌, [], ◌∷◌, ◌++◌, length, take};
 ghost use Rattle.trace_print.specs.Digits.{hex, two_digits};
 
-/// How many bytes a line has room for.
+/// The size of a line's buffer, in bytes.
 pub(crate) const ROOM: usize = 64;
 
 /// The two hexadecimal digits of each byte, one pair after the other.
