@@ -18,7 +18,7 @@ use Rattle.fp_image.specs.declared.refusals.ImageRefused.{ImageRefused}
 use Rattle.fp_image.specs.declared.refusals.ImageRefused.TheVariants.{Fault, NoMemory}
 
 -- the greatest length of a file, from the size of a scratchpad: the bytes of both scratchpads, plus
--- an eighth of one for the headers of the segments, which is more than they need
+-- an eighth of one for the bytes around the segments, which is more than they need
 abbrev pub longest : ℕ → ℕ
 longest size = if size == small_size then 34816 else 139264
 

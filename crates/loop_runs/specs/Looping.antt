@@ -11,8 +11,8 @@ use Rattle.loop_laws.specs.Answered.{with_all_shown}
 use Rattle.loop_laws.specs.Sampled.{latch_samples}
 use Rattle.loop_runs.specs.Plants.{Continues, Response, loop_start, response_at}
 
--- the number of samples that the plant of thread j has taken, when the plants of the first i
--- threads have done step q and the others only the steps before it. Step 0 takes none
+-- the number of samples that the plant of thread j has taken. The plants of the first i threads
+-- have done step q, the others only the steps before it. Step 0 takes none
 abbrev pub samples_taken : ℕ → ℕ → ℕ → ℕ
 samples_taken q i j = if nat_lt j i then q else q - 1
 

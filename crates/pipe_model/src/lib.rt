@@ -11,7 +11,7 @@ ghost use Rattle.pipe_model.specs.PipelineLaws.{RefinesWithoutPort, ShowsTurns, 
 pub use stage_registers::{Decoded, Executed, Fetched, Flush, Held, Redirect, Stored, Written};
 
 /// If the pipeline's state refines a cycle of a world, its state after one cycle refines the next
-/// one, for any words in memory. The contract states the theorem; the call does nothing.
+/// one, for any words of code and data. The contract states the theorem; the call does nothing.
 pub fn refinement()
     ensures { StepRefines }
 {}

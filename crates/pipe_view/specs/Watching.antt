@@ -98,7 +98,8 @@ IsOutcome (Issue k x) (Some line) text =
     IsCharBoundary line effect_column →
     text ≡ trim_end (slice_range line effect_column (length line))
 
--- the line of the picked turn's event is its trace line; there is one if the turn has an event
+-- the line of the picked turn's event is its trace line; there is one exactly if the turn has an
+-- event
 abbrev pub HasLine : Cycle → Type 0
 HasLine cycle =
     option_map (λ text. text.bytes) cycle.line

@@ -13,9 +13,9 @@ pub fn traces_alone()
     crate::retired_isolation::runs_alone();
 }
 
-/// If no retired issue writes a region register, and no setting of slots and modes makes it soft
-/// and active, the trace of a confined thread is that of the definition of one thread over its view
-/// and these settings.
+/// If no retired issue writes a region register, and no setting of slots and modes makes a confined
+/// thread soft and active, its trace is that of the definition of one thread over its view and
+/// these settings.
 pub fn traces_by_phases()
     ensures { RetiredTraceByPhases }
 {

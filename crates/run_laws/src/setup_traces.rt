@@ -12,9 +12,9 @@ pub fn traces_alone()
     crate::retired_traces::traces_alone();
 }
 
-/// While no region register is written, and no setting of the scheduling makes it soft active, the
-/// trace of a confined thread is that of the definition of one thread over its view and the
-/// settings of the run.
+/// While no region register is written, and no setting of the scheduling makes a confined thread
+/// soft active, its trace is that of the definition of one thread over its view and the settings of
+/// the run.
 pub fn traces_by_phases()
     ensures { TraceByPhases }
 {
