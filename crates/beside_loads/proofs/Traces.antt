@@ -1,4 +1,4 @@
--- What a command wrote of a protected thread is the text of the thread by itself.
+-- The text that a command wrote for a protected thread is that of the thread alone.
 use Rattle.std.proofs.Common.{◌≡◌, ℕ, List, [], ◌++◌, Bool, true, Option}
 use Rattle.std.proofs.Common.{Some, None, IfSome, ap, subst, sym, ◌∙◌}
 use Rattle.flexpret_top.specs.Ask.{Ask}

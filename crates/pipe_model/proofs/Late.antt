@@ -102,7 +102,7 @@ unfolding ins rows lui_rows auipc_rows jal_rows jalr_rows branch_rows load_rows 
     op_rows fence_rows system_rows time_rows
 ins-zero = refl
 
--- the operands beside the word that the turn shows
+-- the operands, with the word that the turn shows
 shown-operand : (w v : ℕ) (x : ℕ) (regs : List ℕ) (source : ℕ → ℕ) →
     source 0 ≡ 0 → x ≡ reg_in regs (source w) → (v ≡ w) ⊎ (v ≡ 0) →
     (if v == 0 then 0 else x) ≡ reg_in regs (source v)

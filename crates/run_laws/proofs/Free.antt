@@ -1,4 +1,4 @@
--- The law for hard threads that are not confined, by induction over the cycles.
+-- The theorem for hard threads that are not confined, by induction over the cycles.
 use Rattle.std.proofs.Common.{◌≡◌, ◌≢◌, ℕ, zero, suc, ◌+◌, ◌-◌, ◌<◌, ◌≤◌, inl, ◌⊎◌, Bool, true}
 use Rattle.std.proofs.Common.{false, ◌&&◌, List, ◌++◌, map, refl, ap, ap₂, sym, ◌∙◌, subst, arith}
 use Rattle.std.specs.Prelude.{if◌then◌else◌, ◌==◌, nat_le, nat_lt}

@@ -1,4 +1,4 @@
--- The law over settings of the scheduling, by induction over the cycles.
+-- The theorem over settings of the scheduling, by induction over the cycles.
 use Rattle.std.proofs.Common.{◌≡◌, ℕ, zero, suc, ◌+◌, ◌-◌, ◌<◌, ◌≤◌, inl, inr, ◌⊎◌, Bool}
 use Rattle.std.proofs.Common.{true, false, ◌&&◌, List, [], ◌∷◌, ◌++◌, append-nil, add-zero}
 use Rattle.std.proofs.Common.{add-suc, Some, None, length, refl, ap, sym, ◌∙◌, subst, arith}

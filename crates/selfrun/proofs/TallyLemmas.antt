@@ -183,7 +183,7 @@ few_none (suc (suc (suc (suc (suc (suc zero)))))) = omega arith
 few_none (suc (suc (suc (suc (suc (suc (suc zero))))))) = omega arith
 few_none (suc (suc (suc (suc (suc (suc (suc (suc k)))))))) = omega arith
 
--- beside no port nothing is fed
+-- without ports nothing is fed
 beside_none : (number n : ℕ) →
     start_beside own_setup (programs number) no_ports n ≡ own_start number n
 unfolding own_start start plain_threads

@@ -1,4 +1,4 @@
--- A control loop beside two hard threads and six soft ones, all with code and data of their own.
+-- A control loop next to two hard threads and six soft ones, all with code and data of their own.
 -- The definitions compute each trace.
 use Rattle.std.proofs.Common.{◌≡◌, true, false, List, [], ◌∷◌, ◌++◌, refl, replicate}
 use Rattle.slot_table.specs.Nibbles.{nibbles}

@@ -30,7 +30,7 @@ code =
     0x00100293 ∷ 0x00002303 ∷ 0x200000b7 ∷ 0x0060a023 ∷ 0x0000a383 ∷ 0x40000137 ∷ 0x00012403
     ∷ 0xfe5ff06f ∷ []
 
--- thread 0 beside thread 1, which has a region of code and one of data
+-- thread 0 next to thread 1, which has a region of code and one of data
 one : Start
 one =
     record (base code) {
