@@ -11,7 +11,7 @@ use Rattle.ask_words.specs.declared.asked.Ask.{Ask}
 use Rattle.ask_words.specs.declared.asked.Ask.TheVariants as asks
 use Rattle.ask_words.specs.declared.asked.Ask.TheVariants.{Run, Dump, Asm, Selfrun}
 use Rattle.ask_words.specs.declared.asked.Ask.TheVariants.{Phases, Solo, Check, Elf, Calls}
-use Rattle.flexpret_top.specs.Requests.{IsAsked, IsAskedBy}
+use Rattle.flexpret_top.specs.Requests.{IsAsked, IsAskedBy, LacksFirst, LacksFirstBy}
 use Rattle.flexpret_top.specs.declared.ready.Prepared.{Prepared}
 use Rattle.command_files.specs.declared.status.Status.{Status}
 use Rattle.command_files.specs.declared.status.Status.TheVariants.{Ok, Differs, Usage, Setup}
@@ -263,6 +263,17 @@ unrun-by told words asked before after s n is number nine leaves =
 pub apart-by : (words : List (List ℕ)) (asked : Ask) → ask words ≡ Some asked →
     UsesNoPortBy (ask words) → UsesNoPort asked
 apart-by words asked is apart = let By : Option Ask → Type 0 = UsesNoPortBy in subst By is apart
+
+pub lacks-by : (told : Option FileMap) (words : List (List ℕ)) (asked : Ask) →
+    ask words ≡ Some asked → LacksFirstBy (ask words) told → LacksFirst asked told
+lacks-by told words asked is lacks =
+    let By : Option Ask → Type 0 = λ o. LacksFirstBy o told in subst By is lacks
+
+-- a usage error requests no file
+pub none-lacks : {Q : Type 0} (o : Option Ask) (told : Option FileMap) → o ≡ None →
+    LacksFirstBy o told → Q
+none-lacks None told none lacks = absurd lacks
+none-lacks (Some asked) told none lacks = cc
 
 pub asks-some : (words : List (List ℕ)) (asked : Ask) → ask words ≡ Some asked →
     ask words ≡ None → ⊥

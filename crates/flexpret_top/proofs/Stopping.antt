@@ -63,6 +63,13 @@ stop-said (Some files) asked ports b a why.Read s b' a' before after is ends rea
 stop-said (Some files) asked ports b a why.NoMemory s b' a' before after is ends read write memory =
     absurd (memory ends)
 
+-- a command that stops because a file can't be read has the status of that
+pub stop-missing : (stop : Stop) (s : Status) (b a : ℕ) (before after : Option (List ℕ)) →
+    Ends stop b a before after s → stop ≡ why.Read → s ≡ Read
+stop-missing stop s b a before after ends read =
+    let By : Stop → Type 0 = λ r. Ends r b a before after s in
+    subst By read ends
+
 pub stop-read : (told : Option FileMap) (asked : Ask) (ports : List (Option Row))
     (b a : ℕ) (stop : Stop) (s : Status) (b' a' : ℕ) (before after : Option (List ℕ)) →
     IsStop told (IsAnswerIn asked ports) b a stop → Ends stop b' a' before after s → s ≡ Read →

@@ -69,3 +69,8 @@ LacksFirst (Solo setup thread cycles) told = Lacks told setup
 LacksFirst (Check setup thread cycles trace) told = Lacks told setup
 LacksFirst (Elf file) told = Lacks told file
 LacksFirst (Calls setup thread section routines) told = Lacks told setup
+
+-- a command line that requests a file first, where the files are known to have none of its name
+abbrev pub LacksFirstBy : Option Ask → Option FileMap → Type 0
+LacksFirstBy None told = ⊥
+LacksFirstBy (Some asked) told = LacksFirst asked told

@@ -23,7 +23,7 @@ ghost use Rattle.flexpret_top.specs.Command.{OnlyReads, OnlyReadsBy, Said, Began
 ghost use Rattle.flexpret_top.specs.Headline.{BoundsCallVisits, BoundsVisits};
 ghost use Rattle.flexpret_top.specs.Headline.{WritesAlone, WritesAsRun, WritesByPhases};
 ghost use Rattle.flexpret_top.specs.Headline.{WritesImage, WritesRetired};
-ghost use Rattle.flexpret_top.specs.Requests.{IsAsked, IsAskedBy};
+ghost use Rattle.flexpret_top.specs.Requests.{IsAsked, IsAskedBy, LacksFirst, LacksFirstBy};
 ghost use Rattle.command_files.specs.Status.{IsStatus, number_of};
 ghost use Rattle.command_files.specs.declared.stop.Stop.{Stop};
 ghost use Rattle.command_files.specs.Answer.{status_of};
@@ -110,6 +110,7 @@ fn answer<F: Files, K: Sink>(
     ensures read { result ≡ Status.Read → Rose (F.faults files.old) (F.faults files.new) ⊎
         IsSomeAnd (F.told files.old) (λ told.
         IsAnswerIn ask.now (rows_of latched word_at ports.old.items) told Missing) }
+    ensures missing { LacksFirst ask.now (F.told files.old) → result ≡ Status.Read }
     ensures write { result ≡ Status.Write → Rose (K.faults out.old) (K.faults out.new) }
     ensures front { result ≡ Status.Write → IfSome (F.told files.old) (λ told.
         Began (IsAnswerIn ask.now (rows_of latched word_at ports.old.items) told)
@@ -232,6 +233,8 @@ pub fn flexpret<F: Files, K: Sink>(
     ensures read { result ≡ 7 → Rose (F.faults files.old) (F.faults files.new) ⊎
         IsSomeAnd (F.told files.old) (λ told. IsAnswer (map string_bytes words.now) told
         (rows_of latched word_at ports.old.items) Missing) }
+    ensures missing { LacksFirstBy (ask (map string_bytes words.now)) (F.told files.old)
+        → (result ≡ 7) ⊎ ((result ≡ 9) × (files.new ≡ files.old)) }
     ensures write { result ≡ 8 → Rose (K.faults out.old) (K.faults out.new) }
     ensures front { result ≡ 8 → IfSome (F.told files.old) (λ told.
         Began (IsAnswer (map string_bytes words.now) told (rows_of latched word_at ports.old.items))

@@ -7,7 +7,8 @@ use Rattle.flexpret_top.proofs.Ending.{ok-no_nothing, ok-no_write, part-of, same
 use Rattle.flexpret_top.proofs.Ending.{write-no_difference, write-no_nothing, write-no_ok}
 use Rattle.flexpret_top.proofs.Stopping.{difference-no_memory, no-difference}
 use Rattle.flexpret_top.proofs.Stopping.{stop-said, stop-read, stop-write, stop-front}
-use Rattle.flexpret_top.proofs.Stopping.{stop-complete, stop-leaves, stop-usage, write-no_memory}
+use Rattle.flexpret_top.proofs.Stopping.{stop-complete, stop-leaves, stop-missing, stop-usage}
+use Rattle.flexpret_top.proofs.Stopping.{write-no_memory}
 use Rattle.flexpret_top.proofs.command.answer.Goals as goal
 
 pub prepare-requires-clause-limits : goal.prepare-requires-clause-limits
@@ -33,6 +34,7 @@ returns-in-Ok-deliver g c = record {
       c.in-Ok.prepared (g.K.Sink.taken c.args.out.now) (g.K.Sink.taken c.deliver.new.out)
       c.in-Ok.ensures.ok c.in-Ok-deliver.ensures.ok);
   read = λ read. absurd (ok-no_nothing (inl read));
+  missing = λ lacks. (let e = c.in-Ok.ensures.missing lacks in cc);
   write = λ write. absurd (ok-no_write write);
   front = λ write. absurd (ok-no_write write);
   complete =
@@ -64,6 +66,7 @@ returns-in-Err-deliver g c = record {
   counted_out = c.deliver.ensures.counted;
   said = λ read write memory. absurd (write refl);
   read = λ read. absurd (write-no_nothing (inl read));
+  missing = λ lacks. (let e = c.in-Ok.ensures.missing lacks in cc);
   write = λ write. c.in-Err-deliver.ensures.failed;
   front =
       λ write. (front-of (g.F.Files.told c.args.files.now) c.args.ask.now _ _ c.in-Ok.prepared
@@ -111,6 +114,9 @@ returns-in-Err g c = record {
       c.in-Err.stop c.end.result (g.K.Sink.faults c.args.out.now)
       (g.K.Sink.faults c.end.new.out) (g.K.Sink.taken c.args.out.now)
       (g.K.Sink.taken c.end.new.out) c.in-Err.ensures.stop c.end.ensures.ends read);
+  missing =
+      λ lacks. stop-missing c.in-Err.stop c.end.result _ _ _ _ c.end.ensures.ends
+      (let e = c.in-Err.ensures.missing lacks in cc);
   write =
       λ write. stop-write c.in-Err.stop c.end.result (g.K.Sink.faults c.args.out.now)
       (g.K.Sink.faults c.end.new.out) (g.K.Sink.taken c.args.out.now)

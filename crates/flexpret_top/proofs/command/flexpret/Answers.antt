@@ -1,9 +1,10 @@
-use Rattle.std.proofs.Common.{rules, ◌≡◌, ◌⊎◌, ◌∙◌, ℕ, ap, sym, subst, arith, map}
+use Rattle.std.proofs.Common.{rules, ◌≡◌, ◌⊎◌, ◌∙◌, ℕ, ap, inl, inr, refl, sym, subst, arith, map}
 use Rattle.std.specs.Prelude.{string_bytes}
 use Rattle.fp_ports.specs.PluggedPorts.{rows_of}
 use Rattle.flexpret_top.proofs.Ending.{apart-by, asked-by, asks-some, complete-of}
 use Rattle.flexpret_top.proofs.Ending.{cut-short-by, front-by, leaves-by}
-use Rattle.flexpret_top.proofs.Ending.{nothing-of, number-of, read-by, reads-by}
+use Rattle.flexpret_top.proofs.Ending.{lacks-by, none-lacks, nothing-of, number-of}
+use Rattle.flexpret_top.proofs.Ending.{read-by, reads-by}
 use Rattle.flexpret_top.proofs.Ending.{said-of, status-of, unasked, unrun, unrun-by}
 use Rattle.ask_words.specs.Commands.{ask}
 use Rattle.command_files.specs.Status.{number_of}
@@ -25,6 +26,10 @@ returns-in-Err-Usage g c =
           c.number-in-Err-Usage.ensures nothing,
       usage-answered (g.F.Files.told c.args.files.now) (map string_bytes c.args.words.now) rows
           c.number-in-Err-Usage.result c.number-in-Err-Usage.ensures nothing,
+      none-lacks
+          {Q = (c.number-in-Err-Usage.result ≡ 7)
+          ⊎ ((c.number-in-Err-Usage.result ≡ 9) × (c.args.files.now ≡ c.args.files.now))}
+          (ask (map string_bytes c.args.words.now)) (g.F.Files.told c.args.files.now) nothing,
       unasked (ask (map string_bytes c.args.words.now)) (g.F.Files.told c.args.files.now)
           (g.F.Files.requests c.args.files.now),
     )
@@ -58,6 +63,10 @@ returns-in-Ok g c = record {
       (map string_bytes c.args.words.now) c.in-Ok.ask rows c.answer.result c.number.result
       (g.F.Files.faults c.args.files.now) (g.F.Files.faults c.answer.new.files)
       c.in-Ok.ensures.asked c.number.ensures seven c.answer.ensures.read);
+  missing =
+      λ lacks. inl (c.number.ensures ∙ ap number_of (c.answer.ensures.missing
+      (lacks-by (g.F.Files.told c.args.files.now) (map string_bytes c.args.words.now) c.in-Ok.ask
+      c.in-Ok.ensures.asked lacks)));
   requests =
       asked-by (g.F.Files.told c.args.files.now) (map string_bytes c.args.words.now) c.in-Ok.ask _ _
       c.in-Ok.ensures.asked c.answer.ensures.requests;
