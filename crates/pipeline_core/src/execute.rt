@@ -175,7 +175,7 @@ fn execute_issue<const RARE: bool>(
         traps: &mut units.traps,
     };
     let s = Sources { a: x.a, b: x.b };
-    let done = execute_some::<RARE>(&mut hart, at, x.expired, s)?;
+    let done = execute_some::<RARE, RARE>(&mut hart, at, x.expired, s)?;
     Some(leave(thread, x, &done, e, redirect))
 }
 
