@@ -519,6 +519,13 @@ def test_arguments(asking: Tool) -> None:
     assert (ran.returncode, ran.stdout, ran.stderr) == (0, "", "")
 
 
+@pytest.mark.parametrize("given", ["", "garbage"])
+def test_a_refusal_has_its_status_without_gdb(asking: Tool, tmp_path: Path, given: str) -> None:
+    ran = asking("fp_gdb", tmp_path / "no.toml", given=given)
+    assert (ran.returncode, ran.stdout) == (2, "")
+    assert ran.stderr.startswith("fp_gdb: ") and "No such file" in ran.stderr
+
+
 def test_nothing_that_is_sent_breaks_a_session(flexpret: str) -> None:
     """Packets that gdb doesn't send get one answer each."""
     drawn = random.Random(7)
