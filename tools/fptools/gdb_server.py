@@ -31,6 +31,7 @@ HEXADECIMAL = re.compile("[0-9a-fA-F]{1,16}")
 ACTION = re.compile(r"([csr]|[CS][0-9a-f]{2})(?:([0-9a-f]+),([0-9a-f]+))?(?::(-?[0-9a-f]+))?")
 NUMBERS = tuple(f"{thread + 1:x}" for thread in range(THREADS))  # of gdb's threads
 ANY_THREAD = ("", "0", "-1")
+ALL_THREADS = list(range(THREADS))
 
 
 def refusal(text: str) -> bytes:
@@ -70,6 +71,8 @@ class Server:
     thread: int = 0  # whose registers and memory are asked for
     resumed: int = 0  # which is stepped, or stopped last
     last: Stop = Stop(0, 0, Reason.STEP)
+    asked: list[int] = field(default_factory=list)  # threads, since gdb has read their list
+    before: int = 0  # `resumed` when it read the list
 
     def __post_init__(self) -> None:
         self.stops = Stops(self.machine)
@@ -133,7 +136,7 @@ class Server:
             "vCont;": lambda text: self._forwards(self._resume(text)),
             "vKill": lambda _: self._end(OK),
             "H": self._select,
-            "T": lambda text: OK if _thread(text) in range(THREADS) else NO_SUCH,
+            "T": self._is_there,
             "m": self._memory,
             "p": self._register,
             "Z": lambda _: self._point(packet, True),
@@ -148,6 +151,15 @@ class Server:
 
     def _described(self, text: str) -> bytes:
         return self.machine.described(_thread(text)).encode().hex().encode()
+
+    def _is_there(self, text: str) -> bytes:
+        """Whether a thread is there. gdb asks so for the thread that its user selects, and a step
+        back names none: so the selected one steps. `thread apply all` asks for all, and selects none."""
+        self.resumed = _thread(text)
+        self.asked.append(self.resumed)
+        if self.asked in (ALL_THREADS, ALL_THREADS[::-1]):
+            self.resumed = self.before
+        return OK
 
     def _registers(self) -> bytes:
         values = self.machine.values(self.thread)
@@ -201,6 +213,8 @@ class Server:
             return b"E00"
         document = target_description() if found[1] == "features" else self._threads()
         start, size = _number(found[3]), _number(found[4])
+        if found[1] == "threads" and not start:
+            self.asked, self.before = [], self.resumed
         part = document[start : start + size]
         return (b"m" if start + size < len(document) else b"l") + part
 

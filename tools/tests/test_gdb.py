@@ -111,6 +111,19 @@ def test_steps_go_through_the_events_and_back(flexpret: str, name: str) -> None:
                 assert cycle_of(client) == event.cycle
 
 
+def test_a_step_back_is_one_of_the_selected_thread(flexpret: str, pid: Client) -> None:
+    """gdb's `bs` names no thread. `T` comes before it, for the one that the user selects."""
+    cycles = [it.cycle for it in events_of(flexpret, PID, 1, 1000) if it.cycle < 950]
+    pid.go_to(950)
+    assert pid.ask("T2") == pid.ask("Hc0") == "OK"
+    assert (pid.ask("bs"), cycle_of(pid)) == ("T05thread:2;", cycles[-1])
+    # `thread apply all` selects none.
+    assert pid.ask("qXfer:threads:read::0,1000").startswith("l<threads>")
+    assert {pid.ask(f"T{thread}") for thread in range(8, 0, -1)} == {"OK"}
+    assert (pid.ask("bs"), cycle_of(pid)) == ("T05thread:2;", cycles[-2])
+    assert pid.ask("T9") == "E01"
+
+
 def test_breakpoints_stop_at_each_issue_both_ways(flexpret: str, pid: Client) -> None:
     trace = events_of(flexpret, PID, 0, 20_000)
     cycles = [it.cycle for it in trace if it.pc in (STEP_BEGIN, STEP_END)]
