@@ -135,6 +135,19 @@ def test_eight_threads(folder: Folder) -> None:
     assert re.search(r'"T0" \(hard, slot 0, asleep until \d+ ns \(cycle \d+\)\)', last)
 
 
+def test_a_step_back_in_a_selected_thread(folder: Folder) -> None:
+    said = folder.gdb(
+        CONNECT, "break drive_for", "continue", "continue", "thread 2", "reverse-stepi",
+        "p $mhartid", "info threads", "thread apply all p $pc", "reverse-stepi", "p $mhartid",
+    )  # fmt: skip
+    assert re.findall(r"^> p \$mhartid\n\$\d+ = (\d)$", said, re.M) == ["1", "1"]
+    assert "SIGTRAP" not in said
+
+
+def test_a_busy_machine_needs_the_patience_of_the_page() -> None:
+    assert f"`{PATIENCE}`" in document("DEBUG.md").read_text()
+
+
 def test_back_to_the_store_that_wrote_a_wrong_value(folder: Folder) -> None:
     said = folder.gdb(
         CONNECT, "break step_end if integral > 6 * 65536", "continue", "p integral",
