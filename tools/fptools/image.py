@@ -8,6 +8,7 @@ from typing import Mapping
 from fptools.setup import DATA_START, LARGE
 
 MAGIC = b"FPX1"
+ELF_MAGIC = b"\x7fELF"
 MOST_SEGMENTS = 16
 
 
@@ -24,6 +25,8 @@ def words_of(data: bytes, start: int = 0) -> dict[int, int]:
 def read_image(path: Path) -> dict[int, int]:
     """The words that an image places, by address; what the program takes for no image of any setup is an `ImageError`."""
     data = path.read_bytes()
+    if data[:4] == ELF_MAGIC:
+        raise ImageError(f"{path} is an executable: `flexpret elf` makes an image of it")
     if data[:4] != MAGIC:
         raise ImageError(f"{path} is no image: it begins with {data[:40]!r}")
     words: dict[int, int] = {}

@@ -130,6 +130,20 @@ def test_names_in_a_source_of_an_image(tool: Tool) -> None:
     assert "\nstep_begin:\n" in ran.stdout and "wu x11, x15" in ran.stdout
 
 
+def test_names_of_another_executable_are_refused(tool: Tool) -> None:
+    other = "tools/tests/data/calls.elf"
+    ran = tool("fp_disasm", "examples/c/pid.fpx", "--elf", other)
+    assert (ran.returncode, ran.stdout) == (2, "")
+    assert f"fp_disasm: examples/c/pid.fpx isn't made of {other}: other words at 0x0" in ran.stderr
+
+
+def test_an_executable_in_place_of_an_image_is_told(tool: Tool) -> None:
+    ran = tool("fp_disasm", "examples/c/pid.elf")
+    assert (ran.returncode, ran.stdout) == (2, "")
+    said = "examples/c/pid.elf is an executable: `flexpret elf` makes an image of it"
+    assert ran.stderr == f"fp_disasm: {said}\n"
+
+
 def drawn(seed: int) -> dict[int, int]:
     """Words of code and data: instructions with other fields, and any words."""
     draws = Random(seed)
