@@ -6,6 +6,8 @@ from dataclasses import dataclass
 from functools import cached_property
 from pathlib import Path
 
+from fptools.elf import ASSEMBLER
+
 # Comments and texts, whose characters are no code.
 NO_CODE = re.compile(r"/\*.*?\*/|//[^\n]*|\"(?:\\.|[^\"\\\n])*\"|'(?:\\.|[^'\\\n])*'", re.DOTALL)
 KEYWORD = re.compile(r"\b(for|while|do|goto)\b")
@@ -13,7 +15,12 @@ DEFINE = re.compile(r"^[ \t]*#[ \t]*define[ \t]+(\w+)((?:\\\n|[^\n])*)", re.MULT
 INCLUDE = re.compile(r"^[ \t]*#[ \t]*include[ \t]*\"([^\"\n]+)\"", re.MULTILINE)
 NAME = re.compile(r"\b[A-Za-z_]\w*\b")
 ENDLESS = re.compile(r"(?:for\s*\(\s*;\s*;.*|while\s*\(\s*(?:1|true)\s*\).*)", re.DOTALL)
-C_SUFFIXES = (".c", ".h", ".cc", ".cpp", ".hpp", ".inc", ".i")
+GOTO = re.compile(r"\bgoto\s+([A-Za-z_]\w*)\s*;")
+# What ends a round before its end, and what a macro that isn't known may be: a word in capitals as a statement.
+LEAVES = re.compile(r"\b(?:break|return|goto)\b")
+AS_STATEMENT = re.compile(r"(?:[;{}:)]|\belse\b|\bdo\b|^)\s*([A-Z_][A-Z0-9_]*)\s*[(;]")
+LAST_TEST = re.compile(r"if\s*\(")
+LEAVES_AT_ONCE = re.compile(r"\s*(?:\{[^{}]*)?\b(?:break|return\b[^;{}]*)\s*;\s*\}?\s*", re.DOTALL)
 
 
 @dataclass(frozen=True)
@@ -23,10 +30,15 @@ class LoopText:
     first: int
     last: int
     is_body_first: bool
+    # The lines of its header, or of the test of a `do`; none of a loop by `goto`.
+    header: tuple[int, int] = (0, 0)
+    # Whether the text has the body before the test, but may leave it before its end.
+    is_left_inside: bool = False
 
 
 def is_c(file: Path) -> bool:
-    return file.suffix in C_SUFFIXES
+    """Whether a source is of C: all are that aren't of assembler, however they are named."""
+    return file.suffix not in ASSEMBLER
 
 
 class CText:
@@ -52,6 +64,15 @@ class CText:
         end = lines[number] if number < len(lines) else len(self.code)
         return self.code[lines[number - 1] : end]
 
+    def statement_at(self, number: int) -> str:
+        """The text of the statements in a line, from their begin to their end."""
+        line = self.line(number)
+        start = self._starts[number - 1] if line else 0
+        first, last = start + len(line) - len(line.lstrip()), start + len(line.rstrip())
+        begin = max(self.code.rfind(mark, 0, first) for mark in ";{}") + 1
+        ends = [at for mark in ";{}" if (at := self.code.find(mark, max(last - 1, first))) >= 0]
+        return self.code[begin : min(ends, default=len(self.code)) + 1] if line.strip() else ""
+
     @cached_property
     def depths(self) -> list[int]:
         """In how many braces each line ends, by its number; 0 for the line before the first."""
@@ -75,9 +96,23 @@ class CText:
 
     @cached_property
     def loops(self) -> list[LoopText]:
-        """The loops that the text shows by `for`, `while` and `do`."""
+        """The loops that the text shows by `for`, `while` and `do`, and by a `goto` that leads back."""
         found = [self._loop(it.start(), it[1]) for it in KEYWORD.finditer(self.code) if it[1] != "goto"]
-        return [loop for loop in found if loop is not None]
+        return [loop for loop in (*found, *self._loops_by_goto()) if loop is not None]
+
+    def _loops_by_goto(self) -> list[LoopText | None]:
+        """The loops from a label to a `goto` behind it, in one function."""
+        found: list[LoopText | None] = []
+        for back in GOTO.finditer(self.code):
+            last, start = self._number(back.start()), 0
+            depths = self.depths
+            ends = [number for number in range(1, last) if depths[number] == 0 < depths[number - 1]]
+            if ends:
+                start = self._starts[ends[-1]]
+            label = re.compile(rf"\b{back[1]}\s*:").search(self.code, start, back.start())
+            if label is not None:
+                found.append(LoopText(self._number(label.start()), last, False))
+        return found
 
     def _loop(self, at: int, keyword: str) -> LoopText | None:
         """The loop of a keyword; none for the `while` that ends a `do`, whose loop is found at its `do`."""
@@ -86,13 +121,38 @@ class CText:
             test = KEYWORD.match(self.code, self._space(end))
             if test is None or test[1] != "while":
                 return None
+            is_left = self._may_leave(self.code[at + len("do") : end])
             end = self._parens(self._space(test.end()))
-            return LoopText(self._number(at), self._number(end), True)
+            header = self._number(test.start()), self._number(end - 1)
+            return LoopText(self._number(at), self._number(end), True, header, is_left)
         if keyword == "while" and self._ends_do(at):
             return None
-        end = self._statement(self._parens(self._space(at + len(keyword))))
-        header = self.code[at : self._parens(self._space(at + len(keyword)))]
-        return LoopText(self._number(at), self._number(end), ENDLESS.fullmatch(header) is not None)
+        body = self._parens(self._space(at + len(keyword)))
+        end = self._statement(body)
+        is_endless = ENDLESS.fullmatch(self.code[at:body]) is not None
+        header = self._number(at), self._number(body - 1)
+        is_left = is_endless and self._is_left_before_its_end(body, end)
+        return LoopText(self._number(at), self._number(end), is_endless, header, is_left)
+
+    def _may_leave(self, text: str) -> bool:
+        """Whether statements may leave a loop, by themselves or by a macro. One in capitals that isn't known may."""
+        names = set(NAME.findall(text))
+        known = any(LEAVES.search(it) for name, it in self.macros.items() if name in names)
+        is_unknown = any(it[1] not in self.macros for it in AS_STATEMENT.finditer(text))
+        return known or is_unknown or LEAVES.search(text) is not None
+
+    def _is_left_before_its_end(self, start: int, end: int) -> bool:
+        """Whether a body may be left elsewhere than by an `if` that is its last statement."""
+        at, inner = self._space(start), end
+        if self.code[at : at + 1] == "{":
+            at, inner = at + 1, end - 1
+        last = at
+        while (at := self._space(at)) < inner:
+            last, at = at, max(self._statement(at), at + 1)
+        test = LAST_TEST.match(self.code, last)
+        then = self._parens(test.end() - 1) if test else last
+        is_at_end = test is not None and LEAVES_AT_ONCE.fullmatch(self.code[then:inner]) is not None
+        return self._may_leave(self.code[start : last if is_at_end else end])
 
     @cached_property
     def _tests_of_do(self) -> set[int]:

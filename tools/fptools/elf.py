@@ -181,8 +181,9 @@ class Program:
         )
 
     @cached_property
-    def _units(self) -> list[tuple[list[Inlined], list[Declared]]]:
-        """What the compiler put in place of calls, and the functions without code of their own, unit by unit."""
+    def _units(self) -> list[tuple[list[Inlined], list[Declared], list[str]]]:
+        """What the compiler put in place of calls, the functions without code of their own, and the names of all,
+        unit by unit."""
         if self.path is None:
             return []
         with self.path.open("rb") as file:
@@ -192,24 +193,45 @@ class Program:
             try:
                 dwarf = elf.get_dwarf_info()
                 units = list(dwarf.iter_CUs())
-                return [([*_inlined_of(dwarf, it)], [*_without_code_of(dwarf, it)]) for it in units]
+                return [
+                    ([*_inlined_of(dwarf, it)], [*_without_code_of(dwarf, it)], [*_functions_of(it)]) for it in units
+                ]
             except (ELFError, DWARFError, *FAULTS):
                 self.knows_functions = False  # a form of DWARF that isn't known: each address has its own line
                 return []
 
     @cached_property
     def _inlined(self) -> list[Inlined]:
-        return [it for inlined, _ in self._units for it in inlined]
+        return [it for inlined, _, _ in self._units for it in inlined]
 
     @property
     def without_code(self) -> list[Declared]:
         """The functions of the sources that have neither code of their own nor are inlined. Calls of them go elsewhere:
         the compiler has folded them with others of the same code."""
-        return [it for _, declared in self._units for it in declared]
+        return [it for _, declared, _ in self._units for it in declared]
+
+    @cached_property
+    def function_names(self) -> frozenset[str]:
+        """The names of its functions, of those that were inlined too."""
+        return frozenset(name for *_, names in self._units for name in names) | {name for _, name in self.symbols}
+
+    def rows_at(self, address: int) -> list[Line]:
+        """The lines that a line table gives an address: that of a mark without code is among them."""
+        return [line for at, line in self._lines if at == address and line is not None and line.number]
+
+    def is_shared(self, address: int) -> bool:
+        """Whether a word is of several functions, as a linker may fold those of the same code."""
+        return sum(piece[0][0] <= address < piece[-1][0] for piece in self._pieces) > 1
 
     @cached_property
     def _lines(self) -> list[Row]:
         """From which address on which line counts; None from the end of what was compiled together."""
+        # Where one unit ends another may begin: its line counts.
+        return sorted((row for piece in self._pieces for row in piece), key=lambda row: (row[0], row[1] is not None))
+
+    @cached_property
+    def _pieces(self) -> list[list[Row]]:
+        """The rows of what was compiled together, piece by piece."""
         if self.path is None:
             return []
         try:
@@ -222,10 +244,7 @@ class Program:
             # Version 0.29 of pyelftools has no form for the checksums of files that clang writes.
             text = "has line tables that pyelftools can't read; -gdwarf-4 gives others"
             raise ProgramError(f"{self.path} {text}") from fault
-        # Where one unit ends another may begin: its line counts.
-        return sorted(
-            (row for piece in linked(pieces) for row in piece), key=lambda row: (row[0], row[1] is not None)
-        )
+        return list(linked(pieces))
 
 
 def pieces_of(rows: Iterable[Row]) -> Iterator[list[Row]]:
@@ -275,6 +294,13 @@ def _without_code_of(dwarf: Any, unit: Any) -> Iterator[Declared]:
         if entry.tag == "DW_TAG_subprogram" and is_named and not has_code & known.keys():
             file = _file_of(table.header, known["DW_AT_decl_file"].value, base)
             yield Declared(known["DW_AT_name"].value.decode(), Line(file, known["DW_AT_decl_line"].value))
+
+
+def _functions_of(unit: Any) -> Iterator[str]:
+    """The names of the functions that a unit has or calls."""
+    for entry in unit.iter_DIEs():
+        if entry.tag == "DW_TAG_subprogram" and "DW_AT_name" in entry.attributes:
+            yield entry.attributes["DW_AT_name"].value.decode()
 
 
 def _inlined_of(dwarf: Any, unit: Any) -> Iterator[Inlined]:

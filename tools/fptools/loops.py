@@ -21,6 +21,10 @@ from fptools.words import Flow
 # A number alone: one that goes on, as in `4 * WIDTH` or `4..8`, states nothing.
 ROUNDS = re.compile(r"@rounds\b(?:\s+(\d{1,9})(?=\s*(?:\*/|$)|[,;:.)](?:\s+\D|\s*$)))?")
 COMMENT_LINE = re.compile(r"\s*(//|/\*|#)")
+ASSEMBLER_COMMENT = re.compile(r"/\*.*?(?:\*/|$)|(?://|#).*")
+ASM = re.compile(r"\b(?:asm|__asm|__asm__)\b")
+CALLED = re.compile(r"\b([A-Za-z_]\w*)\s*\(|(?:^|[;{}])\s*([A-Za-z_]\w*)\s*;")
+DECIDES = re.compile(r"\b(?:if|else|switch|case|default|for|while|do|goto|continue|break|return)\b|\?|&&|\|\|")
 MOST_BOUND = 1_048_576
 
 
@@ -125,7 +129,13 @@ class Comments:
             return f"{self._where(elsewhere)} may go back in another loop than that of `@rounds`"
         if self.sources.hides_loops(comment.file, comment.of_line) > self._words_of_one(comment):
             return "the line of `@rounds` has several loops: write each in a line of its own"
-        return self._folded(comment) or self._not_as_in_text(loop, comment)
+        return (
+            self._folded(comment)
+            or self._shared(loop)
+            or self._goes_back_elsewhere(loop, comment)
+            or self._not_as_in_text(loop, comment)
+            or self._may_be_around(loop, comment)
+        )
 
     def _folded(self, comment: Comment) -> str:
         """Which function may share the code of a loop, as one that was folded with it, and makes more rounds; empty where
@@ -143,9 +153,103 @@ class Comments:
             return "which functions share code isn't known by this form of DWARF: -gdwarf-4 gives another"
         return ""
 
-    def is_body_first(self, comment: Comment) -> bool:
+    def _shared(self, loop: Loop) -> str:
+        """Whether a loop has the lines of several functions, which a linker folded; empty where it hasn't."""
+        shared = next((pc for pc in loop.backs if self.program.is_shared(pc)), None)
+        if shared is None:
+            return ""
+        return f"the code at {shared:#x} is of several functions, which the linker folded: link without --icf"
+
+    def _goes_back_elsewhere(self, loop: Loop, comment: Comment) -> str:
+        """A branch that goes back in the loop's body by what may be a loop of its own, of an asm or of a macro that
+        isn't known; empty where there is none."""
         text = self._text_of(comment)
-        return text is not None and text.is_body_first
+        for pc in loop.backs if text is not None else ():
+            line = self.program.line_of(pc)
+            if text is None or line is None or line.file != comment.file or _is_header(line, text):
+                continue
+            code = self.sources.statement_at(line)
+            if ASM.search(code):
+                return f"{self._where(pc)} goes back in an asm, which may be a loop of its own"
+            names = {a or b for a, b in CALLED.findall(self.sources.code_at(line))}
+            macros = self.sources.macros_of(line.file)
+            for name in sorted(names - macros.keys()):
+                if not self._is_function(name) and not DECIDES.fullmatch(name):
+                    return f"{self._where(pc)} goes back, and {name} may be a macro with a loop: its text isn't found"
+            whole = " ".join([code, *(macros[it] for it in macros if re.search(rf"\b{it}\b", code))])
+            if self._word_flow(pc) is Flow.BRANCH and not DECIDES.search(whole):
+                return f"{self._where(pc)} goes back, and the line has no test: it may be a loop of its own"
+        return ""
+
+    def _word_flow(self, pc: int) -> Flow | None:
+        return self.section.reached[pc].flow if pc in self.section.reached else None
+
+    def _is_function(self, name: str) -> bool:
+        return name.startswith("__builtin_") or name == "sizeof" or name in self.program.function_names
+
+    def _may_be_around(self, loop: Loop, comment: Comment) -> str:
+        """A loop of the source around that of a comment, which has no head of its own: the inner one may be unrolled,
+        and the code be the outer one's. Empty where there is none."""
+        text, file = self._text_of(comment), comment.file
+        if text is None:
+            return ""
+        around = {(file, it) for it in self.sources.loops_across(file, text)}
+        for pc in loop.body:
+            for call in self.program.lines_of(pc)[1:]:
+                around |= {(call.file, it) for it in self.sources.loops_at(call.file, call.number)}
+        around -= {(file, text)}
+        others = [it for it in self.section.loops if it is not loop and _holds(it, loop.head)]
+        lines = {line for it in others for pc in it.backs for line in self.program.lines_of(pc)}
+        for at, it in sorted(around, key=lambda pair: (pair[0], pair[1].first)):
+            own = (line for line in lines if line.file == at)
+            has_head = any(self.sources.innermost(at, line.number) == it for line in own)
+            is_inside = loop.head != self.section.start and self._begins_in(at, it)
+            if not has_head and not is_inside:
+                where = f"the loop around, in {at.name}:{it.first}"
+                return f"{where}, has no head of its own in the code: this may be that loop"
+        return self._calls_itself(loop, comment, text)
+
+    def _begins_in(self, file: Path, text: LoopText) -> bool:
+        """Whether the section begins inside of a loop of the source, at a mark."""
+        lines = self.program.rows_at(self.section.start)
+        marks = [line for line in lines if "FP_MARK" in self.sources.text(line)] or lines[:1]
+        return bool(marks) and all(_is_in(line, file, text) for line in marks)
+
+    def _calls_itself(self, loop: Loop, comment: Comment, text: LoopText) -> str:
+        """That a function calls itself in a loop of the source, which may have become a jump; empty where it doesn't."""
+        function = self.program.function_at(loop.head)
+        name = function.name.split(".")[0] if function else ""
+        lines = (Line(comment.file, number) for number in range(text.first, text.last + 1))
+        calls = re.compile(rf"\b{re.escape(name)}\s*\(")
+        if name and any(calls.search(self.sources.code_at(line)) for line in lines):
+            helps = "-fno-optimize-sibling-calls"
+            return f"{name} calls itself in the loop with `@rounds`, which may be a jump: {helps}"
+        return ""
+
+    def is_body_first(self, loop: Loop, comment: Comment) -> bool:
+        """Whether the source has the body before the test. If it may leave the loop before the end of the body, a
+        round is begun after the last whole one, unless the code has what is behind that test first."""
+        text = self._text_of(comment)
+        if text is None or not text.is_body_first:
+            return False
+        return not text.is_left_inside or self._is_entered_behind_its_test(loop)
+
+    def _is_entered_behind_its_test(self, loop: Loop) -> bool:
+        """Whether a copy of the branch that leaves a loop stands right before it, and the head is of a line below."""
+        graph, reached = self.section.graph, self.section.reached
+        head, tests = self.program.line_of(loop.head), [self.program.line_of(pc) for pc in loop.exits]
+        if head is None or not all(it and it.file == head.file and it.number < head.number for it in tests):
+            return False
+        entries = set(graph.predecessors(loop.head)) - loop.body if loop.head in graph else set()
+        for pc in entries:
+            while reached[pc].flow is not Flow.BRANCH:
+                before = list(graph.predecessors(pc))
+                if len(before) != 1 or pc == self.section.start:
+                    return False
+                (pc,) = before
+            if self.program.line_of(pc) not in tests:
+                return False
+        return bool(entries) and loop.head != self.section.start
 
     def _text_of(self, comment: Comment) -> LoopText | None:
         """The loop of the source that a comment is for, if there is one alone."""
@@ -241,15 +345,29 @@ class Comments:
     def _of_line(self, line: Line) -> list[Comment]:
         above = self.sources.text_at(line.file, line.number - 1)
         texts = [(line.number, self.sources.text(line))]
-        if COMMENT_LINE.match(above):
+        if COMMENT_LINE.match(above) and not self._has_code(Line(line.file, line.number - 1)):
             texts.append((line.number - 1, above))
         found = ((number, ROUNDS.findall(text)) for number, text in texts)
         number, stated = next(((number, all_of) for number, all_of in found if all_of), (0, []))
         return [Comment(line.file, number, int(rounds) if rounds else None, line.number) for rounds in stated]
 
 
+    def _has_code(self, line: Line) -> bool:
+        """Whether a line has more than a comment."""
+        text = self.sources.code_at(line) if is_c(line.file) else ASSEMBLER_COMMENT.sub("", self.sources.text(line))
+        return bool(text.strip())
+
+
 def _is_in(line: Line, file: Path, text: LoopText) -> bool:
     return line.file == file and text.first <= line.number <= text.last
+
+
+def _is_header(line: Line, text: LoopText) -> bool:
+    return text.header[0] <= line.number <= text.header[1]
+
+
+def _holds(loop: Loop, pc: int) -> bool:
+    return pc in loop.body if loop.body else loop.head <= pc <= loop.last
 
 
 def _overlap(one: Loop, other: Loop) -> bool:
@@ -277,7 +395,7 @@ def state_loops(
         if any({*own} & {*comments[other]} for other in section.loops if _overlap(loop, other)):
             why = "a loop around or inside has the same `@rounds`"
         counted = rounds_in(section, loop, values, jumps, entries)
-        is_body_first = bool(own) and known.is_body_first(next(iter(own)))
+        is_body_first = bool(own) and known.is_body_first(loop, next(iter(own)))
         stated = frozenset(comment.rounds for comment in own)
         loops.append(StatedLoop(loop, stated, counted, why, is_body_first))
     return loops

@@ -18,6 +18,7 @@ class Sources:
         self._lines: dict[Path, list[str]] = {}
         self._c: dict[Path, CText] = {}
         self._hiding: dict[Path, frozenset[str]] = {}
+        self._macros: dict[Path, dict[str, str]] = {}
 
     def text(self, line: Line) -> str:
         """The text of a line; empty where its source isn't found, or has no such line."""
@@ -65,6 +66,19 @@ class Sources:
         around = [it for it in self._code(file).loops if it.first <= number <= it.last]
         return min(around, key=lambda it: (it.last - it.first, -it.first)) if around else None
 
+    def loops_at(self, file: Path, number: int) -> list[LoopText]:
+        """The loops of a C source around a line."""
+        return [it for it in self._code(file).loops if it.first <= number <= it.last]
+
+    def loops_across(self, file: Path, text: LoopText) -> list[LoopText]:
+        """The loops of a C source that share lines with one, but don't lie in it."""
+        shared = (it for it in self._code(file).loops if it.first <= text.last and text.first <= it.last)
+        return [it for it in shared if it.first < text.first or text.last < it.last]
+
+    def statement_at(self, line: Line) -> str:
+        """The text of the statements in a line of C, from their begin to their end."""
+        return self._code(line.file).statement_at(line.number)
+
     def loops_in(self, file: Path, text: LoopText) -> list[LoopText]:
         """The loops of a C source inside of one."""
         inside = (it for it in self._code(file).loops if text.first <= it.first and it.last <= text.last)
@@ -93,6 +107,12 @@ class Sources:
     def _macros_with_loops(self, file: Path) -> frozenset[str]:
         """The macros of a source, and of the sources beside it that it includes, with a loop in their text."""
         if file not in self._hiding:
+            self._hiding[file] = _with_loops(self.macros_of(file))
+        return self._hiding[file]
+
+    def macros_of(self, file: Path) -> dict[str, str]:
+        """The texts of the macros of a source, and of the sources beside it that it includes."""
+        if file not in self._macros:
             macros: dict[str, str] = {}
             ahead, seen = [file], {file}
             while ahead:
@@ -102,8 +122,8 @@ class Sources:
                 new = {folder / name for name in code.included} - seen
                 seen |= new
                 ahead += new
-            self._hiding[file] = _with_loops(macros)
-        return self._hiding[file]
+            self._macros[file] = macros
+        return self._macros[file]
 
     def _find(self, file: Path) -> Path | None:
         """In a folder the file with the most of the name's own folders, as `src/io/port.c` before `port.c`."""

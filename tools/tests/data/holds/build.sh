@@ -14,6 +14,16 @@ built() {
     compile "$@" -c -o "t0_$name.o" "$source"
     linked "$name" "t0_$name.o"
 }
+# laid NAME SOURCE OPTIONS..: the same with the blocks in the order of fp_layout, which leaves an asm with labels as it is.
+laid() {
+    local name=$1 source=$2
+    shift 2
+    compile "$@" -S -o "$name.compiled.s" "$source"
+    ../../../fp_layout "$name.compiled.s" -o "$name.laid.s" || [[ $? == 1 ]]
+    compile "$@" -c -o "t0_$name.o" "$name.laid.s"
+    rm "$name.compiled.s" "$name.laid.s"
+    linked "$name" "t0_$name.o"
+}
 # linked NAME OBJECT OPTIONS..: the executable of an object; one of C begins in start.s.
 linked() {
     local objects=("$2")
@@ -41,6 +51,15 @@ clang --target=riscv32-unknown-elf -march=rv32im -mabi=ilp32 -fdebug-compilation
 rm t0_noline.s
 linked noline t0_noline.o
 built marked marked.c -Os
+laid hidden hidden.c -O3 -fno-ipa-icf -I include
+# Functions of the same code, which the linker folds.
+clang --target=riscv32-unknown-elf -march=rv32im -mabi=ilp32 -O2 -gdwarf-4 -fdebug-compilation-dir=. -I "$c" -ffreestanding \
+    -ffunction-sections -S -o linked.compiled.s linked.c
+../../../fp_layout linked.compiled.s -o linked.laid.s
+clang --target=riscv32-unknown-elf -march=rv32im -mabi=ilp32 -fdebug-compilation-dir=. -c -o t0_linked.o linked.laid.s
+compile -c -o start.o start.s
+ld.lld --icf=all -n -e 0 -T "$c/flexpret.ld" -o linked.elf t0_linked.o start.o
+rm t0_linked.o start.o linked.compiled.s linked.laid.s
 built expires expires.c -Os
 built emulates emulates.s
 built crossing crossing.s

@@ -1,0 +1,5 @@
+/* A source of C by another suffix: two loops in one line, with one head. */
+SHAPE included(uint32_t n)
+{
+    for (uint32_t i = 0; i < (n & 3); i++) { while (tries++ & 31) { count += 5; } } /* @rounds 4 */
+}

@@ -1,0 +1,110 @@
+"""Loops whose `@rounds` seems to be of them, and is not: data/holds/hidden.c and linked.c. By it their bounds would be
+less than the longest execution of a run."""
+from __future__ import annotations
+
+from pathlib import Path
+
+import pytest
+from conftest import Tool
+from fptools.ctext import CText, LoopText, is_c
+from test_holds import SRC, Case, of
+
+
+@pytest.fixture
+def case(request: pytest.FixtureRequest, asking: Tool, flexpret: str, tmp_path: Path) -> Case:
+    return Case(asking, flexpret, tmp_path, request.param)
+
+
+def asked(case: Case, start: str, end: str) -> tuple[int, str]:
+    """The status of fp_budget for a section by names, and what it writes."""
+    case.set_up()
+    section = ("--from-label", start, "--to-label", end)
+    ran = case.asking("fp_budget", case.elf, "--setup", case.setup, "--thread", 0, *SRC, *section)
+    return ran.returncode, ran.stdout
+
+
+@of("hidden")
+@pytest.mark.parametrize(
+    ("name", "says"),
+    [
+        ("above", "(hidden.c:11): nothing bounds this loop (no `@rounds N` in the sources)"),
+        ("retried", "(hidden.c:27) states no rounds: two loops may have one head"),
+        ("retried_unrolled", "nothing bounds this loop (no `@rounds N` in the sources)"),
+        ("restarted", "the loop around, in hidden.c:42, has no head of its own in the code: this may be that loop"),
+        ("by_asm", "(hidden.c:50) goes back in an asm, which may be a loop of its own"),
+        ("by_macro", "WAIT_UNTIL_EVEN may be a macro with a loop: its text isn't found"),
+        ("unrolled", "the loop around, in hidden.c:62, has no head of its own in the code: this may be that loop"),
+        ("recursive", "recursive calls itself in the loop with `@rounds`, which may be a jump"),
+        ("included", "the line of `@rounds` has several loops: write each in a line of its own"),
+    ],
+)
+def test_a_comment_of_another_loop(case: Case, name: str, says: str) -> None:
+    status, text = asked(case, f"{name}_begin", f"{name}_end")
+    assert (status, says in text) == (2, True)
+    # What it would take with the rounds of the comment, by far.
+    assert case.longest(40_000, f"{name}_begin", f"{name}_end") > 250
+
+
+@of("hidden")
+def test_a_loop_that_is_left_in_its_middle_though_nothing_of_the_rest_is_left(case: Case) -> None:
+    """The code has the test at its end, since what the source has behind it has no effect."""
+    status, text = asked(case, "left_inside_begin", "left_inside_end")
+    assert (status, "goes back 15 times: the sources state 15 rounds" in text) == (0, True)
+    assert f": {case.longest(40_000, 'left_inside_begin', 'left_inside_end')} cycles" in text
+
+
+@of("linked")
+def test_functions_that_the_linker_folds_into_one(case: Case) -> None:
+    status, text = asked(case, "work_begin", "work_end")
+    assert (status, "is of several functions, which the linker folded: link without --icf" in text) == (2, True)
+    assert case.longest(40_000) > 300
+
+
+def test_a_macro_with_a_loop_that_is_found(tool: Tool, tmp_path: Path) -> None:
+    """The same as of one that isn't found: its loop has no head of its own."""
+    holds = Path(__file__).parent / "data/holds"
+    for name in ("hidden.c", "hidden.inl"):
+        (tmp_path / name).write_text((holds / name).read_text())
+    (tmp_path / "wait.h").write_text((holds / "include/wait.h").read_text())
+    ran = tool("fp_loops", holds / "hidden.elf", "--from", "by_macro", "--src", tmp_path)
+    assert "the loop in hidden.c:57 has no head of its own in the code" in ran.stdout
+
+
+def loops_of(text: str) -> list[LoopText]:
+    return CText(text).loops
+
+
+@pytest.mark.parametrize(
+    ("body", "is_left_inside"),
+    [
+        ("f(); if (x) break;", False),
+        ("f(); if (x) { g(); return 1; }", False),
+        ("f(); if (x) break; g();", True),
+        ("f(); if (x) break; else g();", True),
+        ("if (y) return; f(); if (x) break;", True),
+        ("f(); if (x) g();", False),
+        ("TRY(f); if (x) break;", True),
+    ],
+)
+def test_where_a_body_may_be_left(body: str, is_left_inside: bool) -> None:
+    (loop,) = loops_of(f"for (;;) {{ {body} }}\n")
+    assert (loop.is_body_first, loop.is_left_inside) == (True, is_left_inside)
+    (loop,) = loops_of(f"do {{ {body} }} while (y);\n")
+    assert (loop.is_body_first, loop.is_left_inside) == (True, is_left_inside or "break" in body or "return" in body)
+
+
+def test_a_macro_that_leaves_a_loop() -> None:
+    text = "#define END_IF(x) if (x) \\\n  break\n#define ADD(x) (s += (x))\n"
+    assert [it.is_left_inside for it in loops_of(text + "do { END_IF(a); s++; } while (b);\n")] == [True]
+    assert [it.is_left_inside for it in loops_of(text + "do { ADD(a); s++; } while (b);\n")] == [False]
+
+
+def test_loops_by_goto() -> None:
+    first = "void f(void) {\n  goto out;\nback:\n  x++;\n  if (x) goto back;\nout: ;\n}\n"
+    text = first + "void g(void) {\n  goto out;\nout: ;\n}\n"
+    assert [(it.first, it.last, it.is_body_first) for it in loops_of(text)] == [(3, 5, False)]
+
+
+@pytest.mark.parametrize(("name", "holds"), [("a.c", True), ("a.inl", True), ("a.def", True), ("a.S", False)])
+def test_what_is_no_assembler_is_c(name: str, holds: bool) -> None:
+    assert is_c(Path(name)) is holds
