@@ -15,6 +15,10 @@ DEFINE = re.compile(r"^[ \t]*#[ \t]*define[ \t]+(\w+)((?:\\\n|[^\n])*)", re.MULT
 INCLUDE = re.compile(r"^[ \t]*#[ \t]*include[ \t]*\"([^\"\n]+)\"", re.MULTILINE)
 NAME = re.compile(r"\b[A-Za-z_]\w*\b")
 ENDLESS = re.compile(r"(?:for\s*\(\s*;\s*;.*|while\s*\(\s*(?:1|true)\s*\).*)", re.DOTALL)
+# A block behind a name, or behind a name and what is in parentheses: of C itself behind the words of BLOCKS alone.
+BEFORE_BLOCK = re.compile(r"(?<=[;{})])\s*([A-Za-z_]\w*)\s*(?=[({])")
+BLOCKS = frozenset(("if", "else", "switch", "struct", "union", "enum", "for", "while", "do"))
+LINE = re.compile(r"^[ \t]*#[ \t]*(?:line[ \t]+)?\d+(?:[ \t]+\"([^\"\n]*)\")?", re.MULTILINE)
 GOTO = re.compile(r"\bgoto\s+([A-Za-z_]\w*)\s*;")
 # What ends a round before its end, and what a macro that isn't known may be: a word in capitals as a statement.
 LEAVES = re.compile(r"\b(?:break|return|goto)\b")
@@ -48,6 +52,10 @@ class CText:
         self.raw = text
         self.code = NO_CODE.sub(lambda found: re.sub(r"[^\n]", " ", found[0]), text)
         self.macros = {found[1]: found[2] for found in DEFINE.finditer(self.code)}
+        # Those that have a loop, and all that are known; with those of the sources that it includes, where these are known.
+        self.with_loops = frozenset(name for name, it in self.macros.items() if KEYWORD.search(it))
+        self.known = frozenset(self.macros)
+        self.renumbered = [found[1] for found in LINE.finditer(text)]
         self.included = INCLUDE.findall(text)
         # A definition of a macro is no code where it stands.
         self.code = DEFINE.sub(lambda found: re.sub(r"[^\n]", " ", found[0]), self.code)
@@ -98,7 +106,30 @@ class CText:
     def loops(self) -> list[LoopText]:
         """The loops that the text shows by `for`, `while` and `do`, and by a `goto` that leads back."""
         found = [self._loop(it.start(), it[1]) for it in KEYWORD.finditer(self.code) if it[1] != "goto"]
-        return [loop for loop in (*found, *self._loops_by_goto()) if loop is not None]
+        return [loop for loop in (*found, *self._loops_by_goto()) if loop is not None] + self._loops_by_macro()
+
+    def _loops_by_macro(self) -> list[LoopText]:
+        """The loops that a macro makes, of the statement behind it or by itself; and the blocks behind one that isn't known,
+        which may be one too."""
+        found = []
+        for name in NAME.finditer(self.code) if self.with_loops else ():
+            if name[0] in self.with_loops:
+                found.append(self._behind_macro(name.start(), name.end()))
+        for name in BEFORE_BLOCK.finditer(self.code):
+            end = self._space(name.end())
+            end = self._space(self._parens(end)) if self.code[end : end + 1] == "(" else end
+            is_block = self.code[end : end + 1] == "{" and self.depths[self._number(name.start(1)) - 1] > 0
+            if is_block and name[1] not in BLOCKS | self.known:
+                found.append(self._behind_macro(name.start(1), name.end(1)))
+        return found
+
+    def _behind_macro(self, at: int, end: int) -> LoopText:
+        """The loop of a macro: to the end of the statement behind it."""
+        if self.code[self._space(end) : self._space(end) + 1] == "(":
+            end = self._parens(self._space(end))
+        return LoopText(
+            self._number(at), self._number(self._statement(end)), False, (self._number(at), self._number(end - 1))
+        )
 
     def _loops_by_goto(self) -> list[LoopText | None]:
         """The loops from a label to a `goto` behind it, in one function."""

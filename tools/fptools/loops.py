@@ -131,6 +131,7 @@ class Comments:
             return "the line of `@rounds` has several loops: write each in a line of its own"
         return (
             self._folded(comment)
+            or self._renumbered(comment)
             or self._shared(loop)
             or self._goes_back_elsewhere(loop, comment)
             or self._not_as_in_text(loop, comment)
@@ -151,6 +152,13 @@ class Comments:
                     )
         if not self.program.knows_functions:
             return "which functions share code isn't known by this form of DWARF: -gdwarf-4 gives another"
+        return ""
+
+    def _renumbered(self, comment: Comment) -> str:
+        """That lines aren't those of the text, where a `#line` says so; empty where none does."""
+        files = {line.file for line in self.program.all_lines if is_c(line.file)}
+        if is_c(comment.file) and self.sources.is_renumbered(comment.file, files):
+            return f"by a `#line` the lines of {comment.file.name} aren't those of its text"
         return ""
 
     def _shared(self, loop: Loop) -> str:

@@ -42,9 +42,8 @@ class Sources:
 
     def loops_of_function(self, line: Line) -> list[LoopText]:
         """The loops of the function of a C source that begins in a line."""
-        code = self._code(line.file)
-        last = code.end_of_function(line.number)
-        return [it for it in code.loops if line.number <= it.first and it.last <= last]
+        last = self._code(line.file).end_of_function(line.number)
+        return [it for it in self._loops(line.file) if line.number <= it.first and it.last <= last]
 
     def missing(self, lines: Collection[Line]) -> str:
         """The name of a C source of some lines that isn't found; empty where all are."""
@@ -59,20 +58,20 @@ class Sources:
 
     def loops_from(self, file: Path, number: int) -> list[LoopText]:
         """The loops of a C source that begin or end in a line."""
-        return [it for it in self._code(file).loops if number in (it.first, it.last)]
+        return [it for it in self._loops(file) if number in (it.first, it.last)]
 
     def innermost(self, file: Path, number: int) -> LoopText | None:
         """The smallest loop of a C source around a line."""
-        around = [it for it in self._code(file).loops if it.first <= number <= it.last]
+        around = [it for it in self._loops(file) if it.first <= number <= it.last]
         return min(around, key=lambda it: (it.last - it.first, -it.first)) if around else None
 
     def loops_at(self, file: Path, number: int) -> list[LoopText]:
         """The loops of a C source around a line."""
-        return [it for it in self._code(file).loops if it.first <= number <= it.last]
+        return [it for it in self._loops(file) if it.first <= number <= it.last]
 
     def loops_across(self, file: Path, text: LoopText) -> list[LoopText]:
         """The loops of a C source that share lines with one, but don't lie in it."""
-        shared = (it for it in self._code(file).loops if it.first <= text.last and text.first <= it.last)
+        shared = (it for it in self._loops(file) if it.first <= text.last and text.first <= it.last)
         return [it for it in shared if it.first < text.first or text.last < it.last]
 
     def statement_at(self, line: Line) -> str:
@@ -81,7 +80,7 @@ class Sources:
 
     def loops_in(self, file: Path, text: LoopText) -> list[LoopText]:
         """The loops of a C source inside of one."""
-        inside = (it for it in self._code(file).loops if text.first <= it.first and it.last <= text.last)
+        inside = (it for it in self._loops(file) if text.first <= it.first and it.last <= text.last)
         return [it for it in inside if it != text]
 
     def hides_loops(self, file: Path, number: int) -> int:
@@ -103,6 +102,20 @@ class Sources:
         if file not in self._c:
             self._c[file] = CText(self._text(file) if is_c(file) else "")
         return self._c[file]
+
+    def _loops(self, file: Path) -> list[LoopText]:
+        """The loops of a C source, with those that macros of the sources that it includes make."""
+        code = self._code(file)
+        if file not in self._hiding:
+            code.with_loops, code.known = self._macros_with_loops(file), frozenset(self.macros_of(file))
+        return code.loops
+
+    def is_renumbered(self, file: Path, others: Collection[Path]) -> bool:
+        """Whether a `#line` of a C source, or of another one, gives it lines that aren't those of its text."""
+        names = {file: self._code(file).renumbered} | {it: self._code(it).renumbered for it in others}
+        return any(
+            Path(name).name == file.name if name else it == file for it, all_of in names.items() for name in all_of
+        )
 
     def _macros_with_loops(self, file: Path) -> frozenset[str]:
         """The macros of a source, and of the sources beside it that it includes, with a loop in their text."""

@@ -7,6 +7,7 @@ from pathlib import Path
 import pytest
 from conftest import Tool
 from fptools.ctext import CText, LoopText, is_c
+from test_comments import INNER, stated
 from test_holds import SRC, Case, of
 
 
@@ -61,13 +62,13 @@ def test_functions_that_the_linker_folds_into_one(case: Case) -> None:
 
 
 def test_a_macro_with_a_loop_that_is_found(tool: Tool, tmp_path: Path) -> None:
-    """The same as of one that isn't found: its loop has no head of its own."""
+    """Then it is known that the line of its branch is of another loop."""
     holds = Path(__file__).parent / "data/holds"
     for name in ("hidden.c", "hidden.inl"):
         (tmp_path / name).write_text((holds / name).read_text())
     (tmp_path / "wait.h").write_text((holds / "include/wait.h").read_text())
     ran = tool("fp_loops", holds / "hidden.elf", "--from", "by_macro", "--src", tmp_path)
-    assert "the loop in hidden.c:57 has no head of its own in the code" in ran.stdout
+    assert "(hidden.c:57) states no rounds: two loops may have one head" in ran.stdout
 
 
 def loops_of(text: str) -> list[LoopText]:
@@ -108,3 +109,30 @@ def test_loops_by_goto() -> None:
 @pytest.mark.parametrize(("name", "holds"), [("a.c", True), ("a.inl", True), ("a.def", True), ("a.S", False)])
 def test_what_is_no_assembler_is_c(name: str, holds: bool) -> None:
     assert is_c(Path(name)) is holds
+
+
+@pytest.mark.parametrize("first", ["#define EVER for (;;)\n", "#define EVER while (1)\n", "\n"])
+def test_a_loop_around_that_a_macro_makes(tmp_path: Path, first: str) -> None:
+    """Also where the macro's text isn't found. The inner loop may be unrolled, and the code be the outer one's."""
+    text = f"{first}void f(void) {{\n  EVER {{\n    for (rows) /* @rounds 4 */\n      work();\n  }}\n}}\n"
+    (it,) = stated(tmp_path, text, {0x8: 4, 0x10: 4}, INNER)
+    says = "the loop around, in code.c:3, has no head of its own in the code: this may be that loop"
+    assert (it.bound, it.doubt) == (None, says)
+
+
+def test_a_block_behind_a_macro_without_a_loop(tmp_path: Path) -> None:
+    text = "#define IF_ON if (on)\nvoid f(void) {\n  IF_ON {\n    for (rows) /* @rounds 4 */\n      work();\n  }\n}\n"
+    (it,) = stated(tmp_path, text, {0x8: 4, 0x10: 4}, INNER)
+    assert (it.bound, it.doubt) == (4, "")
+
+
+@pytest.mark.parametrize("first", ["#line 2", '# 2 "code.c"', '#line 2 "./code.c"'])
+def test_lines_that_are_not_those_of_the_text(tmp_path: Path, first: str) -> None:
+    (it,) = stated(tmp_path, f"{first}\nfor (rows) /* @rounds 4 */\n  work();\n", {0x8: 2, 0x10: 2}, INNER)
+    assert (it.bound, it.doubt) == (None, "by a `#line` the lines of code.c aren't those of its text")
+
+
+def test_lines_of_another_file_by_a_line_directive(tmp_path: Path) -> None:
+    text = '#line 2 "other.y"\nfor (rows) /* @rounds 4 */\n  work();\n'
+    (it,) = stated(tmp_path, text, {0x8: 2, 0x10: 2}, INNER)
+    assert (it.bound, it.doubt) == (4, "")
