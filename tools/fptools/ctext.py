@@ -45,6 +45,17 @@ def is_c(file: Path) -> bool:
     return file.suffix not in ASSEMBLER
 
 
+def behind_header(line: str) -> str:
+    """What a line of C has behind the header of its first loop; nothing where the header goes on in the next line."""
+    keyword = re.search(r"\b(?:for|while)\s*\(", line)
+    depth = 0
+    for at in range(keyword.end() - 1 if keyword else len(line), len(line)):
+        depth += (line[at] == "(") - (line[at] == ")")
+        if depth == 0:
+            return line[at + 1 :]
+    return ""
+
+
 class CText:
     """A C source without comments and texts, as many lines as before."""
 
@@ -52,7 +63,7 @@ class CText:
         self.raw = text
         self.code = NO_CODE.sub(lambda found: re.sub(r"[^\n]", " ", found[0]), text)
         self.macros = {found[1]: found[2] for found in DEFINE.finditer(self.code)}
-        # Those that have a loop, and all that are known; with those of the sources that it includes, where these are known.
+        # Those that have a loop, and all that are known; with those of the sources that it includes.
         self.with_loops = frozenset(name for name, it in self.macros.items() if KEYWORD.search(it))
         self.known = frozenset(self.macros)
         self.renumbered = [found[1] for found in LINE.finditer(text)]
@@ -109,8 +120,8 @@ class CText:
         return [loop for loop in (*found, *self._loops_by_goto()) if loop is not None] + self._loops_by_macro()
 
     def _loops_by_macro(self) -> list[LoopText]:
-        """The loops that a macro makes, of the statement behind it or by itself; and the blocks behind one that isn't known,
-        which may be one too."""
+        """The loops that a macro makes, of the statement behind it or by itself; and the blocks behind one that isn't
+        known, which may be one too."""
         found = []
         for name in NAME.finditer(self.code) if self.with_loops else ():
             if name[0] in self.with_loops:

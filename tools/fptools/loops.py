@@ -10,7 +10,7 @@ from dataclasses import dataclass
 from pathlib import Path
 from typing import Collection, Iterator, Mapping
 
-from fptools.ctext import LoopText, is_c
+from fptools.ctext import LoopText, behind_header, is_c
 from fptools.elf import Line, Program
 from fptools.rounds import rounds_in
 from fptools.section import Loop, Section
@@ -174,16 +174,20 @@ class Comments:
         text = self._text_of(comment)
         for pc in loop.backs if text is not None else ():
             line = self.program.line_of(pc)
-            if text is None or line is None or line.file != comment.file or _is_header(line, text):
+            if text is None or line is None or line.file != comment.file:
                 continue
-            code = self.sources.statement_at(line)
+            is_header, code, own = _is_header(line, text), self.sources.statement_at(line), self.sources.code_at(line)
+            if is_header:
+                code = own = behind_header(own)
             if ASM.search(code):
                 return f"{self._where(pc)} goes back in an asm, which may be a loop of its own"
-            names = {a or b for a, b in CALLED.findall(self.sources.code_at(line))}
+            names = {a or b for a, b in CALLED.findall(own)}
             macros = self.sources.macros_of(line.file)
             for name in sorted(names - macros.keys()):
                 if not self._is_function(name) and not DECIDES.fullmatch(name):
                     return f"{self._where(pc)} goes back, and {name} may be a macro with a loop: its text isn't found"
+            if is_header:
+                continue
             whole = " ".join([code, *(macros[it] for it in macros if re.search(rf"\b{it}\b", code))])
             if self._word_flow(pc) is Flow.BRANCH and not DECIDES.search(whole):
                 return f"{self._where(pc)} goes back, and the line has no test: it may be a loop of its own"
@@ -193,7 +197,8 @@ class Comments:
         return self.section.reached[pc].flow if pc in self.section.reached else None
 
     def _is_function(self, name: str) -> bool:
-        return name.startswith("__builtin_") or name == "sizeof" or name in self.program.function_names
+        names = self.program.function_names
+        return name.startswith("__builtin_") or name == "sizeof" or name in names or not names and not name.isupper()
 
     def _may_be_around(self, loop: Loop, comment: Comment) -> str:
         """A loop of the source around that of a comment, which has no head of its own: the inner one may be unrolled,
@@ -224,7 +229,7 @@ class Comments:
         return bool(marks) and all(_is_in(line, file, text) for line in marks)
 
     def _calls_itself(self, loop: Loop, comment: Comment, text: LoopText) -> str:
-        """That a function calls itself in a loop of the source, which may have become a jump; empty where it doesn't."""
+        """That a function calls itself in a loop of the source, maybe by a jump; empty where it doesn't."""
         function = self.program.function_at(loop.head)
         name = function.name.split(".")[0] if function else ""
         lines = (Line(comment.file, number) for number in range(text.first, text.last + 1))

@@ -136,3 +136,16 @@ def test_lines_of_another_file_by_a_line_directive(tmp_path: Path) -> None:
     text = '#line 2 "other.y"\nfor (rows) /* @rounds 4 */\n  work();\n'
     (it,) = stated(tmp_path, text, {0x8: 2, 0x10: 2}, INNER)
     assert (it.bound, it.doubt) == (4, "")
+
+
+@pytest.mark.parametrize(
+    ("body", "says"),
+    [
+        ("SPIN();", "that at 0x10 (code.c:1) goes back, and SPIN may be a macro with a loop: its text isn't found"),
+        ('asm("1: bnez a0, 1b");', "that at 0x10 (code.c:1) goes back in an asm, which may be a loop of its own"),
+        ("work();", ""),
+    ],
+)
+def test_a_body_in_the_line_of_the_header(tmp_path: Path, body: str, says: str) -> None:
+    (it,) = stated(tmp_path, f"for (i = f(x); i < n; i++) {body} /* @rounds 4 */\n", {0x8: 1, 0x10: 1}, INNER)
+    assert (it.bound, it.doubt) == (None if says else 4, says)
