@@ -14,6 +14,7 @@ KEYWORD = re.compile(r"\b(for|while|do|goto)\b")
 DEFINE = re.compile(r"^[ \t]*#[ \t]*define[ \t]+(\w+)((?:\\\n|[^\n])*)", re.MULTILINE)
 INCLUDE = re.compile(r"^[ \t]*#[ \t]*include[ \t]*\"([^\"\n]+)\"", re.MULTILINE)
 NAME = re.compile(r"\b[A-Za-z_]\w*\b")
+NO_TEST = re.compile(r"for\s*\([^;]*;\s*(?:\d+\s*)?;.*|while\s*\(\s*(?:\d+|true)\s*\).*", re.DOTALL)
 ENDLESS = re.compile(r"(?:for\s*\(\s*;\s*;.*|while\s*\(\s*(?:1|true)\s*\).*)", re.DOTALL)
 # A block behind a name, or behind a name and what is in parentheses: of C itself behind the words of BLOCKS alone.
 BEFORE_BLOCK = re.compile(r"(?<=[;{})])\s*([A-Za-z_]\w*)\s*(?=[({])")
@@ -38,6 +39,8 @@ class LoopText:
     header: tuple[int, int] = (0, 0)
     # Whether the text has the body before the test, but may leave it before its end.
     is_left_inside: bool = False
+    # Whether the header has a test, which is no number.
+    has_test: bool = False
 
 
 def is_c(file: Path) -> bool:
@@ -166,7 +169,8 @@ class CText:
             is_left = self._may_leave(self.code[at + len("do") : end])
             end = self._parens(self._space(test.end()))
             header = self._number(test.start()), self._number(end - 1)
-            return LoopText(self._number(at), self._number(end), True, header, is_left)
+            has_test = NO_TEST.fullmatch(self.code[test.start() : end]) is None
+            return LoopText(self._number(at), self._number(end), True, header, is_left, has_test)
         if keyword == "while" and self._ends_do(at):
             return None
         body = self._parens(self._space(at + len(keyword)))
@@ -174,7 +178,8 @@ class CText:
         is_endless = ENDLESS.fullmatch(self.code[at:body]) is not None
         header = self._number(at), self._number(body - 1)
         is_left = is_endless and self._is_left_before_its_end(body, end)
-        return LoopText(self._number(at), self._number(end), is_endless, header, is_left)
+        has_test = NO_TEST.fullmatch(self.code[at:body]) is None
+        return LoopText(self._number(at), self._number(end), is_endless, header, is_left, has_test)
 
     def _may_leave(self, text: str) -> bool:
         """Whether statements may leave a loop, by themselves or by a macro. One in capitals that isn't known may."""

@@ -136,6 +136,7 @@ class Comments:
             or self._goes_back_elsewhere(loop, comment)
             or self._not_as_in_text(loop, comment)
             or self._may_be_around(loop, comment)
+            or self._without_test(loop, comment)
         )
 
     def _folded(self, comment: Comment) -> str:
@@ -221,6 +222,19 @@ class Comments:
                 where = f"the loop around, in {at.name}:{it.first}"
                 return f"{where}, has no head of its own in the code: this may be that loop"
         return self._calls_itself(loop, comment, text)
+
+    def _without_test(self, loop: Loop, comment: Comment) -> str:
+        """That no test of the header of a loop in C leaves the code's loop: the one with the comment may be unrolled, and
+        the code be of another around it, which the text needn't show. Empty where one does."""
+        text = self._text_of(comment)
+        if text is None or not text.has_test or not loop.body:
+            return ""
+        tests = (pc for pc in loop.exits if self._word_flow(pc) is Flow.BRANCH)
+        lines = (line for pc in tests for line in self.program.lines_of(pc))
+        if any(line.file == comment.file and _is_header(line, text) for line in lines):
+            return ""
+        where = f"{comment.file.name}:{text.header[0]}"
+        return f"the test of the loop in {where} doesn't leave this loop: it may be unrolled, and this be a loop around it"
 
     def _begins_in(self, file: Path, text: LoopText) -> bool:
         """Whether the section begins inside of a loop of the source, at a mark."""

@@ -61,6 +61,28 @@ def test_functions_that_the_linker_folds_into_one(case: Case) -> None:
     assert case.longest(40_000) > 300
 
 
+@of("around")
+@pytest.mark.parametrize(
+    "name",
+    [
+        "redefined",
+        "digraph",
+        "halves",
+        "conditional",
+        "computed",
+        "mutual",
+        "unknown_macro",
+        "unknown_begin",
+        "marked",
+    ],
+)
+def test_an_unrolled_loop_in_another_that_the_text_does_not_show(case: Case, name: str) -> None:
+    """Its rounds aren't those of the loop in the code, which its test doesn't leave."""
+    status, text = asked(case, f"{name}_begin", f"{name}_end")
+    assert (status, "doesn't leave this loop: it may be unrolled, and this be a loop around it" in text) == (2, True)
+    assert case.longest(40_000, f"{name}_begin", f"{name}_end") > 250
+
+
 def test_a_macro_with_a_loop_that_is_found(tool: Tool, tmp_path: Path) -> None:
     """Then it is known that the line of its branch is of another loop."""
     holds = Path(__file__).parent / "data/holds"
