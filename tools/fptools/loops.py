@@ -231,10 +231,21 @@ class Comments:
             return ""
         tests = (pc for pc in loop.exits if self._word_flow(pc) is Flow.BRANCH)
         lines = (line for pc in tests for line in self.program.lines_of(pc))
-        if any(line.file == comment.file and _is_header(line, text) for line in lines):
+        if any(line.file == comment.file and self._is_in_header(line, text) for line in lines):
             return ""
         where = f"{comment.file.name}:{text.header[0]}"
-        return f"the test of the loop in {where} doesn't leave this loop: it may be unrolled, and this be a loop around it"
+        why = "it may be unrolled, and this be a loop around it"
+        return f"the test of the loop in {where} doesn't leave this loop: {why}"
+
+    def _is_in_header(self, line: Line, text: LoopText) -> bool:
+        """Whether a line is of a loop's header; by its column, where that line has statements of the body too."""
+        if not _is_header(line, text):
+            return False
+        code = self.sources.code_at(line)
+        if text.first == text.last and re.search(r"\bdo\b", code):
+            return line.column > code.rfind("while")
+        behind = behind_header(code)
+        return not behind.strip(" \t\r\n;{") or 0 < line.column <= len(code) - len(behind)
 
     def _begins_in(self, file: Path, text: LoopText) -> bool:
         """Whether the section begins inside of a loop of the source, at a mark."""

@@ -73,6 +73,8 @@ def test_functions_that_the_linker_folds_into_one(case: Case) -> None:
         "mutual",
         "unknown_macro",
         "unknown_begin",
+        "one_line",
+        "one_line_do",
         "marked",
     ],
 )
