@@ -77,6 +77,8 @@ Row = tuple[int, Line | None]
 class Program:
     """A static ELF32 executable; without a file, one that has no words, symbols and lines."""
 
+    names_need = "an executable: give --elf FILE"  # what to do where names are asked for and there is no file
+
     def __init__(self, path: Path | None = None) -> None:
         self.path = path
         self.words: dict[int, int] = {}
@@ -121,6 +123,11 @@ class Program:
                 self.functions.append(Function(at, at + size, symbol.name))
 
     @property
+    def has_functions(self) -> bool:
+        """Whether it is of a file that may have functions."""
+        return self.path is not None
+
+    @property
     def is_compiled(self) -> bool:
         """Whether a part of it may be compiled: the names of its files aren't all of assembler, or it has none."""
         return not self._files or any(not name.endswith((".o", *ASSEMBLER)) for name in self._files)
@@ -150,8 +157,10 @@ class Program:
         if not parts["name"]:
             return number
         named = sorted({at for at, name in self.symbols if name == parts["name"]})
+        if not named and self.path is None:
+            raise ProgramError(f"{parts['name']} is a name, and names need {self.names_need}")
         if not named:
-            raise ProgramError(f"{parts['name']} is no symbol of code in {self.path or 'no executable'}")
+            raise ProgramError(f"{parts['name']} is no symbol of code in {self.path}")
         if len(named) > 1:
             raise ProgramError(f"{parts['name']} is at {' and '.join(map(hex, named))}: give the number")
         return named[0] + number
@@ -159,6 +168,15 @@ class Program:
     def function_at(self, address: int) -> Function | None:
         """The function in which an address lies."""
         return next((it for it in self.functions if it.start <= address < it.end), None)
+
+    def function(self, text: str) -> Function:
+        """The function in which an address lies that is told as `address` reads it."""
+        if not self.has_functions:
+            raise ProgramError(f"{text}: functions need an executable: give --elf FILE")
+        found = self.function_at(self.address(text))
+        if found is None:
+            raise ProgramError(f"{text} is in no function of {self.path}")
+        return found
 
     def line_of(self, address: int) -> Line | None:
         """The source line that an address was compiled from, where the executable has such lines (-g)."""

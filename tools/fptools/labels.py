@@ -32,6 +32,10 @@ class Mapped(Program):
             self.symbols += [(at, name) for name in parts["labels"].split()]
         self.symbols.sort()
 
+    @property
+    def has_functions(self) -> bool:
+        return False
+
     @cached_property
     def _lines(self) -> list[Row]:
         return sorted(self._rows, key=lambda row: row[0])
@@ -41,7 +45,9 @@ def named_by(elf: Path | None, labels: Path | None) -> Program:
     """The names of an executable or of a map; none of either without both."""
     if elf and labels:
         raise ProgramError("--elf and --map: names are of one of them")
-    return Mapped(labels) if labels else Program(elf)
+    program = Mapped(labels) if labels else Program(elf)
+    program.names_need = "an executable or a map: give --elf FILE or --map FILE"
+    return program
 
 
 def names_at(program: Program) -> dict[int, str]:

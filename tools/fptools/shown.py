@@ -10,18 +10,11 @@ from typing import Iterator, Mapping, Sequence
 
 from fptools.trace_blocks import CYCLE, EFFECT, PC, PLACE, Block, class_of, span, trap_character
 from fptools.disassembly import Disassembler
-from fptools.elf import CODE_END, Function, Program, ProgramError
+from fptools.elf import CODE_END, Program
 from fptools.sources import Sources
 from fptools.trace import CAUSES, Event, event_of
 from fptools.visits import JudgedWait
 from fptools.words import Word
-
-
-def _function(program: Program, text: str) -> Function:
-    function = program.function_at(program.address(text))
-    if function is None:
-        raise ProgramError(f"{text} is in no function of {program.path or 'no executable'}")
-    return function
 
 
 @dataclass(frozen=True)
@@ -42,7 +35,7 @@ class Filter:
     def __init__(self, asked: Wanted, program: Program) -> None:
         pcs = {program.address(text) for text in asked.pcs}
         self._far = {pc for pc in pcs if pc >= CODE_END}
-        functions = [_function(program, text) for text in asked.functions]
+        functions = [program.function(text) for text in asked.functions]
         near = sorted(pc for pc in pcs if pc < CODE_END)
         spans = "".join(span(it.start, it.end) + _trap_span(it.start, it.end) for it in functions)
         classes = class_of(*near) + "".join(f"\\u{ord(trap_character(pc)):04x}" for pc in near) + spans

@@ -234,6 +234,12 @@ def test_a_name_that_is_no_symbol(asking: Tool, tmp_path: Path) -> None:
     assert (status, lines) == (2, ["UNKNOWN  T0 it: step is no symbol of code in examples/c/pid.elf"])
 
 
+def test_a_name_without_an_executable(asking: Tool, tmp_path: Path) -> None:
+    _, lines = judged(asking, tmp_path, PID[:1], section('"step_begin"', '"step_end"'))
+    told = "step_begin is a name, and names need an executable: give --elf FILE"
+    assert lines == [f"UNKNOWN  T0 it: {told}"]
+
+
 def test_unknown_counts_before_over(asking: Tool, tmp_path: Path) -> None:
     status, lines = judged(
         asking, tmp_path, PID, f"{STEP}cycles = 1", section("0x700", "0x704"), f"{STEP}cycles = 352"

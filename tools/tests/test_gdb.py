@@ -349,6 +349,12 @@ def test_monitor(pid: Client) -> None:
     assert cycle_of(pid) == 300
 
 
+def test_names_without_an_executable(flexpret: str) -> None:
+    with Client(flexpret, "examples/drive.toml") as plain:
+        told = "main is a name, and names need an executable: start fp_gdb with --elf FILE"
+        assert plain.monitor("bound main 4") == f"monitor bound: {told}\n"
+
+
 @pytest.mark.parametrize("cycle", [0, 1, 57, 460, 1000])
 def test_the_pipeline_is_that_of_a_dump(flexpret: str, pid: Client, cycle: int) -> None:
     pid.go_to(cycle)

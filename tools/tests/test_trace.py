@@ -15,6 +15,7 @@ from modelled import make
 
 PID = ("--setup", "examples/c/pid.toml", "--elf", "examples/c/pid.elf")
 LOOPS = "tools/tests/data/loops.elf"
+NAMES = "an executable or a map: give --elf FILE or --map FILE"
 
 
 def shown(tool: Tool, *words: str, given: str = "") -> list[str]:
@@ -87,11 +88,11 @@ def test_source_lines(tool: Tool) -> None:
 @pytest.mark.parametrize(
     ("words", "given", "error"),
     [
-        (("--pc", "main0"), "", "main0 is no symbol of code in no executable"),
+        (("--pc", "main0"), "", f"main0 is a name, and names need {NAMES}"),
         (("--elf", LOOPS, "--pc", "main0+"), "", "main0+ is no address: a number, NAME or NAME+NUMBER"),
         (("--elf", "README.md"), "", "README.md is no ELF file: Magic number does not match"),
         (("--elf", LOOPS, "--function", "0x4000"), "", f"0x4000 is in no function of {LOOPS}"),
-        (("--function", "8"), "", "8 is in no function of no executable"),
+        (("--function", "8"), "", "8: functions need an executable: give --elf FILE"),
         (("--store", "x"), "", "invalid literal for int() with base 0: 'x'"),
         (("none.trace",), "", "[Errno 2] No such file or directory: 'none.trace'"),
     ],

@@ -459,6 +459,7 @@ MARK_FORM = (
     "a mark is ADDRESS, a section A:B or A:B=CYCLES with its deadline,"
     " or every=NS or every=NS+START, in nanoseconds"
 )
+NAMES = "an executable or a map: give --elf FILE or --map FILE"
 HELP = "; --help has the options"
 DRIVE = ("examples/drive.toml", "--from", "0", "--to", "5")
 AROUND = ("examples/drive.toml", "--around")
@@ -475,7 +476,7 @@ AROUND = ("examples/drive.toml", "--around")
         ((*AROUND, "trap,nth=0"), "trap,nth=0: 0 is no number from 1 to 4294967295"),
         ((*AROUND, "trap,thread=8"), "trap,thread=8: 8 is no number from 0 to 7"),
         ((*AROUND, "trap=9"), "trap=9: the causes are 0, 1, 2, 3, 4, 5, 6, 7, 11, 24"),
-        ((*AROUND, "pc=main"), "pc=main: main is no symbol of code in no executable"),
+        ((*AROUND, "pc=main"), f"pc=main: main is a name, and names need {NAMES}"),
         ((*AROUND, "store=0x100000000"), "store=0x100000000: 0x100000000 is above 0xffffffff"),
         (
             (*AROUND, "pc=0", "--before", "0", "--after", "0"),

@@ -346,8 +346,16 @@ def test_functions_of_an_executable(tool: Tool, tmp_path: Path) -> None:
         (("none.trace",), "[Errno 2] No such file or directory: 'none.trace'"),
         (("--section", "0x10"), "--section 0x10: a section is A:B or NAME=A:B"),
         (("--section", "0x10:0x8"), "--section 0x10:0x8: its end 0x8 isn't above its begin 0x10"),
-        (("--section", "main:0x8"), "main is no symbol of code in no executable"),
-        (("--function", "8"), "--function 8: no function of no executable is there"),
+        (
+            ("--section", "main:0x8"),
+            "main is a name, and names need an executable or a map: give --elf FILE or --map FILE",
+        ),
+        (("--function", "8"), "8: functions need an executable: give --elf FILE"),
+        (("--function", "main"), "main: functions need an executable: give --elf FILE"),
+        (
+            ("--elf", "tools/tests/data/loops.elf", "--function", "0x4000"),
+            "0x4000 is in no function of tools/tests/data/loops.elf",
+        ),
         (("--setup", "none.toml"), "[Errno 2] No such file or directory: 'none.toml'"),
         (("--setup", "examples/c/pid.toml"), "--thread is needed: the setup has more than one"),
         (("--elf", "README.md"), "README.md is no ELF file: Magic number does not match"),
