@@ -15,6 +15,7 @@ from modelled import make
 
 PID = ("--setup", "examples/c/pid.toml", "--elf", "examples/c/pid.elf")
 LOOPS = "tools/tests/data/loops.elf"
+NUMBER = "give a number from 0 to 0xffffffff, as 0x40000000"
 NAMES = "an executable or a map: give --elf FILE or --map FILE"
 
 
@@ -93,7 +94,9 @@ def test_source_lines(tool: Tool) -> None:
         (("--elf", "README.md"), "", "README.md is no ELF file: Magic number does not match"),
         (("--elf", LOOPS, "--function", "0x4000"), "", f"0x4000 is in no function of {LOOPS}"),
         (("--function", "8"), "", "8: functions need an executable: give --elf FILE"),
-        (("--store", "x"), "", "invalid literal for int() with base 0: 'x'"),
+        (("--store", "x"), "", f"--store x: {NUMBER}"),
+        (("--store", "0x100000000"), "", f"--store 0x100000000: {NUMBER}"),
+        (("--store=-4",), "", f"--store -4: {NUMBER}"),
         (("none.trace",), "", "[Errno 2] No such file or directory: 'none.trace'"),
     ],
 )
