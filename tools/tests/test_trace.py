@@ -116,6 +116,12 @@ def test_a_setup_that_is_refused_gives_no_period(tool: Tool, tmp_path: Path) -> 
     )
 
 
+def test_one_form_at_a_time(tool: Tool) -> None:
+    ran = tool("fp_trace", "examples/c/pid.trace", "--json", "--csv")
+    assert (ran.returncode, ran.stdout) == (2, "")
+    assert ran.stderr.endswith("error: argument --csv: not allowed with argument --json\n")
+
+
 @pytest.mark.parametrize("period", ["0", "-5", "1001"])
 def test_a_period_that_no_setup_has(tool: Tool, period: str) -> None:
     assert tool("fp_trace", "examples/c/pid.trace", f"--period={period}").returncode == 2
