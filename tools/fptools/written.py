@@ -6,18 +6,31 @@ import tempfile
 from pathlib import Path
 
 
+class NotWritten(OSError):
+    """A file can't be written. The text says which one, and why."""
+
+    def __str__(self) -> str:
+        return f"{self.filename} can't be written: {self.strerror}"
+
+
 def write_whole(name: str | Path, data: bytes) -> None:
     """Writes a file. Where that fails, what was there stays. A link leads to it as before.
 
-    A pipe or a device gets the bytes as they are."""
-    path = Path(os.path.realpath(name))
+    A pipe or a device gets the bytes as they are. What fails is `NotWritten`, or a pipe that nobody reads."""
+    try:
+        _write(Path(os.path.realpath(name)), data)
+    except BrokenPipeError:
+        raise
+    except OSError as fault:
+        raise NotWritten(fault.errno, fault.strerror, str(name)) from None
+
+
+def _write(path: Path, data: bytes) -> None:
+    """Writes a file by its own name."""
     if path.exists() and not path.is_file():
         path.write_bytes(data)
         return
-    try:
-        handle, new = tempfile.mkstemp(dir=path.parent, prefix=f".{path.name}.")
-    except OSError as fault:
-        raise OSError(fault.errno, fault.strerror, str(name)) from None
+    handle, new = tempfile.mkstemp(dir=path.parent, prefix=f".{path.name}.")
     try:
         with os.fdopen(handle, "wb") as file:
             file.write(data)

@@ -261,6 +261,14 @@ def test_results_that_cannot_be_written_are_unknown(asking: Tool, tmp_path: Path
     assert "Traceback" not in ran.stderr
 
 
+@pytest.mark.parametrize("name", ["none/x.xml", "."])
+def test_a_junit_file_that_cannot_be_written(asking: Tool, tmp_path: Path, name: str) -> None:
+    out = tmp_path / name
+    status, lines = judged(asking, tmp_path, (*PID, "--junit", str(out)), f"{STEP}cycles = 352")
+    assert (status, len(lines)) == (2, 1)
+    assert lines[0].startswith(f"fp_budget: {out} can't be written: ")
+
+
 def test_a_name_that_standard_output_cannot_take(asking: Tool, tmp_path: Path) -> None:
     asking.environment["PYTHONIOENCODING"] = "ascii"
     table = STEP.replace('"step"', '"étape"') + "cycles = 352"

@@ -151,7 +151,7 @@ def test_an_output_that_can_not_be_written(output: str, tool: Tool, tmp_path: Pa
     listed = tmp_path / "a.csv"
     listed.write_text("cycle,word\n0,1\n")
     ran = tool("fp_inputs", SETUP, listed, "--thread", 0, "-o", output)
-    assert ran.returncode == 2 and ran.stderr.startswith("fp_inputs: [Errno")
+    assert ran.returncode == 2 and ran.stderr.startswith(f"fp_inputs: {output} can't be written: ")
     assert ran.stderr.count("\n") == 1
 
 

@@ -302,7 +302,7 @@ def test_wrong_arguments_are_named(tool: Tool, tmp_path: Path, words: tuple[str,
 def test_an_output_that_can_not_take_the_page(reporting: Tool) -> None:
     ran = reporting("fp_report", *PID, *RUN, "-o", "/dev/full")
     assert ran.returncode == 2
-    assert ran.stderr == "fp_report: [Errno 28] No space left on device\n"
+    assert ran.stderr == "fp_report: /dev/full can't be written: No space left on device\n"
 
 
 def test_a_broken_run_is_refused(reporting: Tool, tmp_path: Path) -> None:
