@@ -15,6 +15,7 @@ MOST_SHOWN = 60  # characters of a row in a message
 MOST_DIGITS = 30
 """The most digits before the point of a number that is read: more than any input has."""
 
+UNCLOSED = "unexpected end of data"  # what the module csv says of a quote without its end
 FORMS = (["cycle", "word"], ["seconds", "value"])
 
 
@@ -35,9 +36,10 @@ def read_inputs(path: Path, scale: Decimal, period: int) -> list[Input]:
     columns. A value is multiplied by `scale`, and is shown from the first cycle that begins at its
     seconds or later."""
     rows = _rows(path)
-    _, header = next(rows, (1, []))
+    first, header = next(rows, (1, []))
     if header not in FORMS:
-        raise CsvError(f"{path}:1: the first row is neither cycle,word nor seconds,value")
+        found_row = _shown(header) if header else "missing"
+        raise CsvError(f"{path}:{first}: the first row is {found_row}: write cycle,word or seconds,value")
     inputs: list[Input] = []
     for line, row in rows:
         try:
@@ -47,19 +49,22 @@ def read_inputs(path: Path, scale: Decimal, period: int) -> list[Input]:
         except CsvError as fault:
             raise CsvError(f"{path}:{line}: {fault}") from None
         inputs.append(Input(found.cycle, found.word % END_WORD))
+    if not inputs:
+        raise CsvError(f"{path}: no input: write a row below the first one, for each input")
     return inputs
 
 
 def _rows(path: Path) -> Iterator[tuple[int, list[str]]]:
     """The rows of a file that aren't empty, without blanks around their fields, and their lines."""
     with path.open(newline="", encoding="utf-8-sig") as file:
-        rows = csv.reader(file, skipinitialspace=True)
+        rows = csv.reader(file, skipinitialspace=True, strict=True)
         try:
             for row in rows:
                 if row:
                     yield rows.line_num, [field.strip() for field in row]
         except csv.Error as fault:
-            raise CsvError(f"{path}:{rows.line_num}: {fault}") from None
+            told = "a quote isn't closed" if str(fault) == UNCLOSED else str(fault)
+            raise CsvError(f"{path}:{rows.line_num}: {told}") from None
         except UnicodeDecodeError as fault:
             raise CsvError(f"{path} isn't UTF-8: {fault.reason}") from None
 

@@ -9,6 +9,7 @@ import pytest
 from conftest import TOP, Tool
 
 SETUP = TOP / "examples/loop/motor.toml"
+FORMS = "write cycle,word or seconds,value"
 
 
 def made(tool: Tool, folder: Path, rows: str, *options: object, thread: int = 0) -> list[list[int]]:
@@ -36,7 +37,7 @@ def test_cycles_and_words(tool: Tool, tmp_path: Path) -> None:
     rows = "cycle,word\n0,42\n\n50,-1\n51,4294967295\n"
     assert made(tool, tmp_path, rows) == [[0, 42], [50, 2**32 - 1], [51, 2**32 - 1]]
     assert made(tool, tmp_path, rows, "--changes") == [[0, 42], [50, 2**32 - 1]]
-    assert made(tool, tmp_path, "cycle,word\n", thread=7) == []
+    assert made(tool, tmp_path, "cycle,word\n0,0\n", thread=7) == [[0, 0]]
 
 
 def test_seconds_and_values(tool: Tool, tmp_path: Path) -> None:
@@ -75,8 +76,13 @@ def test_4096_inputs_are_taken(asking: Tool, tmp_path: Path) -> None:
 @pytest.mark.parametrize(
     ("rows", "line"),
     [
-        ("", "1: the first row is neither cycle,word nor seconds,value"),
-        ("0,1\n", "1: the first row is neither cycle,word nor seconds,value"),
+        ("", f"1: the first row is missing: {FORMS}"),
+        ("0,1\n", f"1: the first row is '0,1': {FORMS}"),
+        ("\nword,cycle\n", f"2: the first row is 'word,cycle': {FORMS}"),
+        ("cycle,word\n", "no input: write a row below the first one, for each input"),
+        ('cycle,word\n0,"1\n', "2: a quote isn't closed"),
+        ('cycle,word\n0,1\n5,"1', "3: a quote isn't closed"),
+        ('cycle,word\n0,"1"2\n', "2: ',' expected after '\"'"),
         ("cycle,word\n0,1\n0,2\n", "3: cycle 0 isn't after cycle 0; cycles rise"),
         ("cycle,word\n5,1\n4,2\n", "3: cycle 4 isn't after cycle 5; cycles rise"),
         ("cycle,word\n-1,1\n", "2: cycle -1 is not 0 to 4000000000"),
@@ -94,7 +100,7 @@ def test_4096_inputs_are_taken(asking: Tool, tmp_path: Path) -> None:
         ("cycle,word\n0,0x10\n", "2: '0,0x10' is not two numbers"),
         ("cycle,word\n0,\n", "2: '0,' is not two numbers"),
         ("cycle,word\n,\n", "2: ',' is not two numbers"),
-        ("cycle;word\n0;1\n", "1: the first row is neither cycle,word nor seconds,value"),
+        ("cycle;word\n0;1\n", f"1: the first row is 'cycle;word': {FORMS}"),
         ("cycle,word\n0,1e999999999\n", "2: '0,1e999999999' has a number that is too large"),
         ("seconds,value\n1e999999,1\n", "2: '1e999999,1' has a number that is too large"),
         pytest.param(
@@ -160,7 +166,7 @@ def test_an_output_that_can_not_be_written(output: str, tool: Tool, tmp_path: Pa
     [
         ("examples/none.toml", 0, "[Errno 2] No such file or directory: 'examples/none.toml'"),
         ("examples/drive.toml", 0, "examples/drive.toml:LINE: thread 0 has inputs: take them out"),
-        ("examples/sum.toml", 7, "examples/sum.toml has no table of thread 7"),
+        ("examples/sum.toml", 7, "examples/sum.toml has no table of thread 7: add [[thread]] with id = 7"),
     ],
 )
 def test_a_setup_that_is_refused(
