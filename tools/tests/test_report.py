@@ -299,6 +299,14 @@ def test_wrong_arguments_are_named(tool: Tool, tmp_path: Path, words: tuple[str,
     assert ran.returncode == 2 and said in ran.stderr and not list(tmp_path.iterdir())
 
 
+def test_standard_output_is_no_file_for_the_page(tool: Tool) -> None:
+    """It has the verdicts, and no file named - is written."""
+    ran = tool("fp_report", *PID, "-o", "-")
+    assert (ran.returncode, ran.stdout) == (2, "")
+    assert ran.stderr == "fp_report: -o -: name a file, since standard output has the verdicts\n"
+    assert not (TOP / "-").exists()
+
+
 def test_an_output_that_can_not_take_the_page(reporting: Tool) -> None:
     ran = reporting("fp_report", *PID, *RUN, "-o", "/dev/full")
     assert ran.returncode == 2
