@@ -11,6 +11,7 @@ from fptools.dump import STAGES, THREADS, Turn
 from fptools.elf import Program, ProgramError
 from fptools.gdb_machine import Machine
 from fptools.gdb_state import SHOWN_LATER
+from fptools.refusals import FAULTS, Context, explain
 from fptools.section import walk
 from fptools.visits import Watched
 
@@ -60,7 +61,7 @@ class Monitor:
 
     def _cycle(self, words: Sequence[str], thread: int) -> Iterator[str]:
         if len(words) > 1 or words and not CYCLE.fullmatch(words[0]):
-            raise Misuse("takes one number")
+            raise Misuse("takes one decimal number, as 1000")
         if words and int(words[0]) > self.machine.end:
             raise Misuse(
                 f"this run ends at cycle {self.machine.end}; --cycles of fp_gdb is another end"
@@ -104,6 +105,13 @@ class Monitor:
         text = self._disassembler.text(turn.pc, turn.bits)
         return f"T{turn.thread} {turn.pc:08x} {self.program.name_of(turn.pc):<24} {text}"
 
+    def _explained(self, refusal: str, thread: int) -> list[str]:
+        """What fp_refusal says of a refusal; nothing of other reasons."""
+        try:
+            return explain(refusal, Context(self.machine.runs.setup, None, self.program, None, thread))
+        except FAULTS:
+            return []
+
     def _bound(self, words: Sequence[str], thread: int) -> Iterator[str]:
         if len(words) != 2:
             raise Misuse("takes two addresses: the first of the section, and the first behind it")
@@ -116,7 +124,8 @@ class Monitor:
         runs = self.machine.runs
         asked = with_bound(runs.flexpret, runs.setup, thread, watched, code, functions)
         if asked.bound is None:
-            raise Misuse(f"T{thread} has no bound there: {asked.doubt}")
+            told = f"T{thread} has no bound there: {asked.doubt}"
+            raise Misuse("\n".join([told, *self._explained(asked.doubt, thread)]))
         time = asked.bound * self.machine.period
         yield f"T{thread} {watched.name}: bound {asked.bound} cycles ({time} ns)"
         for way in walk(code, start, end, [head for head, _ in called]).ways_out:

@@ -337,9 +337,10 @@ def test_monitor(pid: Client) -> None:
     assert "monitor pipeline" in pid.monitor("help")
     for text, said in (
         ("cycle 20001", "this run ends at cycle 20000"),
-        ("cycle x", "takes one number"),
-        ("cycle \u0663", "takes one number"),
-        ("cycle " + "9" * 5000, "takes one number"),
+        ("cycle x", "takes one decimal number, as 1000"),
+        ("cycle 0x10", "takes one decimal number, as 1000"),
+        ("cycle \u0663", "takes one decimal number, as 1000"),
+        ("cycle " + "9" * 5000, "takes one decimal number, as 1000"),
         ("bound 0", "takes two addresses"),
         ("bound 8 4", "isn't above"),
         ("bound nobody 4", "nobody is no symbol"),
@@ -347,6 +348,13 @@ def test_monitor(pid: Client) -> None:
     ):
         assert said in pid.monitor(text)
     assert cycle_of(pid) == 300
+
+
+def test_a_refused_bound_is_explained(pid: Client) -> None:
+    told = pid.monitor("bound 0xb4 0x1a8")
+    assert told.startswith("monitor bound: T0 has no bound there: refused bound 3 TimedWait 000001a4\n")
+    assert "error: TimedWait at 0x1a4 step_end: " in told
+    assert "a wait takes as long as its moment says: end the section before it" in told
 
 
 def test_names_without_an_executable(flexpret: str) -> None:
