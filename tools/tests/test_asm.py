@@ -237,3 +237,15 @@ def test_a_source_that_is_newer_than_its_map(tool: Tool, tmp_path: Path) -> None
         os.utime(source, ns=(made + later, made + later))
         ran = tool("fp_addresses", "--map", names, "loop")
         assert (ran.returncode, ran.stdout, ran.stderr) == (0, "0x00000010\n", said)
+
+
+@pytest.mark.parametrize("name", ["fp_addresses", "fp_asm", "fp_disasm", "fp_refusal"])
+def test_each_argument_is_described(tool: Tool, name: str) -> None:
+    """A description is behind an argument, or in the next line."""
+    told = tool(name, "--help").stdout.partition("positional arguments:")[2].splitlines()
+    arguments = [at for at, line in enumerate(told) if line.startswith("  ") and line[2] != " "]
+    is_bare = [
+        "  " not in told[at].strip() and not "".join(told[at + 1 : at + 2]).startswith(" " * 10)
+        for at in arguments
+    ]
+    assert arguments and not any(is_bare)
