@@ -14,6 +14,8 @@ KEYWORD = re.compile(r"\b(for|while|do|goto)\b")
 DEFINE = re.compile(r"^[ \t]*#[ \t]*define[ \t]+(\w+)((?:\\\n|[^\n])*)", re.MULTILINE)
 INCLUDE = re.compile(r"^[ \t]*#[ \t]*include[ \t]*\"([^\"\n]+)\"", re.MULTILINE)
 NAME = re.compile(r"\b[A-Za-z_]\w*\b")
+SPELLED = re.compile(r"<%|%>|<:|:>|%:|\?\?[<>()=/'!-]")
+"""Digraphs and trigraphs: other spellings of braces, brackets and signs."""
 NO_TEST = re.compile(r"for\s*\([^;]*;\s*(?:\d+\s*)?;.*|while\s*\(\s*(?:\d+|true)\s*\).*", re.DOTALL)
 ENDLESS = re.compile(r"(?:for\s*\(\s*;\s*;.*|while\s*\(\s*(?:1|true)\s*\).*)", re.DOTALL)
 # A block behind a name, or behind a name and what is in parentheses: of C itself behind the words of BLOCKS alone.
@@ -65,7 +67,11 @@ class CText:
     def __init__(self, text: str) -> None:
         self.raw = text
         self.code = NO_CODE.sub(lambda found: re.sub(r"[^\n]", " ", found[0]), text)
-        self.macros = {found[1]: found[2] for found in DEFINE.finditer(self.code)}
+        # With all texts of one that is defined several times.
+        self.macros: dict[str, str] = {}
+        for found in DEFINE.finditer(self.code):
+            self.macros[found[1]] = f"{self.macros.get(found[1], '')}{found[2]}\n"
+        self.is_respelled = SPELLED.search(self.code) is not None
         # Those that have a loop, and all that are known; with those of the sources that it includes.
         self.with_loops = frozenset(name for name, it in self.macros.items() if KEYWORD.search(it))
         self.known = frozenset(self.macros)

@@ -156,10 +156,12 @@ class Comments:
         return ""
 
     def _renumbered(self, comment: Comment) -> str:
-        """That lines aren't those of the text, where a `#line` says so; empty where none does."""
+        """That lines or blocks aren't those of the text, by a `#line` or by other spellings of braces; empty where they are."""
         files = {line.file for line in self.program.all_lines if is_c(line.file)}
         if is_c(comment.file) and self.sources.is_renumbered(comment.file, files):
             return f"by a `#line` the lines of {comment.file.name} aren't those of its text"
+        if is_c(comment.file) and self.sources.is_respelled(comment.file):
+            return f"{comment.file.name} has digraphs or trigraphs, which may be braces: write the braces"
         return ""
 
     def _shared(self, loop: Loop) -> str:
@@ -227,15 +229,32 @@ class Comments:
         """That no test of the header of a loop in C leaves the code's loop: the one with the comment may be unrolled, and
         the code be of another around it, which the text needn't show. Empty where one does."""
         text = self._text_of(comment)
-        if text is None or not text.has_test or not loop.body:
+        if text is None or not loop.body:
             return ""
-        tests = (pc for pc in loop.exits if self._word_flow(pc) is Flow.BRANCH)
+        tests = [pc for pc in loop.exits if self._word_flow(pc) is Flow.BRANCH]
+        if not text.has_test:
+            return self._copied(tests, comment.file, text)
         lines = (line for pc in tests for line in self.program.lines_of(pc))
         if any(line.file == comment.file and self._is_in_header(line, text) for line in lines):
             return ""
         where = f"{comment.file.name}:{text.header[0]}"
         why = "it may be unrolled, and this be a loop around it"
         return f"the test of the loop in {where} doesn't leave this loop: {why}"
+
+    def _copied(self, tests: list[int], file: Path, text: LoopText) -> str:
+        """That no branch of a loop's text leaves the code's loop, or one does in several copies, by the branches that leave
+        it: a loop without a test in its header may be unrolled then. Empty where each is there once."""
+        own = [
+            lines
+            for lines in map(self.program.lines_of, tests)
+            if any(line.file == file and text.first <= line.number <= text.last for line in lines)
+        ]
+        places = [[(line.file, line.number, line.column) for line in lines] for lines in own]
+        why = "the loop may be unrolled, and this be a loop around it"
+        if not own:
+            return f"no branch of {file.name}:{text.first} to {text.last} leaves this loop: {why}"
+        copied = next((lines[0] for lines, place in zip(own, places) if places.count(place) > 1), None)
+        return f"several copies of the branch in {copied} leave this loop: {why}" if copied else ""
 
     def _is_in_header(self, line: Line, text: LoopText) -> bool:
         """Whether a line is of a loop's header; by its column, where that line has statements of the body too."""

@@ -117,6 +117,10 @@ class Sources:
             Path(name).name == file.name if name else it == file for it, all_of in names.items() for name in all_of
         )
 
+    def is_respelled(self, file: Path) -> bool:
+        """Whether a C source has digraphs or trigraphs, so that its blocks aren't those of its braces."""
+        return self._code(file).is_respelled
+
     def _macros_with_loops(self, file: Path) -> frozenset[str]:
         """The macros of a source, and of the sources beside it that it includes, with a loop in their text."""
         if file not in self._hiding:
@@ -131,7 +135,8 @@ class Sources:
             while ahead:
                 code = self._code(ahead[-1])
                 folder = ahead.pop().parent
-                macros |= code.macros
+                for name, text in code.macros.items():
+                    macros[name] = macros.get(name, "") + text
                 new = {folder / name for name in code.included} - seen
                 seen |= new
                 ahead += new

@@ -65,8 +65,6 @@ def test_functions_that_the_linker_folds_into_one(case: Case) -> None:
 @pytest.mark.parametrize(
     "name",
     [
-        "redefined",
-        "digraph",
         "halves",
         "conditional",
         "computed",
@@ -83,6 +81,41 @@ def test_an_unrolled_loop_in_another_that_the_text_does_not_show(case: Case, nam
     status, text = asked(case, f"{name}_begin", f"{name}_end")
     assert (status, "doesn't leave this loop: it may be unrolled, and this be a loop around it" in text) == (2, True)
     assert case.longest(40_000, f"{name}_begin", f"{name}_end") > 250
+
+
+@of("around")
+def test_a_macro_that_is_defined_twice(case: Case) -> None:
+    """One of its texts is a loop: it may be the one that counts."""
+    status, text = asked(case, "redefined_begin", "redefined_end")
+    assert (status, "around.c:16, has no head of its own in the code: this may be that loop" in text) == (2, True)
+
+
+@of("endless")
+@pytest.mark.parametrize(
+    ("name", "says"),
+    [
+        ("redefined", "has no head of its own in the code: this may be that loop"),
+        ("unknown_block", "has no head of its own in the code: this may be that loop"),
+        ("unknown_macro", "several copies of the branch in endless.c:45 leave this loop"),
+        ("unknown_halves", "several copies of the branch in endless.c:56 leave this loop"),
+        ("halves_endless", "several copies of the branch in endless.c:68 leave this loop"),
+        ("halves_goto", "several copies of the branch in endless.c:78 leave this loop"),
+        ("conditional", "no branch of endless.c:97 to 102 leaves this loop"),
+        ("computed", "several copies of the branch in endless.c:114 leave this loop"),
+    ],
+)
+def test_an_unrolled_loop_without_a_test_in_its_header(case: Case, name: str, says: str) -> None:
+    status, text = asked(case, f"{name}_begin", f"{name}_end")
+    assert (status, says in text) == (2, True)
+    assert case.longest(40_000, f"{name}_begin", f"{name}_end") > 1000
+
+
+@of("respelled")
+@pytest.mark.parametrize("name", ["digraph", "back", "counted"])
+def test_braces_that_are_digraphs(case: Case, name: str) -> None:
+    status, text = asked(case, f"{name}_begin", f"{name}_end")
+    assert (status, "respelled.c has digraphs or trigraphs, which may be braces: write the braces" in text) == (2, True)
+    assert case.longest(40_000, f"{name}_begin", f"{name}_end") > 1000
 
 
 def test_a_macro_with_a_loop_that_is_found(tool: Tool, tmp_path: Path) -> None:

@@ -19,15 +19,6 @@ SHAPE redefined(uint32_t n)
                 return;
     }
 }
-SHAPE digraph(uint32_t n)
-{
-    for (;;) <%
-        count;
-        for (uint32_t i = 0; i < 4; i++) /* @rounds 4 */
-            if ((tries++ & 63) == n)
-                return;
-    %>
-}
 SHAPE halves(uint32_t n)
 {
     LOOP_BEGIN
@@ -123,9 +114,6 @@ void main0(void)
         FP_MARK(redefined_begin);
         redefined(FP_PORT);
         FP_MARK(redefined_end);
-        FP_MARK(digraph_begin);
-        digraph(FP_PORT);
-        FP_MARK(digraph_end);
         FP_MARK(halves_begin);
         halves(FP_PORT);
         FP_MARK(halves_end);

@@ -53,6 +53,8 @@ linked noline t0_noline.o
 built marked marked.c -Os
 laid hidden hidden.c -O3 -fno-ipa-icf -I include
 laid around around.c -O3 -fno-ipa-icf -Wno-unused-value -I include
+laid endless endless.c -O3 -fno-ipa-icf -Wno-unused-value -I include
+laid respelled respelled.c -O3 -fno-ipa-icf
 # Functions of the same code, which the linker folds.
 clang --target=riscv32-unknown-elf -march=rv32im -mabi=ilp32 -O2 -gdwarf-4 -fdebug-compilation-dir=. -I "$c" -ffreestanding \
     -ffunction-sections -S -o linked.compiled.s linked.c

@@ -1,0 +1,50 @@
+/* Loops that are unrolled, each in another one whose braces are spelled as digraphs. */
+#include "flexpret.h"
+#define SHAPE __attribute__((noinline)) static void
+static volatile uint32_t tries;
+
+SHAPE digraph(uint32_t n)
+{
+    for (;;) <%
+        uint32_t i = 0;
+        for (;;) { /* @rounds 5 */
+            if (i++ == 4)
+                break;
+            if ((tries++ & 63) == n)
+                return;
+        }
+    %>
+}
+SHAPE back(uint32_t n)
+{
+    for (;;) <%
+        uint32_t i = 0;
+    again: /* @rounds 4 */
+        if ((tries++ & 63) == n)
+            return;
+        if (++i < 4)
+            goto again;
+    %>
+}
+SHAPE counted(uint32_t n)
+{
+    for (;;) <%
+        for (uint32_t i = 0; i < 4; i++) /* @rounds 4 */
+            if ((tries++ & 63) == n)
+                return;
+    %>
+}
+void main0(void)
+{
+    for (;;) {
+        FP_MARK(digraph_begin);
+        digraph(FP_PORT);
+        FP_MARK(digraph_end);
+        FP_MARK(back_begin);
+        back(FP_PORT);
+        FP_MARK(back_end);
+        FP_MARK(counted_begin);
+        counted(FP_PORT);
+        FP_MARK(counted_end);
+    }
+}
