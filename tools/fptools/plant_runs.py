@@ -161,7 +161,8 @@ def started(
 @contextmanager
 def connected(run: PlantRun, plants: Path) -> Iterator[Sequence[subprocess.Popen[bytes]]]:
     """The program and the plant, each of which reads what the other one writes. Both are ended
-    in every case; the plant may end by itself only behind a run that is whole."""
+    in every case; the plant may end by itself only behind a run that is whole. Where a run is broken
+    off, the plant ends first: otherwise it could write to a program that is gone, and report that."""
     to_plant, from_program = os.pipe()
     to_program, from_plant = os.pipe()
     processes: list[subprocess.Popen[bytes]] = []
@@ -177,7 +178,7 @@ def connected(run: PlantRun, plants: Path) -> Iterator[Sequence[subprocess.Popen
         yield processes
         grace = GRACE
     finally:
-        for process in reversed(processes):
+        for process in reversed(processes) if grace else processes:
             end(process, grace)
 
 
