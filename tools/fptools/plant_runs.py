@@ -159,6 +159,19 @@ def started(
 
 
 @contextmanager
+def uninterrupted() -> Iterator[None]:
+    """Puts an interrupt off to the end of a block, so that no process is started and not known. It works in the main thread."""
+    caught: list[int] = []
+    before = signal.signal(signal.SIGINT, lambda number, _frame: caught.append(number))
+    try:
+        yield
+    finally:
+        signal.signal(signal.SIGINT, before)
+    if caught:
+        raise KeyboardInterrupt
+
+
+@contextmanager
 def connected(run: PlantRun, plants: Path) -> Iterator[Sequence[subprocess.Popen[bytes]]]:
     """The program and the plant, each of which reads what the other one writes. Both are ended
     in every case; the plant may end by itself only behind a run that is whole. Where a run is broken
@@ -169,9 +182,10 @@ def connected(run: PlantRun, plants: Path) -> Iterator[Sequence[subprocess.Popen
     grace = 0.0
     try:
         try:
-            processes.append(started(run.command, to_plant, from_plant))
-            words = run.words(plants)
-            processes.append(started(words, to_program, from_program, subprocess.PIPE))
+            with uninterrupted():
+                processes.append(started(run.command, to_plant, from_plant))
+                words = run.words(plants)
+                processes.append(started(words, to_program, from_program, subprocess.PIPE))
         finally:
             for pipe in (to_plant, from_program, to_program, from_plant):
                 os.close(pipe)
