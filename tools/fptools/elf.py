@@ -170,7 +170,7 @@ class Program:
         return next((it for it in self.functions if it.start <= address < it.end), None)
 
     def function(self, text: str) -> Function:
-        """The function in which an address lies that is told as `address` reads it."""
+        """The function that has an address, which is given in a form that `address` reads."""
         if not self.has_functions:
             raise ProgramError(f"{text}: functions need an executable: give --elf FILE")
         found = self.function_at(self.address(text))
