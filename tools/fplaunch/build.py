@@ -36,6 +36,9 @@ FIRST_SECONDS, SOURCE_SECONDS, PROOF_SECONDS, LIBRARY_SECONDS, LINK_SECONDS = 10
 """What a crate takes on a processor of 2.5 GHz: at all, for a byte of src, for one of specs and proofs, for each crate below it, and a program for its
 link."""
 
+SLACK_SECONDS, MOST_NICENESS = 30.0, 15
+"""A proof gets one more point of niceness for so many seconds that its chain is shorter than the longest one, up to a limit."""
+
 TRIED = {"flexpret_cli": ["asm", "data/loads.s"], "flexpret_view": ["--help"]}
 """With which arguments a program is called by its build, which `rt run` does."""
 
@@ -131,10 +134,17 @@ class Plan:
 
     def jobs_of(self, crate: str, waiting: int) -> int:
         """By how many jobs a crate is proved, with so many others that run or could. It gets a second one where the chain that waits for it takes longer
-        than all processors have work, and memory allows."""
+        than all processors have work, and memory allows. The program's own crate has few functions, and each job reads all that it uses: it gets one."""
+        if crate == self.checkout.crate:
+            return 1
         fair = max(1, self.at_once // (waiting + 1))
         is_last = self.chain[crate] > self.share_left() and free_memory() > NEEDED_MEMORY * (self.at_once + 1)
         return max(fair, 2) if self.at_once > 1 and is_last else fair
+
+    def niceness(self, crate: str) -> int:
+        """How far the proof of a crate yields the processors to others: 0 for the crate that the longest chain begins with."""
+        longest = max(self.chain[one] for one in self.ahead())
+        return min(MOST_NICENESS, int((longest - self.chain[crate]) / SLACK_SECONDS))
 
     def pace(self) -> float:
         """How much longer crates take here than on a quiet processor of 2.5 GHz. A crate that was quick had been proved before."""
@@ -178,13 +188,13 @@ class Builder:
         self.hold = ExitStack()
         """Keeps `rt ci` out of the checkout until the crates below the program are proved."""
 
-    def call(self, top: Path, crate: str, words: list[str]) -> None:
+    def call(self, top: Path, crate: str, niceness: int, words: list[str]) -> None:
         """Calls `rt` in a crate's folder below a top; what it writes goes to the log. A failure is an error with its last line."""
         with self.lock:
             if self.stopped:
                 raise NotBuilt("broken off")
             child = subprocess.Popen(
-                ["rt", *words], cwd=top / "crates" / crate, stdin=subprocess.DEVNULL,
+                ["nice", "-n", str(niceness), "rt", *words], cwd=top / "crates" / crate, stdin=subprocess.DEVNULL,
                 stdout=subprocess.PIPE, stderr=subprocess.STDOUT, text=True, errors="replace", process_group=0,
             )  # fmt: skip
             self.children.add(child)
@@ -197,15 +207,15 @@ class Builder:
         if child.returncode:
             raise NotBuilt(why_not(crate, said, child.returncode))
 
-    def prove(self, crate: str, count: int) -> None:
+    def prove(self, crate: str, niceness: int, count: int) -> None:
         """Proves a crate by so many jobs; the program's own is linked too, and called once."""
         flags, checkout = ["--jobs", str(count)], self.plan.checkout
         if crate == checkout.crate:
             self.hold.close()
-            self.call(checkout.top, crate, ["run", *flags, "--", *TRIED[crate]])
+            self.call(checkout.top, crate, niceness, ["run", *flags, "--", *TRIED[crate]])
         else:
             with tree_of(checkout, crate) as top:
-                self.call(top, crate, ["lib", *flags])
+                self.call(top, crate, niceness, ["lib", *flags])
 
     def stop(self) -> None:
         """Ends what runs."""
@@ -231,7 +241,7 @@ class Builder:
                         crate = ready.pop()
                         count = plan.jobs_of(crate, len(futures) + len(ready))
                         plan.running[crate] = time.monotonic()
-                        futures[pool.submit(self.prove, crate, count)] = crate
+                        futures[pool.submit(self.prove, crate, plan.niceness(crate), count)] = crate
                     progress.show()
                     ended, _ = wait(futures, timeout=30 if progress.terminal else None, return_when=FIRST_COMPLETED)
                     for future in ended:

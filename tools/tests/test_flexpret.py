@@ -179,6 +179,17 @@ def test_a_crate_that_all_wait_for_gets_a_second_job(checkout: Checkout) -> None
     assert counts(16, 1) == "1 1 1\n"
 
 
+def test_a_shorter_chain_yields_the_processors(checkout: Checkout) -> None:
+    (checkout.folder / "crates.txt").write_text("a:\nb:\nc: b\nflexpret_cli: a c\n")
+    for name, size in (("a", 20000), ("b", 100000), ("c", 100000)):
+        (checkout.folder / "crates" / name / "src").mkdir(parents=True, exist_ok=True)
+        (checkout.folder / "crates" / name / "src/lib.rt").write_text(" " * size)
+    command = "import sys; sys.path.insert(0, 'tools'); from fplaunch import build; from pathlib import Path;"
+    command += " plan = build.Plan(build.Checkout(Path('.'), 'flexpret_cli'), 2); print(plan.niceness('b'), plan.niceness('a') > 5, plan.jobs_of('flexpret_cli', 0))"
+    ran = subprocess.run([sys.executable, "-c", command], cwd=checkout.folder, capture_output=True, text=True, check=True)
+    assert ran.stdout == "0 True 1\n"
+
+
 def test_nothing_is_built_twice_until_a_source_changes(either: Checkout) -> None:
     either.build()
     assert not either.builds()
