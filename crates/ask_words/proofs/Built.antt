@@ -1,4 +1,4 @@
--- What building makes of a command's arguments, and the rows of pairs.
+-- The value that building gives for a command's arguments, and the rows of pairs.
 use Rattle.std.proofs.Common.{◌≡◌, ℕ, List, [], ◌∷◌, ◌++◌, map, Some, None}
 use Rattle.std.proofs.Common.{refl, ap, sym, ◌∙◌, append_assoc, append-nil}
 use Rattle.std.specs.List.{fold}
@@ -18,7 +18,7 @@ built_file = with_index 1 (filled file_rule)
 abbrev pub built_help : Rule
 built_help = filled help_rule
 
--- what is shown of a pair
+-- the row of a pair
 abbrev pub shown : Text × Text → Row
 shown p = record {
   id = p.0;

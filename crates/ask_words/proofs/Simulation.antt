@@ -1,5 +1,4 @@
--- The command line parser's walk over words that have the forms: it passes, and its rows are the
--- pairs.
+-- The command line parser accepts arguments that have the forms, and its rows are the pairs.
 use Rattle.std.proofs.Common.{◌≡◌, ℕ, ◌+◌, ◌≤◌, ◌&&◌, ◌||◌, Bool, true, false, List, []}
 use Rattle.std.proofs.Common.{◌∷◌, ◌++◌, map, Option, Some, None, if◌then◌else◌, refl}
 use Rattle.std.proofs.Common.{sym, ◌∙◌, ap, ap₂, subst, arith, append_assoc, append-nil}
@@ -50,7 +49,7 @@ no_row n (p ∷ ps) e = no_row_step n ps (no_row n ps) (bytes_eq p.0 n) e
 
 module _ (s : Shape) (names : List Text) (again : s.args_override_self ≡ false)
     (k : Knows s.rules names) where
-  -- the walk stands between two words, after these pairs
+  -- the parser is between two arguments, after these pairs
   pub record Ends (given : Pairs) (w : Walk) : Type 0 where
     pub rows : List Row
     pub pending : Option (Text × List Text)
@@ -62,7 +61,7 @@ module _ (s : Shape) (names : List Text) (again : s.args_override_self ≡ false
         settle_passes s.rules false (record { rows = rows; pending = pending; skip = skip }) ≡ true
     pub at_first : count_of file_id given ≡ 0 → position ≡ 1
 
-  -- it stands after an option whose value comes next
+  -- the parser has read an option and expects its value
   pub record Waits (n : Text) (given : Pairs) (w : Walk) : Type 0 where
     pub rows : List Row
     pub skip : ℕ
@@ -199,7 +198,7 @@ module _ (s : Shape) (names : List Text) (again : s.args_override_self ≡ false
   abbrev pub Once : Pairs → Type 0
   Once ps = (id : Text) → is_known names id ≡ true → count_of id ps ≤ 1
 
-  -- what the walk over the words shows
+  -- the parser accepts the arguments and ends with all pairs
   abbrev pub Passes : List Text → Pairs → Walk → Type 0
   Passes words all w =
       (walk_passes s [] w words ≡ true) × Ends all (fold (walked s.rules []) w words)

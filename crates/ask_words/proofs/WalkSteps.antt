@@ -1,4 +1,4 @@
--- What the command line parser's walk does at one word, by the word's form.
+-- One step of the command line parser, by the form of the argument.
 use Rattle.std.proofs.Common.{◌≡◌, ℕ, ◌==◌, ◌&&◌, ◌||◌, Bool, true, false, List, []}
 use Rattle.std.proofs.Common.{◌∷◌, ◌++◌, Option, Some, None, if◌then◌else◌, refl}
 use Rattle.std.proofs.Common.{sym, ◌∙◌, ap, subst, true≢false, inl, inr, eq-eqb}
@@ -61,7 +61,7 @@ dashed_rest : (zs : Text) → is_some_text zs ≡ true →
 dashed_rest [] e = absurd (true≢false (sym e))
 dashed_rest (x ∷ xs) e = (refl, refl)
 
--- what follows the two hyphens, as the parser reads it
+-- the parser's reading of the text after the two hyphens
 dashed_word : (word rest : Text) → after_dashes word ≡ Some rest → (is_some_text rest ≡ true) →
     (long_of word ≡ Some (name_and_value rest)) × (bytes_eq word (45 ∷ 45 ∷ []) ≡ false)
 dashed_word [] rest e ne = cc
@@ -82,7 +82,7 @@ dashed_word (x ∷ y ∷ zs) rest e ne = elim (eqb_tells x 45) [
   | inr p ↦ let no : None ≡ Some rest = rw p.0 at e in cc
 ]
 
--- what the form of a word that begins with `-` says of it
+-- the facts of an argument that begins with `-`, by its form
 abbrev pub FormFacts : List Text → Text → Form → Type 0
 FormFacts names word (gives n v) =
     (long_of word ≡ Some (n, Some v)) × (bytes_eq word (45 ∷ 45 ∷ []) ≡ false)
@@ -211,7 +211,7 @@ module _ (s : Shape) (names : List Text) (again : s.args_override_self ≡ false
       → turn_passes s [] (idle_walk rows pending skip position) word ≡ true
   whole_passes pending n v f p q = rw (f.1, f.0, k.by_long n f.2, again, p, q) refl
 
--- what is pending is used at the next word
+-- the parser uses a pending option at the next argument
 module _ (c : List Rule) (names : List Text) (k : Knows c names) (rows : List Row) (v : Text) where
   pub settled_option : (n : Text) → is_among names n ≡ true → settled_rows c (Some (n, v ∷ [])) rows
       ≡ with_values n AsWritten CommandLine (v ∷ []) (without n rows)

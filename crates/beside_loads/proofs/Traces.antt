@@ -1,4 +1,4 @@
--- The text that a command wrote for a protected thread is that of the thread alone.
+-- A command wrote for a protected thread the text of the one-thread definition.
 use Rattle.std.proofs.Common.{◌≡◌, ℕ, List, [], ◌++◌, Bool, true, Option}
 use Rattle.std.proofs.Common.{Some, None, IfSome, ap, subst, sym, ◌∙◌}
 use Rattle.flexpret_top.specs.Ask.{Ask}

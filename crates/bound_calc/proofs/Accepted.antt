@@ -1,4 +1,4 @@
--- What is known of a tree is what the theory of walks needs.
+-- An accepted tree meets the requirements of the theory of paths.
 use Rattle.std.proofs.Common.{◌≡◌, ◌≢◌, ℕ, ◌<◌, ◌≤◌, ◌⊎◌, refl, arith, inl, inr}
 use Rattle.std.proofs.Common.{ap, sym, subst, ◌∙◌, List, [], ◌∷◌, length, Contains}
 use Rattle.std.proofs.lemmas.List.{get_or_default}

@@ -14,7 +14,7 @@ best-same fg gf b = (
   (λ p e q is. let z = b.1 p e q is in (z.0, fg p z.0 q z.1, z.2)),
 )
 
--- sums of what is told apart up to n
+-- sums that are exact up to n
 sum-covers : (a b c one two e n : ℕ) → min a n ≤ one → min b n ≤ two → c ≡ a + b →
     min (one + two) n ≤ e → min c n ≤ e
 sum-covers a b c one two e n h1 h2 is h = omega arith

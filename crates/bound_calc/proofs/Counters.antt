@@ -1,4 +1,4 @@
--- A loop's counter after one step, and what every walk keeps.
+-- A loop's counter after one step, and the invariants of every path.
 use Rattle.std.proofs.Common.{◌≡◌, ℕ, ◌+◌, ◌<◌, ◌≤◌, ◌≢◌, arith, inl, inr, subst}
 use Rattle.std.proofs.lemmas.Bool.Decides.{nat_tests}
 use Rattle.bound_calc.specs.Context.{IsNested, IsScope, May, Net, Scope, Walk}
@@ -35,7 +35,7 @@ pub kept : {g : Net} {s : Scope} {p n v q c : ℕ} {k : LoopSetup → ℕ} → W
 kept (start o) j h = omega arith
 kept (step w a b m f) j h = f j h
 
--- a walk doesn't leave its part
+-- a path doesn't leave its part
 pub above : {g : Net} {s : Scope} {p n v q c : ℕ} {k : LoopSetup → ℕ} → IsScope g s →
     Walk g s p n v q c k → s.low ≤ v
 above t (start o) = omega arith
@@ -56,7 +56,7 @@ pub begins : {g : Net} {s : Scope} {p n v q c : ℕ} {k : LoopSetup → ℕ} →
 begins (start o) = o
 begins (step w a b m f) = begins w
 
--- the same walk, with its end and cost written otherwise
+-- the same path, with equal end and cost
 pub moved : {g : Net} {s : Scope} {p n v q q' c c' : ℕ} {k : LoopSetup → ℕ} → q ≡ q' → c ≡ c' →
     Walk g s p n v q c k → Walk g s p n v q' c' k
 moved {g} {s} {p} {n} {v} {q} {q'} {c} {c'} {k} a b w =

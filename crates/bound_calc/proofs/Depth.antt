@@ -21,7 +21,7 @@ use Rattle.region_tree.specs.Graph.{Inside}
 use Rattle.region_tree.specs.Nesting.{around, depth}
 use Rattle.region_tree.specs.Walk.{Course, IsOwn, IsNextTurn, Positions}
 
--- how many pass a test, from the front
+-- the number of loops that pass a test
 abbrev pub passing : (LoopSetup → Bool) → List LoopSetup → ℕ
 passing p [] = 0
 passing p (j ∷ js) = cond (p j) 1 0 + passing p js

@@ -1,4 +1,4 @@
--- A walk to a loop's head, and then a walk of the loop's own part, is a walk.
+-- A path to a loop's head and then a path of the loop's own part form one path.
 use Rattle.std.proofs.Common.{◌≡◌, ℕ, ◌+◌, ◌≤◌, ◌⊎◌, ◌≢◌, refl}
 use Rattle.std.proofs.Common.{arith, inl, inr, ap, subst, sym, ◌∙◌}
 use Rattle.bound_calc.proofs.BestLaws.{same}

@@ -79,7 +79,7 @@ none-larger x y z none e = e ∙ ap (λ o. larger_of o y) none
 pub min-under : (c e n : ℕ) → c ≤ e → min c n ≤ e
 min-under c e n h = omega arith
 
--- what was stopped is told apart no further
+-- a second saturation at n changes nothing
 pub capped : (e c n : ℕ) → e ≡ min c n → min e n ≡ min c n
 capped e c n h = omega arith
 

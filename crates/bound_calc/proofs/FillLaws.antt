@@ -24,7 +24,7 @@ use Rattle.bound_calc.proofs.Embed.{body-part, is_or_not, same_head}
 use Rattle.bound_calc.proofs.PassLaws.{over-nested}
 use Rattle.bound_calc.proofs.Sections.{field-part}
 
--- a walk stays below the end of its part
+-- a path stays below the end of its part
 pub below : {g : Net} {s : Scope} {p n v q c : ℕ} {k : LoopSetup → ℕ} → s.low ≤ s.high →
     Walk g s p n v q c k → v ≤ s.high
 below h (start o) = h

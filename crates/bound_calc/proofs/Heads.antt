@@ -1,4 +1,4 @@
--- What reaches a word: what comes from below, and at a loop's head the loop's rounds after it.
+-- The costs at a word: those from below, and at a loop's head the loop's rounds after them.
 use Rattle.std.proofs.Common.{◌≡◌, ℕ, zero, suc, ◌+◌, ◌<◌, ◌≤◌, ◌⊎◌}
 use Rattle.std.proofs.Common.{◌≢◌, refl, arith, inl, inr, subst, sym}
 use Rattle.bound_calc.proofs.BestLaws.{same}
@@ -45,7 +45,7 @@ rounds-more m {q = q} {b = b} x y = record {
   cost = omega (arith, x.cost);
 }
 
--- a head: as many rounds as its counter says
+-- at a head: costs from below, then as many rounds as the loop's counter
 pub at_head : {g : Net} {s : Scope} (fuel : ℕ) (j : LoopSetup) {p n v q c : ℕ} {k : LoopSetup → ℕ} →
     IsNested g → IsScope g s → s.loops j →
     Walk g s p n v q c k → v ≡ j.head → n < fuel → Then (Enters g s j.head) (Rounds g j (k j)) p c q
@@ -114,7 +114,7 @@ at_head {g} {s} (suc fuel) j {p} t part h
         before (subst (λ l. Holds l u)
         (same_head t i j (part.known i known) (part.known j h) (omega arith)) held)
 
--- what comes from below is a walk, and the counters of the loops with this head are 0
+-- a cost from below is that of a path; the counters of the loops with this head are 0
 pub record Fresh (g : Net) (s : Scope) (v p c q : ℕ) : Type 0 where
   pub steps : ℕ
   pub counters : LoopSetup → ℕ
@@ -150,7 +150,7 @@ enter {g} {s} {v} {p} {c} {q} part (inr x) = record {
         let z = counted-other x.from v i (x.walk.counters i) other in
         let y = kept x.walk.walk i known in omega arith
 
--- rounds within the bound are a walk
+-- rounds within the bound extend a path to the head
 pub record Rounded (g : Net) (s : Scope) (j : LoopSetup) (m p c q : ℕ) : Type 0 where
   pub steps : ℕ
   pub counters : LoopSetup → ℕ

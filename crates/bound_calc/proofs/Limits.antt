@@ -1,4 +1,4 @@
--- No walk of a shallow part costs much.
+-- An upper bound on the cost of a path of a shallow part.
 use Rattle.std.proofs.Common.{◌≡◌, ℕ, zero, suc, ◌+◌, ◌-◌, ◌*◌, ◌<◌, ◌≤◌}
 use Rattle.std.proofs.Common.{◌⊎◌, refl, arith, inl, inr, ap, subst, sym}
 use Rattle.std.proofs.Math.Nat.{mul-le-mul_left, mul-le-mul_right}
@@ -16,7 +16,7 @@ use Rattle.region_tree.specs.Graph.{Holds, Inside}
 use Rattle.region_tree.specs.Nesting.{around}
 use Rattle.bound_calc.specs.Context.Walk.{start, step}
 
--- what a word's outermost loop is, if it has one
+-- a word's outermost loop, if it has one
 abbrev pub Outer : Scope → ℕ → Type 0
 Outer s v =
     ((j : LoopSetup) → s.loops j → Holds j v → ⊥)
@@ -58,7 +58,7 @@ room_pos b (suc h) =
     let y : room b h * 1 ≤ room b h * (b + 1) =
     mul-le-mul_left (room b h) (omega arith) in omega arith
 
--- walks to words v below fuel, where the loops that hold v end at or below z
+-- paths to words v below fuel, where the loops that hold v end at or below z
 abbrev pub AllBelow : Net → Scope → ℕ → ℕ → ℕ → Type 0
 AllBelow g s p r fuel =
     (n v q c : ℕ) (k : LoopSetup → ℕ) → Walk g s p n v q c k → v < fuel → (z t : ℕ) →
@@ -92,7 +92,7 @@ plain_limit {g} {s} {p} b r fuel one nest small part before
         absurd (none j known (let o : j.head ≤ j.last = nest.ordered j (part.known j known) in
         (omega arith, omega arith)))
 
--- what comes to the head of an outermost loop from below
+-- the costs from below at the head of an outermost loop
 enter_limit : {g : Net} {s : Scope} {p : ℕ} (b r fuel : ℕ) (j : LoopSetup) →
     IsNested g → IsSmall g b → IsScope g s → s.loops j → AllBelow g s p r fuel →
     ((i : LoopSetup) → s.loops i → Inside i j → ⊥) → j.head < suc fuel → {c q : ℕ} →
@@ -183,7 +183,7 @@ all_below {g} {s} {p} b h (suc fuel) nest small part outer bodies n v q c k w fe
         (ends j known held) size in
         subst (λ r. c + 10 ≤ 10 * (r * t)) (sym e) y
 
--- what reaches a word of a part of height h
+-- the costs at a word of a part of height h
 pub limit : {g : Net} (b h : ℕ) (s : Scope) → IsNested g → IsSmall g b → IsScope g s →
     ((v : ℕ) → Outer s v) → Shallow h g s → (p c q v : ℕ) → Reaches g s v p c q → v ≤ s.high →
     (t : ℕ) → s.low + t ≡ s.high + 1 → c + 10 ≤ 10 * (room b h * t)

@@ -33,7 +33,7 @@ use Rattle.bound_calc.proofs.PassLaws.{up-is}
 use Rattle.bound_calc.proofs.Passes.{walk-reachable}
 use Rattle.bound_calc.proofs.Sections.{costs-within, is_bound, met-inside, met-out}
 
--- what a table's steps out of the section cost
+-- the costs of a table's steps out of the section
 pub out-left : (s : Positions) (here : Matrix) (hops : List (Option Hop)) (lag old new : ℕ) →
     IsHops s lag hops → IsLeft here hops old new → IsOut s here true lag old new
 out-left s here hops lag old new h l = record {
@@ -88,7 +88,7 @@ not-leaves t v far = go (nat_le t.section.from v) (nat_lt v t.section.to) refl r
     go true false x y = rw (x, y) refl
     go false b x y = rw (x) refl
 
--- costs of walks are far below where sums stop
+-- costs of paths are far below the ceiling of sums
 reach-small : (t : Tree) (o : Positions) → IsTree t → length o.frame ≤ 8 → (v p c q : ℕ) →
     Reaches (net (field (walks t o))) (whole (field (walks t o))) v p c q → c < 2 ^ 110
 reach-small t o is frame v p c q r =
@@ -114,7 +114,7 @@ costs-small t o is frame =
     (λ p c q v r. let z = reach-small t o is frame v p c q r in omega arith)
     (λ v p c q e h out z. let y = step-small t o is frame v p c q e h z in omega arith)
 
--- what is told apart is exact where it is small
+-- a small number is exact below the ceiling
 exact : (c n : ℕ) → n ≤ 2 ^ 111 → min c ceiling ≡ min n ceiling → n ≡ c
 exact c n small e = omega arith
 
@@ -359,7 +359,7 @@ most-all t o n most is frame top m =
     x : Course
     x = walks t o
 
-    -- the word that a walk reaches has an index
+    -- the last word of a path has an index
     placed : {v p c q : ℕ} → Reaches (net (field x)) (whole (field x)) v p c q →
         (index t v < length t.words) × (address t (index t v) ≡ v)
     placed {v} r =

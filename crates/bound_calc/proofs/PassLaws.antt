@@ -107,7 +107,7 @@ waits-same : (old new : Powers) (w : ℕ) → power_at new w ≡ power_at old w 
     AreBest (Waits new w) (Waits old w)
 waits-same old new w same = are-within (waits-in new old w (sym same)) (waits-in old new w same)
 
--- what is brought elsewhere
+-- an edge to another word brings nothing to this one
 via-other : {to : Option ℕ} {w : ℕ} {f g : Costs} → (to ≡ Some w → ⊥) →
     AreBest (Either g (Via to w f)) g
 via-other never =
@@ -130,7 +130,7 @@ brought-none f old = record {
       (λ p c q y. elim y [ inl z ↦ z | inr z ↦ absurd (let e : None ≡ Some w = z.0 in cc) ]);
 }
 
--- what was waiting at an index, or nothing
+-- the costs that waited at an index, if any
 holds : (old : Powers) (k : ℕ) (m : Matrix) (was : Option Matrix) → power_at old k ≡ was →
     IsTaken was m → Within (Waits old k) (In (entry m)) × Within (In (entry m)) (Waits old k)
 holds old k m None is none = (
@@ -189,7 +189,7 @@ is-brought to k first joined f front mid was is lt others count at taken best = 
               absurd (ne (let e : Some k ≡ Some w = sym is ∙ z.0 in let n : k ≡ w = cc in sym n))
         ]))
 
--- what waits at an index, joined with what leads on to it
+-- the costs that wait at an index, joined with those of the frontier
 pub joined-ahead : (f : FrontModel) (k : ℕ) (first base joined : Matrix) (was : Option Matrix) →
     power_at f.waiting k ≡ was → IsTaken was first → base ≡ f.base →
     IsBest (entry joined) (Either (In (entry first)) (Then (In (entry base)) (Hops f.hops))) →
@@ -223,7 +223,7 @@ no-hop (suc n) (suc p) d q e = no-hop n p d q e
 abbrev add-hop : ℕ → Option Hop → Option Hop
 add-hop n o = option_map (λ k. record { cost = n + k.cost; position = k.position }) o
 
--- steps put together
+-- steps, composed with a table of steps
 pub then-hops : (o : Positions) (lag : ℕ) (first row result : List (Option Hop)) →
     IsHops o lag row → length first ≡ 8 → length result ≡ 8 →
     ((p : ℕ) → p < 8 → slice_index_or result p None ≡ hop_chain (slice_index_or first p None) row) →
@@ -277,7 +277,7 @@ then-hops o lag first row result h len len' each p d q =
 pub still : (p d q : ℕ) → Hops (replicate 8 None) p d q → ⊥
 still p d q e = no-hop 8 p d q e
 
--- the front went on to the next word, by the turns or by what waits there
+-- the frontier went on to the next word by the turns
 pub led-turns : (o : Positions) (next : Option ℕ) (lag k : ℕ) (old : FrontModel) (row : HopRow) →
     lag ≤ 3 → length o.frame ≤ 8 → IsHops o lag row.hops → next ≡ Some (k + 1) →
     IsLed o None next lag k old (record { waiting = old.waiting; base = old.base; hops = row.hops })
@@ -319,7 +319,7 @@ led-turns o next lag k old row small frame h is = record {
       },
     )
 
--- nothing leads on from the front itself
+-- a frontier without steps adds nothing to the costs that wait
 pub no-led : (f : FrontModel) (n w : ℕ) → ((p d q : ℕ) → Hops f.hops p d q → ⊥) →
     AreBest (Ahead f n w) (Waits f.waiting w)
 no-led f n w none =
@@ -403,7 +403,7 @@ led-on t o way k last old mid new l b = record {
         swap-back p c q (inl (inr y)) = inr y
         swap-back p c q (inr y) = inl (inr y)
 
--- what a way costs leads to own positions
+-- the costs of going on from a word lead to own positions
 pub moved-own : (o : Positions) (ways : WaysOn) → AreWays o ways →
     (k lag p d q : ℕ) (w : Option Matrix) → ways k ≡ w → move_costs o w lag p d q → IsOwn o q
 moved-own o ways are k lag p d q None e m = m.own
@@ -600,7 +600,7 @@ jump-aligned t is k v e =
 pub lag-small : (t : Tree) (k : ℕ) → (edges_at t k).next_lag ≤ 3
 lag-small t k = next-short (word_at t (address t k)) (address t k)
 
--- what reaches the word at an index: where it is no head of a loop
+-- the costs at the word at an index, if it is no head of a loop
 plain : (t : Tree) (o : Positions) (ways : WaysOn) (s : Scope) (k : ℕ)
     (powers : Powers) {a : Costs} → IsReady (over t o ways) t s powers →
     power_at powers k ≡ None → AreBest a (Enters (net (over t o ways)) s (address t k)) →
@@ -639,7 +639,7 @@ straight t o ways s k f powers is y p high within none empty =
       | inr l ↦ l.1
     ])
 
--- at one where the front was taken up
+-- the costs at a word where the frontier's costs were collected
 pub arrived : (t : Tree) (o : Positions) (ways : WaysOn) (s : Scope) (k : ℕ)
     (f new : FrontModel) (powers : Powers) → IsTree t → IsReady (over t o ways) t s powers →
     IsFront (over t o ways) t s k f → s.low ≤ address t k → address t k ≤ s.high →
@@ -736,7 +736,7 @@ waits-before t o ways s k f waiting p others w up high =
     (are-through (are-within (λ p c q z. inl z) (λ p c q z.
     elim z [ inl y ↦ y | inr y ↦ absurd (omega (arith, y.0)) ])) (p.ahead w (omega arith) high))
 
--- the front went on from a word where it was taken up
+-- the frontier went on from a word where its costs were collected
 pub gone : (t : Tree) (o : Positions) (ways : WaysOn) (s : Scope) (first last k : ℕ)
     (f here new : FrontModel) (powers : Powers) → IsTree t → IsReady (over t o ways) t s powers →
     IsSpan t s first last → first ≤ k → k ≤ last → IsFront (over t o ways) t s k f →
@@ -753,7 +753,7 @@ gone t o ways s first last k f here new powers is y sp from le p a g = record {
       (omega (arith, sp.within)) (omega (arith, sp.inside)) a)) g.ahead;
 }
 
--- the front went past a word of straight code
+-- the frontier passed a word of straight code
 pub skipped : (t : Tree) (o : Positions) (ways : WaysOn) (s : Scope) (first last k : ℕ)
     (f new : FrontModel) (powers : Powers) → IsTree t → IsReady (over t o ways) t s powers →
     IsSpan t s first last → first ≤ k → k ≤ last → IsFront (over t o ways) t s k f →
@@ -996,7 +996,7 @@ reach-more at n m f len before best k lt = go (let z : (k < n) ⊎ (k ≡ n) = g
         subst (λ i. IsBest (matrix_at (at ++ m ∷ []) i) (f i)) (sym same)
         (subst (λ a. IsBest (entry a) (f n)) (sym here) best)
 
--- what an index reads of the powers
+-- the matrix that an index reads from the powers
 pub read-power : (powers : Powers) (k : ℕ) (r : Option (Box Matrix Global)) →
     r ≡ slice_index_or powers k r → k < length powers →
     power_at powers k ≡ option_map (λ b. b.value) r

@@ -15,7 +15,7 @@ use Rattle.region_tree.specs.Graph.{Edge, Holds, Lies, Reachable}
 use Rattle.bound_calc.specs.Context.Walk.{start, step}
 use Rattle.region_tree.specs.Graph.Reachable.{next}
 
--- a walk from a reachable word ends at one
+-- a path from a reachable word ends at a reachable word
 pub walk-reachable : {x : Field} {s : Scope} {p n v q c : ℕ} {k : LoopSetup → ℕ} →
     Reachable x.graph s.low → Walk (net x) s p n v q c k → Reachable x.graph v
 walk-reachable r (start o) = r

@@ -1,4 +1,4 @@
--- A walk's piece inside a loop is rounds, and rounds are a piece of a walk.
+-- The steps of a path inside a loop are rounds, and rounds are steps of a path.
 use Rattle.std.proofs.Common.{◌≡◌, ◌≢◌, ℕ, ◌+◌, ◌<◌, ◌≤◌, ◌⊎◌, refl, arith, inl, inr}
 use Rattle.std.proofs.Common.{ap, subst, sym, ◌∙◌, List, [], ◌∷◌, ◌++◌, Contains, true}
 use Rattle.std.specs.Prelude.{nat_le, nat_lt, ◌&&◌}
@@ -59,7 +59,7 @@ leads-to : (x : Course) (u p : ℕ) (ts : List Step) (v q v' q' : ℕ) → v' �
 leads-to x u p ts v q v' q' a b l =
     subst (λ w. Leads x u p ts w q') (sym a) (subst (λ r. Leads x u p ts v r) (sym b) l)
 
--- the first steps of a walk
+-- the first steps of a path
 leads-front : (x : Course) (u p : ℕ) (after ts : List Step) (v q : ℕ) →
     Leads x u p (after ++ ts) v q → Leads x u p ts (word_after u ts) (position_after p ts)
 leads-front x u p [] ts v q l =
@@ -77,7 +77,7 @@ kept : (loops : List LoopSetup) (ts : List Step) → Keeps loops (λ i. 0) ts �
 kept loops [] k i h = omega arith
 kept loops (t ∷ ts) k i h = k.1 i h
 
--- what the steps inside a loop are, while its counter is the number of whole rounds
+-- The steps inside a loop as rounds; the loop's counter is the number of whole ones.
 record Found (x : Course) (j : LoopSetup) (p : ℕ) (before during : List Step)
     (v q : ℕ) : Type 0 where
   count : ℕ

@@ -1,4 +1,4 @@
--- A section's walks are the walks of its net.
+-- The paths of a section are the paths of its net.
 use Rattle.std.proofs.Common.{◌≡◌, ℕ, ◌+◌, ◌<◌, ◌≤◌, ◌⊎◌, refl, arith, inl}
 use Rattle.std.proofs.Common.{inr, ap, subst, sym, Contains, List, [], ◌∷◌}
 use Rattle.bound_calc.proofs.Counters.{moved}
@@ -102,7 +102,7 @@ walk_of x p (t ∷ ts) v q a o l k = go (walk_of x p ts t.from t.at a o l.0 k.0)
           (may (let s : (t.from < t.to) ⊎ (t.to ≤ t.from) = grind arith in s)) k.1),
     )
 
--- a walk of the net as steps
+-- a path of the net as steps
 pub record Walked (x : Course) (p v q c : ℕ) (k : LoopSetup → ℕ) : Type 0 where
   pub steps : List Step
   pub walk : IsWalk x p steps v q

@@ -1,4 +1,4 @@
--- A walk to a word of a loop is a walk to the loop's head, and then a walk of the loop's own part.
+-- A path to a word of a loop is a path to the loop's head, and then a path of the loop's own part.
 use Rattle.std.proofs.Common.{◌≡◌, ℕ, ◌+◌, ◌<◌, ◌≤◌, ◌⊎◌, refl}
 use Rattle.std.proofs.Common.{arith, inl, inr, ap, subst, sym, ◌∙◌}
 use Rattle.bound_calc.proofs.BestLaws.{same}
@@ -28,7 +28,7 @@ pub record Split (g : Net) (s : Scope) (j : LoopSetup) (p n v q c : ℕ)
 pub at_or_above : (a b : ℕ) → a ≤ b → (b ≡ a) ⊎ (a < b)
 at_or_above a b h = grind arith
 
--- at the head itself the second walk has no steps
+-- at the head itself the second path has no steps
 at_head : {g : Net} {s : Scope} (j : LoopSetup) {p n v q c : ℕ} {k : LoopSetup → ℕ} → g.own q →
     Walk g s p n v q c k → v ≡ j.head → Split g s j p n v q c k
 at_head {g} {s} j {p} {n} {v} {q} {c} {k} o w e = record {

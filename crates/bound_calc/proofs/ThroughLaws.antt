@@ -63,7 +63,7 @@ ended-more s ends at n true back new e h best =
         sorted p c q z
         (let y : (z.index < n) ⊎ (z.index ≡ n) = (let b = z.below in grind arith) in y)
 
--- a step from where the thread stands still
+-- a jump from an own position, without a step before it
 pub jump-best : (s : Positions) (one : Matrix) (hops : List (Option Hop)) (m : Matrix) →
     IsBest (entry one) (Stays (IsOwn s)) → IsHops s 3 hops → IsBest (entry m)
     (Either (In (entry (record { best = replicate 8 (replicate 8 None) })))

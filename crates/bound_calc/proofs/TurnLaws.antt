@@ -277,7 +277,7 @@ pub is-turned : (f : Costs) (back here joined : Matrix) (target : Option ℕ) (h
 is-turned f back here joined target head is best =
     record { other = λ never. absurd (never is); there = λ z. best }
 
--- all words, whose number is told otherwise
+-- a loop's round, after all words of the loop were passed
 pub turns-done : {m : Entries} (t : Tree) (o : Positions) (ways : WaysOn)
     (j : LoopSetup) (first last k : ℕ) → IsTree t → Reachable (graph t) j.head →
     Contains t.loops j → IsScope (net (over t o ways)) (body (net (over t o ways)) j) →

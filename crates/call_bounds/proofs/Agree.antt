@@ -1,5 +1,5 @@
--- Two graphs whose edges are the same at each multiple of four among their words have the same
--- reachable words, the same causes for a refusal and the same walks.
+-- Two graphs whose edges agree at each multiple of four among their words. They have the same
+-- reachable words, causes of refusal and paths.
 use Rattle.std.proofs.Common.{◌≡◌, ℕ, ◌+◌, ◌%◌, ◌<◌, ◌≤◌, inl, inr}
 use Rattle.std.proofs.Common.{arith, sym, subst, ◌∙◌, List, Contains}
 use Rattle.fp_setup.specs.declared.loop_list.LoopSetup.{LoopSetup}
@@ -98,7 +98,7 @@ rows {from} {to} {loops} {edges} {edges'} {stop} {stop'} a is = record {
       address = h.address;
     }))
 
--- the walks of the first are those of the second
+-- the paths of the first are those of the second
 pub walks : {from to : ℕ} {loops : List LoopSetup} {edges edges' : ℕ → List Edge}
     {stop stop' : ℕ → Stop} {own : ℕ → Type 0} {move : ℕ → ℕ → Costs} {s : Scope}
     {p n v q c : ℕ} {k : LoopSetup → ℕ} → Agree from to edges edges' stop stop' →

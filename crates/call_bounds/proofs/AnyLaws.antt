@@ -60,7 +60,7 @@ pub any-none : {m : Entries} {f : ℕ → Costs} → ((p q c : ℕ) → m p q �
 any-none none =
     ((λ p c q x. absurd (let b = x.1 in omega arith)), (λ p e q is. absurd (none p q e is)))
 
--- what holds below n + 1 holds below n, or at n
+-- a cost below n + 1 is one below n, or at n
 split : (f : ℕ → Costs) {n p c q : ℕ} → Any f (n + 1) p c q → Any f n p c q ⊎ f n p c q
 split f {n} {p} {c} {q} (k, lt, x) = go (let z : (k < n) ⊎ (k ≡ n) = grind arith in z)
   where
@@ -117,7 +117,7 @@ onto-more {onto} f g h n cut join a b c = best-same there away (best-onto (best-
     away p c q (inl z) = inl (inl (inl z))
     away p c q (inr z) = sorted p c q (split f z)
 
--- what is joined onto a matrix if a test holds
+-- costs that are joined with a matrix if a test holds
 pub when-true : {onto new : Entries} (f : Costs) (b : Bool) → b ≡ true →
     IsBest new (Either (In onto) f) → IsBest new (Either (In onto) (When b f))
 when-true f true e best = best

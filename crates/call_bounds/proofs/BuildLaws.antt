@@ -1,4 +1,4 @@
--- What is answered of a section with its routines.
+-- The result of building a section with its routines.
 use Rattle.region_tree.specs.Refusals.{Nowhere}
 use Rattle.call_bounds.specs.CallRefusals.{EscapeAt, IsCallable}
 use Rattle.call_bounds.specs.CallRefused.{IsCallRefused, IsTreeRefused}

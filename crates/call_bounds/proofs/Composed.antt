@@ -1,4 +1,4 @@
--- What a pass over a patched part holds is the best of the part's walks.
+-- A pass over a patched function gives the best costs of the function's paths.
 use Rattle.std.proofs.Common.{◌≡◌, ℕ, ◌+◌, ◌%◌, arith, ap, sym, subst, Option}
 use Rattle.std.proofs.Common.{Some, None, [], ◌∷◌, slice_index_or, Contains}
 use Rattle.fp_setup.specs.declared.loop_list.LoopSetup.{LoopSetup}
@@ -22,7 +22,7 @@ use Rattle.call_bounds.proofs.PatchLaws.{agrees}
 use Rattle.call_bounds.proofs.RunNet.{netted, run_of}
 use Rattle.call_bounds.proofs.Ways.{IsWay, ways-stand}
 
--- a walk of a part to word v
+-- a path of a function to word v
 pub record RunsTo (x : Route) (a : Part) (v p c q : ℕ) : Type 0 where
   pub counters : LoopSetup → ℕ
   pub run : Run x a p v q c counters
@@ -48,7 +48,7 @@ agrees-back x a is = let g = agrees x a is in record {
   aligned = λ u e align h. onward-aligned (callee x u) (x.word u) u e align h;
 }
 
--- the ways of a part's calls hold what their routines cost
+-- the matrices of a function's calls hold the costs of their routines
 abbrev pub HoldsCalls : Route → Part → WaysOn → Type 0
 HoldsCalls x a ways =
     (u : ℕ) → Reachable (part x.calls a) u →

@@ -1,4 +1,4 @@
--- What call walks cost is what walks of single parts cost, one within the other.
+-- Paths with matching calls and returns cost the same as nested paths of single functions.
 use Rattle.std.proofs.Common.{◌≡◌, ℕ, ◌+◌, ◌≤◌, ◌⊎◌, refl, arith, inl, inr, subst}
 use Rattle.std.proofs.Common.{sym, ◌∙◌, Some, None, List, [], ◌∷◌, Contains}
 use Rattle.fp_setup.specs.declared.loop_list.LoopSetup.{LoopSetup}
@@ -18,7 +18,7 @@ begins (CallWalk.along e walk edge lies turn bounds) = begins walk
 begins (CallWalk.enter walk to turn) = begins walk
 begins (CallWalk.come_back walk back lies turn bounds) = begins walk
 
--- a walk that goes on from where the open walks stand
+-- a path that continues the open paths of single functions
 wrap : (x : Route) (l : LoopSetup → ℕ) (p : ℕ) (s : List ℕ) (u q c i z : ℕ) → Open x l p s u q c →
     ((m own : ℕ) (k : LoopSetup → ℕ) → Run x (part_in x.calls s) m u q own k →
     Deep x (part_in x.calls s) m (own + i) z) → Deep x None p (c + i) z
@@ -68,7 +68,7 @@ in_parts x is (CostsOf.goes_back {p = p} {u = u} {q = q} {w = w} {c = c} {d = d}
           })));
     }
 
--- from where a call walk entered a part
+-- a path with matching calls and returns that has just entered a function costs these sums
 abbrev Goes : Route → ℕ → Part → ℕ → ℕ → Type 0
 Goes x p a m c =
     (s : List ℕ) (n : ℕ) (l : LoopSetup → ℕ) → part_in x.calls s ≡ a →
@@ -98,7 +98,7 @@ goes x p is {a} {m} (Deep.enters {u = u} {q = q} {c = c} {d = d} {r = r} {i = i}
             (CallsLead.one reached y.word to)
         over_t b (inr h) = CallsLead.more (over b h) reached y.word to
 
--- a walk of the section, played
+-- a path of the section as one with matching calls and returns
 from_start : (x : Route) (p : ℕ) → AreParts x.calls → IsOwn x.positions p → {u q c : ℕ}
     {k : LoopSetup → ℕ} → Run x None p u q c k → Played x p [] None u q (0 + c) (λ _. 0) k
 from_start x p is o run =
@@ -136,7 +136,7 @@ flat x c is n = go n.costs
         (λ _. 0) refl IsReached.first (λ b h. absurd h) (CallWalk.start n.own) (λ j h e. refl))
     go (inr z) = leaving n.at n.own z
 
--- the bound, by what walks of single parts cost
+-- the bound, by nested paths of single functions
 pub bound_in_parts : (x : Route) (b : ℕ) → AreParts x.calls → Nested x b →
     ((c : ℕ) → Nested x c → c ≤ b) → IsCallBound x b
 bound_in_parts x b is met kept =

@@ -59,7 +59,7 @@ back {own} {loop} {arc} {arc'} {s} {p} st
 larger : (c c' e n : ℕ) → min c n ≤ c' → min c' n ≤ e → min c n ≤ e
 larger c c' e n h h' = omega arith
 
--- what is best for the second net is best for the first
+-- a matrix that is best for the second net is best for the first
 pub costs_agree : {own : ℕ → Type 0} {loop : LoopSetup → Type 0}
     {arc arc' : ℕ → ℕ → ℕ → ℕ → ℕ → Type 0} {s : Scope} {m : Entries} {v : ℕ} →
     CostsAgree own loop arc arc' →

@@ -22,12 +22,12 @@ exact x b is m small = record {
   kept = λ c h. let n = m.covers c (in_parts x is h) in omega arith;
 }
 
--- else some walk costs 2 ^ 64 or more
+-- otherwise some path costs 2 ^ 64 or more
 pub large : (x : Route) (b : ℕ) → AreParts x.calls → IsMost x b → 2 ^ 64 ≤ b →
     (c : ℕ) × CostsOf x c × (2 ^ 64 ≤ c)
 large x b is m big = let z = m.among in (z.0, flat x z.0 is z.1, let n = z.2 in omega arith)
 
--- what is answered of it in 64 bits
+-- the result in 64 bits
 abbrev pub Answered : ℕ → Result ℕ BoundNo → Type 0
 Answered most r =
     MatchResult r (λ bound. (bound ≡ most) × (most < 2 ^ 64))
@@ -45,7 +45,7 @@ answer-refused x most (Ok bound) is m h = tt
 answer-refused x most (Err why) is m h =
     subst (λ why. IsTooCostly x why) (sym h.0) (refl, large x most is m h.1)
 
--- where memory was refused nothing is told of the bound
+-- a refused allocation implies nothing about the bound
 pub no-memory : (x : Route) (r : Result ℕ BoundNo) → IsErrAnd r (λ no. no ≡ NoMemory) →
     IfOk r (IsCallBound x) × IfErr r (IsTooCostly x)
 no-memory x (Ok bound) h = absurd h

@@ -36,7 +36,7 @@ to-listed : (rs : List Routine) (o : Option ℕ) (r : Routine) →
 to-listed rs None r e = cc
 to-listed rs (Some a) r e = at-listed rs a r e
 
--- what is called is listed
+-- a called routine is listed
 pub callee-listed : (x : Calls) (u : ℕ) (r : Routine) → callee x u ≡ Some r → Contains x.routines r
 callee-listed x u r e = to-listed x.routines (link_target u (ins (x.word u))) r e
 

@@ -1,4 +1,4 @@
--- Walks of single parts, one within the other, are a call walk.
+-- Nested paths of single functions form one path with matching calls and returns.
 use Rattle.std.proofs.Common.{◌≡◌, ◌≢◌, ℕ, ◌+◌, ◌<◌, ◌≤◌, ◌⊎◌, refl, arith, inl}
 use Rattle.std.proofs.Common.{inr, subst, sym, ◌∙◌, Some, List, ◌∷◌, Contains}
 use Rattle.std.proofs.lemmas.Bool.Decides.{nat_tests}
@@ -45,7 +45,7 @@ within (CallWalk.enter {k = l} {t = t} walk to turn) j h =
     let a = within walk j h in let b = called-≤ t j (l j) in omega arith
 within (CallWalk.come_back walk back lies turn bounds) j h = bounds j h
 
--- a walk of a part, played from where a call walk entered the part
+-- a path of a function, appended to a path that has just entered the function
 pub record Played (x : Route) (p : ℕ) (s : List ℕ) (a : Part) (u q c : ℕ)
     (l k : LoopSetup → ℕ) : Type 0 where
   pub counters : LoopSetup → ℕ
@@ -107,7 +107,7 @@ not-head x a b v j is lead lies h e =
     apart x b a v is lead (subst (λ z. Lies (part x b) z) (sym e)
     (head-lies x b j (is.accepted b (lead-from x b a lead)) h)) lies
 
--- from whatever call walk
+-- the same for every path that has just entered the function
 abbrev pub Plays : Route → ℕ → Part → ℕ → ℕ → ℕ → ℕ → (LoopSetup → ℕ) → Type 0
 Plays x p a m u q c k =
     (s : List ℕ) (n : ℕ) (l : LoopSetup → ℕ) → part_in x.calls s ≡ a →

@@ -1,4 +1,4 @@
--- What leads out of the section, word by word.
+-- The costs of leaving the section, word by word.
 use Rattle.std.proofs.Common.{◌≡◌, ℕ, ◌+◌, ◌*◌, ◌<◌, ◌≤◌, ◌⊎◌, ◌∙◌, refl, arith, inl, inr, ap, sym}
 use Rattle.std.proofs.Common.{subst, min, Option, Some, None, List, Bool, true, false, Contains}
 use Rattle.std.proofs.lemmas.List.Elements.{Contains-append_left, Contains-append_right}
@@ -31,7 +31,7 @@ use Rattle.call_bounds.proofs.PatchLaws.{agrees}
 use Rattle.call_bounds.proofs.RunNet.{call-is, plain-move}
 use Rattle.call_bounds.proofs.Ways.{IsWayOf, covered, found}
 
--- a walk of the section and an edge of its graph out of it
+-- a path of the section and an edge of its graph out of it
 record Leaves (x : Route) (p c q : ℕ) : Type 0 where
   word : ℕ
   at : ℕ
@@ -120,7 +120,7 @@ sum-among : (a b c one two n : ℕ) → min one n ≡ min a n → min two n ≡ 
     min c n ≡ min (a + b) n
 sum-among a b c one two n h1 h2 is = omega arith
 
--- what leads to the words and from there out of the section costs what walks do that leave it
+-- the costs at the words, each with its steps out of the section, are those of leaving paths
 pub leaving-alike : (x : Route) (at : List Matrix) (ways : WaysOn) → Gone x None at →
     ((u : ℕ) → Reachable (part x.calls None) u →
     IsWayOf x (Through x) (callee x.calls u) (ways (index (part_tree x.calls None) u))) →
@@ -255,7 +255,7 @@ leaving-alike x at ways g are = record {
             by_edge v lag (known (record { to = v; lag = lag }) (is-edge (Some v) lag v refl))
             (leaves-not t v y.0) y.1
 
--- walks begin at own positions
+-- paths begin at own positions
 run-own : (x : Route) {a : Part} {p u q c : ℕ} {k : LoopSetup → ℕ} → Run x a p u q c k →
     IsOwn x.positions p
 run-own x (Run.start o) = o

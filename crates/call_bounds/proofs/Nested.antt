@@ -1,4 +1,5 @@
--- A call walk is one walk of each part that stands open, each within the one that called it.
+-- A path with matching calls and returns is one path of each open function, each within its
+-- caller's.
 use Rattle.std.proofs.Common.{◌≡◌, ◌≢◌, ℕ, ◌+◌, ◌≤◌, ◌⊎◌, refl, arith, inl, inr}
 use Rattle.std.proofs.Common.{subst, sym, Some, None, List, [], ◌∷◌, Contains}
 use Rattle.std.proofs.lemmas.Bool.Decides.{nat_tests}
@@ -13,7 +14,7 @@ use Rattle.call_bounds.specs.CallWalk.{CallWalk, Route, counter_after_call, part
 use Rattle.call_bounds.specs.Runs.{Run}
 use Rattle.call_bounds.proofs.Parts.{AreParts, apart, call-edge, head-lies, lead-from, plain-edge}
 
--- the parts below the one in which a walk is, and all of them
+-- the functions below the newest open one on the call stack
 abbrev pub Below : Calls → List ℕ → Part → Type 0
 Below x [] a = ⊥
 Below x (w ∷ s) a = (a ≡ part_in x s) ⊎ Below x s a
@@ -47,7 +48,7 @@ pub record Level (x : Route) (l : LoopSetup → ℕ) (under : ℕ → ℕ → �
   pub over : (b : Part) → below b → CallsLead x.calls b (Some routine)
   pub cost : c ≡ one + (two + three)
 
--- the walks that stand open, with flat counters l
+-- the paths of the open functions, with the counters l of the whole path
 abbrev pub Open : Route → (LoopSetup → ℕ) → ℕ → List ℕ → ℕ → ℕ → ℕ → Type 0
 Open x l p [] u q c = Bottom x l p u q c
 Open x l p (w ∷ s) u q c = Level x l (Open x l p s) (Below x.calls (w ∷ s)) w u q c
@@ -86,7 +87,7 @@ open-same x l l' p (w ∷ s) u q c here below o = record {
   cost = o.cost;
 }
 
--- the walk of the part in which the walk is
+-- the path of the newest open function
 pub record Top (x : Route) (l : LoopSetup → ℕ) (p : ℕ) (s : List ℕ) (u q c : ℕ) : Type 0 where
   pub from : ℕ
   pub before : ℕ
@@ -181,7 +182,7 @@ aside-call x t b l is lead reached j h =
     let e = called-other t j (l j) other in
     omega arith
 
--- a call walk, as the walks that stand open
+-- a path with matching calls and returns, as paths of the open functions
 pub opened : (x : Route) (p : ℕ) → AreParts x.calls → {u q c : ℕ} {s : List ℕ} {l : LoopSetup → ℕ} →
     CallWalk x p u q s c l → Open x l p s u q c
 opened x p is (CallWalk.start o) =

@@ -1,4 +1,4 @@
--- What the matrices of a part's words hold, as costs of its walks.
+-- The matrices of a function's words are the costs of its paths.
 use Rattle.std.proofs.Common.{◌≡◌, ℕ, ◌+◌, ◌-◌, ◌*◌, ◌/◌, ◌<◌, ◌≤◌, ◌∙◌, refl, arith, inl}
 use Rattle.std.proofs.Common.{inr, ap, sym, subst, suc, zero, min, Option, Some, None}
 use Rattle.std.proofs.Common.{List, length, slice_index_or, Bool, true, false, nat_lt}
@@ -33,7 +33,7 @@ use Rattle.call_bounds.proofs.RunNet.{netted}
 use Rattle.call_bounds.proofs.ThroughBest.{through-best}
 use Rattle.call_bounds.proofs.Ways.{IsWayOf}
 
--- the words of a part are a section that may be asked for
+-- the words of a function are a valid section
 pub part-section : (x : Calls) (a : Part) → IsListing x → IsReached x a → IsSection (range x a)
 part-section x None is r = is.section
 part-section x (Some t) is r =
@@ -122,14 +122,14 @@ holds l s n f costs callees is are many known u r =
           known i t.0 h.1 t.1 (record { routine = t.0; word = u; known = r; call = to; to = t.1 }),
         )
 
--- what is known once the words of a part have been gone over
+-- the facts after a pass over the words of a function
 pub record Gone (x : Route) (a : Part) (at : List Matrix) : Type 0 where
   pub section : IsSection (range x.calls a)
   pub accepted : IsAccepted (part x.calls a)
   pub best : (k : ℕ) → k < count (range x.calls a) →
       IsBest (matrix_at at k) (RunsTo x a ((range x.calls a).from + 4 * k))
 
--- a walk's word has an index, with its best
+-- the last word of a path has an index, with its best cost
 pub record RunAt (x : Route) (a : Part) (at : List Matrix) (u p c q : ℕ) : Type 0 where
   pub word : Reachable (part x.calls a) u
   pub index : IndexOf x.calls a u
@@ -160,8 +160,8 @@ ends-on : (w : Option Matrix) (m : Matrix) (here : Entries) {p c q : ℕ} → w 
     Then (In here) (In (entry m)) p c q → EndsAt w here p c q
 ends-on w m here {p} {c} {q} e t = subst (λ w. EndsAt w here p c q) (sym e) (inr t)
 
--- what ends at the words, or goes on from there by the matrices of their calls, costs what walks do
--- that end in the part or below it
+-- The costs at the words, and on through the matrices of their calls, are those of paths that end
+-- in the function or one that it calls.
 pub deep-alike : (x : Route) (a : Part) (at : List Matrix) (into : WaysOn) → Gone x a at →
     ((u : ℕ) → Reachable (part x.calls a) u →
     IsWayOf x (λ t. Deep x (Some t)) (callee x.calls u) (into (index (part_tree x.calls a) u))) →
@@ -280,7 +280,7 @@ pub many : (l : Listing) (n : ℕ) (at : List Matrix) (s : Positions) (ways : Wa
     length at ≡ count (range (calls l) (part_at l n))
 many l n at s ways tree r = let w = tree.draft.words in omega (arith, r.count)
 
--- what ends in a part or below it
+-- the best costs of paths that end in a function or one that it calls
 pub deep-best : (l : Listing) (s : Positions) (n : ℕ) (callees : List (Option ℕ))
     (through deep at : List Matrix) (m : Entries) → AreSummaries l s through deep →
     IsReached (calls l) (part_at l n) → KnowsCallees l s n through deep →
@@ -299,7 +299,7 @@ deep-best l s n callees through deep at m are reached knows cs tree r best =
     (subst (λ n. IsBest m (Ending (ways_on (record { indices = callees; costs = deep })) at n))
     (many l n at s (ways_on (record { indices = callees; costs = through })) tree r) best)
 
--- what leads through a routine
+-- the best costs through a routine
 back-best : (x : Route) (a : Part) (t : Routine) (at : List Matrix) (ends : List Bool)
     (n : ℕ) (m : Entries) → a ≡ Some t → Gone x a at → n ≡ count (range x.calls a) →
     ((k : ℕ) → k < count (range x.calls a) →

@@ -10,7 +10,7 @@ use Rattle.call_bounds.specs.declared.routines.Routine.{Routine}
 use Rattle.call_bounds.specs.Calls.{Calls, CallsLead, IsReached, Part, callee}
 use Rattle.call_bounds.specs.Calls.{inner_edges, part, plain_edges, plain_unless}
 
--- What is known of parts where nothing refuses.
+-- The facts of functions, if there is no cause of a refusal.
 pub record AreParts (x : Calls) : Type 0 where
   pub some : (a : Part) → IsReached x a → (part x a).from < (part x a).to
   pub same : (a b : Part) (v : ℕ) → IsReached x a → IsReached x b → Lies (part x a) v →
@@ -43,7 +43,7 @@ pub word-lies : (x : Calls) (a : Part) (u : ℕ) → (part x a).from < (part x a
 word-lies x a u some first = record { low = omega arith; high = some }
 word-lies x a u some (next e r h l) = l
 
--- what calls lead to is reached, and so is what they lead from
+-- calls lead only from reached functions to reached functions
 pub lead-reached : (x : Calls) (a b : Part) → CallsLead x a b → IsReached x b
 lead-reached x a b (CallsLead.one r w e) = IsReached.next r w e
 lead-reached x a b (CallsLead.more l r w e) = IsReached.next r w e

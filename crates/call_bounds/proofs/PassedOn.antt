@@ -1,4 +1,4 @@
--- What is told of errors that are passed on.
+-- Clauses about errors that a function passes on.
 use Rattle.std.proofs.Common.{◌≡◌, sym, subst, Result, Ok, Err, IfOk, IfErr, OnOk}
 use Rattle.std.specs.Result.{IsErrAnd}
 use Rattle.call_bounds.specs.declared.tree.CallNo.{CallNo}
@@ -20,18 +20,18 @@ pub no-success : {A E : Type 0} (r : Result A E) (P : Type 0) (Q : E → Type 0)
 no-success (Ok value) P Q h = absurd h
 no-success (Err why) P Q h = tt
 
--- what holds anyway is told of a success
+-- a clause on successes holds if its claim holds in any case
 pub any-success : {A E : Type 0} (r : Result A E) (P : Type 0) → P → OnOk r P
 any-success (Ok value) P p = p
 any-success (Err why) P p = tt
 
--- an error is told as it was
+-- a clause on errors holds if it holds of the error that is passed on
 pub told-as : {A E : Type 0} (P : E → Type 0) (r : Result A E) (why : E) →
     IsErrAnd r (λ told. told ≡ why) → P why → IfErr r P
 told-as P (Ok value) why h is = absurd h
 told-as P (Err told) why h is = subst P (sym h) is
 
--- that memory was refused is told whatever holds
+-- a refused allocation is always a permitted refusal
 pub memory-refused : {A : Type 0} (x : Calls) (r : Result A CallNo) →
     IsErrAnd r (λ told. told ≡ NoMemory) → IfErr r (IsCallRefused x)
 memory-refused x r h = told-as (IsCallRefused x) r NoMemory h tt

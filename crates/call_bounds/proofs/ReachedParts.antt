@@ -1,4 +1,4 @@
--- What calls lead to, by the table of who calls whom.
+-- Call-graph reachability, by the table of which functions call which.
 use Rattle.std.proofs.Common.{◌≡◌, ℕ, ◌<◌, ◌⊎◌, refl, arith, inl, inr}
 use Rattle.std.proofs.Common.{sym, subst, ◌∙◌, Some, None, List, Bool}
 use Rattle.call_bounds.specs.Reachability.{DoesCall as DoesRow, IsCalled}
@@ -44,7 +44,7 @@ lead-more : (x : Calls) (p q s : Part) → CallsLead x p q → IsReached x q →
 lead-more x p q s l r d =
     subst (λ s. CallsLead x p s) (sym d.to) (CallsLead.more l r d.known d.call)
 
--- what the table leads to calls lead to
+-- calls lead to a function that the table leads to
 pub lead-of : (l : Listing) (table : List Bool) (j : ℕ) → IsTable l table →
     IsReached (calls l) (part_at l j) → {k : ℕ} → IsCalled (part_count l) table j k →
     CallsLead (calls l) (part_at l j) (part_at l k)

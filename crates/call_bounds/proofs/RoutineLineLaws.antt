@@ -11,7 +11,7 @@ use Rattle.call_bounds.specs.declared.routines_refusals.RoutinesNo.TheVariants.{
 use Rattle.call_bounds.specs.declared.routines_refusals.RoutinesRefused.{RoutinesRefused}
 use Rattle.call_bounds.specs.declared.routines.Routine.{Routine}
 
--- by whether it is one too many, has the form, may stand there and is above the one before it
+-- the checks of a line: the number of routines, the form, the placement, and the rising order
 abbrev pub checked : ℕ → Bool → Bool → Bool → Bool → Routine → Result Routine RoutinesRefused
 checked n many form placed above r =
     unless (first_fault (check n many TooMany ∷ check n (not form) BadLine

@@ -232,7 +232,7 @@ line-stops size n before line rest e len some is = go (has_form line) refl
         ∙ fault-first size n before line (lines_of rest) e is
     go false form = at (broken line rest len some form) form
 
--- what is there already, in front of what the rest gives
+-- the routines so far, before the routines of the rest
 abbrev pub joined : List Routine → Result (List Routine) RoutinesRefused →
     Result (List Routine) RoutinesRefused
 joined xs r = and_then r (λ more. Ok (xs ++ more))

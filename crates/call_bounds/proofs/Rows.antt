@@ -1,4 +1,4 @@
--- A section of three words with two calls of a routine of two, computed: a walk through it costs
+-- A section of three words with two calls of a routine of two, computed: a path through it costs
 -- 15.
 use Rattle.std.proofs.Common.{◌≡◌, ℕ, ◌==◌, refl, arith, true, if◌then◌else◌}
 use Rattle.std.proofs.Common.{Some, None, [], ◌∷◌, Contains, subst, sym}

@@ -1,4 +1,4 @@
--- The walks of one part are the walks of its net, in which a call is one arc.
+-- The paths of one function are the paths of its net, in which a call is one arc.
 use Rattle.std.proofs.Common.{◌≡◌, ℕ, ◌+◌, ◌<◌, ◌≤◌, ◌⊎◌, refl, arith, inl, inr, ap, subst, sym}
 use Rattle.std.proofs.Common.{Option, Some, None, Contains, List, [], ◌∷◌, slice_index_or, ◌≢◌}
 use Rattle.fp_setup.specs.declared.loop_list.LoopSetup.{LoopSetup}
@@ -44,7 +44,7 @@ field-part x a is = record {
   closed = λ j i h h' inside. h';
 }
 
--- a walk of the part, as one of its net
+-- a path of the function, as one of its net
 pub record Netted (x : Route) (a : Part) (p u q c : ℕ) (k : LoopSetup → ℕ) : Type 0 where
   pub steps : ℕ
   pub walk : Walk (net (field x a)) (whole (field x a)) p steps u q c k

@@ -55,7 +55,7 @@ marked o k row is lt = record {
 pub unmarked : (row : List Bool) → Marked None row row
 unmarked row = record { count = refl; grows = λ k h. h; here = λ k h. cc; from = λ k h. inl h }
 
--- the part that a word calls, by what the code says of it
+-- the function that a word calls, as the code returns it
 pub calls-at : (l : Listing) (t : Tree) (index : ℕ) (r : Option ℕ) →
     IsListing (calls l) → Reachable (graph t) (address t index) →
     MatchOption r (callee (calls l) (address t index) ≡ None)
@@ -113,7 +113,7 @@ row-next l t c o old new is m r = record {
     here k h (inl below) = m.grows k ((r.exact k).1 (h.0, below, h.2))
     here k h (inr same) = m.here k ((is k).1 (subst (λ i. CallsAt l t i k) (sym same) h.2))
 
--- what is marked is a part
+-- a marked number is that of a function
 pub mark-within : (l : Listing) (t : Tree) (c d : ℕ) (row : List Bool) (o : Option ℕ) →
     ((k : ℕ) → (o ≡ Some k) ↔ CallsAt l t c k) → IsRowTo l t d row → IfSome o (λ k. k < length row)
 mark-within l t c d row None is r = tt

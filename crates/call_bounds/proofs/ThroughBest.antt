@@ -1,4 +1,4 @@
--- What leads to a routine's returns and then a jump further is the best of what leads through it.
+-- The best costs to a routine's returns, each with the jump back, are the best costs through it.
 use Rattle.std.proofs.Common.{◌≡◌, ℕ, ◌+◌, ◌<◌, ◌≤◌, refl, arith, sym, subst, ◌∙◌}
 use Rattle.std.proofs.Common.{min, true, false, Bool, Some, List, slice_index_or}
 use Rattle.bound_calc.specs.declared.matrix.Matrix.{Matrix}

@@ -1,4 +1,4 @@
--- What is best where calls cost what matrices say is best where they cost what their routines do.
+-- Costs are best with the routines' costs if they are best with the matrices of the calls.
 use Rattle.std.proofs.Common.{◌≡◌, ℕ, ◌≤◌, refl, arith, sym, subst}
 use Rattle.std.proofs.Common.{Option, Some, None, min, Contains}
 use Rattle.region_tree.specs.Graph.{Reachable}

@@ -101,7 +101,7 @@ pub named-there : (slots i : ℕ) → i < 8 → names slots i ≡ true → Conta
 unfolding frame
 named-there slots i small e = used-there (nibbles slots) i small e
 
--- a section without a fault may be asked for, and the thread has a slot
+-- a section without a fault is a valid argument, and the thread has a slot
 asked_by : (hard named order aligned outside : Bool) →
     let one : Option ℕ = Some 1 in
     (if not hard then one

@@ -84,7 +84,7 @@ calls_stop l section word slots i (in_bound.Overflow value) same_listing same_sl
     }))
 calls_stop l section word slots i in_bound.NoMemory same_listing same_slots accepted is = tt
 
--- what is told of a section through the routines of a file that is there
+-- the answer for a section, over the routines of a file that exists
 over_routines : (p : Program) (i : ℕ) (section : Section) (file : Option (List ℕ))
     (size : ℕ) (list : List Routine) (x : Answer) → section_fault p.setup i section ≡ None →
     size ≡ size_of p.setup.version → over_file (routines_in size) file ≡ Ok list →
@@ -134,7 +134,7 @@ calls_stopped told name p i section size list before after none same made (Err s
     go (Some files) Read made is = absurd is
     go (Some files) NoMemory made is = tt
 
--- where the section may not be asked for, no file counts
+-- if the section has a fault, the answer depends on no file
 pub fault_told : (told : Option FileMap) (name : List ℕ) (p : Program) (i : ℕ)
     (section : Section) (code : ℕ) → section_fault p.setup i section ≡ Some code →
     IfSome told

@@ -67,7 +67,7 @@ ok_over : {A : Type 0} → (over : List ℕ → Result A Answer) →
 ok_over over bytes most r cut None found is = absurd found
 ok_over over bytes most r cut (Some whole) found is = sym (cut whole) ∙ sym (ap over found) ∙ is
 
--- what holds over the bytes that were fetched holds over the file
+-- a result over the fetched bytes is the result over the file
 pub fetched-over : {A : Type 0} → (told : Option FileMap) (name : List ℕ)
     (over : List ℕ → Result A Answer) (bytes : List ℕ) (most : ℕ) (r : Result A Answer) →
     IsCut over most → Fetched told name most bytes → over bytes ≡ r →

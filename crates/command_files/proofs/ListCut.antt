@@ -39,7 +39,7 @@ past : (size n : ℕ) (before : Option Routine) (line : List ℕ) → n ≡ 65 �
 unfolding routine_at
 past size n before line is = rw is refl
 
--- so many lines more, and the first byte after them, tell all
+-- the result depends only on that many lines and the first byte after them
 cut-from : (size m n : ℕ) (before : Option Routine) (whole : List ℕ) → n + m ≡ 65 →
     routines_from size n before (lines_of (take (m * 18 + 1) whole))
     ≡ routines_from size n before (lines_of whole)

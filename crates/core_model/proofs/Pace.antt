@@ -1,4 +1,4 @@
--- Lag against pc and effect, and the word: what a pipeline may count on.
+-- Lag by pc, effect and word: the facts that a pipeline relies on.
 use Rattle.std.proofs.Common.{◌≡◌, ℕ, ◌/◌, ◌%◌, ◌^◌, ◌⊎◌, inl, inr}
 use Rattle.std.proofs.Common.{Bool, true, false, Some, None, refl, arith}
 use Rattle.std.specs.Prelude.{if◌then◌else◌, Option, ◌==◌}
@@ -26,7 +26,7 @@ abbrev pub is_csr : Option Effect → Bool
 is_csr (Some (Csr n value rd old)) = true
 is_csr _ = false
 
--- a whole lag; or on to the next word after less, a late value alone after two
+-- the lag is 3; or the pc goes on to the next word, with lag 2, or with lag 1 and no late value
 abbrev pub Paced : ℕ → Option ℕ → Execution → Type 0
 Paced pc o d =
     (d.lag ≡ 3)
@@ -159,7 +159,7 @@ act-pace a pc t false w x y = go (a.fetch pc)
     go true = record { paced = rw (run-word a pc t w x y (ins w)) (run-paced a pc t w x y (ins w)) }
     go false = record { paced = inl refl }
 
--- a late value changes registers alone
+-- a late value changes only registers
 pub filled-registers : (o : Option ℕ) (v : ℕ) (e : Option Effect) (r : Registers) →
     registers_after (with_late_value o v e) r ≡ registers_after e r
 filled-registers None v e r = refl

@@ -1,4 +1,4 @@
--- The setting of a cycle is what stood in the registers two cycles before it.
+-- The setting of a cycle is the content of the registers two cycles before it.
 use Rattle.std.proofs.Common.{◌≡◌, ℕ, zero, suc, ◌+◌, ◌-◌, ◌<◌, ◌≤◌, inl, inr}
 use Rattle.std.proofs.Common.{◌⊎◌, Bool, true, false, ◌&&◌, List, [], ◌∷◌}
 use Rattle.std.proofs.Common.{◌++◌, Some, None, refl, ap, sym, ◌∙◌, arith}
@@ -26,7 +26,7 @@ pub last-append : (p : Phase) (ps qs : List Phase) →
 last-append p [] qs = refl
 last-append p (q ∷ ps) qs = last-append q ps qs
 
--- what a turn adds isn't seen before the third cycle after it
+-- a turn's setting takes effect at the earliest in the third cycle after it
 unseen : (b c : ℕ) (took : Took) (p q : Phase) → b < c + 3 → latest b p (phase_after c took q) ≡ p
 unseen b c Idle p q l = refl
 unseen b c (Lost k) p q l = refl
@@ -186,7 +186,7 @@ setting-matches s d (suc n) b l = go (λ up. setting-matches s d n b up) (cases_
         let all : suc n + 2 ≤ b = omega arith in
         rw (all-seen s d (suc n) b all, here) (last-matches s (suc n))
 
--- what holds of every entry holds of the setting of a cycle
+-- a property of every setting holds of the setting of a cycle
 pub latest-keeps : (P : Phase → Bool) (c : ℕ) (p : Phase) (ps : List Phase) → P p ≡ true →
     list_all P ps ≡ true → P (latest c p ps) ≡ true
 latest-keeps P c p [] h all = h

@@ -1,4 +1,4 @@
--- What one turn does to the world, at any distance.
+-- The effect of one turn on the world, at any distance.
 use Rattle.std.proofs.Common.{◌≡◌, ℕ, zero, suc, ◌+◌, ◌-◌, ◌<◌, ◌≤◌, inl, inr}
 use Rattle.std.proofs.Common.{◌⊎◌, Bool, true, false, ◌∷◌, get_or, set, length}
 use Rattle.std.proofs.Common.{refl, ap, sym, ◌∙◌, subst, arith, add-zero, add-suc}

@@ -1,5 +1,5 @@
--- One thread alone over settings of the scheduling. It runs as in `Solo`, but at the positions that
--- the setting of each cycle gives it.
+-- One thread by itself over settings of the scheduling. It runs as in `Solo`, but at the positions
+-- that the setting of each cycle gives it.
 use Rattle.std.specs.Prelude.{ℕ, zero, suc, ◌-◌, ◌==◌, nat_le, Bool}
 use Rattle.std.specs.Prelude.{if◌then◌else◌, List, [], ◌∷◌, map}
 use Rattle.rv_exec.specs.declared.outcome.Event.{Event}

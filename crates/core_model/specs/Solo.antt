@@ -1,4 +1,4 @@
--- One thread alone, computed from its view. No other thread, no pick and no pipeline stage is
+-- One thread by itself, computed from its view. No other thread, no pick and no pipeline stage is
 -- involved.
 use Rattle.std.specs.Prelude.{ℕ, zero, suc, ◌-◌, ◌%◌, nat_le, Bool, false, ◌&&◌, if◌then◌else◌}
 use Rattle.std.specs.Prelude.{List, [], ◌∷◌, ◌++◌, slice_index_or, length, Option, Some, None}

@@ -13,7 +13,7 @@ pub record Setting : Type 0 where
   pub size : ℕ  -- of each scratchpad, in bytes
   pub thread : ℕ
   pub own : List Bool  -- of each position of the frame, whether it is the thread's
-  pub i_kinds : List RegionKind  -- what each region of a scratchpad is to the thread
+  pub i_kinds : List RegionKind  -- the kind of each region of a scratchpad, for the thread
   pub d_kinds : List RegionKind
   pub i_words : List ℕ  -- 0 in the regions that it may not read
 

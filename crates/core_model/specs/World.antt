@@ -36,14 +36,14 @@ pub record Start : Type 0 where
   pub size : ℕ  -- of each scratchpad, in bytes
   pub threads : List Thread
   pub confined : List Bool
-  pub permit : List Bool  -- who may access the machine's own registers
+  pub permit : List Bool  -- who may access the configuration registers
   pub i_words : List ℕ  -- of the instruction scratchpad
   pub d_words : List ℕ  -- of the data scratchpad
   pub registers : Registers
   pub shown : List (List ℕ)  -- the word of the thread's port in each cycle
   pub handed : List Bool  -- whether a port was handed in
   pub unplugs : List (Option ℕ)  -- the cycle from which on it isn't there, if there is one
-  pub latches : List ℕ  -- what stands at the port
+  pub latches : List ℕ  -- the word in the port's latch
 
 -- the turn of a cycle: nobody's, lost by a thread that wasn't ready, or one instruction of a
 -- thread. The instruction has an effect unless it is a DU that waits

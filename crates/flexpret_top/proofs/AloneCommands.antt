@@ -1,4 +1,4 @@
--- What the commands of one thread alone answer.
+-- The answers of the commands that run one thread by itself.
 use Rattle.std.proofs.Common.{◌≡◌, ℕ, ◌<◌, ◌≤◌, get_or, length, List, [], Option, Some, None}
 use Rattle.std.proofs.Common.{Result, Ok, Err, refl, ap, sym, subst, ◌∙◌, arith, inl, inr}
 use Rattle.std.specs.Prelude.{IfSome, slice_get}
@@ -59,7 +59,7 @@ stop-later told P b b' a Read earlier (inl rose) = inl (earlier rose)
 stop-later told P b b' a Read earlier (inr missing) = inr missing
 stop-later told P b b' a NoMemory earlier is = tt
 
--- the run's text is told by its parts
+-- the text of the run, by its row, setup and view
 told-by : (a : Alone) (rows : List (Option Row)) (row : Option Row)
     (t : ThreadSetup) (base : View) → base ≡ abstract_view a.view [] →
     row ≡ row_at rows a.view.thread → t ≡ thread_setup_of a.setup a.view.thread →
@@ -76,7 +76,7 @@ told-by a rows row t base is_base is_row is_thread =
     ap (λ (v : View). text (solo v a.cycles))
     (with_words (shown row (inputs_of t) t.unplug a.cycles) ∙ ap (abstract_view a.view) words)
 
--- what a thread's setup says, as it is read
+-- a thread's row in the list of threads is its setup
 pub thread-is : (threads : List ThreadSetup) (s : Settings) (i : ℕ) (t : ThreadSetup) →
     slice_get threads i ≡ Some t → threads ≡ s.threads → t ≡ thread_setup_of s i
 thread-is threads s i t is same =
@@ -108,7 +108,7 @@ told-text p i n a rows small of =
     (of.views (shown_to p.setup rows n i) ∙ view-beside p.setup p.image rows i n small)
     ∙ ap (λ k. text (solo (view (start_of p rows n) i) k)) of.cycles
 
--- what was prepared answers `solo`
+-- the prepared run answers `solo`
 solo-answers : (files : FileMap) (name : List ℕ) (i n : ℕ) (a : Alone) (ports : List (Option Row)) →
     i < 8 → IsAlone files name i n a → Prepares (Solo name i n) files ports ports (prepared.Solo a)
 solo-answers files name i n a ports small is = record {
@@ -129,7 +129,7 @@ solo-prepares None name i n a small is = tt
 solo-prepares (Some files) name i n a small is =
     λ ports. solo-answers files name i n a ports small is
 
--- what a comparison answers
+-- the result of a comparison
 check-is : (files : FileMap) (name : List ℕ) (i n : ℕ) (trace : List ℕ) (a : Alone)
     (ports : List (Option Row)) (r : Result (List ℕ) Answer) → i < 8 → IsAlone files name i n a →
     over_file (comparison_of (told_alone a ports)) (files trace) ≡ r →
@@ -184,7 +184,7 @@ check-differs told told' name i n trace a ports kept small b b' a' stop first is
     (other-said told name i n trace a ports small is)
     (stop-later told Found b b' a' stop (rose-earlier b b' a' first) (subst At kept stops))
 
--- what was prepared answers `check`
+-- the prepared comparison answers `check`
 pub same-prepares : (told : Option FileMap) (name : List ℕ) (i n : ℕ)
     (trace : List ℕ) (before after : List (Option Row)) → after ≡ before →
     IfSome told (λ files. Says 0 same_text ≡ check_answer files before name i n trace) →

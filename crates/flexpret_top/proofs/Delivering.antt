@@ -1,4 +1,4 @@
--- What a machine that was prepared puts.
+-- The output of a machine that was prepared.
 use Rattle.std.proofs.Common.{◌≡◌, ℕ, List, Option, None, Result, Ok, Err, sym, subst, ◌∙◌}
 use Rattle.std.specs.Prelude.{OnOk, OnErr}
 use Rattle.std.specs.Io.KnownBytes.{Appends}
@@ -49,7 +49,7 @@ gone-after s k n first m rows end run =
     let Run : ℕ → Type 0 = λ c. HasRun s c n 0 first m rows None None in
     let whole = subst Run end run in record { refines = whole.refines; left = whole.left }
 
--- what stands in the ports then
+-- the ports after the run
 pub ports-gone : (r : Ready) (first rows : List (Option Row)) (m : Machine) →
     Passes r first m rows → LeavesRun r first rows
 ports-gone r first rows m passes s st starts =
@@ -63,7 +63,7 @@ ports-run r thread first rows m before after (Ok x) words runs =
     λ s st starts. ports_after s r.cycles r.cycles m first rows (runs s st).refines words
 ports-run r thread first rows m before after (Err e) words runs = tt
 
--- what a run puts
+-- the trace that a run writes
 pub trace-ok : {A E : Type 0} → (r : Ready) (thread : ℕ) (first rows : List (Option Row))
     (m : Machine) (before after : Option (List ℕ)) (put : Result A E) →
     OnOk put ((s : Start) → Refines s 0 r.cycles r.machine first →
@@ -84,7 +84,7 @@ trace-err r thread first rows m before after (Err e) run =
     λ written runs. (let Told : List ℕ → Type 0 = AppendsFront before after in
     subst Told (sym runs.text_is) (run runs.start runs.refines).put)
 
--- what a run puts of its settings
+-- the lines of settings that a run writes
 abbrev pub HasLoggedAll : Ready → List (Option Row) → Machine → List (Option Row) →
     Option (List ℕ) → Option (List ℕ) → Type 0
 HasLoggedAll r first m rows before after =
@@ -148,7 +148,7 @@ pub left-by : {A E : Type 0} → (put : Result A E) (r : Ready) (first rows : Li
 left-by (Ok x) r first rows left = left
 left-by (Err e) r first rows left = tt
 
--- what one put of a text puts
+-- one put writes the whole text
 pub put-ok : {A E : Type 0} → (put : Result A E) (before after : Option (List ℕ))
     (bytes text : List ℕ) → bytes ≡ text → OnOk put (Appends before after bytes) →
     OnOk put ((written : List ℕ) → written ≡ text → Appends before after written)

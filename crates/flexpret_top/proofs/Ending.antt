@@ -25,7 +25,7 @@ use Rattle.flexpret_top.specs.Command.{LeavesCutShort, LeavesUnrun, Said, Began,
 use Rattle.flexpret_top.specs.Prepared.{Delivers, LeavesPorts, LeavesPortsInPart, Prepares}
 use Rattle.command_files.specs.Status.{IsStatus, number_of}
 
--- where the sink failed, a front of the answer was put
+-- after a failure of the sink a prefix of the answer was written
 pub front-of : (told : Option FileMap) (asked : Ask) (ports fed : List (Option Row)) (p : Prepared)
     (before after : Option (List ℕ)) → IfSome told (λ files. Prepares asked files ports fed p) →
     ((written : List ℕ) → Delivers p fed written → AppendsFront before after written) →
@@ -138,7 +138,7 @@ pub write-no_nothing : (Write ≡ Read) ⊎ (Write ≡ NoMemory) → ⊥
 write-no_nothing (inl e) = cc
 write-no_nothing (inr e) = cc
 
--- what was prepared is the answer of the command that is done
+-- the prepared answer is an answer to the command
 pub answered-of : (told : Option FileMap) (asked : Ask) (ports fed : List (Option Row))
     (p : Prepared) → IfSome told (λ files. Prepares asked files ports fed p) →
     IfSome told (λ files. (Ok ≡ NoMemory) ⊎ Answered (IsAnswerIn asked ports files) (number_of Ok))
@@ -146,7 +146,7 @@ answered-of None asked ports fed p prepares = tt
 answered-of (Some files) asked ports fed p prepares =
     inr (record { answer = Says 0 prepares.written; is = prepares.is; answered = refl })
 
--- what a command said is what the words that ask it say
+-- the clause on a command's status and output, stated over the arguments
 pub said-of : (told : Option FileMap) (words : List (List ℕ)) (asked : Ask)
     (ports : List (Option Row)) (s : Status) (n : ℕ) (before after : Option (List ℕ)) →
     ask words ≡ Some asked → n ≡ number_of s → (n ≡ 7 → ⊥) → (n ≡ 8 → ⊥) → (n ≡ 9 → ⊥) →
@@ -162,7 +162,7 @@ said-of told words asked ports s n before after is number read write memory said
     λ o. IfSome told (λ files. Said (IsAnswerTo o files ports) n before after) in
     subst By (sym is) (subst Of (sym number) told_by)
 
--- the answer of a command is that of the words that ask it
+-- the clause on a command's answer, stated over the arguments
 pub complete-of : (told : Option FileMap) (words : List (List ℕ)) (asked : Ask)
     (ports : List (Option Row)) (s : Status) (n : ℕ) → ask words ≡ Some asked → n ≡ number_of s →
     IfSome told (λ files. (s ≡ NoMemory) ⊎ Answered (IsAnswerIn asked ports files) (number_of s)) →
@@ -179,7 +179,7 @@ complete-of (Some files) words asked ports s n is number (inr a) =
       answered = subst Ends (sym number) a.answered;
     })
 
--- what holds of a command holds of the words that ask it
+-- the clause on status 7, stated over the arguments
 pub read-by : (told : Option FileMap) (words : List (List ℕ)) (asked : Ask)
     (ports : List (Option Row)) (s : Status) (n before after : ℕ) →
     ask words ≡ Some asked → n ≡ number_of s → n ≡ 7 →
@@ -216,7 +216,7 @@ asked-by told words asked before after is asks =
     let By : Option Ask → Type 0 = λ o. IsAskedBy o told before after in
     subst By (sym is) (inr asks)
 
--- nothing was asked, and the ports are as they were
+-- no file was requested
 pub unasked : (o : Option Ask) (told : Option FileMap) (before : Option (List Request)) →
     IsAskedBy o told before before
 unasked None told before = refl

@@ -1,4 +1,4 @@
--- The promises for one thread, from what a command said.
+-- The promises for one thread, from a command's status and output.
 use Rattle.std.proofs.Common.{◌≡◌, ℕ, ◌<◌, List, Option, Some, None, Result, Ok, Err}
 use Rattle.std.proofs.Common.{inl, inr, refl, ap, sym, subst, ◌∙◌, arith, nat_lt}
 use Rattle.std.proofs.Common.{eqb-true, Bool, true, false, not, if◌then◌else◌, ◌==◌}
@@ -167,7 +167,7 @@ retired-of law phased keep None asked ports before after said = tt
 retired-of law phased keep (Some files) asked ports before after said =
     retired-over law phased keep asked files ports before after said
 
--- what `solo` says with status 0 is the text of a hard and confined thread
+-- the text that `solo` writes with status 0 is that of a confined hard thread
 record IsSolo (p : Program) (i n : ℕ) (ports : List (Option Row))
     (before after : Option (List ℕ)) : Type 0 where
   thread : IsConfinedHard (machine_of p ports) i
@@ -506,7 +506,7 @@ call-visits-of law None asked ports before after said = tt
 call-visits-of law (Some files) asked ports before after said =
     call-visits-over law asked files ports before after said
 
--- what the words' command said with status 0
+-- the output of a command with status 0
 pub said-zero : (told : Option FileMap) (words : List (List ℕ)) (asked : Ask)
     (ports : List (Option Row)) (s : Status) (n : ℕ) (before after : Option (List ℕ)) →
     ask words ≡ Some asked → n ≡ number_of s → n ≡ 0 →

@@ -1,4 +1,4 @@
--- What a run of one thread alone has to do with the definition of its command.
+-- The run of one thread by itself follows the definition of its command.
 use Rattle.std.proofs.Common.{◌≡◌, ℕ, zero, suc, ◌+◌, ◌-◌, ◌*◌, ◌<◌, ◌≤◌, Bool, true}
 use Rattle.std.proofs.Common.{false, cond, nat_eq, if◌then◌else◌, List, [], ◌∷◌, ◌++◌}
 use Rattle.std.proofs.Common.{length, take, drop, map, get_or, set, take-append-drop, find}
@@ -43,11 +43,11 @@ use Rattle.command_files.specs.declared.stop.Stop.TheVariants as in_stop
 use Rattle.command_files.specs.Stops.{IsStop, IsStopOf, is_difference}
 use Rattle.command_files.specs.Answer.Answer.{Says}
 
--- one of the threads stands at its own index
+-- the thread at an index is the thread with that number
 thread-at : (i : ℕ) → i < 8 → get_or the_threads i 0 ≡ i
 thread-at i small = get_or-range_with_len 0 8 i 0 small ∙ omega arith
 
--- the view of a setup's thread beside ports is the one that the code makes, with what it is shown
+-- The view of a setup's thread, with ports, is the view that the code makes, with the port's words.
 pub view-beside : (s : Settings) (image : List Segment) (ports : List (Option Row)) (i n : ℕ) →
     i < 8 → setup_view s image i (shown_to s ports n i) ≡ view (start s image ports n) i
 unfolding setup_view start view setting_of
@@ -66,7 +66,7 @@ view-thread v s image i views = ap (λ (v : View). v.setting.thread) (views [])
 itself : (x : ℕ) → nat_eq x x ≡ true
 itself x = grind (arith, nat_tests)
 
--- what agrees within the first bytes
+-- the common prefix is the same with more bytes, if it ends before them
 front-left : (e rest xs : List ℕ) → front e xs < length e → front (e ++ rest) xs ≡ front e xs
 front-left [] rest xs l = absurd (omega (arith, l))
 front-left (y ∷ e) rest [] l = refl
@@ -194,7 +194,7 @@ compared-stop told name text answer before after (Err stop) is stops = over told
     over (Some files) in_stop.Read is stops = absurd stops
     over (Some files) in_stop.NoMemory is stops = tt
 
--- what ends by a difference has no other way to end
+-- a comparison that finds a difference ends with that difference
 pub difference-kept : (r : Result Unit Stop) (Kept : Type 0) →
     IfErr r (λ stop. is_difference stop ≡ true) →
     IfErr r (λ stop. is_difference stop ≡ false → Kept)
@@ -247,7 +247,7 @@ last-there : {A : Type 0} → (x : A) (xs : List A) →
 last-there x [] = (x, refl)
 last-there x (y ∷ xs) = last-there y xs
 
--- the last element that passes a test, where those that pass it stand before those that don't
+-- the last element that passes a test, if all that pass it come before all others
 pub last-found : {A : Type 0} → (p : A → Bool) (xs : List A) (i : ℕ) → i ≤ length xs →
     AllWithin (λ x. p x ≡ true) xs 0 i → AllWithin (λ x. p x ≡ false) xs i (length xs) →
     slice_get (take i xs) (length (take i xs) - 1) ≡ find p (reverse xs)

@@ -1,4 +1,4 @@
--- What was prepared answers the command.
+-- Prepared texts and machines answer their command.
 use Rattle.std.proofs.Common.{inl, inr, refl, ◌≡◌, ℕ, ◌≤◌, List, length, Option}
 use Rattle.std.proofs.Common.{Some, None, Result, Ok, arith, ap, sym, subst, ◌∙◌}
 use Rattle.std.specs.Prelude.{IfSome}
@@ -56,7 +56,7 @@ ready-is (Some files) name before after p r is fed setup eight eight' few refine
       starts = starts-as p before r.cycles r.setup setup;
     }
 
--- what a run leaves in the ports of a machine that was ready
+-- the ports after a run of a machine that was ready
 ready-leaves : (files : FileMap) (name : List ℕ) (before after last : List (Option Row))
     (r : Ready) → IsReady files name before after r → LeavesRun r after last →
     LeavesMachine files name r.cycles before last

@@ -1,4 +1,4 @@
--- What a command asks of the files, step after step.
+-- The requests of a command to the files, step by step.
 use Rattle.std.proofs.Common.{◌≡◌, ◌⊎◌, ℕ, List, [], ◌∷◌, ◌++◌, Option}
 use Rattle.std.proofs.Common.{Some, None, inl, inr, refl, sym, subst}
 use Rattle.std.specs.Prelude.{◌≢◌, IfSome}
@@ -46,7 +46,7 @@ trace-asked (Some files) name i n trace a x y z same is first then =
       asks = subst Of is.alone.setup (asked-together name n trace a x y z same first then);
     })
 
--- a program and then the routines, where the section can be asked for
+-- a program, and then the routines if the section has no fault
 pub routines-asked : (told : Option FileMap) (name : List ℕ) (i : ℕ) (section : Section)
     (routines : List ℕ) (p : Program) (x y z : Option (List Request)) →
     Makes told (λ files. program files name) p →

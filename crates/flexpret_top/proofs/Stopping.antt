@@ -1,4 +1,4 @@
--- What a command says that ends before its text, by why it ends.
+-- The status and output of a command that ends before its text, by the reason.
 use Rattle.std.proofs.Common.{◌≡◌, ◌⊎◌, ℕ, ◌<◌, ◌≤◌, false, List, Option}
 use Rattle.std.proofs.Common.{Some, None, inl, inr, refl, ap, subst, arith}
 use Rattle.flexpret_top.proofs.Ending.{status-of}
@@ -41,7 +41,7 @@ no_refusal refusal s other is same more less =
       | inr ten ↦ omega (arith, ten, e, less)
     ]
 
--- what it says, where it says something
+-- the status and output of such a command
 pub stop-said : (told : Option FileMap) (asked : Ask) (ports : List (Option Row))
     (b a : ℕ) (stop : Stop) (s : Status) (b' a' : ℕ) (before after : Option (List ℕ)) →
     IsStop told (IsAnswerIn asked ports) b a stop → Ends stop b' a' before after s →
@@ -141,7 +141,7 @@ stop-complete (Some files) asked ports b a why.Read s b' a' before after
 stop-complete (Some files) asked ports b a why.NoMemory s b' a' before after is ends fetches puts =
     inl ends
 
--- its status is neither that of a text nor that of words that ask nothing
+-- its status is neither Ok nor that of a usage error
 stop_number : (stop : Stop) (s : Status) (b' a' : ℕ) (before after : Option (List ℕ)) →
     Ends stop b' a' before after s → (number_of s ≡ 1) ⊎ (3 ≤ number_of s)
 stop_number (why.Refused refusal) s b' a' before after (inl puts) =
@@ -186,7 +186,7 @@ no-difference (why.Differs line) s b' a' before after (inr fails) differs write 
 no-difference why.Read s b' a' before after ends differs write = refl
 no-difference why.NoMemory s b' a' before after ends differs write = refl
 
--- and its status isn't that of want of memory
+-- a command that ends with Differs wasn't stopped by a failed allocation
 pub difference-no_memory : (stop : Stop) (s : Status) (b' a' : ℕ) (before after : Option (List ℕ)) →
     Ends stop b' a' before after s → s ≡ Differs → stop ≡ why.NoMemory → ⊥
 difference-no_memory stop s b' a' before after ends differs memory =

@@ -1,4 +1,4 @@
--- What is answered where the words ask nothing.
+-- The answer to a usage error.
 use Rattle.std.proofs.Common.{◌≡◌, ◌⊎◌, ℕ, List, [], Option, Some, None, inr, refl, subst, sym}
 use Rattle.std.specs.Prelude.{IfSome}
 use Rattle.fp_io.specs.Content.{FileMap}

@@ -1,4 +1,4 @@
--- What stands between separators, from an index of a list on.
+-- The items between separators, from an index of a list on.
 use Rattle.std.proofs.Common.{◌≡◌, ℕ, suc, ◌<◌, ◌≤◌, ◌+◌, ◌-◌, Bool, true}
 use Rattle.std.proofs.Common.{false, List, [], ◌∷◌, ◌++◌, length, take, drop}
 use Rattle.std.proofs.Common.{get_or, refl, sym, ap, arith, add-one, length-drop}

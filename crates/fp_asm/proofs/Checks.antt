@@ -1,4 +1,4 @@
--- What a statement that passed its checks is.
+-- The facts of a statement that passed its checks.
 use Rattle.std.proofs.Common.{◌≡◌, ℕ, ◌<◌, ◌≤◌, ◌+◌, ◌-◌, ◌*◌, ◌%◌, ◌^◌, ◌==◌, Bool, true, false}
 use Rattle.std.proofs.Common.{Result, Ok, refl, arith, pos, negsuc, ℤ, nat_abs, List, map, length}
 use Rattle.std.proofs.lemmas.List.{length-map}

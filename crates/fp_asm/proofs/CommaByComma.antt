@@ -9,7 +9,7 @@ use Rattle.fp_asm.specs.AbstractPieces.{abstract_piece, abstract_operand}
 use Rattle.fp_asm.specs.declared.pieces.Piece.TheVariants as piece
 use Rattle.fp_asm.proofs.Between.{cut, cut_start, cut_ends, cut_on, cut_last}
 
--- what stands between separators, seen element by element
+-- the items between separators, mapped element by element
 between_seen : {A B C : Type 0} (h : A → C) (p : C → Bool) (e g : List C → B) (item xs : List A) →
     between_from p e g (map h item) (map h xs)
     ≡ between_from (λ x. p (h x)) (λ l. e (map h l)) (λ l. g (map h l)) item xs

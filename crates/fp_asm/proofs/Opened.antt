@@ -1,4 +1,4 @@
--- What the proofs of a function open, under one name.
+-- The definitions that each function's proofs open, under one name.
 use Rattle.fp_asm.specs.Names.{register_number}
 use Rattle.fp_asm.specs.Operands.{all_filled}
 use Rattle.fp_asm.specs.Second.{written_by}

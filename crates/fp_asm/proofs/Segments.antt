@@ -22,7 +22,7 @@ length-bytes_from memory a (suc n) = omega (
   length-bytes_from memory (a + 4) n,
 )
 
--- the front of an image is one
+-- a prefix of an image rises too
 rises_front : (size from k : ℕ) (ss : List Segment) → Rises size from ss →
     Rises size from (take k ss)
 rises_front size from zero ss h = tt

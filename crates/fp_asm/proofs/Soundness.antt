@@ -1,4 +1,4 @@
--- What the first pass places: addresses of scratchpads, multiples of four, in rising order.
+-- The first pass places words at addresses of scratchpads, multiples of four, in rising order.
 use Rattle.std.proofs.Common.{◌≡◌, ℕ, zero, suc, ◌<◌, ◌≤◌, ◌+◌, ◌%◌, ◌^◌, ◌&&◌, Bool}
 use Rattle.std.proofs.Common.{true, false, List, [], ◌∷◌, Option, Some, None, option_map}
 use Rattle.std.proofs.Common.{Result, Ok, Err, refl, subst, arith, not, Ordering}
@@ -57,8 +57,8 @@ all_placed xs a (suc n) k h ps =
     go true e h more = more e h
     go false e h more = absurd (cc)
 
--- what the first pass knows is sound: the location is a multiple of four, and the addresses may all
--- be placed
+-- The state of the first pass is sound: the location is a multiple of four, and each address so far
+-- is one that may be placed.
 pub record IsSound (p : Placed) : Type 0 where
   pub aligned : p.location % 4 ≡ 0
   pub placed : ArePlaced 0 p.taken
@@ -198,7 +198,7 @@ pass_sound n p q (line ∷ lines) s h =
     go (Ok m) e more h = more m (line_sound p m line s e) h
     go (Err c) e more h = absurd (cc)
 
--- what the first pass placed may all be placed
+-- all addresses of the first pass may be placed
 pub first_placed : (lines : List Text) (p : Placed) → first_pass 1 start lines ≡ Ok p →
     ArePlaced 0 p.taken
 first_placed lines p h =

@@ -104,7 +104,7 @@ worked = refl
 -- pseudo-instructions, and the instructions that they are
 pseudo : List (Text × Text)
 pseudo =
-    -- over registers alone
+    -- pseudo-instructions with only registers
     (
       codes "nop\nmv x1, x2\nnot x3, x4\nneg x5, x6\njr x7\nret",
       codes "addi x0, x0, 0\naddi x1, x2, 0\nxori x3, x4, -1\nsub x5, x0, x6\njalr x0, 0(x7)\njalr x0, 0(x1)",

@@ -14,7 +14,7 @@ use Rattle.fp_image.specs.Checks.{first_fault, unless}
 use Rattle.fp_elf.specs.Loads.{count_of, header_at, header_of, is_inside}
 use Rattle.fp_elf.specs.Loads.{most_elf_bytes, number_at, own_checks}
 
--- what the checks ask before the size of the program headers
+-- the conditions that are checked before the size of the program headers
 pub record Begins (file : List ℕ) : Type 0 where
   pub short : length file ≤ most_elf_bytes
   pub magic : starts_with nat_eq file (0x7f ∷ codes "ELF") ≡ true
@@ -24,7 +24,7 @@ pub record Begins (file : List ℕ) : Type 0 where
   pub kind : number_at 2 16 file ≡ 2
   pub machine : number_at 2 18 file ≡ 243
 
--- what is left of them then
+-- the checks from the size of the program headers on
 by-size : (file : List ℕ) (unsized : Bool) →
     (not (number_at 2 44 file == 0) && not (number_at 2 42 file == 32)) ≡ unsized → Begins file →
     count_of file

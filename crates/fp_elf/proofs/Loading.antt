@@ -1,4 +1,4 @@
--- What memory holds once a load more is placed.
+-- The memory after one more load is placed.
 use Rattle.std.proofs.Common.{◌≡◌, ℕ, zero, suc, ◌+◌, ◌-◌, ◌*◌, ◌≤◌, ◌<◌, ◌⊎◌, inl, inr}
 use Rattle.std.proofs.Common.{Bool, true, false, ◌&&◌, List, [], ◌∷◌, ◌++◌, length, map, take}
 use Rattle.std.proofs.Common.{drop, get_or, refl, ap, ap₂, sym, ◌∙◌, subst, arith, add-one}
@@ -47,7 +47,7 @@ any-by P xs (suc n) index a inside same =
     subst (λ i. get_or xs i false ≡ P (a + 1 + j)) e
     (subst (λ i. get_or xs (index + suc j) false ≡ P i) d (same (suc j) low)))))
 
--- memory tells whether a load meets those before it
+-- the marks of taken bytes show whether a load overlaps those before it
 pub any-meets : (file : List ℕ) (loads : List ProgramHeader) (taken : List Bool)
     (bytes : List ℕ) (a n : ℕ) → Holds file loads taken bytes →
     length taken ≡ 131072 → is_inside a n ≡ true → 0 < n →
@@ -61,7 +61,7 @@ any-meets file loads taken bytes a n h long inside some =
     h.taken_is (index_of a + j) low ∙ ap (is_taken loads) (address-step a n j inside l)))
     ∙ taken-meets a n loads
 
--- what isn't taken, by the same
+-- each byte of the range is free, if none is marked
 none-taken : (P : ℕ → Bool) (n a j : ℕ) → list_any P (range_with_len a n) ≡ false → j < n →
     P (a + j) ≡ false
 none-taken P zero a j none l = absurd (omega arith)
@@ -251,7 +251,7 @@ placed-at file loads p taken taken' bytes bytes' source index at h small inside 
     then get_or source (k - P) 0
     else get_or bytes k 0)) at bs)
 
--- what a look at the load's indices tells
+-- the marks at the load's indices show whether it overlaps those before it
 pub told-meets : (file : List ℕ) (loads : List ProgramHeader) (p : ProgramHeader)
     (taken : List Bool) (bytes : List ℕ) (index : ℕ) (any : Bool) → index ≡ index_of p.vaddr →
     any ≡ list_any (λ taken. taken) (take p.memsz (drop index taken)) →
@@ -261,7 +261,7 @@ told-meets file loads p taken bytes index any at is h long inside some =
     sym (any-meets file loads taken bytes p.vaddr p.memsz h long inside some)
     ∙ ap (λ P. list_any (λ taken. taken) (take p.memsz (drop P taken))) (sym at) ∙ sym is
 
--- memory tells whether a load has a byte of a word
+-- the marks show whether a load has a byte of a word
 pub word-taken : (file : List ℕ) (loads : List ProgramHeader) (taken : List Bool) (bytes : List ℕ)
     (a : ℕ) → Holds file loads taken bytes → length taken ≡ 131072 → is_inside a 4 ≡ true →
     list_any (λ taken. taken) (take 4 (drop (index_of a) taken))

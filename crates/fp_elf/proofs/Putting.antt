@@ -1,4 +1,4 @@
--- A word put before runs that stand the last one first.
+-- A word put before a list of runs in reverse order.
 use Rattle.std.proofs.Common.{◌≡◌, ℕ, ◌+◌, true, false, List, [], ◌∷◌}
 use Rattle.std.proofs.Common.{◌++◌, reverse, refl, ap, sym, ◌∙◌, arith}
 use Rattle.std.specs.Prelude.{◌==◌}

@@ -18,7 +18,7 @@ use Rattle.fp_image.specs.Rules.{is_placed}
 less : (a b : ℕ) → a < b → nat_lt a b ≡ true
 less a b h = grind (arith, nat_tests)
 
--- the number that stands at an offset, read from what is left of the file there
+-- the number at an offset, read from the rest of the file there
 pub number-behind : (n offset : ℕ) (bytes : List ℕ) →
     n ≡ little_number 4 (take (length bytes - offset) (drop offset bytes)) →
     n ≡ number_at offset bytes
@@ -52,7 +52,7 @@ module _ (size total from address len : ℕ) (rest : List ℕ) (at : address ≡
   front : nat_lt (length rest) 8 ≡ false
   front = le-ltb _ _ long
 
-  -- it may not stand there
+  -- the segment doesn't lie inside a scratchpad
   pub misplaced : (e : ImageRefused) → is_placed size address len ≡ false →
       e ≡ Fault BadSegment (total - length rest) →
       Path (Result Segment ImageRefused) (Err e) (segment_of size total from rest)
@@ -88,13 +88,13 @@ module _ (size total from address len : ℕ) (rest : List ℕ) (at : address ≡
       rw (are, at, lasts) (sym
       (by-checks size total from rest None (rw (front, ← at, ← lasts, placed, after, all) refl)))
 
--- so many bytes are read as its length says
+-- the segment has as many bytes as its length field says
 pub read-length : (len : ℕ) (bytes rest : List ℕ) → 8 + len ≤ length rest →
     bytes ≡ take len (drop 8 rest) → length bytes ≡ len
 read-length len bytes rest whole are =
     ap length are ∙ length-take-le len (drop 8 rest) (omega (arith, length-drop 8 rest))
 
--- and they may stand there
+-- the segment lies inside a scratchpad
 pub read-placed : (size address len n : ℕ) → is_placed size address len ≡ true → n ≡ len →
     IsTrue (is_placed size address n)
 read-placed size address len n placed is = rw (is, placed) (search rules)

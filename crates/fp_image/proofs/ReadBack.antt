@@ -24,7 +24,7 @@ passes : {A : Type 0} (a b c d : Bool) (p q r s : ImageNo) (i j k l : ℕ) (v : 
     unless (first_fault (check a p i ∷ check b q j ∷ check c r k ∷ check d s l ∷ [])) v ≡ Ok v
 passes a b c d p q r s i j k l v ha hb hc hd = rw (ha, hb, hc, hd) refl
 
--- a segment at the front of a file's rest, by what stands there
+-- the first segment of the rest of a file, by the bytes there
 segment_of-by : (size total from : ℕ) (w : List ℕ) (s : Segment) → 8 + length s.bytes ≤ length w →
     number_at 0 w ≡ s.address → number_at 4 w ≡ length s.bytes → take (length s.bytes)
     (drop 8 w) ≡ s.bytes → IsTrue (is_placed size s.address (length s.bytes)) → from ≤ s.address →

@@ -12,7 +12,7 @@ abbrev pub ends : ℕ → List Segment → ℕ
 ends from [] = from
 ends from (s ∷ more) = ends (end_of s) more
 
--- What is known of a segment that may be one.
+-- The facts of a segment that lies inside a scratchpad.
 pub record Placed (size address len : ℕ) : Type 0 where
   pub some : 0 < len
   pub where_it_is : (address + len ≤ size)

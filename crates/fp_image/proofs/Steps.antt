@@ -10,7 +10,7 @@ use Rattle.fp_image.specs.declared.refusals.ImageRefused.{ImageRefused}
 use Rattle.fp_image.specs.declared.refusals.ImageRefused.TheVariants.{Fault}
 use Rattle.fp_image.specs.declared.refusals.ImageNo.TheVariants.{Trailing}
 
--- what is there already, in front of what the rest gives
+-- the segments so far, before the segments of the rest
 abbrev pub joined : List Segment → Result (List Segment) ImageRefused →
     Result (List Segment) ImageRefused
 joined xs r = and_then r (λ more. Ok (xs ++ more))

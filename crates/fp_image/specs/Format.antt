@@ -60,7 +60,7 @@ IsUnlessMemory result defined = (result ≡ Err NoMemory) ⊎ (result ≡ define
 unfoldable pub count_of : ℕ → List ℕ → Result ℕ ImageRefused
 count_of size file = unless (first_fault (header_checks size file)) (number_at 4 file)
 
--- the segment at the front of the rest
+-- the first segment of the rest
 unfoldable pub segment_of : ℕ → ℕ → ℕ → List ℕ → Result Segment ImageRefused
 segment_of size total from rest = unless (first_fault (segment_checks size total from rest))
     (record { address = number_at 0 rest; bytes = take (number_at 4 rest) (drop 8 rest) })

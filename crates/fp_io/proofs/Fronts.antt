@@ -1,4 +1,4 @@
--- What a sink or a writer has taken of pieces, one after another.
+-- The bytes that a sink or a writer has taken, piece by piece.
 use Rattle.std.proofs.Common.{◌≡◌, ℕ, ◌+◌, true, false, true≢false, Result, Ok}
 use Rattle.std.proofs.Common.{Err, is_ok, OnOk, OnErr, List, [], ◌++◌, length, take}
 use Rattle.std.proofs.Common.{Option, Some, None, arith, ap, sym, ◌∙◌, append_assoc}
@@ -74,12 +74,12 @@ pub gathered_after : (told : Option (List ℕ)) (xs ys : List ℕ) →
 gathered_after None xs ys = tt
 gathered_after (Some told) xs ys = sym (append_assoc told xs ys)
 
--- what holds where there is a value, at a value
+-- a property of a success holds of its value
 pub at_value : {T E P : Type 0} (r : Result T E) → true ≡ is_ok r → OnOk r P → P
 at_value (Ok x) is holds = holds
 at_value (Err e) is holds = absurd (true≢false is)
 
--- what holds where there is an error, at an error
+-- a property of a failure holds of its error
 pub at_error : {T E P : Type 0} (r : Result T E) → false ≡ is_ok r → OnErr r P → P
 at_error (Ok x) is holds = absurd (true≢false (sym is))
 at_error (Err e) is holds = holds

@@ -65,7 +65,7 @@ module _ {Y X : Type 0} (value : X → List ℕ) where
           ∙ ap₂ (λ t o. cond t (Some (value v)) o) (sym (same q)) (sym (get-named_by m q))
           ∙ sym (get-insert nat_list_cmp_total (named_by m) (string_bytes key) (value v) q)
 
--- what an item behind a reference gives
+-- a function of an item behind a reference
 pub option_map-copied : {X U : Type 0} (f : X → U) (o : Option (Bor X)) →
     option_map (λ r. f r.now) o ≡ option_map f (option_copied o)
 option_map-copied f None = refl

@@ -4,7 +4,7 @@ use Rattle.std.proofs.Common.{drop, sym, ◌∙◌, ap, arith, length-drop}
 use Rattle.std.proofs.Math.Seq.{take-add}
 use Rattle.std.proofs.lemmas.List.{take_all}
 
--- the front of what is left joins what was written
+-- the written bytes and a prefix of the rest are a longer prefix
 pub take_piece : (bytes : List ℕ) (at count : ℕ) →
     take at bytes ++ take count (take (length bytes - at) (drop at bytes)) ≡ take (at + count) bytes
 take_piece bytes at count =

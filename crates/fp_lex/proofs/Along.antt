@@ -11,7 +11,7 @@ use Rattle.fp_lex.specs.Tokens.{next, token_in, tokens_from}
 use Rattle.fp_lex.specs.declared.token.Token.{Token}
 use Rattle.fp_lex.specs.declared.token.LexNo.{LexNo}
 
--- what is found from byte i on, after the tokens of the list
+-- the tokens of the list, followed by the tokens from byte i on
 pub left : List ℕ → List Token → ℕ → Result (List Token) LexNo
 left line list i = next (tokens_from 0 i (length list) (drop i line)) (λ ts. Ok (list ++ ts))
 

@@ -1,4 +1,4 @@
--- What is found at the head of some bytes: its span and its text.
+-- The token at the start of some bytes: its span and its text.
 use Rattle.std.proofs.Common.{◌≡◌, ℕ, zero, suc, ◌<◌, ◌≤◌, ◌+◌, ◌-◌, ◌^◌, ◌||◌, ◌==◌}
 use Rattle.std.proofs.Common.{Bool, List, [], ◌∷◌, length, take, drop, true, false}
 use Rattle.std.proofs.Common.{Ok, Err, refl, subst, arith, length-take, nat_lt, cond}
@@ -74,7 +74,7 @@ found_mark i b bs h =
       reads = record { marks = h; alone = rw one refl };
     }
 
--- the front of bytes that do not begin with `0x`
+-- a prefix of bytes that do not begin with `0x` doesn't either
 not_prefixed : (n : ℕ) (bs : List ℕ) → is_prefixed bs ≡ false → is_prefixed (take n bs) ≡ false
 not_prefixed zero bs h = refl
 not_prefixed (suc n) [] h = refl

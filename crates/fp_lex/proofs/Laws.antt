@@ -1,4 +1,4 @@
--- What the tokens of a line are, by their texts, and that their spans rise.
+-- The tokens of a line by their texts; their spans rise.
 use Rattle.std.proofs.Common.{◌≡◌, ℕ, zero, suc, ◌<◌, ◌≤◌, ◌+◌, ◌-◌, ◌==◌, Bool, List, []}
 use Rattle.std.proofs.Common.{◌∷◌, length, drop, true, false, Result, Ok, Err, refl, subst}
 use Rattle.std.proofs.Common.{sym, ap, ◌∙◌, arith, drop-drop, length-drop, nat_lt, cond, All}
@@ -32,7 +32,7 @@ sooner from to (t ∷ ts) h r = (omega (arith, h, r.0), r.1)
 none : (line : List ℕ) (from n : ℕ) → AreTokensOf line from n []
 none line from n = record { texts = all_none line; rising = tt; few = λ h. omega (arith, h) }
 
--- what is left of the line after one more byte
+-- the rest of the line after one more byte
 left : (line : List ℕ) (i b : ℕ) (bs : List ℕ) → drop i line ≡ b ∷ bs → drop (i + 1) line ≡ bs
 left line i b bs h = sym (drop-drop 1 i line) ∙ ap (drop 1) h
 
@@ -52,7 +52,7 @@ in_line line i b bs t h f = record {
   reads = rw (f.starts_at, h) f.reads;
 }
 
--- what holds of the tokens that are found in some bytes of a line
+-- the claim about the tokens in the rest of a line
 abbrev Holds : List ℕ → List ℕ → Type 0
 Holds line bs =
     (passed i n : ℕ) (ts : List Token) → drop i line ≡ bs → passed ≤ length bs →
@@ -142,7 +142,7 @@ from_any line (b ∷ bs) (suc passed) i n ts h k e =
     subst (λ from. AreTokensOf line from n ts) same
     (from_any line bs passed (i + 1) n ts (left line i b bs h) (omega (arith, k)) e)
 
--- The tokens of a line are what their texts say, they rise, and there are 64 at most.
+-- The tokens of a line are those of their texts. They rise, and there are at most 64.
 pub tokens_law : (line : List ℕ) (ts : List Token) → tokens_of line ≡ Ok ts →
     AreTokensOf line 0 0 ts
 unfolding tokens_of

@@ -1,4 +1,4 @@
--- What a port shows once it is fed is what the inputs and the port showed before.
+-- A port that was fed shows the inputs, and before them the words that it showed before.
 use Rattle.std.proofs.Common.{◌≡◌, ℕ, zero, suc, ◌+◌, ◌<◌, ◌≤◌, ◌^◌, Bool, true, false}
 use Rattle.std.proofs.Common.{cond, List, [], ◌∷◌, reverse, map, find, Some, None}
 use Rattle.std.proofs.Common.{Option, option_map, unwrap_or, if◌then◌else◌, nat_le}
@@ -11,7 +11,7 @@ use Rattle.std.specs.Option.{option_or}
 use Rattle.fp_ports.specs.PluggedPorts.{Row, word_seen, fed, fed_all, claim_of}
 use Rattle.fp_ports.specs.ShownWords.{is_gone, input_at, shown_at, shown}
 
--- one input more at the front counts where no later one does
+-- an additional first input counts if no later one does
 input_at-cons : (input : ℕ × ℕ) (inputs : List (ℕ × ℕ)) (c d : ℕ) →
     unwrap_or (input_at (input ∷ inputs) c) d
     ≡ unwrap_or (input_at inputs c) (if nat_le input.0 c then input.1 else d)
@@ -75,8 +75,8 @@ shown_at-fed_all (Some row) inputs unplug c low =
     ∙ ap (λ w. if is_gone unplug c then 0xffffffff else w)
     (sym (ap (λ (r : Option Row). word_seen r c) after.1) ∙ word_seen-fed_all inputs row c low)
 
--- what a thread finds at its port is the same before the port is fed, with the inputs, and after
--- it, without
+-- A thread finds the same words at its port before feeding, with the inputs, and after feeding,
+-- without them.
 pub shown-fed_all : (row : Option Row) (inputs : List (ℕ × ℕ)) (unplug : Option ℕ) (n : ℕ) →
     n ≤ 2 ^ 64 → shown (fed_all row inputs) [] unplug n ≡ shown row inputs unplug n
 shown-fed_all row inputs unplug n few =

@@ -137,7 +137,7 @@ small_value Slots n h = grind (arith, nat_tests, h)
 small_value Owners n h = grind (arith, nat_tests, h)
 small_value Modes n h = grind (arith, nat_tests, h)
 
--- what the texts of a list stand for are nibbles
+-- the values of a list's texts are nibbles
 pub small_values : (words : Words) (ns : List ℕ) → list_all (is_value words) ns ≡ true →
     list_all (λ n. nat_lt n 16) ns ≡ true
 small_values words [] h = refl
@@ -150,7 +150,7 @@ pub nibbles_of_word : (ns : List ℕ) (word : ℕ) → word ≡ word_of 16 ns �
     length ns ≡ 8 → nibbles word ≡ ns
 nibbles_of_word ns word is digits eight = ap nibbles is ∙ nibbles-word_of ns digits eight
 
--- a word of eight that the texts of a list stand for is one of the register
+-- a word of eight values of a list's texts is a valid register word
 pub accepted : (words : Words) (ns : List ℕ) (word : ℕ) → nibbles word ≡ ns →
     list_all (is_value words) ns ≡ true → IsTrue (is_word words word)
 unfolding is_table is_regions

@@ -58,7 +58,7 @@ module _ (items : List Value) (i : ℕ) (x : Value) (new : Input) (inside : i < 
   read-more read after more before =
       rw (more, take_more items i x inside, ← is, map-append, map-append, before, same) refl
 
--- what comes after the last cycle comes after those that were reached before
+-- a cycle after the last one is after all cycles that were reached before
 later : (before : Option ℕ) (old new : ℕ) → IsReached before old →
     is_after before new ≡ true → old < new
 later None old new reached after = absurd reached

@@ -40,7 +40,7 @@ abbrev pub IsReached : Option ℕ → ℕ → Type 0
 IsReached None at = ⊥
 IsReached (Some before) at = at ≤ before
 
--- the test of UTF-8 and what it tells
+-- the test of UTF-8 decides `IsUtf8`
 pub utf8_test : (bs : List ℕ) →
     ((is_utf8 bs ≡ true) × IsUtf8 bs) ⊎ ((is_utf8 bs ≡ false) × (¬ (IsUtf8 bs)))
 utf8_test bs = go (is_utf8 bs) refl

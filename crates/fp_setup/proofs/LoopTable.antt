@@ -4,7 +4,7 @@ use Rattle.fp_setup.specs.Checks.{is_in}
 use Rattle.fp_setup.specs.Loops.{IsLoop}
 use Rattle.fp_setup.specs.FaultOrder.{integers, addresses}
 
--- what the ranges of the keys tell
+-- keys in range give a valid loop
 pub is_loop : (size head last limit : ℕ) → is_in (addresses 0 size) head ≡ true →
     is_in (addresses head size) last ≡ true → is_in (integers 0 1048576) limit ≡ true →
     IsLoop (record { head = head; last = last; limit = limit })

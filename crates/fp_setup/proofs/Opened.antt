@@ -1,4 +1,4 @@
--- What the proofs of a function open, under one name.
+-- The definitions that each function's proofs open, under one name.
 use Rattle.fp_setup.specs.Checks.{eight_check, list_check, word_check}
 use Rattle.fp_setup.specs.FaultOrder.{loop_table_fault, threads_fault}
 use Rattle.fp_setup.specs.SetupOfTables.{loop_of, nibble_word, number_of_name, threads_of, modes_of}

@@ -33,7 +33,7 @@ use Rattle.fp_setup.specs.SetupOfTables.{settings, version_at}
 use Rattle.fp_setup.specs.Setup.{unless, document, setup, setup_in, setup_of, IsFaultOf}
 use Rattle.fp_setup.specs.Places.{IsPlace, HasPlace, keys_in}
 
--- what a check finds, if it finds something, has such a place
+-- the fault that a check finds, if any, has such a place
 abbrev pub FoundAtPlace : Option Fault → Type 0
 FoundAtPlace None = Unit {0}
 FoundAtPlace (Some f) = IsPlace f.place

@@ -1,5 +1,4 @@
--- One more table of a thread: it puts what it says in the place of its thread, and leaves the
--- others.
+-- One more table of a thread changes the value of its thread and of no other.
 use Rattle.std.proofs.Common.{◌≡◌, ◌≢◌, ◌==◌, ℕ, zero, suc, ◌<◌, true, false, List}
 use Rattle.std.proofs.Common.{[], ◌∷◌, ◌++◌, ◌+◌, length, nat_lt, take, drop, map}
 use Rattle.std.proofs.Common.{lit<, lit≤, Option, Some, None, get_or, set, length-set}
@@ -74,7 +73,7 @@ put_at say other rows row k d small fresh h (inr apart) =
     ∙ (sym (said_at say other rows k d h) ∙ sym
     (get_or-set_other (map (said_of say other rows) the_threads) (id_at row) k (say row) d apart)))
 
--- what the tables say of each thread, after one more
+-- the value of each thread after one more table
 put : {X : Type 0} (say : Members → X) (other : X) (rows : List Members) (row : Members)
     → id_at row < 8 → list_any (λ n. n == id_at row) (map id_at rows) ≡ false
     → map (said_of say other (rows ++ row ∷ [])) the_threads

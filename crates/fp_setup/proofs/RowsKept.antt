@@ -1,4 +1,4 @@
--- What tables of threads and loops keep in which their checks find no fault.
+-- The rules that tables of threads and loops keep if their checks find no fault.
 use Rattle.std.proofs.Common.{◌≡◌, ℕ, ◌+◌, ◌<◌, ◌≤◌, ◌==◌, ◌&&◌, Bool, true, false, nat_lt}
 use Rattle.std.proofs.Common.{List, [], ◌∷◌, ◌++◌, length, map, get_or, Option, Some}
 use Rattle.std.proofs.Common.{None, if◌then◌else◌, unwrap_or, codes, All, refl, arith}
@@ -98,8 +98,7 @@ rows-kept size index ids (d ∷ ds) low high h =
     (thread-in size ids (thread_row index) (as_table d) low high here)
     (rows-kept size (index + 1) (ids ++ id_of d ∷ []) ds low high more)
 
--- what the tables say of a thread is what one of them says, or what is said of a thread that no
--- table names
+-- a thread's value is that of one of its tables, or the default if no table names it
 said-kept : {X : Type 0} (P : Members → Type 0) (Q : X → Type 0)
     (say : Members → X) (other : X) (rows : List Members) (k : ℕ) →
     All P rows → ((r : Members) → P r → Q (say r)) → Q other → Q (said_of say other rows k)
@@ -119,7 +118,7 @@ all-said P Q say other rows all each rest =
     All-map Q (said_of say other rows) the_threads
     (λ k d below. said-kept P Q say other rows (get_or the_threads k d) all each rest)
 
--- what the tables of threads say keeps the rules
+-- the threads of the tables keep the rules
 pub record AreRowsKept (size : ℕ) (rows : List Members) : Type 0 where
   pub threads : AreThreads (threads_of rows)
   pub entries : All (λ (t : ThreadSetup). t.entry < size) (threads_of rows)

@@ -23,7 +23,7 @@ use Rattle.fp_setup.specs.Inputs.{AreInputs}
 use Rattle.fp_setup.specs.Threads.{IsThread}
 
 module _ (size : ℕ) (ids : List ℕ) (row : Place) (ms : Members) where
-  -- what the keys find from that one on, which counts from 0
+  -- the fault of the keys from this one on, counted from 0
   abbrev pub keys_from : ℕ → Option Fault
   keys_from n =
       keys_fault (value_check (record { size = size; table = ms; ids = ids })) row (n + 1)
@@ -39,7 +39,7 @@ module _ (size : ℕ) (ids : List ℕ) (row : Place) (ms : Members) where
   unfolding thread_table_fault
   table_checks = refl
 
--- what the ranges of the keys tell
+-- the ranges of the keys as bounds
 pub id_below : (n : ℕ) → is_in (integers 0 7) n ≡ true → n < 8
 id_below n h = search rules
 

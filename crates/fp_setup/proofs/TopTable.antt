@@ -16,7 +16,7 @@ use Rattle.fp_setup.specs.SetupOfTables.{settings, version_at, nibble_word, word
 use Rattle.fp_setup.specs.SetupOfTables.{modes_of, threads_of, loop_of, rows_at}
 
 module _ (size : ℕ) (ms : Members) where
-  -- what the keys find from that one on, which counts from 0
+  -- the fault of the keys from this one on, counted from 0
   abbrev pub keys_from : ℕ → Option Fault
   keys_from n =
       keys_fault (top_check (record { size = size; table = ms; ids = [] })) top (n + 1)
@@ -31,7 +31,7 @@ module _ (size : ℕ) (ms : Members) where
   unfolding top_fault
   table_checks = refl
 
--- what the ranges of the period and of the size tell
+-- the ranges of the period and of the size as bounds
 pub period_within : (n : ℕ) → is_in (integers 1 1000) n ≡ true → (1 ≤ n) × (n ≤ 1000)
 period_within n h = (search rules, search rules)
 

@@ -6,7 +6,7 @@ use Rattle.fp_setup.specs.declared.refusal.SetupRefused.TheVariants as refused
 use Rattle.fp_setup.specs.Faults.{first}
 use Rattle.fp_setup.specs.Reading.{IsFound}
 
--- what both find is what the second finds, where the first finds nothing
+-- the result of two checks is that of the second, if the first finds nothing
 pub past : {all here later : Option Fault} → all ≡ first here later → here ≡ None → all ≡ later
 past e h = rw h at e
 

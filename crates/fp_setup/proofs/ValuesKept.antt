@@ -1,4 +1,4 @@
--- What a value keeps in which its check finds no fault.
+-- The rules that a value keeps if its check finds no fault.
 use Rattle.std.proofs.Common.{◌≡◌, ℕ, ℤ, pos, negsuc, ◌+◌, ◌<◌, ◌≤◌, ◌==◌, ◌&&◌, Bool}
 use Rattle.std.proofs.Common.{true, false, nat_le, nat_lt, List, [], ◌∷◌, length}
 use Rattle.std.proofs.Common.{map, Option, Some, None, is_some, if◌then◌else◌, IfSome}
@@ -91,7 +91,7 @@ pub bytes-kept : (low high : ℕ) (place : Place) (d : Data) → bytes_check low
 unfolding bytes_check
 bytes-kept low high place d h = bytes-in low high place (as_str d) h
 
--- a text that a list has stands for one of its numbers
+-- the value of a listed text is one of the list's numbers
 listed : (p : ℕ → Bool) (es : List (Text × ℕ)) (t : Text) →
     list_all (λ (e : Text × ℕ). p e.1) es ≡ true → is_some (number_in es t) ≡ true →
     p (unwrap_or (number_in es t) 0) ≡ true
@@ -257,7 +257,7 @@ inputs-kept place d h =
     length-map (elements d) input_of in
     record { few = omega (arith, few, count); within = follow.within; rising = follow.rising }
 
--- what holds of each value that the check lets pass holds of what stands under a key
+-- a property of each value that passes the check holds of the value of a key
 pub needed-kept : {X : Type 0} (Q : X → Type 0) (say : Data → X) (other : X) (check : Check)
     (place : Place) (o : Option Data) → key_fault check true place o ≡ None →
     ((d : Data) → check place d ≡ None → Q (say d)) → Q (option_map_or say o other)

@@ -28,7 +28,7 @@ use Rattle.hart_exec.specs.Units.{Refines, Units, abstract_result}
 use Rattle.hart_exec.specs.Units.{own_of, row_of, units_after, units_of}
 use Rattle.hart_exec.proofs.Left.{left, sleep_kept, timers_kept}
 
--- what an instruction does by an answer
+-- the execution of a CSR instruction, by the result of the access
 abbrev pub by_written : ℕ → Own → ℕ → ℕ → ℕ → ℕ → Option ℕ → Execution
 by_written pc t w rd csr old None = write pc t w redirect_lag rd old
 by_written pc t w rd csr old (Some value) = csr_write pc t w rd csr value old
@@ -74,7 +74,7 @@ shared-same true pc t w rd csr op operand value writes h m =
     done-same true pc t w rd csr op operand value writes (rw h refl) m
 shared-same false pc t w rd csr op operand value writes h m = rw h refl
 
--- an access does what its answer says
+-- the defined execution of an access is the one by its result
 pub answered : (permit : Bool) (thread pc : ℕ) (t : Own) (w rd csr : ℕ)
     (op : CsrOp) (operand : ℕ) (writes : Bool) (value : ℕ) →
     csr_access thread pc t w rd csr op operand writes (if permit then Some value else None)
@@ -117,7 +117,7 @@ answered permit thread pc t w rd csr op operand writes value =
     go true e m = shared-same permit pc t w rd csr op operand value writes e m
     go false e m = refl
 
--- a write changes the thread's trap registers alone, by them alone
+-- a write changes only the thread's trap registers, and depends only on them
 pub csr-timer : (t : Own) (csr value : ℕ) → t.timer ≡ (with_csr t csr value).timer
 csr-timer t csr value =
     go (csr == csr_mtvec) (csr == csr_mscratch) (csr == csr_mepc) (csr == csr_mcause)

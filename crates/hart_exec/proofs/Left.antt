@@ -1,4 +1,4 @@
--- What an instruction leaves in the units.
+-- The units after an instruction.
 use Rattle.std.proofs.Common.{◌≡◌, ℕ, Option, Some, None, List}
 use Rattle.std.proofs.Common.{Bool, true, false, refl, sym, ap, ◌∙◌}
 use Rattle.std.specs.Prelude.{slice_set, slice_index_or, if◌then◌else◌, ◌==◌}
@@ -65,7 +65,7 @@ pub sleep_kept : (h : Hart) →
     h.sched.now.sleep ≡ slice_set h.sched.now.sleep h.thread (own_of h).sleep
 sleep_kept h = sym (set-get_or h.sched.now.sleep h.thread _)
 
--- what is known of a quiet effect
+-- the consequences of a quiet effect
 pub sched_kept : (h : Hart) (e : Option Effect) → IsQuiet e →
     h.sched.now ≡ (let s = sched_by e h.sched.now in
     record s { sleep = slice_set h.sched.now.sleep h.thread (own_of h).sleep })

@@ -1,4 +1,4 @@
--- What the proofs of a function open, under one name.
+-- The definitions that each function's proofs open, under one name.
 use Rattle.core_model.specs.Issue.{execute_untrapped, execute_in}
 use Rattle.hart_exec.specs.Units.{environment_of}
 use Rattle.rv_decode.specs.Lag.{lag}

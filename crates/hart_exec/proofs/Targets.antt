@@ -32,5 +32,5 @@ has_target _ pc x y h = tt
 pub next_word : (pc : ℕ) → pc % 4 ≡ 0 → (pc + 4) % 2 ^ 32 % 4 ≡ 0
 next_word pc h = omega arith
 
--- where the next instruction stands
+-- the address of the next instruction
 pub ruleset steps = (aligned_zero, has_target)

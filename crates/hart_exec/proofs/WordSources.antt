@@ -42,7 +42,7 @@ key_sum : (code kind : ℕ) → code < 32 → kind < 8 →
     (code * 4 + kind * 4096) * 33558528 % 4294967296 / 16777216 ≡ code * 8 + kind
 key_sum code kind h k = omega (arith, h, k)
 
--- both are moved beside each other
+-- one multiplication moves both fields next to each other
 pub key_at : (w : ℕ) →
     bit_and w 0x707c * 33558528 % 4294967296 / 16777216 ≡ field w 2 5 * 8 + field w 12 3
 key_at w =
@@ -82,7 +82,7 @@ low_bits (suc (suc zero)) h = (omega arith, λ e. absurd (omega (arith, e)))
 low_bits (suc (suc (suc zero))) h = (omega arith, λ e. refl)
 low_bits (suc (suc (suc (suc r)))) h = absurd (omega arith)
 
--- what is known where none of the bits is set that must be clear
+-- the facts if all bits that must be clear are clear
 record Clear (w seven second first written x : ℕ) : Type 0 where
   pub first_is : x / 2 ^ 15 % 2 ^ 5 ≡ bit_and (field w 15 5) first
   pub second_is : x / 2 ^ 20 ≡ bit_and (field w 20 5) second
@@ -155,8 +155,8 @@ clear w seven second first written hw h7 h2 h1 hd none =
     (left_by (bit_xor w 3) seven second first written 3 h2 h1 (omega (arith, hd)) (omega arith))
     none
 
--- what the code finds by an entry is what the instruction reads, where no bit is set that must be
--- clear
+-- The fields that the code finds by an entry are those that the instruction reads, if all bits that
+-- must be clear are clear.
 abbrev pub Reads : ℕ → ℕ → Type 0
 Reads w e =
     bit_and (bit_and (bit_xor w 3) e) 0xfe000f83 ≡ 0 →
@@ -706,7 +706,7 @@ reads_other w n0 n2 n4 n8 n12 n24 n25 n28 = reads_none w (λ whole.
           ]
     ])
 
--- what the code finds in the table is what the word's instruction reads
+-- the table's entry gives the registers that the word's instruction reads
 pub reads : (w : ℕ) → w < 2 ^ 32 → Reads w (get_or FIELDS (field w 2 5 * 8 + field w 12 3) 0)
 reads w h =
     go (field w 2 5) (field w 12 3) refl refl (mod_below (w / 2 ^ 2) (2 ^ 5) (pow_pos 5))

@@ -10,7 +10,7 @@ use Rattle.rv_exec.specs.declared.outcome.Effect.TheVariants.{Store, Trap}
 use Rattle.core_model.specs.Issue.{csr_op, csr_operand, csr_writes}
 use Rattle.hart_exec.specs.declared.csr.Access.{Access}
 
--- what a CSR instruction wants
+-- the access that a CSR instruction requires
 abbrev pub access_of : CsrKind → ℕ → ℕ → Access
 access_of kind src a =
     record { op = csr_op kind; operand = csr_operand kind src a; writes = csr_writes kind src }

@@ -1,4 +1,4 @@
--- What an instruction of a thread reads and leaves in the units.
+-- The units that an instruction of a thread reads and changes.
 use Rattle.std.specs.Prelude.{◌≡◌, ℕ, Bool, if◌then◌else◌, List}
 use Rattle.std.specs.Prelude.{slice_index_or, slice_set, Option, Some, None}
 use Rattle.rv_exec.specs.declared.outcome.Effect.{Effect}
@@ -27,7 +27,7 @@ abbrev pub units_of : Hart → Units
 units_of h =
     record { timers = h.timers.now; traps = h.traps.now; sched = h.sched.now; guard = h.guard.now }
 
--- what the units hold of a thread
+-- a thread's state in the units
 abbrev pub row_of : ℕ → Units → Own
 row_of k u = record {
   timer = timer_of u.timers k;
@@ -38,7 +38,7 @@ row_of k u = record {
 abbrev pub own_of : Hart → Own
 own_of h = row_of h.thread (units_of h)
 
--- what the thread's instruction may do, by the units as they stand
+-- the rights of the thread's instruction, by the current units
 unfoldable pub environment_of : Hart → Environment
 environment_of h =
     record {
@@ -70,7 +70,7 @@ units_after k d u =
       guard = guard_by d.effect u.guard;
     }
 
--- what is known of an executed instruction, with what the units then hold of its thread
+-- an executed instruction as an `Execution`, with the thread's state in the units after it
 abbrev pub abstract_result : Own → ExecResult → Execution
 abstract_result own x =
     record {

@@ -1,4 +1,4 @@
--- An answered thread goes as alone with its plant.
+-- A thread that a plant answers runs as it does by itself with its plant.
 use Rattle.std.proofs.Common.{◌≡◌, ℕ, zero, suc, ◌+◌, ◌-◌, ◌≤◌, true, List}
 use Rattle.std.proofs.Common.{add-zero, add-suc, refl, ap, sym, ◌∙◌, subst, arith}
 use Rattle.rv_exec.specs.declared.outcome.Event.{Event}
@@ -16,7 +16,7 @@ unfolding world
 quiet-shorter s c zero q = rw add-zero at q
 quiet-shorter s c (suc m) q = quiet-shorter s c m (quiet_before s (c + m) (rw add-suc at q))
 
--- what the thread has done before a cycle, in the world and alone
+-- the thread's events before a cycle are the same in the world and by itself
 abbrev SoFar : Start → ℕ → ℕ → Type 0
 SoFar s i c = events_of i (world s c).turns ≡ oldest_first (solo_at (view s i) c).events
 

@@ -1,4 +1,4 @@
--- The world before a cycle hangs on the words of the cycles before it alone.
+-- The world before a cycle depends only on the words of the cycles before it.
 use Rattle.std.proofs.Common.{◌≡◌, ℕ, zero, suc, ◌<◌, List, refl, ap, ◌∙◌, arith}
 use Rattle.std.specs.Prelude.{if◌then◌else◌, nat_lt}
 use Rattle.core_model.specs.Issue.{issue}

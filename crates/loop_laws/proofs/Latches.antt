@@ -1,4 +1,4 @@
--- What stands at a port, by the stores that came to it.
+-- The latch of a port, by the stores to it.
 use Rattle.std.proofs.Common.{◌≡◌, ◌≢◌, ℕ, zero, suc, ◌+◌, ◌-◌, ◌<◌, ◌≤◌, inl, inr, ◌⊎◌}
 use Rattle.std.proofs.Common.{Bool, true, false, List, [], ◌∷◌, ◌++◌, append-nil, get_or}
 use Rattle.std.proofs.Common.{set, length, length-set, Some, None, Option, refl, ap, ap₂}

@@ -1,4 +1,4 @@
--- An answered thread goes as alone with its plant over the settings of the scheduling.
+-- A thread that a plant answers runs as it does by itself with its plant, over the settings.
 use Rattle.std.proofs.Common.{◌≡◌, ℕ, zero, suc, ◌-◌, ◌≤◌, true, List, refl, ap, sym, ◌∙◌, arith}
 use Rattle.std.specs.List.{list_all}
 use Rattle.rv_exec.specs.declared.outcome.Event.{Event}

@@ -44,8 +44,8 @@ abbrev pub port_stores : List Event → List PortStore
 port_stores [] = []
 port_stores (e ∷ events) = port_store e.cycle e.effect ++ port_stores events
 
--- all that a thread in a closed loop depends on, except its plant: its view without the port's
--- words
+-- the view of a thread in a closed loop, without the port's words: with its plant, all that its
+-- events depend on
 pub record LoopView : Type 0 where
   pub setting : Setting
   pub first : Thread

@@ -13,8 +13,8 @@ use Rattle.loop_laws.specs.Loop.{Plant, input_plant, phased_in_loop}
 use Rattle.loop_laws.specs.Loop.{solo_in_loop, without_port_words}
 use Rattle.loop_laws.specs.Answered.{IsAnswered, closed_start, inputs_of, loop_view, with_all_shown}
 
--- in a quiet run, the events of a confined hard thread with a responding plant are those of the
--- thread alone in the loop with the plant. The other threads may run any code
+-- In a quiet run, the events of a confined hard thread with a responding plant are those of the
+-- thread by itself in the loop with the plant. The other threads may run any code.
 abbrev pub LoopIsolation : Type 0
 LoopIsolation = (plant : Plant) (s : Start) (i n : ℕ) → StartsConfinedHard s i → is_quiet s n ≡ true
     → IsAnswered plant s i n → events s i n ≡ solo_in_loop (loop_view s i) plant n
@@ -39,8 +39,8 @@ abbrev pub LoopsExist : Type 0
 LoopsExist = (plants : ℕ → Plant) (s : Start) (i n : ℕ) → i < 8
     → IsAnswered (plants i) (closed_start plants s n) i n
 
--- if no thread has a permit, that run is quiet: each confined hard thread runs as if it were alone
--- in the loop with its plant
+-- If no thread has a permit, that run is quiet. Each confined hard thread runs as if it were by
+-- itself in the loop with its plant.
 abbrev pub LoopsWithoutPermits : Type 0
 LoopsWithoutPermits = (plants : ℕ → Plant) (s : Start) (i n : ℕ) → StartsConfinedHard s i
     → ((k : ℕ) → slice_index_or s.permit k false ≡ false)
@@ -50,7 +50,7 @@ LoopsWithoutPermits = (plants : ℕ → Plant) (s : Start) (i n : ℕ) → Start
 abbrev pub InputsAnswer : Type 0
 InputsAnswer = (s : Start) (i n : ℕ) → IsAnswered (inputs_of s i) s i n
 
--- alone in the loop with this plant a thread has the same events as alone with these words
+-- a thread has the same events by itself in the loop with this plant as by itself with these words
 abbrev pub InputsAreLoops : Type 0
 InputsAreLoops = (v : View) (n : ℕ)
     → solo_in_loop (without_port_words v) (input_plant v.shown) n ≡ solo v n

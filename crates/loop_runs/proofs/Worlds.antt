@@ -1,4 +1,4 @@
--- What refines a cycle of a world refines that cycle of each start with the same worlds so far.
+-- A machine that refines a cycle of a world refines it for each start with the same worlds so far.
 use Rattle.std.proofs.Common.{◌≡◌, ℕ, ◌-◌, ◌≤◌, List, get_or, Option, ap, ap₂, ◌∙◌, subst, arith}
 use Rattle.std.specs.Prelude.{IfSome}
 use Rattle.fp_ports.specs.PluggedPorts.{Row, row_at}
@@ -9,7 +9,7 @@ use Rattle.pipe_model.specs.Relation.{HasLatches, Refines, bank_in, control_in, 
 use Rattle.pipe_model.specs.Relation.{in_execute, in_fetch, in_memory, in_write, next_of, pick_in}
 use Rattle.loop_laws.specs.Answered.{with_all_shown}
 
--- what the stage registers hold, by the worlds
+-- the stage registers, by the worlds
 abbrev stages_in : Start → ℕ → World → World → World → List ℕ → StageRegisters
 stages_in s c now two three next =
     record {
@@ -21,7 +21,7 @@ stages_in s c now two three next =
       w = in_write (get_or now.turns 4 Idle);
     }
 
--- what the units hold, by the worlds
+-- the units, by the worlds
 abbrev units_in : Start → World → World → World → World → List (Option Row) → State
 units_in s now two three four ports =
     record {

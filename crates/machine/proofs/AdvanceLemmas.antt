@@ -77,7 +77,7 @@ text_after grows s n thread m after later rows new event ticked at forth passed 
     ∙ ap (λ c. text (events s thread c)) (at ∙ add-one m.at)
     ∙ text-next grows s thread m.at event ticked.event_is
 
--- what stands after a cycle
+-- the machine refines the next cycle after a cycle
 stands_after : (s : Start) (n : ℕ) (m after : Machine) (rows new : List (Option Row))
     (event : Option Event) → Ticks s m.at n rows after new event → after.at ≡ m.at + 1 →
     Refines s after.at n after new
@@ -143,7 +143,7 @@ retires_as s n m rows eight within st =
     (keeps s m.at (abstract_stages m.pipe) (with_ports_left (abstract_state m.units rows) m.at
     m.unplugs) st.begins left.shows left.refines).event
 
--- a cycle alone
+-- one cycle
 pub ticks_alone : (s : Start) (n thread : ℕ) (m after : Machine) (rows new : List (Option Row))
     (shown : Bool) (line : List ℕ) (event : Option Event) → after.at ≡ m.at + 1 →
     event ≡ event_in (m.at - 4) (turn_at s m.at 3) → Advanced s m.at n thread after new shown line →

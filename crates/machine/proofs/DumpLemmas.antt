@@ -1,4 +1,4 @@
--- What a dump has put, by the world.
+-- The text that a dump has written, by the world.
 use Rattle.std.proofs.Common.{ℕ, List, Option, Ok, Err, subst}
 use Rattle.std.specs.Prelude.{Result, OnOk, OnErr}
 use Rattle.std.specs.Io.KnownBytes.{Appends}

@@ -1,4 +1,4 @@
--- What feeding does to the start of the world.
+-- The effect of feeding on the start of the world.
 use Rattle.std.proofs.Common.{◌≡◌, ◌≢◌, ℕ, zero, suc, ◌<◌, ◌≤◌, ◌^◌, inl, inr, List, [], ◌∷◌, map}
 use Rattle.std.proofs.Common.{length, Option, Some, None, arith, refl, ap, sym, subst, ◌∙◌, lit<}
 use Rattle.std.proofs.lemmas.Bool.{cases_lt}
@@ -81,7 +81,7 @@ first-below s ports (suc j) i h inside =
           subst P (sym e) (first-newest s ports i inside)
     ]
 
--- what feeding leaves as it is
+-- feeding keeps these properties of the ports
 kept-words : {B : Type 0} → (f : Option Row → B) →
     ((o : Option Row) (at word : ℕ) → f (fed o at word) ≡ f o) → (k : ℕ) (ports : List (Option Row))
     (inputs : List Input) → map f (fed_words k ports inputs) ≡ map f ports

@@ -50,7 +50,7 @@ unfolding world recent
 eight s zero b = b.eight
 eight s (suc c) b = eight_after s c (world s c) (world s (suc c)) _ (nexts s c).turned ∙ eight s c b
 
--- what the stage registers show
+-- the shown content of the stage registers
 flushed-or : (b : Bool) (k : ℕ) (x : Fetched) →
     fetched_held (if b then stage.Flushed k else stage.Issue k x) ≡ Picked k
 flushed-or true k x = refl

@@ -57,7 +57,7 @@ pub length-words : (image : List Segment) (base size : ℕ) →
 unfolding words_from
 length-words image base size = length-map-range_with_len _ 0 (size / 4)
 
--- what all threads have at the start
+-- a value that all threads have at the start
 all_same : {B : Type 0} → (f : Thread → B) (xs : List ThreadSetup) (v : B) →
     length xs ≡ 8 → ((entry : ℕ) → f (fresh entry) ≡ v) →
     map f (map (λ (t : ThreadSetup). fresh t.entry) xs) ≡ replicate 8 v

@@ -1,4 +1,4 @@
--- What the proofs of a function open, under one name.
+-- The definitions that each function's proofs open, under one name.
 use Rattle.pipe_model.specs.Stages.{retired_event}
 
 -- the turn that retires

@@ -17,7 +17,7 @@ use Rattle.machine.specs.DumpedState.{is_port_left}
 use Rattle.machine.specs.FieldRelation.{port_read, ports_left_in}
 use Rattle.machine.specs.FieldLaws.{Unplugs, GoesOn}
 
--- what is left of a row
+-- a row after ports were unplugged
 abbrev pub left_of : List (Option ℕ) → ℕ → List (Option Row) → ℕ → Option Row
 left_of unplugs c ports k = if stays_in (get_or unplugs k None) c then row_at ports k else None
 
@@ -99,7 +99,7 @@ there_of o handed true kept e h = e ∙ ap (λ b. handed && b) (h refl)
 there_of o true false kept e h = refl
 there_of o false false kept e h = refl
 
--- what the issue of three cycles ago finds
+-- the word that the issue of three cycles ago finds
 seen_three : (unplug : Option ℕ) (o : Option Row) (c : ℕ) → 3 ≤ c →
     word_seen (if stays_in unplug c then o else None) (c - 3) ≡ port_read unplug o (c - 3)
 seen_three None o c h = refl

@@ -1,4 +1,4 @@
--- What a sink has taken, line by line.
+-- The bytes that a sink has taken, line by line.
 use Rattle.std.proofs.Common.{◌≡◌, ℕ, zero, suc, ◌+◌, ◌-◌, ◌<◌, List, ◌∷◌}
 use Rattle.std.proofs.Common.{◌++◌, Option, arith, refl, ap, sym, subst, ◌∙◌}
 use Rattle.std.specs.Prelude.{flat_map}

@@ -185,7 +185,7 @@ run_shows s n thread first m after rows new before between now line run ahead le
           (left i below);
     }
 
--- bytes, and then a front of others
+-- bytes, and then a prefix of others
 pub beyond : (before between now : Option (List ℕ)) (xs ys : List ℕ) → Appends before between xs →
     AppendsFront between now ys → AppendsBeyond before now xs
 beyond None between now xs ys first second = tt
@@ -194,7 +194,7 @@ beyond (Some told) (Some more) None xs ys first second = absurd second
 beyond (Some told) (Some more) (Some most) xs ys first (n, within, taken) =
     (take n ys, taken ∙ ap (λ zs. zs ++ take n ys) first)
 
--- a run that stops at a line, of which a front was put
+-- a run that stops at a line, with a prefix of the line written
 pub run_stops : EventsGrow → (s : Start) (n thread : ℕ) (first : List (Option Row))
     (m after : Machine) (rows new : List (Option Row)) (before between now : Option (List ℕ))
     (line : List ℕ) → after.at ≤ n → HasRun s m.at n thread first m rows before between →

@@ -1,4 +1,4 @@
--- What f holds of the turn of c - 1.
+-- The register after F, by the turn of c - 1.
 use Rattle.std.proofs.Common.{◌≡◌, ℕ, ◌-◌, Bool, true, false, List, ap, sym, ◌∙◌, subst}
 use Rattle.std.specs.Prelude.{Option, if◌then◌else◌}
 use Rattle.rv_exec.specs.declared.outcome.Effect.{Effect}

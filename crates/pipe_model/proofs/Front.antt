@@ -1,4 +1,4 @@
--- What the turn of c - 2 does to the younger turns of a thread.
+-- The effect of the turn of c - 2 on the younger turns of its thread.
 use Rattle.std.proofs.Common.{◌≡◌, ℕ, suc, ◌+◌, ◌<◌, ◌≤◌, ◌⊎◌, inl, inr, Bool, true, false}
 use Rattle.std.proofs.Common.{List, get_or, length, Some, None, refl, ap, sym, ◌∙◌, subst, arith}
 use Rattle.std.specs.Prelude.{if◌then◌else◌, Option, ◌==◌, nat_le}

@@ -1,4 +1,4 @@
--- What the stage registers hold of the last five turns.
+-- The stage registers, by the last five turns.
 use Rattle.std.proofs.Common.{◌≡◌, ℕ, ◌-◌, refl, ap, sym, ◌∙◌}
 use Rattle.std.specs.Prelude.{Option}
 use Rattle.rv_decode.specs.Table.{ins}

@@ -122,7 +122,7 @@ module _ (s : Start) (c : ℕ) (begins : Begins s) where
       go i below (inl r) = omega arith
       go i below (inr r) = let none : issues k t2 ≡ false = ap (issues k) r in cc
 
-  -- what holds after the cycle, by the worlds of before
+  -- the state after the cycle, by the worlds before it
   abbrev units_after : List (Option Row) → State
   units_after ports = record {
     bank = bank_in w3;

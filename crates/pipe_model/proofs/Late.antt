@@ -151,7 +151,7 @@ executed-is s n w k =
         shown-operand word d.word (reg_in t.regs (source_2 (ins word))) t.regs
         (λ v. source_2 (ins v)) (ap source_2 ins-zero) refl either
 
--- what the execute stage tells of a turn, and leaves
+-- the redirect and the state after the execute stage, by the turn
 abbrev pub redirect_in : Start → ℕ → World → Took → Option Redirect
 redirect_in s n w Idle = None
 redirect_in s n w (Lost k) = None

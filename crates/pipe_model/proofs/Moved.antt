@@ -1,4 +1,4 @@
--- What a turn does to one thread.
+-- The effect of a turn on one thread.
 use Rattle.std.proofs.Common.{◌≡◌, ◌≢◌, ℕ, zero, suc, ◌+◌, ◌-◌, ◌<◌, ◌≤◌, inl, inr, ◌⊎◌, Bool}
 use Rattle.std.proofs.Common.{true, false, List, get_or, length, refl, ap, ◌∙◌, subst, arith}
 use Rattle.std.specs.Prelude.{Option, ◌==◌}

@@ -1,4 +1,4 @@
--- What the stage registers show of the turns.
+-- The stage registers show the turns.
 use Rattle.std.proofs.Common.{◌≡◌, ℕ, ◌-◌, Bool, true, false, refl, sym, ◌∙◌, subst₂}
 use Rattle.std.specs.Prelude.{if◌then◌else◌, nat_le}
 use Rattle.rv_decode.specs.Table.{ins}

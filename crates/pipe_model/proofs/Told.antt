@@ -1,4 +1,4 @@
--- What an instruction's effect tells of its address, of a late value, and of an expiry.
+-- An execution's address, late value and expiry, by its effect.
 use Rattle.std.proofs.Common.{◌≡◌, ℕ, ◌/◌, ◌%◌, ◌^◌, Bool, true, false, List, Some, None, refl}
 use Rattle.std.specs.Prelude.{if◌then◌else◌, Option, ◌==◌, nat_le}
 use Rattle.rv_decode.specs.Table.{ins}

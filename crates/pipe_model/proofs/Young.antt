@@ -26,7 +26,7 @@ use Rattle.pipe_model.proofs.Moved.{equals, unequal}
 use Rattle.pipe_model.proofs.Late.{redirect_in, timer-is, row-is}
 use Rattle.pipe_model.proofs.Front.{Spared, Killed}
 
--- what the turn of c - 2 does to thread k, and its registers in m
+-- the effect of the turn of c - 2 on thread k, and k's registers with the value in M
 pub record Fate (s : Start) (c : ℕ) (w3 w2 w1 : World) (t2 t1 : Took) (pcs : List ℕ)
     (k : ℕ) : Type 0 where
   pub fate : Spared s c (c - 2) w2 w1 t1 k pcs ⊎ Killed s c (c - 2) w2 w1 t1 k pcs

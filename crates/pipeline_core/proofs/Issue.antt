@@ -1,4 +1,4 @@
--- What an executed issue leaves.
+-- The stage after an executed issue.
 use Rattle.std.proofs.Common.{◌≡◌, ◌==◌, ℕ, Bool, true, false, if◌then◌else◌}
 use Rattle.std.proofs.Common.{Some, None, inl, inr, refl, ap, ◌∙◌}
 use Rattle.std.specs.Prelude.{Option, slice_set}
@@ -73,7 +73,7 @@ controls k d u = λ j. record {
   sleeps = slice_set u.sched.sleep k d.own.sleep;
 }
 
--- what an executed instruction leaves is what the stage leaves
+-- an executed instruction leaves the state that the execute stage defines
 pub issue_after : (h g : Hart) (done : ExecResult) (x : Decoded) (a : Environment) →
     environment_of h ≡ a →
     Refines h g done (execute_in (environment_of h) x.pc (own_of h) x.expired x.word x.a x.b) →

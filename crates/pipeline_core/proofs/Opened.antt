@@ -1,4 +1,4 @@
--- What the proofs of a function open, under one name.
+-- The definitions that each function's proofs open, under one name.
 use Rattle.pipe_model.specs.Stages.{fetch_stage, next_after_fetch, memory_stage, words_stored}
 use Rattle.pipe_model.specs.Stages.{ports_stored, bank_after, writeback_stage, next_after_redirect}
 

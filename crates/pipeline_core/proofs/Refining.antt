@@ -1,4 +1,4 @@
--- What a cycle leaves refines the next one.
+-- The state after a cycle refines the next one.
 use Rattle.std.proofs.Common.{◌≡◌, ℕ, List, map}
 use Rattle.std.specs.Prelude.{Option}
 use Rattle.fp_ports.specs.PluggedPorts.{Row}

@@ -30,7 +30,7 @@ older p u m = record u {
   ports = ports_stored m u.ports;
 }
 
--- what E makes of a turn behind W and M
+-- the result of E after W and M
 abbrev pub executed_after : State → ℕ → Held Decoded → After
 executed_after u c d = execute_stage u.size u.confined u.permit (time u.period (c - 2)) u.control d
 

@@ -32,7 +32,7 @@ writable_masks word =
     λ i. map (λ thread. mask_of (map (λ nibble. writable_told thread nibble i) (nibbles word)))
     (0 ∷ 1 ∷ 2 ∷ 3 ∷ 4 ∷ 5 ∷ 6 ∷ 7 ∷ [])
 
--- a bit of a thread's mask tells of the region
+-- a bit of a thread's mask is the test of the region's kind
 region_bit : (test : RegionKind → Bool) (word thread region : ℕ) → region < 8 →
     (regions_that test word thread / 2 ^ region % 2 == 1)
     ≡ test (region_kind thread (nibble_at word region))

@@ -1,4 +1,4 @@
--- What holds of a section with its words and the loops that count in it.
+-- Facts of a section with its words and the loops that count in it.
 use Rattle.std.proofs.Common.{◌≡◌, ℕ, ◌+◌, ◌-◌, ◌*◌, ◌/◌, ◌≤◌, ◌<◌, arith, true, List}
 use Rattle.std.proofs.Common.{[], ◌∷◌, ◌++◌, length, map, filter, subst, sym, ap, ◌∙◌}
 use Rattle.std.specs.List.{range_with_len}

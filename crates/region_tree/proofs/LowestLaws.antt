@@ -151,7 +151,7 @@ by-edge t k b h = elim (Contains-append_cases (edge_to e.next e.next_lag) (edge_
     e : Edges
     e = edges_of (word_at t (address t k)) (address t k)
 
--- the edge to the next word enters a loop at its head alone
+-- the edge to the next word enters a loop only at its head
 entered-next : (t : Tree) (k a : ℕ) → IsDraft t → k < length t.words →
     EnteredBy t.loops (address t k) (edges_of (word_at t (address t k)) (address t k)).next a → ⊥
 entered-next t k a d within h =

@@ -1,4 +1,4 @@
--- A hard thread that is not confined finds in the world what its wider view tells.
+-- A hard thread that isn't confined finds in the world the words of its wider view.
 use Rattle.std.proofs.Common.{◌≡◌, ℕ, suc, ◌<◌, Bool, true, false, ◌&&◌, ◌||◌, List}
 use Rattle.std.proofs.Common.{[], ◌∷◌, ◌++◌, Some, None, get_or, drop, length, refl, ap}
 use Rattle.std.proofs.Common.{ap₂, sym, ◌∙◌, subst, arith, get_or-set_same, length-set}
@@ -80,7 +80,7 @@ around-wide s c i n w h free same = λ j. record {
         go true = ap (λ (r : Registers). Some (config_register r x)) same
         go false = refl
 
--- a late value counts only where Nothing stands for it
+-- a late value matters only if the effect is still Nothing
 filled-other : (o : Option ℕ) (u v : ℕ) (e : Option Effect) → is_pending e ≡ false →
     with_late_value o u e ≡ with_late_value o v e
 filled-other None u v e h = refl
@@ -201,7 +201,7 @@ issue-at s c i n w d later p is =
         (seen_words s.size (region_kinds i s.registers.dregions) w.d_words) (found_at s w i y
         ++ later) (port_word s c i) x.address) (sym is) (word-at s c i w x later p.size p.thread e)
 
--- what the wide view tells, without the words that are still to be found
+-- the state of the one-thread run over the wide view, without the words that are still to come
 abbrev pub narrow : Wide → Past
 narrow p = record { alone = p.alone; events = p.events }
 

@@ -118,7 +118,7 @@ goes_on s i c phases p m never g kept =
           (thread_of (after_pick s c r.now k.last k.pick) i) wakes g.one;
     }
 
--- what holds of every turn held of those before
+-- a test that every turn passes was passed by every turn before
 pub all_before : (test : Took → Bool) (s : Start) (c : ℕ) →
     list_all test (recent s (suc c)).now.turns ≡ true → list_all test (recent s c).now.turns ≡ true
 unfolding recent after_turn
@@ -148,7 +148,7 @@ all_earlier test s n q =
 pub quiet_earlier : (s : Start) (n : ℕ) → is_quiet s n ≡ true → is_quiet s (n - 4) ≡ true
 quiet_earlier s n q = all_earlier leaves_registers s n q
 
--- the world that picking in cycle c goes by
+-- the world that picking in cycle c uses
 pub earlier_is : (s : Start) (c : ℕ) → (recent s c).earlier ≡ world s (c - 2)
 unfolding recent world
 earlier_is s zero = refl

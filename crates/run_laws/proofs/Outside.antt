@@ -1,4 +1,5 @@
--- What an issue does outside its thread, as another thread and as the thread itself sees it.
+-- The effects of an issue outside of its thread, as seen by another thread and by the thread
+-- itself.
 use Rattle.std.proofs.Common.{◌≡◌, ◌≢◌, ℕ, ◌+◌, ◌<◌, Bool, true, false, ◌&&◌, List, Some}
 use Rattle.std.proofs.Common.{None, get_or, set, refl, ap, sym, ◌∙◌, arith, zero-add}
 use Rattle.std.specs.Prelude.{not, ◌||◌, ◌==◌, if◌then◌else◌, Option}

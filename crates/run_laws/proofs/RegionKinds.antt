@@ -1,4 +1,4 @@
--- What a region is to two threads, and the kinds of a view.
+-- A region's kinds for two threads, and the kinds of a view.
 use Rattle.std.proofs.Common.{◌≡◌, ◌≢◌, ℕ, ◌/◌, ◌<◌, inl, inr, true}
 use Rattle.std.proofs.Common.{false, get_or, map, ap, sym, ◌∙◌, arith}
 use Rattle.std.proofs.Math.ListN.{get_or-map}
@@ -36,13 +36,13 @@ sees-is i size regions address z h =
     ap (λ k. is_readable (get_or (region_kinds i regions) k Foreign)) (region-is size address z)
     ∙ ap is_readable (kind-is i size regions address h)
 
--- what another may write, a thread may not read
+-- a thread may not read a region that another thread may write
 pub others_write : (i k nibble : ℕ) → i < 8 → k < 8 → k ≢ i →
     is_writable (region_kind k nibble) ≡ true → is_readable (region_kind i nibble) ≡ false
 unfolding region_kind
 others_write i k nibble h l d w = grind (arith, nat_tests)
 
--- what a thread may write and read is its own
+-- a region that a thread may write and read is its own
 pub writes_own : (i nibble : ℕ) → i < 8 → is_writable (region_kind i nibble) ≡ true →
     is_readable (region_kind i nibble) ≡ is_mine (region_kind i nibble)
 unfolding region_kind

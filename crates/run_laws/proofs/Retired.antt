@@ -1,5 +1,5 @@
--- What is written by no issue, retired or in flight, is written by none that has retired: so each
--- theorem follows from the stronger one.
+-- If no issue writes the registers, retired or in flight, no retired issue does. So each theorem
+-- follows from the stronger one.
 use Rattle.core_model.specs.Phases.{leaves_regions}
 use Rattle.run_laws.specs.Isolation.{EqualViews, Isolation, PhasedIsolation, WideIsolation}
 use Rattle.run_laws.specs.RetiredIsolation.{RetiredEqualViews, RetiredIsolation}

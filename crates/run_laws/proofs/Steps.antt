@@ -339,7 +339,7 @@ takes-wakes s i c w last (Issue k) h n = go (nat_lt c (thread_of w k).ready) ref
         λ j. Wakes c (thread_of w i) (thread_of (after_issue s c w last j (issue_of s c w j)) i) in
         subst Goal (sym same) (own-wakes s i c w last h n (subst Late same e))
 
--- what held of every turn holds of those before
+-- a test that every turn passes was passed by every turn before
 pub takes-all : (test : Took → Bool) (s : Start) (c : ℕ) (w : World) (last : ℕ) (o : Pick) →
     list_all test (after_pick s c w last o).turns ≡ true → list_all test w.turns ≡ true
 takes-all test s c w last Bubble q = (both (test Idle) (list_all test w.turns) q).1

@@ -27,16 +27,16 @@ pub record StartsConfined (s : Start) (i : ℕ) : Type 0 where
   pub confined : slice_index_or s.confined i true ≡ true
   pub permit : slice_index_or s.permit i false ≡ false
 
--- if no region register is written, and no setting of the scheduling makes such a thread soft
--- active, its events are those of the definition of one thread alone, over its view and the run's
--- settings. The other threads may run any code and write slots and modes
+-- If no region register is written, and no setting makes such a thread soft active, its events are
+-- those of the one-thread definition over its view and the run's settings. The other threads may
+-- run any code and write slots and modes.
 abbrev pub PhasedIsolation : Type 0
 PhasedIsolation =
     (s : Start) (i n : ℕ) → StartsConfined s i → list_all (is_never_soft i) (phases s n) ≡ true →
     keeps_regions s n ≡ true → events s i n ≡ phased (view s i) (phases s n) n
 
--- if no configuration register is written, the events of such a thread are those of the definition
--- of one thread alone, over its view. The other threads may run any code
+-- If no configuration register is written, the events of such a thread are those of the one-thread
+-- definition over its view. The other threads may run any code.
 abbrev pub Isolation : Type 0
 Isolation =
     (s : Start) (i n : ℕ) → StartsConfinedHard s i → is_quiet s n ≡ true →

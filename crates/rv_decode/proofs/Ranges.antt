@@ -62,7 +62,7 @@ even_if : (half m n : ℕ) → n ≡ m + m → (b : Bool) →
 even_if half m n e true = (pos m, omega (arith, ints))
 even_if half m n e false = (pos m -ℤ pos half, omega (arith, ints))
 
--- what the row reads is in range
+-- the instruction that the row reads is in range
 abbrev IsSound : Row → Type 0
 IsSound r = (w : ℕ) → fits r w ≡ true → InRange (r.reads w)
 
@@ -302,7 +302,7 @@ from_read : (w : ℕ) → (ins w ≡ Illegal w) ⊎ InRange (ins w) → InRange 
 from_read w (inl e) = let P : Ins → Type 0 = λ i. InRange i in subst P (sym e) e
 from_read w (inr h) = h
 
--- What a word means is in range.
+-- The instruction of a word is in range.
 pub ins-range : (w : ℕ) → InRange (ins w)
 unfolding ins
 ins-range w = from_read w (read_range rows all w)

@@ -97,7 +97,7 @@ even_21 : (z : ℤ) → IsEven z → low_bits 21 z % 2 ≡ 0
 even_21 (pos n) (k, e) = omega (arith, ints)
 even_21 (negsuc n) (k, e) = omega (arith, ints)
 
--- The fields of a word that was put together from them.
+-- The fields of a word that was composed of them.
 record IsMade (w code rd f3 a b f7 : ℕ) : Type 0 where
   code_is : field w 0 7 ≡ code
   rd_is : field w 7 5 ≡ rd

@@ -120,8 +120,8 @@ digits_ok i skip base bs count v rest some e small after ends =
     let b : nat_lt (2 ^ 32 - 1) v ≡ false = grind (arith, nat_tests) in
     rw (a, e, b, after, ends) refl
 
--- What a part is to the assembler, and what it needs: names that are names, numbers that 32 bits
--- hold.
+-- A token of the text as the assembler reads it, with its conditions: names are valid names, and
+-- numbers fit in 32 bits.
 abbrev pub part_piece : TextToken → Piece
 part_piece (named x) = name x
 part_piece (counted n) = number n
@@ -141,7 +141,7 @@ IsSound (counted n) = n < 2 ^ 32
 IsSound (digits width n) = (0 < width) × (n < 16 ^ width) × (n < 2 ^ 32)
 IsSound _ = Unit {0}
 
--- what follows a name or a number doesn't go on with it
+-- the text after a name or a number doesn't continue it
 abbrev pub IsApart : TextToken → Text → Type 0
 IsApart (named x) rest = starts is_rest rest ≡ false
 IsApart (counted n) rest = starts is_rest rest ≡ false
@@ -398,7 +398,7 @@ reads opening h = reads_opening
 reads closing h = reads_closing
 reads minus h = reads_minus
 
--- parts that may stand one after another
+-- tokens that may follow each other
 abbrev pub AreSound : List TextToken → Type 0
 AreSound [] = Unit {0}
 AreSound (p ∷ ps) = IsSound p × IsApart p (flat_map token_text ps) × AreSound ps

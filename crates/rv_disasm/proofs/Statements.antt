@@ -1,4 +1,4 @@
--- What the tables of the assembler say of the texts.
+-- The rows of the assembler's tables for the texts.
 use Rattle.std.proofs.Common.{◌≡◌, ◌≢◌, Result, Ok, ℕ, zero, suc, ◌<◌, ◌≤◌, ◌+◌, ◌-◌, ◌%◌, ◌^◌}
 use Rattle.std.proofs.Common.{◌==◌, ◌&&◌, nat_lt, Bool, true, false, List, [], ◌∷◌, ◌++◌, map}
 use Rattle.std.proofs.Common.{length, Option, Some, None, refl, ap, ◌∙◌, arith, ℤ, pos, negsuc}
@@ -102,7 +102,7 @@ pub register_name : (r : ℕ) → r < 32 → is_name (codes "x" ++ decimal r) �
 unfolding reads_back
 register_name r h = (and_true _ _ (in_table 32 r h thirty_two)).1
 
--- What the assembler makes of a mnemonic with its operands: how many words, the location after
+-- The assembler's result for a mnemonic with its operands: the number of words, the location after
 -- them, and the words at an address.
 abbrev pub made : ℕ → Labels → ℕ → Text → List Piece → Result (ℕ × ℕ × Result (List ℕ) AsmNo) AsmNo
 made pc labels location m ps =
@@ -200,7 +200,7 @@ unfolding operands_of commas between_from all_filled with_operand register_in nu
 store_filled b a (pos n) h0 h1 = rw (read b h0, read a h1) refl
 store_filled b a (negsuc n) h0 h1 = rw (read b h0, read a h1) refl
 
--- What is made of a mnemonic whose operands are filled.
+-- The assembler's result for a mnemonic whose operands are filled.
 alu_made : (op : AluOp) (pc w : ℕ) (ps : List Piece) (o : Operands) →
     all_filled rd_rs1_rs2 (operands_of ps) nothing_given ≡ Some o →
     encoding_of (Op op o.rd o.rs1 o.rs2) ≡ w → (labels : Labels) (location : ℕ) →

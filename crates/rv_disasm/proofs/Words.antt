@@ -115,7 +115,7 @@ j_whole w code n h a e =
     ≡ field w 12 20 = omega arith in
     rw (one, two, three, four, all) (u_whole w code h a)
 
--- what the row reads has the word
+-- the encoding of the instruction that the row reads is the word
 abbrev IsBack : Row → Type 0
 IsBack r = (w : ℕ) → w < 2 ^ 32 → fits r w ≡ true → encoding_of (r.reads w) ≡ w
 

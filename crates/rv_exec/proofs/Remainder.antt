@@ -1,4 +1,4 @@
--- What a quotient cut toward 0 leaves.
+-- The remainder of a quotient that is truncated toward 0.
 use Rattle.std.proofs.Common.{◌≡◌, suc, ◌+◌, ◌*◌, ◌/◌, ◌%◌, ℤ, pos, negsuc, ◌-ℤ◌, ◌*ℤ◌, arith}
 use Rattle.rv_exec.specs.Alu.{quotient}
 

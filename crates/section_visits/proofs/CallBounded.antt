@@ -1,4 +1,5 @@
--- No call visit that keeps returns and bounds is longer than what call walks can cost.
+-- A call visit that keeps returns and bounds takes no longer than any bound on the paths with
+-- matching calls and returns.
 use Rattle.std.proofs.Common.{◌≡◌, ℕ, ◌+◌, ◌-◌, ◌%◌, ◌<◌, ◌≤◌, ◌⊎◌, inl, inr, refl}
 use Rattle.std.proofs.Common.{arith, ap, sym, subst, ◌∙◌, Bool, true, false, Option}
 use Rattle.std.proofs.Common.{Some, None, List, [], ◌∷◌, ◌++◌, length, Contains}
@@ -42,7 +43,7 @@ at x i = i.cycle % length x.positions.frame
 abbrev Links : (ℕ → Type 0) → Route → List Issued → Type 0
 Links set x l = AreLinkedIn set (IsMet x.calls) (Way x.calls) x.positions l
 
--- issues up to one in its part, as a walk
+-- the issues up to one in its function, as a path
 record Walked (x : Route) (i : Issued) (before : List Issued) : Type 0 where
   cost : ℕ
   counters : LoopSetup → ℕ
@@ -51,7 +52,7 @@ record Walked (x : Route) (i : Issued) (before : List Issued) : Type 0 where
   long : cost ≡ i.cycle - (first_of i before).cycle
   same : (j : LoopSetup) → counters j ≡ counter_at x.calls j i before
 
--- where it stands is a reachable word of a reached part
+-- the last word of the path is a reachable word of a reached function
 met : (x : Route) (i : Issued) (before : List Issued) → AreParts x.calls → Walked x i before →
     IsMet x.calls i.pc
 met x i before is w =

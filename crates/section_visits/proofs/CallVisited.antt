@@ -1,4 +1,5 @@
--- The issues of a call visit are a call walk, whose cost is the visit's length.
+-- The issues of a call visit are a path with matching calls and returns. Its cost is the visit's
+-- length.
 use Rattle.std.proofs.Common.{◌≡◌, ◌⊎◌, ℕ, ◌+◌, ◌≤◌, ◌==◌, inl, inr, refl, arith}
 use Rattle.std.proofs.Common.{ap, sym, subst, ◌∙◌, Bool, true, false, if◌then◌else◌}
 use Rattle.std.proofs.Common.{Option, Some, None, List, [], ◌∷◌, Contains}
@@ -75,7 +76,7 @@ call-way : (x : Calls) (u : ℕ) (t : Routine) (e : Edge) → callee x u ≡ Som
 unfolding edges_of
 call-way x u t e is h = call-ins (ins (x.word u)) u x.routines t e is h
 
--- the walk with one issue more, where that lies in its part
+-- the path with one more issue, if that is in its function
 abbrev Goes : Route → ℕ → ℕ → List ℕ → ℕ → (LoopSetup → ℕ) → ℕ → ℕ → ℕ →
     Option Routine → Bool → Type 0
 Goes x p u s c l d r v o b =

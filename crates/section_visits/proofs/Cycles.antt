@@ -1,4 +1,4 @@
--- What a cycle does to one thread, by slots by which it is hard and active.
+-- The effect of a cycle on one thread, for slots and modes that keep the thread hard and active.
 use Rattle.std.proofs.Common.{◌≡◌, ℕ, zero, suc, ◌+◌, ◌%◌, ◌<◌, ◌≤◌, inl, inr, ◌⊎◌, Bool, true}
 use Rattle.std.proofs.Common.{false, ◌&&◌, List, [], ◌∷◌, map, get_or, length, length-set, refl}
 use Rattle.std.proofs.Common.{ap, ap₂, sym, ◌∙◌, subst, arith, get_or-set_other, get_or-set_same}
@@ -42,7 +42,7 @@ pub record Rests (i c : ℕ) (w after : World) (o : Pick) : Type 0 where
   pub issues : issues_of i after.turns ≡ issues_of i w.turns
   pub early : is_this i o ≡ true → c < (thread_of w i).ready
 
--- what is the same for all threads
+-- the facts that are the same for all threads
 pub record KeepsLengths (w after : World) : Type 0 where
   pub count : length after.threads ≡ length w.threads
   pub age : length after.turns ≡ suc (length w.turns)

@@ -47,7 +47,7 @@ record Awaits (way : ℕ → Edge → Type 0) (s : Start) (slots i c : ℕ) (b :
   awake : th.own.sleep ≤ time s.period b.cycle
   none : (y : ℕ) → th.ready ≤ y → y < c → Own slots i y → ⊥
 
--- what holds in each cycle from one to below another
+-- a condition holds in each cycle from one to below another
 abbrev Until : (ℕ → Type 0) → ℕ → ℕ → Type 0
 Until set a c = (k : ℕ) → a ≤ k → k < c → set k
 

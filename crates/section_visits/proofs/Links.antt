@@ -25,7 +25,7 @@ stop-no No a b = refl
 stop-no Indirect a b = absurd (a refl)
 stop-no Timed a b = absurd (b refl)
 
--- what is fetched is in the scratchpad
+-- a fetched address is in the scratchpad
 pub fetch-inside : (s : Start) (c : ℕ) (w : World) (i pc : ℕ) →
     (environment_at s c w i).fetch pc ≡ true → pc < s.size
 unfolding environment may_fetch

@@ -1,4 +1,4 @@
--- The issues of a visit are a walk, whose cost is the visit's length.
+-- The issues of a visit are a path. Its cost is the visit's length.
 use Rattle.std.proofs.Common.{◌≡◌, ℕ, ◌+◌, ◌-◌, ◌%◌, ◌<◌, ◌≤◌, inl, inr, ◌⊎◌, List, []}
 use Rattle.std.proofs.Common.{◌∷◌, ◌++◌, length, refl, ap, sym, subst, arith, Contains}
 use Rattle.fp_setup.specs.declared.loop_list.LoopSetup.{LoopSetup}
@@ -51,7 +51,7 @@ is-step x h i f = record {
   turn = f.turn;
 }
 
--- issues up to one in the section, as a walk
+-- the issues up to one in the section, as a path
 record Walked (x : Course) (i : Issued) (before : List Issued) : Type 0 where
   steps : List Step
   walk : IsWalk x ((first_of i before).cycle % length x.positions.frame) steps i.pc

@@ -1,4 +1,4 @@
--- Folds by the parts of a text.
+-- Hashes of a text, from the hashes of its parts.
 use Rattle.std.proofs.Common.{◌≡◌, ℕ, ◌+◌, ◌-◌, ◌*◌, ◌/◌, ◌%◌, ◌^◌, ◌<◌, ◌≤◌}
 use Rattle.std.proofs.Common.{List, [], ◌∷◌, ◌++◌, length, Bool, inl, inr}
 use Rattle.std.proofs.Common.{arith, refl, ap, sym, subst, ◌∙◌, append_assoc}
@@ -33,7 +33,7 @@ one_more Right xs n x d within before here k below =
           (before k (omega (arith, below, not_is.1)))
     ]
 
--- what is multiplied fits in 64 bits
+-- the product fits in 64 bits
 pub product_fits : (h w : ℕ) → h < 2 ^ 32 → w < 2 ^ 32 → h * w ≤ (2 ^ 32 - 1) * (2 ^ 32 - 1)
 product_fits h w small few =
     mul-le h w (2 ^ 32 - 1) (2 ^ 32 - 1) (omega (arith, small)) (omega (arith, few))
@@ -153,12 +153,12 @@ upper_more p width less tens fits some one_less is h small =
     ap (fold_of h) (upper_some width tens some ∙ right_last width tens fits
     ∙ ap (λ k. upper_text k (tens / 10) ++ (48 + tens % 10) ∷ []) (sym one_less)) ∙ is h small
 
--- a cycle by its last digit and what stands before it
+-- the text of a cycle, from its last digit and the digits before it
 pub by_last : (cycle : ℕ) → cycle < 2 ^ 64 →
     (upper_text 9 (cycle / 10) ++ (48 + cycle % 10) ∷ []) ++ 32 ∷ [] ≡ cycle_text cycle
 by_last cycle fits = ap (λ xs. xs ++ 32 ∷ []) (sym (right_last 10 cycle fits))
 
--- a cycle by its last two digits and what stands before them
+-- the text of a cycle, from its last two digits and the digits before them
 pub by_last_two : (cycle : ℕ) → 100 ≤ cycle → cycle < 2 ^ 64 →
     upper_text 8 (cycle / 100) ++ lower_text (cycle % 100) ≡ cycle_text cycle
 unfolding two_digits
@@ -178,7 +178,7 @@ by_last_two cycle many fits =
     ∙ ap (λ n. (front ++ (48 + cycle % 100 / 10) ∷ []) ++ (48 + n) ∷ []) last in
     sym (ap (λ xs. xs ++ 32 ∷ []) whole ∙ simp append_assoc)
 
--- what was kept for a hundred cycles goes for a cycle that is one of them
+-- a hash that was kept for a hundred cycles is that of each of them
 pub is_kept : (cycle first : ℕ) → IsFirst first →
     cycle < 10 ^ 10 → (cycle + (2 ^ 64 - first)) % 2 ^ 64 < 100 →
     (100 ≤ cycle) × (first / 100 ≡ cycle / 100)
@@ -193,7 +193,7 @@ is_kept cycle first (many, whole, few) fits within =
       omega (arith, lower, whole, behind, near),
     )
 
--- a fold with a cycle, by its two parts
+-- the hash with a cycle, from the hashes of its two parts
 pub cycle_parts : (h begun ended cycle : ℕ) → 100 ≤ cycle →
     cycle < 10 ^ 10 → begun ≡ fold_of h (upper_text 8 (cycle / 100)) →
     ended ≡ fold_of begun (lower_text (cycle % 100)) → ended ≡ fold_of h (cycle_text cycle)
@@ -249,7 +249,7 @@ pub register_parts : (h rd value : ℕ) →
 unfolding fold_of register_text two_digits
 register_parts h rd value = refl
 
--- what is stored where, by its parts
+-- the hash with the address and value of a store, part by part
 pub store_parts : (h a s v : ℕ) → s < 10 →
     fold_of (with_byte (with_byte (with_byte (with_byte (fold_of (with_byte h 91) (hex 8 a)) 93) 47)
     (48 + s)) 61) (hex 8 v) ≡ fold_of h (store_text a s v)

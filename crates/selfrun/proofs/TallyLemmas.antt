@@ -195,7 +195,7 @@ own_tallies_are : (number n : ℕ) → n ≡ 100000 →
 unfolding own_tallies
 own_tallies_are number n is = ap (λ c. tallies_of (own_start number c) c) is
 
--- what the machine of the setup and the image did is what its world did
+-- the results of the machine of the setup and the image are those of its world
 pub own_run : (number n : ℕ) (setup : Settings) (image : List Segment)
     (rows : List (Option Row)) (m : Machine) (ts : List Tally) →
     setup ≡ own_setup → image ≡ programs number → rows ≡ no_ports →

@@ -14,7 +14,7 @@ IsPiece p bytes = (h : ℕ) → h < 2 ^ 32 → fold_of h bytes ≡ (h * p.weight
 abbrev pub IsPieceAt : List Piece → ℕ → List ℕ → Type 0
 IsPieceAt pieces n bytes = IsPiece (slice_index_or pieces n (record { weight = 0; sum = 0 })) bytes
 
--- the two hexadecimal digits of a byte, and their fold
+-- the two hexadecimal digits of a byte, and their hash
 abbrev pub pair_text : ℕ → List ℕ
 pair_text byte = hex_digit (byte / 16) ∷ hex_digit (byte % 16) ∷ []
 

@@ -15,7 +15,7 @@ use Rattle.selfrun.specs.Drawn.{own_setup, programs}
 abbrev pub with_byte : ℕ → ℕ → ℕ
 with_byte h byte = (h * 31 + byte) % 2 ^ 32
 
--- the fold after some bytes
+-- the hash after some bytes
 unfoldable pub fold_of : ℕ → List ℕ → ℕ
 fold_of h bytes = fold with_byte h bytes
 

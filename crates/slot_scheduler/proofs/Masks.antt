@@ -18,7 +18,7 @@ passes_at test w (suc (suc (suc (suc (suc (suc zero)))))) = refl
 passes_at test w (suc (suc (suc (suc (suc (suc (suc zero))))))) = refl
 passes_at test w (suc (suc (suc (suc (suc (suc (suc (suc k)))))))) = grind (arith, nat_tests)
 
--- a bit of a mask tells whether a thread's mode passes the test
+-- a bit of a mask is the test of its thread's mode
 pub thread_bit : (test : ℕ → Bool) (w k : ℕ) →
     (threads_that test w / 2 ^ k % 2 == 1) ≡ (nat_lt k 8 && test (mode_of w k))
 unfolding threads_that

@@ -18,7 +18,7 @@ use Rattle.slot_scheduler.specs.Picking.{after_last, is_awake, takes_donated}
 use Rattle.slot_scheduler.specs.declared.picking.Sched.{Sched}
 use Rattle.slot_scheduler.proofs.Masks.{soft_below, thread_bit}
 
--- the offsets of a mask's bits, and the threads that stand so far after the last one
+-- the offsets of a mask's bits, and the threads at these distances after the last one
 pub offsets : ℕ → List ℕ
 offsets left = filter (λ offset. left / 2 ^ offset % 2 == 1) (0 ∷ 1 ∷ 2 ∷ 3 ∷ 4 ∷ 5 ∷ 6 ∷ 7 ∷ [])
 
@@ -73,7 +73,7 @@ pub offsets-split : (left : ℕ) → 0 < left → left < 256 →
 offsets-split left some small =
     same_text _ _ (sym (tried splits 1 255 all_split left some small))
 
--- what is found among those that pass one test and another
+-- a search for an element that passes two tests
 find-both : (takes soft awake : ℕ → Bool) (xs : List ℕ) →
     All (λ x. takes x ≡ (soft x && awake x)) xs → find takes xs ≡ find awake (filter soft xs)
 find-both takes soft awake [] all = refl

@@ -89,7 +89,7 @@ inside-padded : (slots : List ℕ) (p : ℕ) → length slots ≤ 8 → p < 8 �
     p < length (in_positions slots)
 inside-padded slots p few small = rw (length-append, length-replicate) (omega (arith, few, small))
 
--- what stands in a position is a slot
+-- the nibble of a position is a slot
 pub is_slot-position : (w p d : ℕ) → is_table w ≡ true → p < 8 →
     is_slot (get_or (in_positions (frame w)) p d) ≡ true
 unfolding frame is_table nibbles

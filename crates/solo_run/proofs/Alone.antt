@@ -1,4 +1,4 @@
--- A confined thread without a permit: what its instructions may do, and what they leave.
+-- A confined thread without a permit: the rights of its instructions, and their effects.
 use Rattle.std.proofs.Common.{◌≡◌, ℕ, ◌<◌, ◌≤◌, ◌^◌, ◌%◌, Bool, true, false, ◌&&◌, Option}
 use Rattle.std.proofs.Common.{Some, None, inl, inr, length, lit≤, refl, sym, ap, ap₂, ◌∙◌}
 use Rattle.std.specs.Prelude.{if◌then◌else◌, ◌==◌, nat_le}
@@ -62,7 +62,7 @@ same_store i Z dregions h address width =
     ap (λ (st : RegionKind). if is_data Z address then is_writable st else is_port address width)
     (sym (kind-is i Z dregions address h))
 
--- what the guard answers is what the regions are to the thread
+-- the rights by the guard are those by the kinds of the regions
 asked_alone : (h : Hart) → h.thread < 8 → h.confined ≡ true → h.permit ≡ false →
     environment_of h ≡ environment_by h.thread h.guard.now.size
     (region_kinds h.thread h.guard.now.i) (region_kinds h.thread h.guard.now.d) h.time
@@ -98,7 +98,7 @@ asked_alone h k confined permit = λ j. record {
     shared : (csr : ℕ) → (environment_of h).shared csr ≡ None
     shared csr = rw permit refl
 
--- what an instruction leaves in the units of its thread is what is known of it
+-- the units after an instruction hold the thread's new state
 row_after : (k : ℕ) (d : Execution) (u : Units) → k < length u.timers → k < length u.traps →
     k < length u.sched.sleep → row_of k (units_after k d u) ≡ d.own
 row_after k d u timers traps sleeps = λ j. record {
@@ -253,7 +253,7 @@ stays g a pc t false w x y h = go (a.fetch pc)
     go true = run-stays g a pc t w x y (ins w) h
     go false = (refl, lit≤ tt)
 
--- what an instruction of such a thread leaves: the regions stay, and it goes on within three cycles
+-- An instruction of such a thread keeps the regions, and its lag is at most three.
 without_permit : (h : Hart) → h.permit ≡ false → (csr : ℕ) → (environment_of h).shared csr ≡ None
 unfolding environment_of
 without_permit h permit csr = rw permit refl

@@ -29,7 +29,7 @@ hex_by_bytes w =
     let h : w % 16 ≡ w % 0x100 % 16 = omega arith in
     rw (a, b, c, d, e, f, g, h) refl
 
--- a word behind what stands before, byte by byte
+-- a word after the text so far, byte by byte
 pub word_behind : (before : List ℕ) (w : ℕ) →
     (((before ++ hex 2 (w / 0x1000000)) ++ hex 2 (w / 0x10000 % 0x100))
     ++ hex 2 (w / 0x100 % 0x100)) ++ hex 2 (w % 0x100) ≡ before ++ hex 8 w
@@ -54,7 +54,7 @@ length-upper n high =
 length-width : (n : ℕ) → n < 10 ^ 10 → length (right 10 n) ≡ 10
 length-width n high = length-right 10 n (length-decimal-le 10 n (omega arith) high (omega arith))
 
--- a cycle that stands in the text
+-- a cycle whose digits are already in the text
 pub stands : (new bytes : List ℕ) (n : ℕ) → n < 10 ^ 10 → take (0 + length bytes) new ≡ bytes →
     bytes ≡ right 10 n → take 10 new ≡ right 10 n
 stands new bytes n high written is =
@@ -99,7 +99,7 @@ narrow size width = elim width [
 pub width_text : (size : ℕ) → IsWidth size → decimal size ≡ (48 + size) ∷ []
 width_text size width = decimal_digit size (narrow size width)
 
--- what a line has behind its cycle
+-- the part of a line after its cycle
 abbrev pub behind : ℕ → ℕ → Effect → List ℕ
 behind pc word effect =
     codes " " ++ (hex 8 pc

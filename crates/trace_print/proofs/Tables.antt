@@ -1,4 +1,4 @@
--- What stands in the tables of pairs of digits.
+-- The content of the tables of pairs of digits.
 use Rattle.std.proofs.Common.{◌≡◌, ℕ, zero, suc, ◌+◌, ◌-◌, ◌*◌, ◌/◌, ◌%◌, ◌<◌}
 use Rattle.std.proofs.Common.{Bool, true, false, ◌&&◌, T, eqb, List, [], ◌∷◌}
 use Rattle.std.proofs.Common.{get_or, refl, inl, inr, arith, eq-zero-or-pos, eqb→eq}

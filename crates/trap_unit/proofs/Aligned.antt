@@ -1,4 +1,5 @@
--- What keeps the two low bits of mtvec and mepc 0, and what a register may hold as it keeps it.
+-- Writes keep the two low bits of mtvec and mepc 0. The part that a register keeps of a legal value
+-- is legal.
 use Rattle.std.proofs.Common.{ℕ, arith}
 use Rattle.std.specs.Prelude.{IsTrue}
 use Rattle.std.proofs.lemmas.Bool.Decides.{nat_tests}

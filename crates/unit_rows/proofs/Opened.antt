@@ -1,4 +1,4 @@
--- What the proofs of a function open, under one name.
+-- The definitions that each function's proofs open, under one name.
 use Rattle.slot_table.specs.Nibbles.{nibbles}
 use Rattle.region_guard.specs.RegionsWord.{is_regions}
 use Rattle.slot_table.specs.Table.{is_table}

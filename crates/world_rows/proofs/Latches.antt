@@ -1,4 +1,4 @@
--- What stands at a port after stores, and once it is unplugged.
+-- The latch of a port after stores, and after it was unplugged.
 use Rattle.std.proofs.Common.{◌≡◌, Bool, ℕ, true, false, [], ◌∷◌, None, Some, refl, replicate}
 use Rattle.slot_table.specs.Nibbles.{nibbles}
 use Rattle.rv_decode.specs.Table.{ins, rows, lui_rows, auipc_rows, jal_rows, jalr_rows}
@@ -33,7 +33,7 @@ writer handed unplug =
       unplugs = Some unplug ∷ replicate 7 None;
     }
 
--- what stands at the port after a store; a port that isn't there takes none
+-- the latch after a store; an unplugged port takes none
 latches :
     ((world (writer true 15) 20).latches ≡ 2 ∷ replicate 7 0)
     × ((world (writer true 16) 20).latches ≡ 3 ∷ replicate 7 0)

@@ -191,7 +191,7 @@ unfolding two_soft ins rows lui_rows auipc_rows jal_rows jalr_rows branch_rows l
     after_turn recent world
 two_soft-1 = refl
 
--- a thread with a permit writes the slots; picking goes by them three cycles later
+-- a thread with a permit writes the slots; picking uses them from the third cycle after it on
 new_slots : Start
 new_slots =
     record (base ((0xf1000093 ∷ 0x7c009073 ∷ 0x00100113 ∷ 0x00100193 ∷ []) ++ replicate 12 0x0

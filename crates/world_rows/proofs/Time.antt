@@ -199,7 +199,7 @@ unfolding wait_long ins rows lui_rows auipc_rows jal_rows jalr_rows branch_rows 
     after_turn recent world
 wait_long-1 = refl
 
--- DU is held twice
+-- DU spins twice
 held_twice : Start
 held_twice = base ((0x03c00093 ∷ 0x0010200b ∷ 0x00100113 ∷ []))
 

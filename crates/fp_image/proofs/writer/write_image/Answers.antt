@@ -1,4 +1,4 @@
--- What is written is the defined file, which is read as the image.
+-- The written bytes are the defined file, which is read back as the image.
 use Rattle.std.proofs.Common.{◌≤◌, ◌++◌, ◌∙◌, List, ap, length, slice_index_or, arith}
 use Rattle.std.proofs.lemmas.List.{take_all}
 use Rattle.std.specs.Prelude.{codes}

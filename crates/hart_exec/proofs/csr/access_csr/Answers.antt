@@ -1,4 +1,4 @@
--- What an access answers is what the instruction does.
+-- The result of an access decides the execution of the instruction.
 use Rattle.std.proofs.Common.{◌≡◌, Some, None, Err, ap, sym, refl, ◌∙◌}
 use Rattle.trap_unit.specs.Access.{guard_after, sched_after, shared_value}
 use Rattle.trap_unit.specs.Access.{traps_after, value_by, written_in}

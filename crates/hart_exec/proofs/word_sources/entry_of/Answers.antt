@@ -1,4 +1,4 @@
--- Two fields beside each other.
+-- Two adjacent fields.
 use Rattle.hart_exec.proofs.WordSources.{key_at}
 use Rattle.hart_exec.proofs.word_sources.entry_of.Goals as goal
 

@@ -1,4 +1,4 @@
--- What an executed issue leaves.
+-- The stage after an executed issue.
 use Rattle.std.proofs.Common.{◌-◌, ap, sym, refl, ◌∙◌}
 use Rattle.timer_unit.specs.Time.{time}
 use Rattle.core_model.specs.Thread.{Environment}

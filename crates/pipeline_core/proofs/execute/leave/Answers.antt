@@ -1,4 +1,4 @@
--- The way tells the redirect.
+-- The returned bool is that of the redirect.
 use Rattle.pipeline_core.proofs.Issue.{redirecting}
 use Rattle.pipeline_core.proofs.execute.leave.Goals as goal
 

@@ -1,4 +1,4 @@
--- What M stores.
+-- The words after a store in M.
 use Rattle.std.proofs.Common.{arith}
 use Rattle.std.proofs.lemmas.Grind.{common_steps}
 use Rattle.pipe_model.specs.Stages.{words_stored}

@@ -1,4 +1,4 @@
--- What is moved to its lane stays in the word, since the address is aligned.
+-- A value that is moved to its lane fits in the word, since the address is aligned.
 use Rattle.std.proofs.Common.{◌%◌, rules, arith}
 use Rattle.rv_exec.proofs.ByteLanes.{byte_fits, half_fits, half_mask_fits}
 use Rattle.rv_exec.proofs.access.store_lanes.Goals as goal

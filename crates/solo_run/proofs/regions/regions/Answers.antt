@@ -1,4 +1,4 @@
--- The word is one of the register, and its regions are to the thread what the numbers say.
+-- The word is a valid register word, and its regions have the numbers' kinds for the thread.
 use Rattle.std.proofs.Common.{◌≡◌, ℕ, List, [], ◌∷◌, length, get_or}
 use Rattle.std.proofs.Common.{map, true, refl, sym, ◌∙◌, arith, rules}
 use Rattle.region_guard.specs.RegionsWord.{is_regions}

@@ -4,7 +4,7 @@ use Rattle.std.proofs.lemmas.Bool.{ne_eqb}
 use Rattle.trace_print.specs.Text.{csr_text, effect_text, register_text}
 use Rattle.trace_print.proofs.events.push_effect.Goals as goal
 
--- three pieces behind what stands before
+-- three pieces after the text so far
 pieces : (before a b c : List ℕ) → ((before ++ a) ++ b) ++ c ≡ before ++ (a ++ (b ++ c))
 pieces before a b c = simp append_assoc
 

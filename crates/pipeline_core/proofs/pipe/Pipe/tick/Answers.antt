@@ -1,4 +1,4 @@
--- A step keeps what stands.
+-- A cycle preserves the relation to the world.
 use Rattle.pipeline_core.proofs.Refining.{kept_by}
 use Rattle.pipeline_core.proofs.pipe.Pipe.tick.Goals as goal
 

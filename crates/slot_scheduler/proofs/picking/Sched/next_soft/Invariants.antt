@@ -1,4 +1,4 @@
--- What is left of the search has its result.
+-- The search over the remaining threads has the result of the whole search.
 use Rattle.std.proofs.Common.{◌≡◌, ◌<◌, find}
 use Rattle.slot_scheduler.specs.Picking.{after_last, takes_donated}
 use Rattle.slot_scheduler.proofs.Search.{threads_in, slept}
