@@ -41,7 +41,7 @@ pub rules_are : (name : Text) (names : List Text) →
     (built (app name names)).top.rules ≡ built_file ∷ after_file names
 rules_are name names = ap (λ (rest : List Rule). built_file ∷ rest) (options_built 2 names)
 
--- the command after one option more
+-- the command after one more option
 abbrev pub and_option : App → Text → App
 and_option a n = with_rule a (option_rule n)
 

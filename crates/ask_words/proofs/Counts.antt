@@ -1,4 +1,4 @@
--- How often a name is given a value.
+-- The number of values that a name is given.
 use Rattle.std.proofs.Common.{◌≡◌, ◌+◌, ◌&&◌, ℕ, Bool, true, false, List, [], ◌∷◌}
 use Rattle.std.proofs.Common.{length, take, Option, Some, None, option_map, if◌then◌else◌}
 use Rattle.std.proofs.Common.{not, ◌||◌, true≢false, unwrap_or, Bor, map, drop}
@@ -17,7 +17,7 @@ use Rattle.ask_words.specs.Code.{count_in, is_one, has_forms, is_bad_form, gives
 abbrev pub once : List Text → List Text → Text → Bool
 once names words name = is_one (count_in names name None words)
 
--- ---- one word more
+-- ---- one more argument
 
 abbrev pub plus : ℕ → Option ℕ → Option ℕ
 plus times = option_map (λ k. times + k)
@@ -74,7 +74,7 @@ module _ (names : List Text) (name word : Text) (rest : List Text) where
       (λ (g : Form). with_form g (pairs names None rest) (λ n. pairs names (Some n) rest)) (sym e))
       ∙ bad_form name (pairs names None rest) (λ n. pairs names (Some n) rest) f wrong
 
--- no word more
+-- no more argument
 pub at_end_waiting : (names : List Text) (name w : Text) → count_in names name (Some w) [] ≡ None
 unfolding pairs
 at_end_waiting names name w = refl
@@ -119,7 +119,7 @@ pub text_or : (o : Option (Bor Text)) (other : Bor Text) → other.now ≡ [] �
 text_or None other e = e
 text_or (Some s) other e = refl
 
--- ---- what is left of a list
+-- ---- the rest of a list
 
 pub left_of : {A : Type 0} (f : A → Text) (xs : List A) (i : ℕ) (d : A) → i < length xs →
     map f (drop i xs) ≡ f (get_or xs i d) ∷ map f (drop (i + 1) xs)

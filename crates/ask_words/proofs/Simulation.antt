@@ -216,7 +216,7 @@ module _ (s : Shape) (names : List Text) (again : s.args_override_self ≡ false
       go true = refl
       go false = e
 
-  -- the words after a pair
+  -- the arguments after a pair
   pair_case : (n v word : Text) (words : List Text) (given rest t : Pairs) (w : Walk) →
       rest ≡ (n, v) ∷ t → Once (given ++ rest) → is_known names n ≡ true → (count_of n given ≡ 0 →
       (turn_passes s [] w word ≡ true) × Ends (given ++ (n, v) ∷ []) (walked s.rules [] w word)) →
@@ -237,7 +237,7 @@ module _ (s : Shape) (names : List Text) (again : s.args_override_self ≡ false
   value_case n word o after rest true e = (refl, and_pair-Some n word o rest e)
   value_case n word o after rest false e = absurd (let no : ⊥ = cc in no)
 
-  -- a word that begins with `-` at which nothing waits, by its form
+  -- an argument that begins with `-`, while no option is pending, by its form
   form_case : (word : Text) (words : List Text) (o : Option Pairs) (after : Text → Option Pairs)
       (given rest : Pairs) (w : Walk) → Ends given w → Once (given ++ rest) →
       ((g t : Pairs) (u : Walk) → o ≡ Some t → Ends g u → Once (g ++ t) → Passes words (g ++ t) u)
@@ -254,7 +254,7 @@ module _ (s : Shape) (names : List Text) (again : s.args_override_self ≡ false
   form_case word words o after given rest w st once next opened bad f e =
       absurd (let no : ⊥ = cc in no)
 
-  -- a word at which nothing waits
+  -- an argument while no option is pending
   word_case : (word : Text) (words : List Text) (o : Option Pairs) (after : Text → Option Pairs)
       (given rest : Pairs) (w : Walk) → Ends given w → Once (given ++ rest) →
       ((g t : Pairs) (u : Walk) → o ≡ Some t → Ends g u → Once (g ++ t) → Passes words (g ++ t) u)

@@ -1,4 +1,5 @@
--- The command line parser takes words that have the forms, and finds what they give.
+-- The command line parser accepts arguments that have the forms, and finds the values that they
+-- give.
 use Rattle.std.proofs.Common.{◌≡◌, ℕ, ◌+◌, ◌≤◌, ◌==◌, ◌||◌, Bool, true, false, not, List}
 use Rattle.std.proofs.Common.{[], ◌∷◌, map, Option, Some, None, is_some, option_map}
 use Rattle.std.proofs.Common.{option_and_then, unwrap_or, slice_get, if◌then◌else◌}
@@ -208,7 +209,7 @@ module _ (name : Text) (names : List Text) where
       ap wanted_of matched ∙ shown_wanted in
       (rw (simple, wanted, all.1.is, all.0, all.1.passes, defaults, free) refl, matched)
 
--- words that have the forms give pairs
+-- arguments that have the forms give pairs
 formed_step : (names : List Text) (o : Option Pairs) →
     option_map_or (each_once names) o false ≡ true →
     (o ≡ Some (unwrap_or o [])) × (each_once names (unwrap_or o []) ≡ true)

@@ -25,7 +25,7 @@ pub record Knows (c : List Rule) (names : List Text) : Type 0 where
   pub by_index : arg_by_index c 1 ≡ Some built_file
   pub file_by_id : arg_by_id c file_id ≡ Some built_file
 
--- between two words, where nothing waits
+-- between two arguments, while no option is pending
 abbrev pub idle_walk : List Row → Option (Text × List Text) → ℕ → ℕ → Walk
 idle_walk rows pending skip position = record {
   held = record { rows = rows; pending = pending; skip = skip };
@@ -35,7 +35,7 @@ idle_walk rows pending skip position = record {
   stopped = None;
 }
 
--- after an option whose value comes next
+-- after an option, before its value
 abbrev pub waiting_walk : List Row → Text → ℕ → ℕ → Walk
 waiting_walk rows name skip position = record {
   held = record { rows = rows; pending = Some (name, []); skip = skip };
@@ -49,7 +49,7 @@ abbrev is_some_text : Text → Bool
 is_some_text [] = false
 is_some_text (x ∷ xs) = true
 
--- a plain word is no option for the parser
+-- the parser takes a plain argument for no option
 pub plain_word : (word : Text) → is_plain word ≡ true →
     (long_of word ≡ None) × (short_of word ≡ None) × (bytes_eq word (45 ∷ 45 ∷ []) ≡ false)
 plain_word [] e = absurd (true≢false (sym e))

@@ -68,7 +68,7 @@ returns (y ∷ ys) u v = go (returns ys u v) (is_or_not v y.head) (holds-or y u)
     go (inr rest) (inl e) (inr out) = none rest (λ e held. out held)
     go (inr rest) (inr other) b = none rest (λ e held. other e)
 
--- where nothing refuses a graph whose loops lie in it
+-- a graph without a cause of refusal, whose loops lie in it
 pub accepted-of : (g : Graph) → ((j : LoopSetup) → Contains g.loops j →
     (g.from ≤ j.head) × (j.head ≤ j.last) × (j.last < g.to)) → IsAllowed g → IsAccepted g
 accepted-of g ordered is = record {

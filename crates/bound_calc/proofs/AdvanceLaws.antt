@@ -1,4 +1,4 @@
--- Rows and matrices a step further.
+-- Rows and matrices advanced by a step.
 use Rattle.std.proofs.Common.{◌≡◌, ◌≢◌, ℕ, ◌+◌, ◌<◌, ◌≤◌, ◌⊎◌, refl, arith, min, subst, sym, ap}
 use Rattle.std.proofs.Common.{◌∙◌, inl, inr, List, [], length, Option, Some, None, slice_index_or}
 use Rattle.std.proofs.Common.{slice_set, get_or-set_other, get_or-set_same, length-set}
@@ -23,7 +23,7 @@ advance-start row hops old = record {
   from = λ q e is. inl is;
 }
 
--- nothing to take in
+-- no sum to add
 advance-same : (row : List (Option ℕ)) (hops : List (Option Hop))
     (n : ℕ) (old mid : List (Option ℕ)) →
     ((x d q : ℕ) → slice_index_or row n None ≡ Some x → Hops hops n d q → ⊥) →
@@ -46,7 +46,7 @@ advance-same row hops n old mid none a = record {
         absurd (none x d q (ap (λ k. slice_index_or row k None) (sym same) ∙ is)
         (ap (λ k. slice_index_or hops k None) (sym same) ∙ h))
 
--- one sum taken in
+-- one sum added
 advance-one : (row : List (Option ℕ)) (hops : List (Option Hop)) (n x : ℕ)
     (h : Hop) (old mid : List (Option ℕ)) → slice_index_or row n None ≡ Some x →
     slice_index_or hops n None ≡ Some h → h.position < length mid → IsAdvanced row hops n old mid →
@@ -201,7 +201,7 @@ best-advanced here onto new hops positions rows = (covers, among)
           )
         ]
 
--- the farthest of one sum more
+-- the largest with one more sum
 pub farthest-more : (row : List (Option ℕ)) (hops : List (Option Hop)) (n old mid new : ℕ) →
     IsFarthest row hops n old mid → mid ≤ new →
     ((x : ℕ) (h : Hop) → slice_index_or row n None ≡ Some x →

@@ -1,5 +1,5 @@
--- Loops that lie in at most three others are shallow; a step costs at most 10; and so no cost is
--- large.
+-- Loops that lie in at most three others are shallow, and a step costs at most 10. So each cost is
+-- bounded.
 use Rattle.std.proofs.Common.{◌≡◌, ℕ, zero, suc, ◌+◌, ◌-◌, ◌*◌, ◌%◌, ◌^◌, ◌<◌}
 use Rattle.std.proofs.Common.{◌≤◌, ◌⊎◌, refl, arith, inl, inr, ap, subst, sym, ◌∙◌}
 use Rattle.std.proofs.Common.{Contains, List, [], ◌∷◌, length, Bool, true, false, cond}
@@ -26,7 +26,7 @@ abbrev pub passing : (LoopSetup → Bool) → List LoopSetup → ℕ
 passing p [] = 0
 passing p (j ∷ js) = cond (p j) 1 0 + passing p js
 
--- a test that holds more often counts more
+-- a test that holds more often has a larger count
 count-≤ : (p q : LoopSetup → Bool) → ((x : LoopSetup) → p x ≡ true → q x ≡ true) →
     (xs : List LoopSetup) → passing p xs ≤ passing q xs
 count-≤ p q h [] = omega arith

@@ -64,7 +64,7 @@ unfolding larger_of
 larger-none None = refl
 larger-none (Some x) = refl
 
--- no sum where there is no first one
+-- no sum, if there is no first one
 pub none-sum : (first x y : Option ℕ) → ((n : ℕ) → first ≡ Some n → ⊥) →
     x ≡ larger_of x (sum_of first y)
 unfolding sum_of
@@ -124,12 +124,12 @@ sum-is (Some x) (Some y) a b h k =
     (let e : x ≡ a = cc in
     let f : y ≡ b = cc in ap (λ n. Some (min n ceiling)) (ap (λ n. n + y) e ∙ ap (λ n. a + n) f))
 
--- nothing over no position
+-- the sum over no position
 pub over-none : (f g : ℕ → Option ℕ) (x : Option ℕ) → x ≡ larger_of x (over 0 f g)
 unfolding over
 over-none f g x = sym (larger-none x)
 
--- over one position more
+-- the sum over one more position
 pub over-more : (n : ℕ) (f g : ℕ → Option ℕ) (first old new : Option ℕ) →
     old ≡ larger_of first (over n f g) → new ≡ larger_of old (sum_of (f n) (g n)) →
     new ≡ larger_of first (over (n + 1) f g)

@@ -127,7 +127,7 @@ filled-more t o ways j k powers b m is are known head r within f boxed best = re
     )
     only w n e (inr ne) = let y = f.only w n (sym (other w ne) ∙ e) in (omega (arith, y.0), y.1)
 
--- no loop to be put
+-- no loop has its head there
 pub filled-same : (t : Tree) (o : Positions) (ways : WaysOn) (k : ℕ) (powers : Powers) → IsTree t →
     ((j : LoopSetup) → Contains t.loops j → address t k ≡ j.head →
     Reachable (graph t) (address t k) → ⊥) → IsFilled (over t o ways) t (k + 1) powers →
@@ -147,7 +147,7 @@ filled-same t o ways k powers is none f = record {
         absurd (none i known head (subst (λ v. Reachable (graph t) v) (sym head) r))
     go i known le r (inr ne) = f.some i known (omega arith) r
 
--- no head of a loop is passed over
+-- every head of a loop is visited
 pub filled-down : (t : Tree) (o : Positions) (ways : WaysOn) (k n : ℕ) (powers : Powers) →
     k < n → ((j : LoopSetup) → Contains t.loops j → j.head < address t n → index t j.head ≤ k) →
     IsFilled (over t o ways) t n powers → IsFilled (over t o ways) t (k + 1) powers
@@ -217,7 +217,7 @@ filled-none t o ways powers is count none = record {
   only = λ k m e. let z : None ≡ Some m = sym (none k) ∙ e in cc;
 }
 
--- no power among one more
+-- no power at one more index
 pub none-more : (powers : Powers) → ((k : ℕ) → power_at powers k ≡ None) → (k : ℕ) →
     power_at (powers ++ None ∷ []) k ≡ None
 none-more [] none zero = refl

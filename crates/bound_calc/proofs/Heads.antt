@@ -33,7 +33,7 @@ from_below {g} {s} {p} (step {n} {u} {q} {c} {d} {v} {r} {k} w a high may f) no_
     })
     go (inr (j, known, e, held)) = absurd (no_head j known e)
 
--- one round more
+-- one more round
 pub rounds-more : {g : Net} {j : LoopSetup} (m : ℕ) {p a q b r : ℕ} {f : Costs} →
     Then f (Rounds g j m) p a q → Round g j q b r → Then f (Rounds g j (suc m)) p (a + b) r
 rounds-more m {q = q} {b = b} x y = record {

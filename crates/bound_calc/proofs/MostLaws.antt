@@ -1,4 +1,4 @@
--- The most of all entries is the bound.
+-- The largest of all entries is the bound.
 use Rattle.std.proofs.Common.{◌≡◌, ℕ, ◌+◌, ◌<◌, ◌≤◌, ◌⊎◌, ◌^◌, ◌-◌, min, nat_le, nat_lt}
 use Rattle.std.proofs.Common.{refl, arith, subst, sym, ap, ◌∙◌, inl, inr, List, []}
 use Rattle.std.proofs.Common.{length, Option, Some, None, Contains, Bool, true, false}
@@ -148,7 +148,7 @@ either-edge t k b known =
     Contains-append_cases (edge_to (edges_at t k).next (edges_at t k).next_lag)
     (edge_to (edges_at t k).jump 3) b known
 
--- one word more
+-- one more word
 pub most-more : (t : Tree) (o : Positions) (k : ℕ) (here : Matrix) (most new : ℕ) →
     IsBest (entry here)
     (Reaches (net (field (walks t o))) (whole (field (walks t o))) (address t k)) →
@@ -286,7 +286,7 @@ most-more t o k here most new best m f = record {
             }) in
             sum-≤ c here_k.one here_k.two y.0 0 ceiling new here_k.cost y.2 up
 
--- one word of straight code more
+-- one more word of straight code
 pub most-straight : (t : Tree) (o : Positions) (k last : ℕ) (way power : Option Matrix)
     (f : FrontModel) (most new : ℕ) → IsTree t → last < length t.words → AreBest (FrontCosts f)
     (Reaches (net (field (walks t o))) (whole (field (walks t o))) (address t k)) →
@@ -386,7 +386,7 @@ most-all t o n most is frame top m =
         (subst (λ v. Contains (x.graph.edges v) e) (sym w.1) known) far (subst (λ v. Then
         (Reaches (net (field x)) (whole (field x)) v) (Steps x.positions e.lag) p c q) (sym w.1) r))
 
--- where no word has a way of its own, all is by the turns
+-- without words that have a matrix of their own, every step is by the turns
 abbrev pub no-ways : WaysOn
 no-ways k = None
 

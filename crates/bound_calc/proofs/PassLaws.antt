@@ -88,7 +88,7 @@ pub no-option : {A : Type 0} (o : Option A) → is_some o ≡ false → o ≡ No
 no-option None e = refl
 no-option (Some x) e = cc
 
--- a matrix put where an edge leads
+-- a matrix brought to an edge's target
 pub waits-set : (old : Powers) (k w : ℕ) (o : Option (Box Matrix Global)) → w ≢ k →
     power_at (slice_set old k o) w ≡ power_at old w
 waits-set old k w o ne =
@@ -219,7 +219,7 @@ no-hop zero p d q e = cc
 no-hop (suc n) zero d q e = cc
 no-hop (suc n) (suc p) d q e = no-hop n p d q e
 
--- a step put behind others
+-- a step appended to others
 abbrev add-hop : ℕ → Option Hop → Option Hop
 add-hop n o = option_map (λ k. record { cost = n + k.cost; position = k.position }) o
 
@@ -977,7 +977,7 @@ span-count t o ways first last is sp =
     sp.top (t.section.to - 4) (omega arith) (omega arith) in
     omega (arith, sp.inside)
 
--- one matrix more
+-- one more matrix
 pub reach-more : (at : List Matrix) (n : ℕ) (m : Matrix) (f : ℕ → Costs) → length at ≡ n →
     ((k : ℕ) → k < n → IsBest (matrix_at at k) (f k)) → IsBest (entry m) (f n) → (k : ℕ) →
     k < n + 1 → IsBest (matrix_at (at ++ m ∷ []) k) (f k)

@@ -1,4 +1,4 @@
--- A forward pass holds the best of what reaches each word.
+-- A forward pass holds the best costs at each word.
 use Rattle.std.proofs.Common.{◌≡◌, ℕ, ◌+◌, ◌-◌, ◌<◌, ◌≤◌, ◌⊎◌, ◌≢◌}
 use Rattle.std.proofs.Common.{refl, arith, inl, inr, ap, subst, Contains}
 use Rattle.bound_calc.proofs.BestLaws.{Lands, Within, are-same, best-same, best-then}
@@ -71,7 +71,7 @@ reach-plain {x} {s} {w} part no_head r b =
     record { steps = f.steps; counters = f.counters; walk = f.walk })
     (λ p c q z. from_below z.walk (λ j known. no_head j known (walk-reachable r z.walk))) b
 
--- the second matrix is looked at only where the first set has an element
+-- the second matrix matters only at elements of the first set
 pub best-then-if : {a b c : Entries} {f g : Costs} → IsBest a f →
     ((p n q : ℕ) → f p n q → IsBest b g) → IsBest c (Then (In a) (In b)) → IsBest c (Then f g)
 best-then-if {a} {b} {c} {f} {g} x y z = (
@@ -118,7 +118,7 @@ reach-head {x} {s} {a} {b} {m} j t part r h best rounds both =
           cost = z.cost;
         }
 
--- one edge more
+-- one more edge
 pub comes-more : {x : Field} {s : Scope} {f : Edges} {g : Costs} (v : ℕ) (e : Edge) →
     v < e.to → e.to ≤ s.high →
     AreBest g (Either (Comes x s f e.to) (Then (Reaches (net x) s v) (x.move v e.lag))) →
@@ -213,7 +213,7 @@ comes-same {x} {s} {f} {g} {a} {w} r there back = are-same (along f g there) (al
       cost = b.cost;
     })
 
--- rounds, from the edges that lead back
+-- rounds, from the back edges
 pub rounds-turns : {x : Field} (j : LoopSetup) (f : Edges) →
     ((u : ℕ) (e : Edge) → e.to ≡ j.head → Holds j u → Contains (x.graph.edges u) e → f u e) →
     Within (Round (net x) j) (Turns x j f)

@@ -48,7 +48,7 @@ inner-inside loops j i h =
     (All-contains (λ i. (nat_lt j.head i.head && nat_le i.last j.last) ≡ true) (inner_loops loops j)
     i (filter_passes (λ i. nat_lt j.head i.head && nat_le i.last j.last) loops) h)
 
--- where steps lead
+-- the end of a list of steps
 leads-ends : (x : Course) (u p : ℕ) (ts : List Step) (v q : ℕ) → Leads x u p ts v q →
     (v ≡ word_after u ts) × (q ≡ position_after p ts)
 leads-ends x u p [] v q l = l

@@ -135,7 +135,7 @@ path_of {x} {p} (onward {u = u} {q = q} {c = c} {d = d} {v = v} {r = r} {k = k} 
       counters = λ j. ap (counter_after u v j) (y.counters j);
     }
 
--- the bound, from what reaches each word and what leaves
+-- the bound, from the costs at each word and of the steps that leave
 pub costs-within : (x : Course) (b : ℕ) → IsAccepted x.graph →
     ((p c q v : ℕ) → Reaches (net (field x)) (whole (field x)) v p c q → c ≤ b) →
     ((v p c q : ℕ) (e : Edge) → Contains (x.graph.edges v) e → (Lies x.graph e.to → ⊥) →

@@ -20,7 +20,7 @@ use Rattle.bound_calc.specs.Matrices.{cell, entry}
 use Rattle.bound_calc.proofs.Embed.{is_or_not}
 use Rattle.bound_calc.proofs.Entries.{min-under, entry-range, entry-in}
 
--- whose turn a slot is
+-- the thread of a slot
 slot-thread : (x n : ℕ) → turn_of_slot x ≡ Thread n → x ≡ n
 slot-thread x n e = go (nat_lt x 8) refl e
   where
@@ -123,7 +123,7 @@ not_yet s p lag d o le none =
         ∙ mod-eq_of_lt o.within in
         absurd (none (subst (λ n. IsOwn s n) (sym back) o))
 
--- there is one next turn
+-- the next turn is unique
 pub same_step : (s : Positions) (lag p d e q r : ℕ) → IsNextTurn s lag p d q →
     IsNextTurn s lag p e r → d ≡ e
 same_step s lag p d e q r a b = go (let z : (d ≡ e) ⊎ ((d < e) ⊎ (e < d)) = grind arith in z)
@@ -198,7 +198,7 @@ best-stays s m frame there back = (covers, among)
         let r = entry-range m p q d e in
         (d, there p q d r.0 r.1 (sym (entry-in m p q r.0 r.1) ∙ e), refl)
 
--- a row of nones
+-- a row without entries
 abbrev pub nothing : Option ℕ
 nothing = None
 
@@ -250,7 +250,7 @@ pub far : (lag cycles count : ℕ) → lag ≤ 3 → count ≤ 8 → cycles ≤ 
 far lag cycles count few frame le =
     let x : lag * count ≤ 3 * count = mul-le-mul_right count few in omega arith
 
--- one position more
+-- one more position
 pub row-found : (s : Positions) (lag k : ℕ) (hops : List (Option Hop)) (h : Option Hop) →
     k < length hops → ((p d q : ℕ) → p < k → Hops hops p d q → IsNextTurn s lag p d q) →
     ((d q : ℕ) → h ≡ some_hop d q → IsNextTurn s lag k d q) → (p d q : ℕ) → p < k + 1 →

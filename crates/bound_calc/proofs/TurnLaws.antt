@@ -1,4 +1,4 @@
--- The edges back to a loop's head.
+-- The back edges to a loop's head.
 use Rattle.std.proofs.Common.{◌≡◌, ℕ, ◌+◌, ◌%◌, ◌<◌, ◌≤◌, ◌⊎◌, refl, arith, subst}
 use Rattle.std.proofs.Common.{sym, ap, ◌∙◌, inl, inr, Option, Some, None, Contains}
 use Rattle.std.proofs.lemmas.List.Elements.{Contains-append_left, Contains-append_right}
@@ -59,7 +59,7 @@ turns-same {x} {f} {g} j r part there back best = best-same (along f g there) (a
       cost = t.cost;
     }
 
--- one edge more, to the head
+-- one more edge, to the head
 turns-more : {x : Field} {f : Edges} {c : Entries} (j : LoopSetup)
     (v : ℕ) (target : Option ℕ) (lag : ℕ) → target ≡ Some j.head →
     IsBest c (Either (Turns x j f) (Then (Reaches (net x) (body (net x) j) v) (x.move v lag))) →
@@ -131,7 +131,7 @@ not-turned j v target lag r part other before =
     turns-same j r part (λ u e a low ru y. inl y) (λ u e a low ru y.
     elim y [ inl z ↦ z | inr z ↦ absurd (other ((edge-is target lag e z.1).0 ∙ ap Some a)) ]) before
 
--- one edge of a word, whatever it is
+-- an edge of a word, whatever its target
 pub turned : {x : Field} {f : Edges} {back here new : Matrix} (j : LoopSetup)
     (v : ℕ) (target : Option ℕ) (lag : ℕ) → Reachable x.graph j.head →
     IsScope (net x) (body (net x) j) → IsBest (entry here) (Reaches (net x) (body (net x) j) v) →
@@ -220,7 +220,7 @@ turns-straight {m} t o ways j k last way power f is r part low s before =
     e : EdgesOf
     e = edges_at t k
 
--- no word yet
+-- no word so far
 pub turns-none : {x : Field} {m : Entries} (j : LoopSetup) (v : ℕ) → j.head ≡ v → IsScope (net x)
     (body (net x) j) → ((p q c : ℕ) → m p q ≡ Some c → ⊥) → IsBest m (Turns x j (Below x v))
 turns-none j v e part none = (

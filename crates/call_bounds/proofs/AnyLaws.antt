@@ -1,5 +1,5 @@
--- Matrices of sets of costs that hold at some index, and of sets that cost the same as far as sums
--- go.
+-- Matrices of sets of costs that hold at some index, and of sets whose costs are equal up to the
+-- ceiling.
 use Rattle.std.proofs.Common.{◌≡◌, ℕ, ◌+◌, ◌<◌, ◌≤◌, ◌⊎◌, ◌∙◌, refl, arith}
 use Rattle.std.proofs.Common.{inl, inr, subst, min, Some, Bool, true, false}
 use Rattle.bound_calc.specs.Best.{Costs, Either, Entries, In, IsBest, ceiling}
@@ -9,8 +9,7 @@ use Rattle.call_bounds.specs.Summaries.{Any, When}
 once-covers : (c e s n : ℕ) → min c n ≤ e → min e n ≤ s → min c n ≤ s
 once-covers c e s n h h' = omega arith
 
--- sets of which each cost of the one has one of the other that is the same, or larger, as far as
--- sums go
+-- each cost of the first set has an equal or larger one in the second, up to the ceiling
 pub record Alike (f g : Costs) : Type 0 where
   pub covers : (p c q : ℕ) → f p c q → (e : ℕ) × g p e q × (min c ceiling ≤ e)
   pub among : (p e q : ℕ) → g p e q → (c : ℕ) × f p c q × (min e ceiling ≡ min c ceiling)
@@ -38,7 +37,7 @@ alike-or {f} {g} {h} a = record { covers = covers; among = among }
     among p e q (inl x) = (e, inl x, refl)
     among p e q (inr x) = let y = a.among p e q x in (y.0, inr y.1, y.2)
 
--- a set joined onto a matrix
+-- a set joined with a matrix
 pub best-onto : {a c : Entries} {f g : Costs} → IsBest a f → IsBest c (Either (In a) g) →
     IsBest c (Either f g)
 best-onto {a} {c} {f} {g} x z =
@@ -82,7 +81,7 @@ any-more f n a b = best-same there (λ p c q z. split f z) (best-onto a b)
     there p c q (inl z) = wider f z
     there p c q (inr z) = last f z
 
--- the same, onto another matrix, where what holds at an index is one of two things
+-- the same, joined with another matrix, if the costs at an index are of two kinds
 pub onto-none : {m : Entries} {f : ℕ → Costs} → IsBest m (Either (In m) (Any f 0))
 onto-none {m} {f} = (covers, λ p e q is. (e, inl is, refl))
   where
@@ -136,7 +135,7 @@ when-false {onto} f false e = (covers, λ p e q is. (e, inl is, refl))
         under c e n h = omega arith
     covers p c q (inr x) = absurd x
 
--- two sets joined onto a matrix, one after the other
+-- two sets joined with a matrix, one after the other
 pub end-more : {onto one two three : Entries} {f g : Costs} →
     IsBest one (Either (In onto) f) → IsBest two g → IsBest three (Either (In one) (In two)) →
     IsBest three (Either (In onto) (Either f g))

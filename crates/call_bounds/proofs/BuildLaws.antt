@@ -6,7 +6,7 @@ use Rattle.call_bounds.specs.CallRefused.{AreCallsAllowed, ArePartsAllowed}
 use Rattle.call_bounds.specs.Calls.{Calls}
 use Rattle.call_bounds.specs.declared.tree.CallNo.{CallNo}
 
--- a part is refused by itself
+-- a function has a cause of refusal of its own
 pub call-refused : (x : Calls) (c : CallNo) → AreCallsAllowed x → IsTreeRefused x c →
     IsCallRefused x c
 call-refused x (CallNo.Nesting a) n h = (n, h)
@@ -18,7 +18,7 @@ call-refused x (CallNo.Overlap a) n h = absurd h
 call-refused x (CallNo.Recursion a) n h = absurd h
 call-refused x (CallNo.Escape a) n h = absurd h
 
--- nothing refuses
+-- no cause of refusal
 pub callable : (x : Calls) → AreCallsAllowed x → ArePartsAllowed x →
     Nowhere (EscapeAt x) → IsCallable x
 callable x n t e = record {

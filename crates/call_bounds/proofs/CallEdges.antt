@@ -1,4 +1,4 @@
--- A call's own edge is no cause for a refusal: the edges that rows of the refusals name are plain.
+-- A call's own edge is no cause of a refusal: the edges in the rows of the refusals are plain.
 use Rattle.std.proofs.Common.{◌≡◌, ◌≢◌, ℕ, ◌+◌, ◌%◌, arith, ap, sym, subst, Option, Some}
 use Rattle.std.proofs.Common.{None, List, [], ◌∷◌, slice_index_or, Contains, filter}
 use Rattle.std.proofs.lemmas.List.Elements.{All-contains, All-filter}

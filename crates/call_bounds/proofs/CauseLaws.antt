@@ -1,4 +1,4 @@
--- Why parts are refused, part by part.
+-- The causes of refusal of functions, function by function.
 use Rattle.std.proofs.Common.{◌≡◌, ℕ, ◌+◌, refl, arith, ap, sym, subst, Option, Some, None}
 use Rattle.region_tree.specs.Graph.{Graph}
 use Rattle.region_tree.specs.Refusals.{IndirectAt, IsAllowed, IsLowest}
@@ -66,7 +66,7 @@ causes-start l = record {
   unbounded = λ e h m. none-before l UnboundedAt;
 }
 
--- of one part
+-- of one function
 lowest-in : (l : Listing) (k : ℕ) (P : Graph → ℕ → Type 0) (a : ℕ) →
     IsReached (calls l) (part_at l k) → IsSame P (calls l) (part_at l k) →
     IsLowest (P (graph (part_tree (calls l) (part_at l k)))) a → IsLowest (InPart l P k) a
@@ -132,7 +132,7 @@ causes-refused l k (TreeNo.UnboundedBackEdge a) f is r h e =
     })
 causes-refused l k TreeNo.NoMemory f is r h e = absurd e
 
--- of all parts
+-- of all functions
 all-parts : (l : Listing) (P : Graph → ℕ → Type 0) (r : Option ℕ) →
     LowestOf (Before (InPart l P) (part_count l)) r → LowestOf (InParts (calls l) P) r
 all-parts l P r = lowest-same (Before (InPart l P) (part_count l)) (InParts (calls l) P) r

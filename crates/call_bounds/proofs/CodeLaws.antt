@@ -16,7 +16,7 @@ use Rattle.call_bounds.specs.Patched.{part_tree, patch, patched_word}
 use Rattle.call_bounds.proofs.Called.{has, index-none, index-some}
 use Rattle.call_bounds.proofs.Numbers.{part-routine, routine-of}
 
--- the scratchpad has so many words
+-- the number of words of the scratchpad
 pub scratchpad-length : (memory : ℕ → ℕ) (words : List ℕ) →
     words ≡ section_words memory scratchpad → length words ≡ 16384
 scratchpad-length memory words e =
@@ -64,14 +64,14 @@ patch-return l u w back None e is says =
     sym (ap (λ o. patch o back w) says ∙ ap (λ b. patch None b w) is)
 patch-return l u w back (Some k) e is says = cc
 
--- the words of a part are as many as it holds
+-- the number of words of a function
 pub part-words : (memory : ℕ → ℕ) (s t : Section) (words : List ℕ) → IsSection s → s ≡ t →
     words ≡ section_words memory t → s.to ≡ s.from + 4 * length words
 part-words memory s t words is e f =
     words-length memory s is
     ∙ ap (λ ws. s.from + 4 * length ws) (ap (section_words memory) e ∙ sym f)
 
--- the tree of a part, by what it is made of
+-- the tree of a function, from its words and loops
 pub tree-eq : (x : Calls) (p : Part) (s : Section) (words : List ℕ) (loops : List LoopSetup) →
     s ≡ range x p → words ≡ section_words (patched_word x p) (range x p) → loops ≡ x.loops →
     tree_with s words loops ≡ part_tree x p

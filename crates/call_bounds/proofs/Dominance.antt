@@ -1,4 +1,4 @@
--- A net instead of which another is worked out, with the best of each arc's costs.
+-- A net that is computed in place of another, with the best costs of each arc.
 use Rattle.std.proofs.Common.{◌≡◌, ℕ, ◌+◌, ◌≤◌, refl, arith, ◌∙◌, min}
 use Rattle.fp_setup.specs.declared.loop_list.LoopSetup.{LoopSetup}
 use Rattle.region_tree.specs.Walk.{counter_after}
@@ -6,8 +6,8 @@ use Rattle.bound_calc.specs.Best.{Entries, IsBest, ceiling}
 use Rattle.bound_calc.specs.Context.{Net, Scope, Walk}
 use Rattle.bound_calc.specs.Ways.{Reaches}
 
--- The arcs of two nets, which have the same own positions and loops, are the same but for what they
--- cost: those of the second cost what those of the first do, as far as sums go.
+-- Two nets with the same own positions and loops, whose arcs differ only in their costs. The costs
+-- are equal up to the ceiling.
 pub record CostsAgree (own : ℕ → Type 0) (loop : LoopSetup → Type 0)
     (arc arc' : ℕ → ℕ → ℕ → ℕ → ℕ → Type 0) : Type 0 where
   pub covers : (u p d v q : ℕ) → arc u p d v q → (e : ℕ) × arc' u p e v q × (min d ceiling ≤ e)

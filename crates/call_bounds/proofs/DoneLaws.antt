@@ -24,7 +24,7 @@ use Rattle.call_bounds.proofs.PartLaws.{part-some}
 pub callee-reached : (x : Calls) (a b : Part) → IsReached x a → DoesCall x a b → IsReached x b
 callee-reached x a b r h = subst (λ b. IsReached x b) (sym h.to) (IsReached.next r h.known h.call)
 
--- where all of lower ranks are known, a part's callees are
+-- if all functions of lower ranks are computed, a function's callees are
 pub knows-callees : (l : Listing) (s : Positions) (ranks : List ℕ) (n : ℕ)
     (known : ℕ → Type 0) (through deep : List Matrix) → AreRanks l ranks → n < part_count l →
     ((k : ℕ) → rank_at ranks k < rank_at ranks n → known k) → AreKnown l s known through deep →
@@ -50,7 +50,7 @@ before-first l s ranks rank through deep all k lt reached (inl below) = all k lt
 before-first l s ranks rank through deep all k lt reached (inr y) =
     no-routine l s through deep k y.1
 
--- a part of another rank
+-- a function of another rank
 pub before-skip : (l : Listing) (s : Positions) (ranks : List ℕ) (rank n : ℕ)
     (through deep : List Matrix) → (rank_at ranks n ≡ rank → ⊥) →
     AreKnown l s (Before ranks rank n) through deep →
@@ -64,7 +64,7 @@ before-skip l s ranks rank n through deep other all k lt reached (inr y) =
     go (inl below) = all k lt reached (inr (y.0, below))
     go (inr same) = absurd (other (subst (λ k. rank_at ranks k ≡ rank) same y.0))
 
--- a part that was worked out
+-- a function that was computed
 pub before-more : (l : Listing) (s : Positions) (ranks : List ℕ)
     (rank n : ℕ) (through deep through' deep' : List Matrix) →
     AreKnown l s (Before ranks rank n) through deep → IsAdded l s n through deep through' deep' →
@@ -94,7 +94,7 @@ before-more l s ranks rank n through deep through' deep' all added k lt reached 
     go (inr (inr above)) (inl h) = kept (λ e. let z : ⊥ = omega arith in z) (inl h)
     go (inr (inr above)) (inr h) = absurd (let b = h.1 in omega arith)
 
--- all parts of a rank
+-- all functions of a rank
 pub before-all : (l : Listing) (s : Positions) (ranks : List ℕ)
     (rank n : ℕ) (through deep : List Matrix) → part_count l ≤ n →
     AreKnown l s (Before ranks rank n) through deep →
@@ -118,7 +118,7 @@ pub known-none : (l : Listing) (s : Positions) (ranks : List ℕ) (through deep 
     AreKnown l s (λ k. rank_at ranks k < 0) through deep
 known-none l s ranks through deep k lt reached h = absurd (omega arith)
 
--- an element of no list is the default
+-- an empty list gives the default
 no-element : {X : Type 0} (k : ℕ) (d : X) → slice_index_or [] k d ≡ d
 no-element zero d = refl
 no-element (suc k) d = refl
@@ -163,7 +163,7 @@ summaries-none l s n through deep listing callable many is is' = record {
       absurd (none-at n k p q c (subst (λ (ms : List Matrix). matrix_at ms k p q ≡ Some c) is e));
 }
 
--- the matrices of a part, put in
+-- the matrices of a function are stored
 pub added : (l : Listing) (s : Positions) (n : ℕ) (through deep through' deep' : List Matrix)
     (one two : Matrix) → n < part_count l → AreSummaries l s through deep →
     through' ≡ slice_set through n one → deep' ≡ slice_set deep n two → IsSummaryOf l s n one two →
@@ -209,7 +209,7 @@ added l s n through deep through' deep' one two lt are put put' is pos = record 
         y.1.second.turn.own
     own k p c q e (inr far) = are.own k p c q (subst (λ m. entry m p q ≡ Some c) (other k far) e)
 
--- a part that isn't reached
+-- a function that isn't reached
 pub added-none : (l : Listing) (s : Positions) (n : ℕ) (through deep : List Matrix) →
     AreSummaries l s through deep → (IsReached (calls l) (part_at l n) → ⊥) →
     IsAdded l s n through deep through deep

@@ -1,4 +1,4 @@
--- A list of what holds of each word, one word more.
+-- A list with an element for each word, and one more word.
 use Rattle.std.proofs.Common.{◌≡◌, ℕ, ◌+◌, ◌*◌, ◌<◌, ◌⊎◌, inl, inr, arith, sym, subst, length}
 use Rattle.std.proofs.Common.{List, [], ◌∷◌, ◌++◌, slice_index_or, Option, None, Bool, false}
 use Rattle.std.proofs.lemmas.List.{get_or_append_left, get_or_push, length_push}
@@ -8,7 +8,7 @@ use Rattle.call_bounds.specs.Listing.{Listing, calls, part_at}
 use Rattle.call_bounds.specs.Parts.{IsCallee}
 use Rattle.call_bounds.specs.Summaries.{AreCallees, AreReturns}
 
--- the element at an index of a list that got one more
+-- the element at an index of a list with one more element
 each-more : {X : Type 0} (P : ℕ → X → Type 0) (xs : List X) (y d : X) (n : ℕ) → length xs ≡ n →
     ((k : ℕ) → k < n → P k (slice_index_or xs k d)) → P n y → (k : ℕ) → k < n + 1 →
     P k (slice_index_or (xs ++ y ∷ []) k d)

@@ -1,4 +1,4 @@
--- Ways out of parts, by their trees.
+-- Edges out of functions, by their trees.
 use Rattle.std.proofs.Common.{◌≡◌, ℕ, ◌<◌, ◌≤◌, ◌⊎◌, ◌↔◌, refl, arith, inl, inr, ap, sym}
 use Rattle.std.proofs.Common.{subst, ◌∙◌, Option, Some, None, List, Bool, true, false}
 use Rattle.region_tree.specs.Edges.{edges_of}
@@ -45,7 +45,7 @@ by-leaves t k h =
     out : (t.section.from ≤ h.by.to) × (h.by.to < t.section.to) → ⊥
     out l = h.out (record { low = l.0; high = l.1 })
 
--- a part whose tree is known is reached, and a reached part has one
+-- exactly the reached functions have a tree
 pub tree-is : (x : Calls) (p : Part) (o : Option Tree) (t : Tree) → IsTreeOf x p o → o ≡ Some t →
     IsReached x p × (t ≡ part_tree x p)
 tree-is x p o t (IsTreeOf.reached r) e = (r, (let s : part_tree x p ≡ t = cc in sym s))
@@ -110,7 +110,7 @@ escape-all l trees c r ok are all =
           | inr lt ↦ lt
         ]
 
--- a word of a tree, by what the code finds
+-- a word of a tree, as the code finds it
 edges-at : (t : Tree) (k a w : ℕ) (e : Edges) → a ≡ address t k → w ≡ word_at t a →
     e ≡ edges_of w a → e ≡ edges_of (word_at t (address t k)) (address t k)
 edges-at t k a w e at is edges =
@@ -149,7 +149,7 @@ leaves-second t k a w s e r q at in_s is edges reached first fails second = (
         second.1 (subst (λ s. LeadsOut s e.jump) (sym in_s)
         (subst (λ e. LeadsOut t.section e.jump) (sym same) j))
 
--- of one part
+-- of one function
 pub escape-section : (trees : List (Option Tree)) → Nowhere (EscapeFrom trees 0)
 escape-section trees a h = absurd (let z = h.routine in omega arith)
 

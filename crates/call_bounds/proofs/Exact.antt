@@ -1,4 +1,4 @@
--- The bound, from what is known of each part.
+-- The bound, from the facts of each function.
 use Rattle.std.proofs.Common.{◌≡◌, ◌∙◌, ℕ, ◌<◌, ◌≤◌, ◌^◌, arith, refl, subst, sym}
 use Rattle.std.proofs.Common.{Result, Ok, Err, IfOk, IfErr, MatchResult, Contains}
 use Rattle.std.specs.Result.{IsErrAnd}
@@ -15,7 +15,7 @@ use Rattle.call_bounds.specs.Summaries.{IsMost}
 use Rattle.call_bounds.proofs.Costs.{flat, in_parts}
 use Rattle.call_bounds.proofs.Parts.{AreParts}
 
--- below the end of sums it is the bound
+-- below the ceiling of sums it is the bound
 pub exact : (x : Route) (b : ℕ) → AreParts x.calls → IsMost x b → b < ceiling → IsCallBound x b
 exact x b is m small = record {
   met = flat x b is (let z = m.among in subst (λ c. Nested x c) (let n = z.2 in omega arith) z.1);

@@ -1,4 +1,5 @@
--- Where nothing refuses, parts share no word and none leads back to itself.
+-- Without a cause of refusal, functions share no word, and no function calls itself, even
+-- indirectly.
 use Rattle.std.proofs.Common.{◌≡◌, ℕ, ◌<◌, ◌≤◌, ◌⊎◌, ◌==◌, refl, arith, inl, inr}
 use Rattle.std.proofs.Common.{ap, subst, sym, ◌∙◌, Option, Some, None, List, [], ◌∷◌}
 use Rattle.std.proofs.Common.{filter, Contains, Bool, true, false, if◌then◌else◌}
@@ -43,7 +44,7 @@ callee-listed x u r e = to-listed x.routines (link_target u (ins (x.word u))) r 
 pub reached-listed : (x : Calls) (r : Routine) → IsReached x (Some r) → Contains x.routines r
 reached-listed x r (IsReached.next {u = u} b w e) = callee-listed x u r e
 
--- two listed routines are one or apart
+-- two listed routines are equal or disjoint
 pub listed-apart : (rs : List Routine) (r t : Routine) → Rise rs → Contains rs r → Contains rs t →
     (r ≡ t) ⊎ ((r.last < t.head) ⊎ (t.last < r.head))
 listed-apart [] r t rise a b = absurd (omega (arith, a.1))

@@ -57,7 +57,7 @@ pub record Played (x : Route) (p : ℕ) (s : List ℕ) (a : Part) (u q c : ℕ)
       counters j ≡ l j
   pub word : Reachable (part x.calls a) u
 
--- the flat bounds after a step inside a part
+-- the counters of the whole path keep their bounds after a step inside a function
 steps-within : (x : Calls) (a : Part) (u v : ℕ) (l k : LoopSetup → ℕ) → AreParts x →
     IsReached x a → Lies (part x a) v → ((j : LoopSetup) → Counts x j → l j ≤ j.limit) →
     ((j : LoopSetup) → Contains (part x a).loops j → Holds j u → l j ≤ k j) → ((j : LoopSetup) →
@@ -100,7 +100,7 @@ steps-held x a u e l k is reached word edge held j h held_v =
         let z = counted-out u e.to j (l j) head out in
         let y = counted-out u e.to j (k j) head out in omega arith
 
--- a word of one part is no head of a loop of a part below it
+-- a word of one function is no head of a loop of a function below it
 not-head : (x : Calls) (a b : Part) (v : ℕ) (j : LoopSetup) → AreParts x → CallsLead x b a →
     Lies (part x a) v → Contains (part x b).loops j → v ≢ j.head
 not-head x a b v j is lead lies h e =
@@ -175,7 +175,7 @@ played x p is {a} {m}
         some : (range x.calls (Some t)).from < (range x.calls (Some t)).to
         some = is.some (Some t) reached_t
 
-        -- a call changes no counter of this part and those below
+        -- a call changes no counter of this function or of those below it
         kept : (b : Part) (j : LoopSetup) → Below x.calls (u ∷ s) b →
             Contains (part x.calls b).loops j → counter_after_call t j (y.counters j) ≡ y.counters j
         kept b j below h =

@@ -271,7 +271,7 @@ costs-own x (inr (Leaving.comes_out run to out turn z)) = run-own x run
 ≤-two : (a b c : ℕ) → a ≤ b → b ≤ c → a ≤ c
 ≤-two a b c h h' = omega arith
 
--- the largest of what ends in the section or below it and what leaves it
+-- the largest cost that ends in the section or below it, or leaves it
 pub most-is : (x : Route) (m : Matrix) (most : ℕ) → (p : ℕ) × IsOwn x.positions p →
     IsBest (entry m) (Either (Deep x None) (Leaving x)) → IsLargest m 0 most → IsMost x most
 most-is x m most slot b l = record { covers = covers; among = among l.met }

@@ -1,4 +1,4 @@
--- Jumps that keep the address after them.
+-- Jumps that write their return address.
 use Rattle.std.proofs.Common.{◌≡◌, ◌≢◌, ℕ, ◌==◌, refl, arith, sym, subst, None, false}
 use Rattle.std.proofs.lemmas.Bool.Decides.{nat_tests}
 use Rattle.rv_decode.specs.Table.{ins}

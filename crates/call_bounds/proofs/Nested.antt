@@ -19,7 +19,7 @@ abbrev pub Below : Calls → List ℕ → Part → Type 0
 Below x [] a = ⊥
 Below x (w ∷ s) a = (a ≡ part_in x s) ⊎ Below x s a
 
--- counters of a part's loops are at most these
+-- counters of a function's loops are at most these
 abbrev pub AtMost : Calls → Part → (LoopSetup → ℕ) → (LoopSetup → ℕ) → Type 0
 AtMost x a k l = (j : LoopSetup) → Contains (part x a).loops j → k j ≤ l j
 
@@ -53,7 +53,7 @@ abbrev pub Open : Route → (LoopSetup → ℕ) → ℕ → List ℕ → ℕ →
 Open x l p [] u q c = Bottom x l p u q c
 Open x l p (w ∷ s) u q c = Level x l (Open x l p s) (Below x.calls (w ∷ s)) w u q c
 
--- other counters, that are as large in all parts
+-- other counters, no smaller in any open function
 pub open-same : (x : Route) (l l' : LoopSetup → ℕ) (p : ℕ) (s : List ℕ) (u q c : ℕ) →
     AtMost x.calls (part_in x.calls s) l l' →
     ((b : Part) → Below x.calls s b → AtMost x.calls b l l') → Open x l p s u q c →
@@ -163,7 +163,7 @@ pub called-other : (t : Routine) (j : LoopSetup) (n : ℕ) → t.head ≢ j.head
 unfolding counter_after_call
 called-other t j n h = grind (arith, nat_tests)
 
--- a step in one part changes no counter of a loop of the parts below
+-- a step in one function changes no counter of a loop of the functions below
 aside : (x : Calls) (a b : Part) (l : LoopSetup → ℕ) (u v : ℕ) → AreParts x → CallsLead x b a →
     Lies (part x a) v → AtMost x b l (λ j. counter_after u v j (l j))
 aside x a b l u v is lead lies j h =

@@ -1,4 +1,4 @@
--- The parts by number.
+-- The functions by number.
 use Rattle.std.proofs.Common.{◌≡◌, ℕ, zero, suc, ◌+◌, ◌-◌, ◌<◌, ◌≤◌, ◌⊎◌, refl}
 use Rattle.std.proofs.Common.{arith, inl, inr, ap, sym, subst, ◌∙◌, Some, None}
 use Rattle.std.proofs.Common.{List, [], ◌∷◌, length, map, slice_index_or, Contains}
@@ -21,7 +21,7 @@ cons-get xs k =
     let e : k + 1 ≡ suc k = omega arith in
     subst (λ i. slice_index_or (None ∷ xs) i None ≡ slice_index_or xs k None) (sym e) refl
 
--- the routine that is a part
+-- the routine of a function
 pub part-routine : (l : Listing) (k : ℕ) (d : Routine) → k < length l.routines →
     part_at l (k + 1) ≡ Some (slice_index_or l.routines k d)
 part-routine l k d h = cons-get (map Some l.routines) k ∙ get_or-map Some l.routines k d None h
@@ -29,7 +29,7 @@ part-routine l k d h = cons-get (map Some l.routines) k ∙ get_or-map Some l.ro
 pub part-first : (l : Listing) → part_at l 0 ≡ None
 part-first l = refl
 
--- a part but the first is a listed routine
+-- each function but the first is a listed routine
 pub routine-of : (l : Listing) (k : ℕ) → 0 < k → k < part_count l →
     (r : Routine) × (part_at l k ≡ Some r) × Contains l.routines r
 routine-of l k some h =
@@ -46,7 +46,7 @@ pub number-of : (l : Listing) (r : Routine) → Contains l.routines r →
     (k : ℕ) × (0 < k) × (k < part_count l) × (part_at l k ≡ Some r)
 number-of l r h = (h.0 + 1, omega arith, omega (arith, h.1), part-routine l h.0 r h.1 ∙ ap Some h.2)
 
--- each reached part has a number
+-- each reached function has a number
 pub reached-number : (l : Listing) (p : Part) → IsReached (calls l) p →
     (k : ℕ) × (k < part_count l) × (part_at l k ≡ p)
 reached-number l p IsReached.first = (0, omega arith, refl)
@@ -67,7 +67,7 @@ rise-apart (r ∷ rs) rise ok (suc i) (suc j) d lt h =
     rise-apart rs rise.1 (λ t c. ok t (suc c.0, omega (arith, c.1), c.2)) i j d
     (omega arith) (omega arith)
 
--- routines rise by their numbers
+-- the order of routines is that of their numbers
 pub heads-rise : (l : Listing) → IsListing (calls l) → (j k : ℕ) (r t : Routine) → j < k →
     k < part_count l → part_at l j ≡ Some r → part_at l k ≡ Some t → r.head < t.head
 heads-rise l is zero k r t lt h a b = cc
@@ -86,7 +86,7 @@ heads-rise l is (suc j) (suc k) r t lt h a b =
     subst (λ (t : Routine). r.head < t.head) second
     (subst (λ (r : Routine). r.head < (slice_index_or l.routines k none).head) first z)
 
--- a part has one number
+-- a function has one number
 pub number-once : (l : Listing) → IsListing (calls l) → (j k : ℕ) (r : Routine) → j < part_count l →
     k < part_count l → part_at l j ≡ Some r → part_at l k ≡ Some r → j ≡ k
 number-once l is j k r hj hk a b = go (let z : (j < k) ⊎ ((j ≡ k) ⊎ (k < j)) = grind arith in z)
@@ -106,7 +106,7 @@ routine-section r o = record {
   end = let a = o.end in omega arith;
 }
 
--- each part is a section
+-- each function is a section
 pub part-section : (l : Listing) → IsListing (calls l) → (k : ℕ) → k < part_count l →
     IsSection (range (calls l) (part_at l k))
 part-section l is k h = go (let z : (k ≡ 0) ⊎ (0 < k) = grind arith in z)
@@ -117,7 +117,7 @@ part-section l is k h = go (let z : (k ≡ 0) ⊎ (0 < k) = grind arith in z)
         let z = routine-of l k some h in subst (λ p. IsSection (range (calls l) p)) (sym z.1)
         (routine-section z.0 (is.routines.each z.0 z.2))
 
--- the routine that a part is, by its index in the list
+-- a function's routine, by its index in the list
 pub routine-part : (l : Listing) (k : ℕ) (d : Routine) → 0 < k → k < part_count l →
     part_at l k ≡ Some (slice_index_or l.routines (k - 1) d)
 routine-part l k d some h =

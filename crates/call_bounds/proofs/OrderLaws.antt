@@ -1,4 +1,4 @@
--- Which parts are reached, which calls lead back to, and how many calls lead to.
+-- The reached functions, those that calls lead back to, and the number that calls lead to.
 use Rattle.std.proofs.Common.{◌≡◌, ◌≢◌, ℕ, ◌+◌, ◌<◌, ◌≤◌, ◌⊎◌, ◌↔◌, refl, arith, inl}
 use Rattle.std.proofs.Common.{inr, ap, sym, subst, ◌∙◌, cond, Some, None, List, [], ◌∷◌}
 use Rattle.std.proofs.Common.{◌++◌, length, Bool, true, false, slice_set, length-set}
@@ -24,7 +24,7 @@ use Rattle.call_bounds.proofs.Parts.{lead-from}
 is_or_not : (a b : ℕ) → (a ≡ b) ⊎ (a ≢ b)
 is_or_not a b = grind arith
 
--- the section and what calls lead to from there
+-- exactly the section and the functions that calls lead to from it are reached
 pub reached-is : (l : Listing) (table led : List Bool) → IsListing (calls l) → IsTable l table →
     IsExact (part_count l) table 0 led → AreReached l (slice_set led 0 true)
 reached-is l table led ok is e =
@@ -50,7 +50,7 @@ reached-is l table led ok is e =
           ],
         )
 
--- a reached part that calls lead back to
+-- a reached function from which calls lead back to it
 abbrev pub Recurs : Listing → List Bool → List Bool → ℕ → Type 0
 Recurs l table reached k = (is_met reached k ≡ true) × IsCalled (part_count l) table k k
 
@@ -108,7 +108,7 @@ recursion-lowest l table reached c r ok is are h e here none = record {
           (let x = heads-rise l ok c y.0 r z.routine above y.2 e y.3 in omega (arith, z.address))
     ]
 
--- the same, by the words of the part
+-- the same, by the words of the function
 pub recursion-found : (l : Listing) (table reached : List Bool) (c : ℕ) (s : Section) →
     IsListing (calls l) → IsTable l table → AreReached l reached → 0 < c →
     c < part_count l → s ≡ range (calls l) (part_at l c) → Recurs l table reached c →
@@ -126,7 +126,7 @@ pub recursion-never : (l : Listing) (table reached : List Bool) (c : ℕ) →
 recursion-never l table reached c ok is are all none a z =
     let y = recursion-back l table reached a ok is are z in none y.0 y.1 (omega (arith, y.2)) y.4
 
--- those that are met and those that aren't
+-- the marked functions and the others
 count-all : (bs : List Bool) → count_by (λ b. b) bs + unmet_count bs ≡ length bs
 count-all [] = refl
 count-all (true ∷ bs) =
@@ -145,7 +145,7 @@ rank-less n table j k rj rk a b call once =
     let x = count-all a.0 in let y = count-all b.0 in
     omega (arith, a.1.count, b.1.count, a.2, b.2)
 
--- the ranks of the parts below c
+-- the ranks of the functions below c
 pub record AreRanksTo (l : Listing) (table : List Bool) (c : ℕ) (ranks : List ℕ) : Type 0 where
   pub count : length ranks ≡ c
   pub each : (k : ℕ) → k < c → IsRankOf (part_count l) table k (rank_at ranks k)

@@ -46,7 +46,7 @@ part-section x (Some t) is r =
       end = omega arith;
     }
 
--- how many words a section has
+-- the number of words of a section
 abbrev pub count : Section → ℕ
 count s = (s.to - s.from) / 4
 
@@ -248,7 +248,7 @@ deep-alike x a at into g ways =
     among p e q k lt (Some m) is (inl h) = let y = run p e q k lt h in (y.0, Deep.ends y.1.run, y.2)
     among p e q k lt (Some m) is (inr t) = on p e q k m lt is t
 
--- the words of a part were gone over
+-- the words of a function after a pass over them
 pub gone : (l : Listing) (s : Positions) (n : ℕ) (callees : List (Option ℕ))
     (through deep at : List Matrix) → AreSummaries l s through deep → IsReached (calls l)
     (part_at l n) → KnowsCallees l s n through deep → AreCallees l (range (calls l) (part_at l n))
@@ -273,7 +273,7 @@ gone l s n callees through deep at are reached knows cs tree r = record {
     ok : IsAccepted (part (calls l) (part_at l n))
     ok = (parts (calls l) are.listing are.callable).accepted (part_at l n) reached
 
--- as many words
+-- the same number of words
 pub many : (l : Listing) (n : ℕ) (at : List Matrix) (s : Positions) (ways : WaysOn) →
     IsTree (part_tree (calls l) (part_at l n)) →
     AreReached (part_tree (calls l) (part_at l n)) s ways at →

@@ -1,4 +1,4 @@
--- The parts of a section with routines.
+-- The functions of a section with routines.
 use Rattle.std.proofs.Common.{◌≡◌, ℕ, ◌+◌, ◌<◌, refl, arith, subst}
 use Rattle.std.proofs.Common.{sym, Option, Some, None, List, Contains}
 use Rattle.fp_setup.specs.declared.loop_list.LoopSetup.{LoopSetup}
@@ -23,7 +23,7 @@ plain-in : (o : Option Routine) (u : ℕ) (edges : List Edge) (e : Edge) →
 plain-in None u edges e h = h
 plain-in (Some r) u edges e h = absurd (omega (arith, h.1))
 
--- plain edges are edges of the part
+-- plain edges are edges of the function
 pub plain-edge : (x : Calls) (a : Part) (u : ℕ) (e : Edge) → Contains (plain_edges x u) e →
     Contains ((part x a).edges u) e
 plain-edge x a u e h = plain-in (callee x u) u (edge_list (edges_of (x.word u) u)) e h
@@ -33,7 +33,7 @@ call-in : (o : Option Routine) (t : Routine) (u : ℕ) (edges : List Edge) → o
 call-in None t u edges e = cc
 call-in (Some r) t u edges e = (0, omega arith, refl)
 
--- a call leads on to the word after it
+-- a call has an edge to the word after it
 pub call-edge : (x : Calls) (a : Part) (u : ℕ) (t : Routine) → callee x u ≡ Some t →
     Contains ((part x a).edges u) (record { to = u + 4; lag = 3 })
 call-edge x a u t e = call-in (callee x u) t u (edge_list (edges_of (x.word u) u)) e
@@ -52,14 +52,14 @@ pub lead-from : (x : Calls) (a b : Part) → CallsLead x a b → IsReached x a
 lead-from x a b (CallsLead.one r w e) = r
 lead-from x a b (CallsLead.more l r w e) = lead-from x a _ l
 
--- two parts of which one leads to the other share no word
+-- two functions share no word if calls lead from one to the other
 pub apart : (x : Calls) (a b : Part) (v : ℕ) → AreParts x → CallsLead x a b → Lies (part x a) v →
     Lies (part x b) v → ⊥
 apart x a b v is l la lb =
     is.once a (subst (λ b. CallsLead x a b)
     (sym (is.same a b v (lead-from x a b l) (lead-reached x a b l) la lb)) l)
 
--- a loop of a part has its head there
+-- the head of a function's loop is in the function
 pub head-lies : (x : Calls) (a : Part) (j : LoopSetup) → IsAccepted (part x a) →
     Contains (part x a).loops j → Lies (part x a) j.head
 head-lies x a j is h = let o = is.ordered j h in record { low = o.0; high = omega arith }

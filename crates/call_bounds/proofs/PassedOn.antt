@@ -8,13 +8,13 @@ use Rattle.call_bounds.specs.declared.tree.CallNo.TheVariants.{TimedWait, Unboun
 use Rattle.call_bounds.specs.Calls.{Calls}
 use Rattle.call_bounds.specs.CallRefused.{AreCallsAllowed, IsCallRefused, IsTreeRefused}
 
--- nothing of a value
+-- an error satisfies every clause on successes
 pub no-value : {A E : Type 0} (r : Result A E) (P : A → Type 0) (Q : E → Type 0) →
     IsErrAnd r Q → IfOk r P
 no-value (Ok value) P Q h = absurd h
 no-value (Err why) P Q h = tt
 
--- nothing of there being one
+-- the same for a clause that doesn't use the value
 pub no-success : {A E : Type 0} (r : Result A E) (P : Type 0) (Q : E → Type 0) →
     IsErrAnd r Q → OnOk r P
 no-success (Ok value) P Q h = absurd h
@@ -36,7 +36,7 @@ pub memory-refused : {A : Type 0} (x : Calls) (r : Result A CallNo) →
     IsErrAnd r (λ told. told ≡ NoMemory) → IfErr r (IsCallRefused x)
 memory-refused x r h = told-as (IsCallRefused x) r NoMemory h tt
 
--- a refusal of a part is one of the whole, where nothing earlier holds
+-- a refusal of a function is one of the whole, if no earlier cause holds
 pub tree-refused : (x : Calls) (why : CallNo) → AreCallsAllowed x → IsTreeRefused x why →
     IsCallRefused x why
 tree-refused x (Nesting a) allowed is = (allowed, is)

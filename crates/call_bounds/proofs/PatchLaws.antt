@@ -1,4 +1,4 @@
--- The graph of a patched part is the part's.
+-- The graph of a patched function is the function's.
 use Rattle.std.proofs.Common.{◌≡◌, ℕ, ◌+◌, ◌-◌, ◌*◌, ◌/◌, ◌%◌, ◌^◌, ◌<◌, ◌≤◌, refl, arith, ap}
 use Rattle.std.proofs.Common.{sym, ◌∙◌, Bool, true, false, Option, Some, None, List, [], ◌∷◌}
 use Rattle.std.proofs.lemmas.List.FromFn.{get_or-map-range_with_len}
@@ -30,7 +30,7 @@ section-word memory s loops u a b c low high =
     ((u - s.from) / 4) ((u - s.from) / 4) 0 (omega arith) (omega arith)
     ∙ ap memory (let e : s.from + 4 * ((u - s.from) / 4) ≡ u = omega arith in e)
 
--- the words that are put in place
+-- the words that replace calls and returns
 nop-edges : (u : ℕ) →
     edge_list (edges_of 0xc0002073 u) ≡ record { to = (u + 4) % 2 ^ 32; lag = 3 } ∷ []
 unfolding edges_of edges_from ins rows lui_rows auipc_rows jal_rows jalr_rows branch_rows load_rows

@@ -1,4 +1,4 @@
--- The edges that a refusal of a part names are plain.
+-- The edges in a refusal of a function are plain.
 use Rattle.std.proofs.Common.{Some, None}
 use Rattle.region_tree.specs.Tree.{IsSection}
 use Rattle.call_bounds.specs.CallRefusals.{IsListing}

@@ -1,10 +1,10 @@
--- Where nothing leads back to itself, a call leads to a part that leads to fewer.
+-- Without recursion, fewer functions are reachable from a callee than from its caller.
 use Rattle.std.proofs.Common.{◌≡◌, ℕ, zero, suc, ◌+◌, ◌<◌, ◌≤◌, refl, arith, sym}
 use Rattle.std.proofs.Common.{◌∙◌, cond, Bool, true, false, List, [], ◌∷◌, length}
 use Rattle.std.proofs.lemmas.List.Sums.{sum_by-cons}
 use Rattle.call_bounds.specs.Reachability.{DoesCall, IsExact, IsCalled, is_met, unmet_count}
 
--- calls that lead on
+-- a callee of a function that calls lead to
 pub lead-on : {n : ℕ} {table : List Bool} {a b c : ℕ} → IsCalled n table a b →
     IsCalled n table b c → IsCalled n table a c
 lead-on l (IsCalled.one call) = IsCalled.more l call
@@ -54,7 +54,7 @@ not-true : (b : Bool) → (b ≡ true → ⊥) → b ≡ false
 not-true true h = absurd (h refl)
 not-true false h = refl
 
--- the caller leaves fewer parts unmet than the callee
+-- more functions are reachable from the caller than from the callee
 pub rank-falls : (n : ℕ) (table : List Bool) (r t : ℕ) (of_r of_t : List Bool) →
     IsExact n table r of_r → IsExact n table t of_t → DoesCall n table r t →
     (IsCalled n table t t → ⊥) → unmet_count of_r < unmet_count of_t

@@ -1,4 +1,4 @@
--- Meeting callees until nothing is new.
+-- Marking callees until none is new.
 use Rattle.std.proofs.Common.{◌≡◌, ◌≢◌, ℕ, zero, suc, ◌+◌, ◌<◌, ◌≤◌, ◌⊎◌, refl, arith}
 use Rattle.std.proofs.Common.{inl, inr, ap, sym, subst, ◌∙◌, cond, if◌then◌else◌, Bool}
 use Rattle.std.proofs.Common.{true, false, List, [], length, replicate, slice_index_or}
@@ -22,7 +22,7 @@ met-within met k h = go (let z : (k < length met) ⊎ (length met ≤ k) = grind
     go (inl lt) = lt
     go (inr past) = absurd (differ (is_met met k) h (get_or_past met k false past))
 
--- a mark, as it is read
+-- the mark of a function
 pub mark-at : (met : List Bool) (k : ℕ) (b : Bool) → k < length met → b ≡ slice_index_or met k b →
     is_met met k ≡ b
 mark-at met k b within e = get_or_default met k false b within ∙ sym e
@@ -32,7 +32,7 @@ none-at zero k = get_or_past [] k false (omega arith)
 none-at (suc n) zero = refl
 none-at (suc n) (suc k) = none-at n k
 
--- so many marks, of which none is set
+-- a number of marks, none of them set
 pub none-met : (n : ℕ) (met : List Bool) → met ≡ replicate n false →
     (length met ≡ n) × ((k : ℕ) → is_met met k ≡ false)
 none-met n met e =
@@ -50,7 +50,7 @@ spread-start n table j met count = record {
   fewer = omega arith;
 }
 
--- a callee that is new
+-- a new callee
 pub spread-one : (n : ℕ) (table : List Bool) (j c : ℕ) (old new : List Bool) (changed : Bool) →
     DoesCall n table j c → is_met new c ≡ false → Spread n table j c old new changed →
     Spread n table j (c + 1) old (slice_set new c true) true
@@ -94,7 +94,7 @@ spread-one n table j c old new changed call fresh s = record {
     came k h (inl same) = inr (subst (λ k. DoesCall n table j k) (sym same) call)
     came k h (inr other) = s.from k (sym (get_or-set_other new c k true false other) ∙ h)
 
--- one that is none, or was met
+-- no callee, or a marked one
 pub spread-same : (n : ℕ) (table : List Bool) (j c : ℕ) (old new : List Bool) (changed : Bool) →
     (DoesCall n table j c → is_met new c ≡ true) → Spread n table j c old new changed →
     Spread n table j (c + 1) old new changed
@@ -124,7 +124,7 @@ sweep-start n table met count = record {
   fewer = omega arith;
 }
 
--- a part that isn't met
+-- a function that isn't marked
 pub sweep-none : (n : ℕ) (table : List Bool) (c : ℕ) (old new : List Bool) (changed : Bool) →
     is_met new c ≡ false → Swept n table c old new changed → Swept n table (c + 1) old new changed
 sweep-none n table c old new changed out s = record {
@@ -149,7 +149,7 @@ sound-more : (n : ℕ) (table : List Bool) (c a : ℕ) (mid new : List Bool) (mo
 sound-more n table c a mid new more here p sound k h =
     elim (p.from k h) [ inl old ↦ sound k old | inr call ↦ IsCalled.more (sound c here) call ]
 
--- a part that is met, with a callee that is new
+-- a marked function with a new callee
 pub sweep-more : (n : ℕ) (table : List Bool) (c : ℕ) (old mid new : List Bool) (changed : Bool) →
     is_met mid c ≡ true → Swept n table c old mid changed → Spread n table c n mid new true →
     Swept n table (c + 1) old new true
@@ -163,7 +163,7 @@ sweep-more n table c old mid new changed here s p = record {
   fewer = let l = p.less refl in let f = s.fewer in omega arith;
 }
 
--- a part that is met, with none
+-- a marked function without a new callee
 pub sweep-same : (n : ℕ) (table : List Bool) (c : ℕ) (old mid new : List Bool) (changed : Bool) →
     is_met mid c ≡ true → Swept n table c old mid changed → Spread n table c n mid new false →
     Swept n table (c + 1) old new changed
@@ -186,7 +186,7 @@ sweep-same n table c old mid new changed here s p =
         subst (λ m. is_met m k ≡ true) (p.same refl)
         (p.here k call.1 (subst (λ j. DoesCall n table j k) same call))
 
--- one part more
+-- one more function
 pub sweep-part : (n : ℕ) (table : List Bool) (c : ℕ) (old mid new : List Bool)
     (changed more : Bool) → Swept n table c old mid changed → SpreadMet n table c mid new more →
     Swept n table (c + 1) old new (if more then true else changed)
@@ -199,7 +199,7 @@ sweep-part n table c old mid new changed true s (inr z) =
 sweep-part n table c old mid new changed false s (inr z) =
     sweep-same n table c old mid new changed z.0 s z.1
 
--- while the rounds go on
+-- the rounds so far
 pub record Goes (n : ℕ) (table : List Bool) (a : ℕ) (met : List Bool)
     (changed : Bool) : Type 0 where
   pub count : length met ≡ n

@@ -20,7 +20,7 @@ pub call-of : (l : Listing) (table : List Bool) (j k : ℕ) → IsTable l table 
     DoesRow (part_count l) table j k → DoesCall (calls l) (part_at l j) (part_at l k)
 call-of l table j k is d = (is.exact j k d.0 d.1).0 d.2
 
--- a call from a reached part reaches
+-- a callee of a reached function is reached
 pub call-reaches : (x : Calls) (p q : Part) → IsReached x p → DoesCall x p q → IsReached x q
 call-reaches x p q r d = subst (λ q. IsReached x q) (sym d.to) (IsReached.next r d.known d.call)
 
@@ -54,7 +54,7 @@ lead-of l table j is r (IsCalled.more {j = i} {k = k} m d) =
     lead-more (calls l) (part_at l j) (part_at l i) (part_at l k) (lead-of l table j is r m)
     (led-reached l table j is r m) (call-of l table i k is d)
 
--- and the other way round
+-- the converse
 abbrev HasLed : Listing → List Bool → ℕ → Part → Type 0
 HasLed l table j q = (k : ℕ) × (part_at l k ≡ q) × IsCalled (part_count l) table j k
 
@@ -91,7 +91,7 @@ led-of l table j is h (CallsLead.more {q = q} {u = u} {r = r} m b w e) =
         led-more l table j z.0 r is z.2 (subst (λ p. DoesCall (calls l) p (Some r)) (sym z.1)
         (record { routine = r; word = u; known = w; call = e; to = refl }))
 
--- a routine that calls lead back to is one that the table leads back to
+-- a routine from which calls lead back to it, by the table
 pub back-of : (l : Listing) (table : List Bool) (j : ℕ) (r : Routine) →
     IsListing (calls l) → IsTable l table → j < part_count l → part_at l j ≡ Some r →
     CallsLead (calls l) (Some r) (Some r) → IsCalled (part_count l) table j j
@@ -100,7 +100,7 @@ back-of l table j r ok is h e m =
     subst (λ k. IsCalled (part_count l) table j k)
     (number-once l ok z.0 j r (led-within z.2) h z.1 e) z.2
 
--- reached is the section, and what calls lead to from there
+-- the reached functions are the section and those that calls lead to from it
 pub reached-led : (l : Listing) (table : List Bool) → IsTable l table → {q : Part} →
     IsReached (calls l) q → (q ≡ None) ⊎ HasLed l table 0 q
 reached-led l table is IsReached.first = inl refl

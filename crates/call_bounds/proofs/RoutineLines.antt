@@ -52,7 +52,7 @@ line-first (byte ∷ bytes) rest e = go (byte == 10) e (λ h. line-first bytes r
     go true e more = alone bytes e
     go false e more = ap (in_front byte) (more e)
 
--- digits are no line feeds
+-- a digit is no line feed
 past-digits : (n : ℕ) (bytes : List ℕ) → n ≤ length bytes →
     list_all is_digit (take n bytes) ≡ true → ends_line bytes ≡ ends_line (drop n bytes)
 past-digits zero bytes le h = refl
@@ -113,7 +113,7 @@ form-ends line h =
     ∙ (ap (λ byte. ends_line (byte ∷ drop 18 line)) f.feed
     ∙ none-left (drop 18 line) (simp length-drop (omega (arith, len))))))))
 
--- lines joined are the file
+-- the lines, joined, are the file
 lines-joined : (bytes : List ℕ) → concat (lines_of bytes) ≡ bytes
 unfolding lines_of
 lines-joined [] = refl
@@ -129,7 +129,7 @@ lines-joined (byte ∷ bytes) = go (byte == 10) ∙ ap (λ l. byte ∷ l) (lines
     go true = refl
     go false = front (lines_of bytes)
 
--- the first of some bytes' lines, where the next 18 bytes, or what is left, are not of the form
+-- the first line, if the next 18 bytes, or the rest, don't have the form of a line
 record Broken (bytes : List ℕ) : Type 0 where
   line : List ℕ
   more : List (List ℕ)
@@ -190,7 +190,7 @@ routine-first : (size n : ℕ) (before : Option Routine) (line : List ℕ)
 unfolding routines_from
 routine-first size n before line more r is = rw is refl
 
--- A routine's line is the first one of the file, and what is after it is left.
+-- A routine's line is the first one of the file. The bytes after it are the rest.
 pub line-next : (size n : ℕ) (before : Option Routine) (line rest : List ℕ) (r : Routine) →
     routine_at size n before line ≡ Ok r →
     routines_from size n before (lines_of (line ++ rest))
@@ -211,7 +211,7 @@ fault-first : (size n : ℕ) (before : Option Routine) (line : List ℕ)
 unfolding routines_from
 fault-first size n before line more e is = rw is refl
 
--- A fault of it is the file's.
+-- A fault of the line is the file's.
 pub line-stops : (size n : ℕ) (before : Option Routine) (line rest : List ℕ) (e : RoutinesRefused) →
     length line ≡ min 18 (length (line ++ rest)) →
     0 < length (line ++ rest) → routine_at size n before line ≡ Err e →

@@ -149,7 +149,7 @@ call-is x a u t e to h = go (callee x u) to h
         subst (λ i. slice_index_or (record { to = u + 4; lag = 3 } ∷ []) i e ≡ e) z h.2 in
         sym (ap (λ (y : Edge). y.to) same)
 
--- a step of the net is a step of the part
+-- a step of the net is a step of the function
 stepped : (x : Route) (a : Part) (d lag : ℕ) {p u q c v r : ℕ} {k : LoopSetup → ℕ}
     (o : Option Routine) → callee x.calls u ≡ o → Run x a p u q c k →
     Contains ((part x.calls a).edges u) (record { to = v; lag = lag }) →

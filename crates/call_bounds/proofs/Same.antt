@@ -1,4 +1,4 @@
--- The rows of a part hold where they hold in its tree.
+-- The rows of refusals hold in a function exactly if they hold in its tree.
 use Rattle.std.proofs.Common.{ℕ, inl, inr, sym, subst, ◌∙◌, List, Contains}
 use Rattle.fp_setup.specs.declared.loop_list.LoopSetup.{LoopSetup}
 use Rattle.region_tree.specs.Graph.{Edge, Graph}
@@ -67,7 +67,7 @@ leaves {loops = loops} a u h = let z = back loops a h.reached in record {
   out = λ l. h.out (record { low = l.low; high = l.high });
 }
 
--- a row of graphs that holds in a part exactly where it holds in its tree
+-- a row of a graph that holds in a function exactly if it holds in its tree
 pub record IsSame (P : Graph → ℕ → Type 0) (x : Calls) (a : Part) : Type 0 where
   pub there : (u : ℕ) → P (graph (part_tree x a)) u → P (part x a) u
   pub back : (u : ℕ) → P (part x a) u → P (graph (part_tree x a)) u

@@ -1,4 +1,4 @@
--- The table of who calls whom, row by row.
+-- The table of which functions call which, row by row.
 use Rattle.std.proofs.Common.{◌≡◌, ◌≢◌, ℕ, ◌+◌, ◌-◌, ◌*◌, ◌/◌, ◌<◌, ◌≤◌, ◌⊎◌, ◌↔◌, refl}
 use Rattle.std.proofs.Common.{arith, inl, inr, ap, sym, subst, ◌∙◌, Option, Some, None}
 use Rattle.std.proofs.Common.{IfSome, MatchOption, List, [], ◌++◌, length, Contains}
@@ -27,7 +27,7 @@ use Rattle.call_bounds.proofs.PatchLaws.{agrees}
 is_or_not : (a b : ℕ) → (a ≡ b) ⊎ (a ≢ b)
 is_or_not a b = grind arith
 
--- a part was marked
+-- a function was marked
 pub marked : (o : Option ℕ) (k : ℕ) (row : List Bool) → o ≡ Some k → k < length row →
     Marked o row (slice_set row k true)
 marked o k row is lt = record {
@@ -82,7 +82,7 @@ pub calls-none : (l : Listing) (t : Tree) (index : ℕ) →
     (Reachable (graph t) (address t index) → ⊥) → (k : ℕ) → (None ≡ Some k) ↔ CallsAt l t index k
 calls-none l t index out k = (λ e. cc, λ (h : CallsAt l t index k). absurd (out h.known))
 
--- no word yet
+-- no word so far
 pub row-start : (l : Listing) (t : Tree) (row : List Bool) → length row ≡ part_count l →
     ((k : ℕ) → is_met row k ≡ false) → IsRowTo l t 0 row
 row-start l t row count none = record {
@@ -93,7 +93,7 @@ row-start l t row count none = record {
   );
 }
 
--- one word more
+-- one more word
 pub row-next : (l : Listing) (t : Tree) (c : ℕ) (o : Option ℕ) (old new : List Bool) →
     ((k : ℕ) → (o ≡ Some k) ↔ CallsAt l t c k) → Marked o old new → IsRowTo l t c old →
     IsRowTo l t (c + 1) new
@@ -123,7 +123,7 @@ pos : (k : ℕ) → (k ≡ 0 → ⊥) → 0 < k
 pos k never =
     elim (let z : (k ≡ 0) ⊎ (0 < k) = grind arith in z) [ inl e ↦ absurd (never e) | inr lt ↦ lt ]
 
--- all words of a part
+-- all words of a function
 pub row-all : (l : Listing) (t : Tree) (p : ℕ) (row : List Bool) →
     IsListing (calls l) → p < part_count l → t ≡ part_tree (calls l) (part_at l p) →
     IsRowTo l t (length t.words) row → IsRow l p row
@@ -179,7 +179,7 @@ table-start l = record {
   exact = λ j k lt h. absurd (omega arith);
 }
 
--- one row more
+-- one more row
 pub table-next : (l : Listing) (c : ℕ) (table row table' : List Bool) → table' ≡ table ++ row →
     IsRow l c row → IsTableTo l c table → IsTableTo l (c + 1) table'
 table-next l c table row table' is r t = subst (IsTableTo l (c + 1)) (sym is) (record {

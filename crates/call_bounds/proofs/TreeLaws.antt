@@ -1,4 +1,4 @@
--- The trees of parts, one by one.
+-- The trees of functions, one by one.
 use Rattle.std.proofs.Common.{◌≡◌, ℕ, ◌+◌, ◌<◌, ◌⊎◌, refl, arith, inl, inr, ap, sym, subst, ◌∙◌}
 use Rattle.std.proofs.Common.{Option, Some, None, List, [], ◌∷◌, ◌++◌, length, length-append}
 use Rattle.std.proofs.Math.ListN.{get_or-append}

@@ -17,14 +17,13 @@ use Rattle.call_bounds.specs.Field.{field, moves}
 use Rattle.call_bounds.specs.Runs.{Through}
 use Rattle.call_bounds.proofs.Dominance.{CostsAgree, costs_agree}
 
--- the matrix of a word: none where it is no call, and else the best of the jump and what its
--- routine costs
+-- the matrix of a word: none if it is no call; otherwise the best of the jump and the routine
 abbrev pub IsWayOf : Route → (Routine → Costs) → Option Routine → Option Matrix → Type 0
 IsWayOf x f None w = w ≡ None
 IsWayOf x f (Some t) w =
     (m : Matrix) × (w ≡ Some m) × IsBest (entry m) (Then (Steps x.positions 3) (f t))
 
--- of going on to the word after it
+-- the best costs of going on to the next word
 abbrev pub IsWay : Route → Option Routine → Option Matrix → Type 0
 IsWay x = IsWayOf x (Through x)
 
@@ -49,7 +48,7 @@ found x None w lag p e q is m = (e, subst (λ w. move_costs x.positions w lag p 
 found x (Some t) w lag p e q is m =
     is.2.1 p e q (subst (λ w. move_costs x.positions w lag p e q) is.1 m)
 
--- the part, gone over by its words' ways
+-- a pass over the function, with the matrices of its calls
 abbrev pub by_ways : Route → Part → (ℕ → Option Matrix) → Field
 by_ways x a ways = record {
   graph = part x.calls a;

@@ -1,4 +1,4 @@
--- The answers where a section has no bound.
+-- The answers for a section that has no bound.
 use Rattle.std.proofs.Common.{◌≡◌, ◌<◌, ℕ, ◌==◌, Bool, true, false, Option, Some, None, List}
 use Rattle.std.proofs.Common.{[], ◌∷◌, filter, refl, sym, arith, ◌%◌, ◌≤◌, ◌^◌, ap₂, subst}
 use Rattle.std.proofs.Common.{not, ◌&&◌, ◌||◌, nat_le, nat_lt, if◌then◌else◌, inl, inr}
@@ -40,7 +40,7 @@ tree_stops t (in_tree.UnboundedBackEdge address) is =
     record { no = in_tree.UnboundedBackEdge address; is = is; line = refl }
 tree_stops t in_tree.NoMemory is = tt
 
--- a tree that is refused has this answer
+-- the answer for a refused tree
 pub refused_stops : (t : Tree) (slots i : ℕ) (stop : Stop) → IsAnswerStop (IsTreeRefused t) stop →
     IsAnswerStop (IsTreeAnswer t slots i) stop
 refused_stops t slots i (Refused refusal) is = inl is
@@ -48,7 +48,7 @@ refused_stops t slots i (Differs line) is = inl is
 refused_stops t slots i Read is = is
 refused_stops t slots i NoMemory is = tt
 
--- the bound of a tree, by a word of the slots, is that of the section where these are the section's
+-- the bound of a tree for a word of slots, if these are the section's slots and words
 pub bound_told : (t section : Tree) (word slots i cycles : ℕ) →
     t ≡ section → word ≡ slots → IsTree section → cycles < 2 ^ 64 →
     IsBound (course t word i) cycles → IsTreeAnswer section slots i (Says 0 (bound_text cycles))

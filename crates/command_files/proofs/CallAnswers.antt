@@ -1,4 +1,4 @@
--- The answers where a section with its routines has no bound.
+-- The answers for a section with routines that has no bound.
 use Rattle.std.proofs.Common.{◌≡◌, ◌<◌, ◌^◌, ℕ, List, None, Ok, Err, Option, Result}
 use Rattle.std.proofs.Common.{Some, ap, ap₂, inl, inr, refl, subst, sym, ◌∙◌}
 use Rattle.std.specs.Prelude.{IfErr, IfOk, IfSome}
@@ -45,7 +45,7 @@ call_stops l (in_calls.Escape address) is =
     record { no = in_calls.Escape address; is = is; line = refl }
 call_stops l in_calls.NoMemory is = tt
 
--- a section with routines that is refused has this answer
+-- the answer for a refused section with routines
 pub refused_calls : (l : Listing) (slots i : ℕ) (stop : Stop) →
     IsAnswerStop (IsListingRefused l) stop → IsAnswerStop (IsListingAnswer l slots i) stop
 refused_calls l slots i (Refused refusal) is = inl is
@@ -53,8 +53,7 @@ refused_calls l slots i (Differs line) is = inl is
 refused_calls l slots i Read is = is
 refused_calls l slots i NoMemory is = tt
 
--- the bound of a listing, by a word of the slots, is that of the section where these are the
--- section's
+-- the bound of a listing for a word of slots, if these are the section's slots and words
 pub calls_told : (l section : Listing) (word slots i cycles : ℕ) → l ≡ section →
     word ≡ slots → IsListing (calls section) → IsCallable (calls section) → cycles < 2 ^ 64 →
     IsCallBound (route (calls l) word i) cycles →

@@ -1,4 +1,4 @@
--- The first bytes of a file, one more than it may have, answer as the whole file does.
+-- The answer over the first bytes of a file, one more than its limit, is that over the whole file.
 use Rattle.std.proofs.Common.{refl, ◌≡◌, ℕ, ◌+◌, ◌<◌, ◌≤◌, nat_lt, true, List}
 use Rattle.std.proofs.Common.{length, take, min, Option, Some, None, Result}
 use Rattle.std.proofs.Common.{Ok, Err, arith, ap, sym, subst, ◌∙◌, inl, inr}
@@ -22,11 +22,11 @@ use Rattle.command_files.specs.Elf.{elf_in}
 use Rattle.command_files.specs.Program.{setup_in, image_in}
 use Rattle.command_files.specs.Stops.{IsStop, IsStopOf}
 
--- a step over the first bytes, one more than the most, is that over the whole
+-- a step over the first bytes, one more than the limit, is that over the whole file
 abbrev pub IsCut : {A : Type 0} → (List ℕ → A) → ℕ → Type 0
 IsCut over most = (whole : List ℕ) → over (take (most + 1) whole) ≡ over whole
 
--- it is so where all that is too long has one answer
+-- this holds if every file above the limit has the same answer
 pub cut-by : {A : Type 0} → (over : List ℕ → A) → (most : ℕ) → (long : A) →
     ((bytes : List ℕ) → most < length bytes → over bytes ≡ long) → IsCut over most
 cut-by over most long same whole =
@@ -87,7 +87,7 @@ fetched-stop told name over bytes most before after (Differs line) cut fetched i
 fetched-stop told name over bytes most before after Read cut fetched is = absurd is
 fetched-stop told name over bytes most before after NoMemory cut fetched is = tt
 
--- the same of an answer of the code
+-- the same for an answer of the code
 pub ok-over : {A : Type 0} → (told : Option FileMap) (name : List ℕ)
     (over : List ℕ → Result A Answer) (bytes items : List ℕ) (most : ℕ) (r : Result A Stop) →
     IsCut over most → Fetched told name most items →

@@ -1,4 +1,5 @@
--- The first bytes of a list of routines, one more than it may have, answer as the whole list does.
+-- The answer over the first bytes of a list of routines, one more than the limit, is that over the
+-- whole list.
 use Rattle.std.proofs.Common.{◌≡◌, ℕ, zero, suc, ◌+◌, ◌*◌, ◌<◌, List, [], ◌∷◌, length}
 use Rattle.std.proofs.Common.{take, drop, min, Option, Some, None, Result, Ok, Err}
 use Rattle.std.proofs.Common.{refl, sym, ap, subst, ◌∙◌, arith, take-append-drop}
@@ -14,7 +15,7 @@ use Rattle.call_bounds.proofs.RoutineLines.{line-next, line-stops}
 use Rattle.command_files.specs.CallsAnswer.{of_routines, routines_in}
 use Rattle.command_files.proofs.Cuts.{IsCut}
 
--- the routines of bytes by the next 18 of them
+-- the routines of the bytes, 18 bytes after 18
 next : (size n : ℕ) (before : Option Routine) (bytes : List ℕ) (r : Routine) →
     routine_at size n before (take 18 bytes) ≡ Ok r →
     routines_from size n before (lines_of bytes) ≡ and_then

@@ -50,7 +50,7 @@ unseen b c (Ran k pc word (Some (Csr csr value rd old))) p q l = go (csr == 0x7C
     go false true = rw late refl
     go false false = refl
 
--- and is seen from then on
+-- and from then on it is visible
 seen : (b c : ℕ) (took : Took) (p q : Phase) → c + 3 ≤ b →
     latest b p (phase_after c took q) ≡ last_phase p (phase_after c took q)
 seen b c Idle p q l = refl
@@ -76,7 +76,7 @@ seen b c (Ran k pc word (Some (Csr csr value rd old))) p q l = go (csr == 0x7C0)
     go false true = rw here refl
     go false false = refl
 
--- the last entry goes with the registers
+-- the last entry is the content of the registers
 after-matches : (c k pc word : ℕ) (e : Option Effect) (p : Phase) (r : Registers) → Matches p r →
     Matches (last_phase p (phase_after c (Ran k pc word e) p)) (registers_after e r)
 after-matches c k pc word None p r m = m
@@ -132,7 +132,7 @@ last-matches s (suc n) = rw (
     go (Ran k pc word e) t m =
         rw t.registers (after-matches n k pc word e p (world s n).registers m)
 
--- all entries are seen two cycles on
+-- two cycles later all entries are visible
 all-seen : (s : Start) (d : Phase) (n b : ℕ) → n + 2 ≤ b →
     latest b d (Before s n) ≡ last_phase (first_phase s) (Before s n)
 unfolding world recent

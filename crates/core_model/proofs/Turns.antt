@@ -17,7 +17,7 @@ use Rattle.core_model.specs.World.{issue_of, words_after, registers_after, latch
 use Rattle.core_model.specs.World.Took.{Idle, Lost, Ran}
 use Rattle.core_model.proofs.Picks.{pick-below}
 
--- nothing but the list of turns has changed
+-- only the list of turns has changed
 pub record Same (w after : World) : Type 0 where
   pub threads : after.threads ≡ w.threads
   pub words : after.d_words ≡ w.d_words

@@ -35,7 +35,7 @@ use Rattle.flexpret_top.specs.Run.{start_of}
 use Rattle.command_files.specs.Stops.{IsStop}
 use Rattle.flexpret_top.proofs.OneThread.{view-beside}
 
--- a stop of one kind is a stop of another where its answers are
+-- a stop whose answers are among those of another kind is a stop of that kind
 stop-turns : (told : Option FileMap) (P Q : FileMap → Answer → Type 0) (b a : ℕ) (stop : Stop) →
     IfSome told (λ files. (x : Answer) → P files x → Q files x) → IsStop told P b a stop →
     IsStop told Q b a stop
@@ -83,7 +83,7 @@ thread-is threads s i t is same =
     sym (get_or_from_slice_get threads i t default_thread is)
     ∙ ap (λ (ts : List ThreadSetup). get_or ts i default_thread) same
 
--- the same with the port taken out of the ports
+-- the same, after the port was taken out of the ports
 pub beside-told : {B : Type 0} → (latched : B → ℕ) (word_at : B → ℕ → ℕ) (a : Alone)
     (ports : List (Option B)) (x taken : Option B) (t : ThreadSetup) (base : View) →
     x ≡ get_or ports a.view.thread x → a.view.thread < length ports → taken ≡ x →

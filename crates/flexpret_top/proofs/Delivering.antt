@@ -41,7 +41,7 @@ dump-err r first rows m before after (Err e) passes puts =
     λ written runs. (let Told : List ℕ → Type 0 = AppendsFront before after in subst Told
     (sym runs.text_is) (puts runs.start r.cycles r.cycles (passes runs.start runs.refines).refines))
 
--- a run that puts nothing has done its cycles
+-- a run without output has done its cycles
 pub gone-after : (s : Start) (k n : ℕ) (first : List (Option Row)) (m : Machine)
     (rows : List (Option Row)) → k ≡ n → HasRun s k n 0 first m rows None None →
     Gone s n first m rows
@@ -118,7 +118,7 @@ phases-left r first rows m before after (Ok x) words logs =
     λ s st starts. ports_after s r.cycles r.cycles m first rows (logs s starts st).refines words
 phases-left r first rows m before after (Err e) words logs = tt
 
--- and where the sink failed
+-- the same for a run that a failing sink stopped
 pub trace-part : {A E : Type 0} → (r : Ready) (thread : ℕ) (first rows : List (Option Row))
     (m : Machine) (before after : Option (List ℕ)) (put : Result A E) →
     OnErr put ((s : Start) → Refines s 0 r.cycles r.machine first →

@@ -1,4 +1,4 @@
--- How a command ends, by what was prepared for it.
+-- The end of a command, by its prepared answer.
 use Rattle.std.proofs.Common.{◌≡◌, ◌⊎◌, ℕ, ◌<◌, ◌==◌, if◌then◌else◌, List, Option}
 use Rattle.std.proofs.Common.{Some, None, inl, inr, refl, ap, sym, subst, ◌∙◌, arith}
 use Rattle.std.specs.Prelude.{IfSome, IsSomeAnd}
@@ -38,7 +38,7 @@ front-of (Some files) asked ports fed p before after prepares puts =
       front = puts prepares.written prepares.delivers;
     }
 
--- where it did not, the whole answer was put
+-- otherwise the whole answer was written
 pub all-of : (told : Option FileMap) (asked : Ask) (ports fed : List (Option Row)) (p : Prepared)
     (before after : Option (List ℕ)) → IfSome told (λ files. Prepares asked files ports fed p) →
     ((written : List ℕ) → Delivers p fed written → Appends before after written) →
@@ -51,14 +51,14 @@ all-of (Some files) asked ports fed p before after prepares puts =
       said = (refl, puts prepares.written prepares.delivers);
     }
 
--- and the ports are left as the command leaves them
+-- the ports after a complete answer
 pub left-of : (told : Option FileMap) (asked : Ask) (ports fed last : List (Option Row))
     (p : Prepared) → IfSome told (λ files. Prepares asked files ports fed p) →
     LeavesPorts p fed last → IfSome told (λ files. Leaves asked files ports last)
 left-of None asked ports fed last p prepares left = tt
 left-of (Some files) asked ports fed last p prepares left = prepares.leaves last left
 
--- and as far as it came where the sink failed
+-- the ports after a failure of the sink
 pub part-of : (told : Option FileMap) (asked : Ask)
     (ports fed last : List (Option Row)) (p : Prepared) →
     IfSome told (λ files. Prepares asked files ports fed p) → LeavesPortsInPart p fed last →
@@ -123,7 +123,7 @@ nothing-of s asked (inl e) = absurd (asked (status-of s Usage e))
 nothing-of s asked (inr (inl e)) = inl (status-of s Read e)
 nothing-of s asked (inr (inr e)) = inr (status-of s NoMemory e)
 
--- a command that ends well ends with no other status, and one whose sink failed too
+-- a command that ends with Ok or with a failed sink ends with no other status
 pub ok-no_write : Ok ≡ Write → ⊥
 ok-no_write e = cc
 

@@ -82,8 +82,8 @@ front-same : (xs : List ℕ) → front xs xs ≡ length xs
 front-same [] = refl
 front-same (x ∷ xs) = rw (itself x, front-same xs) (omega arith)
 
--- the answer over the first bytes is that over the file, where these agree with the text no further
--- than within them
+-- The answer over the first bytes is that over the file, if their common prefix with the text ends
+-- within them.
 checked-long : (file given text rest : List ℕ) (answer : Checked) → file ≡ given ++ rest →
     front given text < length given → length given < length file → IsChecked given text answer →
     IsChecked file text answer
@@ -141,7 +141,7 @@ compared-is file text (Differs line) is =
     (not-true (bytes_eq file text) (λ equal. is.0 ((bytes_eq-Decides file text).0 equal)))
     (ap (λ (l : ℕ). Err (Says 1 (differs_text l))) (sym is.1))
 
--- over the file that the bytes were fetched of
+-- the same over the file of the fetched bytes
 pub compared-file : (told : Option FileMap) (name bytes items text : List ℕ) (n most : ℕ)
     (answer : Checked) → most ≡ 60 * n → Fetched told name most items → bytes ≡ items →
     front bytes text ≤ 59 * n → IsChecked bytes text answer →
@@ -157,7 +157,7 @@ compared-file (Some files) name bytes items text n most answer limit fetched sam
         compared-is whole text answer (checked-file whole bytes text n answer
         (same ∙ there ∙ ap (λ m. take (m + 1) whole) limit) few is)
 
--- and so what the command answers is that of the comparison, if it goes on and if it ends
+-- so the command answers `same` if the comparison finds no difference
 pub compared-ok : (told : Option FileMap) (name text : List ℕ)
     (answer : Checked) (r : Result Unit Stop) →
     IfSome told (λ files. over_file (comparison_of text) (files name) ≡ said_by answer) →
@@ -233,7 +233,7 @@ last-word (x ∷ inputs) c =
     same_found true = refl
     same_found false = refl
 
--- later inputs come at later cycles
+-- later inputs have later cycles
 pub no-later : (inputs : List Input) → AreInputs inputs →
     IsNonDecreasingBy (λ (input : Input). input.at) inputs
 no-later inputs are i j d from within =
@@ -278,7 +278,7 @@ last-found {A = A} p (x ∷ xs) (suc i) within pass fail =
         let more : length (x ∷ y ∷ ys) - 1 ≡ suc (length ys) = omega arith in
         rw (here, more, is) refl
 
--- a port that was taken out and is put back as it was leaves all as they were
+-- taking a port out and putting it back unchanged changes nothing
 pub rows-back : {B : Type 0} → (latched : B → ℕ) (word_at : B → ℕ → ℕ) (ports : List (Option B))
     (thread : ℕ) (gone x taken y : Option B) → x ≡ get_or ports thread x →
     thread < length ports → taken ≡ x → row_of latched word_at y ≡ row_of latched word_at taken →

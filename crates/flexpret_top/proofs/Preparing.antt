@@ -69,7 +69,7 @@ ready-leaves files name before after last r ready leaves =
       ports = subst After ready.fed (leaves s ready.refines ready.starts);
     }
 
--- and what a run that was cut short leaves
+-- the ports after a run that was stopped
 ready-leaves-part : (files : FileMap) (name : List ℕ) (before after last : List (Option Row))
     (r : Ready) → IsReady files name before after r → LeavesPartOfRun r after last →
     command.LeavesPartOfRun files name r.cycles before last
@@ -85,7 +85,7 @@ ready-leaves-part files name before after last r ready leaves =
       ports = subst After ready.fed some.ports;
     }
 
--- a text of its world
+-- a text of the program's world
 ready-runs : (files : FileMap) (name : List ℕ) (before after : List (Option Row))
     (r : Ready) (told : Start → List ℕ) → (ready : IsReady files name before after r) →
     Runs r after told (told (start_of ready.made before r.cycles))
@@ -163,7 +163,7 @@ ready-beside latched word_at told name before after p r is fed same eight eight'
     p r is fed same (length-map before (row_of latched word_at) ∙ eight)
     (length-map after (row_of latched word_at) ∙ eight') few refines
 
--- a machine that isn't run leaves the ports with some of the inputs of its setup
+-- without a run, the ports have some of the inputs of the setup
 pub fed-part : (told : Option FileMap) (name : List ℕ) (before after : List (Option Row))
     (p : Program) → IfSome told (λ files. program files name ≡ Ok p) →
     IsFedFront p.setup before after → IfSome told (λ files. IsUnrun files name before after)

@@ -63,7 +63,7 @@ stop-said (Some files) asked ports b a why.Read s b' a' before after is ends rea
 stop-said (Some files) asked ports b a why.NoMemory s b' a' before after is ends read write memory =
     absurd (memory ends)
 
--- a command that stops because a file can't be read has the status of that
+-- a command that stops because a file can't be read ends with the status Read
 pub stop-missing : (stop : Stop) (s : Status) (b a : ℕ) (before after : Option (List ℕ)) →
     Ends stop b a before after s → stop ≡ why.Read → s ≡ Read
 stop-missing stop s b a before after ends read =
@@ -85,7 +85,7 @@ stop-read told asked ports b a (why.Differs line) s b' a' before after is (inr f
 stop-read told asked ports b a why.Read s b' a' before after is ends read = is
 stop-read told asked ports b a why.NoMemory s b' a' before after is ends read = cc
 
--- where the sink failed
+-- after a failure of the sink
 pub stop-write : (stop : Stop) (s : Status) (b' a' : ℕ) (before after : Option (List ℕ)) →
     Ends stop b' a' before after s → s ≡ Write → Rose b' a'
 stop-write (why.Refused refusal) s b' a' before after (inl puts) write =
@@ -116,7 +116,7 @@ stop-front (Some files) asked ports b a why.Read s b' a' before after is ends wr
 stop-front (Some files) asked ports b a why.NoMemory s b' a' before after is ends write =
     absurd (cc)
 
--- where nothing failed
+-- without a failure
 pub stop-complete : (told : Option FileMap) (asked : Ask) (ports : List (Option Row))
     (b a : ℕ) (stop : Stop) (s : Status) (b' a' : ℕ) (before after : Option (List ℕ)) →
     IsStop told (IsAnswerIn asked ports) b a stop →
@@ -174,7 +174,7 @@ stop-leaves told asked ports last stop s b' a' before after ends ok =
     absurd (no_number (number_of s) 0 (stop_number stop s b' a' before after ends)
     (ap number_of ok) (inl refl))
 
--- another status than that of a difference, or of a sink that failed, is of another stop
+-- a status other than Differs and Write is that of another stop
 pub no-difference : (stop : Stop) (s : Status) (b' a' : ℕ) (before after : Option (List ℕ)) →
     Ends stop b' a' before after s → (s ≡ Differs → ⊥) → (s ≡ Write → ⊥) →
     is_difference stop ≡ false

@@ -72,6 +72,6 @@ after_four location s h k = go s.makes h
     go Words h = stays location (size_of s) k
     go Space h = stays location (size_of s) k
 
--- the values of a statement are as many as the code's
+-- the number of a statement's values is that of the code
 pub values_count : (xs : List target.the_data) → length (map abstract_target xs) ≡ length xs
 values_count xs = length-map xs abstract_target

@@ -80,7 +80,7 @@ rest_all xs n = take_all (length xs - n) (drop n xs) (rw length-drop (omega arit
 pub two_more : {A : Type 0} (xs : List A) (n : ℕ) → drop 2 (drop n xs) ≡ drop (n + 2) xs
 two_more xs n = drop-drop 2 n xs
 
--- pieces that begin with no label
+-- tokens that don't begin with a label
 pub labelled_none : (location : ℕ) (labels : Labels) (ps : List Piece) → has_label ps ≡ false →
     with_labels location labels ps ≡ Ok (labels, ps)
 unfolding with_labels has_label
@@ -130,8 +130,8 @@ after_none (minus ∷ ps) h = refl
 -- a label that is added
 pub ruleset added = (label_there, label_new)
 
--- one label more, or none
+-- one more label, or none
 pub ruleset labelling = (labelled_step, stop_step, labelled_none)
 
--- one label more that is skipped, or none
+-- one more skipped label, or none
 pub ruleset skipping = (after_step, after_none)

@@ -4,7 +4,7 @@ use Rattle.fp_asm.specs.Operands.{all_filled}
 use Rattle.fp_asm.specs.Second.{written_by}
 use Rattle.fp_asm.specs.Statements.{size_of}
 
--- how many bytes a statement takes
+-- the number of bytes of a statement
 unfoldable pub sizes : Type 0
 unfolding size_of
 sizes = Unit
@@ -14,7 +14,7 @@ unfoldable pub filled : Type 0
 unfolding all_filled
 filled = Unit
 
--- a statement that is written
+-- the words of a statement
 unfoldable pub put : Type 0
 unfolding written_by
 put = Unit

@@ -41,7 +41,7 @@ map-take-suc f [] k d h = absurd (omega (arith, h))
 map-take-suc f (r ∷ rs) zero d h = refl
 map-take-suc f (r ∷ rs) (suc k) d h = ap (λ ss. f r ∷ ss) (map-take-suc f rs k d (omega (arith, h)))
 
--- the segments so far and one more are an image
+-- an image of the segments so far and one more
 pub image_more : (memory : Memory) (rs : List Run) (k : ℕ) (d : Run) →
     IsImage 65536 (map (segment_of memory) rs) → k < length rs →
     IsImage 65536 (map (segment_of memory) (take k rs) ++ segment_of memory (get_or rs k d) ∷ [])
@@ -153,7 +153,7 @@ all_rise memory (b ∷ bs) ps =
     runs_rise memory 0 b 1 bs (omega arith) ps.2 (omega arith) (one_within b ps.1 ps.2)
     (subst (λ x. ArePlaced x bs) (omega arith) ps.3)
 
--- the runs of placed addresses, 16 at most, are an image
+-- the runs of placed addresses are an image, if there are at most 16
 pub runs_image : (memory : Memory) (addresses : List ℕ) → ArePlaced 0 addresses →
     length (runs_of addresses) ≤ 16 → IsImage 65536 (map (segment_of memory) (runs_of addresses))
 runs_image memory addresses ps few =

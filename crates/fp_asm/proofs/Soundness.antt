@@ -40,7 +40,7 @@ insert_placed from a (x ∷ xs) low h k ps =
     go Equal e more = ps
     go Greater lt more = (ps.0, ps.1, ps.2, more (omega (arith, lt, k, ps.2)))
 
--- addresses of n words from a multiple of four on, which are inside
+-- the addresses of n words from a multiple of four on, if they are inside a scratchpad
 all_placed : (xs : List ℕ) (a n : ℕ) → a % 4 ≡ 0 → list_all is_inside (addresses a n) ≡ true →
     ArePlaced 0 xs → ArePlaced 0 (with_taken xs (addresses a n))
 unfolding addresses
@@ -84,7 +84,7 @@ take_sound xs ys a n k ps h = by_inside (list_all is_inside (addresses a n)) ref
 abbrev Checked : Statement → Type 0
 Checked s = let passed : Result (Unit {0}) AsmNo = Ok tt in statement_check s ≡ passed
 
--- a statement that is found passed its checks
+-- a decoded statement passed its checks
 named_checked : (x : Text) (ps : List Piece) (s : Statement) →
     statement_named x ps ≡ Ok s → Checked s
 unfolding statement_named

@@ -1,4 +1,4 @@
--- Ways between multiples of four.
+-- Offsets between multiples of four.
 use Rattle.std.proofs.Common.{◌≡◌, ℕ, ◌<◌, ◌+◌, ◌-◌, ◌/◌, ◌%◌, ◌^◌, pos}
 use Rattle.std.proofs.Common.{◌-ℤ◌, arith, Bool, true, false, cond, nat_lt}
 use Rattle.std.proofs.lemmas.Int.{ints}
@@ -13,7 +13,7 @@ even_signed w h = go (nat_lt w (2 ^ 31))
     go true = (pos (w / 2), omega (arith, ints, h))
     go false = (pos (w / 2) -ℤ pos (2 ^ 31), omega (arith, ints, h))
 
--- the way from one multiple of four to another is even
+-- the offset from one multiple of four to another is even
 pub way_even : (location to : ℕ) → location < 2 ^ 32 → to < 2 ^ 32 → location % 4 ≡ 0 → to % 4 ≡ 0 →
     IsEven (way location to)
 way_even location to a b h k =

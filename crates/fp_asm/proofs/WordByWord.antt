@@ -40,5 +40,5 @@ pub words_end : (memory : Memory) (a : ℕ) (words : List ℕ) (i : ℕ) → len
 unfolding words_from with_words
 words_end memory a words i h = rw (drop_of_length-le words h) refl
 
--- one address more, or none
+-- one more address, or none
 pub ruleset counting = (addresses_here, addresses_end)

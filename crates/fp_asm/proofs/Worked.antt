@@ -67,9 +67,9 @@ rows =
     )
     -- a label twice
     ∷ (codes "a:\na:", Err (refused.Fault 2 no.DoubleLabel))
-    -- a label twice comes before a name that is unknown
+    -- a repeated label is reported before an unknown name
     ∷ (codes "a: a: bogus", Err (refused.Fault 1 no.DoubleLabel))
-    -- a label that is nowhere
+    -- an undefined label
     ∷ (codes "j far", Err (refused.Fault 1 no.NoLabel))
     -- too few operands
     ∷ (codes "x: add x1, x2", Err (refused.Fault 1 no.Operands))
@@ -81,11 +81,11 @@ rows =
     ∷ (codes ".org 16380\nnop\n.org 16380\n.word 1, 2", Err (refused.Fault 4 no.OutsideMemory))
     -- a word where one was placed
     ∷ (codes ".org 16380\nnop\n.org 16376\n.word 1, 2", Err (refused.Fault 4 no.Overlap))
-    -- a branch to more than 4,094 bytes on
+    -- a branch over more than 4,094 bytes
     ∷ (codes "beq x0, x0, 4096", Err (refused.Fault 1 no.OutOfRange))
-    -- the same where it is no multiple of four: out of range comes first
+    -- the same, to no multiple of four: the range is checked first
     ∷ (codes "beq x0, x0, 4095", Err (refused.Fault 1 no.OutOfRange))
-    -- a branch to no multiple of four
+    -- a branch to an address that is no multiple of four
     ∷ (codes "beq x0, x0, 4093", Err (refused.Fault 1 no.Misaligned))
     ∷ []
 

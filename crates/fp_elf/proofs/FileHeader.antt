@@ -35,7 +35,7 @@ by-size file unsized size h =
     let long : nat_lt (length file) 52 ≡ false = le-ltb _ _ h.long in
     rw (short, h.magic, long, h.class, h.order, h.kind, h.machine, size) refl
 
--- there are so many program headers, none of them or each of 32 bytes
+-- there are that many program headers, and none or each of 32 bytes
 pub counted : (file : List ℕ) (count : ℕ) → Begins file → count ≡ number_at 2 44 file →
     (number_at 2 44 file ≡ 0) ⊎ (number_at 2 42 file ≡ 32) →
     Path (Result ℕ ElfRefused) (Ok count) (count_of file)
@@ -51,7 +51,7 @@ counted file count h is (inr sized) =
     either true = refl
     either false = rw sized refl
 
--- they have another size
+-- the program headers have another size
 pub missized : (file : List ℕ) (e : ElfRefused) → Begins file →
     (number_at 2 44 file ≡ 0 → ⊥) → (number_at 2 42 file ≡ 32 → ⊥) → e ≡ Fault EntrySize 42 →
     Path (Result ℕ ElfRefused) (Err e) (count_of file)
@@ -69,7 +69,7 @@ by-own file at p o is own =
     ap (λ (x : Option ElfRefused). unless x p) (sym own)
     ∙ ap (λ (q : ProgramHeader). unless (first_fault (own_checks file at q)) q) is
 
--- one that loads no bytes
+-- a header that loads no bytes
 pub no-load : (file : List ℕ) (at : ℕ) (p : ProgramHeader) → p ≡ header_at at file →
     at + 32 ≤ length file → (p.kind ≡ 2 → ⊥) → (p.kind ≡ 3 → ⊥) → (p.kind ≡ 1 → ⊥) →
     Path (Result ProgramHeader ElfRefused) (Ok p) (header_of file at)
@@ -80,7 +80,7 @@ no-load file at p is within dynamic interpreter load =
     let one : (p.kind == 1) ≡ false = grind (arith, nat_tests) in
     by-own file at p None is (rw (long, two, three, one) refl)
 
--- one that loads bytes, which lie inside a scratchpad
+-- a header that loads bytes inside a scratchpad
 module _ (file : List ℕ) (at : ℕ) (p : ProgramHeader) (is : p ≡ header_at at file)
     (within : at + 32 ≤ length file) (kind : p.kind ≡ 1) (small : p.filesz ≤ p.memsz)
     (inside : is_inside p.vaddr p.memsz ≡ true) where
@@ -91,7 +91,7 @@ module _ (file : List ℕ) (at : ℕ) (p : ProgramHeader) (is : p ≡ header_at 
       let fits : nat_lt p.memsz p.filesz ≡ false = le-ltb _ _ small in
       by-own file at p _ is (rw (long, kind, fits, inside, e) refl)
 
-  -- the file has all of them
+  -- the file has all of the program headers
   pub whole-load : (p.filesz ≡ 0) ⊎ (p.offset + p.filesz ≤ length file) →
       Path (Result ProgramHeader ElfRefused) (Ok p) (header_of file at)
   whole-load (inl none) = loads false (rw none refl)

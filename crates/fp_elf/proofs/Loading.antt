@@ -27,7 +27,7 @@ placed-inside a n inside some = grind (arith, nat_tests)
 pub address-step : (a n j : ℕ) → is_inside a n ≡ true → j < n → address_of (index_of a + j) ≡ a + j
 address-step a n j inside low = grind (arith, nat_tests)
 
--- a test of each of so many elements from an index on, by what they are
+-- a test of each element from an index on
 any-by : (P : ℕ → Bool) (xs : List Bool) (n index a : ℕ) → index + n ≤ length xs →
     ((j : ℕ) → j < n → get_or xs (index + j) false ≡ P (a + j)) →
     list_any (λ taken. taken) (take n (drop index xs)) ≡ list_any P (range_with_len a n)
@@ -80,7 +80,7 @@ none-taken P (suc n) a (suc j) none l =
     rest true h = cc
     rest false h = h
 
--- a load that hasn't an address in the file leaves the byte there
+-- a load without bytes at an address leaves the byte there
 byte-other : (file : List ℕ) (loads : List ProgramHeader) (p : ProgramHeader) (x : ℕ) →
     (nat_le p.vaddr x && nat_lt x (p.vaddr + p.filesz)) ≡ false →
     byte_of file (loads ++ p ∷ []) x ≡ byte_of file loads x
@@ -93,7 +93,7 @@ byte-other file (q ∷ loads) p x out =
 least : (a b c : ℕ) → a ≤ c → min a b ≤ c
 least a b c l = let m : min a b ≤ a = min-le_left a b in omega (arith, m, l)
 
--- the bytes of a load in the file, 0 after them
+-- the bytes of a load: those of the file, then 0
 source-byte : (file : List ℕ) (from n j : ℕ) →
     get_or (take n (drop from file)) j 0 ≡ (if nat_lt j n then get_or file (from + j) 0 else 0)
 source-byte file from n j = go (cases_lt j n)
@@ -114,7 +114,7 @@ fits-more : (loads : List ProgramHeader) (p : ProgramHeader) → Fits loads → 
 fits-more [] p fits small = (small, tt)
 fits-more (q ∷ loads) p fits small = (fits.0, fits-more loads p fits.1 small)
 
--- a load without a byte meets none, and leaves memory as it is
+-- a load without bytes overlaps none and changes no memory
 pub empty-meets : (loads : List ProgramHeader) (p : ProgramHeader) → p.memsz ≡ 0 →
     meets_any loads p ≡ false
 empty-meets [] p none = refl
@@ -146,7 +146,7 @@ placed-empty file loads p taken bytes h small none = record {
     out-file : (x : ℕ) → (nat_le p.vaddr x && nat_lt x (p.vaddr + p.filesz)) ≡ false
     out-file x = grind (arith, nat_tests)
 
--- memory once a load is placed that meets none before it
+-- memory after a load that overlaps none before it
 pub placed : (file : List ℕ) (loads : List ProgramHeader) (p : ProgramHeader)
     (taken taken' : List Bool) (bytes bytes' source : List ℕ) → Holds file loads taken bytes →
     p.filesz ≤ p.memsz → is_inside p.vaddr p.memsz ≡ true → 0 < p.memsz →
@@ -231,7 +231,7 @@ holds-none file taken bytes t b = record {
   fits = tt;
 }
 
--- the same, by an index that is the load's
+-- the same, by the load's index
 pub placed-at : (file : List ℕ) (loads : List ProgramHeader) (p : ProgramHeader)
     (taken taken' : List Bool) (bytes bytes' source : List ℕ) (index : ℕ) →
     index ≡ index_of p.vaddr → Holds file loads taken bytes →
@@ -281,7 +281,7 @@ runs-step test base step now low is =
     let after : base + 4 * (16383 - step) + 4 ≡ base + 4 * (16384 - step) = omega arith in
     rw (at, add-one step, after) is
 
--- so many bytes from an index on
+-- the bytes from an index on
 bytes-by : (f : ℕ → ℕ) (xs : List ℕ) (n index a : ℕ) → index + n ≤ length xs →
     ((j : ℕ) → j < n → get_or xs (index + j) 0 ≡ f (a + j)) →
     take n (drop index xs) ≡ map f (range_with_len a n)

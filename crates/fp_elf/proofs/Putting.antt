@@ -7,7 +7,7 @@ use Rattle.std.proofs.lemmas.List.{reverse-append}
 use Rattle.fp_elf.specs.declared.runs.Run.{Run}
 use Rattle.fp_elf.specs.Elf.{before_runs}
 
--- it joins the first of them
+-- the word is joined with the first run
 pub put-joined : (a : ℕ) (new left old rest : List Run) (first run : Run) → new ≡ left ++ run ∷ [] →
     left ≡ rest → old ≡ rest ++ first ∷ [] → run ≡ record { from = a; end = first.end } →
     first.from ≡ a + 4 → reverse new ≡ before_runs a (reverse old)
@@ -17,7 +17,7 @@ put-joined a new left old rest first run is same was joined at =
     (λ (rs : List Run). let r : Run = record { from = a; end = first.end } in r ∷ reverse rs) same
     ∙ sym (ap (before_runs a) (ap reverse was ∙ reverse-append rest (first ∷ [])) ∙ rw test refl)
 
--- there is a gap after it
+-- a gap between the word and the first run
 pub put-apart : (a : ℕ) (new left old rest : List Run) (first run : Run) → new ≡ left ++ run ∷ [] →
     left ≡ old → old ≡ rest ++ first ∷ [] → run ≡ record { from = a; end = a + 4 } →
     (first.from ≡ a + 4 → ⊥) → reverse new ≡ before_runs a (reverse old)

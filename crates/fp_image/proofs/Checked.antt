@@ -60,7 +60,7 @@ module _ (size total from address len : ℕ) (rest : List ℕ) (at : address ≡
       refused e _ _ is (by-checks size total from rest
       (Some (Fault BadSegment (total - length rest))) (rw (front, ← at, ← lasts, bad) refl))
 
-  -- it begins before the one before it ends
+  -- the segment begins before the end of the one before it
   pub overlaps : (e : ImageRefused) → is_placed size address len ≡ true →
       address < from → e ≡ Fault Overlap (total - length rest) →
       Path (Result Segment ImageRefused) (Err e) (segment_of size total from rest)
@@ -68,7 +68,7 @@ module _ (size total from address len : ℕ) (rest : List ℕ) (at : address ≡
       refused e _ _ is (by-checks size total from rest (Some (Fault Overlap (total - length rest)))
       (rw (front, ← at, ← lasts, placed, less _ _ low) refl))
 
-  -- the file ends before its bytes do
+  -- the file ends before the bytes of the segment do
   pub cut-bytes : (e : ImageRefused) → is_placed size address len ≡ true →
       from ≤ address → length rest < 8 + len → e ≡ Fault Truncated total →
       Path (Result Segment ImageRefused) (Err e) (segment_of size total from rest)
@@ -77,7 +77,7 @@ module _ (size total from address len : ℕ) (rest : List ℕ) (at : address ≡
       refused e _ _ is (by-checks size total from rest (Some (Fault Truncated total))
       (rw (front, ← at, ← lasts, placed, after, less _ _ short) refl))
 
-  -- it is read
+  -- the segment is read
   pub is-read : (bytes : List ℕ) → is_placed size address len ≡ true →
       from ≤ address → 8 + len ≤ length rest → bytes ≡ take len (drop 8 rest) →
       Path (Result Segment ImageRefused) (Ok (record { address = address; bytes = bytes }))

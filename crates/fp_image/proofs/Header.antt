@@ -36,7 +36,7 @@ module _ (size : ℕ) (file : List ℕ) (low : length file ≤ longest size) whe
   short : nat_lt (longest size) (length file) ≡ false
   short = le-ltb _ _ low
 
-  -- it doesn't begin as an image does
+  -- it doesn't begin with the mark of an image
   pub no-image : (e : ImageRefused) → starts_with nat_eq file (codes "FPX1") ≡ false →
       e ≡ Fault Magic 0 → Path (Result ℕ ImageRefused) (Err e) (count_of size file)
   no-image e other is =
@@ -50,7 +50,7 @@ module _ (size : ℕ) (file : List ℕ) (low : length file ≤ longest size) whe
       refused e _ _ is (by-checks size file (Some (Fault Truncated (length file)))
       (rw (short, image, less _ _ ends) refl))
 
-  -- there are too many
+  -- there are too many segments
   pub crowded : (count : ℕ) (e : ImageRefused) → starts_with nat_eq file (codes "FPX1") ≡ true →
       8 ≤ length file → count ≡ number_at 4 file → 16 < count → e ≡ Fault BadSegment 4 →
       Path (Result ℕ ImageRefused) (Err e) (count_of size file)
@@ -59,7 +59,7 @@ module _ (size : ℕ) (file : List ℕ) (low : length file ≤ longest size) whe
       refused e _ _ is (by-checks size file (Some (Fault BadSegment 4))
       (rw (short, image, whole, ← are, less _ _ many) refl))
 
-  -- there are so many
+  -- the number of segments is allowed
   pub counted : (count : ℕ) → starts_with nat_eq file (codes "FPX1") ≡ true →
       8 ≤ length file → count ≡ number_at 4 file → count ≤ 16 →
       Path (Result ℕ ImageRefused) (Ok count) (count_of size file)

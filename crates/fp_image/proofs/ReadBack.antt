@@ -1,4 +1,4 @@
--- Reading what was written gives the image.
+-- Reading a written file gives the image.
 use Rattle.std.proofs.Common.{◌≡◌, ◌≤◌, ℕ, ◌+◌, ◌*◌, nat_lt, not, Bool, false}
 use Rattle.std.proofs.Common.{IsTrue, List, [], ◌∷◌, ◌++◌, length, take, drop, Ok}
 use Rattle.std.proofs.Common.{refl, ap, ◌∙◌, arith, append_assoc, length-append}

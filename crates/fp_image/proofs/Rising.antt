@@ -69,7 +69,7 @@ abbrev pub total_len : List Segment → ℕ
 total_len [] = 0
 total_len (s ∷ more) = length s.bytes + total_len more
 
--- the bytes that are left in both scratchpads from an offset on
+-- the bytes of both scratchpads from an offset on
 abbrev room : ℕ → ℕ → ℕ
 room size from = (size - from) + (size - (from - 0x20000000))
 
@@ -79,7 +79,7 @@ room-less : (size from address len : ℕ) → size ≤ 65536 → from ≤ addres
 room-less size from address len small after (inl low) = omega arith
 room-less size from address len small after (inr high) = omega arith
 
--- together they are no more than the scratchpads hold
+-- together they fit in the scratchpads
 pub Rises-total : (size from : ℕ) (xs : List Segment) → size ≤ 65536 → Rises size from xs →
     total_len xs ≤ room size from
 Rises-total size from [] small h = omega arith
@@ -101,7 +101,7 @@ pub place_small : (size address len : ℕ) → size ≤ 65536 →
 place_small size address len small (inl low) = omega arith
 place_small size address len small (inr high) = omega arith
 
--- each of them has few bytes
+-- the number of bytes of each segment is small
 pub Rises-small : (size from : ℕ) (xs : List Segment) (k : ℕ) (d : Segment) → size ≤ 65536 →
     Rises size from xs → k < length xs → length (slice_index_or xs k d).bytes ≤ 65536
 Rises-small size from [] k d small h below = absurd (omega arith)

@@ -51,7 +51,7 @@ pub is_defined : (s : Segment) (defined : Result Segment ImageRefused) →
 is_defined s defined (inl memory) = cc
 is_defined s defined (inr is) = sym is
 
--- a fault of the next segment is that of all
+-- a fault of the next segment is that of the file
 pub stops : (size total n m from : ℕ) (rest : List ℕ) (xs : List Segment)
     (whole : Result (List Segment) ImageRefused) (e : ImageRefused) → n ≡ suc m →
     whole ≡ joined xs (segments_of size total n from rest) → IsUnlessMemory {A = Segment} (Err e)
@@ -60,7 +60,7 @@ stops size total n m from rest xs whole e count is (inl memory) = inl cc
 stops size total n m from rest xs whole e count is (inr fault) =
     inr (sym (is ∙ segments_of-fault size total n m from rest xs e count (sym fault)))
 
--- nothing is left
+-- no byte is left
 pub ends_well : (size total n from : ℕ) (rest : List ℕ) (xs : List Segment)
     (whole : Result (List Segment) ImageRefused) → n ≡ 0 →
     whole ≡ joined xs (segments_of size total n from rest) → length rest ≡ 0 →

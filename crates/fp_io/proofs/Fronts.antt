@@ -20,7 +20,7 @@ appends_more (Some told) (Some more) None xs ys first second = absurd second
 appends_more (Some told) (Some more) (Some most) xs ys first second =
     second ∙ ap (λ zs. zs ++ ys) first ∙ append_assoc told xs ys
 
--- the first of a piece, after another piece, is the first of a whole that begins with both
+-- a prefix of a piece, after another piece, is a prefix of a whole that begins with both
 pub appends_front : (before between after : Option (List ℕ)) (xs ys rest whole : List ℕ) →
     whole ≡ (xs ++ ys) ++ rest → Appends before between xs → AppendsFront between after ys →
     AppendsFront before after whole
@@ -47,7 +47,7 @@ front_after before between after xs ys first second =
     appends_front before between after xs ys [] (xs ++ ys)
     (sym (append-nil (xs ++ ys))) first second
 
--- the first of a piece is the first of that piece and another
+-- a prefix of a piece is a prefix of that piece and another
 pub front_of_more : (before after : Option (List ℕ)) (xs ys : List ℕ) →
     AppendsFront before after xs → AppendsFront before after (xs ++ ys)
 front_of_more None after xs ys front = tt
@@ -58,7 +58,7 @@ front_of_more (Some told) (Some more) xs ys (n, within, taken) = (
   taken ∙ ap (λ zs. told ++ zs) (sym (take-append-le n xs ys within)),
 )
 
--- bytes that are gathered, and others after them, all of which were written
+-- gathered bytes and others after them, all of which were written
 pub written_after : (before between after : Option (List ℕ)) (xs ys : List ℕ) →
     Appends before between xs → Appends between after ys →
     Appends (followed before xs) (followed after []) ys

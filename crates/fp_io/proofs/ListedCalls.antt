@@ -1,4 +1,4 @@
--- Lemmas on how many of the calls so far are listed.
+-- Lemmas on the number of calls so far that are listed.
 use Rattle.std.proofs.Common.{◌≡◌, ℕ, zero, suc, ◌+◌, ◌<◌, ◌≤◌, ◌==◌, ◌||◌, ◌⊎◌}
 use Rattle.std.proofs.Common.{inl, inr, Bool, true, false, cond, List, [], ◌∷◌, ◌++◌}
 use Rattle.std.proofs.Common.{find, is_some, option_map, Option, Some, None, length}
@@ -15,7 +15,7 @@ one_more true false m n le imp = absurd (true≢false (sym (imp refl)))
 one_more false true m n le imp = omega arith
 one_more false false m n le imp = omega arith
 
--- where more calls are listed, there are no fewer of them before n
+-- with more listed calls the number before n is no smaller
 listed_before_more : (lists more : ℕ → Bool) (n : ℕ) →
     ((call : ℕ) → lists call ≡ true → more call ≡ true) →
     listed_before lists n ≤ listed_before more n
@@ -24,7 +24,7 @@ listed_before_more lists more zero imp = omega arith
 listed_before_more lists more (suc n) imp =
     one_more (lists n) (more n) _ _ (listed_before_more lists more n imp) (imp n)
 
--- one call more
+-- one more call
 listed_before-next : (lists : ℕ → Bool) (n : ℕ) →
     listed_before lists (n + 1) ≡ listed_before lists n + cond (lists n) 1 0
 unfolding listed_before
@@ -63,7 +63,7 @@ or_either : (a b : Bool) → (a || b) ≡ true → (a ≡ true) ⊎ (b ≡ true)
 or_either true b is = inl refl
 or_either false b is = inr is
 
--- one listing more
+-- one more listing
 is_listed-push : (failing : List ℕ) (new call : ℕ) →
     is_listed (failing ++ new ∷ []) call ≡ (is_listed failing call || (new == call))
 is_listed-push [] new call = or_nothing (new == call)
@@ -102,7 +102,7 @@ is_cut-push (cut ∷ cuts) new call = first (cut.call == call) (is_cut-push cuts
     first true is = refl
     first false is = is
 
--- a test that lists one call more
+-- a test that lists one more call
 module _ (lists more : ℕ → Bool) (new : ℕ)
     (is : (call : ℕ) → more call ≡ (lists call || (new == call))) where
   below_with : new < last_count → AreBelowLast lists → AreBelowLast more

@@ -49,5 +49,5 @@ run_some [] h e = absurd (omega (arith, h))
 run_some (b ∷ bs) h e =
     let rest : is_rest b ≡ true = rw e refl in rw (rest, length-take) (omega arith)
 
--- one digit more, or none
+-- one more digit, or none
 pub ruleset counting = (fit_over, fit_end, number_here, number_end, number_grows)

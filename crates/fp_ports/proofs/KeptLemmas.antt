@@ -1,4 +1,4 @@
--- The feeds that are kept show what all of them showed.
+-- The kept feeds show the words of all feeds.
 use Rattle.std.proofs.Common.{◌≡◌, ℕ, suc, ◌+◌, ◌-◌, ◌<◌, ◌≤◌, Bool, true, false}
 use Rattle.std.proofs.Common.{cond, List, [], ◌∷◌, ◌++◌, reverse, drop, take, take_all}
 use Rattle.std.proofs.Common.{length, find, Some, None, option_map, Option, nat_le}
@@ -54,7 +54,7 @@ reverse-drop xs i k e =
     sym (take-append_seam (reverse (drop i xs)) (reverse (take i xs)))
     ∙ ap (λ (j : ℕ). take j (reverse (drop i xs) ++ reverse (take i xs))) count ∙ ap (take k) whole
 
--- the oldest ones are dropped, as many as come before that one
+-- the oldest ones, those before that one, are dropped
 pub kept-some : (xs : List Feed) (first newer : ℕ) (r : Option ℕ) →
     r ≡ position (λ (f : Feed). nat_le f.at first) (reverse xs) → r ≡ Some newer →
     reverse (drop (length xs - newer - 1) xs) ≡ kept_from first (reverse xs)
@@ -77,7 +77,7 @@ kept-some xs first newer r is some =
         ∙ ap (λ (n : ℕ). take (suc n) (reverse xs)) same ∙ kept-take (reverse xs) first
     go p false e l s = absurd (cc s)
 
--- where there is none, all are kept
+-- if there is none, all are kept
 pub kept-none : (xs : List Feed) (first : ℕ) (r : Option ℕ) →
     r ≡ position (λ (f : Feed). nat_le f.at first) xs → r ≡ None → xs ≡ kept_from first xs
 kept-none xs first r is none =

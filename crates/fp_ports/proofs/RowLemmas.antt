@@ -5,7 +5,7 @@ use Rattle.std.proofs.Math.ListN.{get_or-map, set}
 use Rattle.std.proofs.lemmas.List.{get_or_read, map-set, set-get_or}
 use Rattle.fp_ports.specs.PluggedPorts.{Row, Forgot, row_of, rows_of, row_at}
 
--- x is the port of a thread, read from the ports, and y what it becomes
+-- x is the port of a thread before a call, and y after it
 module _ {B : Type 0} (latched : B → ℕ) (word_at : B → ℕ → ℕ) (ports : List (Option B)) (thread : ℕ)
     (x y : Option B) (read : x ≡ get_or ports thread x) (inside : thread < length ports) where
   -- the row of the port is the row of the thread
@@ -14,8 +14,7 @@ module _ {B : Type 0} (latched : B → ℕ) (word_at : B → ℕ → ℕ) (ports
       ap (row_of latched word_at) (get_or_read ports thread x inside read None)
       ∙ sym (get_or-map (row_of latched word_at) ports thread None)
 
-  -- the row of the port becomes a function of itself: so does the row of the thread, and the others
-  -- stay
+  -- if the port's row becomes a function of itself, the thread's row does, and the others stay
   pub rows_step : (f : Option Row → Option Row) →
       row_of latched word_at y ≡ f (row_of latched word_at x) →
       rows_of latched word_at (set ports thread y) ≡ set (rows_of latched word_at ports) thread
@@ -24,7 +23,7 @@ module _ {B : Type 0} (latched : B → ℕ) (word_at : B → ℕ → ℕ) (ports
       map-set (row_of latched word_at) ports thread y
       ∙ ap (set (rows_of latched word_at ports) thread) (h ∙ ap f row_read)
 
-  -- the row of the port stays: so do all
+  -- if the port's row stays, all rows stay
   pub rows_stay : row_of latched word_at y ≡ row_of latched word_at x →
       rows_of latched word_at (set ports thread y) ≡ rows_of latched word_at ports
   rows_stay h = rows_step (λ row. row) h ∙ set-get_or (rows_of latched word_at ports) thread None

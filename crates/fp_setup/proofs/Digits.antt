@@ -72,7 +72,7 @@ nibble_at-below ns h k within =
     AllPass-from_list_all (λ n. nat_lt n 16) ns h k 0 within in
     grind (arith, nat_tests, here)
 
--- going back from one digit to the one below it
+-- back from one digit to the one below it
 pub word_of-back : (base : ℕ) (ns : List ℕ) (i : ℕ) → 0 < i → i ≤ length ns →
     word_of base (drop (i - 1) ns) ≡ get_or ns (i - 1) 0 + base * word_of base (drop i ns)
 word_of-back base ns zero some within = absurd (omega arith)
@@ -81,7 +81,7 @@ word_of-back base ns (suc k) some within =
     let inside : k < length ns = omega arith in
     rw before (ap (word_of base) (drop-cons ns k 0 inside))
 
--- a step of the loop that goes back
+-- a step of the loop, downwards
 pub word_step : (base : ℕ) (ns : List ℕ) (i word n : ℕ) → 0 < i →
     i ≤ length ns → word ≡ word_of base (drop i ns) → n ≡ get_or ns (i - 1) 0 →
     base * word + n ≡ word_of base (drop (i - 1) ns)

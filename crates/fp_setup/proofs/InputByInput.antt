@@ -17,7 +17,7 @@ use Rattle.fp_setup.specs.Values.{input_of}
 use Rattle.fp_setup.specs.Checks.{input_check, inputs_from, is_after}
 use Rattle.fp_setup.proofs.Lists.{IsReached}
 
--- a fault of an input is the first of those that are left
+-- a fault of an input is the first of the rest
 pub found-here : (items : List Value) (i : ℕ) (x : Value) → i < length items →
     x ≡ get_or items i x → (place : Place) (before : Option ℕ) (f : Fault) →
     input_check before (element_of place i) (view x) ≡ Some f →
@@ -27,7 +27,7 @@ found-here items i x inside is place before f bad =
     drop_more items i x inside ∙ ap (λ y. y ∷ drop (i + 1) items) (sym is) in
     rw (rest, bad) refl
 
--- after the last input no fault is left, and each was read
+-- after the last input no fault is left, and each input was read
 pub found-none : (items : List Value) (i : ℕ) → length items ≤ i → (place : Place)
     (before : Option ℕ) → inputs_from place i before (map view (drop i items)) ≡ None
 found-none items i past place before = rw (drop_all i items past) refl

@@ -1,4 +1,4 @@
--- The table of a loop, once each of its keys is read.
+-- The table of a loop, after each of its keys is read.
 use Rattle.std.proofs.Common.{◌≡◌, ℕ, ◌<◌, ◌≤◌, true, rules}
 use Rattle.fp_setup.specs.Checks.{is_in}
 use Rattle.fp_setup.specs.Loops.{IsLoop}

@@ -38,7 +38,7 @@ rules_at entries confined k small good =
       inside,
     )
 
--- one more
+-- one more thread
 pub made-more : (f : ℕ → ThreadSetup) (old new : List ThreadSetup) (k : ℕ) (t : ThreadSetup) →
     k < 8 → length old ≡ 8 → t ≡ f k → new ≡ set old k t → take k old ≡ map f (take k the_threads) →
     take (k + 1) new ≡ map f (take (k + 1) the_threads)

@@ -31,7 +31,7 @@ table_of-other : (rows : List Members) (row : Members) (k : ℕ) → k ≢ id_at
 table_of-other [] row k other = grind (arith, nat_tests, other)
 table_of-other (r ∷ rows) row k other = grind (arith, table_of-other rows row k other)
 
--- it names its own thread, where none before does
+-- it names its own thread, if none before does
 table_of-own : (rows : List Members) (row : Members) (k : ℕ) → k ≡ id_at row →
     list_any (λ n. n == k) (map id_at rows) ≡ false → table_of (rows ++ row ∷ []) k ≡ Some row
 table_of-own [] row k own fresh = grind (arith, nat_tests, own)
@@ -118,7 +118,7 @@ unnamed-rules = record {
   };
 }
 
--- the ids so far, the faults that are left, modes and threads, after one more table
+-- after one more table: the ids so far, the remaining faults, modes and threads
 pub ids-more : (ids : List ℕ) (items : List Value) (i : ℕ) (x : Value) (n : ℕ) →
     i < length ids → i < length items → x ≡ get_or items i x →
     n ≡ id_at (members (view x)) → take i ids ≡ map id_at (tables (take i items)) →

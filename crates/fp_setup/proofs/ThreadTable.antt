@@ -1,4 +1,4 @@
--- The table of a thread, once each of its keys is read.
+-- The table of a thread, after each of its keys is read.
 use Rattle.std.proofs.Common.{◌≡◌, ℕ, ◌+◌, ◌<◌, ◌≤◌, ◌&&◌, Bool, true, false, List}
 use Rattle.std.proofs.Common.{map, drop, Option, IfSome, option_map, codes, refl, rules}
 use Rattle.toml.specs.Data.{Members, get_member}

@@ -1,4 +1,4 @@
--- The top table, once each of its keys is read.
+-- The top table, after each of its keys is read.
 use Rattle.std.proofs.Common.{◌≡◌, ℕ, ◌+◌, List, [], map, drop, Option}
 use Rattle.std.proofs.Common.{codes, refl, true, ◌≤◌, inl, inr, rules, arith}
 use Rattle.region_guard.specs.Regions.{IsSize}

@@ -10,7 +10,7 @@ use Rattle.fp_setup.specs.Reading.{IsFound}
 pub past : {all here later : Option Fault} → all ≡ first here later → here ≡ None → all ≡ later
 past e h = rw h at e
 
--- and else what the first finds
+-- otherwise it is that of the first
 pub found : {all here : Option Fault} (later : Option Fault) {f : Fault} → all ≡ first here later →
     here ≡ Some f → all ≡ Some f
 found later e h = rw h at e

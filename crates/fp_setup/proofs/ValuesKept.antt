@@ -34,11 +34,11 @@ use Rattle.fp_setup.specs.FaultOrder.{key_fault}
 use Rattle.fp_setup.specs.SetupOfTables.{number_of_name, nibble_word, word_of}
 use Rattle.fp_setup.proofs.Digits.{accepted, nibbles-word_of, small_values}
 
--- a fault that is found isn't none
+-- a fault isn't None
 pub some-fault : (f : Fault) → Some f ≡ None → ⊥
 some-fault f h = cc
 
--- where two checks find nothing, each of them finds nothing
+-- if two checks find nothing, each of them finds nothing
 pub parts : (here later : Option Fault) → first here later ≡ None → (here ≡ None) × (later ≡ None)
 parts None later h = (refl, h)
 parts (Some f) later h = absurd (some-fault f h)
@@ -74,7 +74,7 @@ pub permit-kept : (confined : Bool) (place : Place) (d : Data) →
 unfolding permit_check
 permit-kept confined place d h = permit-in confined place (as_bool d) h
 
--- a text has so many bytes
+-- the number of a text's bytes
 abbrev pub IsLong : ℕ → ℕ → Text → Type 0
 IsLong low high t = (low ≤ length t) × (length t ≤ high)
 
@@ -228,7 +228,7 @@ inputs-follow place index before (d ∷ ds) h =
           (λ j later. ltb-true i.at j.at later) (map input_of ds) rest.after) rest.rising;
     }
 
--- a list has at most so many elements, and their check finds nothing
+-- a list has at most that many elements, and their check finds nothing
 list-in : (most : ℕ) (check : Place → List Data → Option Fault) (place : Place)
     (o : Option (List Data)) → typed place o (few_fault most check place) ≡ None →
     (length (unwrap_or o []) ≤ most) × (check place (unwrap_or o []) ≡ None)

@@ -1,4 +1,4 @@
--- The answer of an access, and what it makes of the instruction.
+-- The result of an access, and the instruction's execution by it.
 use Rattle.std.proofs.Common.{◌≡◌, ℕ, Option, Some, None, Bool, true, false}
 use Rattle.std.proofs.Common.{inl, inr, refl, sym, ap, ap₂, subst, ◌∙◌}
 use Rattle.std.specs.Prelude.{slice_set, if◌then◌else◌, ◌==◌, ◌&&◌, not, Result, Ok, Err}
@@ -37,7 +37,7 @@ abbrev pub by_answer : ℕ → Own → ℕ → ℕ → ℕ → Result CsrDone Cs
 by_answer pc t w rd csr (Ok done) = by_written pc t w rd csr done.old done.written
 by_answer pc t w rd csr (Err refusal) = trapped pc t w cause_illegal
 
--- with a known old value, where neither the permit nor the number refuses it
+-- with a known old value, if neither the permit nor the number refuses the access
 done-same : (permit : Bool) (pc : ℕ) (t : Own) (w rd csr : ℕ) (op : CsrOp) (operand old : ℕ)
     (writes : Bool) → (is_shared csr && not permit) ≡ false → (csr == csr_mhartid) ≡ false →
     csr_done pc t w rd csr op operand writes (Some old)
@@ -56,7 +56,7 @@ done-same permit pc t w rd csr op operand old writes h m =
     go true false = refl
     go false held = refl
 
--- mhartid is read, and takes no write
+-- mhartid can be read but not written
 hart-same : (permit : Bool) (pc : ℕ) (t : Own) (w rd : ℕ)
     (op : CsrOp) (operand old : ℕ) (writes : Bool) →
     csr_done pc t w rd 0xF14 op operand writes (Some old)
@@ -166,7 +166,7 @@ csr-trap t csr value =
     go false false false true = refl
     go false false false false = refl
 
--- slots and modes leave the sleep moments
+-- slots and modes don't change the sleep moments
 pub sched-sleep : (s : Sched) (csr value : ℕ) → (sched_after s csr (Some value)).sleep ≡ s.sleep
 sched-sleep s csr value = go (csr == csr_slots) (csr == csr_modes)
   where
@@ -207,7 +207,7 @@ wrote_csr h g x d pc w rd csr value old d_is x_is timers traps sched guard =
           guard;
     })
 
--- a refused access changes nothing, so that its trap is that of the instruction
+-- a refused access changes nothing, so its trap is the instruction's
 pub refused : (h k g : Hart) (x : ExecResult) (d : Execution) (pc w : ℕ) →
     d ≡ trapped pc (own_of h) w cause_illegal → k.thread ≡ h.thread → k.timers.now ≡ h.timers.now →
     k.traps.now ≡ h.traps.now → k.sched.now ≡ h.sched.now → k.guard.now ≡ h.guard.now →
@@ -228,7 +228,7 @@ refused h k g x d pc w d_is thread timers traps sched guard r =
     own : own_of k ≡ own_of h
     own = ap₂ row_of thread units
 
--- an access that reads leaves the units as they are
+-- an access that reads changes no unit
 pub read_csr : (h g : Hart) (x : ExecResult) (d : Execution) (pc w lag rd old : ℕ) →
     d ≡ write pc (own_of h) w redirect_lag rd old → lag ≡ redirect_lag →
     g.timers.now ≡ h.timers.now → g.traps.now ≡ h.traps.now → g.sched.now ≡ h.sched.now →

@@ -44,7 +44,7 @@ reg-quiet rd value = go (rd == 0)
     go true = tt
     go false = tt
 
--- the units are left as they are, but for what is known of the thread
+-- only the thread's own state changes in the units
 pub left : (h g : Hart) (d : Execution) →
     g.timers.now ≡ slice_set h.timers.now h.thread d.own.timer →
     g.traps.now ≡ slice_set h.traps.now h.thread d.own.trap →

@@ -35,7 +35,7 @@ run-shown a pc t w x y e h = go (result_of (ins w) pc x y).trap refl h
     go (Some cause) is same = rw same tt
     go None is same = word-shown e w (shown w pc x y is)
 
--- where there is a result
+-- if there is a result
 pub some-shown : (a : Environment) (h g : Hart) (t : Own) (pc w x y : ℕ) (d : Execution)
     (r : Option ExecResult) → d.effect ≡ (run_at a pc t w x y (ins w)).effect →
     IfSome r (λ e. Refines h g e d) → IfSome r (λ e. e.word ≡ w) →

@@ -18,14 +18,14 @@ use Rattle.rv_decode.specs.declared.instruction.Ins.TheVariants.{Illegal}
 use Rattle.hart_exec.specs.declared.word_sources.TheConstants.{FIELDS}
 use Rattle.core_model.specs.Issue.{source_1, source_2}
 
--- the bits from one on and those below it, apart
+-- the bits from one on, apart from those below it
 and_at : (k n b s : ℕ) → s < 2 ^ k →
     bit_and n (b * 2 ^ k + s) ≡ bit_and (n / 2 ^ k) b * 2 ^ k + bit_and (n % 2 ^ k) s
 and_at k n b s h =
     ap (λ m. bit_and m (b * 2 ^ k + s)) (sym (div-add-mod' n (2 ^ k)))
     ∙ and_block k (n / 2 ^ k) b (n % 2 ^ k) s (mod_below n (2 ^ k) (pow_pos k)) h
 
--- the opcode but for its two lowest bits, and funct3
+-- the opcode without its two lowest bits, and funct3
 pub key_fields : (w : ℕ) → bit_and w 0x707c ≡ field w 2 5 * 4 + field w 12 3 * 4096
 key_fields w =
     let upper : bit_and w 0x707c ≡ bit_and (w / 2 ^ 12) 7 * 2 ^ 12 + bit_and (w % 2 ^ 12) 0x7c =
@@ -49,7 +49,7 @@ key_at w =
     rw (key_fields w) (key_sum (field w 2 5) (field w 12 3)
     (mod_below (w / 2 ^ 2) (2 ^ 5) (pow_pos 5)) (mod_below (w / 2 ^ 12) (2 ^ 3) (pow_pos 3)))
 
--- an entry by its parts, and what it leaves of a word
+-- an entry, by its parts; a bitwise and with it, part by part
 abbrev entry : ℕ → ℕ → ℕ → ℕ → ℕ → ℕ
 entry seven second first written low =
     (((seven * 2 ^ 5 + second) * 2 ^ 5 + first) * 2 ^ 8 + written) * 2 ^ 7 + low
@@ -67,14 +67,14 @@ left_by n seven second first written low h2 h1 hw hl =
       and_at 5 (n / 2 ^ 7 / 2 ^ 8 / 2 ^ 5) seven second h2,
     ) refl
 
--- an exclusive or with 3 leaves all above the two lowest bits
+-- an exclusive or with 3 changes only the two lowest bits
 above : (w : ℕ) → bit_xor w 3 ≡ w / 2 ^ 2 * 2 ^ 2 + bit_xor (w % 2 ^ 2) 3
 above w =
     ap (λ m. bit_xor m 3) (sym (div-add-mod' w (2 ^ 2)))
     ∙ xor_block 2 (w / 2 ^ 2) 0 (w % 2 ^ 2) 3 (mod_below w (2 ^ 2) (pow_pos 2)) (omega arith)
     ∙ ap (λ m. m * 2 ^ 2 + bit_xor (w % 2 ^ 2) 3) (xor_zero_r (w / 2 ^ 2))
 
--- which two bits it makes 0
+-- it makes both bits 0 only if both are set
 low_bits : (r : ℕ) → r < 4 → (bit_xor r 3 < 4) × (bit_xor r 3 ≡ 0 → r ≡ 3)
 low_bits zero h = (omega arith, λ e. absurd (omega (arith, e)))
 low_bits (suc zero) h = (omega arith, λ e. absurd (omega (arith, e)))
@@ -238,7 +238,7 @@ rd_zero w h =
     let m : bit_and (w / 2 ^ 7 % 2 ^ 8) 31 ≡ w / 2 ^ 7 % 2 ^ 8 % 2 ^ 5 =
     and_mask (w / 2 ^ 7 % 2 ^ 8) 5 in omega (arith, h, m)
 
--- bits of funct7 but for one
+-- the bits of funct7 but one
 f7_pair : (w : ℕ) → w < 2 ^ 32 → bit_and (field w 25 7) 126 ≡ 0 →
     (field w 25 7 ≡ 0) ⊎ (field w 25 7 ≡ 1)
 f7_pair w h z =
@@ -619,13 +619,13 @@ reads_time w (suc (suc (suc (suc (suc (suc (suc zero))))))) h hf ho e =
 reads_time w (suc (suc (suc (suc (suc (suc (suc (suc f)))))))) h hf ho e =
     absurd (omega (arith, hf))
 
--- whether bits 2 to 6 are those of an opcode of which some instruction reads a register
+-- whether some instruction of the opcode with these bits 2 to 6 reads a register
 abbrev reads_some : ℕ → Bool
 reads_some n =
     eqb n 0
     || (eqb n 2 || (eqb n 4 || (eqb n 8 || (eqb n 12 || (eqb n 24 || (eqb n 25 || (eqb n 28)))))))
 
--- whether the first n entries are 0 where they are of no such opcode
+-- whether each of the first n entries is 0 unless its opcode reads a register
 abbrev are_none : ℕ → Bool
 are_none zero = true
 are_none (suc n) = (reads_some (n / 8) || eqb (get_or FIELDS n 0) 0) && are_none n
@@ -668,7 +668,7 @@ fence_none w c true b ea eb = simp (c, ea) (refl, refl)
 fence_none w c false true ea eb = simp (c, ea, eb) (refl, refl)
 fence_none w c false false ea eb = simp (c, ea, eb) (refl, refl)
 
--- a word of another opcode, or of none
+-- a word of another opcode, or of no opcode
 reads_other : (w : ℕ) → field w 2 5 ≢ 0 → field w 2 5 ≢ 2 → field w 2 5 ≢ 4 → field w 2 5 ≢ 8 →
     field w 2 5 ≢ 12 → field w 2 5 ≢ 24 → field w 2 5 ≢ 25 → field w 2 5 ≢ 28 → Reads w 0
 unfolding lui_rows auipc_rows jal_rows
@@ -764,7 +764,7 @@ reads w h =
               ]
         ]
 
--- the same of an entry by its place, as the code has it
+-- the same for an entry by its index, as the code has it
 pub named : (w k : ℕ) → w < 2 ^ 32 → k ≡ field w 2 5 * 8 + field w 12 3 →
     bit_and (bit_and (bit_xor w 3) (get_or FIELDS k 0)) 0xfe000f83 ≡ 0 →
     (bit_and (bit_and (bit_xor w 3) (get_or FIELDS k 0) / 2 ^ 15) 31 ≡ source_1 (ins w))

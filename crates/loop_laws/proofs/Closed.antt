@@ -101,7 +101,7 @@ closed-agree plants s c n at k h l =
           (no-words plants s k n past ∙ sym (no-words plants s k c past))
     ]
 
--- and so they have the same worlds
+-- so they have the same worlds
 pub closed-worlds : (plants : ℕ → Plant) (s : Start) (c n : ℕ) → c ≤ n →
     world (closed_start plants s c) c ≡ world (closed_start plants s n) c
 closed-worlds plants s c n l =
@@ -128,7 +128,7 @@ loops-without-permits alone exist quiet plants s i n p free =
     })
     (quiet (closed_start plants s n) free n) (exist plants s i n p.thread)
 
--- the words of a port, once they are replaced
+-- the words of a port after they are replaced
 pub shown-same : (s : Start) (i : ℕ) (words : List ℕ) (at : ℕ) → i < length s.shown →
     port_word (with_shown s i words) at i ≡ get_or words at 0xFFFFFFFF
 shown-same s i words at inside =

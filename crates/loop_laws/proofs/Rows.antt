@@ -34,8 +34,8 @@ use Rattle.loop_laws.specs.Loop.{Plant, PortStore, plant_behind_port, loop_at, s
 use Rattle.loop_laws.specs.Answered.{closed_words, loop_view, plant_at, stores_before}
 use Rattle.loop_laws.specs.Sampled.{last_word, samples}
 
--- thread 0 is hard, confined and has all cycles. From cycle 1 on it loads from its port, adds 1 and
--- stores the sum there, again and again: in the cycles 4, 11 and 18
+-- Thread 0 is hard, confined and has all cycles. From cycle 1 on it loads from its port, adds 1 and
+-- stores the sum there in a loop: in the cycles 4, 11 and 18.
 controller : Start
 controller =
     record {

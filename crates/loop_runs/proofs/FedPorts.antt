@@ -35,7 +35,7 @@ fed-seen r at word a x low e = go (nat_lt a (2 ^ 64)) (lt-ltb a (2 ^ 64) low)
     go true is = ap (λ (y : ℕ). if nat_le at a then word else y) e
     go false is = absurd (true≢false (sym is))
 
--- and so an issue that hasn't come to its port yet finds it there
+-- an issue that hasn't reached its port yet finds the word there
 fed-found : (unplug : Option ℕ) (handed : Bool) (o : Option Row) (c a at word x : ℕ) → a < 2 ^ 64 →
     c ≤ a + 3 → is_some o ≡ (handed && is_port_left unplug c) → x ≡ port_read unplug o a →
     (if nat_le at a && (handed && is_plugged unplug a) then word else x)
@@ -59,7 +59,7 @@ fed-found (Some u) true (Some r) c a at word x low late there e =
     go true true p q f = absurd (grind (arith, nat_tests))
     go false false p q f = absurd (grind (arith, nat_tests))
 
--- the words of thread i's port, once it is fed
+-- the words of thread i's port after it is fed
 pub fed-word : (s : Start) (i at word n a : ℕ) → i < length s.shown → a < n →
     port_word (fed_start s i at word n) a i
     ≡ (if nat_le at a && has_port s i a then word else port_word s a i)
@@ -68,7 +68,7 @@ fed-word s i at word n a inside l =
     ∙ get_or-map-range_with_len (λ (c : ℕ). if nat_le at c && has_port s i c then word
     else port_word s c i) 0 n a a 0xFFFFFFFF l (zero-add a)
 
--- and of the others
+-- and those of the other ports
 pub other-word : (s : Start) (i at word n a k : ℕ) → k ≢ i →
     port_word (fed_start s i at word n) a k ≡ port_word s a k
 other-word s i at word n a k apart =
@@ -94,7 +94,7 @@ same-worlds s i at word n c d inside within later l =
     sym (past-words s (set s.shown i (words_fed s i at word n)) d
     (λ a k h. before-word s i at word n a k inside (omega arith) (omega arith)))
 
--- the row of a thread, once port i is fed
+-- the row of a thread after port i is fed
 pub fed-row : (ports : List (Option Row)) (i at word : ℕ) → length ports ≡ 8 → i < 8 →
     row_at (fed_ports ports i at word) i ≡ fed (row_at ports i) at word
 fed-row ports i at word eight below =

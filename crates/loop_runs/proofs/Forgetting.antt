@@ -95,7 +95,7 @@ forgot-more first (Some r) (Some t) (Some u) f g = (g.0 ∙ f.0, λ c late. g.1 
 pub all-same : (first : ℕ) (ports : List (Option Row)) → AllForgot first ports ports
 all-same first ports k l = forgot-same first (row_at ports k)
 
--- one port more forgot
+-- one more port forgot
 pub one-forgot : (first i : ℕ) (before ports after : List (Option Row)) →
     AllForgot first before ports → Forgot first (row_at ports i) (row_at after i) →
     ((k : ℕ) → k ≢ i → row_at after k ≡ row_at ports k) → AllForgot first before after
@@ -111,7 +111,7 @@ one-forgot first i before ports after all here others k l = go (k == i) refl
         subst (λ (o : Option Row). Forgot first (row_at before k) o)
         (sym (others k apart)) (all k l)
 
--- closed loops go on with the ports that forgot
+-- closed loops continue with the ports that forgot
 pub forgot-looping : (first now : List (Option Response)) (every : ℕ)
     (s : Start) (n q i c : ℕ) (m : Machine) (ports after : List (Option Row)) →
     ((t : Start) → Refines t c n m ports → Refines t c n m after) →

@@ -6,7 +6,7 @@ use Rattle.std.proofs.lemmas.List.{get_or_read}
 use Rattle.loop_runs.specs.Plants.{Continues, HasStepped, IsWord, Response}
 use Rattle.loop_runs.specs.Plants.{response_at, response_of, responses_of}
 
--- x is the plant of a thread, read from the plants, and y what it becomes
+-- x is the plant of a thread before a call, and y after it
 module _ {B : Type 0} (response : B → Response) (plants : List (Option B)) (thread : ℕ)
     (x y : Option B) (read : x ≡ get_or plants thread x) (inside : thread < length plants) where
   pub response_read : response_of response x ≡ response_at (responses_of response plants) thread

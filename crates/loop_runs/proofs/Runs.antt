@@ -96,7 +96,7 @@ one-more steps every first at after e f =
     subst (λ (x : ℕ). x * every ≡ steps * every + every) one (suc-mul steps every) in
     omega (arith, e, f, m)
 
--- a step more is within the run
+-- one more step is within the run
 pub room-for : (done steps every first at n : ℕ) → done < steps → at ≡ first + done * every →
     first + steps * every ≤ n → at + every ≤ n
 room-for done steps every first at n l e h =
@@ -145,11 +145,11 @@ front-all told after xs put =
     appends_front told after after xs [] [] xs (sym (append-nil (xs ++ []) ∙ append-nil xs)) put
     (front-none after)
 
--- nothing was put
+-- no text was written
 pub front-nothing : (told : Option (List ℕ)) (xs : List ℕ) → AppendsFront told told xs
 front-nothing told xs = front_of_more told told [] xs (front-none told)
 
--- all of the text so far was put
+-- the whole text so far was written
 pub looped-front : EventsGrow → (first now : List (Option Response)) (every : ℕ) (s : Start)
     (n k c thread : ℕ) (m : Machine) (ports : List (Option Row)) (told after : Option (List ℕ)) →
     c ≤ n → HasLooped first now every s n k 8 c thread m ports told after →
@@ -184,6 +184,6 @@ stopped-front grow first now every s n k c e thread m l ports
     (subst After (text-so-far first now every s n k c l.at thread m ports h.looping (omega arith)
     (omega arith)) stopped.with_last)
 
--- a count that rose in a later call rose in all
+-- if a count rose in a later call, it rose in the whole run
 pub rose-later : (a b c : ℕ) → a ≤ b → Rose b c → Rose a c
 rose-later a b c l rose = omega arith

@@ -1,4 +1,4 @@
--- Which words the ports show, from one sample to the next.
+-- The words that the ports show from one sample to the next.
 use Rattle.std.proofs.Common.{◌≡◌, ◌≢◌, ℕ, suc, ◌+◌, ◌*◌, ◌-◌, ◌/◌, ◌<◌, ◌≤◌, inl, inr}
 use Rattle.std.proofs.Common.{Bool, true, false, List, [], get_or, length, Some, None}
 use Rattle.std.proofs.Common.{Option, refl, ap, sym, ◌∙◌, subst, arith, true≢false}
@@ -36,7 +36,7 @@ until-most every q i j = go (nat_lt j i)
     go true = le_refl (suc q * every)
     go false = omega (arith, suc-mul q every)
 
--- one thread more doesn't change the others
+-- one more thread doesn't change the others
 pub lt-other : (i j : ℕ) → j ≢ i → nat_lt j (suc i) ≡ nat_lt j i
 lt-other i j apart =
     elim (cases_lt j i) [
@@ -65,7 +65,7 @@ past-eight : (s : Start) (shown : List (List ℕ)) (a j : ℕ) → length shown 
 past-eight s shown a j eight past =
     ap (λ (ws : List ℕ). get_or ws a 0xFFFFFFFF) (get_or-eq_default shown [] (omega (arith, eight)))
 
--- the worlds of the closed run, as far as its words are shown
+-- the same words so far give the worlds of the closed run
 pub worlds-so-far : (first : List (Option Response)) (every : ℕ) (s : Start) (n : ℕ)
     (shown : List (List ℕ)) (d : ℕ) → length shown ≡ 8 → ((a j : ℕ) → j < 8 → a < d →
     port_word (with_all_shown s shown) a j ≡ port_word (loop_start first every s n) a j) →
@@ -117,7 +117,7 @@ gone-later false unplug c a l e = refl
 gone-later true None c a l e = absurd (false≢true e)
 gone-later true (Some u) c a l e = grind (arith, nat_tests)
 
--- a port that is gone from the machine is absent from then on
+-- a port that was removed from the machine is absent from then on
 pub absent-from : (t : Start) (c n : ℕ) (m : Machine) (ports : List (Option Row)) (i a : ℕ) →
     Refines t c n m ports → i < 8 → row_at ports i ≡ None → c ≤ a → has_port t i a ≡ false
 absent-from t c n m ports i a st below none l =
@@ -131,7 +131,7 @@ kept-before false unplug c e l h = h
 kept-before true None c e l h = refl
 kept-before true (Some u) c e l h = grind (arith, nat_tests)
 
--- a port that is there now was there before
+-- a port that is present now was present before
 pub there-before : (t : Start) (c e n : ℕ) (m l : Machine) (ports later : List (Option Row))
     (i : ℕ) → Refines t c n m ports → Refines t e n l later → i < 8 → c ≤ e →
     is_some (row_at later i) ≡ true → is_some (row_at ports i) ≡ true

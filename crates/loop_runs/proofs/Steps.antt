@@ -334,7 +334,7 @@ begin-step first every s n m ports st = record {
         let e : words_end every 0 0 j ≡ 0 * every = rw (off j) refl in
         omega (arith, e, lim)
 
--- the text of the closed run, where its words are shown
+-- the text of the closed run, if its words are shown
 pub text-so-far : (first now : List (Option Response)) (every : ℕ) (s : Start) (n q c e thread : ℕ)
     (m : Machine) (ports : List (Option Row)) → (h : Looping first now every s n q 8 c m ports) →
     e ≤ n → e ≤ suc q * every → text (events (with_all_shown s h.shown) thread e)

@@ -29,7 +29,7 @@ pub never : (shown : Bool) (x y : ℕ) → shown ≡ true → shown ≡ false �
 never true x y h k = cc
 never false x y h k = cc
 
--- moments of cycles: a cycle of an advance, what is passed over behind it, and the end
+-- the moments of an advance: its cycles, those that are skipped after them, and the end
 pub up_to : (at end : ℕ) → at < end → at ≤ end
 up_to at end low = omega arith
 
@@ -61,13 +61,13 @@ pub shown_as : {s : Start} {c n thread : ℕ} {m : Machine} {rows : List (Option
 shown_as {s} {c} {n} {thread} {m} {rows} {a} {b} {line} same gone =
     subst (λ (x : Bool). Advanced s c n thread m rows x line) same gone
 
--- no cycle is done yet
+-- no cycle was done so far
 pub advance_begins : (s : Start) (n thread : ℕ) (m : Machine) (rows : List (Option Row))
     (line : List ℕ) → Refines s m.at n m rows → Advanced s m.at n thread m rows false line
 advance_begins s n thread m rows line st =
     record { refines = st; last = sym (append-nil (text (events s thread m.at))); quiet = λ h. cc }
 
--- the text after a cycle and those that are passed over behind it
+-- the text after a cycle and the skipped cycles after it
 text_after : EventsGrow → (s : Start) (n thread : ℕ) (m after later : Machine)
     (rows new : List (Option Row)) (event : Option Event) → Ticks s m.at n rows after new event →
     after.at ≡ m.at + 1 → after.at ≤ later.at → PassedOver s after.at n later new →
@@ -85,7 +85,7 @@ stands_after s n m after rows new event ticked at =
     let At : ℕ → Type 0 = λ c. Refines s c n after new in
     subst At (sym (at ∙ add-one m.at)) ticked.refines
 
--- one cycle more, with none of the thread's events, and those that are passed over behind it
+-- one more cycle without an event of the thread, and the skipped cycles after it
 pub advance_on : EventsGrow → (s : Start) (c n thread : ℕ) (m after later : Machine)
     (rows new : List (Option Row)) (event : Option Event) (old line : List ℕ) →
     Advanced s c n thread m rows false old →

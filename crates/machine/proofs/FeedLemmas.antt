@@ -37,7 +37,7 @@ turn_front s first now after k j threads t inputs of_setup there same is fed =
     ∙ get_or_from_slice_get threads k t default_thread there in
     fed ∙ ap₂ (fed_words k) is (ap (take j) (same ∙ ap (λ (x : ThreadSetup). x.inputs) (sym found)))
 
--- one input more
+-- one more input
 pub fed_more : (thread : ℕ) (first now after : List (Option Row)) (inputs : List Input)
     (k : ℕ) (d : Input) → k < length inputs → now ≡ fed_words thread first (take k inputs) →
     after ≡ fed_word thread now (get_or inputs k d) →
@@ -46,7 +46,7 @@ fed_more thread first now after inputs k d below is step =
     step ∙ ap (λ (rows : List (Option Row)). fed_word thread rows (get_or inputs k d)) is
     ∙ sym (fold_more (fed_word thread) first inputs k d below)
 
--- an input that was refused
+-- a refused input
 pub fed_none : (thread : ℕ) (now after rows : List (Option Row)) →
     after ≡ slice_set now thread (row_at now thread) → now ≡ rows → after ≡ rows
 fed_none thread now after rows kept is = kept ∙ set-get_or now thread None ∙ is

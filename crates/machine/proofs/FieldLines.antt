@@ -1,4 +1,4 @@
--- The lines by the machine's fields are those of the world.
+-- The lines from the machine's fields are those of the world.
 use Rattle.std.proofs.Common.{◌≡◌, ℕ, zero, suc, ◌+◌, ◌-◌, ◌/◌, ◌%◌, ◌<◌, Bool, true}
 use Rattle.std.proofs.Common.{false, List, [], ◌∷◌, ◌++◌, get_or, length, Some, None}
 use Rattle.std.proofs.Common.{Option, refl, ap, ap₂, sym, ◌∙◌, arith, lit<, append_assoc}

@@ -1,4 +1,4 @@
--- The ports that are taken away, and what the pipeline finds at the others.
+-- The removed ports, and the words that the pipeline finds at the others.
 use Rattle.std.proofs.Common.{◌≡◌, ◌≢◌, ℕ, zero, suc, ◌+◌, ◌-◌, ◌<◌, ◌≤◌, inl}
 use Rattle.std.proofs.Common.{inr, Bool, true, false, List, get_or, set, length}
 use Rattle.std.proofs.Common.{Some, None, Option, refl, ap, sym, subst, ◌∙◌, arith}
@@ -21,7 +21,7 @@ use Rattle.machine.specs.FieldLaws.{Unplugs, GoesOn}
 abbrev pub left_of : List (Option ℕ) → ℕ → List (Option Row) → ℕ → Option Row
 left_of unplugs c ports k = if stays_in (get_or unplugs k None) c then row_at ports k else None
 
--- one more thread's port may be gone
+-- one more port may be removed
 abbrev pub one_less : Bool → List (Option Row) → ℕ → List (Option Row)
 one_less stays rest j = if stays then rest else set rest j None
 
@@ -163,7 +163,7 @@ seen-words : (o : Option Row) (c : ℕ) →
 seen-words None c = refl
 seen-words (Some r) c = refl
 
--- an issue that hasn't come to its port yet finds there after the cycle what it found before
+-- an issue that hasn't reached its port yet finds the same words there after the cycle
 found-left : (unplug : Option ℕ) (o : Option Row) (c at : ℕ) → suc c ≤ at + 3 →
     port_read unplug (if stays_in unplug c then o else None) at ≡ port_read unplug o at
 found-left None o c at h = refl

@@ -34,7 +34,7 @@ line_taken before between after line k first second =
     subst Told (sym (next_line line k))
     (appends_more before between after (flat_map line (range_with_len 0 k)) (line k) first second)
 
--- a line is begun, of all
+-- a line was written in part
 pub line_begun : (before between after : Option (List ℕ)) (line : ℕ → List ℕ) (k n : ℕ) →
     k < n → Appends before between (flat_map line (range_with_len 0 k)) →
     AppendsFront between after (line k) →

@@ -1,4 +1,4 @@
--- Turns of other threads put nothing, and where no port is ever taken away none is due.
+-- Turns of other threads write nothing. If no port is ever removed, none is due.
 use Rattle.std.proofs.Common.{◌≡◌, ℕ, zero, suc, ◌+◌, List, [], ◌∷◌, get_or, false}
 use Rattle.std.proofs.Common.{Some, None, Option, refl, subst, ap, ◌∙◌, add-one}
 use Rattle.std.specs.Prelude.{◌==◌, is_some, if◌then◌else◌, slice_index_or, slice_set}
@@ -30,7 +30,7 @@ pub none_due : (unplugs : List (Option ℕ)) (cycle : ℕ) (rows : List (Option 
 none_due unplugs cycle rows zero h = refl
 none_due unplugs cycle rows (suc k) h = rw (none_at unplugs k h) (none_due unplugs cycle rows k h)
 
--- one thread more
+-- one more thread
 pub kept_more : (unplugs : List (Option ℕ)) (cycle : ℕ) (first now after : List (Option Row))
     (k : ℕ) → now ≡ ports_left_in unplugs cycle first k →
     after ≡ (if stays_in (slice_index_or unplugs k None) cycle then now else slice_set now k None) →

@@ -31,7 +31,7 @@ left_words before None stays h = tt
 left_words before (Some r) true h = sym h
 left_words before (Some r) false h = cc
 
--- a port that shows in a cycle what it showed, unless it was due
+-- a port shows the same word in a cycle, unless its removal was due
 pub left_is : (before after left : Option Row) (unplug : Option ℕ) (c : ℕ) →
     port_words after ≡ port_words left → left ≡ (if stays_in unplug c then before else None) →
     IsLeft before after
@@ -51,7 +51,7 @@ left_all ports k below = go (row_at ports k)
     go None = tt
     go (Some r) = refl
 
--- a cycle, by the ports that are left in it
+-- a cycle, with the ports that are left
 pub ticks : (s : Start) (n : ℕ) (m after : Machine)
     (rows between new : List (Option Row)) (event : Option Event) → length rows ≡ 8 →
     between ≡ ports_left_in m.unplugs m.at rows 8 → m.at < n + 3 → Refines s m.at n m rows →
@@ -100,7 +100,7 @@ text-next grows s i c event e =
     ∙ text-append (events s i c) (of_thread i (event_in (c - 4) (turn_at s c 3)))
     ∙ ap (λ x. text (events s i c) ++ text (of_thread i x)) (sym e)
 
--- later cycles leave the text of earlier ones
+-- later cycles don't change the text of earlier ones
 text_goes_on : EventsGrow → (s : Start) (i c more : ℕ) →
     (rest : List ℕ) × (text (events s i (c + more)) ≡ text (events s i c) ++ rest)
 text_goes_on grows s i c zero = ([], rw (add-zero c) (sym (append-nil (text (events s i c)))))
@@ -149,7 +149,7 @@ run_on grows s k n thread first m after rows new before between now event run at
     let Run : ℕ → Type 0 = λ c. HasRun s c n thread first after new before now in
     subst Run (sym (add-one k)) done
 
--- a run goes on over cycles that have no event of the thread's
+-- a run continues over cycles without an event of the thread
 pub run_goes : (s : Start) (n thread : ℕ) (first : List (Option Row)) (m after : Machine)
     (rows new : List (Option Row)) (before now : Option (List ℕ)) (line : List ℕ) →
     HasRun s m.at n thread first m rows before now →
@@ -166,7 +166,7 @@ run_goes s n thread first m after rows new before now line run ahead left =
           (left i below);
     }
 
--- and over those up to a line, which was put
+-- a run continues over cycles up to a line, which was written
 pub run_shows : (s : Start) (n thread : ℕ) (first : List (Option Row)) (m after : Machine)
     (rows new : List (Option Row)) (before between now : Option (List ℕ)) (line : List ℕ) →
     HasRun s m.at n thread first m rows before between →

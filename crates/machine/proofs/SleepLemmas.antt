@@ -45,7 +45,7 @@ false-right : (b : Bool) → (b && false) ≡ false
 false-right true = refl
 false-right false = refl
 
--- a search among threads of which none passes
+-- a search among threads that all fail the test
 nobody_found : (p : ℕ → Bool) (last : ℕ) (steps : List ℕ) →
     ((thread : ℕ) → thread < 8 → p thread ≡ false) → find p (map (λ d. (last + d) % 8) steps) ≡ None
 nobody_found p last [] none = refl
@@ -80,11 +80,11 @@ sleeps_on next u c asleep =
     ap (λ (picked : Picked). finish (empty next) u c picked stage.Bubble left) (nobody_picked
     (sched_by u.control.registers u.control.sleeps) c (time u.period c) u.last asleep)
 
--- the machine, come to another cycle
+-- the machine at another cycle
 abbrev pub come_to : Machine → ℕ → Machine
 come_to m c = record m { at = c }
 
--- one cycle that is passed over
+-- one skipped cycle
 slept : (s : Start) (c n : ℕ) (m : Machine) (rows : List (Option Row)) → length rows ≡ 8 →
     list_any is_some m.unplugs ≡ false → abstract_stages m.pipe ≡ empty m.pipe.next →
     NobodyAwake m.units.sched (time m.units.clock c) → c < n + 3 →
@@ -111,7 +111,7 @@ slept s c n m rows eight none is asleep within st =
         subst (λ (t : Ticked). RefinesNext s c rows t) same
         (keeps s c (abstract_stages m.pipe) (abstract_state m.units rows) begins shows refines)
 
--- where the machine stays no cycle is passed over
+-- a machine that stays at its cycle has skipped none
 pub stays : (s : Start) (n : ℕ) (m : Machine) (rows : List (Option Row)) → Refines s m.at n m rows →
     PassedOver s m.at n m rows
 stays s n m rows st = record { refines = st; quiet = λ k low below. absurd (omega arith) }
@@ -140,7 +140,7 @@ passes s c n (suc j) m rows eight none is asleep within st =
     record { refines = ticked.refines; quiet = quiet } in
     subst (λ (d : ℕ). PassedOver s c n (come_to m d) rows) (sym next) done
 
--- the cycles up to d are passed over
+-- the cycles up to d are skipped
 pub passed_over : (s : Start) (n d : ℕ) (m : Machine) (rows : List (Option Row)) → length rows ≡ 8 →
     list_any is_some m.unplugs ≡ false → abstract_stages m.pipe ≡ empty m.pipe.next → m.at ≤ d →
     ((k : ℕ) → m.at ≤ k → k < d → NobodyAwake m.units.sched (time m.units.clock k)) → d ≤ n + 3 →
@@ -180,7 +180,7 @@ before_waking s wakes now least before thread below = go (is_active (mode_of s.m
     go false e = refl
     go true e = late (get_or s.sleep thread 0) (least thread below e)
 
--- a thread has no event more after cycles in which none retires
+-- a thread has no more events after cycles in which none retires
 quiet_events : EventsGrow → (s : Start) (i c j : ℕ) →
     ((k : ℕ) → c ≤ k → k < c + j → event_in (k - 4) (turn_at s k 3) ≡ None) →
     events s i (c + j) ≡ events s i c
@@ -199,7 +199,7 @@ no_events_passed grows s i c n m rows forth passed =
     ap (λ d. events s i d) (sym there) ∙ quiet_events grows s i c (m.at - c)
     (λ k low below. passed.quiet k low (omega (arith, forth, below)))
 
--- a run goes on over cycles that are passed over
+-- a run continues over skipped cycles
 pub run_passes : EventsGrow → (s : Start) (k n thread : ℕ) (first : List (Option Row))
     (m after : Machine) (rows : List (Option Row)) (before now : Option (List ℕ)) →
     m.at ≡ k → m.at ≤ after.at → (Refines s m.at n m rows → PassedOver s m.at n after rows) →

@@ -24,7 +24,7 @@ use Rattle.machine.specs.WorldRelation.{IsLeft, AreLeft}
 use Rattle.machine.specs.PortLaws.{LeavesPorts}
 use Rattle.machine.proofs.RunLemmas.{left_is, left_more}
 
--- a store leaves the words of every port
+-- a store changes no word that a port shows
 written-words : (row : Option Row) (value : ℕ) →
     port_words (row_with_word row value) ≡ port_words row
 written-words None value = refl
@@ -67,7 +67,7 @@ row-words before after k same =
     sym (get_or-map port_words after k None) ∙ ap (λ xs. get_or xs k None) same
     ∙ get_or-map port_words before k None
 
--- the ports that a cycle leaves show the words from before
+-- the ports that a cycle leaves show the same words as before
 pub cycle_words : (m : Machine) (rows between : List (Option Row)) (t : Ticked) → length rows ≡ 8 →
     between ≡ ports_left_in m.unplugs m.at rows 8 → t ≡ step (abstract_stages m.pipe)
     (abstract_state m.units between) m.at → AreLeft rows t.state.ports
@@ -79,7 +79,7 @@ cycle_words m rows between t eight is stepped k below =
     (get_or m.unplugs k None) m.at (row-words between t.state.ports k same)
     (ap (λ (xs : List (Option Row)). row_at xs k) is ∙ kept-row m.unplugs m.at rows k eight below)
 
--- a port that is there is what was there with another latch
+-- a port that is left is the one from before, with another latch
 row_is : (before after : Option Row) (there : Bool) (latch : ℕ) → is_some after ≡ there →
     IsLeft before after → IfSome after (λ row. row.latch ≡ latch) →
     after ≡ (if there then row_with_word before latch else None)
@@ -98,7 +98,7 @@ pub words_on : (first rows new : List (Option Row)) → AreLeft first rows → A
 words_on first rows new before now k below =
     left_more (row_at first k) (row_at rows k) (row_at new k) (before k below) (now k below)
 
--- the ports after cycles of a world are those that were there, with the latches of the world
+-- the ports after cycles of a world are those from before, with the latches of the world
 pub ports_after : LeavesPorts
 ports_after s c n m before after st left k below =
     row_is (row_at before k) (row_at after k) (get_or s.handed k false

@@ -32,7 +32,7 @@ thin Bubble = Bubble
 thin (Flushed k) = Flushed k
 thin (Issue k d) = Issue k (record { pc = d.pc; word = d.word })
 
--- where a turn goes on in D it was in f
+-- a turn that continues in D was in the register after F
 from-decoded : (bank : List (List ℕ)) (m : Held Stored) (e : Held Executed) (timers : List Timer)
     (r : Option Redirect) (now : ℕ) (f : Held Fetched) (k : ℕ) (d : Decoded) →
     decode_stage bank m e timers r now f ≡ Issue k d → f ≡ thin (Issue k d)

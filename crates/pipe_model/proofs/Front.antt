@@ -23,7 +23,7 @@ use Rattle.pipe_model.specs.Relation.{issues, pc_after_issue, execution_in, in_e
 use Rattle.pipe_model.proofs.Moved.{did-pace, unequal, equals}
 use Rattle.pipe_model.proofs.Late.{redirect_in}
 
--- all but a control register's effect is forwarded
+-- every effect but that of a CSR instruction is forwarded
 forwards : (e : Option Effect) (regs : List ℕ) → is_csr e ≡ false →
     regs_after e regs ≡ forward e regs
 forwards None regs h = refl
@@ -42,7 +42,7 @@ after-is s n w after k pc word effect l t =
     ap (λ (xs : List Thread). get_or xs k (fresh 0)) t.threads
     ∙ get_or-set_same w.threads k (issue_of s n w k).thread (fresh 0) (rw l t.below)
 
--- a turn that didn't flush a later one: its register is in m
+-- a turn that didn't flush a later one has its register value in the register after M
 pub forwarded-m : (s : Start) (n : ℕ) (w after : World) (took : Took) (k : ℕ) →
     length w.threads ≡ 8 → Turned s n w took after →
     ((issues k took ≡ true) → (thread_of after k).ready ≤ n + 2) →

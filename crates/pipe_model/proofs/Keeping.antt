@@ -1,4 +1,4 @@
--- One cycle takes what refines cycle c to what refines c + 1.
+-- A cycle takes a state that refines cycle c to one that refines c + 1.
 use Rattle.std.proofs.Common.{◌≡◌, ℕ, suc, ◌+◌, ◌-◌, ◌<◌, ◌≤◌, ◌⊎◌, inl, inr, Bool, true, false}
 use Rattle.std.proofs.Common.{List, get_or, length, refl, ap, ap₂, sym, ◌∙◌, subst, subst₂, arith}
 use Rattle.std.specs.Prelude.{if◌then◌else◌, Option, nat_lt}
@@ -310,7 +310,7 @@ module _ (s : Start) (c : ℕ) (begins : Begins s) where
     step-kept =
         let P : Ticked → Type 0 = RefinesNext s c ports in subst P (sym stepped) outcome-kept
 
--- the whole
+-- the whole cycle
 pub keeps : (s : Start) (c : ℕ) (p : StageRegisters) (u : State) → Begins s →
     PortsRefine s c u.ports → Refines s c p u → RefinesNext s c u.ports (step p u c)
 keeps s c p u begins shows refines =

@@ -38,7 +38,7 @@ pub row-is : (w : World) (k : ℕ) → length w.threads ≡ 8 → k < 8 →
 row-is w k l h =
     let f : Thread → List ℕ = λ t. t.regs in bounded.get_or-map f w.threads k (fresh 0) [] (rw l h)
 
--- W: the bank goes on by the turn in m
+-- W: the bank after the turn in the register before W
 pub writes : (s : Start) (n : ℕ) (w after : World) (t : Took) → length w.threads ≡ 8 →
     Turned s n w t after → bank_after (in_memory t) (bank_in w) ≡ bank_in after
 unfolding bank_after issue
@@ -50,7 +50,7 @@ writes s n w after (Ran k pc word effect) l t =
     (row-is w k l t.below) ∙ sym (map-set f w.threads k (issue_of s n w k).thread)
     ∙ ap (map f) (sym t.threads)
 
--- M: a late value is what the world's issue finds
+-- M: the late value is the one that the world's issue finds
 pub stored-is : (s : Start) (n : ℕ) (w after : World) (ports : List (Option Row)) (t : Took) →
     Turned s n w t after → ((k : ℕ) → k < 8 → word_seen (row_at ports k) n ≡ port_word s n k) →
     memory_stage s.size s.i_words w.d_words ports n (in_execute s n w t) ≡ in_memory t
@@ -102,7 +102,7 @@ unfolding ins rows lui_rows auipc_rows jal_rows jalr_rows branch_rows load_rows 
     op_rows fence_rows system_rows time_rows
 ins-zero = refl
 
--- the operands, with the word that the turn shows
+-- the operands, by the word of the turn
 shown-operand : (w v : ℕ) (x : ℕ) (regs : List ℕ) (source : ℕ → ℕ) →
     source 0 ≡ 0 → x ≡ reg_in regs (source w) → (v ≡ w) ⊎ (v ≡ 0) →
     (if v == 0 then 0 else x) ≡ reg_in regs (source v)
@@ -161,7 +161,7 @@ abbrev pub after_in : Start → ℕ → World → World → Took → After
 after_in s n w after t =
     record { e = in_execute s n w t; control = control_in after; redirect = redirect_in s n w t }
 
--- nothing of it changes with the list of turns
+-- worlds that differ only in the list of turns have the same control
 still : (w after : World) → Same w after → control_in w ≡ control_in after
 still w after h = λ j. record {
   registers = sym h.registers j;

@@ -1,4 +1,4 @@
--- The ports over one turn in M.
+-- The ports after one turn in M.
 use Rattle.std.proofs.Common.{◌≡◌, ℕ, zero, suc, ◌+◌, ◌-◌, ◌<◌, ◌≤◌, ◌⊎◌, inl}
 use Rattle.std.proofs.Common.{inr, Bool, true, false, List, get_or, set, length}
 use Rattle.std.proofs.Common.{Some, None, refl, ap, sym, ◌∙◌, subst, subst₂, arith}
@@ -47,7 +47,7 @@ eight_latches s zero b = b.latches
 eight_latches s (suc c) b =
     count_after s c (world s c) (world s (suc c)) _ (nexts s c).turned ∙ eight_latches s c b
 
--- a port that is there in cycle n + 3 was there for the turn of cycle n
+-- a port that is present in cycle n + 3 was present for the turn of cycle n
 was_there : (u : Option ℕ) (n c : ℕ) → c ≡ n + 3 → stays_in u c ≡ true → is_plugged u n ≡ true
 was_there None n c e h = refl
 was_there (Some u) n c e h = grind (arith, nat_tests)
@@ -60,7 +60,7 @@ shown-written : (row : Option Row) (value : ℕ) → Shown (row_with_word row va
 shown-written None value = tt
 shown-written (Some r) value = refl
 
--- a store of a value at the port of thread j: its row, with the row that was there
+-- a store at the port of thread j: its row, from the row before it
 row-put : (ports : List (Option Row)) (j value : ℕ) (P : Option Row → Type 0) →
     P None → P (row_with_word (row_at ports j) value) →
     P (row_at (set ports j (row_with_word (row_at ports j) value)) j)
@@ -76,7 +76,7 @@ row-put ports j value P none some = go (cases_lt j (length ports))
         let past : row_at ports j ≡ None = get_or_past ports j None l in
         subst (λ (xs : List (Option Row)). P (row_at xs j)) (sym same) (subst P (sym past) none)
 
--- it shows what it did
+-- it shows the same words as before
 same-written : (row : Option Row) (value : ℕ) →
     port_words (row_with_word row value) ≡ port_words row
 same-written None value = refl
@@ -123,8 +123,8 @@ same-ports ports Idle k = refl
 same-ports ports (Lost j) k = refl
 same-ports ports (Ran j pc word effect) k = same-effect ports j effect k
 
--- the latches of ports and world after an effect of thread j, whose port is there for the world
--- where it is there
+-- The latches of ports and world after an effect of thread j. If its port is present, it is present
+-- in the world.
 module _ (j : ℕ) (there : Bool) (ports : List (Option Row)) (ls : List ℕ) (eight : length ls ≡ 8)
     (below : j < 8) (has : (k : ℕ) → k < 8 → Shown (row_at ports k) (get_or ls k 0))
     (real : is_some (row_at ports j) ≡ true → there ≡ true) where
@@ -174,7 +174,7 @@ module _ (j : ℕ) (there : Bool) (ports : List (Option Row)) (ls : List ℕ) (e
   shown-effect (Some (Trap x y)) k h = has k h
   shown-effect (Some Wait) k h = has k h
 
--- M: ports that have the latches of the world before a turn have those of the world after it
+-- M: ports with the latches of the world before a turn have those of the world after it
 pub ports-is : (s : Start) (n : ℕ) (w after : World) (ports : List (Option Row)) (t : Took) →
     length w.latches ≡ 8 → Turned s n w t after →
     ((k : ℕ) → k < 8 → is_some (row_at ports k) ≡ true → has_port s k n ≡ true) →
@@ -186,7 +186,7 @@ ports-is s n w after ports (Ran j pc word effect) l t real has =
     λ k h. rw t.latches
     (shown-effect j (has_port s j n) ports w.latches l t.below has (real j t.below) effect k h)
 
--- a port that is there in cycle c was there for the turn of c - 3
+-- a port that is present in cycle c was present for the turn of c - 3
 pub plugged : (s : Start) (c k : ℕ) → 2 < c →
     (there : Bool) → there ≡ (get_or s.handed k false && stays_in (get_or s.unplugs k None) c) →
     there ≡ true → has_port s k (c - 3) ≡ true

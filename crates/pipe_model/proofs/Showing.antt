@@ -32,7 +32,7 @@ fetched-shown s c w turn (chosen.Issue k) = go (nat_le c (thread_of w k).ready)
     go true = refl
     go false = refl
 
--- the word of what is executed
+-- the word of an execution
 act-shown : (a : Environment) (pc : ℕ) (t : Own) (expired : Bool) (w x y : ℕ) →
     (execute_in a pc t expired w x y).word ≡ (if expired then 0 else if a.fetch pc then w else 0)
 unfolding execute_in

@@ -21,7 +21,7 @@ use Rattle.core_model.specs.Issue.{source_1, csr_op, csr_operand, csr_writes}
 use Rattle.core_model.proofs.Pace.{run-word}
 use Rattle.pipe_model.specs.Contents.{is_expiry, before_late, address_of, unless_trapped}
 
--- no expiry; no register but by a late value; the address, if it doesn't trap
+-- no expiry; a register value only as a late value; the address, if there is no trap
 abbrev Told : Option ℕ → ℕ → Execution → Type 0
 Told o address d =
     (is_expiry d.effect ≡ false) × (before_late o d.effect ≡ d.effect)
@@ -129,7 +129,7 @@ goes-told a pc t w x y (i.Ee rs1 rs2) = (refl, refl, refl)
 goes-told a pc t w x y i.De = (refl, refl, refl)
 goes-told a pc t w x y (i.Illegal v) = (refl, refl, refl)
 
--- no instruction's own trap is an expiry
+-- the trap of an instruction's result is no expiry
 abbrev Below : Option ℕ → Type 0
 Below (Some cause) = (cause == 24) ≡ false
 Below None = Unit {0}
@@ -171,7 +171,7 @@ run-told a pc t w x y n =
     unless-told pc t w (late_rd n) (address_of n x) _ _ (result-below pc x y n)
     (goes-told a pc t w x y n)
 
--- of the whole act, on the value of its word's first source
+-- of the whole instruction, by the value of its word's first source
 pub record ActTold (regs : List ℕ) (expired : Bool) (d : Execution) : Type 0 where
   pub expiry : is_expiry d.effect ≡ expired
   pub early : before_late (late_rd (ins d.word)) d.effect ≡ d.effect

@@ -44,7 +44,7 @@ module _ (s : Start) (c : ℕ) (w3 w2 w1 w0 : World) (t2 t1 t0 : Took) (pcs : Li
   abbrev pub bank : List (List ℕ)
   bank = bank_in w3
 
-  -- D: a turn that goes on
+  -- D: a turn that continues
   decoded-is : (k : ℕ) → k < 8 → Spared s c (c - 2) w2 w1 t1 k pcs →
       (thread_of w2 k).regs ≡ from_m k (in_memory t2) (thread_of w3 k).regs →
       (let x = fetched_in s w2 t1 k in
@@ -99,7 +99,7 @@ module _ (s : Start) (c : ℕ) (w3 w2 w1 w0 : World) (t2 t1 t0 : Took) (pcs : Li
           (ap (λ (d : Decoded). Issue k d) (decoded-is k t.below f ((fates k t.below).regs below)))
       go (inr f) = let l = t.ready in let m = f.late in absurd (omega arith)
 
-  -- a thread's turn in f goes on exactly where it is an issue
+  -- a thread's turn in the register after F continues exactly if it is an issue
   spared-fetches : (k : ℕ) (t : Took) → Spared s c (c - 2) w2 w1 t1 k pcs →
       Turned s (c - 1) w1 t w0 → (0 < c) ⊎ (t ≡ Idle) →
       fetches k (in_fetch s c w2 t1 (pick_in t)) ≡ issues k t
@@ -150,8 +150,8 @@ module _ (s : Start) (c : ℕ) (w3 w2 w1 w0 : World) (t2 t1 t0 : Took) (pcs : Li
           let l : (thread_of w1 k).ready ≤ c - 1 = subst P (equals j k e) t.ready in
           absurd (omega arith)
 
-  -- after the redirect: flushed in F exactly where the first ready cycle is above c, and the pc to
-  -- fetch next
+  -- after the redirect: a turn is flushed in F exactly if its first ready cycle is above c; the
+  -- next pc
   pub record Ahead (k : ℕ) : Type 0 where
     pub two : flushes_f k r ≡ nat_le (suc c) (thread_of w1 k).ready
     pub next : get_or (next_after_redirect r pcs) k 0

@@ -1,4 +1,4 @@
--- A cycle with ports that were read before it: reading leaves their rows.
+-- A cycle after its ports were read: reading doesn't change their rows.
 use Rattle.std.proofs.Common.{◌≡◌, ℕ, ◌+◌, ◌-◌, ◌<◌, List, Option, subst}
 use Rattle.fp_ports.specs.PluggedPorts.{Row}
 use Rattle.rv_exec.specs.declared.outcome.Event.{Event}

@@ -1,4 +1,4 @@
--- Registers, with what is on its way to them.
+-- Registers, with the values in flight.
 use Rattle.std.proofs.Common.{◌≡◌, ◌≢◌, ℕ, ◌-◌, Bool, true, false}
 use Rattle.std.proofs.Common.{List, [], Some, None, length, refl, arith}
 use Rattle.std.specs.Prelude.{if◌then◌else◌, Option, ◌==◌, slice_index_or, slice_set}
@@ -13,7 +13,7 @@ use Rattle.pipe_model.specs.declared.stage_registers.Executed.{Executed}
 use Rattle.pipe_model.specs.declared.stage_registers.Stored.{Stored}
 use Rattle.pipe_model.specs.Stages.{forward, from_m, operand}
 
--- their number stays
+-- the number of registers stays
 forward-length : (e : Option Effect) (regs : List ℕ) → length (forward e regs) ≡ length regs
 forward-length None regs = refl
 forward-length (Some Nothing) regs = refl
@@ -37,7 +37,7 @@ from_m_length k (Issue j x) regs = go (j == k)
     go true = forward-length x.effect regs
     go false = refl
 
--- a register, where the turn in E is the thread's, and where it is another's
+-- a register, if the turn in E is the thread's, and if it is another's
 pub forwarded : (bank : List (List ℕ)) (m : Held Stored) (e : Held Executed)
     (k j : ℕ) (what : Executed) (x v : ℕ) → e ≡ Issue j what → j ≡ k →
     v ≡ reg_in (forward what.effect (from_m k m (slice_index_or bank k []))) x →

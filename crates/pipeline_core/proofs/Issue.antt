@@ -63,7 +63,7 @@ registers-by (Some Wait) s g = refl
 abbrev pub control_of : Units → Control
 control_of u = abstract_control u.sched u.guard u.timers u.traps
 
--- an instruction leaves in the units what it leaves in the control
+-- an instruction changes the control as it changes the units
 pub controls : (k : ℕ) (d : Execution) (u : Units) →
     control_of (units_after k d u) ≡ control_after k d (control_of u)
 controls k d u = λ j. record {

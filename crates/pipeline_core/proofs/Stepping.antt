@@ -17,12 +17,12 @@ use Rattle.pipe_model.specs.Stages.{writeback_stage, memory_stage, words_stored,
 use Rattle.pipe_model.specs.Stages.{execute_stage, next_after_redirect, fetch_stage}
 use Rattle.pipe_model.specs.Stages.{next_after_fetch, decode_stage, retired_event, step}
 
--- with no redirect the pcs to fetch next stay
+-- without a redirect the next pcs stay
 pub straight : (next : List ℕ) → next ≡ next_after_redirect None next
 unfolding next_after_redirect
 straight next = refl
 
--- the state behind W and M, and that behind E
+-- the state after W and M, and the state after E
 abbrev pub older : StageRegisters → State → Held Stored → State
 older p u m = record u {
   bank = bank_after p.m u.bank;

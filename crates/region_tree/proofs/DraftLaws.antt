@@ -37,7 +37,7 @@ draft-is memory s loops is rules = record {
       (filter_passes (counts s) loops) h);
 }
 
--- the same, by what its parts are
+-- the same, by its section, words and loops
 pub draft-of : (memory : ℕ → ℕ) (s : Section) (loops : List LoopSetup)
     (words : List ℕ) (counting : List LoopSetup) → words ≡ section_words memory s →
     counting ≡ filter (counts s) loops → IsSection s → AreLoops loops →
@@ -47,7 +47,7 @@ draft-of memory s loops words counting w c is rules =
     (subst (λ l. IsDraft (record { section = s; words = l; loops = filter (counts s) loops }))
     (sym w) (draft-is memory s loops is rules))
 
--- the same, with any words that are as many
+-- the same, with another list of words of the same length
 pub draft-with : (s : Section) (loops : List LoopSetup) (words : List ℕ)
     (counting : List LoopSetup) → s.to ≡ s.from + 4 * length words →
     counting ≡ filter (counts s) loops → IsSection s → AreLoops loops →
@@ -65,7 +65,7 @@ draft-with s loops words counting count c is rules =
           (filter_passes (counts s) loops) h);
     })
 
--- one word more
+-- one more word
 pub words-more : (memory : ℕ → ℕ) (from n w : ℕ) (words words' : List ℕ) →
     words' ≡ words ++ w ∷ [] → w ≡ memory (from + 4 * n) → words ≡ map (λ k. memory (from + 4 * k))
     (range_with_len 0 n) → words' ≡ map (λ k. memory (from + 4 * k)) (range_with_len 0 (n + 1))

@@ -1,4 +1,4 @@
--- The lowest address of which a fact holds, found bit by bit.
+-- The lowest address at which a fact holds, found bit by bit.
 use Rattle.std.proofs.Common.{◌≡◌, ℕ, ◌+◌, ◌-◌, ◌/◌, ◌%◌, ◌^◌, ◌≤◌, ◌<◌, ◌⊎◌, ◌↔◌}
 use Rattle.std.proofs.Common.{min, refl, arith, inl, inr, sym, subst, ◌∙◌, Option}
 use Rattle.std.proofs.Common.{Some, None, Bool, true, false, List, length, Contains}
@@ -50,7 +50,7 @@ lowest-either P Q (Some x) (Some y) p q = record {
     pick (inl e) = inl (subst P (sym e) p.holds)
     pick (inr e) = inr (subst Q (sym e) q.holds)
 
--- of one index more
+-- of one more index
 pub lowest-next : (C : ℕ → ℕ → Type 0) (n : ℕ) (f r : Option ℕ) → LowestOf (Before C n) f →
     LowestOf (C n) r → LowestOf (Before C (n + 1)) (lower_of f r)
 lowest-next C n f r p q =
@@ -271,7 +271,7 @@ lowest-never t P n d all is none b h =
     none ((b - t.section.from) / 4)
     (let z = index-within t d b (reachable-lies t d b r) in omega arith) (subst P (sym at) h)
 
--- a word that leads back without a bound, by its two edges
+-- a word with a back edge without a bound, by its two edges
 pub unbounded-by : (t : Tree) (k : ℕ) → Reachable (graph t) (address t k) →
     let e = edges_of (word_at t (address t k)) (address t k) in
     ReturnsBadly t (address t k) e.next ⊎ ReturnsBadly t (address t k) e.jump →

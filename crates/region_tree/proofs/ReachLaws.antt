@@ -1,4 +1,4 @@
--- Following edges until no word is left to do.
+-- Following edges until no pending word is left.
 use Rattle.std.proofs.Common.{◌≡◌, ◌≢◌, ℕ, ◌+◌, ◌-◌, ◌/◌, ◌≤◌, ◌<◌, ◌⊎◌, ◌&&◌, nat_le}
 use Rattle.std.proofs.Common.{nat_lt, cond, if◌then◌else◌, refl, arith, inl, inr, ap}
 use Rattle.std.proofs.Common.{sym, subst, ◌∙◌, Option, Some, None, Bool, true, false}
@@ -25,7 +25,7 @@ use Rattle.region_tree.proofs.GraphLaws.{index-address, address-index}
 pub is_or_not : (a b : ℕ) → (a ≡ b) ⊎ (a ≢ b)
 is_or_not a b = grind arith
 
--- a word that wasn't met yet
+-- a word that isn't marked yet
 pub visited : (index : Option ℕ) (k : ℕ) (met : List Bool) (todo todo' : List ℕ) →
     index ≡ Some k → k < length met → is_met met k ≡ false → todo' ≡ todo ++ k ∷ [] →
     IsVisited index met (slice_set met k true) todo todo'
@@ -69,7 +69,7 @@ visited index k met todo todo' is lt fresh pushed = record {
     came u h (inl same) = inr (is ∙ ap Some (sym same))
     came u h (inr other) = inl (sym (get_or-set_other met k u true false other) ∙ h)
 
--- a word that is met has an index
+-- a marked word has an index
 pub met-within : (met : List Bool) (k : ℕ) → is_met met k ≡ true → k < length met
 met-within met k h = go (let z : (k < length met) ⊎ (length met ≤ k) = grind arith in z)
   where
@@ -77,7 +77,7 @@ met-within met k h = go (let z : (k < length met) ⊎ (length met ≤ k) = grind
     go (inl lt) = lt
     go (inr past) = absurd (let z : false ≡ true = sym (get_or_past met k false past) ∙ h in cc)
 
--- where a target lies in the section its index is that of the word
+-- the index of a target that lies in the section
 pub index-is : (s : Section) (v k : ℕ) → index_of s (Some v) ≡ Some k →
     (s.from ≤ v) × (v < s.to) × (k ≡ (v - s.from) / 4)
 index-is s v k e = go (nat_le s.from v) (nat_lt v s.to) refl refl e
@@ -143,7 +143,7 @@ gather-pop t met todo todo' k is g = record {
   ];
 }
 
--- a target of a reachable word, where it lies in the section
+-- a target of a reachable word, if it lies in the section
 abbrev pub Leads : Tree → Option ℕ → Type 0
 Leads t target = (v : ℕ) → target ≡ Some v → Lies (graph t) v → Reachable (graph t) v
 

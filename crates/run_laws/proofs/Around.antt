@@ -1,4 +1,4 @@
--- A confined thread finds the same around it in the world and by itself.
+-- The surroundings of a confined thread are the same in the world and by itself.
 use Rattle.std.proofs.Common.{◌≡◌, ℕ, ◌+◌, ◌<◌, Bool, true, false, ◌&&◌}
 use Rattle.std.proofs.Common.{List, get_or, refl, ap, ap₂, sym, ◌∙◌, zero-add}
 use Rattle.std.specs.Prelude.{if◌then◌else◌, Option}
@@ -21,7 +21,7 @@ use Rattle.run_laws.proofs.RegionKinds.{kind-is, sees-is}
 use Rattle.run_laws.proofs.Issues.{acts, acts-alike, effect-alike}
 use Rattle.run_laws.proofs.Outside.{SameRegions}
 
--- a granted word is the seen one
+-- a word with a right is a visible one
 pub word-seen : (i Z regions address : ℕ) (words : List ℕ) → IsSize Z →
     i < 8 → is_readable (region_kind_at i Z regions address) ≡ true →
     word_at Z (seen_words Z (region_kinds i regions) words) address ≡ word_at Z words address
@@ -98,7 +98,7 @@ around-alone s c i w h confined permit same = λ j. record {
         ∙ ap₂ (λ (r d : ℕ). may_load i s.size true r d address width) same.iregions same.dregions
         ∙ same_load i s.size s.registers.iregions s.registers.dregions h address width
 
--- the words that it may fetch and load are the seen ones
+-- the words that it may fetch and load are the visible ones
 code-seen : (i Z regions pc : ℕ) (words : List ℕ) → IsSize Z → i < 8 →
     (is_code Z pc && is_readable (kind_at Z (region_kinds i regions) pc)) ≡ true →
     code_at Z words pc ≡ code_at Z (seen_words Z (region_kinds i regions) words) pc

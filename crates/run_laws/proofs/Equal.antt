@@ -1,4 +1,4 @@
--- Machines that agree in a thread's view show equal events of it.
+-- Machines that agree in a thread's view have equal events of it.
 use Rattle.std.proofs.Common.{ap, sym, ◌∙◌}
 use Rattle.core_model.specs.Solo.{solo}
 use Rattle.core_model.specs.View.{View}

@@ -205,7 +205,7 @@ issue-at s c i n w d later p is =
 abbrev pub narrow : Wide → Past
 narrow p = record { alone = p.alone; events = p.events }
 
--- its own issue
+-- an issue of the thread
 pub own-wide : (s : Start) (i c n : ℕ) (w : World) (a : Wide) (last : ℕ) (later : List ℕ) →
     StartsUnconfinedHard s i → Tied s i c w (narrow a) →
     w.registers ≡ s.registers → may_go (setting_of s i) c a.alone.thread ≡ true →

@@ -28,7 +28,7 @@ use Rattle.run_laws.proofs.Picks.{is_this, IsThread, picks_by}
 use Rattle.core_model.proofs.Picks.{pick-below}
 use Rattle.run_laws.proofs.Steps.{own_turns, Tied, Wakes, takes-tied, takes-wakes, takes-all}
 
--- before cycle c, by the settings of the run: the worlds that picking still looks at
+-- before cycle c, by the settings of the run and the worlds that picking still reads
 pub record Going (s : Start) (i c : ℕ) (phases : List Phase) : Type 0 where
   pub tied : Tied s i c (recent s c).now (phased_at (view s i) phases c)
   one : ((thread_of (recent s c).before i).own.sleep ≡ (thread_of (recent s c).now i).own.sleep)

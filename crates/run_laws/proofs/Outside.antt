@@ -21,7 +21,7 @@ use Rattle.core_model.specs.Phases.{leaves_regions}
 use Rattle.run_laws.proofs.Seen.{get_or-seen, seen-set, seen-set_unseen}
 use Rattle.run_laws.proofs.RegionKinds.{kind-is, sees-is, others_write, writes_own}
 
--- the stores of an effect were allowed to a thread
+-- thread k has the right to each store of the effect
 abbrev pub IsAllowed : ℕ → ℕ → ℕ → Option Effect → Type 0
 IsAllowed k Z regions e =
     (address width value : ℕ) → e ≡ Some (Store address width value) →
@@ -33,7 +33,7 @@ store_allows : (k Z regions address width : ℕ) → is_data Z address ≡ true 
 unfolding may_store
 store_allows k Z regions address width d h = rw d at h
 
--- another's store is in no word that the thread sees
+-- a store of another thread changes no word that the thread sees
 pub others_words : (i k Z regions : ℕ) (e : Option Effect) (words : List ℕ) →
     IsSize Z → i < 8 → k < 8 → k ≢ i → IsAllowed k Z regions e →
     seen_words Z (region_kinds i regions) (words_after Z e words)
@@ -59,7 +59,7 @@ others_words i k Z regions (Some (Store address width value)) words z h l d a =
         (rw zero-add (sees-is i Z regions address z h
         ∙ others_write i k (get_or (nibbles regions) (region_of Z address) 15) h l d w))
 
--- its own store changes the words that it sees as it changes its own
+-- a store of the thread changes the words that it sees as the one-thread definition does
 pub own_words : (s : Start) (i : ℕ) (e : Option Effect) (words : List ℕ) →
     IsSize s.size → i < 8 → IsAllowed i s.size s.registers.dregions e →
     seen_words s.size (region_kinds i s.registers.dregions) (words_after s.size e words)
@@ -116,7 +116,7 @@ own_words s i (Some (Store address width value)) words z h a = go (is_data s.siz
         else seen_words s.size (region_kinds i s.registers.dregions) words)
         (sym (kind-is i s.size s.registers.dregions address h))
 
--- two states of the machine's registers with the same regions
+-- two states of the configuration registers with the same regions
 pub record SameRegions (r t : Registers) : Type 0 where
   pub dregions : r.dregions ≡ t.dregions
   pub iregions : r.iregions ≡ t.iregions
@@ -149,7 +149,7 @@ kept_regions k pc word (Some (Csr n value rd old)) r h =
     go false false false true h = cc
     go false false false false h = record { dregions = refl; iregions = refl }
 
--- a turn that leaves all of the machine's registers unwritten leaves those of the regions so
+-- a turn that writes no configuration register keeps the region registers
 pub quiet-regions : (took : Took) → leaves_registers took ≡ true → leaves_regions took ≡ true
 quiet-regions Idle h = refl
 quiet-regions (Lost k) h = refl

@@ -1,4 +1,4 @@
--- The start of a setup that keeps the rules is one that the laws of isolation speak of.
+-- The start of a setup that keeps the rules is one that the theorems on isolation apply to.
 use Rattle.std.proofs.Common.{◌≡◌, ◌⊎◌, inl, inr, ℕ, ◌<◌, ◌≤◌, Bool, true, false, ◌&&◌}
 use Rattle.std.proofs.Common.{List, map, length, get_or, ◌∙◌, refl, ap, sym, true≢false}
 use Rattle.std.specs.List.{All}
@@ -48,7 +48,7 @@ confined-below s r i c = go (cases_lt i 8)
         get_or_past s.threads i default_thread (rw r.threads.eight g) in
         absurd (true≢false (sym c ∙ ap (λ (t : ThreadSetup). t.confined) past))
 
--- so is one that isn't, where the setup has it
+-- so is one that isn't confined, if the setup has it
 free-below : (s : Settings) → KeepsRules s → (i : ℕ) →
     get_or (map (λ (t : ThreadSetup). t.confined) s.threads) i true ≡ false → i < 8
 free-below s r i f = go (cases_lt i 8)

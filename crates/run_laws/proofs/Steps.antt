@@ -54,7 +54,7 @@ pub record Tied (s : Start) (i c : ℕ) (w : World) (a : Past) : Type 0 where
   pub count : length w.threads ≡ 8
   pub age : length w.turns ≡ c
 
--- a cycle in which the thread does nothing
+-- a cycle without an issue of the thread
 pub record Rests (s : Start) (i : ℕ) (w after : World) : Type 0 where
   pub thread : thread_of after i ≡ thread_of w i
   pub words : seen_words s.size (region_kinds i s.registers.dregions) after.d_words
@@ -151,7 +151,7 @@ other-rests s i c w last k z h l differ same quiet =
       age = refl;
     }
 
--- an event of its own
+-- an event of the thread
 pub own_turn_is : (s : Start) (i c pc word : ℕ) (e : Option Effect) →
     own_event (setting_of s i) c pc word e ≡ own_turn i c (Ran i pc word e)
 unfolding setting_of
@@ -195,7 +195,7 @@ own-tied s f i c w a last p t go quiet =
       age = ap suc t.age;
     })
 
--- whether the thread goes, by what picking went by and what the thread has
+-- whether the thread issues, by the registers that picking uses and the thread's state
 pub early : (v : Setting) (c : ℕ) (t : Thread) → c < t.ready → may_go v c t ≡ false
 unfolding may_go
 early v c t l = go (has_position v.own c)
@@ -286,8 +286,8 @@ takes-tied s f i c w a last asleep (Issue k) p t below is sync quiet =
         subst Goal (sym same) (own-tied s f i c w a last p t (rw t.thread (going V c asleep
         (thread_of w i) (sym is ∙ m) sync (subst Late same e))) (subst Quiet same still))
 
--- a turn leaves the sleep moment, or the thread waits three cycles; before its first ready cycle it
--- leaves the whole thread
+-- A turn keeps the sleep moment, or its lag is 3. Before the first ready cycle a turn changes
+-- nothing in the thread.
 pub record Wakes (c : ℕ) (t u : Thread) : Type 0 where
   pub either : (u.own.sleep ≡ t.own.sleep) ⊎ (u.ready ≡ c + 3)
   pub early : c < t.ready → u ≡ t
@@ -354,7 +354,7 @@ takes-all test s c w last (Issue k) q = go (nat_lt c (thread_of w k).ready) q
     go false h =
         (both (test (Ran k (thread_of w k).pc d.word d.effect)) (list_all test w.turns) h).1
 
--- a quiet turn keeps all of the machine's registers
+-- a quiet turn keeps all configuration registers
 pub takes-registers : (s : Start) (c : ℕ) (w : World) (last : ℕ) (o : Pick) →
     list_all leaves_registers (after_pick s c w last o).turns ≡ true →
     (after_pick s c w last o).registers ≡ w.registers

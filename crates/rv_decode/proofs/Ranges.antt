@@ -307,7 +307,7 @@ pub ins-range : (w : ℕ) → InRange (ins w)
 unfolding ins
 ins-range w = from_read w (read_range rows all w)
 
--- Registers are, where all fields are.
+-- Registers are in range if all fields are.
 pub range-registers : (i : Ins) → InRange i → HasRegisters i
 range-registers (Lui rd imm) h = h.0
 range-registers (Auipc rd imm) h = h.0

@@ -42,7 +42,7 @@ use Rattle.rv_decode.specs.declared.instruction.CsrKind.TheVariants.{Rw, Rs, Rc,
 use Rattle.rv_decode.proofs.ByOpcode.{ins-lui, ins-auipc, ins-jal, ins-jalr, ins-branch, ins-load}
 use Rattle.rv_decode.proofs.ByOpcode.{ins-store, ins-imm, ins-op, ins-fence, ins-system, ins-time}
 
--- A number read with its sign is the whole number whose lowest bits it has.
+-- A number read with its sign equals the whole number that has its lowest bits.
 from_pos : (half n m : ℕ) → n < half → m ≡ n →
     (if nat_lt m half then pos m else pos m -ℤ pos (half + half)) ≡ pos n
 from_pos half n m small e =
@@ -246,9 +246,7 @@ mul_back Divu w d a b e0 e1 e2 e3 e4 e5 = simp (e0, e1, e2, e3, e4, e5)
 mul_back Rem w d a b e0 e1 e2 e3 e4 e5 = simp (e0, e1, e2, e3, e4, e5)
 mul_back Remu w d a b e0 e1 e2 e3 e4 e5 = simp (e0, e1, e2, e3, e4, e5)
 
--- a word with such a field isn't ECunfolding ins rows lui_rows auipc_rows jal_rows jalr_rows
--- branch_rows load_rows store_rows imm_rows op_rows fence_rows system_rows time_rows, EBREAK or
--- MRET
+-- a word with such a field isn't ECALL, EBREAK or MRET
 no_word : (w k : ℕ) → k < 2 ^ 32 → field k 12 3 ≡ 0 → 0 < field w 12 3 → (field w 0 32 == k) ≡ false
 no_word w k small none h = let no : field w 0 32 ≢ k = omega arith in grind (arith, nat_tests)
 

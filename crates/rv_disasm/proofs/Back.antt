@@ -20,7 +20,7 @@ use Rattle.rv_disasm.proofs.Lexing.{part_piece, line_pieces}
 use Rattle.rv_disasm.proofs.Words.{encoded-ins}
 use Rattle.rv_disasm.proofs.Statements.{IsAssembled, assembled}
 
--- no part is a colon
+-- no token is a colon
 no_labels : (m : Text) (parts : List TextToken) →
     after_labels (name m ∷ map part_piece parts) ≡ name m ∷ map part_piece parts
 unfolding after_labels

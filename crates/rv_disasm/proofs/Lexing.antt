@@ -1,4 +1,4 @@
--- The pieces of a line of parts.
+-- The tokens of a line of text tokens.
 use Rattle.std.proofs.Common.{◌≡◌, ℕ, zero, suc, ◌<◌, ◌≤◌, ◌+◌, ◌-◌, ◌*◌, ◌/◌, ◌%◌}
 use Rattle.std.proofs.Common.{◌^◌, ◌==◌, nat_lt, nat_le, Bool, true, false, ◌&&◌}
 use Rattle.std.proofs.Common.{◌||◌, List, [], ◌∷◌, ◌++◌, length, take, drop, map}
@@ -46,7 +46,7 @@ run_over p (x ∷ xs) rest h e =
     let more : run p (xs ++ rest) ≡ length xs = run_over p xs rest h.1 e in
     rw h.0 (one_more (prefix_len p (xs ++ rest)) x (xs ++ rest) ∙ ap suc more)
 
--- a byte that passes a test is none that doesn't
+-- a byte that passes a test differs from one that doesn't
 not_at : (p : ℕ → Bool) (k b : ℕ) → p k ≡ false → p b ≡ true → (b == k) ≡ false
 not_at p k b fails passes = by_test (b == k) refl
   where
@@ -56,7 +56,7 @@ not_at p k b fails passes = by_test (b == k) refl
         absurd (let h : true ≡ false = sym passes ∙ (ap p same ∙ fails) in cc)
     by_test false e = e
 
--- a test that what follows fails, and so a narrower one
+-- a text that fails a test fails a narrower one
 fails_too : (p q : ℕ → Bool) (rest : Text) → ((b : ℕ) → p b ≡ false → q b ≡ false) →
     starts p rest ≡ false → starts q rest ≡ false
 fails_too p q [] narrow h = refl
@@ -148,7 +148,7 @@ IsApart (counted n) rest = starts is_rest rest ≡ false
 IsApart (digits width n) rest = starts is_rest rest ≡ false
 IsApart _ rest = Unit {0}
 
--- the pieces from a part on, where those behind it are known
+-- the tokens from one on, if those after it are known
 abbrev Reads : TextToken → Type 0
 Reads p =
     (line pre rest : Text) (n : ℕ) (ps : List Piece) →
@@ -189,7 +189,7 @@ reads_name (b ∷ bs) h line pre rest n ps e apart few more =
 digit_rest : (b : ℕ) → is_digit b ≡ true → is_head b ≡ false
 digit_rest b h = grind (arith, nat_tests)
 
--- a number doesn't begin with `0x` where its second byte is none
+-- a number doesn't begin with `0x`, since its second byte is a digit or there is none
 not_prefixed : (d : ℕ) (bs : Text) → starts (λ b. b == 120) bs ≡ false →
     is_prefixed (d ∷ bs) ≡ false
 not_prefixed d [] h = refl
@@ -204,7 +204,7 @@ no_x : (ds rest : Text) → AllBytes is_digit ds → starts is_rest rest ≡ fal
 no_x [] rest h e = fails_too is_rest (λ b. b == 120) rest not_x e
 no_x (d ∷ ds) rest h e = not_at is_digit 120 d refl h.0
 
--- digits of a number that 32 bits hold
+-- digits of a number that fits in 32 bits
 record IsDecimal (n : ℕ) (ds : Text) : Type 0 where
   digits_only : AllBytes is_digit ds
   some : 0 < length ds
@@ -301,7 +301,7 @@ hex_glyph k h = by_test (nat_lt k 10) refl
         let x : is_hex (87 + k) ≡ true = grind (arith, nat_tests) in
         rw e (x, rw (c, d) (omega arith))
 
--- so many hexadecimal digits of a number that they hold
+-- hexadecimal digits of a number that fits in them
 record IsHexadecimal (width n : ℕ) (hs : Text) : Type 0 where
   digits_only : AllBytes is_hex hs
   valued : number_of 16 hs ≡ n

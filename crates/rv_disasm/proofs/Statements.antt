@@ -136,7 +136,7 @@ up_small most n h =
     let high : le_z (pos n) (pos most) ≡ true = grind (arith, ints) in
     rw (low, high) refl
 
--- the way to where an offset leads is the offset
+-- the offset to the target of an offset is that offset
 from_negsuc : (half n m : ℕ) → n < half → m + n + 1 ≡ half + half →
     (if nat_lt m half then pos m else pos m -ℤ pos (half + half)) ≡ negsuc n
 from_negsuc half n m small e =

@@ -1,4 +1,4 @@
--- The word of an instruction that a word means is the word.
+-- The encoding of a word's instruction is the word.
 use Rattle.std.proofs.Common.{◌≡◌, ◌<◌, ◌≤◌, ℕ, ◌+◌, ◌-◌, ◌*◌, ◌%◌, ◌^◌, ◌==◌}
 use Rattle.std.proofs.Common.{◌&&◌, pos, negsuc, ◌-ℤ◌, List, [], ◌∷◌, ◌++◌, Bool}
 use Rattle.std.proofs.Common.{true, false, nat_lt, if◌then◌else◌, refl, ◌∙◌, arith}
@@ -418,7 +418,7 @@ read_back (r ∷ rs) h w small =
     step r rs w own rest true e = rw e (own e)
     step r rs w own rest false e = rw e rest
 
--- The word of what a word means is the word.
+-- The encoding of a word's instruction is the word.
 pub encoded-ins : (w : ℕ) → w < 2 ^ 32 → encoding_of (ins w) ≡ w
 unfolding ins
 encoded-ins w h = read_back rows all w h

@@ -1,4 +1,4 @@
--- The machine's quotient is the quotient cut toward 0, in a word.
+-- The machine's quotient is the quotient truncated toward 0, in a word.
 use Rattle.std.proofs.Common.{◌≡◌, ℕ, zero, suc, ◌/◌, ◌^◌, ◌<◌, ◌≤◌, ℤ}
 use Rattle.std.proofs.Common.{pos, negsuc, ◌-ℤ◌, refl, ap, ◌∙◌, arith}
 use Rattle.std.specs.Prelude.{neg_ℤ, int_div}

@@ -28,7 +28,7 @@ product_fits x y h k =
     fits_signed_mul w64 x y (2 ^ 31) (2 ^ 32 - 1) (abs_within x (2 ^ 31) h)
     (omega arith) (omega arith)
 
--- and so it's kept where the factors and the product are read in 64 bits
+-- so the product is the same if the factors and the product are read in 64 bits
 pub product_read : (x y : ℤ) → mag x < 2 ^ 31 → nat_abs y < 2 ^ 32 → mag y < 2 ^ 63 →
     to_z w64 (of_z w64 (to_z w64 (of_z w64 x) *ℤ to_z w64 (of_z w64 y))) ≡ x *ℤ y
 product_read x y h k j =

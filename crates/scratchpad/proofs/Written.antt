@@ -11,7 +11,7 @@ pub first_words_more : (bytes : List ℕ) (count : ℕ) →
     first_words bytes (count + 1) ≡ first_words bytes count ++ word_in bytes count ∷ []
 first_words_more bytes count = map-range_with_len_more (word_in bytes) 0 count count (omega arith)
 
--- a word put where the words written so far end
+-- a word written at the end of the words so far
 pub put_next : (before written : List ℕ) (x : ℕ) (rest : List ℕ) (index offset word : ℕ) →
     length before ≡ index → length written ≡ offset →
     set (before ++ (written ++ x ∷ rest)) (index + offset) word

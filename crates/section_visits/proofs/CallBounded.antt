@@ -197,7 +197,7 @@ part-aligned x (Some t) u is r first = (is.routines.each t (reached-listed x t r
 part-aligned x a u is r (next {u = v} e word edge lies) =
     onward-aligned (callee x v) (x.word v) v e (part-aligned x a v is r word) edge
 
--- a reachable word stops nothing, or is a return
+-- a reachable word doesn't stop the graph, or is a return
 stops : (x : Calls) (u : ℕ) → IsCallable x → IsMet x u →
     ((edges_of (x.word u) u).stop ≡ No) ⊎ (is_back (x.word u) ≡ true)
 stops x u ok m = go (returns x m.within u) refl

@@ -24,13 +24,13 @@ use Rattle.call_bounds.proofs.Parts.{AreParts, call-edge, plain-edge}
 use Rattle.section_visits.specs.CallVisits.{ComesBack, counted_after, open_after}
 use Rattle.section_visits.proofs.Returns.{back-is, ins-back}
 
--- the ways on from a word: its edges, and from a return to anywhere
+-- the successors of a word: its edges, and from a return any address
 abbrev pub Way : Calls → ℕ → Edge → Type 0
 Way x u e =
     (((edges_of (x.word u) u).stop ≡ No) × Contains (edge_list (edges_of (x.word u) u)) e)
     ⊎ ((is_back (x.word u) ≡ true) × (e.lag ≡ 3))
 
--- a return stops the control graph of a part that isn't a routine, and is no call
+-- a return stops the control-flow graph of the section, and is no call
 pub back-stop : (w u : ℕ) → is_back w ≡ true → (edges_of w u).stop ≡ Indirect
 unfolding edges_of edges_from
 back-stop w u h = ap (λ i. (edges_from u i).stop) (ap ins (back-is w h) ∙ ins-back)
@@ -84,7 +84,7 @@ Goes x p u s c l d r v o b =
     ((j : LoopSetup) → Counts x.calls j → counted_after o b s u v j (l j) ≤ j.limit) →
     CallWalk x p v r (open_after o b u s) (c + d) (λ j. counted_after o b s u v j (l j))
 
--- where it doesn't
+-- if it isn't in the function
 abbrev Ends : Route → ℕ → List ℕ → ℕ → ℕ → ℕ → Option Routine → Bool → Type 0
 Ends x u s c d v o b =
     (Lies (part x.calls (part_in x.calls (open_after o b u s))) v → ⊥) → CostsOf x (c + d)

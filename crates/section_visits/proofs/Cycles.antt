@@ -36,7 +36,7 @@ pub record Issues (s : Start) (i c : ℕ) (w after : World) (o : Pick) : Type 0 
     traps = is_trap (issue_of s c w i).effect;
   } ∷ issues_of i w.turns
 
--- it does nothing
+-- the thread doesn't issue
 pub record Rests (i c : ℕ) (w after : World) (o : Pick) : Type 0 where
   pub thread : thread_of after i ≡ thread_of w i
   pub issues : issues_of i after.turns ≡ issues_of i w.turns
@@ -103,7 +103,7 @@ takes-keeps s c w last (Issue k) = go (nat_lt c (thread_of w k).ready)
     go true = record { count = refl; age = refl }
     go false = record { count = length-set w.threads k d.thread; age = refl }
 
--- a position of the thread's own
+-- a position of the thread
 own-there : (f : List ℕ) (c i : ℕ) → has_position (map (λ slot. slot == i) f) c ≡ true →
     IsOwn (record { frame = f; thread = i }) (c % length f)
 own-there f c i h = go (c % length f) (there h)
@@ -137,7 +137,7 @@ there-own f c i o =
     at (x ∷ xs) zero o = let e : x ≡ i = o.own in rw e (itself i)
     at (x ∷ xs) (suc k) o = at xs k (record { within = omega (arith, o.within); own = o.own })
 
--- before cycle c: the thread's sleep in the three worlds that picking still looks at
+-- before cycle c: the thread's sleep moment in the three worlds that picking still reads
 pub record CycleInvariant (s : Start) (i c : ℕ) : Type 0 where
   pub eight : length (recent s c).now.threads ≡ 8
   pub age : length (recent s c).now.turns ≡ c
@@ -177,7 +177,7 @@ pub record Goes (s : Start) (slots i c : ℕ) : Type 0 where
     traps = is_trap (issue_of s c (recent s c).now i).effect;
   } ∷ issues_of i (recent s c).now.turns
 
--- no issue of the thread: the cycle isn't its turn, or it isn't ready, or it sleeps
+-- the thread doesn't issue: the cycle isn't its turn, it isn't ready, or it sleeps
 pub record Stays (s : Start) (slots i c : ℕ) : Type 0 where
   pub thread : thread_of (recent s (suc c)).now i ≡ thread_of (recent s c).now i
   pub issues : issues_of i (recent s (suc c)).now.turns ≡ issues_of i (recent s c).now.turns

@@ -1,5 +1,5 @@
--- An instruction that doesn't trap goes on along an edge of its word, after that edge's lag, and
--- sleeps no longer.
+-- An instruction that doesn't trap goes on along an edge of its word, after that edge's lag,
+-- without a sleep moment.
 use Rattle.std.proofs.Common.{◌≡◌, ℕ, ◌+◌, ◌/◌, ◌%◌, ◌^◌, ◌≤◌, ◌==◌, ℤ, pos}
 use Rattle.std.proofs.Common.{negsuc, ◌+ℤ◌, Bool, true, false, Option, Some, None}
 use Rattle.std.proofs.Common.{if◌then◌else◌, refl, arith, sym, ap, subst, ◌∙◌, Contains}
@@ -33,7 +33,7 @@ use Rattle.region_tree.specs.Graph.{Edge, edge_list}
 use Rattle.timer_unit.specs.Time.{is_due}
 use Rattle.run_laws.specs.LagLaw.{is_trap}
 
--- it went along an edge
+-- the instruction went along an edge
 pub record Stepped (sleep : ℕ) (edges : Edges) (d : Execution) : Type 0 where
   pub edge : Edge
   pub known : Contains (edge_list edges) edge
@@ -81,7 +81,7 @@ store-steps pc t w address width value true h = record {
 }
 store-steps pc t w address width value false h = cc
 
--- the two ways to cut a whole number to a word are one
+-- the two reductions of a whole number to a word are equal
 words-same : (z : ℤ) → word z ≡ low_bits 32 z
 words-same (pos n) = refl
 words-same (negsuc n) = refl
@@ -250,7 +250,7 @@ filled-trap (Some rd) v (Some (Csr n x y z)) = refl
 filled-trap (Some rd) v (Some (Trap x y)) = refl
 filled-trap (Some rd) v (Some Wait) = refl
 
--- where a whole issue in cycle c leads
+-- the target of a whole issue in cycle c
 pub record Gone (way : Edge → Type 0) (c sleep : ℕ) (t : Thread) : Type 0 where
   pub edge : Edge
   pub known : way edge

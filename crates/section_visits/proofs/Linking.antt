@@ -1,5 +1,4 @@
--- While the slots and its mode stay, the issues of a thread follow the ways of the words that are
--- known.
+-- While the slots and its mode stay, the issues of a thread follow the edges of the known words.
 use Rattle.std.proofs.Common.{◌≡◌, ℕ, zero, suc, ◌+◌, ◌-◌, ◌*◌, ◌/◌, ◌%◌, ◌<◌, ◌≤◌}
 use Rattle.std.proofs.Common.{inl, inr, ◌⊎◌, Bool, true, false, List, [], ◌∷◌, ◌++◌}
 use Rattle.std.proofs.Common.{length, refl, ap, sym, ◌∙◌, subst, arith, ne_eqb}
@@ -24,7 +23,7 @@ use Rattle.section_visits.specs.VisitBound.{Along, AreLinked}
 use Rattle.run_laws.specs.LagLaw.{is_trap}
 use Rattle.section_visits.specs.Visits.{Issued, issue_in, issues_of}
 
--- at known words issues that don't trap go along a way
+-- at known words issues that don't trap follow an edge
 abbrev pub Went : (ℕ → Type 0) → (ℕ → Edge → Type 0) → Start → ℕ → Type 0
 Went known way s i =
     (c : ℕ) → known (thread_of (recent s c).now i).pc →
@@ -36,8 +35,8 @@ Went known way s i =
 abbrev Own : ℕ → ℕ → ℕ → Type 0
 Own slots i c = IsOwn (positions slots i) (c % length (frame slots))
 
--- before cycle c: since an issue the thread is at the end of an edge, awake, and no turn of its own
--- came once it was ready
+-- before cycle c: since an issue the thread is at the end of an edge, awake, and has had no ready
+-- turn of its own
 record Awaits (way : ℕ → Edge → Type 0) (s : Start) (slots i c : ℕ) (b : Issued)
     (th : Thread) : Type 0 where
   edge : Edge

@@ -53,7 +53,7 @@ issues_in_settings t slots thread s n is h =
     linked_all (Reachable (graph t)) (EdgeOf (graph t)) s slots thread n
     (went t s thread is h) h.eight
 
--- equal words of a section are equal at those that are reachable
+-- equal words of a section are equal at the reachable words
 pub words-of : (t : Tree) (slots thread : ℕ) (s : Start) → IsTree t →
     IsHost s t slots thread → HasWords s t
 words-of t slots thread s is h = record {

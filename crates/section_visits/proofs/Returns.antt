@@ -1,4 +1,4 @@
--- A return that doesn't trap goes on after a jump's lag.
+-- A return that doesn't trap has a jump's lag.
 use Rattle.std.proofs.Common.{◌≡◌, ℕ, ◌+◌, ℤ, pos, Bool, true, false, Option, Some}
 use Rattle.std.proofs.Common.{None, if◌then◌else◌, refl, arith, sym, ap, subst, ◌∙◌}
 use Rattle.std.proofs.lemmas.Bool.Decides.{nat_tests}
@@ -26,7 +26,7 @@ ins-back = refl
 pub back-is : (w : ℕ) → is_back w ≡ true → w ≡ 0x00008067
 back-is w h = grind (arith, nat_tests)
 
--- it jumped
+-- it is a jump
 record Jumped (sleep : ℕ) (d : Execution) : Type 0 where
   lag : d.lag ≡ 3
   sleeps : d.own.sleep ≡ sleep

@@ -46,7 +46,7 @@ kept-scheduling k pc word (Some (Csr n value rd old)) r h =
     go false false false true h = record { slots = refl; modes = refl }
     go false false false false h = record { slots = refl; modes = refl }
 
--- a turn that leaves all configuration registers unwritten leaves slots and modes so
+-- a turn that writes no configuration register keeps slots and modes
 quiet-scheduling : (took : Took) → leaves_registers took ≡ true → leaves_scheduling took ≡ true
 quiet-scheduling Idle h = refl
 quiet-scheduling (Lost k) h = refl

@@ -17,7 +17,7 @@ use Rattle.section_visits.specs.InSettings.{Throughout, VisitsAreBoundedInSettin
 use Rattle.section_visits.specs.VisitBound.{Along, EdgeOf, VisitsAreBounded}
 use Rattle.section_visits.specs.Visits.{GoOn, Issued, KeepsBounds, counter_at, first_of}
 
--- ways along the edges of a course
+-- the edges of a course, as a relation
 abbrev Follows : Course → Issued → Issued → Type 0
 Follows x h i = Along (EdgeOf x.graph) x.positions h i
 

@@ -63,7 +63,7 @@ five_parts u l c b xs =
     bytes_of-append (u ∷ []) (l ∷ (xs ++ (c ∷ b ∷ []))) ∙ ap (λ bs. bytes_of (u ∷ []) ++ bs) low in
     simp append_assoc (sym all)
 
--- those of a thread, one after another
+-- the bytes of the threads, one after another
 pub thread_parts : (first k : ℕ) (u l c b : Ins) (b0 b1 b2 b3 b4 b5 : List ℕ) →
     u ∷ l ∷ [] ≡ first_ins k → c ∷ b ∷ [] ≡ last_ins → b0 ≡ [] → b1 ≡ b0 ++ bytes_of (u ∷ []) →
     b2 ≡ b1 ++ bytes_of (l ∷ []) → b3 ≡ b2 ++ bytes_of (drawn_from first 124) →

@@ -46,7 +46,7 @@ pub folded-one : (h byte : ℕ) → fold_of h (byte ∷ []) ≡ with_byte h byte
 unfolding fold_of
 folded-one h byte = refl
 
--- a number that was cut is multiplied
+-- a truncated number in a product
 cut : (x w b : ℕ) → (x % 2 ^ 32 * w + b) % 2 ^ 32 ≡ (x * w + b) % 2 ^ 32
 cut x w b =
     sym (mod-add-mod (x % 2 ^ 32 * w) (2 ^ 32) b)
@@ -74,7 +74,7 @@ piece_pair byte sum is h small =
     sym (two_bytes h (hex_digit (byte / 16)) (hex_digit (byte % 16)))
     ∙ ap (λ s. (h * 961 + s) % 2 ^ 32) (sym is)
 
--- one text and another one behind it
+-- one text after another
 pub piece_and : (p q : Piece) (xs ys : List ℕ) → IsPiece p xs → IsPiece q ys →
     IsPiece (record {
       weight = (p.weight * q.weight + 0) % 2 ^ 32;
@@ -145,7 +145,7 @@ pub upper_none : (p : Piece) (width tens : ℕ) → tens ≡ 0 → IsPiece p (re
 unfolding upper_text
 upper_none p width tens none is h small = rw none (is h small)
 
--- one digit more before the last one
+-- one more digit before the last one
 pub upper_more : (p : Piece) (width less tens : ℕ) → tens < 2 ^ 64 → 0 < tens → less ≡ width - 1 →
     IsPiece p (upper_text less (tens / 10) ++ (48 + tens % 10) ∷ []) →
     IsPiece p (upper_text width tens)
@@ -223,7 +223,7 @@ by_bytes w small =
     let d0 : w % 0x100 % 16 ≡ w % 16 = omega arith in
     rw (d5, d4, d3, d2, d1, d0, two, three, four, five, six, seven, d7) refl
 
--- each of these effects is shown by its own text
+-- each of these effects has its own text
 pub of_nothing : (h : ℕ) → with_byte h 45 ≡ fold_of h (effect_text Nothing)
 unfolding fold_of effect_text
 of_nothing h = refl
@@ -258,14 +258,14 @@ store_parts h a s v small =
     rw (decimal_digit s small) (sym
     (folded-append (with_byte h 91) (hex 8 a) (codes "]/" ++ ((48 + s) ∷ (codes "=" ++ hex 8 v)))))
 
--- a trap's cause and where the thread goes on, by their parts
+-- the hash with a trap's cause and target, part by part
 pub trap_parts : (h cause target : ℕ) → cause < 10 →
     fold_of (fold_of (with_byte (fold_of h (codes "trap ")) (48 + cause)) (codes " -> "))
     (hex 8 target) ≡ fold_of h (trap_text cause target)
 unfolding fold_of trap_text
 trap_parts h cause target small = rw (decimal_digit cause small) refl
 
--- a line, by its parts
+-- the hash of a line, part by part
 pub line_parts : (h : ℕ) (e : Event) →
     with_byte (fold_of (fold_of (fold_of h (cycle_text e.cycle)) (site_text e.pc e.word))
     (effect_text e.effect)) 10 ≡ fold_of h (line_text e)

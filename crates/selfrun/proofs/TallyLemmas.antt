@@ -1,4 +1,4 @@
--- How the tallies follow the events of a world.
+-- The tallies, by the events of a world.
 use Rattle.std.proofs.Common.{◌≡◌, ◌≢◌, ℕ, zero, suc, ◌+◌, ◌-◌, ◌<◌, ◌≤◌, List, []}
 use Rattle.std.proofs.Common.{◌∷◌, ◌++◌, length, Bool, true, Option, Some, None, eq-eqb}
 use Rattle.std.proofs.Common.{inl, inr, arith, refl, ap, sym, subst, ◌∙◌, add-one}
@@ -44,7 +44,7 @@ tally-more es e =
     let Made : ℕ → ℕ → Tally = λ n h. record { events = n; fold = h } in
     ap (λ n. Made n (fold with_byte 0 (text (es ++ e ∷ [])))) long ∙ ap (Made (length es + 1)) sum
 
--- a list of values of which at most one changes
+-- a list in which at most one value changes
 one_changed : (F G : ℕ → Tally) (v : Tally) (a n j : ℕ) →
     ((k : ℕ) → k ≢ a + j → G k ≡ F k) → (j < n → G (a + j) ≡ v) →
     map G (range_with_len a n) ≡ slice_set (map F (range_with_len a n)) j v
@@ -183,7 +183,7 @@ few_none (suc (suc (suc (suc (suc (suc zero)))))) = omega arith
 few_none (suc (suc (suc (suc (suc (suc (suc zero))))))) = omega arith
 few_none (suc (suc (suc (suc (suc (suc (suc (suc k)))))))) = omega arith
 
--- without ports nothing is fed
+-- without ports no input is fed
 beside_none : (number n : ℕ) →
     start_beside own_setup (programs number) no_ports n ≡ own_start number n
 unfolding own_start start plain_threads

@@ -38,7 +38,7 @@ tried p a n all k from small =
     let there : a + (k - a) ≡ k = omega (arith, from) in
     subst (λ x. p x ≡ true) (get_or-range_with_len a n (k - a) 0 within ∙ there) at
 
--- the mask is turned so that its lowest bit is the thread after the last one
+-- the mask is rotated so that its lowest bit is the thread after the last one
 abbrev turned : ℕ → ℕ → Bool
 turned last soft =
     pointwise nat_eq (threads_in last (soft * 257 / 2 ^ (last + 1) % 256))
@@ -104,7 +104,7 @@ find-turned takes awake last soft few small told =
     find-both takes (in_mask soft) awake (after_last last) all
     ∙ sym (ap (find awake) (threads-turned last soft few small))
 
--- the thread of the lowest bit is the first that is tried
+-- the thread of the lowest bit is the first in the order
 pub threads-split : (last left : ℕ) → 0 < left → left < 256 → threads_in last left
     ≡ (last + 1 + trailing_zeros w32 left) % 8 ∷ threads_in last (bit_and left (left - 1))
 unfolding threads_in
@@ -151,7 +151,7 @@ none_turned :
 unfolding threads_in offsets
 none_turned = refl
 
--- it finds none where no thread is soft
+-- the search finds none if no thread is soft
 pub found-none : (s : Sched) (now last : ℕ) → last < 8 → threads_that is_soft s.modes ≡ 0 →
     find (takes_donated s now) (after_last last) ≡ None
 found-none s now last few none =

@@ -2,7 +2,7 @@
 use Rattle.std.proofs.Common.{◌≡◌, ◌<◌, ℕ, zero, suc, ◌*◌, ◌/◌, ◌%◌, ◌^◌, arith, refl}
 use Rattle.slot_scheduler.specs.ModeWord.{mode_of}
 
--- the modes are what is left of the word, shifted by two bits for each thread
+-- the modes are the fields of two bits, from the lowest on
 pub shifted : (w k : ℕ) → k < 8 → w / 2 ^ (2 * k) % 4 ≡ mode_of w k
 shifted w zero small = refl
 shifted w (suc zero) small = refl

@@ -1,4 +1,4 @@
--- A word is accepted where no slot of it is refused.
+-- A word is accepted if no slot of it is refused.
 use Rattle.std.proofs.Common.{◌≡◌, ℕ, Option, ap, ◌∙◌}
 use Rattle.std.specs.Option.{is_none}
 use Rattle.slot_table.specs.Nibbles.{nibbles}

@@ -15,7 +15,7 @@ after p k (x ∷ xs) =
       | false ↦ refl
     ]
 
--- none is refused exactly where all are accepted
+-- none is refused exactly if all are accepted
 pub is_none-position : (p : ℕ → Bool) (xs : List ℕ) →
     is_none (position (λ x. not (p x)) xs) ≡ list_all p xs
 is_none-position p xs = ap is_none (position_from-zero (λ x. not (p x)) xs) ∙ after p 0 xs

@@ -2,7 +2,7 @@
 use Rattle.std.proofs.Common.{◌≡◌, ◌<◌, ℕ, zero, suc, ◌*◌, ◌/◌, ◌%◌, ◌^◌, arith, refl}
 use Rattle.slot_table.specs.Nibbles.{nibbles, nibble_at}
 
--- the nibbles are what is left of the word, shifted by four bits for each index
+-- the nibbles are the fields of four bits, from the lowest on
 pub shifted : (w k : ℕ) → k < 8 → w / 2 ^ (4 * k) % 16 ≡ nibble_at w k
 unfolding nibbles
 shifted w zero small = omega arith

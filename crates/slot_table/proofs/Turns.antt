@@ -23,7 +23,7 @@ is_used-other n other = grind (arith, nat_tests)
 pub is_used-disabled : (n : ℕ) → n ≡ 15 → is_used n ≡ false
 is_used-disabled n e = rw e refl
 
--- the frame of one slot more: it is kept, or it isn't
+-- the frame of one more slot, which it keeps or leaves out
 pub used-kept : (xs : List ℕ) (i : ℕ) → i < length xs → (get_or xs i 0 ≡ 15 → ⊥) →
     filter is_used (take (i + 1) xs) ≡ filter is_used (take i xs) ++ get_or xs i 0 ∷ []
 used-kept xs i small other =
@@ -63,7 +63,7 @@ is_there n a b = grind (arith, nat_tests)
 turn_named-used : (slot : ℕ) → is_used slot ≡ true → turn_named slot ≡ turn_of_slot slot
 turn_named-used slot used = grind (arith, nat_tests, used)
 
--- the slot in the place of a cycle names the turn of the cycle
+-- the slot at a cycle's position gives the turn of the cycle
 turn_named-position : (slots : List ℕ) (c p d : ℕ) → All (λ slot. is_used slot ≡ true) slots →
     p < 8 → p ≡ (if length slots == 0 then 0 else c % length slots) →
     turn_named (get_or (in_positions slots) p d) ≡ turn_in slots c
@@ -102,7 +102,7 @@ is_slot-position w p d is small =
     kept (All-replicate (λ slot. is_slot slot ≡ true) (8 - length slots) 15 refl) in
     padded p d (inside-padded slots p (length-filter-le is_used (nibbles w)) small)
 
--- a slot that is a thread's is that of one of the eight
+-- a thread's slot is that of one of the eight threads
 IsTurn-chosen : (slot : ℕ) (below : Bool) → nat_lt slot 8 ≡ below →
     IsTurn (if below then Thread slot else Soft)
 IsTurn-chosen slot true e = grind (arith, nat_tests)

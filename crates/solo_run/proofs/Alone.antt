@@ -107,7 +107,7 @@ row_after k d u timers traps sleeps = λ j. record {
   sleep = get_or-set_same u.sched.sleep k d.own.sleep 0 sleeps j;
 }
 
--- an instruction leaves the regions, and lets the thread go on within three cycles
+-- an instruction keeps the regions, and its lag is at most three
 abbrev Stays : Guard → Execution → Type 0
 Stays g d = (guard_by d.effect g ≡ g) × (d.lag ≤ 3)
 
@@ -271,7 +271,7 @@ lag_alone h g x pc t expired w p q permit r =
     rw (ap (λ (d : Execution). d.lag) r.did)
     (stays h.guard.now (environment_of h) pc t expired w p q (without_permit h permit)).1
 
--- and what is known of it is the definition's
+-- and its result is the definition's
 pub did_alone : (h g : Hart) (x : ExecResult) (pc : ℕ) (t : Own) (expired : Bool) (w p q : ℕ) →
     h.thread < 8 → h.confined ≡ true → h.permit ≡ false → h.thread < length h.timers.now →
     h.thread < length h.traps.now → h.thread < length h.sched.now.sleep →

@@ -1,4 +1,4 @@
--- The registers of a view's regions, and which region is the thread's own.
+-- The registers of a view's regions, and the test for the thread's own region.
 use Rattle.std.proofs.Common.{◌≡◌, ℕ, ◌<◌, true, false, ◌&&◌, get_or}
 use Rattle.std.proofs.Common.{map, inl, inr, refl, ap, sym, ◌∙◌, arith}
 use Rattle.std.proofs.Math.ListN.{get_or-map}
@@ -36,7 +36,7 @@ both ReadOnly = refl
 both Shared = refl
 both Foreign = refl
 
--- a region where the thread may load and store is its own
+-- a region that the thread may load from and store to is its own
 pub own_store : (g : Guard) (thread address width : ℕ) →
     thread < 8 → is_data g.size address ≡ true →
     (may_load thread g.size true g.i g.d address width && may_store thread g.size g.d address width)

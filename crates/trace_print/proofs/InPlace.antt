@@ -75,7 +75,7 @@ kept_from n text is low high =
     ∙ take_all 6 (right 6 (n / 10000)) (omega (arith, length-upper n high)) in
     rw (right-parts (n - n % 10000 + lower) (omega arith) inside, upper, rest, six) refl
 
--- other bytes behind the cycle leave them
+-- other bytes after the cycle leave its digits
 pub upper_left : (n m : ℕ) (before after more : List ℕ) → n < 10 ^ 10 →
     take 10 before ≡ right 10 n → take m after ≡ take 10 before ++ more → 6 ≤ m →
     take 6 after ≡ take 6 before
@@ -114,7 +114,7 @@ pub pieces : (a b c d e f g h : List ℕ) (end pc word : ℕ) (effect : Effect) 
 pieces a b c d e f g h end pc word effect p q r s t u v =
     rw (v, u, t, s, r, q, p) (simp append_assoc)
 
--- a line is its cycle with that behind it
+-- a line is its cycle and the part after it
 pub line_is : (cycle pc word thread : ℕ) (effect : Effect) (text : List ℕ) →
     take 10 text ≡ right 10 cycle →
     take 10 text ++ behind pc word effect

@@ -1,10 +1,10 @@
--- The digits of a word at once.
+-- The eight digits of a word, made at once.
 use Rattle.std.proofs.Common.{◌≡◌, ℕ, zero, suc, ◌/◌, ◌%◌, ◌<◌, List, [], ◌∷◌, arith, refl}
 use Rattle.std.specs.Str.{IsUtf8, IsAscii}
 use Rattle.std.proofs.lemmas.Str.{IsUtf8-from_ascii}
 use Rattle.trace_print.specs.Digits.{hex_digit, hex}
 
--- the eight digits of a word, each from the word itself
+-- the eight digits of a word, each directly from the word
 pub eight_digits : (w : ℕ) → hex_digit (w / 0x10000000 % 16) ∷ hex_digit (w / 0x1000000 % 16)
     ∷ hex_digit (w / 0x100000 % 16) ∷ hex_digit (w / 0x10000 % 16) ∷ hex_digit (w / 0x1000 % 16)
     ∷ hex_digit (w / 0x100 % 16) ∷ hex_digit (w / 0x10 % 16) ∷ hex_digit (w % 16) ∷ [] ≡ hex 8 w

@@ -1,4 +1,4 @@
--- The machine's registers as their types hold them.
+-- The configuration registers in the types of the code.
 use Rattle.std.proofs.Common.{◌≡◌, ℕ, Option, Some, None, sym}
 use Rattle.std.specs.Prelude.{Ok}
 use Rattle.region_guard.specs.declared.access.Guard.{Guard}
@@ -7,7 +7,7 @@ use Rattle.region_guard.specs.RegionsWord.{regions_of, bad_region, unless_bad}
 use Rattle.slot_table.specs.Table.{table_of, bad_slot}
 use Rattle.slot_table.specs.Table as slots
 
--- an accepted word is kept as it is
+-- an accepted word is stored unchanged
 pub slots_kept : (word held : ℕ) → Ok held ≡ table_of word → held ≡ word
 unfolding table_of
 slots_kept word held e = go (bad_slot word) (sym e)

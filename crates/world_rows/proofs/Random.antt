@@ -1,5 +1,5 @@
--- Random programs of eight threads, whose traces a model that was written apart gives. The
--- definitions compute each trace.
+-- Random programs of eight threads, with traces by an independent model. The definitions compute
+-- each trace.
 use Rattle.std.proofs.Common.{◌≡◌, true, false, List, [], ◌∷◌, ◌++◌, None, Some, refl, replicate}
 use Rattle.slot_table.specs.Nibbles.{nibbles}
 use Rattle.rv_decode.specs.Table.{ins, rows, lui_rows, auipc_rows, jal_rows, jalr_rows}

@@ -1,5 +1,5 @@
--- The distance of issues by the slots, and what other threads can and can't change. The definitions
--- compute each trace.
+-- The distance of issues by the slots, and the effects that other threads can and can't have. The
+-- definitions compute each trace.
 use Rattle.std.proofs.Common.{◌≡◌, true, false, List, [], ◌∷◌, ◌++◌, refl, replicate}
 use Rattle.slot_table.specs.Nibbles.{nibbles}
 use Rattle.rv_decode.specs.Table.{ins, rows, lui_rows, auipc_rows, jal_rows, jalr_rows}
@@ -30,7 +30,7 @@ use Rattle.core_model.specs.World.{Start, environment, after_turn, recent, world
 use Rattle.core_model.specs.Viewed.{setting_of, view}
 use Rattle.world_rows.specs.Base.{base, at}
 
--- one thread by itself: lags show
+-- one thread: lags show
 one_slot : Start
 one_slot =
     base ((0x00100293 ∷ 0x00002303 ∷ 0x00000463 ∷ 0x00000013 ∷ 0x00200393 ∷ 0x0000006f ∷ [])
@@ -85,7 +85,7 @@ unfolding four_slots four_slots-0-trace ins rows lui_rows auipc_rows jal_rows ja
     environment after_turn recent world environment_by may_go solo_turn solo_at setting_of view
 four_slots-0 = (refl, refl)
 
--- three others store where they may not
+-- three other threads store to addresses that they have no right to
 neighbours : Start
 neighbours =
     record (base ((0x00100293 ∷ 0x00002303 ∷ 0x00000463 ∷ 0x00000013 ∷ 0x00200393 ∷ 0x0000006f ∷ [])
@@ -161,7 +161,7 @@ unfolding shared_region shared_region-0-trace ins rows lui_rows auipc_rows jal_r
     setting_of view
 shared_region-0 = (refl, refl)
 
--- two soft threads take turns
+-- two soft threads alternate
 two_soft : Start
 two_soft =
     record (base (replicate 64 0x0 ++ (0x00108093 ∷ 0xffdff06f ∷ []))) {
@@ -234,7 +234,7 @@ unfolding new_slots ins rows lui_rows auipc_rows jal_rows jalr_rows branch_rows 
     after_turn recent world
 new_slots-1 = refl
 
--- a word that the slots can't hold is refused
+-- an invalid word of slots is refused
 bad_slot : Start
 bad_slot =
     record (base ((0x7c045073 ∷ []))) {

@@ -29,7 +29,7 @@ use Rattle.core_model.specs.World.{Start, environment, after_turn, recent, world
 use Rattle.core_model.specs.Viewed.{setting_of, view}
 use Rattle.world_rows.specs.Base.{base, at}
 
--- WU until a moment that is past
+-- WU until a past moment
 wait_past : Start
 wait_past =
     record (base ((0x00a00093 ∷ 0x0010300b ∷ 0x00100113 ∷ 0x0000006f ∷ []) ++ replicate 60 0x0
@@ -249,7 +249,7 @@ unfolding expiry expiry-0-trace ins rows lui_rows auipc_rows jal_rows jalr_rows 
     environment after_turn recent world environment_by may_go solo_turn solo_at setting_of view
 expiry-0 = (refl, refl)
 
--- a moment that comes while turns are lost is taken at the next ready one
+-- an expiry while turns are lost is taken at the next ready turn
 expiry_in_branch : Start
 expiry_in_branch =
     base ((0x10000093 ∷ 0x30509073 ∷ 0x05f00113 ∷ 0x0020400b ∷ 0x00000013 ∷ 0x00000463 ∷ 0x00100213

@@ -30,7 +30,7 @@ use Rattle.core_model.specs.World.{Start, environment, after_turn, recent, world
 use Rattle.core_model.specs.Viewed.{setting_of, view}
 use Rattle.world_rows.specs.Base.{words, base, at}
 
--- memory that no image fills
+-- memory outside of the image
 empty : Start
 empty = base ([])
 
@@ -119,7 +119,7 @@ unfolding large large-0-trace ins rows lui_rows auipc_rows jal_rows jalr_rows br
     after_turn recent world environment_by may_go solo_turn solo_at setting_of view
 large-0 = (refl, refl)
 
--- a port that isn't there reads as ones
+-- an absent port reads as ones
 unplugged : Start
 unplugged =
     record (base ((0x40000137 ∷ 0x00012283 ∷ 0xffdff06f ∷ []))) {

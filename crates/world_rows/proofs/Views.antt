@@ -1,4 +1,4 @@
--- Two machines that differ in all that one thread can't see.
+-- Two machines that differ in everything that one thread can't see.
 use Rattle.std.proofs.Common.{◌≡◌, ℕ, true, false, List, [], ◌∷◌, ◌++◌, None, Some, refl, replicate}
 use Rattle.slot_table.specs.Nibbles.{nibbles}
 use Rattle.rv_decode.specs.Table.{ins, rows, lui_rows, auipc_rows, jal_rows, jalr_rows}
@@ -42,8 +42,8 @@ one =
       };
     }
 
--- the others have other slots, modes, entries, permits and ports; their regions are those of other
--- threads; and there are words in them and in the shared region
+-- The others have other slots, modes, entries, permits and ports. Their regions have other owners,
+-- and these and the shared region have words.
 other : Start
 other =
     record (base code) {

@@ -1,4 +1,5 @@
--- Threads that aren't confined, and the words that their loads find where others may write.
+-- Threads that aren't confined, and the words that their loads find in regions that others may
+-- write.
 use Rattle.std.proofs.Common.{◌≡◌, true, false, [], ◌∷◌, ◌++◌, None, Some, refl, replicate}
 use Rattle.slot_table.specs.Nibbles.{nibbles}
 use Rattle.rv_decode.specs.Table.{ins, rows, lui_rows, auipc_rows, jal_rows, jalr_rows}

@@ -10,7 +10,7 @@ use Rattle.ask_words.specs.Forms.{Text}
 use Rattle.ask_words.specs.Rules.{shaped}
 use Rattle.ask_words.proofs.parse.named_command.Goals as goal
 
--- a new command whose words are all arguments
+-- a new command without options
 app_of_new : (old new : Command-F Command) (name : Text) →
     new ≡ record old { no_binary_name = true } → app_of_fields old ≡ new_app name →
     app_of_fields new ≡ shaped name []

@@ -10,7 +10,7 @@ use Rattle.call_bounds.proofs.RoutineLines.{joined-none, line-next, line-stops}
 use Rattle.call_bounds.proofs.RisingRoutines.{ends-there, one-more}
 use Rattle.call_bounds.proofs.routines_file.read_routines.Goals as goal
 
--- at first all is left
+-- at first no byte is read
 starts : (size : ℕ) (file : List ℕ) (n : ℕ) (xs : List Routine) (rest : List ℕ) → n ≡ 1 → xs ≡ [] →
     rest ≡ file → routines_of size file ≡ joined xs (routines_from size n None (lines_of rest))
 unfolding routines_of
@@ -24,7 +24,7 @@ no-lines = record {
   rise = tt;
 }
 
--- a fault of the next line is that of all
+-- a fault of the next line is that of the file
 stops : (size n : ℕ) (before : Option Routine) (bytes line rest : List ℕ) (xs : List Routine)
     (e : RoutinesRefused) (whole : Result (List Routine) RoutinesRefused) →
     whole ≡ joined xs (routines_from size n before (lines_of bytes)) →

@@ -1,4 +1,4 @@
--- the routines so far, and the bytes that are left
+-- the routines so far, and the rest of the bytes
 use Rattle.std.proofs.Common.{◌≡◌, suc, length}
 use Rattle.call_bounds.specs.Routines.{AreRoutines}
 use Rattle.call_bounds.specs.RoutinesFile.{lines_of, routines_from, routines_of}

@@ -1,4 +1,4 @@
--- The segments so far, and what is left to read.
+-- The segments so far, and the rest of the file.
 use Rattle.std.proofs.Common.{◌≡◌, ◌≤◌, ◌-◌, length}
 use Rattle.fp_image.specs.Format.{segments_of}
 use Rattle.fp_image.specs.Rules.{IsImage}

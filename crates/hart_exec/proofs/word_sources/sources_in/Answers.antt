@@ -1,4 +1,4 @@
--- The table, where no bit is set that must be clear.
+-- The table, if all bits that must be clear are clear.
 use Rattle.std.proofs.Common.{arith}
 use Rattle.std.proofs.lemmas.Grind.{common_steps}
 use Rattle.hart_exec.proofs.WordSources.{named}

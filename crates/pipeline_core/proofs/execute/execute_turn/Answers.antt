@@ -1,4 +1,4 @@
--- A rare issue is executed on the units as they were.
+-- A rare issue is executed on unchanged units.
 use Rattle.std.proofs.Common.{◌∙◌, ap, refl}
 use Rattle.pipe_model.specs.declared.stage_registers.Held.TheVariants.{Issue}
 use Rattle.pipeline_core.specs.declared.units.Units.{Units}

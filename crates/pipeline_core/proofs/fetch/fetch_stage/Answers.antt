@@ -1,4 +1,4 @@
--- A turn that is flushed.
+-- A flushed turn.
 use Rattle.std.proofs.Common.{refl}
 use Rattle.pipe_model.specs.Stages.{fetch_stage}
 use Rattle.pipeline_core.proofs.fetch.fetch_stage.Goals as goal

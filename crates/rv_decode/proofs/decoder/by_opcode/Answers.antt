@@ -1,4 +1,4 @@
--- Each arm knows its opcode, and so the rows that matter.
+-- Each arm knows its opcode, and so the rows that can match.
 use Rattle.std.proofs.Common.{rules, sym, ◌∙◌}
 use Rattle.rv_decode.proofs.ByOpcode.{ins-lui, ins-auipc, ins-jal, ins-jalr}
 use Rattle.rv_decode.proofs.ByOpcode.{ins-branch, ins-load, ins-store, ins-imm, ins-op}

@@ -1,4 +1,4 @@
--- A word's meaning is in range, whatever the word.
+-- The instruction of every word is in range.
 use Rattle.std.proofs.Common.{sym, subst}
 use Rattle.rv_decode.specs.Range.{InRange}
 use Rattle.rv_decode.specs.declared.instruction.Ins.{Ins}

@@ -1,4 +1,4 @@
--- The machine's remainder is what the quotient leaves.
+-- The machine's remainder is that of the truncated quotient.
 use Rattle.std.proofs.Common.{◌≡◌, ap, sym, ◌∙◌, rules}
 use Rattle.rv_exec.specs.Words.{word, signed}
 use Rattle.rv_exec.proofs.Remainder.{left, left-is}

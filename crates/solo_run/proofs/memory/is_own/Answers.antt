@@ -1,4 +1,4 @@
--- A region where the thread may load and store is its own.
+-- A region that the thread may load from and store to is its own.
 use Rattle.std.proofs.Common.{◌≡◌, true, false, sym, ◌∙◌}
 use Rattle.region_guard.specs.Regions.{is_data, may_load}
 use Rattle.solo_run.proofs.OwnStore.{own_store}

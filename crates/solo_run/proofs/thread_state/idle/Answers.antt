@@ -1,4 +1,4 @@
--- A table of which no slot is used is one.
+-- A table without used slots is valid.
 use Rattle.slot_table.specs.Nibbles.{nibbles}
 use Rattle.slot_table.specs.Table.{is_table}
 use Rattle.solo_run.proofs.Accepted.{accepted}

@@ -1,4 +1,4 @@
--- A region register takes an accepted word as it is.
+-- A region register stores an accepted word unchanged.
 use Rattle.std.proofs.Common.{refl, rules}
 use Rattle.core_model.specs.Csr.{may_hold}
 use Rattle.trap_unit.proofs.Held.{regions_kept, same_guard}

@@ -7,14 +7,14 @@ use Rattle.fp_io.specs.Gathered.{gathered_with}
 use Rattle.fp_io.proofs.Fronts.{gathered_after}
 use Rattle.fp_io.proofs.gathered.GatheredSink.put.Goals as goal
 
--- bytes that have room are gathered after those before
+-- bytes that fit are gathered after those before
 with-room : (gathered bytes : List ℕ) → length gathered + length bytes ≤ 8192 →
     gathered ++ bytes ≡ gathered_with 8192 gathered bytes
 with-room gathered bytes fits =
     let few : nat_le (length gathered + length bytes) 8192 ≡ true =
     grind (arith, nat_tests) in rw few refl
 
--- bytes that have no room leave none gathered
+-- bytes that don't fit leave none gathered
 without-room : (gathered bytes : List ℕ) → 8192 < length gathered + length bytes →
     gathered_with 8192 gathered bytes ≡ []
 without-room gathered bytes over =

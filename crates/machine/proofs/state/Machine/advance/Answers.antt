@@ -1,4 +1,4 @@
--- Each cycle goes on from those before it, and that of a line is the last one.
+-- Each cycle continues those before it. Only the last one may have a line.
 use Rattle.std.proofs.Common.{◌≡◌, ℕ, ◌<◌, ◌≤◌, false, Option, length}
 use Rattle.std.proofs.Common.{refl, ap, sym, subst, arith, ◌∙◌}
 use Rattle.std.proofs.lemmas.List.{length-map}

@@ -1,4 +1,4 @@
--- A pipeline with nothing in it refines the start.
+-- An empty pipeline refines the start.
 use Rattle.pipeline_core.proofs.Refining.{starts_at}
 use Rattle.pipeline_core.proofs.pipe.Pipe.new.Goals as goal
 

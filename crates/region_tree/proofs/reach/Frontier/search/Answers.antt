@@ -5,7 +5,7 @@ use Rattle.region_tree.proofs.ReachLaws.{gather-pop, gather-end, met-within, emp
 use Rattle.region_tree.proofs.reach.Frontier.search.Goals as goal
 use Rattle.region_tree.proofs.reach.Frontier.search.Goals.{In-Some}
 
--- the word that is to be done is met
+-- the pending word is marked
 met : (c : In-Some) → is_met c.loop-index.self.met.items c.in-Some.index ≡ true
 met c =
     c.loop-index.invariant.known c.in-Some.index (subst (λ l. Contains l c.in-Some.index)

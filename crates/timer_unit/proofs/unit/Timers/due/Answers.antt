@@ -1,4 +1,4 @@
--- A moment that the time has reached.
+-- A moment that is reached.
 use Rattle.std.proofs.Common.{rules}
 use Rattle.timer_unit.proofs.unit.Timers.due.Goals as goal
 
