@@ -1,5 +1,5 @@
-//! The definitions of the core: one instruction of one thread, one thread alone, the machine cycle
-//! by cycle, and its settings of slots and modes. The definitions are in specs/, below every
+//! The definitions of the core: one instruction of one thread, one thread by itself, the machine
+//! cycle by cycle, and its settings of slots and modes. The definitions are in specs/, below every
 //! engine.
 
 #![tactic(auto)]

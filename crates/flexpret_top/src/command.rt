@@ -191,7 +191,7 @@ fn laws()
 /// - `check SETUP --thread i --cycles n --trace FILE`: `same` if a recorded trace has these lines;
 /// - `bound SETUP --thread i --from a --to b`: the largest number of cycles from a section's first
 ///   issue to the last, over all paths that keep the loops' bounds;
-/// - `selfrun NUMBER`: what the eight threads did in a run of programs that the number draws;
+/// - `selfrun NUMBER`: the tallies of the eight threads in a run of programs drawn from the number;
 /// - `phases SETUP --cycles n`: the settings of slots and modes in n cycles, each with the first
 ///   cycle that is picked by it: the first one, and one for each write of them that has retired;
 /// - `elf FILE`: the image of a static ELF32 executable;

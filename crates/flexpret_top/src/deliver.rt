@@ -26,7 +26,7 @@ use machine::Machine;
 use phase_log::run_phases;
 use trace_print::bound_line;
 
-/// Runs so many cycles, and writes nothing.
+/// Runs a machine for a number of cycles, and writes nothing.
 fn go(machine: &mut Machine, cycles: u64, ports: &mut Ports)
     requires start { machine.old.at ≡ 0 }
     requires limit { cycles ≤ most_cycles }

@@ -1,4 +1,4 @@
-//! The words at the port of a thread that runs alone.
+//! The words at the port of a thread that runs by itself.
 
 ghost use Rattle.std.specs.Prelude.{◌≡◌, Option, List, find, map, nat_le, option_copied, reverse};
 ghost use Rattle.fp_ports.specs.PluggedPorts.{Row, row_of, word_seen};

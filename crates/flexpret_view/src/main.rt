@@ -1,5 +1,5 @@
-//! The program: `flexpret_view turns SETUP --from a --to b` shows what the pipeline does in each
-//! cycle of a window, as text, for a viewer, or as a picture.
+//! The program: `flexpret_view turns SETUP --from a --to b` shows the pipeline in each cycle of a
+//! window, as text, for a viewer, or as a picture.
 #![tactic(auto)]
 
 ghost use Rattle.std.specs.Prelude.{◌≡◌, vec_len};

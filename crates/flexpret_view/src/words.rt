@@ -31,9 +31,9 @@ pub struct Ask<'a> {
 /// Why the arguments are no command.
 #[derive(Drop)]
 pub enum WordsNo {
-    /// The parser reports what is wrong, or shows its help.
+    /// The parser reports an error, or shows its help.
     Told(Error),
-    /// They name no command, or leave out what it requires.
+    /// The arguments name no command, or lack one that it requires.
     Usage,
     /// The window has no cycle.
     EmptyWindow,
@@ -112,8 +112,9 @@ fn parsed<'a>(alloc: Global, words: &'a [String]) -> Result<ArgMatches<'a>, Erro
 /// # Errors
 ///
 /// `Told` with the parser's text if the arguments don't fit the options, or request help; `Usage`
-/// if they name no command or lack what it requires; `EmptyWindow` if `from` isn't below `to`;
-/// `WidePicture` if a picture of more than 2,000 cycles is requested; `NoMemory` if memory ran out.
+/// if they name no command or lack an argument that it requires; `EmptyWindow` if `from` isn't
+/// below `to`; `WidePicture` if a picture of more than 2,000 cycles is requested; `NoMemory` if
+/// memory ran out.
 pub fn read_words<'a>(alloc: Global, words: &'a [String]) -> Result<Ask<'a>, WordsNo> {
     let matches = parsed(alloc, words)?;
     match matches.subcommand_matches("turns") {

@@ -96,8 +96,8 @@ fn read_segments(
     Ok(image)
 }
 
-/// The segment at the front of `rest`, the end of a file of `total` bytes. The segment before it
-/// ends at the address `from`.
+/// The first segment of `rest`, the end of a file of `total` bytes. The segment before it ends at
+/// the address `from`.
 #[tactic(auto, unfolding(crate::specs::Format::segment_of))]
 fn read_segment(
     alloc: Global,

@@ -170,7 +170,7 @@ pub(crate) fn permit_or_false(
     }
 }
 
-/// A required name of so many bytes.
+/// A required name with a length in a range.
 #[tactic(auto, unfolding(crate::specs::FaultOrder::key_fault))]
 pub(crate) fn needed_name(
     alloc: Global,

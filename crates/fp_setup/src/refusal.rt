@@ -3,7 +3,7 @@
 use std::alloc::{AllocError, AllocFailed};
 use thiserror::Error;
 
-/// What is wrong with a setup. The numbers are those that a refusal line shows.
+/// The kind of a setup's fault. The numbers are those of refusal lines.
 #[derive(Clone, Copy, Debug, PartialEq, Eq)]
 pub enum SetupNo {
     /// The file has more than 262,144 bytes.
@@ -126,7 +126,7 @@ impl Place {
 /// A fault of a setup with its place.
 #[derive(Clone, Copy, Debug, PartialEq, Eq)]
 pub struct Fault {
-    /// What is wrong.
+    /// The kind of the fault.
     pub code: SetupNo,
     /// Where it is.
     pub place: Place,

@@ -10,8 +10,8 @@ ghost use Rattle.loop_laws.specs.LoopLaws.{LoopsExist, LoopsWithoutPermits, Past
 ghost use Rattle.loop_laws.specs.LoopLaws.{PhasedInputsAreLoops, PhasedLoops};
 ghost use Rattle.loop_laws.specs.Sampled.{LatchOfStores, SampledWords, StoreDelay};
 
-/// A confined hard thread in a closed loop runs as if it were alone with its plant: in a quiet run
-/// its events are those of the one-thread definition over its view and the plant.
+/// A confined hard thread in a closed loop runs as if it were by itself with its plant: in a quiet
+/// run its events are those of the one-thread definition over its view and the plant.
 pub fn runs_alone_in_loop()
     ensures { LoopIsolation }
 {
@@ -26,14 +26,14 @@ pub fn shows_equal_events()
     runs_alone_in_loop();
 }
 
-/// A confined thread in a closed loop runs as if it were alone with its plant over the settings of
-/// the scheduling, while no setting makes it soft active and no region register is written.
+/// A confined thread in a closed loop runs as if it were by itself with its plant over the settings
+/// of the scheduling, while no setting makes it soft active and no region register is written.
 pub fn runs_by_phases_in_loop()
     ensures { PhasedLoops }
 {}
 
 /// Fixed input words are a plant that ignores all stores: it responds to each thread in each run,
-/// and alone in the loop with it a thread has the same events as alone with these words.
+/// and a thread has the same events by itself in the loop with it as by itself with these words.
 pub fn takes_inputs_as_plants()
     ensures answered { InputsAnswer }
     ensures alone { InputsAreLoops }
@@ -59,8 +59,8 @@ pub fn has_closed_loops()
     ensures { LoopsExist }
 {}
 
-/// If no thread has a permit, each confined hard thread runs as if it were alone in the loop with
-/// its plant.
+/// If no thread has a permit, each confined hard thread runs as if it were by itself in the loop
+/// with its plant.
 pub fn runs_alone_without_permits()
     ensures { LoopsWithoutPermits }
 {

@@ -268,8 +268,8 @@ pub fn continue_loops<K: Sink>(
 
 /// Runs a machine from cycle 0 on in closed loops with its plants, which do a step every `every`
 /// cycles, and puts the lines of a thread. They are the text of the run in which each plant
-/// responds to its thread. So they are the text of the thread alone in the loop with its plant, for
-/// any code of the other threads.
+/// responds to its thread. So they are the text of the thread by itself in the loop with its plant,
+/// for any code of the other threads.
 ///
 /// # Errors
 ///

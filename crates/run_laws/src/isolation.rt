@@ -4,16 +4,16 @@
 ghost use Rattle.run_laws.specs.Isolation.{EqualViews, Isolation, PhasedIsolation};
 ghost use Rattle.run_laws.specs.Isolation.{QuietUnpermitted, WideIsolation};
 
-/// A confined hard thread without a permit runs as if it were alone: in a quiet run its events are
-/// those of the definition of one thread, over its view.
+/// A confined hard thread without a permit runs as if it were by itself: in a quiet run its events
+/// are those of the definition of one thread, over its view.
 pub fn runs_alone()
     ensures { Isolation }
 {
     crate::retired_isolation::runs_alone();
 }
 
-/// A confined thread without a permit that is never soft active runs as if it were alone over the
-/// settings of the scheduling: while no region register is written, its events are those of the
+/// A confined thread without a permit that is never soft active runs as if it were by itself over
+/// the settings of the scheduling: while no region register is written, its events are those of the
 /// definition of one thread, over its view and the settings of the run.
 pub fn runs_by_phases()
     ensures { PhasedIsolation }

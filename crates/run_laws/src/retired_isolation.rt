@@ -5,13 +5,14 @@ ghost use Rattle.run_laws.specs.RetiredIsolation.{RetiredEqualViews, RetiredIsol
 ghost use Rattle.run_laws.specs.RetiredIsolation.{RetiredPhasedIsolation, RetiredWideIsolation};
 
 /// If no retired issue writes a configuration register, a confined hard thread without a permit
-/// runs as if it were alone: its events are those of the definition of one thread over its view.
+/// runs as if it were by itself: its events are those of the definition of one thread over its
+/// view.
 pub fn runs_alone()
     ensures { RetiredIsolation }
 {}
 
 /// If no retired issue writes a region register, a confined thread without a permit that is never
-/// soft and active runs as if it were alone over the settings of slots and modes.
+/// soft and active runs as if it were by itself over the settings of slots and modes.
 pub fn runs_by_phases()
     ensures { RetiredPhasedIsolation }
 {}

@@ -23,8 +23,8 @@ use slot_table::SlotTable;
 use timer_unit::Timers;
 use trap_unit::Traps;
 
-/// A thread between two of its instructions, with the units that these work on. Of the units it
-/// uses its own rows; it is confined, and has no permit to read or write slots, modes and regions.
+/// A thread between two of its instructions, with the units that these work on. It uses its own
+/// rows of the units. It is confined, and has no permit to read or write slots, modes and regions.
 #[derive(Clone, Copy)]
 pub struct ThreadState {
     /// The thread's number, 0 to 7.

@@ -41,7 +41,7 @@ fn push_slow(text: &mut RowText, alloc: Global, n: &[u64; 8]) {
     push_fetched(text, files.fetch(alloc, "a", low_word(n[1]) as usize))
 }
 
-/// Appends what was fetched.
+/// Appends the fetched bytes.
 fn push_fetched(text: &mut RowText, fetched: Result<Vec<u8>, FetchFault>) {
     match fetched {
         Ok(bytes) => write!(text, "{} ", str::from_utf8(&bytes).unwrap_or("?")),
@@ -49,7 +49,7 @@ fn push_fetched(text: &mut RowText, fetched: Result<Vec<u8>, FetchFault>) {
     }
 }
 
-/// Writes a text to the slow runtime's output and flushes it, and appends what it took.
+/// Writes a text to the slow runtime's output and flushes it, and appends the bytes that it took.
 fn push_out(text: &mut RowText, with: &str) {
     let (failing, bytes) = head(with);
     let slow = ShortIo::new(low_word(number(failing)));
@@ -73,7 +73,7 @@ fn push_files(text: &mut RowText, alloc: Global, steps: &str) {
 }
 
 /// `add NAME TEXT` gives a file, `fail CALL` lists a call as one that fails, `fetch NAME MOST`
-/// appends what is fetched.
+/// appends the fetched bytes.
 fn push_files_step(text: &mut RowText, alloc: Global, files: &mut MemFiles, step: &str) {
     let (call, with) = head(step);
     let (name, more) = head(with);

@@ -167,7 +167,8 @@ fn push_beside(
 }
 
 /// Appends the events of a program: the registers of slots and modes, the entry of thread 1 and how
-/// many cycles; the words of its code after their indices; and what thread 0's port is fed.
+/// many cycles; the words of its code after their indices; and the words that thread 0's port is
+/// fed.
 pub fn push_program(alloc: Global, text: &mut RowText, program: &str) {
     let (head, rest) = program.split_once(", ").unwrap_or((program, ""));
     let (code, fed) = rest.split_once(", ").unwrap_or((rest, ""));

@@ -1,6 +1,6 @@
-//! Worked programs through the pipeline, and the trace of a machine that is put together from its
-//! fields. A call is the program; its answer is the events, each after its thread and with a
-//! semicolon at its end.
+//! Worked programs through the pipeline, and the trace of a machine that is made field by field. A
+//! call is the program; its answer is the events, each after its thread and with a semicolon at its
+//! end.
 
 use crate::{machines, pipelines};
 use row_text::RowText;
