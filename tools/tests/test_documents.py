@@ -123,6 +123,30 @@ def test_a_link_that_leads_nowhere_is_reported(tmp_path: Path, link: str) -> Non
     assert status == 1 and f"3: {link}: no such" in text and "1 links lead nowhere" in text
 
 
+def test_definitions_and_their_files_are_in_the_crates() -> None:
+    assert said("doc_names.py") == (0, "doc_names.py: 0 names aren't in the tree\n")
+
+
+@pytest.mark.parametrize(
+    "page, old, new, told",
+    [
+        ("DEFINITIONS.md", "| Lag.antt |", "| Lags.antt |", "Lags.antt: no such file"),
+        ("DEFINITIONS.md", "| fp_io: Memory.antt |", "| fp_setup: Memory.antt |", "Memory.antt: no such file"),
+        ("DEFINITIONS.md", "`ins w`", "`inst w`", "inst: not declared in Table.antt"),
+        ("DEFINITIONS.md", "(Relation.antt)", "(Relations.antt)", "Relations.antt: no such file"),
+        ("DEFINITIONS.md", "| fp_ports: port.rt |", "| fp_ports: lib.rt |", "word_at: not declared in fp_ports: lib.rt"),
+        ("ARCHITECTURE.md", "rv_decode/specs/Lag.antt", "rv_exec/specs/Lag.antt", "Lag.antt: no such file"),
+        ("ARCHITECTURE.md", "| `edges_of` |", "| `edges` |", "edges: not declared in region_tree/specs/Edges.antt"),
+        ("LIBRARY.md", "command_files/src/bound.rt", "command_files/src/bounds.rt", "bounds.rt: no such file"),
+    ],
+)  # fmt: skip
+def test_another_definition_or_file_is_reported(tmp_path: Path, page: str, old: str, new: str, told: str) -> None:
+    copy = Path(shutil.copy(TOP / "docs/dev" / page, tmp_path))
+    change(copy, old, new)
+    status, text = said("doc_names.py", copy)
+    assert status == 1 and told in text
+
+
 def test_figures_are_those_that_are_drawn() -> None:
     status, text = said("figures.py", "--check")
     assert status == 0, text

@@ -1,4 +1,4 @@
-"""The must-fail edits: each can be applied, and those of the table of wrong bodies are in the gate."""
+"""The mutants, as must-fail edits: each can be applied, and those of the table are in the gate."""
 from __future__ import annotations
 
 import re
@@ -18,9 +18,9 @@ MOVED = sorted(TOP.glob("bench/edits/*/*.edit"))
 
 
 def table() -> list[tuple[str, str]]:
-    """The crate and the wrong body of each edit that docs/dev/TESTING.md lists."""
+    """The crate and the name of each mutant that docs/dev/TESTING.md lists."""
     text = (TOP / "docs/dev/TESTING.md").read_text()
-    rows = re.findall(r"^\| [^|]+ \| ([^|]+) \|$", text[text.index("| body | edits |") :], re.MULTILINE)
+    rows = re.findall(r"^\| [^|]+ \| ([^|]+) \|$", text[text.index("| mutant | files |") :], re.MULTILINE)
     found = []
     for row in rows:
         for group in row.split(";"):
