@@ -1,1 +1,1 @@
-"""An executable model of the machine, its files and its bounds, written apart from the program that is proved."""
+"""An executable model of the machine, its files and its bounds, written independently of the proved program."""

@@ -14,7 +14,7 @@ from model.world import RETIRES, Setting, entries
 
 
 class View:
-    """What a confined thread's trace depends on: its code, slots, private memory and port."""
+    """Everything that a confined thread's trace depends on: its code, slots, private memory and port."""
 
     def __init__(self, setup: Setup, image: Image, ports: Ports, number: int) -> None:
         self.setup, self.number = setup, number
@@ -30,14 +30,14 @@ class View:
 
 
 class InView:
-    """What the view answers to an issue of its thread in a cycle; `data` is the thread's own memory."""
+    """The environment of the thread's issue in a cycle, by its view; `data` is the thread's own memory."""
 
     def __init__(self, view: View, data: bytearray, cycle: int) -> None:
         self.view, self.data, self.cycle = view, data, cycle
         self.reads_port = False
 
     def data_owner(self, address: int) -> int | None:
-        """The entry of the data region that has an address; None where none has."""
+        """The entry of the data region that has an address; None if none has."""
         if not DATA <= address < DATA + self.view.size:
             return None
         return self.view.data_owners[(address - DATA) // (self.view.size // 8)]
@@ -77,8 +77,8 @@ class InView:
 
 
 class InWideView(InView):
-    """The same for a thread that isn't confined: all code, the machine's own registers to be read with a permit, and as
-    words of others those that its loads got in a run, in order."""
+    """The same for a thread that isn't confined: all code, configuration registers to read with a permit, and the
+    foreign words that its loads got in a run, in order."""
 
     def __init__(self, view: View, data: bytearray, cycle: int, granted: list[int]) -> None:
         super().__init__(view, data, cycle)
@@ -98,17 +98,17 @@ class InWideView(InView):
 
 
 Loaded = Callable[[int], object]
-"""Is told each cycle in which the device at the thread's port is read, before the event of it."""
+"""A call for each cycle in which the device at the thread's port is read, before the event of the cycle."""
 
 
 def unread(cycle: int) -> None:
-    """What is told where there is no device."""
+    """The call for reads without a device."""
 
 
 def run_alone(view: View, cycles: int, is_own: Callable[[int], bool], granted: Sequence[int] | None = None,
               loaded: Loaded = unread, put: Callable[[Event], None] = lambda event: None) -> list[Event]:  # fmt: skip
-    """The events of a thread that has the cycles which are its own, and each as it comes to `put`; with `granted` the
-    thread isn't confined, and these are the words of others that it loads."""
+    """The events of a thread at its own cycles; calls `put` with each. With `granted` the thread isn't confined, and
+    these are the foreign words that it loads."""
     thread, data, events = Thread(view.thread.entry), bytearray(view.data), list[Event]()
     words = list(granted or ())
     for cycle in range(cycles - RETIRES):
@@ -126,22 +126,22 @@ def run_alone(view: View, cycles: int, is_own: Callable[[int], bool], granted: S
 
 
 def own_slot(view: View) -> Callable[[int], bool]:
-    """Whether a cycle is the thread's by the setup's slots."""
+    """Whether the setup's slots give the thread a cycle."""
     return lambda cycle: view.frame_length > 0 and cycle % view.frame_length in view.own
 
 
 def solo(view: View, cycles: int) -> list[Event]:
-    """The events of a confined hard thread, as it has them by itself."""
+    """The events of a confined hard thread that runs by itself."""
     return run_alone(view, cycles, own_slot(view))
 
 
 def solo_with_words(view: View, cycles: int, granted: Sequence[int]) -> list[Event]:
-    """The events of a hard thread that isn't confined, with the words that its loads from others' regions got."""
+    """The events of a hard thread that isn't confined, with the words that its loads got from foreign regions."""
     return run_alone(view, cycles, own_slot(view), granted)
 
 
 def phased(view: View, settings: Sequence[Setting], cycles: int) -> list[Event]:
-    """The events of a confined thread over settings in each of which it is hard, asleep or not."""
+    """The events of a confined thread over settings, in each of which it is hard, asleep or not."""
 
     def is_own(cycle: int) -> bool:
         setting = [each for each in settings if each.cycle <= cycle][-1]

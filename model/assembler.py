@@ -35,7 +35,7 @@ FIXED = {
 
 
 class SourceFault(Exception):
-    """The first fault of a source, in a line from 1 on; 0 where it is the source's."""
+    """The first fault of a source, with its line from 1 on; 0 for the whole source."""
 
     def __init__(self, line: int, code: SourceNo) -> None:
         super().__init__(line, code)
@@ -52,7 +52,7 @@ class LineFault(Exception):
 
 @dataclass(frozen=True)
 class Operand:
-    """A number, or a label and a number to add; of an offset with a base register, `base` is that."""
+    """A number, or a label and a number to add; for an offset with a base register, `base` is the register."""
 
     number: int
     label: str | None = None
@@ -154,7 +154,7 @@ FORMS = {
 
 
 def read_operands(name: str, found: Sequence[Token]) -> list[Operand]:
-    """The operands of a mnemonic, which are all of the tokens."""
+    """The operands of a mnemonic; no token is left after them."""
     cursor, operands = Cursor(found), list[Operand]()
     for kind in FORMS[name]:
         if operands:
@@ -200,7 +200,7 @@ class Line:
     at: int
 
     def checked_count(self) -> int:
-        """How many words the line places."""
+        """The number of words that the line places."""
         first = self.operands[0].number if self.operands else 0
         if self.name in (".org", ".space"):
             within(first, 0, SMALL if self.name == ".space" else LAST_WORD - 3)
@@ -218,7 +218,7 @@ class Line:
 
 @dataclass
 class Placer:
-    """The first pass: labels, and which words each line places."""
+    """The first pass: labels, and the words that each line places."""
 
     labels: dict[str, int] = field(default_factory=dict)
     placed: set[int] = field(default_factory=set)
@@ -242,7 +242,7 @@ class Placer:
         self._place(Line(number, name, read_operands(name, found[at + 1 :]), self.location))
 
     def _take_labels(self, found: Sequence[Token]) -> int:
-        """Keeps the labels with which a line begins, and says how many tokens they are."""
+        """Stores the labels at the beginning of a line, and returns the number of their tokens."""
         at = 0
         while at + 1 < len(found) and found[at].kind == Kind.NAME and found[at + 1].is_mark(":"):
             label = found[at].text.decode()
@@ -271,7 +271,7 @@ class Encoder:
         self.labels = labels
 
     def words(self, line: Line) -> list[int]:
-        """The words of a line. Of its faults a label that is nowhere comes first."""
+        """The words of a line. An undefined label is reported before its other faults."""
         for operand in line.operands:
             if operand.label is not None and operand.label not in self.labels:
                 raise LineFault(SourceNo.NoLabel)
@@ -282,13 +282,13 @@ class Encoder:
         return word(base + operand.number)
 
     def full(self, operand: Operand) -> int:
-        """A word: any address, or a number of 32 bits with a sign or without."""
+        """A word: any address, or a number of 32 bits, with a sign or without."""
         if operand.label is None:
             within(operand.number, -(1 << 31), LAST_WORD)
         return self.address(operand)
 
     def offset(self, operand: Operand, line: Line, reach: int) -> int:
-        """The offset of a jump, which is below `reach` either way."""
+        """The offset of a jump; its absolute value is below `reach`."""
         offset = within(signed(self.address(operand) - line.at), -reach, reach - 2)
         if self.address(operand) % 4:
             raise LineFault(SourceNo.Misaligned)

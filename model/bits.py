@@ -13,7 +13,7 @@ def word(number: int) -> int:
 
 
 def signed(value: int, width: int = 32) -> int:
-    """A field of so many bits as a number in two's complement."""
+    """A field of some bits as a number in two's complement."""
     value %= 1 << width
     return value - (1 << width) if value >> (width - 1) else value
 

@@ -9,19 +9,19 @@ from model.setups import Loop
 from model.walks import step_cost
 
 NONE = -1
-"""No walk leads from one position to another."""
+"""No path leads from one position to another."""
 
 Costs = tuple[tuple[int, ...], ...]
 """The largest costs from each of a thread's positions to each, in this order."""
 
 
 def join(x: Costs, y: Costs) -> Costs:
-    """One way or the other."""
+    """The costs of either of two sets of paths."""
     return tuple(tuple(map(max, row, other)) for row, other in zip(x, y))
 
 
 def chain(x: Costs, y: Costs) -> Costs:
-    """One way and then the other."""
+    """The costs of two sets of paths, one after the other."""
     columns = range(len(x))
 
     def largest(row: Sequence[int], j: int) -> int:
@@ -31,7 +31,7 @@ def chain(x: Costs, y: Costs) -> Costs:
 
 
 def at_most(round_trip: Costs, times: int, one: Costs) -> Costs:
-    """A way that is gone so many times at most."""
+    """The costs of a set of paths, taken at most `times` times."""
     base, done = join(one, round_trip), one
     while times:
         if times % 2:
@@ -50,9 +50,9 @@ def raised(ends: list[int], other: Sequence[int]) -> list[int]:
 
 
 class Bounds:
-    """The costs of a graph's parts, for a thread under a slots register. Callees come first: `through` has for each
-    routine the costs from its head to the word behind its call, and `ends` for each part and position at its first word
-    the largest cost of a walk that ends anywhere in it or below it."""
+    """The costs of a graph's functions, for a thread under a slots register. Callees come first. `through` has for each
+    routine the costs from its head to the word after its call. `ends` has for each function and position at its first
+    word the largest cost of a path that ends in it or below it."""
 
     def __init__(self, graph: Graph, slots: int, thread: int) -> None:
         self.graph = graph
@@ -79,7 +79,7 @@ class Bounds:
         self._do(part)
 
     def _arcs(self, part: Part, address: int) -> list[tuple[int, Costs]]:
-        """Where a word leads in its part, a call to the word behind it."""
+        """The edges of a word in its function; a call has one to the word after it."""
         if called := self.graph.called(address):
             costs = chain(self.steps[JUMP_LAG], self.through[called])
             return [(address + 4, costs)] if costs != self.none else []
@@ -88,7 +88,7 @@ class Bounds:
         return [(edge.to, self.steps[edge.lag]) for edge in self.graph.plain(address)]
 
     def _sweep(self, part: Part, first: int, last: int, inner: Mapping[int, Costs]) -> dict[int, Costs]:
-        """The costs from one word to each that is met up to another, with the loops inside by their heads."""
+        """The costs from one word to each reached word up to another, with the loops inside by their heads."""
         pending, met = {first: self.one}, dict[int, Costs]()
         for address in range(first, last + 4, 4):
             if address not in pending:
@@ -109,7 +109,7 @@ class Bounds:
         return trips
 
     def _loops(self, part: Part) -> dict[int, Costs]:
-        """For the head of each loop that is reached the costs of its rounds."""
+        """The costs of the rounds of each reached loop, by its head."""
         done: dict[int, Costs] = {}
         for loop in sorted(part.loops(self.graph.loops), key=lambda each: (-each.head, -each.last)):
             if loop.head in self.graph.reached[part]:
@@ -127,7 +127,7 @@ class Bounds:
         self.through[part], self.ends[part] = through, raised(ends, largest_of_rows(through))
 
     def _ends_behind(self, part: Part, address: int, costs: Costs) -> list[int]:
-        """The largest costs of walks that end in what a word calls, or by leaving the part."""
+        """The largest costs of paths that end in a function that a word calls, or leave the function."""
         ends = [NONE] * len(self.own)
         if called := self.graph.called(address):
             inside = chain(costs, self.steps[JUMP_LAG])

@@ -1,4 +1,4 @@
-"""The commands over files, a sink and eight ports: what is written, in which puts, and the status."""
+"""The commands over files, a sink and eight ports: the text that is written, in which puts, and the status."""
 from __future__ import annotations
 
 import sys
@@ -29,19 +29,19 @@ from model.world import BUBBLE, RETIRES, PortCall, Setting, World
 Bytes = bytes
 
 LINE_BYTES = 60
-"""No line of a trace has more."""
+"""The most bytes of a trace's line."""
 
 MOST_BOUND = (1 << 64) - 1
 
 TAKEN_AWAY = 3
-"""A port that is unplugged in a cycle is taken away so many cycles later, before the issue of that cycle gets to it."""
+"""The number of cycles from the unplugging of a port to its removal, before the issue of that cycle reaches it."""
 
 AT_PORT = 3
-"""An issue gets to the port so many cycles later."""
+"""The number of cycles from an issue to its access to the port."""
 
 
 class Status(IntEnum):
-    """How a command ends."""
+    """The end of a command."""
 
     OK = 0
     DIFFERS = 1
@@ -57,7 +57,7 @@ class Status(IntEnum):
 
 
 class ReadFailed(Exception):
-    """A file isn't there, or can't be read."""
+    """A file doesn't exist, or can't be read."""
 
 
 class PutFailed(Exception):
@@ -74,7 +74,7 @@ class Refused(Exception):
 
 class Files(Protocol):
     def fetch(self, name: str, most: int) -> bytes:
-        """The bytes of a file, of at most `most` and one more; raises ReadFailed."""
+        """The bytes of a file, at most `most` and one more; raises ReadFailed."""
 
 
 class Sink(Protocol):
@@ -84,7 +84,7 @@ class Sink(Protocol):
 
 @dataclass
 class MemFiles:
-    """Files in memory. A call whose number is in `failing` fails; calls are noted."""
+    """Files in memory. A call whose number is in `failing` fails; calls are recorded."""
 
     names: dict[str, bytes]
     failing: set[int] = field(default_factory=set)
@@ -112,7 +112,7 @@ class RealFiles:
 
 @dataclass
 class MemSink:
-    """A sink in memory. A call whose number is in `failing` takes so many bytes and fails; calls are noted."""
+    """A sink in memory. A call whose number is in `failing` takes that many bytes and fails; calls are recorded."""
 
     failing: dict[int, int] = field(default_factory=dict)
     notes: list[str] = field(default_factory=list)
@@ -120,7 +120,7 @@ class MemSink:
 
     @property
     def bytes(self) -> Bytes:
-        """All that was put."""
+        """All bytes that were put."""
         return b"".join(self.puts)
 
     def put(self, data: Bytes) -> None:
@@ -144,8 +144,7 @@ class OutSink:
 
 @dataclass
 class Call:
-    """A command that was asked, with what it is done over. Each method puts what its command writes, or raises how it
-    ends."""
+    """A command with its files, sink and ports. Each method writes the text of its command, or raises its end."""
 
     question: Question
     files: Files
@@ -229,7 +228,7 @@ class Call:
     # ------------------------------------------------------------ parts of these
 
     def machine(self) -> tuple[Setup, Image]:
-        """The setup that is asked about, and its image."""
+        """The setup of the command, and its image."""
         try:
             setup = read_setup(self.files.fetch(self.question.file, setups.MOST_BYTES))
             return setup, read_image(self.files.fetch(setup.image, MOST_BYTES[setup.size]), setup.size)
@@ -245,7 +244,7 @@ class Call:
 
     def over_machine(self, setup: Setup, image: Image, retire: Callable[[Event], None],
                      begin: Callable[[], None] = lambda: None) -> None:  # fmt: skip
-        """Runs the machine beside the ports, which it feeds first, and gives each event to `retire` as it retires."""
+        """Runs the machine with the ports, which it feeds first, and calls `retire` with each event as it retires."""
         world = World(setup, image, list(self.ports))
         feed(setup, self.ports)
         begin()
@@ -263,7 +262,7 @@ class Call:
         self.alone_in(setup, image, put)
 
     def alone_in(self, setup: Setup, image: Image, put: Callable[[Event], None]) -> None:
-        """Runs the thread by itself, reading the device at its port, and gives `put` each event."""
+        """Runs the thread by itself, reading the device at its port, and calls `put` with each event."""
         thread = self.question.thread
         port = self.ports[thread]
         view = View(setup, image, list(self.ports), thread)
@@ -271,7 +270,7 @@ class Call:
         run_alone(view, self.question.cycles, own_slot(view), loaded=loaded, put=put)
 
     def bound_of(self, routines: Callable[[Setup], list[Part]]) -> None:
-        """The bound of the section, with the routines that a function gives."""
+        """The bound of the section, with the routines that a function returns."""
         setup, image = self.machine()
         self.check_section(setup)
         section = Part(self.question.start, self.question.end)
@@ -287,7 +286,7 @@ class Call:
 
 
 def section_refusal(setup: Setup, question: Question) -> SectionNo | None:
-    """Why a thread, or a section of its code, can't be asked about."""
+    """Why a thread, or a section of its code, isn't accepted."""
     thread, start, end = setup.threads[question.thread], question.start, question.end
     if thread.mode != HARD:
         return SectionNo.NotHard
@@ -303,8 +302,8 @@ def section_refusal(setup: Setup, question: Question) -> SectionNo | None:
 
 
 def cycles_of(world: World, end: int) -> Iterator[int]:
-    """Does the cycles up to `end`, and gives the number of each. Of those in which all threads sleep, with nothing in the
-    pipeline, it gives the last one only."""
+    """Does the cycles up to `end`, and yields the number of each. Of cycles in which all threads sleep, with nothing in
+    the pipeline, it yields only the last one."""
     while world.at < end:
         world.step()
         yield world.at - 1
@@ -324,7 +323,7 @@ def feed(setup: Setup, ports: Ports) -> None:
 
 
 def unplug(setup: Setup, ports: Ports, cycle: int) -> None:
-    """Takes away the devices that are gone for what gets to the ports in a cycle."""
+    """Removes the devices that are gone for the issues that reach the ports in a cycle."""
     for number, (thread, port) in enumerate(zip(setup.threads, ports)):
         if port is not None and thread.unplug is not None and cycle >= thread.unplug + TAKEN_AWAY:
             port.unplug()
@@ -332,7 +331,7 @@ def unplug(setup: Setup, ports: Ports, cycle: int) -> None:
 
 
 def call_port(ports: Ports, call: PortCall | None) -> None:
-    """Reads or writes the device that an issue gets to."""
+    """Reads or writes the device that an issue accesses."""
     port = ports[call.thread] if call else None
     if call is None or port is None:
         return
@@ -349,7 +348,7 @@ def first_difference(one: bytes, other: bytes) -> int:
 
 
 def answered(call: Call) -> Status:
-    """Does a command, and puts the line of a refusal."""
+    """Does a command, and writes the line of a refusal."""
     commands: dict[str, Callable[[], None]] = {
         "run": call.run, "dump": call.dump, "phases": call.phases, "solo": call.solo, "check": call.check,
         "bound": call.bound, "calls": call.calls, "asm": call.asm, "elf": call.elf, "selfrun": call.selfrun,
@@ -363,7 +362,7 @@ def answered(call: Call) -> Status:
 
 
 def flexpret(words: Sequence[str], files: Files, sink: Sink, ports: Ports) -> Status:
-    """Answers words over files, a sink and eight ports, which are left as the command leaves them."""
+    """Answers a command line over files, a sink and eight ports, which are left as the command leaves them."""
     question = ask(words)
     if question is None:
         return Status.USAGE
@@ -378,7 +377,7 @@ def flexpret(words: Sequence[str], files: Files, sink: Sink, ports: Ports) -> St
 
 
 def answer(words: Sequence[str], files: dict[str, bytes], ports: Ports | None = None) -> tuple[Status, bytes]:
-    """The status and the text of a command over files in memory, beside devices of the program's kind."""
+    """The status and the text of a command over files in memory, with devices of the program's kind."""
     sink = MemSink()
     status = flexpret(words, MemFiles(files), sink, ports or [HeldPort() for _ in range(THREADS)])
     return status, sink.bytes

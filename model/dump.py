@@ -1,4 +1,4 @@
-"""What is seen of the machine after a number of cycles: the pipeline, and state that is some cycles old."""
+"""The visible state of the machine after a number of cycles: the pipeline, and state that is some cycles old."""
 from __future__ import annotations
 
 from collections.abc import Iterator
@@ -16,13 +16,13 @@ ROW = 32
 
 
 def is_unplugged(setup: Setup, ports: Ports, number: int, cycles: int) -> bool:
-    """Whether no device stands at a thread's port after so many cycles."""
+    """Whether no device is at a thread's port after a number of cycles."""
     unplug = setup.threads[number].unplug
     return ports[number] is None or (unplug is not None and cycles >= unplug + RETIRES)
 
 
 def turn_text(turn: Turn) -> str:
-    """A turn in one of the stages behind the first."""
+    """A turn in one of the stages after the first."""
     if turn.kind == Kind.BUBBLE:
         return "-"
     shown = "flushed" if turn.kind == Kind.FLUSHED else f"{turn.pc:08x} {turn.word:08x}"
@@ -54,8 +54,8 @@ def data_lines(data: bytes) -> Iterator[str]:
 
 
 class Seen:
-    """The state of the machine as it is seen: registers up to the issues of cycle n - 5, data and latches up to those
-    of n - 4, and the rest up to those of n - 3."""
+    """The visible state of the machine: registers up to the issues of cycle n - 5, data and latches up to those of n -
+    4, and the rest up to those of n - 3."""
 
     def __init__(self, setup: Setup, image: Image, ports: Ports, cycles: int) -> None:
         world = World(setup, image, ports)

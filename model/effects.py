@@ -1,4 +1,4 @@
-"""What an issue changes, and the lines of a trace."""
+"""The changes of an issue, and the lines of a trace."""
 from __future__ import annotations
 
 from collections.abc import Iterable
@@ -7,7 +7,7 @@ from dataclasses import dataclass
 
 @dataclass(frozen=True)
 class Effect:
-    """Nothing that is shown."""
+    """No visible change."""
 
     def __str__(self) -> str:
         return "-"
@@ -26,7 +26,7 @@ class Register(Effect):
 
 @dataclass(frozen=True)
 class Stored(Effect):
-    """So many bytes are stored."""
+    """Bytes are stored."""
 
     address: int
     size: int
@@ -38,7 +38,7 @@ class Stored(Effect):
 
 @dataclass(frozen=True)
 class Written(Effect):
-    """A CSR keeps a value, and a register gets the old one."""
+    """A CSR gets a value, and a register the old one."""
 
     csr: int
     value: int
@@ -52,7 +52,7 @@ class Written(Effect):
 
 @dataclass(frozen=True)
 class Trapped(Effect):
-    """The thread goes on at its handler."""
+    """The thread continues at its handler."""
 
     cause: int
     target: int
@@ -74,7 +74,7 @@ NOTHING = Effect()
 
 @dataclass(frozen=True)
 class Event:
-    """An issue that isn't held, with what it changed."""
+    """An issue that doesn't spin, with its changes."""
 
     cycle: int
     thread: int

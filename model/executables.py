@@ -41,7 +41,7 @@ def u16(data: bytes, at: int) -> int:
 
 
 def check_header(data: bytes) -> None:
-    """Raises the first fault of what stands before the program headers."""
+    """Raises the first fault of the bytes before the program headers."""
     if len(data) > MOST_BYTES:
         raise ElfFault(ElfNo.TooLong, 0)
     if data[:4] != b"\x7fELF":
@@ -62,7 +62,7 @@ def check_header(data: bytes) -> None:
 
 @dataclass
 class Loader:
-    """The bytes that loads have put to addresses so far."""
+    """The bytes that loads have placed so far, by address."""
 
     data: bytes
     memory: dict[int, int]

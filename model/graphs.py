@@ -1,4 +1,4 @@
-"""The control graph of a section and of the routines that calls in it lead to, and why it has no bound."""
+"""The control-flow graph of a section and of the routines that it calls, and why it has no bound."""
 from __future__ import annotations
 
 from collections.abc import Callable, Iterable, Iterator, Sequence
@@ -14,19 +14,19 @@ from model.setups import Loop
 MOST_ROUTINES = 64
 MOST_ROUTINES_BYTES = 1152
 MOST_AROUND = 3
-"""A loop stands in at most so many others."""
+"""The most loops that a loop may lie in."""
 
 RETURN = 0x00008067
 """The word of `jalr x0, 0(x1)`."""
 
 LINK = 1
-"""The register that a call gives the address behind it."""
+"""The register that a call writes its return address to."""
 
 JUMP_LAG = 3
 
 
 class Stop(Enum):
-    """Words behind which a walk can't be told."""
+    """Words after which the path is unknown."""
 
     INDIRECT_JUMP = "IndirectJump"
     TIMED_WAIT = "TimedWait"
@@ -39,14 +39,14 @@ ENDS = ("Ecall", "Ebreak", "Illegal", *STOPS)
 
 @dataclass(frozen=True)
 class Edge:
-    """Where a word leads, and the least number of cycles to there."""
+    """The target of an edge, and its least number of cycles."""
 
     to: int
     lag: int
 
 
 def edges(value: int, address: int) -> list[Edge]:
-    """The edges of a word at an address. A misaligned jump has none, for it traps."""
+    """The edges of a word at an address. A misaligned jump has none, since it traps."""
     x = decode(value)
     if x.kind in ENDS:
         return []
@@ -58,7 +58,7 @@ def edges(value: int, address: int) -> list[Edge]:
 
 @dataclass(frozen=True)
 class Part:
-    """The section, or a routine: its first word, and the address behind its last."""
+    """The section, or a routine: its first word, and the address after its last."""
 
     first: int
     end: int
@@ -81,7 +81,7 @@ class RoutinesFault(Exception):
 
 
 def read_routines(data: bytes, size: int) -> list[Part]:
-    """The routines of a list, for scratchpads of so many bytes; raises RoutinesFault."""
+    """The routines of a list, for scratchpads of a size; raises RoutinesFault."""
     routines: list[Part] = []
     for number, line in enumerate(whole_lines(data), 1):
         routines.append(_routine(number, line, routines[-1].end if routines else 0, size))
@@ -114,7 +114,7 @@ def hexadecimal(field: bytes) -> int | None:
 
 
 class Graph:
-    """The parts that are reached from a section's first word, and the words that are reached in each."""
+    """The functions that are reached from a section's first word, and the reached words of each."""
 
     def __init__(self, word_at: Callable[[int], int], section: Part, routines: Sequence[Part], loops: Sequence[Loop]):
         self.word_at, self.section, self.routines, self.loops = word_at, section, routines, loops
@@ -139,11 +139,11 @@ class Graph:
         return part.is_routine and self.word_at(address) == RETURN
 
     def _plain(self, address: int) -> list[Edge]:
-        """The edges of a word, but those of calls."""
+        """The edges of a word, except those of calls."""
         return [] if self.called(address) else edges(self.word_at(address), address)
 
     def stop(self, part: Part, address: int) -> Stop | None:
-        """Why a walk can't be told behind a word."""
+        """Why the path after a word is unknown."""
         return None if self.returns(part, address) else STOPS.get(decode(self.word_at(address)).kind)
 
     def callees(self, part: Part) -> list[Part]:
@@ -163,7 +163,7 @@ class Graph:
     # ------------------------------------------------------------ refusals
 
     def refusal(self) -> tuple[BoundNo, int] | None:
-        """The first refusal, with the lowest address of those that it names."""
+        """The first refusal, with its lowest address."""
         for code, named in (
             (BoundNo.Overlap, self._overlapping),
             (BoundNo.Recursion, self._recursive),
@@ -185,7 +185,7 @@ class Graph:
         return (part.first for part in self.reached if part.is_routine and part in self._below(part))
 
     def _below(self, part: Part) -> set[Part]:
-        """The routines that a part calls, and those that they call, and so on."""
+        """The routines that a function calls, and those that they call, and so on."""
         seen, todo = set[Part](), self.callees(part)
         while todo:
             callee = todo.pop()
@@ -215,7 +215,7 @@ class Graph:
         return (address for part, address in self._words() if self.stop(part, address) == stop)
 
     def _unbounded(self) -> Iterator[int]:
-        """Ways back that are no loop's."""
+        """Back edges of no loop."""
         for part, address in self._words():
             ways_back = [edge.to for edge in self.plain(address) if part.has(edge.to) and edge.to <= address]
             loops = part.loops(self.loops)
@@ -223,7 +223,7 @@ class Graph:
                 yield address
 
     def _escaping(self) -> Iterator[int]:
-        """Words of routines that lead out of them other than by a return."""
+        """Words of routines with an edge out of them, except returns."""
         for part, address in self._words():
             if not part.is_routine:
                 continue
@@ -233,7 +233,7 @@ class Graph:
 
 
 def crossing(loops: Sequence[Loop]) -> Iterator[int]:
-    """The heads of loops that share words with one that is listed before, neither wholly in the other behind its
+    """The heads of loops that share words with an earlier one of the list, neither wholly in the other after its
     head."""
     for k, later in enumerate(loops):
         for loop in loops[:k]:

@@ -13,7 +13,7 @@ MOST_BYTES = {SMALL: 34_816, LARGE: 139_264}
 """The most bytes of a file, by the bytes of a scratchpad."""
 
 DATA = 0x20000000
-"""Where the data scratchpad begins; that of instructions begins at 0."""
+"""The first address of the data scratchpad; that of instructions begins at 0."""
 
 Segments = list[tuple[int, bytes]]
 """Addresses with the bytes from there on."""
@@ -34,7 +34,7 @@ class Image:
     segments: Segments
 
     def word(self, address: int) -> int:
-        """The word at an address; 0 where no segment has it."""
+        """The word at an address; 0 if no segment has it."""
         for start, data in self.segments:
             if start <= address < start + len(data):
                 return u32(data, address - start)
@@ -69,12 +69,12 @@ def image_of_words(words: dict[int, int]) -> Image:
 
 
 def is_inside(address: int, length: int, size: int) -> bool:
-    """Whether so many bytes from an address on are in one scratchpad."""
+    """Whether a range of bytes is in one scratchpad."""
     return any(base <= address and address + length <= base + size for base in (0, DATA))
 
 
 def read_image(data: bytes, size: int) -> Image:
-    """The image of a file, for scratchpads of so many bytes; raises ImageFault with its first fault."""
+    """The image of a file, for scratchpads of a size; raises ImageFault with its first fault."""
     if len(data) > MOST_BYTES[size]:
         raise ImageFault(ImageNo.TooLong, 0)
     if data[:4] != MAGIC:
@@ -94,7 +94,7 @@ def read_image(data: bytes, size: int) -> Image:
 
 
 def _segment_head(data: bytes, at: int, end: int, size: int) -> tuple[int, int]:
-    """The address and length of a segment at an index of the file, behind one that ends at an address."""
+    """The address and length of a segment at an index of the file; the one before it ends at an address."""
     if len(data) < at + 8:
         raise ImageFault(ImageNo.Truncated, len(data))
     address, length = u32(data, at), u32(data, at + 4)

@@ -1,4 +1,4 @@
-"""Words as instructions and back, what an instruction computes, and its lag."""
+"""Words as instructions and back, the results of instructions, and their lags."""
 from __future__ import annotations
 
 from collections.abc import Callable
@@ -143,7 +143,7 @@ ROWS: dict[int, Callable[[Fields], Ins | None]] = {
 
 @lru_cache(maxsize=1 << 18)
 def decode(value: int) -> Ins:
-    """The instruction of a word; Illegal where it is none."""
+    """The instruction of a word; Illegal if it is none."""
     fields = Fields(value)
     row = ROWS.get(fields.opcode)
     return (row(fields) if row else None) or Ins("Illegal", imm=value)
@@ -230,7 +230,8 @@ def encode(x: Ins) -> int:
 
 @dataclass(frozen=True)
 class Outcome:
-    """What an instruction computes from its pc and operands; what it doesn't compute is 0. `trap` is a cause."""
+    """The result of an instruction, from its pc and operands; fields that it doesn't compute are 0. `trap` is a
+    cause."""
 
     value: int = 0
     address: int = 0
@@ -273,7 +274,7 @@ def quotient(a: int, b: int) -> int:
 
 
 def product(op: str, a: int, b: int) -> int:
-    """What a multiplication, or a division by another divisor than 0, gives."""
+    """The result of a multiplication, or of a division by another divisor than 0."""
     x, y = signed(a), signed(b)
     if op == "Mul":
         return word(a * b)
@@ -329,13 +330,13 @@ OUTCOMES: dict[str, Callable[[Ins, int, int, int], Outcome]] = {
 
 
 def outcome(x: Ins, pc: int, a: int, b: int) -> Outcome:
-    """What an instruction computes from its pc and the values of its source registers."""
+    """The result of an instruction, from its pc and the values of its source registers."""
     compute = OUTCOMES.get(x.kind)
     return compute(x, pc, a, b) if compute else Outcome()
 
 
 def load_value(op: str, address: int, aligned_word: int) -> int:
-    """What a load gets out of the aligned word that has its address."""
+    """The value of a load, from the aligned word that has its address."""
     width = 8 * LOAD_SIZE[op]
     field = (aligned_word >> 8 * (address % 4)) % (1 << width)
     return word(signed(field, width)) if op in ("Lb", "Lh") else field
@@ -358,7 +359,7 @@ def lag(x: Ins, taken: bool, trapped: bool) -> int:
 
 
 def sources(x: Ins) -> tuple[int, int]:
-    """The registers that an instruction reads; x0 where it reads none."""
+    """The registers that an instruction reads; x0 if it reads none."""
     if x.kind == "Csr" and x.op in ("Rwi", "Rsi", "Rci"):
         return 0, 0
     return x.rs1, x.rs2

@@ -1,4 +1,4 @@
-"""One whole instruction of a thread: its registers, what it asks of what is around it, and its event."""
+"""One whole instruction of a thread: its registers, its environment, and its event."""
 from __future__ import annotations
 
 from collections.abc import Callable, Mapping
@@ -17,22 +17,22 @@ FETCH_ACCESS, ILLEGAL, LOAD_ACCESS, STORE_ACCESS, EXPIRY = 1, 2, 5, 7, 24
 
 
 class Around(Protocol):
-    """What an issue asks of the machine around it."""
+    """The environment of an issue in the machine."""
 
     def fetch(self, pc: int) -> int | None:
-        """The word at a pc; None where it may not be fetched."""
+        """The word at a pc; None if it may not be fetched."""
 
     def load(self, address: int, width: int) -> int | None:
-        """The aligned word that has an address; None where it may not be loaded."""
+        """The aligned word that has an address; None if it may not be loaded."""
 
     def may_store(self, address: int, width: int) -> bool:
-        """Whether so many bytes may be stored."""
+        """Whether a range of bytes may be stored."""
 
     def store(self, address: int, width: int, value: int) -> None:
         """Stores bytes."""
 
     def machine_csrs(self, writes: bool) -> Mapping[int, int] | None:
-        """The machine's own registers; None where they may not be read, or written."""
+        """The configuration registers; None if they may not be read, or written."""
 
     def write_machine_csr(self, csr: int, value: int) -> None:
         """Writes one of them."""
@@ -40,7 +40,7 @@ class Around(Protocol):
 
 @dataclass
 class Thread:
-    """A thread's registers, what it has armed, until when it sleeps, and the first cycle in which it may issue."""
+    """A thread's registers, its armed and its sleep moment, and the first cycle in which it may issue."""
 
     pc: int
     x: list[int] = field(default_factory=lambda: [0] * 32)
@@ -53,7 +53,7 @@ class Thread:
 
 @dataclass(frozen=True)
 class Access:
-    """What an access to a CSR reads, and what it writes, if it does."""
+    """The value that an access to a CSR reads, and the one that it writes, if any."""
 
     old: int
     written: int | None
@@ -78,7 +78,7 @@ class Step:
     around: Around
 
     def issue(self) -> tuple[int, Event | None]:
-        """The word of the turn, and the event; None for a DU that is held."""
+        """The word of the turn, and the event; None for a DU that spins."""
         pc = self.thread.pc
         try:
             value, effect = self._do()
@@ -109,7 +109,7 @@ class Step:
         return value, self._complete(Instruction(x, value, a, b, done))
 
     def _complete(self, i: Instruction) -> Effect | None:
-        """What an instruction that doesn't trap by itself does; None where it is held."""
+        """The effect of an instruction that doesn't trap by itself; None if it spins."""
         t = self.thread
         do = DONE.get(i.x.kind)
         effect = do(self, i) if do else NOTHING
@@ -126,7 +126,7 @@ class Step:
         return self.thread.csrs[MEPC] if i.x.kind == "Mret" else word(self.thread.pc + 4)
 
     def register(self, rd: int, value: int) -> Effect:
-        """Gives a register a value; x0 has none."""
+        """Sets a register; x0 stays 0."""
         if rd == 0:
             return NOTHING
         self.thread.x[rd] = value
@@ -157,7 +157,7 @@ class Step:
         return Written(i.x.csr, access.written, i.x.rd, access.old)
 
     def _access(self, x: Ins, operand: int) -> Access | None:
-        """What an access reads and writes; None where it is refused."""
+        """The values that an access reads and writes; None if it is refused."""
         writes = x.op in ("Rw", "Rwi") or x.rs1 != 0
         if x.csr == MHARTID:
             return None if writes else Access(self.number, None)
@@ -209,7 +209,7 @@ class Step:
 
 @dataclass(frozen=True)
 class Instruction:
-    """An instruction with its word, the values of its source registers, and what it computes."""
+    """An instruction with its word, the values of its source registers, and its result."""
 
     x: Ins
     word: int
@@ -228,4 +228,4 @@ DONE: dict[str, Callable[[Step, Instruction], Effect | None]] = {
     "Load": Step.load, "Store": Step.store, "Csr": Step.csr, "Gt": Step.get_time, "Gth": Step.get_high,
     "Du": Step.delay_until, "Wu": Step.wait_until, "Ee": Step.arm, "De": Step.disarm,
 }  # fmt: skip
-"""What instructions do; those that aren't here change no more than the pc."""
+"""The effects of instructions; the others only change the pc."""

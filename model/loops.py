@@ -30,7 +30,7 @@ Plant = Callable[[Sequence[PortStore], int], int]
 """The word that a port shows in a cycle, by the stores issued before it, the oldest first."""
 
 Response = Callable[[Sequence[int]], int]
-"""The word of a sampled plant after some steps, by the words that the steps take."""
+"""The word of a sampled plant after some steps, by the words of the steps."""
 
 
 def port_stores(events: Iterable[Event], thread: int) -> list[PortStore]:
@@ -43,8 +43,8 @@ def port_stores(events: Iterable[Event], thread: int) -> list[PortStore]:
 
 
 def sampled(response: Response, every: int, first: int) -> Plant:
-    """A plant that takes a sample each `every` cycles, and shows one word until the next. `first` is the latch before the
-    first store."""
+    """A plant that takes a sample every `every` cycles, and shows one word until the next. `first` is the latch before
+    the first store."""
 
     def plant(stores: Sequence[PortStore], cycle: int) -> int:
         times = [step * every for step in range(1, cycle // every + 1)]
@@ -60,7 +60,7 @@ def last_word(stores: Sequence[PortStore], cycle: int, first: int) -> int:
 
 
 class Looped(Shown):
-    """What a thread's loads at its port get: the plant's word while the port is present."""
+    """The words of a thread's loads at its port: the plant's word while the port is present."""
 
     def __init__(self, shown: Shown, plant: Plant, stores: Callable[[], Sequence[PortStore]]) -> None:
         self.unplug, self.inputs, self.device, self.fed = shown.unplug, shown.inputs, shown.device, shown.fed
@@ -88,7 +88,7 @@ def loop_world(setup: Setup, image: Image, ports: Ports, plants: Mapping[int, Pl
 
 
 def solo_in_loop(setup: Setup, image: Image, ports: Ports, thread: int, plant: Plant, cycles: int) -> list[Event]:
-    """The events of a confined hard thread alone in the loop with its plant."""
+    """The events of a confined hard thread by itself in the loop with its plant."""
     view = View(setup, image, ports, thread)
     events: list[Event] = []
     view.shown = Looped(view.shown, plant, lambda: port_stores(events, thread))

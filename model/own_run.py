@@ -1,4 +1,4 @@
-"""The machine's own run: eight programs drawn from a number, and what each thread's trace comes to."""
+"""The machine's own run: eight programs drawn from a number, and the tally of each thread's trace."""
 from __future__ import annotations
 
 from collections.abc import Iterator
@@ -72,7 +72,7 @@ def image(number: int) -> Image:
 
 @cache
 def lines(number: int) -> tuple[bytes, ...]:
-    """A line for each thread: how many events it has, and a fold of the bytes of its trace."""
+    """A line for each thread: its number of events, and a hash of the bytes of its trace."""
     world = World(setup(), image(number), [None] * THREADS)
     counts, folds = [0] * THREADS, [0] * THREADS
     for _ in range(CYCLES - RETIRES):

@@ -1,4 +1,4 @@
-"""Devices at the ports of threads: what they show, what they keep, and how they are called."""
+"""Devices at the ports of threads: their words, their latches, and their calls."""
 from __future__ import annotations
 
 from bisect import bisect_right
@@ -7,7 +7,7 @@ from model.bits import LAST_WORD, word
 from model.setups import ThreadSetup
 
 OPEN = LAST_WORD
-"""What is loaded where no device stands."""
+"""The loaded word if no device is at the port."""
 
 
 class Device:
@@ -18,11 +18,11 @@ class Device:
         self.kept = 0
 
     def base(self, cycle: int) -> int:
-        """What is shown before the first fed word."""
+        """The word before the first fed one."""
         return 0
 
     def word_at(self, cycle: int) -> int:
-        """What is shown in a cycle."""
+        """The word of a cycle."""
         k = bisect_right(self.fed, cycle, key=lambda pair: pair[0])
         return self.fed[k - 1][1] if k else self.base(cycle)
 
@@ -96,7 +96,7 @@ class Called(Device):
 
 
 class Dropped(Device):
-    """Says in a list that is shared that it was unplugged."""
+    """Records its unplugging in a shared list."""
 
     def __init__(self, drops: list[str]) -> None:
         super().__init__()
@@ -137,23 +137,23 @@ class Noted(Device):
 
 
 Ports = list[Device | None]
-"""What stands at the eight ports."""
+"""The devices at the eight ports."""
 
 
 class Shown:
-    """What a thread's loads at its port get in each cycle of a run: the setup's inputs over the device as it was handed
-    in."""
+    """The words of a thread's loads at its port in each cycle of a run: the setup's inputs, and before them the words
+    of the device that was passed in."""
 
     def __init__(self, thread: ThreadSetup, device: Device | None) -> None:
         self.unplug, self.inputs, self.device = thread.unplug, thread.inputs, device
         self.fed = list(device.fed) if device else []
 
     def asks_device(self, cycle: int) -> bool:
-        """Whether the device as it was handed in says what is shown."""
+        """Whether the device that was passed in gives the word."""
         return not self.is_open(cycle) and not (self.inputs and self.inputs[0][0] <= cycle)
 
     def is_open(self, cycle: int) -> bool:
-        """Whether no device stands there."""
+        """Whether no device is at the port."""
         return self.device is None or (self.unplug is not None and cycle >= self.unplug)
 
     def __call__(self, cycle: int) -> int:

@@ -22,7 +22,7 @@ class SetupNo(IntEnum):
 
 
 class SectionNo(IntEnum):
-    """Why a section, or a thread, can't be asked about."""
+    """Why a section, or a thread, isn't accepted."""
 
     NotHard = 1
     NoSlot = 2

@@ -1,4 +1,4 @@
-"""The machine's own registers: slots, modes and regions, and what they allow."""
+"""The configuration registers: slots, modes and regions, and the rights that they give."""
 from __future__ import annotations
 
 from collections.abc import Sequence
@@ -54,7 +54,7 @@ def pick(slots: int, modes: int, sleeps: Sequence[int], cycle: int, now: int, la
 
 
 def is_allowed_word(csr: int, value: int) -> bool:
-    """Whether one of the machine's own registers may have a word."""
+    """Whether a configuration register may have a word."""
     if csr == MODES:
         return value < 1 << 16
     if csr == SLOTS:
@@ -63,7 +63,7 @@ def is_allowed_word(csr: int, value: int) -> bool:
 
 
 class Regions:
-    """Whose each eighth of a scratchpad is, by the two registers, and what that allows a thread."""
+    """The owner of each eighth of a scratchpad, by the two registers, and a thread's rights there."""
 
     def __init__(self, iregions: int, dregions: int, size: int) -> None:
         self.iregions, self.dregions, self.size = iregions, dregions, size

@@ -1,4 +1,4 @@
-"""Setup files: what one says, or its first fault in the order of the checks."""
+"""Setup files: the setup of a file, or its first fault in the order of the checks."""
 from __future__ import annotations
 
 import tomllib
@@ -34,7 +34,7 @@ REGIONS = {**{f"T{k}": k for k in range(THREADS)}, "shared": SHARED, "readonly":
 
 
 class SetupFault(Exception):
-    """The first fault of a setup, with the path at which it stands."""
+    """The first fault of a setup, with its path."""
 
     def __init__(self, code: SetupNo, path: str) -> None:
         super().__init__(code, path)
@@ -43,7 +43,7 @@ class SetupFault(Exception):
 
 @dataclass(frozen=True)
 class ThreadSetup:
-    """What a setup says of a thread; that of a thread without a table."""
+    """The settings of a thread; the defaults are those of a thread without a table."""
 
     mode: int = SOFT_ASLEEP
     entry: int = 0
@@ -169,7 +169,7 @@ class Table:
         return value
 
     def items(self, key: str, most: int) -> list[Any]:
-        """The list of a key, of at most so many items; that of a key which isn't there is empty."""
+        """The list of a key, with at most `most` items; that of an absent key is empty."""
         value = self.values.get(key, [])
         if not isinstance(value, list):
             raise SetupFault(SetupNo.WrongType, self.path(key))
@@ -209,7 +209,7 @@ def read_inputs(table: Table) -> tuple[tuple[int, int], ...]:
 
 
 def read_thread(table: Table, size: int, seen: set[int]) -> tuple[int, ThreadSetup]:
-    """A thread's number and what is said of it, with `seen` the numbers of the tables before."""
+    """A thread's number and settings, with `seen` the numbers of the tables before."""
     number = table.number("id", 0, THREADS - 1)
     if number in seen:
         raise SetupFault(SetupNo.DoubleThread, table.path("id"))
@@ -249,7 +249,7 @@ def read_image_name(top: Table) -> str:
 
 
 def read_setup(data: bytes) -> Setup:
-    """What a setup says; raises SetupFault with its first fault."""
+    """The setup of a text; raises SetupFault with its first fault."""
     if len(data) > MOST_BYTES:
         raise SetupFault(SetupNo.TooLong, "-")
     top = Table(read_toml(data))

@@ -1,4 +1,4 @@
-"""The bound of a section as it is defined: the most that a walk costs, of all walks one by one."""
+"""The bound of a section by its definition: the largest cost of a path, of all paths one by one."""
 from __future__ import annotations
 
 from collections.abc import Iterator
@@ -10,7 +10,7 @@ from model.setups import Loop
 
 
 class TooManyWalks(Exception):
-    """There are more states of walks than are gone through."""
+    """There are more states of paths than are tried."""
 
 
 def step_cost(slots: int, thread: int, position: int, lag: int) -> tuple[int, int]:
@@ -23,8 +23,8 @@ def step_cost(slots: int, thread: int, position: int, lag: int) -> tuple[int, in
 
 @dataclass(frozen=True)
 class At:
-    """Where a walk stands: an address, a position in the frame, the calls that are open, and how often each loop's head
-    was entered again from inside."""
+    """The state of a path: an address, a position in the frame, the open calls, and how often each loop's head was
+    entered again from inside."""
 
     address: int
     position: int
@@ -33,11 +33,11 @@ class At:
 
 
 Step = tuple[int, "At | None"]
-"""A cost, and where the walk stands then; None where it ends."""
+"""A cost, and the state of the path after it; None at its end."""
 
 
 class Walks:
-    """The walks of a graph, for a thread under a slots register."""
+    """The paths of a graph, for a thread under a slots register."""
 
     def __init__(self, graph: Graph, slots: int, thread: int) -> None:
         self.graph, self.slots, self.thread = graph, slots, thread
@@ -52,7 +52,7 @@ class Walks:
         return called or self.graph.section
 
     def steps(self, at: At) -> list[Step]:
-        """The steps behind a state of a walk."""
+        """The steps from a state of a path."""
         part, called = self.part(at), self.graph.called(at.address)
         if called:
             return [self._call(at, called)]
@@ -69,7 +69,7 @@ class Walks:
         return cost, At(called.first, position, at.calls + (at.address,), tuple(rounds))
 
     def _return(self, at: At) -> list[Step]:
-        """Goes on behind the call, as if from its word."""
+        """Continues after the call, as if from its word."""
         call, calls = at.calls[-1], at.calls[:-1]
         part = self.part(At(call, 0, calls, ()))
         return self._go(at, calls, call, call + 4, JUMP_LAG, part)
@@ -82,7 +82,7 @@ class Walks:
         return [(cost, At(to, position, calls, rounds))] if rounds is not None else []
 
     def _rounds(self, rounds: tuple[int, ...], come_from: int, to: int) -> tuple[int, ...] | None:
-        """The counts after an edge; None where a loop's bound is passed."""
+        """The counts after an edge; None if a loop's bound is passed."""
         counts = list(rounds)
         for k, loop in enumerate(self.loops):
             if to == loop.head:
@@ -92,14 +92,14 @@ class Walks:
         return tuple(counts)
 
     def largest_cost(self, most_states: int) -> int:
-        """The largest cost of a walk; raises TooManyWalks."""
+        """The largest cost of a path; raises TooManyWalks."""
         best: dict[At, int] = {}
         for start in self.starts():
             self._finish(start, best, most_states)
         return max(best[start] for start in self.starts())
 
     def _finish(self, start: At, best: dict[At, int], most_states: int) -> None:
-        """Gives `best` the largest cost from each state behind one."""
+        """Sets `best` for each state after one to the largest cost from it."""
         path, behind = [start], dict[At, list[Step]]()
         while path:
             at = path[-1]

@@ -14,14 +14,14 @@ from model.registers import DREGIONS, IREGIONS, MACHINE_CSRS, MODES, PORT, SLOTS
 from model.setups import HARD, READ_ONLY, SOFT, THREADS, Setup
 
 RETIRES = 4
-"""An issue's line is there so many cycles later."""
+"""The number of cycles from an issue to its line."""
 
 SEEN_BY_PICKING = 3
-"""A write of slots or modes is seen by picking so many cycles later."""
+"""The number of cycles from a write of slots or modes to the first pick that sees it."""
 
 
 class Kind(Enum):
-    """What became of a cycle."""
+    """The result of a cycle."""
 
     BUBBLE = "-"
     FLUSHED = "flushed"
@@ -39,8 +39,8 @@ class PortCall:
 
 @dataclass(frozen=True)
 class Turn:
-    """What became of a cycle: nobody's, a turn that its thread lost, or an issue, whose event is None where it is
-    held."""
+    """The result of a cycle: nobody's turn, a turn that its thread lost, or an issue, whose event is None if it
+    spins."""
 
     kind: Kind
     thread: int = 0
@@ -70,7 +70,7 @@ class World:
         self._picking = [self._settings()] * SEEN_BY_PICKING
 
     def _settings(self) -> tuple[int, int, tuple[int, ...]]:
-        """What picking goes by once it is seen: slots, modes, and the moments until which threads sleep."""
+        """The state that picking uses when it sees it: slots, modes, and the moments until which threads sleep."""
         return self.csrs[SLOTS], self.csrs[MODES], tuple(thread.sleep for thread in self.threads)
 
     def step(self) -> Turn:
@@ -106,13 +106,13 @@ class World:
         self.at += skipped
 
     def run_to(self, cycles: int) -> World:
-        """Does cycles until so many are done."""
+        """Does cycles up to a number."""
         while self.at < cycles:
             self.step()
         return self
 
     def retired(self, cycles: int) -> Iterator[Event]:
-        """The events that have retired after so many cycles."""
+        """The events that have retired after a number of cycles."""
         events = (turn.event for turn in self.turns[: max(cycles - RETIRES, 0)])
         return (event for event in events if event is not None)
 
@@ -120,17 +120,17 @@ class World:
         return Regions(self.csrs[IREGIONS], self.csrs[DREGIONS], self.size)
 
     def is_quiet(self) -> bool:
-        """Whether no instruction has written the machine's own registers."""
+        """Whether no instruction has written a configuration register."""
         return not any(is_setting(turn.event) for turn in self.turns)
 
 
 def is_setting(event: Event | None, csrs: tuple[int, ...] = MACHINE_CSRS) -> bool:
-    """Whether an event wrote one of these registers of the machine."""
+    """Whether an event wrote one of these configuration registers."""
     return event is not None and isinstance(event.effect, Written) and event.effect.csr in csrs
 
 
 class InWorld:
-    """What the world answers to an issue of a thread in a cycle."""
+    """The environment of a thread's issue in a cycle."""
 
     def __init__(self, world: World, number: int, cycle: int) -> None:
         self.world, self.number, self.cycle = world, number, cycle
@@ -177,7 +177,7 @@ class InWorld:
 
 @dataclass(frozen=True)
 class Setting:
-    """What picking goes by from a cycle on."""
+    """The state that picking uses from a cycle on."""
 
     cycle: int
     slots: int
@@ -187,7 +187,7 @@ class Setting:
         return f"{self.cycle:10d} {self.slots:08x} {self.modes:08x}\n".encode()
 
     def after(self, event: Event) -> Setting | None:
-        """The next setting, where an event writes slots or modes."""
+        """The next setting, if an event writes slots or modes."""
         effect = event.effect
         if not (isinstance(effect, Written) and effect.csr in (SLOTS, MODES)):
             return None
@@ -197,7 +197,7 @@ class Setting:
 
 
 def settings(setup: Setup, world: World, cycles: int) -> list[Setting]:
-    """The settings whose writes have retired after so many cycles, the setup's first."""
+    """The settings whose writes have retired after a number of cycles, the setup's first."""
     found = [Setting(0, setup.slots, setup.modes)]
     for event in world.retired(cycles):
         if setting := found[-1].after(event):

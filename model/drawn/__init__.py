@@ -1,1 +1,1 @@
-"""What tests and tables draw at random, each from a seed: setups with images, sections, and rows of tables."""
+"""Random inputs of tests and tables, each from a seed: setups with images, sections, and rows of tables."""

@@ -15,11 +15,11 @@ FRAMES = [
 """Slots registers in which thread 0 has one slot, several, or all."""
 
 ENDS = [Ins("Ecall"), Ins("Jalr", rs1=1), Ins("Du"), Ins("Wu"), Ins("Illegal"), jal(0, 0)]
-"""Words with which a walk ends, or can't be told."""
+"""Words at which a path ends or is unknown."""
 
 
 class Section:
-    """A section, its loops, which may be badly nested, and who is asked about it."""
+    """A section, its loops, which may be badly nested, and the thread of the bound."""
 
     def __init__(self, chance: random.Random, most_rounds: int) -> None:
         self.chance = chance
@@ -43,7 +43,7 @@ class Section:
         return Graph(lambda address: words.get(address, 0), self.part, [], self.loops)
 
     def _word(self) -> Ins:
-        """A word that leads on, mostly."""
+        """A word, mostly one with a successor."""
         chance = self.chance
         if chance.random() < 0.04:
             return chance.choice(ENDS)
@@ -63,7 +63,7 @@ class Section:
 
 
 class Calling:
-    """A section that calls routines, which may call one another, with loops in each; all of it one behind the other."""
+    """A section that calls routines, which may call one another, with loops in each; one after another in memory."""
 
     def __init__(self, chance: random.Random, most_rounds: int) -> None:
         self.chance = chance
@@ -75,7 +75,7 @@ class Calling:
 
     @property
     def section(self) -> Part:
-        """The part that calls; the others are routines."""
+        """The function that calls; the others are routines."""
         return self._range(self.caller)
 
     @property
@@ -92,7 +92,7 @@ class Calling:
         return words
 
     def _word(self, k: int, address: int, left: int) -> Ins:
-        """A word of a part at an address, with so many words to the part's end."""
+        """A word of a function at an address, with the number of words to the function's end."""
         chance = self.chance
         if chance.random() < 0.3:
             return jal(1, self.firsts[self._callee(k)] - address)
@@ -103,13 +103,13 @@ class Calling:
         return chance.choice([addi(0, 0, 0), addi(5, 5, 1), load("Lw", 6, 0, 0), muldiv("Mul", 3, 4, 2)])
 
     def _callee(self, k: int) -> int:
-        """A routine that a part calls: mostly one that comes later in the order of calls, so that none calls itself."""
+        """A routine that a function calls: mostly a later one in the order of calls, so that none calls itself."""
         order = [self.caller] + [j for j in range(len(self.counts)) if j != self.caller]
         later = order[order.index(k) + 1 :]
         return self.chance.choice(later if later and self.chance.random() < 0.98 else order)
 
     def _loops(self, k: int, most_rounds: int) -> list[Loop]:
-        """At most one loop of a part, which ends before the part's last word."""
+        """At most one loop of a function, which ends before the function's last word."""
         chance = self.chance
         if self.counts[k] < 4 or chance.random() < 0.4:
             return []

@@ -1,6 +1,6 @@
-"""Setups with images and ports: hard, soft and sleeping threads, permits and writes of the machine's own registers,
-expiry, waits, inputs and unplugging, both sizes. A seed gives the same always; worlds.txt and settings.txt name their
-cases by it."""
+"""Setups with images and ports: hard, soft and sleeping threads, permits and writes of configuration registers, expiry,
+waits, inputs and unplugging, both sizes. A seed always gives the same; worlds.txt and settings.txt name their cases by
+it."""
 from __future__ import annotations
 
 import random
@@ -19,8 +19,8 @@ from model.setups import MODES as MODE_NAMES
 from model.setups import SLOTS as SLOT_NAMES
 
 OWN, OWN_FAR, PORT_BASE, TARGET, MOMENT, WRITTEN = 10, 11, 12, 13, 14, 15
-"""The registers that code keeps for addresses of data, for that of the port and of code, for a moment, and for what it
-writes to the machine's own registers."""
+"""The registers that code keeps for addresses of data, of the port and of code, for a moment, and for the words that it
+writes to configuration registers."""
 
 CALCULATED = range(8)
 """The registers that it computes with."""
@@ -30,15 +30,15 @@ PIECES: dict[str, float] = {
     "op": 30, "load": 14, "store": 12, "branch": 8, "jal": 3, "jalr": 2, "csr": 6, "time": 4, "wait": 10, "sys": 0.7,
     "word": 0.3, "mul": 5, "pointer": 3, "sched": 0, "port": 6, "near": 5, "fence": 1,
 }  # fmt: skip
-"""The kinds of pieces of code, with how often they are drawn."""
+"""The kinds of pieces of code, with their frequencies."""
 
 WEIGHT_OF_WRITES = 18
-"""How often a piece writes the machine's own registers, where code does so at all."""
+"""How often a piece writes configuration registers, if code does so at all."""
 
 
 @dataclass
 class DrawnThread:
-    """What a setup says of a thread beside its mode."""
+    """The settings of a thread except its mode."""
 
     entry: int
     confined: bool
@@ -126,7 +126,7 @@ class World:
         return inputs
 
     def _prepare_hammer(self) -> None:
-        """Lets thread 0 run code that does nothing but write the machine's own registers."""
+        """Gives thread 0 code that only writes configuration registers."""
         chance = self.chance
         self.modes[0] = chance.choice([0, 0, 2])
         self.iregions[0] = chance.choice([0, READ_ONLY])
@@ -158,7 +158,7 @@ class World:
         return "".join(f"{line}\n" for line in lines).encode()
 
     def ports(self) -> Ports:
-        """Devices of all kinds, or none, some with a word that stands there already."""
+        """Devices of all kinds, or none, some with a word in the latch."""
         chance = random.Random(self.seed + 1)
         ports: Ports = []
         for _ in range(THREADS):
@@ -183,7 +183,7 @@ class World:
         return Image(segments)
 
     def _code(self, base: int) -> list[Ins]:
-        """Pieces from an address on, with a jump back behind them."""
+        """Pieces from an address on, with a jump back after them."""
         code = self._pointers(base) if self.chance.random() < 0.9 else []
         length = self.chance.choice([20, 40, 80, 160])
         while len(code) < length:
@@ -191,7 +191,7 @@ class World:
         return code + [jal(0, -4 * self.chance.randrange(1, len(code)))]
 
     def _hammer(self) -> list[Ins]:
-        """Writes of the machine's own registers, back and forth, a few cycles apart."""
+        """Writes of configuration registers, back and forth, a few cycles apart."""
         chance = self.chance
         settings = (SLOTS, MODES)
         written = chance.choice([settings, settings, (DREGIONS, IREGIONS), (*settings, DREGIONS, IREGIONS)])
@@ -209,7 +209,7 @@ class World:
         return code + [jal(0, 4 * (start - len(code)))]
 
     def _hammered(self, number: int) -> int:
-        """A word for one of the machine's own registers that leaves thread 0 as it is."""
+        """A word for a configuration register that doesn't affect thread 0."""
         chance = self.chance
         if number == MODES:
             return sum(
@@ -222,7 +222,7 @@ class World:
         return sum((v if k == 0 or chance.random() < 0.5 else chance.choice(pool)) << 4 * k for k, v in enumerate(held))
 
     def _pointers(self, at: int) -> list[Ins]:
-        """Gives the registers that are kept for addresses new ones, and at a region's start often a handler."""
+        """Gives the registers for addresses new ones, and at a region's start often a handler."""
         chance, start = self.chance, at % self.region == 0
         who = self.home.get(at // self.region, chance.randrange(8))
         good = [j for j in range(8) if self.dregions[j] == who]
@@ -239,7 +239,7 @@ class World:
         return code
 
     def _data_address(self, regions: Sequence[int]) -> int:
-        """An address mostly of one of some regions."""
+        """An address, mostly in one of some regions."""
         chance = self.chance
         region = chance.choice(regions) if regions and chance.random() < 0.85 else chance.randrange(8)
         address = DATA + region * self.region + chance.choice([0, 0, self.region - 16])
@@ -264,7 +264,7 @@ class World:
         return size * chance.randrange(0, 8) if chance.random() < 0.9 else 4 * chance.randrange(-512, 512)
 
     def _piece(self, at: int) -> list[Ins]:
-        """Instructions to stand at an address."""
+        """Instructions to place at an address."""
         weights = PIECES | {"sched": WEIGHT_OF_WRITES if self.writes else 0}
         kind = self.chance.choices(list(weights), list(weights.values()))[0]
         if kind == "pointer":
@@ -326,7 +326,7 @@ class World:
         return [jalr(rd, rs1, chance.choice([0, 4, 8, 16, 1, 2, 3]))]
 
     def _near(self) -> list[Ins]:
-        """A load, and uses of what it loads."""
+        """A load, and uses of its value."""
         chance, reg = self.chance, self._register
         a = reg()
         return [
@@ -387,7 +387,7 @@ class World:
         return [Ins("Illegal", imm=self.chance.getrandbits(32))]
 
     def _sched(self) -> list[Ins]:
-        """A write of one of the machine's own registers."""
+        """A write of a configuration register."""
         chance = self.chance
         number = chance.choice([SLOTS, MODES] + ([DREGIONS, IREGIONS] if self.guards else []))
         value = self._written(number)
@@ -397,7 +397,7 @@ class World:
         return li(WRITTEN, value) + [csr("Rw", chance.choice([0, self._register()]), number, WRITTEN)]
 
     def _written(self, number: int) -> int:
-        """A word for one of the machine's own registers, mostly near to what the setup says."""
+        """A word for a configuration register, mostly near to the setup's."""
         chance = self.chance
         if number == SLOTS:
             value = sum(
@@ -428,7 +428,7 @@ class World:
 
 
 def quoted(values: Sequence[int], names: dict[str, int]) -> str:
-    """The list of the names of numbers, as a setup has it."""
+    """The list of the names of numbers, as setups write it."""
     name_of = {value: name for name, value in names.items()}
     shown = [f'"{name_of[value]}"' for value in values]
     return f"[{', '.join(shown)}]"

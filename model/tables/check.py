@@ -1,5 +1,5 @@
-"""Verifies the tables: computes the answer of each row with the model and compares, and those that other tools gave
-with these too. `python3 -m model.tables.check`"""
+"""Verifies the tables: computes the answer of each row with the model and compares, and compares the rows of other
+tools with these too. `python3 -m model.tables.check`"""
 from __future__ import annotations
 
 import argparse
@@ -35,7 +35,7 @@ ANSWERS: dict[str, Answer] = {
     "bounds.txt": run_rows.bound_answer,
     "files.txt": lambda call: None,
 }
-"""The tables of lines, with what answers a call; None where the model has no answer."""
+"""The tables of lines, with the function that answers a call; None if the model has no answer."""
 
 COMMAND_TABLES = (
     "commands.txt", "worked.txt", "noted.txt", "limits.txt", "stopped.txt", "settings.txt", "worlds.txt", "calls.txt",
@@ -54,12 +54,13 @@ EXAMPLES = {
     "run pid.toml --thread 0 --cycles 1250": "pid.trace",
     "bound pid.toml --thread 0 --from 0xb4 --to 0x1a4": "pid.bound",
 }
-"""Commands over the copies of the examples, each with the file that has what it writes."""
+"""Commands over the copies of the examples, each with the file of its output."""
 
 
 @dataclass
 class Tally:
-    """How many rows of a table were compared, how many the model can't answer, and how the others differ."""
+    """The number of compared rows of a table, the number that the model can't answer, and the differences of the
+    others."""
 
     compared: int = 0
     unanswered: int = 0
@@ -94,7 +95,7 @@ def checked_examples() -> Iterator[Row]:
 
 
 def all_tables() -> dict[str, Callable[[], Iterator[Row]]]:
-    """What checks each table, by its name."""
+    """The check of each table, by its name."""
     found: dict[str, Callable[[], Iterator[Row]]] = {
         name: lambda name=name, answer=answer: checked(rows(name), answer)  # type: ignore[misc]
         for name, answer in ANSWERS.items()
@@ -113,7 +114,7 @@ OTHERWISE: dict[str, Callable[[], Iterator[Row]]] = {
     "gnu.txt by GNU as and ld": gnu.source_rows,
     "results.txt by qemu-riscv32": qemu.result_rows,
 }
-"""Tables once more, by the definition itself and by other tools."""
+"""More checks of tables, by the definition itself and by other tools."""
 
 
 def tally(found: Iterable[Row], show: Callable[[str], None]) -> Tally:

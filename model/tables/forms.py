@@ -10,8 +10,7 @@ UNIT_ROWS = TOP / "crates/unit_rows/data"
 COMMAND_ROWS = TOP / "crates/command_rows/data"
 
 Row = tuple[str, "str | None"]
-"""What a row is called, and what is wrong with it: nothing where that is empty, and None where it couldn't be
-compared."""
+"""The name of a row, and its difference: empty if there is none, and None if it couldn't be compared."""
 
 ZERO_WORD = "00000000"
 ESCAPED = re.compile(rb"\\(x[0-9a-f]{2}|.)", re.DOTALL)
@@ -47,12 +46,12 @@ def escaped(data: bytes) -> str:
 
 
 def expanded(digits: str) -> bytes:
-    """The bytes of hexadecimal digits, of which a full stop stands for four bytes of 0."""
+    """The bytes of hexadecimal digits; a full stop is four bytes of 0."""
     return bytes.fromhex(digits.replace(".", ZERO_WORD))
 
 
 def repeated(text: str) -> bytes:
-    """The bytes of pieces of such digits with spaces between them, of which `DIGITS*N` stands N times."""
+    """The bytes of pieces of such digits with spaces between them; `DIGITS*N` is N times the same piece."""
     pieces = (piece.partition("*") for piece in text.split(" "))
     return b"".join(expanded(digits) * int(times or 1) for digits, _, times in pieces)
 

@@ -1,4 +1,4 @@
-"""instructions.txt, decode.txt and results.txt: what instructions are and do."""
+"""instructions.txt, decode.txt and results.txt: instructions and their effects."""
 from __future__ import annotations
 
 from model.instructions import (
@@ -13,10 +13,10 @@ SHOWN = {
     "Op": "op rd rs1 rs2", "Muldiv": "op rd rs1 rs2", "Fence": "word", "Illegal": "word", "Csr": "op rd csr src",
     "Gt": "rd", "Gth": "rd", "Du": "rs1 rs2", "Wu": "rs1 rs2", "Ee": "rs1 rs2",
 }  # fmt: skip
-"""The fields of a kind of instruction, as they are shown."""
+"""The printed fields of a kind of instruction."""
 
 NAMES = {"off": "imm", "amount": "imm", "word": "imm", "src": "rs1"}
-"""Fields that the model names otherwise."""
+"""Fields with another name in the model."""
 
 
 def shown(x: Ins) -> str:
@@ -32,7 +32,7 @@ def executed(x: Ins, pc: int, a: int, b: int) -> str:
 
 
 def moved(x: Ins, address: int, value: int) -> str:
-    """What a load makes of an aligned word, or a store of a value."""
+    """The result of a load from an aligned word, or of a store of a value."""
     if address % (LOAD_SIZE | STORE_SIZE)[x.op]:
         return "misaligned"
     if x.kind == "Load":
@@ -48,7 +48,7 @@ def merged(content: int, mask: int, lanes: int) -> int:
 
 
 def run(x: Ins, pc: int, a: int, b: int, content: int) -> str:
-    """What an instruction leaves: a value, the next pc, the address of the aligned word and what that holds then."""
+    """The state after an instruction: a value, the next pc, the address of the aligned word and its content."""
     done = outcome(x, pc, a, b)
     if done.trap is not None:
         return "trap"

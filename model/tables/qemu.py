@@ -1,4 +1,4 @@
-"""results.txt beside qemu-riscv32: what it leaves of the same instructions, each at its address."""
+"""results.txt, compared with qemu-riscv32: its results of the same instructions, each at its address."""
 from __future__ import annotations
 
 import struct
@@ -14,13 +14,13 @@ from model.tables.tools import call, linked
 
 ARCH = "rv32im"
 FIELD, FIELD_END = 0x400000, 0x800000
-"""Where the instructions stand; every other word jumps to where is told that it was reached."""
+"""The addresses of the instructions; every other word jumps to a stub that records that it was reached."""
 
 MEMORY, SPARE = 0x20000000, 0x20001000
 """The words that are loaded and stored, and one for instructions that do neither."""
 
 TEXT, REACHED = 0x10000, 0x20000
-"""Where the harness stands, and its part that tells."""
+"""The address of the harness, and of its part that writes the results."""
 
 REACH = 1 << 19
 """A jump to a stub, which leads to there, goes no further than this."""
@@ -70,8 +70,8 @@ told:   .space TOLD
 .section .field,"ax"
         .incbin "field"
 """
-"""Puts a row's operands into x5, x6 and the memory, jumps to its instruction, and tells x7, where it went on, and the
-memory."""
+"""Puts a row's operands into x5, x6 and the memory, jumps to its instruction, and writes x7, the address where it
+continued, and the memory."""
 
 SCRIPT = f"""SECTIONS {{
  .text {TEXT:#x} : {{ *(.text) }}
@@ -138,7 +138,7 @@ def field(found: Sequence[Result]) -> bytes:
 
 
 def ran(found: Sequence[Result]) -> bytes:
-    """What the harness tells of rows: three words each."""
+    """The results of rows that the harness writes: three words each."""
     with tempfile.TemporaryDirectory() as name:
         folder = Path(name)
         (folder / "rows").write_bytes(b"".join(row.packed() for row in found))
@@ -148,8 +148,8 @@ def ran(found: Sequence[Result]) -> bytes:
 
 
 def result_rows() -> Iterator[Row]:
-    """The answers of results.txt beside what qemu-riscv32 leaves. The address isn't told: it is the row's, and what is
-    told is the memory there."""
+    """The answers of results.txt with the results of qemu-riscv32. The address isn't recorded: it is the row's. The
+    memory there is."""
     found = results()
     told = ran(found)
     for k, row in enumerate(found):

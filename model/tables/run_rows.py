@@ -18,13 +18,13 @@ from model.walks import TooManyWalks, Walks
 from model.world import RETIRES, World
 
 MOST_WALKED, MOST_STATES = 1_000, 5_000
-"""The largest bound of which all walks are gone through, and through how many states of them."""
+"""The largest bound for which all paths are tried, and the most states of them."""
 
 ALL_READ_ONLY = READ_ONLY * 0x11111111
 
 
 def shown(setup: Setup, image: Image, ports: Ports, cycles: int) -> str:
-    """The events that have retired after so many cycles, each after its thread."""
+    """The events that have retired after a number of cycles, each after its thread."""
     events = World(setup, image, ports).run_to(cycles).retired(cycles)
     return "".join(f"{event.thread} {event.line().decode().strip()};" for event in events)
 
@@ -38,7 +38,7 @@ def program_setup(slots: int, modes: int, second: int) -> Setup:
 
 
 def machine_answer() -> str:
-    """The trace of the machine that `unit_rows` puts together from its fields."""
+    """The trace of the machine that `unit_rows` makes field by field."""
     code = {0: 0x00100293, 4: 0x00002303, 8: 0x00000463, 12: 0x00000013, 16: 0x00200393, 20: 0x0000006F}
     threads = [ThreadSetup(0, confined=True)] + [ThreadSetup()] * 7
     setup = Setup(1, 10, "-", 0xFFFFFFF0, ALL_READ_ONLY, 0xCCCCC810, threads)
@@ -65,7 +65,7 @@ def program_answer(call: str) -> str:
 
 
 def solo_answer(call: str) -> str:
-    """How many bytes a thread's trace has, without a device at its port."""
+    """The number of bytes of a thread's trace, without a device at its port."""
     setup_name, image_name, thread, cycles = call.split()
     setup = read_setup(table(setup_name).read_bytes())
     image = read_image(table(image_name).read_bytes(), setup.size)
@@ -112,7 +112,7 @@ def bound_answer(call: str) -> str:
 
 
 def walked(graph: Graph, slots: int, thread: int, wanted: str, name: str) -> Row:
-    """A bound as a table has it beside the largest cost of all walks, one by one, where they aren't too many."""
+    """A bound in the form of the table, with the largest cost of all paths, one by one, unless there are too many."""
     if int(wanted.removeprefix("bound ")) > MOST_WALKED:
         return name, None
     try:
@@ -123,7 +123,7 @@ def walked(graph: Graph, slots: int, thread: int, wanted: str, name: str) -> Row
 
 
 def walked_rows() -> Iterator[Row]:
-    """The bounds of bounds.txt by all walks."""
+    """The bounds of bounds.txt, by all paths."""
     for wanted, call in rows("bounds.txt"):
         if wanted.startswith("bound"):
             question = Question(call)

@@ -87,7 +87,7 @@ def asked(question: Question) -> str:
 
 
 def words_answer(call: str) -> str:
-    """What words ask; a call without a colon has no words."""
+    """The command of a command line; a call without a colon has no arguments."""
     question = ask(call[1:].split(" ") if call.startswith(":") else [])
     return "usage" if question is None else asked(question)
 
@@ -97,7 +97,7 @@ def segments(image: Image) -> str:
 
 
 def source_answer(call: str) -> str:
-    """The image of a source, or its fault. Before a tab may stand how often its first byte stands there."""
+    """The image of a source, or its fault. A number before a tab is the count of its first byte."""
     count, sign, rest = call.partition("\t")
     source = unescaped(rest if sign else call)
     source = source[:1] * int(count if sign else 1) + source[1:]

@@ -29,12 +29,12 @@ def command(tool: str) -> str:
 
 
 def call(folder: Path, tool: str, *words: str) -> bytes:
-    """Calls a tool in a folder and gives what it writes."""
+    """Calls a tool in a folder and returns its output."""
     return subprocess.run([command(tool), *words], cwd=folder, check=True, capture_output=True).stdout
 
 
 def assembled(folder: Path, source: str, arch: str) -> str:
-    """Assembles a source without relaxation, and gives the object's name."""
+    """Assembles a source without relaxation, and returns the object's name."""
     (folder / "a.s").write_text(f".option norelax\n.option norvc\n{source}")
     call(folder, "as", f"-march={arch}", "-mabi=ilp32", "-o", "a.o", "a.s")
     return "a.o"

@@ -1,4 +1,4 @@
-"""units.txt and sections.txt: what the units of the machine and a tree of sections answer."""
+"""units.txt and sections.txt: the answers of the units of the machine and of a tree of sections."""
 from __future__ import annotations
 
 from collections.abc import Callable
@@ -32,7 +32,7 @@ def mode_answer(modes: int, thread: int) -> str:
 
 
 def picks_answer(slots: int, modes: int, sleep: int) -> str:
-    """The picks of eight cycles, where thread 0 sleeps until a moment."""
+    """The picks of eight cycles, if thread 0 sleeps until a moment."""
     last, picks = THREADS - 1, ""
     for cycle in range(8):
         picked, last = pick(slots, modes, [sleep] + [0] * 7, cycle, cycle * PERIOD, last)
@@ -58,7 +58,7 @@ ANSWERS: dict[str, Callable[..., str]] = {
 
 
 def unit_answer(call: str) -> str | None:
-    """The answer to a call; None of one that asks for several steps, which are worked out by hand."""
+    """The answer to a call; None for one with several steps, which are worked out by hand."""
     name, _, rest = call.partition(" ")
     return ANSWERS[name](*numbers(rest)) if name in ANSWERS else None
 
@@ -70,7 +70,7 @@ ROUND, OUTSIDE = Loop(0, 4, 9), Loop(16, 20, 1)
 
 
 def section_answer(_: str) -> str:
-    """A section's ends, how many loops it has, its word at 8, and whether 12 and 16 are reached."""
+    """A section's ends, its number of loops, its word at 8, and whether 12 and 16 are reached."""
     image, section = read_image(FILE, SMALL), Part(0, 20)
     graph = Graph(image.word, section, [], [OUTSIDE, ROUND])
     reached = graph.reached[section]

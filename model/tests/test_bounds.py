@@ -1,4 +1,4 @@
-"""Bounds by costs between positions and by all walks, over drawn sections and worked ones."""
+"""Bounds by costs between positions and by all paths, over drawn sections and worked ones."""
 from __future__ import annotations
 
 import random
@@ -21,7 +21,7 @@ ROUND = [addi(5, 5, 1), branch("Bne", 5, 0, -4)]
 
 
 def bound(code: list[Ins], loops: list[Loop], slots: int = T0) -> int:
-    """The bound of all of some code, by both ways."""
+    """The bound of the whole code, by both methods."""
     words = dict(zip(range(0, 4 * len(code), 4), map(encode, code)))
     graph = Graph(lambda address: words.get(address, 0), Part(0, 4 * len(code)), [], loops)
     assert graph.refusal() is None

@@ -1,4 +1,4 @@
-"""Words and instructions, and what these compute at the edges."""
+"""Words and instructions, and their results at the edges."""
 from __future__ import annotations
 
 import random

@@ -1,4 +1,4 @@
-"""Laws of the machine, over drawn setups: what a thread by itself does is what it does in the machine."""
+"""Theorems on the machine, over drawn setups: a thread by itself has the same events as in the machine."""
 from __future__ import annotations
 
 import pytest
@@ -13,7 +13,7 @@ from model.world import World, is_setting, settings
 
 
 class Run:
-    """The run of a seed beside devices of all kinds."""
+    """The run of a seed with devices of all kinds."""
 
     def __init__(self, seed: int) -> None:
         drawn = Drawn(seed)

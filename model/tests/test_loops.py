@@ -1,5 +1,5 @@
-"""Closed loops, over drawn setups and plants: a thread alone in the loop with its plant does what it does in the
-machine."""
+"""Closed loops, over drawn setups and plants: a thread by itself in the loop with its plant has the same events as in
+the machine."""
 from __future__ import annotations
 
 import random
@@ -21,7 +21,7 @@ SEEDS = range(9000, 9200)
 
 
 def drawn_plant(chance: random.Random) -> Plant:
-    """A table, sampled each so many cycles; or a plant that knows each store's cycle."""
+    """A table, sampled every so many cycles; or a plant that knows each store's cycle."""
     table = TablePlant(tuple(chance.randrange(1 << 32) for _ in range(16)))
     if chance.random() < 0.5:
         return sampled(table, chance.choice([1, 2, 3, 7, 16, 100]), chance.randrange(1 << 32))

@@ -15,7 +15,7 @@ def test_forms() -> None:
 
 
 def test_stored_worlds_are_those_of_their_seeds() -> None:
-    """But for those beside devices of all kinds, whose devices were drawn by other means."""
+    """Except those with devices of all kinds, whose devices were drawn by other means."""
     stored = table("worlds.txt").read_text().split("\n=== ")[1:]
     for seed in (0, 2, 3, 5, 6, 11):
         assert "\n".join(world_case(seed)).removeprefix("=== ") == stored[seed]
