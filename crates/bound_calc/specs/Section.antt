@@ -10,8 +10,8 @@ use Rattle.region_tree.specs.Graph.{Edge, Graph, Holds, Inside, Lies, Reachable}
 use Rattle.region_tree.specs.Nesting.{depth, most_depth}
 use Rattle.region_tree.specs.Walk.{Course, IsOwn, IsNextTurn, Positions}
 
--- Loops are properly nested and entered only at their heads, and every reachable back edge is to
--- the head of a loop that holds its word.
+-- Loops are properly nested and entered only at their heads. Every reachable back edge is to the
+-- head of a loop that holds its word.
 pub record IsAccepted (g : Graph) : Type 0 where
   pub ordered : (j : LoopSetup) → Contains g.loops j →
       (g.from ≤ j.head) × (j.head ≤ j.last) × (j.last < g.to)
@@ -46,7 +46,7 @@ pub record Field : Type 1 where
 abbrev pub field : Course → Field
 field x = record { graph = x.graph; own = IsOwn x.positions; move = λ u lag. Steps x.positions lag }
 
--- an edge of a reachable word, gone along
+-- a step along an edge of a reachable word
 pub record Arc (x : Field) (u p d v q : ℕ) : Type 0 where
   pub lag : ℕ
   pub edge : Contains (x.graph.edges u) (record { to = v; lag = lag })

@@ -160,8 +160,8 @@ ends-on : (w : Option Matrix) (m : Matrix) (here : Entries) {p c q : ℕ} → w 
     Then (In here) (In (entry m)) p c q → EndsAt w here p c q
 ends-on w m here {p} {c} {q} e t = subst (λ w. EndsAt w here p c q) (sym e) (inr t)
 
--- The costs at the words, and on through the matrices of their calls, are those of paths that end
--- in the function or one that it calls.
+-- The costs at the words, and on through the matrices of their calls. They are those of paths that
+-- end in the function or one that it calls.
 pub deep-alike : (x : Route) (a : Part) (at : List Matrix) (into : WaysOn) → Gone x a at →
     ((u : ℕ) → Reachable (part x.calls a) u →
     IsWayOf x (λ t. Deep x (Some t)) (callee x.calls u) (into (index (part_tree x.calls a) u))) →

@@ -4,7 +4,7 @@ use Rattle.call_bounds.specs.CallRefusals.{IsCallable, IsListing}
 use Rattle.call_bounds.specs.CallWalk.{CostsOf, IsCallBound, Route}
 use Rattle.call_bounds.specs.Runs.{Nested}
 
--- Such paths have the costs of nested paths of functions, where a call is a whole path of its
+-- Such paths have the costs of nested paths of functions. In these a call is a whole path of its
 -- routine, or the last piece of the path.
 abbrev pub CallWalksCostAsParts : Type 0
 CallWalksCostAsParts = (x : Route) → IsListing x.calls → IsCallable x.calls → (c : ℕ) →

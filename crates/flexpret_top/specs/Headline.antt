@@ -78,9 +78,9 @@ WritesAsRun (Some (Solo setup i n)) files ports before after =
     Appends before after (trace (machine_of p ports) i n)
 WritesAsRun _ files ports before after = Unit {0}
 
--- For every confined thread that no setting of the run makes soft active, `run` wrote the text of
--- the one-thread definition over the thread's view and these settings. This holds in a run that
--- writes no region register. `phases` writes the lines of the settings.
+-- Take a confined thread that no setting of the run makes soft active. `run` wrote the text of the
+-- one-thread definition over the thread's view and these settings. This holds in a run that writes
+-- no region register. `phases` writes the lines of the settings.
 abbrev pub WritesByPhases : Option Ask → FileMap → List (Option Row) → Option (List ℕ) →
     Option (List ℕ) → Type 0
 WritesByPhases (Some (Run setup i n)) files ports before after =
@@ -92,10 +92,10 @@ WritesByPhases _ files ports before after = Unit {0}
 
 -- `bound` wrote the line of a number of cycles. Some path through the section costs that number,
 -- and no visit of the section takes longer if it keeps the stated loop bounds. This holds in every
--- quiet run of every machine whose setup keeps the rules, as each accepted one does, with the
--- thread hard, the same slots and the same words in the section. Less is enough: no issue writes
--- slots or modes, and the words that the section can reach are the same. For one visit it is enough
--- that picking uses these slots throughout, and that the thread is hard and active.
+-- quiet run of every machine whose setup keeps the rules, as each accepted one does. The thread
+-- must be hard, and the slots and the words in the section the same. Less is enough: no issue
+-- writes slots or modes, and the words that the section can reach are the same. For one visit it is
+-- enough that picking uses these slots throughout, and that the thread is hard and active.
 pub record IsLongest (p : Program) (i : ℕ) (section : Section)
     (before after : Option (List ℕ)) : Type 0 where
   pub cycles : ℕ
@@ -126,9 +126,9 @@ BoundsVisits _ files before after = Unit {0}
 -- `calls` wrote the line of a number of cycles. Some path with matching calls and returns through
 -- the section and its routines, which keeps the loops' bounds, costs that number. No call visit of
 -- the section takes longer if its returns match its calls and it keeps the stated loop bounds. This
--- holds in every quiet run of every machine whose setup keeps the rules, as each accepted one does,
--- with the thread hard, the same slots and the same words in all reached functions. As for `bound`,
--- less is enough.
+-- holds in every quiet run of every machine whose setup keeps the rules, as each accepted one does.
+-- The thread must be hard, and the slots and the words in all reached functions the same. As for
+-- `bound`, less is enough.
 pub record IsLongestByCalls (p : Program) (i : ℕ) (section : Section) (file : List ℕ)
     (before after : Option (List ℕ)) : Type 0 where
   pub routines : List Routine

@@ -82,7 +82,7 @@ abstract_result own x =
       effect = x.effect;
     }
 
--- an executed instruction refines the defined one: in what is known of it, and in what it leaves
+-- an executed instruction refines the defined one, in its result and in the units after it
 pub record Refines (before after : Hart) (x : ExecResult) (d : Execution) : Type 0 where
   pub did : abstract_result d.own x ≡ d
   pub units : units_of after ≡ units_after before.thread d (units_of before)

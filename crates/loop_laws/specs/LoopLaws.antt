@@ -13,8 +13,8 @@ use Rattle.loop_laws.specs.Loop.{Plant, input_plant, phased_in_loop}
 use Rattle.loop_laws.specs.Loop.{solo_in_loop, without_port_words}
 use Rattle.loop_laws.specs.Answered.{IsAnswered, closed_start, inputs_of, loop_view, with_all_shown}
 
--- In a quiet run, the events of a confined hard thread with a responding plant are those of the
--- thread by itself in the loop with the plant. The other threads may run any code.
+-- A confined hard thread with a responding plant has in a quiet run the same events as by itself in
+-- the loop with the plant. The other threads may run any code.
 abbrev pub LoopIsolation : Type 0
 LoopIsolation = (plant : Plant) (s : Start) (i n : ℕ) → StartsConfinedHard s i → is_quiet s n ≡ true
     → IsAnswered plant s i n → events s i n ≡ solo_in_loop (loop_view s i) plant n

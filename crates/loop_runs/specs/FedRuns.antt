@@ -36,8 +36,8 @@ FeedsRunning = (s : Start) (c n : ℕ) (m : Machine) (ports : List (Option Row))
 abbrev pub AllForgot : ℕ → List (Option Row) → List (Option Row) → Type 0
 AllForgot first before after = (k : ℕ) → k < 8 → Forgot first (row_at before k) (row_at after k)
 
--- machine and ports that refine cycle c of a world still do so once the ports forget their words of
--- the cycles before c - 3. The loads in flight were issued in cycles c - 3 to c - 1
+-- Machine and ports that refine cycle c of a world still do so after the ports forget their words
+-- before cycle c - 3. The loads in flight were issued in cycles c - 3 to c - 1.
 abbrev pub ForgetsRunning : Type 0
 ForgetsRunning = (s : Start) (c n : ℕ) (m : Machine) (before after : List (Option Row))
     → Refines s c n m before → AllForgot (c - 3) before after → Refines s c n m after

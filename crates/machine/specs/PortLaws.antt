@@ -16,8 +16,8 @@ FeedsStart =
     (s : Settings) (image : List Segment) (ports : List (Option Row)) (n : ℕ) → length ports ≡ 8 →
     n ≤ 2 ^ 64 → start_beside s image (fed_all s ports) n ≡ start s image ports n
 
--- ports that refine cycle c of a world and show the same words as earlier ports are those earlier
--- ports with the world's latches, without the removed ones
+-- Take ports that refine cycle c of a world and show the same words as earlier ports. They are the
+-- earlier ports with the world's latches, without the removed ones.
 abbrev pub LeavesPorts : Type 0
 LeavesPorts =
     (s : Start) (c n : ℕ) (m : Machine) (before after : List (Option Row)) → Refines s c n m after →

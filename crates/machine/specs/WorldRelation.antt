@@ -64,8 +64,8 @@ AppendsBeyond None after bytes = ⊤
 AppendsBeyond (Some xs) None bytes = ⊥
 AppendsBeyond (Some xs) (Some ys) bytes = (rest : List ℕ) × (ys ≡ (xs ++ bytes) ++ rest)
 
--- machine and ports of a stopped run refine the cycles done. The bytes put begin with the text of
--- all these cycles but the last, and are a prefix of the text of all of them
+-- Machine and ports of a stopped run refine the cycles done. The bytes put are a prefix of the text
+-- of all these cycles, and begin with the text of all but the last.
 pub record Stopped (s : Start) (n thread : ℕ) (first : List (Option Row)) (m : Machine)
     (ports : List (Option Row)) (before after : Option (List ℕ)) : Type 0 where
   pub put : AppendsFront before after (text (events s thread n))

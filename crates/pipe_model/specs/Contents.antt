@@ -1,5 +1,5 @@
--- The contents of the stage registers for the last five turns, from the pc, word and effect of each
--- turn and the registers of its thread before it.
+-- The contents of the stage registers for the last five turns. They follow from the pc, word and
+-- effect of each turn, and the registers of its thread before it.
 use Rattle.std.specs.Prelude.{◌≡◌, ℕ, ◌-◌, ◌==◌, Bool, false, List, Option, Some}
 use Rattle.rv_decode.specs.Table.{ins}
 use Rattle.rv_decode.specs.declared.instruction.Ins.{Ins}

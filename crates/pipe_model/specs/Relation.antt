@@ -1,8 +1,8 @@
 -- When stage registers, units and ports refine a cycle of a world. The turn of cycle c is in F in
--- that cycle, in D at c + 1, in E at c + 2, in M at c + 3 and in W at c + 4. So before cycle c the
--- registers are those of the world four cycles before, and memory and ports those of three cycles
--- before. The state that E changes is that of two cycles before. Before cycle 0 the world is the
--- start, and no thread has a turn.
+-- cycle c, then in D, E, M and W in the four cycles after it. So before cycle c the registers are
+-- those of the world four cycles before, and memory and ports those of three cycles before. The
+-- state that E changes is that of two cycles before. Before cycle 0 the world is the start, and no
+-- thread has a turn.
 use Rattle.std.specs.Prelude.{◌≡◌, ℕ, suc, ◌+◌, ◌-◌, ◌<◌, ◌≤◌, ◌==◌, nat_lt, nat_le, Bool}
 use Rattle.std.specs.Prelude.{true, false, ◌&&◌, if◌then◌else◌, List, [], ◌∷◌, slice_index_or}
 use Rattle.std.specs.Prelude.{map, length, Option, Some, None, IfSome, option_map, is_some}
@@ -190,8 +190,8 @@ pub record Begins (s : Start) : Type 0 where
   pub ready : (k : ℕ) → (slice_index_or s.threads k (fresh 0)).ready ≡ 0
   pub latches : length s.latches ≡ 8
 
--- a port that was handed in is there up to cycle unplug + 2, since the turn that accesses it in
--- cycle c was issued in c - 3
+-- A port that was handed in is there up to cycle unplug + 2. The turn that accesses it in cycle c
+-- was issued in c - 3.
 abbrev pub stays_in : Option ℕ → ℕ → Bool
 stays_in None c = true
 stays_in (Some unplug) c = nat_lt c (unplug + 3)

@@ -33,8 +33,8 @@ IsPc pc = pc % 4 ≡ 0
 abbrev pub EffectFits : Option Effect → Type 0
 EffectFits e = IsPrintableEffect e × IsAlignedStore e
 
--- the thread of a turn is 0 to 7. Issues in f and d have a pc, those in e and m an effect that
--- fits, and the address in e is aligned for a load or store
+-- The thread of a turn is 0 to 7. Issues in f and d have a pc, and those in e and m an effect that
+-- fits. The address in e is aligned for a load or store.
 abbrev pub FetchedFits : Held Fetched → Type 0
 FetchedFits Bubble = Unit {0}
 FetchedFits (Flushed k) = k < 8

@@ -28,8 +28,8 @@ pub record Course : Type 0 where
   pub graph : Graph
   pub positions : Positions
 
--- A step: the word and the position of an issue, the lag of the edge taken, the cycles until the
--- next issue, and the word and the position of the next issue.
+-- A step: the word and the position of an issue, the lag of the edge taken, and the cycles until
+-- the next issue. Then the word and the position of that one.
 pub record Step : Type 0 where
   pub from : ℕ
   pub at : ℕ

@@ -44,17 +44,17 @@ pub record HasWords (s : Start) (t : Tree) : Type 0 where
   pub same_words : (u : ℕ) → Reachable (graph t) u → u < s.size →
       code_at s.size s.i_words u ≡ word_at t u
 
--- in every run of such a machine the thread's issues follow the edges of the section, while the
--- slots and its mode don't change; the section has a bound
+-- In every run of such a machine the thread's issues follow the edges of the section, while the
+-- slots and its mode don't change. The section has a bound.
 abbrev pub IssuesFollowEdgesInSettings : Type 0
 IssuesFollowEdgesInSettings =
     (t : Tree) (slots thread : ℕ) (s : Start) (n : ℕ) → IsTree t → HasWords s t →
     AreLinkedIn (IsSet s slots thread) (Reachable (graph t)) (EdgeOf (graph t))
     (course t slots thread).positions (issues_of thread (world s n).turns)
 
--- In a run of such a machine a visit takes no longer than an upper bound on the cost of the paths
--- through the section. This holds if picking uses these slots and a hard active mode of the thread
--- during the visit, and the visit keeps the stated bounds of the loops.
+-- In a run of such a machine a visit takes no longer than any upper bound on the cost of the
+-- section's paths. This holds if picking uses these slots and a hard active mode of the thread
+-- during the visit. The visit must keep the stated bounds of the loops.
 abbrev pub VisitsAreBoundedInSettings : Type 0
 VisitsAreBoundedInSettings =
     (t : Tree) (slots thread b : ℕ) (s : Start) (n : ℕ) → IsTree t →

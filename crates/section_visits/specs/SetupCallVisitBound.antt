@@ -19,11 +19,11 @@ pub record IsAlikeInParts (m : Machine) (i slots : ℕ) (x : Calls) : Type 0 whe
   pub same_slots : m.setup.slots ≡ slots
   pub same_words : (u : ℕ) → u % 4 ≡ 0 → IsMet x u → word m.image u ≡ x.word u
 
--- No call visit of thread i exceeds an upper bound on the cost of a section's paths with matching
--- calls and returns, if its returns match its calls and it keeps the bounds of the loops that
--- count. This holds in every quiet run of every machine whose setup keeps the rules, as each
--- accepted one does. The machine must have the same slots, mode of i and words of the reached
--- functions. The rest of its setup and image, and its ports, don't matter.
+-- Take a call visit of thread i whose returns match its calls, and that keeps the bounds of the
+-- loops that count. It takes no longer than any upper bound on the cost of the section's paths with
+-- matching calls and returns. This holds in every quiet run of every machine whose setup keeps the
+-- rules, as each accepted one does. The machine must have the same slots, mode of i and words of
+-- the reached functions. The rest of its setup and image, and its ports, don't matter.
 abbrev pub CallVisitsStayBounded : Type 0
 CallVisitsStayBounded =
     (x : Calls) (slots i b : ℕ) (m : Machine) (n : ℕ) → IsListing x → IsCallable x →

@@ -81,8 +81,8 @@ VisitsStayBoundedByPhases =
     (issues m i n) last before → KeepsBounds (tree_in setup image s).loops last before →
     last.cycle - (first_of last before).cycle ≤ b
 
--- the same for all visits, with the slots of the start and a thread that starts hard and active,
--- while no issue writes slots or modes
+-- The same for all visits by a thread that starts hard and active, with the slots of the start. No
+-- issue may write slots or modes.
 abbrev pub VisitsStayBoundedWhileScheduled : Type 0
 VisitsStayBoundedWhileScheduled =
     (setup : Settings) (image : List Segment) (s : Section) (slots i b : ℕ) (m : Machine) (n : ℕ) →

@@ -29,11 +29,11 @@ pub record IsAlike (m : Machine) (i slots : ℕ) (image : List Segment) (s : Sec
 abbrev pub tree_in : Settings → List Segment → Section → Tree
 tree_in setup image s = tree_of (word image) s setup.loops
 
--- No visit of thread i exceeds an upper bound on the cost of the paths through a section of the
--- setup's image, if it keeps the bounds of the setup's loops. This holds in every quiet run of
--- every machine whose setup keeps the rules, as each accepted one does. The machine must have the
--- same slots, mode of i and words of the section. The rest of its setup and image, and its ports,
--- don't matter.
+-- Take a visit of thread i to a section of the setup's image that keeps the bounds of the setup's
+-- loops. It takes no longer than any upper bound on the cost of the section's paths. This holds in
+-- every quiet run of every machine whose setup keeps the rules, as each accepted one does. The
+-- machine must have the same slots, mode of i and words of the section. The rest of its setup and
+-- image, and its ports, don't matter.
 abbrev pub VisitsStayBounded : Type 0
 VisitsStayBounded =
     (setup : Settings) (image : List Segment) (s : Section) (i b : ℕ) (m : Machine) (n : ℕ) →

@@ -55,9 +55,9 @@ IssuesFollowEdges =
     (t : Tree) (slots thread : ℕ) (s : Start) (n : ℕ) → IsTree t → IsHost s t slots thread →
     is_quiet s n ≡ true → FollowEdges (course t slots thread) (issues_of thread (world s n).turns)
 
--- In a quiet run of such a machine no visit of the section exceeds an upper bound on the cost of
--- the section's paths, if it keeps the stated bounds of the section's loops. A visit is measured
--- from its first issue to its last.
+-- Take a visit of the section in a quiet run of such a machine that keeps the stated bounds of the
+-- section's loops. It takes no longer than any upper bound on the cost of the section's paths. A
+-- visit is measured from its first issue to its last.
 abbrev pub VisitsAreBounded : Type 0
 VisitsAreBounded =
     (t : Tree) (slots thread b : ℕ) (s : Start) (n : ℕ) → IsTree t →
