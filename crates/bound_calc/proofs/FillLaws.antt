@@ -147,7 +147,7 @@ filled-same t o ways k powers is none f = record {
         absurd (none i known head (subst (λ v. Reachable (graph t) v) (sym head) r))
     go i known le r (inr ne) = f.some i known (omega arith) r
 
--- every head of a loop is visited
+-- no head of a loop is skipped
 pub filled-down : (t : Tree) (o : Positions) (ways : WaysOn) (k n : ℕ) (powers : Powers) →
     k < n → ((j : LoopSetup) → Contains t.loops j → j.head < address t n → index t j.head ≤ k) →
     IsFilled (over t o ways) t n powers → IsFilled (over t o ways) t (k + 1) powers

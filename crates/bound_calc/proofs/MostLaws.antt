@@ -386,7 +386,7 @@ most-all t o n most is frame top m =
         (subst (λ v. Contains (x.graph.edges v) e) (sym w.1) known) far (subst (λ v. Then
         (Reaches (net (field x)) (whole (field x)) v) (Steps x.positions e.lag) p c q) (sym w.1) r))
 
--- without words that have a matrix of their own, every step is by the turns
+-- no word has a matrix of its own: every step is by the turns
 abbrev pub no-ways : WaysOn
 no-ways k = None
 

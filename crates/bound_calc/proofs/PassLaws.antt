@@ -88,7 +88,7 @@ pub no-option : {A : Type 0} (o : Option A) → is_some o ≡ false → o ≡ No
 no-option None e = refl
 no-option (Some x) e = cc
 
--- a matrix brought to an edge's target
+-- storing a matrix at an index changes no other index
 pub waits-set : (old : Powers) (k w : ℕ) (o : Option (Box Matrix Global)) → w ≢ k →
     power_at (slice_set old k o) w ≡ power_at old w
 waits-set old k w o ne =
@@ -144,7 +144,7 @@ holds old k m (Some n) is same = (
   (λ p c q y. (m, is ∙ ap Some (sym same), y)),
 )
 
--- the matrix that is joined at the index, or one without sums
+-- costs were joined with those that wait at the index of an edge's target
 pub is-brought : (to : Option ℕ) (k : ℕ) (first : Matrix) (joined : Box Matrix Global) (f : Costs)
     (front : FrontModel) (mid : Powers) (was : Option Matrix) → let old = front.waiting in
     to ≡ Some k → k < length old → ((w : ℕ) → w ≢ k → power_at mid w ≡ power_at old w) →

@@ -9,7 +9,8 @@ use Rattle.call_bounds.specs.Summaries.{Any, When}
 once-covers : (c e s n : ℕ) → min c n ≤ e → min e n ≤ s → min c n ≤ s
 once-covers c e s n h h' = omega arith
 
--- each cost of the first set has an equal or larger one in the second, up to the ceiling
+-- each cost of f has an equal or larger one in g, and each of g an equal one in f, up to the
+-- ceiling
 pub record Alike (f g : Costs) : Type 0 where
   pub covers : (p c q : ℕ) → f p c q → (e : ℕ) × g p e q × (min c ceiling ≤ e)
   pub among : (p e q : ℕ) → g p e q → (c : ℕ) × f p c q × (min e ceiling ≡ min c ceiling)

@@ -37,7 +37,7 @@ knows-callees l s ranks n known through deep are lt lower all reached k lt' call
 abbrev pub Before : List ℕ → ℕ → ℕ → ℕ → Type 0
 Before ranks rank n k = (rank_at ranks k < rank) ⊎ ((rank_at ranks k ≡ rank) × (k < n))
 
--- the section is no routine
+-- the section is no routine and has no summary
 no-routine : (l : Listing) (s : Positions) (through deep : List Matrix) (k : ℕ) → k < 1 →
     IsSummaryAt l s k through deep
 no-routine l s through deep zero lt t e = cc

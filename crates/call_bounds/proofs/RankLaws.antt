@@ -4,7 +4,7 @@ use Rattle.std.proofs.Common.{◌∙◌, cond, Bool, true, false, List, [], ◌�
 use Rattle.std.proofs.lemmas.List.Sums.{sum_by-cons}
 use Rattle.call_bounds.specs.Reachability.{DoesCall, IsExact, IsCalled, is_met, unmet_count}
 
--- a callee of a function that calls lead to
+-- reachability by calls is transitive
 pub lead-on : {n : ℕ} {table : List Bool} {a b c : ℕ} → IsCalled n table a b →
     IsCalled n table b c → IsCalled n table a c
 lead-on l (IsCalled.one call) = IsCalled.more l call

@@ -50,7 +50,7 @@ spread-start n table j met count = record {
   fewer = omega arith;
 }
 
--- a new callee
+-- a new callee is marked
 pub spread-one : (n : ℕ) (table : List Bool) (j c : ℕ) (old new : List Bool) (changed : Bool) →
     DoesCall n table j c → is_met new c ≡ false → Spread n table j c old new changed →
     Spread n table j (c + 1) old (slice_set new c true) true

@@ -174,7 +174,7 @@ stop-leaves told asked ports last stop s b' a' before after ends ok =
     absurd (no_number (number_of s) 0 (stop_number stop s b' a' before after ends)
     (ap number_of ok) (inl refl))
 
--- a status other than Differs and Write is that of another stop
+-- a status other than Differs and Write isn't that of a difference
 pub no-difference : (stop : Stop) (s : Status) (b' a' : ℕ) (before after : Option (List ℕ)) →
     Ends stop b' a' before after s → (s ≡ Differs → ⊥) → (s ≡ Write → ⊥) →
     is_difference stop ≡ false

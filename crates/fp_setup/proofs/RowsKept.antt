@@ -98,7 +98,7 @@ rows-kept size index ids (d ∷ ds) low high h =
     (thread-in size ids (thread_row index) (as_table d) low high here)
     (rows-kept size (index + 1) (ids ++ id_of d ∷ []) ds low high more)
 
--- a thread's value is that of one of its tables, or the default if no table names it
+-- a property of each table's value and of the default holds of a thread's value
 said-kept : {X : Type 0} (P : Members → Type 0) (Q : X → Type 0)
     (say : Members → X) (other : X) (rows : List Members) (k : ℕ) →
     All P rows → ((r : Members) → P r → Q (say r)) → Q other → Q (said_of say other rows k)

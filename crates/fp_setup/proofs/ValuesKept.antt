@@ -74,7 +74,7 @@ pub permit-kept : (confined : Bool) (place : Place) (d : Data) →
 unfolding permit_check
 permit-kept confined place d h = permit-in confined place (as_bool d) h
 
--- the number of a text's bytes
+-- the number of a text's bytes is in a range
 abbrev pub IsLong : ℕ → ℕ → Text → Type 0
 IsLong low high t = (low ≤ length t) × (length t ≤ high)
 

@@ -54,7 +54,7 @@ pub record Tied (s : Start) (i c : ℕ) (w : World) (a : Past) : Type 0 where
   pub count : length w.threads ≡ 8
   pub age : length w.turns ≡ c
 
--- a cycle without an issue of the thread
+-- a cycle in which the thread does nothing
 pub record Rests (s : Start) (i : ℕ) (w after : World) : Type 0 where
   pub thread : thread_of after i ≡ thread_of w i
   pub words : seen_words s.size (region_kinds i s.registers.dregions) after.d_words

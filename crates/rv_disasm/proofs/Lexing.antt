@@ -189,7 +189,7 @@ reads_name (b ∷ bs) h line pre rest n ps e apart few more =
 digit_rest : (b : ℕ) → is_digit b ≡ true → is_head b ≡ false
 digit_rest b h = grind (arith, nat_tests)
 
--- a number doesn't begin with `0x`, since its second byte is a digit or there is none
+-- a number whose second byte is no `x` doesn't begin with `0x`
 not_prefixed : (d : ℕ) (bs : Text) → starts (λ b. b == 120) bs ≡ false →
     is_prefixed (d ∷ bs) ≡ false
 not_prefixed d [] h = refl
@@ -301,7 +301,7 @@ hex_glyph k h = by_test (nat_lt k 10) refl
         let x : is_hex (87 + k) ≡ true = grind (arith, nat_tests) in
         rw e (x, rw (c, d) (omega arith))
 
--- hexadecimal digits of a number that fits in them
+-- hexadecimal digits with the value n
 record IsHexadecimal (width n : ℕ) (hs : Text) : Type 0 where
   digits_only : AllBytes is_hex hs
   valued : number_of 16 hs ≡ n

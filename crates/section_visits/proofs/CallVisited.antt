@@ -30,7 +30,7 @@ Way x u e =
     (((edges_of (x.word u) u).stop ≡ No) × Contains (edge_list (edges_of (x.word u) u)) e)
     ⊎ ((is_back (x.word u) ≡ true) × (e.lag ≡ 3))
 
--- a return stops the control-flow graph of the section, and is no call
+-- a return is an indirect jump, and no call
 pub back-stop : (w u : ℕ) → is_back w ≡ true → (edges_of w u).stop ≡ Indirect
 unfolding edges_of edges_from
 back-stop w u h = ap (λ i. (edges_from u i).stop) (ap ins (back-is w h) ∙ ins-back)

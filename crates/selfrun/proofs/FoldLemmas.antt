@@ -178,7 +178,7 @@ by_last_two cycle many fits =
     ∙ ap (λ n. (front ++ (48 + cycle % 100 / 10) ∷ []) ++ (48 + n) ∷ []) last in
     sym (ap (λ xs. xs ++ 32 ∷ []) whole ∙ simp append_assoc)
 
--- a hash that was kept for a hundred cycles is that of each of them
+-- a cycle less than 100 after a first one has the same digits before the last two
 pub is_kept : (cycle first : ℕ) → IsFirst first →
     cycle < 10 ^ 10 → (cycle + (2 ^ 64 - first)) % 2 ^ 64 < 100 →
     (100 ≤ cycle) × (first / 100 ≡ cycle / 100)
