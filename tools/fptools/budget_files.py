@@ -6,10 +6,14 @@ from enum import Enum, IntEnum
 from pathlib import Path
 from typing import Any, Mapping
 
-import jsonschema
-
+from fptools import require
 from fptools.setup import spelled
 from fptools.toml import faults, read_toml
+
+require("jsonschema")
+
+import jsonschema  # noqa: E402
+from jsonschema import ValidationError as ValidationError  # noqa: E402
 
 SCHEMA = Path(__file__).resolve().parents[1] / "budgets.schema.json"
 
@@ -109,7 +113,7 @@ def read_budgets(path: Path, period: int) -> list[Budget]:
 
 def fault_text(fault: Exception, budgets: Path | None) -> str:
     """What is said of a fault; of one in a file of budgets, with the key where it is."""
-    if isinstance(fault, jsonschema.ValidationError):
+    if isinstance(fault, ValidationError):
         return f"{budgets}: {spelled(tuple(fault.absolute_path))}: {fault.message}"
     return str(fault)
 

@@ -1,4 +1,4 @@
-"""An executable's words, symbols and source lines, as pyelftools reads them."""
+"""An executable's words, symbols and source lines. Reading a file needs pyelftools."""
 from __future__ import annotations
 
 import re
@@ -8,24 +8,15 @@ from functools import cached_property
 from pathlib import Path
 from typing import Any, Collection, Iterable, Iterator, Mapping
 
-from elftools.common.exceptions import DWARFError, ELFError
-from elftools.construct import ConstructError
-from elftools.elf.elffile import ELFFile
-from elftools.elf.sections import SymbolTableSection
-
 from fptools.image import words_of
+
+# Without an executable nothing here needs pyelftools: the methods that read one import it.
 
 CODE_END = 0x1_0000
 ASSEMBLER = (".s", ".S", ".asm")
 ADDRESS = re.compile(
     r"(?P<name>[A-Za-z_.$][\w.$]*)?(?P<plus>\+)?(?P<number>0x[0-9a-fA-F]{1,16}|[0-9]{1,20})?"
 )
-
-
-# What pyelftools raises beyond its own errors where a file has been cut, or a table of it leads astray.
-FAULTS = (
-    ArithmeticError, AssertionError, AttributeError, ConstructError, LookupError, MemoryError, TypeError, ValueError,
-)  # fmt: skip
 
 
 class ProgramError(Exception):
@@ -88,6 +79,8 @@ class Program:
         self._files: list[str] = []  # the names of its sources, or of its objects
         if path is None:
             return
+        from fptools.pyelf import FAULTS, ELFError, ELFFile
+
         try:
             with path.open("rb") as file:
                 self._read(ELFFile(file))
@@ -96,7 +89,9 @@ class Program:
         except FAULTS as fault:
             raise ProgramError(f"{path} is a broken ELF file: {fault}") from fault
 
-    def _read(self, elf: ELFFile) -> None:
+    def _read(self, elf: Any) -> None:
+        from fptools.pyelf import SymbolTableSection
+
         kind = elf.elfclass, elf.little_endian, elf["e_machine"], elf["e_type"]
         if kind != (32, True, "EM_RISCV", "ET_EXEC"):
             raise ProgramError(f"{self.path} is no static executable of RISC-V with 32 bits")
@@ -109,7 +104,7 @@ class Program:
         self.functions.sort()
         self.symbols.sort()
 
-    def _take_symbols(self, table: SymbolTableSection) -> None:
+    def _take_symbols(self, table: Any) -> None:
         for symbol in table.iter_symbols():
             at, size, kind = symbol["st_value"], symbol["st_size"], symbol["st_info"]["type"]
             if kind == "STT_FILE":
@@ -204,6 +199,8 @@ class Program:
         unit by unit."""
         if self.path is None:
             return []
+        from fptools.pyelf import FAULTS, DWARFError, ELFError, ELFFile
+
         with self.path.open("rb") as file:
             elf = ELFFile(file)
             if not elf.has_dwarf_info():
@@ -252,6 +249,8 @@ class Program:
         """The rows of what was compiled together, piece by piece."""
         if self.path is None:
             return []
+        from fptools.pyelf import FAULTS, DWARFError, ELFError, ELFFile
+
         try:
             with self.path.open("rb") as file:
                 elf = ELFFile(file)

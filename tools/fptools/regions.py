@@ -6,9 +6,12 @@ from collections import defaultdict
 from collections.abc import Iterable, Sequence
 from dataclasses import dataclass, field
 
-import networkx
-
+from fptools import require
 from fptools.blocks import Block
+
+require("networkx")
+
+import networkx  # noqa: E402
 
 
 MOST_AROUND = 3

@@ -6,9 +6,12 @@ from dataclasses import dataclass, field, replace
 from enum import Enum
 from typing import Collection, Mapping, Protocol
 
-import networkx
-
+from fptools import require
 from fptools.words import RETURN, Flow, Word
+
+require("networkx")
+
+import networkx  # noqa: E402
 
 
 class Function(Protocol):
