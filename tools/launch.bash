@@ -38,21 +38,34 @@ helper() {
     run_python "$top/tools/fp_launch" "$script" "$crate" "$@"
 }
 
-# The first Python that has the packages of the tools.
+# Prints the Python that runs the tools: the first one with all of their packages, else the first one that is new enough.
 tools_python() {
-    local python
+    local python found=''
     for python in python3 /usr/bin/python3; do
         "$python" -c 'import importlib.util, sys
-sys.exit(not all(map(importlib.util.find_spec, ("elftools", "jsonschema"))))' 2>/dev/null && break
-        python=python3
+sys.exit(4 if sys.version_info < (3, 11) else 0 if all(map(importlib.util.find_spec, ("elftools", "jsonschema", "networkx"))) else 3)' 2>/dev/null
+        case $? in
+        0)
+            found=$python
+            break
+            ;;
+        3) found=${found:-$python} ;;
+        esac
     done
-    echo "$python"
+    echo "${found:-python3}"
 }
 
-# tool NAME ARGUMENT..: calls a tool of tools/, which asks this program if it asks one.
+# tool NAME ARGUMENT..: calls a tool of tools/ with this program, for those that run one. A tool without its packages ends with NOT_BUILT.
 tool() {
     [ -x "$top/tools/$1" ] || stop "$NOT_BUILT" "tools/$1 isn't there"
     env "$variable=$program" "$(tools_python)" "$top/tools/$1" "${@:2}"
+}
+
+# name_program FILE: the value of --use, once.
+name_program() {
+    [ -z "$used" ] || stop 2 '--use is given 2 times'
+    [ -n "$1" ] || stop 2 '--use: FILE is missing, the program to be used'
+    used=$1
 }
 
 # options ARGUMENT..: takes the script's own options in front of the command, and --quiet behind it too. The rest is `given`.
@@ -62,11 +75,10 @@ options() {
         --quiet) quiet=1 ;;
         --unproved) unproved=1 ;;
         --use)
-            [ $# -gt 1 ] || stop 2 '--use: FILE is missing, the program to be used'
-            used=$2
+            name_program "${2-}"
             shift
             ;;
-        --use=*) used=${1#*=} ;;
+        --use=*) name_program "${1#*=}" ;;
         --version) version ;;
         --help | -h | help) help ;;
         *) break ;;

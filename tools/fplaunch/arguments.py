@@ -6,7 +6,7 @@ from __future__ import annotations
 import difflib
 import re
 from dataclasses import dataclass, field
-from typing import Callable, Iterator
+from typing import Callable, Iterator, Sequence
 
 MOST_CYCLES = 4_000_000_000
 """The most cycles of a run."""
@@ -38,6 +38,15 @@ COMMANDS = {
     "elf": Command("FILE"),
     "selfrun": Command("NUMBER"),
 }
+ALL_COMMANDS = (*COMMANDS, "disasm")
+"""The commands of the script: those of the program, and one that a tool answers."""
+
+ADDED = {"asm": ("-o", "--listing", "--map"), "elf": ("-o",), "bound": ("--elf", "--map"), "calls": ("--elf", "--map")}
+"""The options that the script adds to a command."""
+
+BEFORE = ("--quiet", "--unproved", "--use", "--version", "--help")
+"""The options of the scripts themselves, which are written before the command."""
+
 VALUES = {"thread": "I", "cycles": "N", "from": "A", "to": "B", "trace": "FILE", "routines": "FILE"}
 """How the value of an option is called."""
 
@@ -146,12 +155,24 @@ def option_of(name: str, word: str, left: Iterator[str]) -> tuple[str, str]:
 
 def unknown_option(name: str, word: str, option: str) -> str:
     """What is said of a word that begins with `-` and is no option of the command."""
-    options = COMMANDS[name].options
-    known = f"{name} has the options {' and '.join(f'--{one}' for one in options)}" if options else f"{name} has no options"
+    options = [*(f"--{one}" for one in COMMANDS[name].options), *ADDED.get(name, ())]
+    known = f"{name} has the option{'s' * (len(options) > 1)} {listed(options)}" if options else f"{name} has no options"
     if not word.startswith("--"):
         return f"{word}: {known}; a file whose name begins with - is written ./{word}"
-    near = difflib.get_close_matches(option, options, 1)
-    return f"--{option}: {known}" + (f"; is --{near[0]} meant?" if near else "")
+    near = difflib.get_close_matches(f"--{option}", options, 1)
+    return f"--{option}: {known}" + (f"; is {near[0]} meant?" if near else "")
+
+
+def unknown_option_before(word: str) -> str:
+    """The fault of a word before the command that begins with `-` and is no option of the script."""
+    option = word.partition("=")[0]
+    near = difflib.get_close_matches(option, BEFORE, 1)
+    return f"{option}: no such option before the command; these are {listed(BEFORE)}" + (f"; is {near[0]} meant?" if near else "")
+
+
+def listed(names: Sequence[str]) -> str:
+    """Names as a text: `a`, `a and b`, `a, b and c`."""
+    return " and ".join([", ".join(names[:-1]), names[-1]] if len(names) > 1 else names)
 
 
 def check(name: str, asked: Asked) -> None:
@@ -185,9 +206,11 @@ def parse(words: list[str]) -> tuple[str, Asked]:
     if not words:
         raise Fault("no command is named; --help shows them")
     name = words[0]
+    if name.startswith("-"):
+        raise Fault(unknown_option_before(name))
     if name not in COMMANDS:
-        near = difflib.get_close_matches(name, COMMANDS, 1)
-        hint = f"is {near[0]} meant?" if near else f"the commands are {', '.join(COMMANDS)}"
+        near = difflib.get_close_matches(name, ALL_COMMANDS, 1)
+        hint = f"is {near[0]} meant?" if near else f"the commands are {', '.join(ALL_COMMANDS)}"
         raise Fault(f"{name}: no such command; {hint}")
     asked = sort_out(name, words[1:])
     check(name, asked)

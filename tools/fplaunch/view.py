@@ -3,6 +3,8 @@ from __future__ import annotations
 
 from typing import Iterator
 
+from fplaunch.arguments import unknown_option_before as unknown_option
+
 MOST_CYCLE = 3_999_999_997
 """The last cycle behind a window."""
 
@@ -16,7 +18,9 @@ OPTIONS = {"from": "CYCLE", "to": "CYCLE", "konata": "FILE", "vcd": "FILE", "svg
 def fault_of(words: list[str]) -> str | None:
     """What is wrong with the arguments, or nothing. The program may still find something."""
     if not words:
-        return "no command is named; --help shows the one there is"
+        return "no command is named; --help shows them"
+    if words[0].startswith("-"):
+        return unknown_option(words[0])
     if words[0] != "turns":
         return f"{words[0]}: no such command; the commands are turns and show"
     subjects: list[str] = []
