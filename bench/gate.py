@@ -204,20 +204,27 @@ def install(packages: Sequence[str]) -> None:
 
 @contextlib.contextmanager
 def stamped() -> Iterator[None]:
-    """Notes beside the programs which are there behind it from which sources they are, if these are the same as before."""
+    """Records the sources of each program that is built within this context, if no source changes meanwhile."""
     before = {crate: Checkout(TOP, crate).listed() for crate in PROGRAMS.values()}
+    with tempfile.NamedTemporaryFile(prefix='.test-', dir=TOP) as started:
+        begun = os.stat(started.name).st_mtime_ns
     yield
     for crate, sources in before.items():
         checkout = Checkout(TOP, crate)
-        if checkout.program.is_file() and checkout.listed() == sources:
+        is_new = checkout.program.is_file() and checkout.program.stat().st_mtime_ns >= begun
+        if is_new and checkout.listed() == sources:
             checkout.write_stamp(kit_line(), sources)
 
 
 def run_ci() -> Sum:
-    """Runs `rt ci`, with its lines as they come."""
+    """Runs `rt ci` and prints its lines as they come. If `rt` can't be started, one line says why, and one test has failed."""
     last = ''
-    with subprocess.Popen(['rt', 'ci'], cwd=TOP, stdin=subprocess.DEVNULL, stdout=subprocess.PIPE, text=True,
-                          errors='replace') as child:
+    try:
+        child = subprocess.Popen(['rt', 'ci'], cwd=TOP, stdin=subprocess.DEVNULL, stdout=subprocess.PIPE, text=True, errors='replace')
+    except OSError as fault:
+        print(f'./test: rt ci is not run: rt of the Rattle kit that README.md names is not on the PATH ({fault.strerror})', flush=True)
+        return Sum(failed=1)
+    with child:
         assert child.stdout
         for line in child.stdout:
             print(line, end='', flush=True)

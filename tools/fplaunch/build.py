@@ -11,12 +11,12 @@ import subprocess
 import sys
 import time
 from concurrent.futures import FIRST_COMPLETED, Future, ThreadPoolExecutor, wait
-from contextlib import ExitStack, contextmanager
+from contextlib import ExitStack, contextmanager, suppress
 from dataclasses import dataclass, field
 from functools import cached_property
 from graphlib import TopologicalSorter
-from threading import Lock
 from pathlib import Path
+from threading import RLock
 from types import FrameType
 from typing import Iterator, TextIO
 
@@ -182,7 +182,7 @@ class Builder:
 
     def __init__(self, plan: Plan, log: TextIO) -> None:
         self.plan, self.log = plan, log
-        self.lock = Lock()
+        self.lock = RLock()
         self.children: set[subprocess.Popen[str]] = set()
         self.stopped = False
         self.hold = ExitStack()
@@ -218,11 +218,12 @@ class Builder:
                 self.call(top, crate, niceness, ["lib", *flags])
 
     def stop(self) -> None:
-        """Ends what runs."""
+        """Ends the running proofs. A signal may call this while the main thread is already in it: the lock is reentrant."""
         with self.lock:
             self.stopped = True
             for child in self.children:
-                os.killpg(child.pid, signal.SIGTERM)
+                with suppress(ProcessLookupError):  # it has just ended
+                    os.killpg(child.pid, signal.SIGTERM)
 
     def build(self, progress: Progress) -> None:
         """Proves all crates of the plan, each behind those that it uses, the longest chain first."""

@@ -101,10 +101,11 @@ def option(script: str, checkout: Checkout, words: list[str]) -> int:
 def version(script: str, checkout: Checkout, words: list[str]) -> int:
     """Prints what is known of a program: that of the checkout, or a file."""
     program = Path(words[0]) if words else checkout.program
+    is_current = bool(words) or (checkout.top / "installed").exists() or checkout.is_built()
     stamp = read_stamp(Path(f"{program}.sources") if words else checkout.stamp)
     if not program.is_file():
         print(f"{script}: not built")
-    elif stamp is None or not (words or (checkout.top / "installed").exists() or checkout.is_built()):
+    elif stamp is None or not is_current:
         print(f"{script}: {program}: no record says from which sources it was built")
     else:
         print(f"{script}: commit {stamp.commit}, {stamp.kit}, proved: {program}")

@@ -19,6 +19,10 @@ SUFFIXES = (".rt", ".antt")
 """How the names of sources end."""
 
 
+UNRECORDED = "a kit that no record names"
+"""How a stamp names the kit of a program that `rt ci` or `rt run` left."""
+
+
 @dataclass(frozen=True)
 class File:
     """A file as a stamp has it: its name from the top, bytes, time of change in nanoseconds, and checksum."""
@@ -204,15 +208,16 @@ class Checkout:
     # ------------------------------------------------------------ what rt left
 
     def adopt(self) -> bool:
-        """Whether `rt ci` or `rt run` built the program from the sources as they are, where no stamp says so. Then it gets one.
+        """Whether `rt ci` or `rt run` built the program from the current sources. If so, writes the stamp that is missing.
 
-        Both leave a file that is older than the end of their work and newer than its start. No source changed since, if the
-        inode of none did: that time can't be set back, as those of a checkout or a copy can."""
+        Both leave a file that is older than the end of their work and newer than its start. No source has changed since if no
+        inode has: that time can't be set back, unlike those of a checkout or a copy. The kit of that build is recorded nowhere,
+        and another one may have been installed since. So the stamp has UNRECORDED and the kit that is here now."""
         begun = self.begun_by_rt()
         if begun is None or self.last_change() >= begun:
             return False
         with contextlib.suppress(OSError):
-            self.write_stamp(kit_line(), self.listed())
+            self.write_stamp(f"{UNRECORDED} (here now: {kit_line()})", self.listed())
         return True
 
     def begun_by_rt(self) -> int | None:

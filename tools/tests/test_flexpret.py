@@ -11,6 +11,7 @@ import shutil
 import signal
 import subprocess
 import sys
+import threading
 import time
 from pathlib import Path
 
@@ -18,7 +19,9 @@ import pytest
 from conftest import TOOLS, TOP
 from fplaunch.arguments import fault_of
 from fplaunch.bounds import ways_out, words_of
+from fplaunch.build import Builder, Plan
 from fplaunch.plain_section import goes_on, is_branch, is_call, stays, target
+from fplaunch.sources import Checkout as Sources
 from fplaunch.view import fault_of as view_fault
 from fptools.words import Flow, Word
 
@@ -353,6 +356,30 @@ def test_a_build_that_is_broken_off_goes_on(either: Checkout) -> None:
     assert either.run(*either.words).returncode == 0
 
 
+def test_a_proof_that_has_just_ended_hides_no_break(checkout: Checkout) -> None:
+    with open(os.devnull, "w") as log:
+        builder = Builder(Plan(Sources(checkout.folder, "flexpret_cli"), 1), log)
+    with subprocess.Popen(["true"], process_group=0, text=True) as ended:
+        ended.wait()
+        builder.children.add(ended)
+        builder.stop()
+    assert builder.stopped
+
+
+def test_a_second_break_does_not_wait_for_the_first(checkout: Checkout) -> None:
+    with open(os.devnull, "w") as log:
+        builder = Builder(Plan(Sources(checkout.folder, "flexpret_cli"), 1), log)
+
+    def broken_off_twice() -> None:
+        with builder.lock:
+            builder.stop()
+
+    thread = threading.Thread(target=broken_off_twice, daemon=True)
+    thread.start()
+    thread.join(10)
+    assert not thread.is_alive()
+
+
 def command_of(process: Path) -> str:
     try:
         return (process / "cmdline").read_text().replace("\0", " ")
@@ -395,6 +422,16 @@ def test_the_program_that_rt_left_answers_the_first_call_in_a_second(either: Che
     assert time.monotonic() - begun < 1 or os.getloadavg()[0] > 2
     either.source.write_text("changed")
     assert either.builds()
+
+
+@pytest.mark.parametrize("leave", [leave_by_ci, leave_by_run])
+def test_the_kit_of_a_program_that_rt_left_is_not_recorded(either: Checkout, leave: object) -> None:
+    time.sleep(0.01)
+    assert callable(leave)
+    leave(either)
+    here = "(here now: rattle-kit-13f logic dac8208d650f15bf)"
+    first = either.run("--version").stdout.splitlines()[0]
+    assert first.startswith(f"{either.script}: commit unknown, a kit that no record names {here}, proved: ")
 
 
 @pytest.mark.parametrize("leave", [leave_by_ci, leave_by_run])
@@ -504,6 +541,23 @@ def test_a_call_costs_at_most_40_milliseconds_of_processor_time(either: Checkout
 
     alone = spent(either.out / either.out.parent.name, *either.words)
     assert spent(either.folder / either.script, *either.words) - alone < 0.04
+
+
+def test_a_call_of_bound_costs_at_most_40_milliseconds_of_processor_time(checkout: Checkout) -> None:
+    checkout.build()
+    words = ("bound", "examples/sum.toml", "--thread", "0", "--from", "0x10", "--to", "0x3c")
+    named = {**checkout.environment, "SEEN": "0", "LINE": "bound 184"}
+
+    def spent(program: Path) -> float:
+        before = resource.getrusage(resource.RUSAGE_CHILDREN)
+        for _ in range(10):
+            ran = subprocess.run([program, *words], cwd=TOP, env=named, capture_output=True, check=True)
+            assert (ran.stdout, ran.stderr) == (b"bound 184\n", b"")
+        after = resource.getrusage(resource.RUSAGE_CHILDREN)
+        return (after.ru_utime + after.ru_stime - before.ru_utime - before.ru_stime) / 10
+
+    alone = spent(checkout.out / "flexpret_cli")
+    assert spent(checkout.folder / "flexpret") - alone < 0.04
 
 
 # ---------------------------------------------------------------- arguments
