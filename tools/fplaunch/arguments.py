@@ -1,6 +1,6 @@
-"""The command line of the program: which argument is wrong, what is allowed there, and which files it names.
+"""The command line of the program: the wrong argument, the allowed values, and the files that it names.
 
-The rules are those of `read_words` in the crate ask_words; the tests compare both over the rows of the gate."""
+The rules are those of `read_words` in the crate ask_words; the tests compare both on the rows of the gate."""
 from __future__ import annotations
 
 import difflib
@@ -20,7 +20,7 @@ MOST_NUMBER = (1 << 32) - 1
 
 @dataclass(frozen=True)
 class Command:
-    """A command: how its file or number is called, and its options, each of which is needed once."""
+    """A command: the name of its file or number in messages, and its options. Each option is required once."""
 
     subject: str
     options: tuple[str, ...] = ()
@@ -39,7 +39,7 @@ COMMANDS = {
     "selfrun": Command("NUMBER"),
 }
 ALL_COMMANDS = (*COMMANDS, "disasm")
-"""The commands of the script: those of the program, and one that a tool answers."""
+"""The commands of the script: those of the program, and one that a tool runs."""
 
 ADDED = {"asm": ("-o", "--listing", "--map"), "elf": ("-o",), "bound": ("--elf", "--map"), "calls": ("--elf", "--map")}
 """The options that the script adds to a command."""
@@ -48,12 +48,12 @@ BEFORE = ("--quiet", "--unproved", "--use", "--version", "--help")
 """The options of the scripts themselves, which are written before the command."""
 
 VALUES = {"thread": "I", "cycles": "N", "from": "A", "to": "B", "trace": "FILE", "routines": "FILE"}
-"""How the value of an option is called."""
+"""The name of an option's value in messages."""
 
 
 @dataclass
 class Asked:
-    """The words behind a command: what stands without an option, and the values of each option."""
+    """The arguments after a command: those without an option, and the values of each option."""
 
     subjects: list[str] = field(default_factory=list)
     values: dict[str, list[str]] = field(default_factory=dict)
@@ -63,11 +63,11 @@ class Asked:
 
 
 class Fault(Exception):
-    """What is wrong with a command line, in one line."""
+    """The fault of a command line, in one line."""
 
 
 def form(name: str) -> str:
-    """How a command is called."""
+    """The usage of a command."""
     command = COMMANDS[name]
     return " ".join([name, command.subject, *(f"--{option} {VALUES[option]}" for option in command.options)])
 
@@ -81,7 +81,7 @@ def decimal(text: str, most: int) -> int | None:
 
 
 def address(text: str) -> int | None:
-    """An address in decimal, or in hexadecimal behind 0x."""
+    """An address in decimal, or in hexadecimal after 0x."""
     if re.fullmatch("0x[0-9a-fA-F]{1,8}", text):
         return int(text, 16)
     return decimal(text, MOST_NUMBER)
@@ -109,22 +109,22 @@ FAULTS: dict[str, Callable[[str], str | None]] = {
     "from": address_fault,
     "to": address_fault,
 }
-"""What is wrong with the value of an option. Any text is the name of a file."""
+"""A check of an option's value. It returns the fault, or None. Any text is a file name."""
 
 
 def value_fault(name: str, option: str, text: str) -> str | None:
-    """What is wrong with the value of a command's option."""
+    """The fault of the value of a command's option, or None."""
     if name == "check" and option == "cycles":
         is_large = decimal(text, MOST_CYCLES) is not None and decimal(text, MOST_CHECKED) is None
         return f"check compares at most {MOST_CHECKED} cycles" if is_large else cycles_fault(text, MOST_CHECKED)
     return FAULTS.get(option, lambda text: None)(text)
 
 
-# ---------------------------------------------------------------- words
+# ---------------------------------------------------------------- arguments
 
 
 def sort_out(name: str, words: list[str]) -> Asked:
-    """The words behind a command, by what they are; a word without a place is a fault."""
+    """Sorts the arguments after a command. An argument that belongs nowhere raises a Fault."""
     asked = Asked()
     left = iter(words)
     for word in left:
@@ -137,7 +137,7 @@ def sort_out(name: str, words: list[str]) -> Asked:
 
 
 def option_of(name: str, word: str, left: Iterator[str]) -> tuple[str, str]:
-    """The option that a word names, and its value, which may be the next word."""
+    """The option in an argument, and its value, which may be the next argument."""
     options = COMMANDS[name].options
     if not word:
         raise Fault("an argument is empty")
@@ -154,7 +154,7 @@ def option_of(name: str, word: str, left: Iterator[str]) -> tuple[str, str]:
 
 
 def unknown_option(name: str, word: str, option: str) -> str:
-    """What is said of a word that begins with `-` and is no option of the command."""
+    """The message about an argument that begins with `-` and is no option of the command."""
     options = [*(f"--{one}" for one in COMMANDS[name].options), *ADDED.get(name, ())]
     known = f"{name} has the option{'s' * (len(options) > 1)} {listed(options)}" if options else f"{name} has no options"
     if not word.startswith("--"):
@@ -164,7 +164,7 @@ def unknown_option(name: str, word: str, option: str) -> str:
 
 
 def unknown_option_before(word: str) -> str:
-    """The fault of a word before the command that begins with `-` and is no option of the script."""
+    """The message about an argument before the command that begins with `-` and is no option of the script."""
     option = word.partition("=")[0]
     near = difflib.get_close_matches(option, BEFORE, 1)
     return f"{option}: no such option before the command; these are {listed(BEFORE)}" + (f"; is {near[0]} meant?" if near else "")
@@ -176,7 +176,7 @@ def listed(names: Sequence[str]) -> str:
 
 
 def check(name: str, asked: Asked) -> None:
-    """Whether each part of a command is there once, with a value that is allowed."""
+    """Raises a Fault unless each part of a command is given once, with an allowed value."""
     command = COMMANDS[name]
     for option, texts in asked.values.items():
         if len(texts) > 1:
@@ -197,7 +197,7 @@ def check(name: str, asked: Asked) -> None:
 
 
 def parse(words: list[str]) -> tuple[str, Asked]:
-    """The command of a command line and its parts. What isn't allowed is a fault."""
+    """The command of a command line, and its parts. A wrong argument raises a Fault."""
     for word in words:
         try:
             word.encode()
@@ -218,7 +218,7 @@ def parse(words: list[str]) -> tuple[str, Asked]:
 
 
 def fault_of(words: list[str]) -> str | None:
-    """What is wrong with a command line, or nothing."""
+    """The fault of a command line, or None."""
     try:
         parse(words)
     except Fault as fault:
@@ -227,7 +227,7 @@ def fault_of(words: list[str]) -> str | None:
 
 
 def files_of(words: list[str]) -> list[tuple[str, str]]:
-    """The files that a command line names, each with what it is. The image of a setup isn't named."""
+    """The files in a command line, each with its kind in words. A setup's image isn't among them."""
     name, asked = parse(words)
     command = COMMANDS[name]
     files = [] if name == "selfrun" else [(asked.subjects[0], command.subject.lower())]
