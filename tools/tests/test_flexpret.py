@@ -883,7 +883,7 @@ def test_a_window_is_shown_with_more_by_its_tool(tmp_path: Path) -> None:
     ran = checkout.run("--quiet", "--use", other, "show", "x.toml")
     assert (ran.returncode, ran.stdout) == (1, f"{other} x.toml\n")
     ran = checkout.run("--unproved", "show", "x.toml")
-    text = "flexpret-view: --unproved answers turns alone: show asks the built program\n"
+    text = "flexpret-view: --unproved is for turns only: show needs the built program\n"
     assert (ran.returncode, ran.stdout, ran.stderr) == (2, "", text)
 
 
