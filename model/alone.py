@@ -14,7 +14,7 @@ from model.world import RETIRES, Setting, entries
 
 
 class View:
-    """What a confined thread's trace depends on: its code, slots, private memory and port."""
+    """The view of a confined thread, on which its trace depends: its code, slots, private memory and port."""
 
     def __init__(self, setup: Setup, image: Image, ports: Ports, number: int) -> None:
         self.setup, self.number = setup, number
@@ -30,7 +30,7 @@ class View:
 
 
 class InView:
-    """What the view answers to an issue of its thread in a cycle; `data` is the thread's own memory."""
+    """The values that the view returns for an issue of its thread in a cycle; `data` is the thread's private memory."""
 
     def __init__(self, view: View, data: bytearray, cycle: int) -> None:
         self.view, self.data, self.cycle = view, data, cycle
@@ -98,11 +98,11 @@ class InWideView(InView):
 
 
 Loaded = Callable[[int], object]
-"""Is told each cycle in which the device at the thread's port is read, before the event of it."""
+"""Called for each cycle in which the device at the thread's port is read, before its event."""
 
 
 def unread(cycle: int) -> None:
-    """What is told where there is no device."""
+    """The callback if there is no device."""
 
 
 def run_alone(view: View, cycles: int, is_own: Callable[[int], bool], granted: Sequence[int] | None = None,

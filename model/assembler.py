@@ -242,7 +242,7 @@ class Placer:
         self._place(Line(number, name, read_operands(name, found[at + 1 :]), self.location))
 
     def _take_labels(self, found: Sequence[Token]) -> int:
-        """Keeps the labels with which a line begins, and says how many tokens they are."""
+        """Keeps the labels at the start of a line, and returns the number of their tokens."""
         at = 0
         while at + 1 < len(found) and found[at].kind == Kind.NAME and found[at + 1].is_mark(":"):
             label = found[at].text.decode()

@@ -9,7 +9,7 @@ from model.setups import Loop
 from model.walks import step_cost
 
 NONE = -1
-"""No walk leads from one position to another."""
+"""There is no path from one position to another."""
 
 Costs = tuple[tuple[int, ...], ...]
 """The largest costs from each of a thread's positions to each, in this order."""
@@ -52,7 +52,7 @@ def raised(ends: list[int], other: Sequence[int]) -> list[int]:
 class Bounds:
     """The costs of a graph's parts, for a thread under a slots register. Callees come first: `through` has for each
     routine the costs from its head to the word behind its call, and `ends` for each part and position at its first word
-    the largest cost of a walk that ends anywhere in it or below it."""
+    the largest cost of a path that ends anywhere in it or below it."""
 
     def __init__(self, graph: Graph, slots: int, thread: int) -> None:
         self.graph = graph
@@ -127,7 +127,7 @@ class Bounds:
         self.through[part], self.ends[part] = through, raised(ends, largest_of_rows(through))
 
     def _ends_behind(self, part: Part, address: int, costs: Costs) -> list[int]:
-        """The largest costs of walks that end in what a word calls, or by leaving the part."""
+        """The largest costs of paths that end in a function that a word calls, or by leaving the function."""
         ends = [NONE] * len(self.own)
         if called := self.graph.called(address):
             inside = chain(costs, self.steps[JUMP_LAG])

@@ -1,4 +1,4 @@
-"""The commands over files, a sink and eight ports: what is written, in which puts, and the status."""
+"""The commands over files, a sink and eight ports: the output, its puts, and the status."""
 from __future__ import annotations
 
 import sys
@@ -229,7 +229,7 @@ class Call:
     # ------------------------------------------------------------ parts of these
 
     def machine(self) -> tuple[Setup, Image]:
-        """The setup that is asked about, and its image."""
+        """The setup of the command, and its image."""
         try:
             setup = read_setup(self.files.fetch(self.question.file, setups.MOST_BYTES))
             return setup, read_image(self.files.fetch(setup.image, MOST_BYTES[setup.size]), setup.size)
@@ -245,7 +245,7 @@ class Call:
 
     def over_machine(self, setup: Setup, image: Image, retire: Callable[[Event], None],
                      begin: Callable[[], None] = lambda: None) -> None:  # fmt: skip
-        """Runs the machine beside the ports, which it feeds first, and gives each event to `retire` as it retires."""
+        """Runs the machine with the ports, which it feeds first, and gives each event to `retire` as it retires."""
         world = World(setup, image, list(self.ports))
         feed(setup, self.ports)
         begin()
@@ -287,7 +287,7 @@ class Call:
 
 
 def section_refusal(setup: Setup, question: Question) -> SectionNo | None:
-    """Why a thread, or a section of its code, can't be asked about."""
+    """The reason why a command refuses a thread or a section of its code."""
     thread, start, end = setup.threads[question.thread], question.start, question.end
     if thread.mode != HARD:
         return SectionNo.NotHard
@@ -324,7 +324,7 @@ def feed(setup: Setup, ports: Ports) -> None:
 
 
 def unplug(setup: Setup, ports: Ports, cycle: int) -> None:
-    """Takes away the devices that are gone for what gets to the ports in a cycle."""
+    """Removes the devices that are unplugged for accesses to the ports in a cycle."""
     for number, (thread, port) in enumerate(zip(setup.threads, ports)):
         if port is not None and thread.unplug is not None and cycle >= thread.unplug + TAKEN_AWAY:
             port.unplug()
@@ -378,7 +378,7 @@ def flexpret(words: Sequence[str], files: Files, sink: Sink, ports: Ports) -> St
 
 
 def answer(words: Sequence[str], files: dict[str, bytes], ports: Ports | None = None) -> tuple[Status, bytes]:
-    """The status and the text of a command over files in memory, beside devices of the program's kind."""
+    """The status and the text of a command over files in memory, with devices of the program's kind."""
     sink = MemSink()
     status = flexpret(words, MemFiles(files), sink, ports or [HeldPort() for _ in range(THREADS)])
     return status, sink.bytes

@@ -1,4 +1,4 @@
-"""What is seen of the machine after a number of cycles: the pipeline, and state that is some cycles old."""
+"""The observed machine after a number of cycles: the pipeline, and state that is some cycles old."""
 from __future__ import annotations
 
 from collections.abc import Iterator
@@ -16,7 +16,7 @@ ROW = 32
 
 
 def is_unplugged(setup: Setup, ports: Ports, number: int, cycles: int) -> bool:
-    """Whether no device stands at a thread's port after so many cycles."""
+    """Whether a thread's port has no device after so many cycles."""
     unplug = setup.threads[number].unplug
     return ports[number] is None or (unplug is not None and cycles >= unplug + RETIRES)
 

@@ -1,4 +1,4 @@
-"""What an issue changes, and the lines of a trace."""
+"""The effects of an issue, and the lines of a trace."""
 from __future__ import annotations
 
 from collections.abc import Iterable
@@ -74,7 +74,7 @@ NOTHING = Effect()
 
 @dataclass(frozen=True)
 class Event:
-    """An issue that isn't held, with what it changed."""
+    """An issue that isn't held, with its effects."""
 
     cycle: int
     thread: int

@@ -41,7 +41,7 @@ def u16(data: bytes, at: int) -> int:
 
 
 def check_header(data: bytes) -> None:
-    """Raises the first fault of what stands before the program headers."""
+    """Raises the first fault of the part before the program headers."""
     if len(data) > MOST_BYTES:
         raise ElfFault(ElfNo.TooLong, 0)
     if data[:4] != b"\x7fELF":

@@ -14,7 +14,7 @@ from model.setups import Loop
 MOST_ROUTINES = 64
 MOST_ROUTINES_BYTES = 1152
 MOST_AROUND = 3
-"""A loop stands in at most so many others."""
+"""The most loops around a loop."""
 
 RETURN = 0x00008067
 """The word of `jalr x0, 0(x1)`."""
@@ -26,7 +26,7 @@ JUMP_LAG = 3
 
 
 class Stop(Enum):
-    """Words behind which a walk can't be told."""
+    """The words whose successors aren't known."""
 
     INDIRECT_JUMP = "IndirectJump"
     TIMED_WAIT = "TimedWait"
@@ -143,7 +143,7 @@ class Graph:
         return [] if self.called(address) else edges(self.word_at(address), address)
 
     def stop(self, part: Part, address: int) -> Stop | None:
-        """Why a walk can't be told behind a word."""
+        """The reason why a word's successors aren't known."""
         return None if self.returns(part, address) else STOPS.get(decode(self.word_at(address)).kind)
 
     def callees(self, part: Part) -> list[Part]:

@@ -1,4 +1,4 @@
-"""Words as instructions and back, what an instruction computes, and its lag."""
+"""The encoding of instructions, their results, and their lags."""
 from __future__ import annotations
 
 from collections.abc import Callable
@@ -225,12 +225,12 @@ def encode(x: Ins) -> int:
     return ENCODINGS[x.kind](x)
 
 
-# ---------------------------------------------------------------- what an instruction computes
+# ---------------------------------------------------------------- results
 
 
 @dataclass(frozen=True)
 class Outcome:
-    """What an instruction computes from its pc and operands; what it doesn't compute is 0. `trap` is a cause."""
+    """The results of an instruction from its pc and operands; those that it doesn't have are 0. `trap` is a cause."""
 
     value: int = 0
     address: int = 0
@@ -273,7 +273,7 @@ def quotient(a: int, b: int) -> int:
 
 
 def product(op: str, a: int, b: int) -> int:
-    """What a multiplication, or a division by another divisor than 0, gives."""
+    """The result of a multiplication, or of a division by a divisor other than 0."""
     x, y = signed(a), signed(b)
     if op == "Mul":
         return word(a * b)
@@ -329,13 +329,13 @@ OUTCOMES: dict[str, Callable[[Ins, int, int, int], Outcome]] = {
 
 
 def outcome(x: Ins, pc: int, a: int, b: int) -> Outcome:
-    """What an instruction computes from its pc and the values of its source registers."""
+    """The results of an instruction from its pc and the values of its source registers."""
     compute = OUTCOMES.get(x.kind)
     return compute(x, pc, a, b) if compute else Outcome()
 
 
 def load_value(op: str, address: int, aligned_word: int) -> int:
-    """What a load gets out of the aligned word that has its address."""
+    """The value of a load, from the aligned word at its address."""
     width = 8 * LOAD_SIZE[op]
     field = (aligned_word >> 8 * (address % 4)) % (1 << width)
     return word(signed(field, width)) if op in ("Lb", "Lh") else field

@@ -1,4 +1,4 @@
-"""One whole instruction of a thread: its registers, what it asks of what is around it, and its event."""
+"""One complete instruction of a thread: its registers, its requests to its surroundings, and its event."""
 from __future__ import annotations
 
 from collections.abc import Callable, Mapping
@@ -17,7 +17,7 @@ FETCH_ACCESS, ILLEGAL, LOAD_ACCESS, STORE_ACCESS, EXPIRY = 1, 2, 5, 7, 24
 
 
 class Around(Protocol):
-    """What an issue asks of the machine around it."""
+    """The requests of an issue to the machine around it."""
 
     def fetch(self, pc: int) -> int | None:
         """The word at a pc; None where it may not be fetched."""
@@ -40,7 +40,7 @@ class Around(Protocol):
 
 @dataclass
 class Thread:
-    """A thread's registers, what it has armed, until when it sleeps, and the first cycle in which it may issue."""
+    """A thread's registers, its armed moment, the moment until which it sleeps, and the first cycle in which it may issue."""
 
     pc: int
     x: list[int] = field(default_factory=lambda: [0] * 32)
@@ -53,7 +53,7 @@ class Thread:
 
 @dataclass(frozen=True)
 class Access:
-    """What an access to a CSR reads, and what it writes, if it does."""
+    """The value that an access to a CSR reads, and the value that it writes, if it does."""
 
     old: int
     written: int | None
@@ -109,7 +109,7 @@ class Step:
         return value, self._complete(Instruction(x, value, a, b, done))
 
     def _complete(self, i: Instruction) -> Effect | None:
-        """What an instruction that doesn't trap by itself does; None where it is held."""
+        """The effects of an instruction that doesn't trap by itself; None if it is held."""
         t = self.thread
         do = DONE.get(i.x.kind)
         effect = do(self, i) if do else NOTHING
@@ -157,7 +157,7 @@ class Step:
         return Written(i.x.csr, access.written, i.x.rd, access.old)
 
     def _access(self, x: Ins, operand: int) -> Access | None:
-        """What an access reads and writes; None where it is refused."""
+        """The values that an access reads and writes; None if it is refused."""
         writes = x.op in ("Rw", "Rwi") or x.rs1 != 0
         if x.csr == MHARTID:
             return None if writes else Access(self.number, None)
@@ -209,7 +209,7 @@ class Step:
 
 @dataclass(frozen=True)
 class Instruction:
-    """An instruction with its word, the values of its source registers, and what it computes."""
+    """An instruction with its word, the values of its source registers, and its results."""
 
     x: Ins
     word: int
@@ -228,4 +228,4 @@ DONE: dict[str, Callable[[Step, Instruction], Effect | None]] = {
     "Load": Step.load, "Store": Step.store, "Csr": Step.csr, "Gt": Step.get_time, "Gth": Step.get_high,
     "Du": Step.delay_until, "Wu": Step.wait_until, "Ee": Step.arm, "De": Step.disarm,
 }  # fmt: skip
-"""What instructions do; those that aren't here change no more than the pc."""
+"""The effects of instructions; those that aren't here change only the pc."""

@@ -60,7 +60,7 @@ def last_word(stores: Sequence[PortStore], cycle: int, first: int) -> int:
 
 
 class Looped(Shown):
-    """What a thread's loads at its port get: the plant's word while the port is present."""
+    """The values of a thread's loads from its port: the plant's word while the port is present."""
 
     def __init__(self, shown: Shown, plant: Plant, stores: Callable[[], Sequence[PortStore]]) -> None:
         self.unplug, self.inputs, self.device, self.fed = shown.unplug, shown.inputs, shown.device, shown.fed
@@ -88,7 +88,7 @@ def loop_world(setup: Setup, image: Image, ports: Ports, plants: Mapping[int, Pl
 
 
 def solo_in_loop(setup: Setup, image: Image, ports: Ports, thread: int, plant: Plant, cycles: int) -> list[Event]:
-    """The events of a confined hard thread alone in the loop with its plant."""
+    """The events of a confined hard thread in a closed loop with its plant, without other threads."""
     view = View(setup, image, ports, thread)
     events: list[Event] = []
     view.shown = Looped(view.shown, plant, lambda: port_stores(events, thread))

@@ -1,4 +1,4 @@
-"""The machine's own run: eight programs drawn from a number, and what each thread's trace comes to."""
+"""The run of `selfrun`: eight programs drawn from a number, and the count and hash of each thread's trace."""
 from __future__ import annotations
 
 from collections.abc import Iterator

@@ -1,4 +1,4 @@
-"""Devices at the ports of threads: what they show, what they keep, and how they are called."""
+"""Devices at the ports of threads: their outputs, their state, and their calls."""
 from __future__ import annotations
 
 from bisect import bisect_right
@@ -7,7 +7,7 @@ from model.bits import LAST_WORD, word
 from model.setups import ThreadSetup
 
 OPEN = LAST_WORD
-"""What is loaded where no device stands."""
+"""The value of a load from a port without a device."""
 
 
 class Device:
@@ -18,11 +18,11 @@ class Device:
         self.kept = 0
 
     def base(self, cycle: int) -> int:
-        """What is shown before the first fed word."""
+        """The word before the first one that is fed."""
         return 0
 
     def word_at(self, cycle: int) -> int:
-        """What is shown in a cycle."""
+        """The word that is shown in a cycle."""
         k = bisect_right(self.fed, cycle, key=lambda pair: pair[0])
         return self.fed[k - 1][1] if k else self.base(cycle)
 
@@ -137,7 +137,7 @@ class Noted(Device):
 
 
 Ports = list[Device | None]
-"""What stands at the eight ports."""
+"""The devices at the eight ports."""
 
 
 class Shown:
@@ -149,11 +149,11 @@ class Shown:
         self.fed = list(device.fed) if device else []
 
     def asks_device(self, cycle: int) -> bool:
-        """Whether the device as it was handed in says what is shown."""
+        """Whether the device as it was handed in determines the word that is shown."""
         return not self.is_open(cycle) and not (self.inputs and self.inputs[0][0] <= cycle)
 
     def is_open(self, cycle: int) -> bool:
-        """Whether no device stands there."""
+        """Whether there is no device."""
         return self.device is None or (self.unplug is not None and cycle >= self.unplug)
 
     def __call__(self, cycle: int) -> int:

@@ -1,4 +1,4 @@
-"""What the words of a command line ask."""
+"""The arguments of a command line, parsed."""
 from __future__ import annotations
 
 import re
@@ -76,7 +76,7 @@ FIELDS = {"from": "start", "to": "end", "trace": "other_file", "routines": "othe
 
 
 def ask(words: Sequence[str]) -> Question | None:
-    """What words ask; None where they ask nothing."""
+    """The parsed arguments; None for a usage error."""
     if not words or words[0] not in OPTIONS:
         return None
     command, parts = words[0], sorted_out(words[1:])

@@ -22,7 +22,7 @@ class SetupNo(IntEnum):
 
 
 class SectionNo(IntEnum):
-    """Why a section, or a thread, can't be asked about."""
+    """The reasons why a section or a thread is refused."""
 
     NotHard = 1
     NoSlot = 2

@@ -1,4 +1,4 @@
-"""The machine's own registers: slots, modes and regions, and what they allow."""
+"""The configuration registers: slots, modes and regions, and the accesses that they allow."""
 from __future__ import annotations
 
 from collections.abc import Sequence
@@ -63,7 +63,7 @@ def is_allowed_word(csr: int, value: int) -> bool:
 
 
 class Regions:
-    """Whose each eighth of a scratchpad is, by the two registers, and what that allows a thread."""
+    """The owner of each eighth of a scratchpad, by the two registers, and the accesses that a thread may make."""
 
     def __init__(self, iregions: int, dregions: int, size: int) -> None:
         self.iregions, self.dregions, self.size = iregions, dregions, size

@@ -1,4 +1,4 @@
-"""Setup files: what one says, or its first fault in the order of the checks."""
+"""Setup files: their values, or the first fault in the order of the checks."""
 from __future__ import annotations
 
 import tomllib
@@ -34,7 +34,7 @@ REGIONS = {**{f"T{k}": k for k in range(THREADS)}, "shared": SHARED, "readonly":
 
 
 class SetupFault(Exception):
-    """The first fault of a setup, with the path at which it stands."""
+    """The first fault of a setup, with its path."""
 
     def __init__(self, code: SetupNo, path: str) -> None:
         super().__init__(code, path)
@@ -43,7 +43,7 @@ class SetupFault(Exception):
 
 @dataclass(frozen=True)
 class ThreadSetup:
-    """What a setup says of a thread; that of a thread without a table."""
+    """The settings of a thread in a setup. The defaults are those of a thread without a table."""
 
     mode: int = SOFT_ASLEEP
     entry: int = 0
@@ -209,7 +209,7 @@ def read_inputs(table: Table) -> tuple[tuple[int, int], ...]:
 
 
 def read_thread(table: Table, size: int, seen: set[int]) -> tuple[int, ThreadSetup]:
-    """A thread's number and what is said of it, with `seen` the numbers of the tables before."""
+    """A thread's number and its settings; `seen` are the numbers of the earlier tables."""
     number = table.number("id", 0, THREADS - 1)
     if number in seen:
         raise SetupFault(SetupNo.DoubleThread, table.path("id"))
@@ -249,7 +249,7 @@ def read_image_name(top: Table) -> str:
 
 
 def read_setup(data: bytes) -> Setup:
-    """What a setup says; raises SetupFault with its first fault."""
+    """The values of a setup; raises SetupFault with its first fault."""
     if len(data) > MOST_BYTES:
         raise SetupFault(SetupNo.TooLong, "-")
     top = Table(read_toml(data))

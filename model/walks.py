@@ -1,4 +1,4 @@
-"""The bound of a section as it is defined: the most that a walk costs, of all walks one by one."""
+"""The bound of a section by its definition: the largest cost of a path, over all paths one by one."""
 from __future__ import annotations
 
 from collections.abc import Iterator
@@ -10,7 +10,7 @@ from model.setups import Loop
 
 
 class TooManyWalks(Exception):
-    """There are more states of walks than are gone through."""
+    """There are more states of paths than the limit."""
 
 
 def step_cost(slots: int, thread: int, position: int, lag: int) -> tuple[int, int]:
@@ -23,7 +23,7 @@ def step_cost(slots: int, thread: int, position: int, lag: int) -> tuple[int, in
 
 @dataclass(frozen=True)
 class At:
-    """Where a walk stands: an address, a position in the frame, the calls that are open, and how often each loop's head
+    """The state of a path: an address, a position in the frame, the calls that are open, and how often each loop's head
     was entered again from inside."""
 
     address: int
@@ -33,11 +33,11 @@ class At:
 
 
 Step = tuple[int, "At | None"]
-"""A cost, and where the walk stands then; None where it ends."""
+"""A cost, and the next state of the path; None if it ends."""
 
 
 class Walks:
-    """The walks of a graph, for a thread under a slots register."""
+    """The paths of a graph, for a thread under a slots register."""
 
     def __init__(self, graph: Graph, slots: int, thread: int) -> None:
         self.graph, self.slots, self.thread = graph, slots, thread
@@ -52,7 +52,7 @@ class Walks:
         return called or self.graph.section
 
     def steps(self, at: At) -> list[Step]:
-        """The steps behind a state of a walk."""
+        """The steps after a state of a path."""
         part, called = self.part(at), self.graph.called(at.address)
         if called:
             return [self._call(at, called)]
@@ -92,7 +92,7 @@ class Walks:
         return tuple(counts)
 
     def largest_cost(self, most_states: int) -> int:
-        """The largest cost of a walk; raises TooManyWalks."""
+        """The largest cost of a path; raises TooManyWalks."""
         best: dict[At, int] = {}
         for start in self.starts():
             self._finish(start, best, most_states)

@@ -21,7 +21,7 @@ SEEN_BY_PICKING = 3
 
 
 class Kind(Enum):
-    """What became of a cycle."""
+    """The outcome of a cycle."""
 
     BUBBLE = "-"
     FLUSHED = "flushed"
@@ -39,7 +39,7 @@ class PortCall:
 
 @dataclass(frozen=True)
 class Turn:
-    """What became of a cycle: nobody's, a turn that its thread lost, or an issue, whose event is None where it is
+    """The outcome of a cycle: nobody's, a turn that its thread lost, or an issue, whose event is None where it is
     held."""
 
     kind: Kind
@@ -70,7 +70,7 @@ class World:
         self._picking = [self._settings()] * SEEN_BY_PICKING
 
     def _settings(self) -> tuple[int, int, tuple[int, ...]]:
-        """What picking goes by once it is seen: slots, modes, and the moments until which threads sleep."""
+        """The state that picking uses once it is seen: slots, modes, and the moments until which threads sleep."""
         return self.csrs[SLOTS], self.csrs[MODES], tuple(thread.sleep for thread in self.threads)
 
     def step(self) -> Turn:
@@ -130,7 +130,7 @@ def is_setting(event: Event | None, csrs: tuple[int, ...] = MACHINE_CSRS) -> boo
 
 
 class InWorld:
-    """What the world answers to an issue of a thread in a cycle."""
+    """The values that the world returns for an issue of a thread in a cycle."""
 
     def __init__(self, world: World, number: int, cycle: int) -> None:
         self.world, self.number, self.cycle = world, number, cycle
@@ -177,7 +177,7 @@ class InWorld:
 
 @dataclass(frozen=True)
 class Setting:
-    """What picking goes by from a cycle on."""
+    """The state that picking uses from a cycle on."""
 
     cycle: int
     slots: int

@@ -44,7 +44,7 @@ class Command:
 
 @dataclass
 class Case:
-    """What stands at the eight ports, and commands."""
+    """The devices at the eight ports, and commands."""
 
     name: str
     ports: str = ""
@@ -94,7 +94,7 @@ def begun(head: str, line: str, files: dict[str, bytes]) -> Command:
 
 
 def take(case: Case, heading: str, lines: Sequence[str]) -> None:
-    """Takes what stands under a heading."""
+    """Takes the lines under a heading."""
     head, sign, line = heading.partition("$ ")
     if sign:
         case.commands.append(begun(head, line, case.files))
@@ -161,7 +161,7 @@ class Bench:
         return None
 
     def left(self, ports: Ports) -> str:
-        """What a command has left at the ports."""
+        """The state of the ports after a command."""
         called = len(self.counted)
         shown = [f"{port.latch():08x}/{port.read(0):08x}" if port else "-" for port in ports]
         text = f"{' '.join(shown)} dropped {len(self.drops)} {self.kinds.count('drop')}"
@@ -169,7 +169,7 @@ class Bench:
 
 
 def wrong(case: Case, command: Command) -> str | None:
-    """What of the model's answer isn't the table's."""
+    """The differences between the model's answer and the table's."""
     bench = Bench(case.ports.split())
     ports = bench.ports()
     files = MemFiles(command.files, {command.failing_fetch} - {None}, bench.notes)  # type: ignore[arg-type]
@@ -196,7 +196,7 @@ def are_lines(command: Command, sink: MemSink) -> bool:
 
 
 def stopped_dump(command: Command, sink: MemSink) -> bytes | None:
-    """What the machine shows once the last put of a run has failed."""
+    """The state of the machine after the last put of a run has failed."""
     question = ask(command.words())
     if question is None:
         return None
@@ -214,7 +214,7 @@ def held_ports() -> Ports:
 
 
 def call_walks() -> Iterator[Row]:
-    """The bounds of calls.txt by all call walks."""
+    """The bounds of calls.txt by all paths with matching calls and returns."""
     for case in cases("calls.txt"):
         for command in case.commands:
             question = ask(command.words())

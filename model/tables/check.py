@@ -35,7 +35,7 @@ ANSWERS: dict[str, Answer] = {
     "bounds.txt": run_rows.bound_answer,
     "files.txt": lambda call: None,
 }
-"""The tables of lines, with what answers a call; None where the model has no answer."""
+"""The tables of lines, each with the function that answers a call; None if the model has no answer."""
 
 COMMAND_TABLES = (
     "commands.txt", "worked.txt", "noted.txt", "limits.txt", "stopped.txt", "settings.txt", "worlds.txt", "calls.txt",
@@ -54,7 +54,7 @@ EXAMPLES = {
     "run pid.toml --thread 0 --cycles 1250": "pid.trace",
     "bound pid.toml --thread 0 --from 0xb4 --to 0x1a4": "pid.bound",
 }
-"""Commands over the copies of the examples, each with the file that has what it writes."""
+"""Commands over the copies of the examples, each with the file of its output."""
 
 
 @dataclass
@@ -94,7 +94,7 @@ def checked_examples() -> Iterator[Row]:
 
 
 def all_tables() -> dict[str, Callable[[], Iterator[Row]]]:
-    """What checks each table, by its name."""
+    """The check of each table, by its name."""
     found: dict[str, Callable[[], Iterator[Row]]] = {
         name: lambda name=name, answer=answer: checked(rows(name), answer)  # type: ignore[misc]
         for name, answer in ANSWERS.items()

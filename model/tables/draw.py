@@ -1,4 +1,4 @@
-"""Draws a table anew from a seed, in the form of the stored one: `python3 -m model.tables.draw TABLE --seed N >
+"""Draws a table again from a seed, in the form of the stored one: `python3 -m model.tables.draw TABLE --seed N >
 FILE`"""
 from __future__ import annotations
 
@@ -26,7 +26,7 @@ TABLES: dict[str, Callable[[int], Iterator[str]]] = {
     "results.txt": tool_rows.ran,
     "gnu.txt": tool_rows.lines,
 }
-"""What draws the rows of each table behind its head."""
+"""The function that draws the rows of each table after its head."""
 
 
 def main() -> int:

@@ -1,4 +1,4 @@
-"""images.txt, elf.txt, routines.txt and setups.txt: what files say, or their first faults."""
+"""images.txt, elf.txt, routines.txt and setups.txt: the contents of files, or their first faults."""
 from __future__ import annotations
 
 from collections.abc import Iterator
@@ -67,7 +67,7 @@ def setup_rows() -> Iterator[tuple[str, str]]:
 
 
 def said(setup: Setup) -> Iterator[str]:
-    """All that a setup says, line by line."""
+    """All values of a setup, line by line."""
     yield f"version {setup.version} period {setup.period}"
     yield f"slots {setup.slots:08x} modes {setup.modes:08x}"
     yield f"regions {setup.iregions:08x} {setup.dregions:08x} image {setup.image}"
@@ -98,7 +98,7 @@ def setup_of_words() -> Setup:
 
 
 def setup_answer(call: str) -> str | None:
-    """The answer to a call; None of one that asks the parts of a setup, which the model hasn't."""
+    """The answer to a call; None for a call about the parts of a setup, which the model doesn't have."""
     name, _, text = call.partition("\n")
     kind, sign, given = name.partition(": ")
     if not sign:

@@ -1,4 +1,4 @@
-"""decode.txt and gnu.txt beside GNU as and GNU ld: the words that these make of the same text."""
+"""decode.txt and gnu.txt compared with GNU as and GNU ld: the words that these make of the same text."""
 from __future__ import annotations
 
 import re
@@ -65,14 +65,14 @@ def sectioned(lines: Sequence[str]) -> str:
 
 
 def compared(found: Sequence[tuple[str, bytes]], made: dict[str, bytes]) -> Iterator[Row]:
-    """Rows beside the bytes of their sections."""
+    """Rows with the bytes of their sections."""
     for k, (name, wanted) in enumerate(found):
         got = made.get(f".r{k}", b"")
         yield name, "" if got == wanted else f"GNU has {got.hex()} for {wanted.hex()}"
 
 
 def decode_rows() -> Iterator[Row]:
-    """The words of decode.txt beside those that GNU as makes of the text of their instructions."""
+    """The words of decode.txt with those that GNU as makes of the text of their instructions."""
     words = [int(call.split()[1], 16) for _, call in rows("decode.txt")]
     texts = [(word, text_of(decode(word))) for word in words]
     yield from ((f"{word:08x}", None) for word, text in texts if text is None)
@@ -96,7 +96,7 @@ def near(address: int, text: str) -> str:
 
 
 def source_rows() -> Iterator[Row]:
-    """The lines of gnu.txt beside what GNU as and GNU ld make of them at the same addresses."""
+    """The lines of gnu.txt with the words of GNU as and GNU ld for them at the same addresses."""
     lines, wanted = [], []
     for answer, call in rows("gnu.txt"):
         line, image = LINE.fullmatch(call), ANSWER.fullmatch(answer)

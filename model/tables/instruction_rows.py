@@ -1,4 +1,4 @@
-"""instructions.txt, decode.txt and results.txt: what instructions are and do."""
+"""instructions.txt, decode.txt and results.txt: the fields and results of instructions."""
 from __future__ import annotations
 
 from model.instructions import (
@@ -32,7 +32,7 @@ def executed(x: Ins, pc: int, a: int, b: int) -> str:
 
 
 def moved(x: Ins, address: int, value: int) -> str:
-    """What a load makes of an aligned word, or a store of a value."""
+    """The value of a load from an aligned word, or the word of a store of a value."""
     if address % (LOAD_SIZE | STORE_SIZE)[x.op]:
         return "misaligned"
     if x.kind == "Load":
@@ -48,7 +48,7 @@ def merged(content: int, mask: int, lanes: int) -> int:
 
 
 def run(x: Ins, pc: int, a: int, b: int, content: int) -> str:
-    """What an instruction leaves: a value, the next pc, the address of the aligned word and what that holds then."""
+    """The state after an instruction: a value, the next pc, the address of the aligned word, and that word."""
     done = outcome(x, pc, a, b)
     if done.trap is not None:
         return "trap"

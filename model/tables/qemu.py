@@ -1,4 +1,4 @@
-"""results.txt beside qemu-riscv32: what it leaves of the same instructions, each at its address."""
+"""results.txt compared with qemu-riscv32: the state after the same instructions, each at its address."""
 from __future__ import annotations
 
 import struct
@@ -138,7 +138,7 @@ def field(found: Sequence[Result]) -> bytes:
 
 
 def ran(found: Sequence[Result]) -> bytes:
-    """What the harness tells of rows: three words each."""
+    """The results of the harness for rows: three words each."""
     with tempfile.TemporaryDirectory() as name:
         folder = Path(name)
         (folder / "rows").write_bytes(b"".join(row.packed() for row in found))

@@ -18,7 +18,7 @@ from model.walks import TooManyWalks, Walks
 from model.world import RETIRES, World
 
 MOST_WALKED, MOST_STATES = 1_000, 5_000
-"""The largest bound of which all walks are gone through, and through how many states of them."""
+"""The largest bound that is compared with all paths, and the most states of these."""
 
 ALL_READ_ONLY = READ_ONLY * 0x11111111
 
@@ -112,7 +112,7 @@ def bound_answer(call: str) -> str:
 
 
 def walked(graph: Graph, slots: int, thread: int, wanted: str, name: str) -> Row:
-    """A bound as a table has it beside the largest cost of all walks, one by one, where they aren't too many."""
+    """A bound of a table, with the largest cost of all paths one by one, if they aren't too many."""
     if int(wanted.removeprefix("bound ")) > MOST_WALKED:
         return name, None
     try:
@@ -123,7 +123,7 @@ def walked(graph: Graph, slots: int, thread: int, wanted: str, name: str) -> Row
 
 
 def walked_rows() -> Iterator[Row]:
-    """The bounds of bounds.txt by all walks."""
+    """The bounds of bounds.txt by all paths."""
     for wanted, call in rows("bounds.txt"):
         if wanted.startswith("bound"):
             question = Question(call)

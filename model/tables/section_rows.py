@@ -15,13 +15,13 @@ from model.tables.world_cases import HELD, command_lines, file_lines
 
 SECTIONS, CALLING = 200, 300
 ROUNDS = (3, 3, 3, 1000, 1_048_576)
-"""The largest bounds of loops; small ones mostly, so that all walks can be gone through."""
+"""The largest bounds of loops; mostly small ones, so that all paths can be followed."""
 
 FPX1 = 0x31585046
 
 
 def bound_call(section: Section) -> str:
-    """The call of a section: the slots, the thread and the ends; the loops; an image of the section alone."""
+    """The call of a section: the slots, the thread and the ends; the loops; an image of only the section."""
     first, end = section.part.first, section.part.end
     loops = " ".join(f"{loop.head:x} {loop.last:x} {loop.bound}" for loop in section.loops)
     words = " ".join(f"{word:08x}" for word in section.words())

@@ -87,7 +87,7 @@ def asked(question: Question) -> str:
 
 
 def words_answer(call: str) -> str:
-    """What words ask; a call without a colon has no words."""
+    """The parsed arguments; a call without a colon has none."""
     question = ask(call[1:].split(" ") if call.startswith(":") else [])
     return "usage" if question is None else asked(question)
 

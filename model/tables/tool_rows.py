@@ -23,7 +23,7 @@ EACH = 200
 EDGES = sorted(
     {word(s * (1 << k) + d) for k in (0, 1, 2, 5, 7, 8, 15, 16, 20, 31) for s in (1, -1) for d in (-1, 0, 1)}
 )
-"""Operands at and beside the ends of ranges."""
+"""Operands at and next to the ends of ranges."""
 
 Draw = Callable[[random.Random], Ins]
 
@@ -174,7 +174,7 @@ class Runs:
         return self.chance.choice(EDGES) if self.chance.random() < 0.5 else self.chance.getrandbits(32)
 
     def result(self, kind: str, op: str) -> qemu.Result:
-        """A row, with what the model has for its answer."""
+        """A row, with the model's answer."""
         pc, a, b, content = self.free.pop(), self.value(), self.value(), 0
         x = decode(encode(Ins(kind, op, rd=RD, rs1=RS1, rs2=RS2, imm=small(self.chance))))
         if kind in ("Lui", "Auipc"):
@@ -208,7 +208,7 @@ class Runs:
 
 
 def ran(seed: int) -> Iterator[str]:
-    """What qemu-riscv32 leaves of each instruction."""
+    """The state after each instruction in qemu-riscv32."""
     chance = random.Random(seed)
     ops = [op for op in OPS if op[0] != "Csr"]
     runs = Runs(chance, EACH * len(ops))

@@ -29,7 +29,7 @@ def command(tool: str) -> str:
 
 
 def call(folder: Path, tool: str, *words: str) -> bytes:
-    """Calls a tool in a folder and gives what it writes."""
+    """Calls a tool in a folder and returns its output."""
     return subprocess.run([command(tool), *words], cwd=folder, check=True, capture_output=True).stdout
 
 

@@ -1,4 +1,4 @@
-"""units.txt and sections.txt: what the units of the machine and a tree of sections answer."""
+"""units.txt and sections.txt: the answers of the units of the machine and of a tree of sections."""
 from __future__ import annotations
 
 from collections.abc import Callable
@@ -58,7 +58,7 @@ ANSWERS: dict[str, Callable[..., str]] = {
 
 
 def unit_answer(call: str) -> str | None:
-    """The answer to a call; None of one that asks for several steps, which are worked out by hand."""
+    """The answer to a call; None for a call of several steps, which are computed by hand."""
     name, _, rest = call.partition(" ")
     return ANSWERS[name](*numbers(rest)) if name in ANSWERS else None
 

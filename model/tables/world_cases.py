@@ -59,7 +59,7 @@ def file_lines(files: dict[str, bytes]) -> Iterator[str]:
 
 
 class Drawn:
-    """The setup and image of a seed beside devices of some kinds, and what its run comes to."""
+    """The setup and image of a seed, with devices of some kinds, and the results of its run."""
 
     def __init__(self, seed: int, kinds: list[str]) -> None:
         drawn = DrawnWorld(seed)

@@ -1124,6 +1124,14 @@ def test_install_puts_program_page_and_completion(tmp_path: Path, monkeypatch: p
     assert install().returncode == 2
 
 
+def test_installed_tools_find_the_model(tmp_path: Path) -> None:
+    assert install(tmp_path, FLEXPRET=elf(tmp_path / "program"), FLEXPRET_VIEW="/none").returncode == 0
+    image = TOP / "examples/sum.fpx"
+    shown = subprocess.run([tmp_path / "bin/flexpret", "disasm", image], capture_output=True, text=True, check=False)
+    own = subprocess.run([sys.executable, TOOLS / "fp_disasm", image], capture_output=True, text=True, check=True)
+    assert (shown.returncode, shown.stdout, shown.stderr) == (0, own.stdout, "")
+
+
 def test_install_puts_no_script(tmp_path: Path) -> None:
     program, prefix = elf(tmp_path / "program"), tmp_path / "prefix"
     for named in (
