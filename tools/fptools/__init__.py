@@ -1,4 +1,4 @@
-"""What the tools share, and readers for scripts: tools/README.md lists them. None of it is proved."""
+"""The common parts of the tools, and readers for scripts: tools/README.md lists them. None of it is proved."""
 from __future__ import annotations
 
 import importlib.util
@@ -14,7 +14,7 @@ PACKAGES = {
 """The modules that the tools use beyond Python itself: the package of each, and Debian's name for it."""
 
 OLDEST = (3, 11)
-"""The first version of Python that has what the tools use."""
+"""The oldest version of Python that the tools run on."""
 
 NOT_STARTED = 125
 """The status of a tool whose Python is too old or lacks a package."""

@@ -68,7 +68,7 @@ Row = tuple[int, Line | None]
 class Program:
     """A static ELF32 executable; without a file, one that has no words, symbols and lines."""
 
-    names_need = "an executable: give --elf FILE"  # what to do where names are asked for and there is no file
+    names_need = "an executable: give --elf FILE"  # the advice if there are names and no file
 
     def __init__(self, path: Path | None = None) -> None:
         self.path = path
@@ -143,7 +143,7 @@ class Program:
         return ""
 
     def address(self, text: str) -> int:
-        """The address that a number, a symbol, or a symbol and a number after `+` stands for."""
+        """The address of a number, of a symbol, or of a symbol and a number after `+`."""
         parts = ADDRESS.fullmatch(text)
         if not text or parts is None or bool(parts["plus"]) != bool(parts["name"] and parts["number"]):
             raise ProgramError(f"{text} is no address: a number, NAME or NAME+NUMBER")
@@ -177,7 +177,7 @@ class Program:
         """The source line that an address was compiled from, where the executable has such lines (-g)."""
         index = bisect_right(self._lines, address, key=lambda row: row[0]) - 1
         line = self._lines[index][1] if index >= 0 else None
-        # A compiler gives line 0 to what comes of no line.
+        # A compiler gives line 0 to code that comes from no line.
         return line if line is not None and line.number else None
 
     def lines_of(self, address: int) -> list[Line]:
@@ -195,7 +195,7 @@ class Program:
 
     @cached_property
     def _units(self) -> list[tuple[list[Inlined], list[Declared], list[str]]]:
-        """What the compiler put in place of calls, the functions without code of their own, and the names of all,
+        """The inlined calls, the functions without code of their own, and the names of all,
         unit by unit."""
         if self.path is None:
             return []
@@ -240,13 +240,13 @@ class Program:
 
     @cached_property
     def _lines(self) -> list[Row]:
-        """From which address on which line counts; None from the end of what was compiled together."""
+        """The lines, each with the address from which it counts; None from the end of a piece that was compiled together."""
         # Where one unit ends another may begin: its line counts.
         return sorted((row for piece in self._pieces for row in piece), key=lambda row: (row[0], row[1] is not None))
 
     @cached_property
     def _pieces(self) -> list[list[Row]]:
-        """The rows of what was compiled together, piece by piece."""
+        """The rows of the pieces that were compiled together."""
         if self.path is None:
             return []
         from fptools.pyelf import FAULTS, DWARFError, ELFError, ELFFile
@@ -265,7 +265,7 @@ class Program:
 
 
 def pieces_of(rows: Iterable[Row]) -> Iterator[list[Row]]:
-    """The rows of what was compiled together, up to its end, which is the row without a line."""
+    """The rows of each piece that was compiled together, up to its end, which is the row without a line."""
     piece: list[Row] = []
     for row in rows:
         piece.append(row)
@@ -275,7 +275,7 @@ def pieces_of(rows: Iterable[Row]) -> Iterator[list[Row]]:
 
 
 def linked(pieces: Collection[list[Row]]) -> Iterator[list[Row]]:
-    """Those that are in the executable: what a linker drops (--gc-sections) has lines at address 0 alone, or from there
+    """Those that are in the executable: a piece that a linker drops (--gc-sections) has lines only at address 0, or from there
     on, where others are."""
     whole = [piece for piece in pieces if piece[0][0] < piece[-1][0]]
     for piece in whole:

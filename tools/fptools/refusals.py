@@ -92,12 +92,12 @@ ROUTINES_HINTS = {
 
 
 class NoRefusal(Exception):
-    """The text is no refusal line, or what is needed to explain it isn't given."""
+    """The text is no refusal line, or a file that explains it isn't given."""
 
 
 @dataclass
 class Context:
-    """What the refused command was asked with, as far as it is known."""
+    """The arguments of the refused command, as far as they are known."""
 
     setup: Path | None = None
     file: Path | None = None  # the source, image, executable or list of routines

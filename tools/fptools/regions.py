@@ -95,7 +95,7 @@ class Flows:
 
 
 class Dominators:
-    """The dominator tree, with the times at which a walk opens and closes each node."""
+    """The dominator tree, with the times at which a depth-first search opens and closes each node."""
 
     def __init__(self, flows: Flows) -> None:
         graph = networkx.DiGraph(flows.edges())

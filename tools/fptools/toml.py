@@ -49,7 +49,7 @@ def _line_of(text: str, fault: str) -> int:
 
 
 def faults(schema: Path, values: dict[str, Any]) -> Iterator[ValidationError]:
-    """What a schema refuses of values. A TOML float is no integer, though JSON takes 10.0 for one. It needs jsonschema."""
+    """The faults of values by a schema. A TOML float is no integer, though JSON takes 10.0 for one. It needs jsonschema."""
     require("jsonschema")
     import jsonschema
 
