@@ -16,8 +16,8 @@ PACKAGES = {
 OLDEST = (3, 11)
 """The oldest version of Python that the tools run on."""
 
-NOT_STARTED = 125
-"""The status of a tool whose Python is too old or lacks a package."""
+NOT_STARTED = int(os.environ.get("FLEXPRET_NOT_STARTED", 2))
+"""The status of a tool whose Python is too old or lacks a package. The scripts set their own one for the tools that they call."""
 
 
 def has(*modules: str) -> bool:
