@@ -1,7 +1,7 @@
 #!/usr/bin/env python3
-"""Lists what a program outside may rely on: each public signature, field, variant and number of the crates.
+"""Lists the public interface of the crates: each public signature, field, variant and number.
 
-The list is docs/dev/API.txt, which is made from the sources. A public name changes on purpose alone: the gate compares.
+The list is docs/dev/API.txt, which is made from the sources. The gate compares it, so a public name only changes on purpose.
 
     bench/api.py            writes the list
     bench/api.py --check    compares it with the sources; status 1 where they differ
@@ -81,7 +81,7 @@ class Reader:
         return spaced(text) if text.startswith('derive') else ''
 
     def is_public(self, k: int) -> bool:
-        """Whether `pub` stands at a token, and for all."""
+        """Whether an unrestricted `pub` is at a token."""
         return self.source.is_at(k, 'pub') and not self.source.is_at(k + 1, '(')
 
     def item(self, k: int, derived: str) -> int:
@@ -234,7 +234,7 @@ class Reader:
 
 @dataclass
 class Crate:
-    """A crate's files, read as they are asked for."""
+    """A crate's files, each read when it is first needed."""
     folder: Path
     read: dict[str, Module] = field(default_factory=dict)
 
@@ -250,7 +250,7 @@ class Crate:
         return self.folder.joinpath('src', *path.split('::')).with_suffix('.rt').is_file()
 
     def public_lines(self, path: str = 'lib') -> Lines:
-        """What a module offers."""
+        """The public items of a module."""
         module = self.module(path)
         lines: Lines = []
         for name in module.items:
@@ -263,14 +263,14 @@ class Crate:
         return lines
 
     def export_lines(self, front: list[str], name: str) -> Lines:
-        """What `pub use` hands on: an item of this crate, or another crate's by its path."""
+        """The item that a `pub use` re-exports: one of this crate, or another crate's by its path."""
         inner = '::'.join(part for part in front if part not in ('crate', 'self'))
         if inner and self.has_module(inner) and name in self.module(inner).items:
             return self.item_lines(inner, name)
         return [f'use {"::".join([*front, name])}']
 
     def item_lines(self, path: str, name: str) -> Lines:
-        """An item of a module, and what any file of the crate implements of it."""
+        """An item of a module, and its implementations in any file of the crate."""
         lines = list(self.module(path).items[name])
         for file in sorted((self.folder / 'src').rglob('*.rt')):
             module = self.module('::'.join(file.relative_to(self.folder / 'src').with_suffix('').parts))

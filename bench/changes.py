@@ -21,12 +21,12 @@ WORDS = {
 }
 NUMBER = re.compile(r'(0x[0-9a-fA-F_]+|0b[01_]+|[0-9][0-9_]*)([ui](?:8|16|32|64|128|size))?')
 WEIGHTS = {'name': 0.3, 'arguments': 0.7, 'comparison': 2.0, 'operator': 2.0, 'condition': 2.0}
-"""How often a kind is drawn where a line has others, 1 left out: most names and arguments that are swapped don't compile."""
+"""The weight of a kind among those of a line; 1 for kinds that aren't listed. Most swapped names and arguments don't compile."""
 
 
 @dataclass(frozen=True)
 class Change:
-    """What is written in the place of which texts; places rise."""
+    """Ranges of a text and their replacements, in ascending order."""
     kind: str
     function: str
     edits: tuple[tuple[int, int, str], ...]
@@ -39,7 +39,7 @@ class Change:
 
 @dataclass(frozen=True)
 class Place:
-    """A body, with what it runs, and the functions that find changes in it."""
+    """A body, the indices of its executable tokens, and the functions that find changes in it."""
     source: Source
     body: Body
     runs: list[int]
@@ -54,7 +54,7 @@ class Place:
         return Change(kind, self.body.name, ((tokens[first].start, tokens[last - 1].end, new),))
 
     def swap(self, kind: str, one: tuple[int, int], other: tuple[int, int]) -> Iterator[Change]:
-        """Two ranges of tokens in each other's place, if their texts differ."""
+        """Swaps two ranges of tokens, if their texts differ."""
         first, second = self.source.between(*one), self.source.between(*other)
         if first != second and first and second:
             yield Change(kind, self.body.name, self.put(kind, *one, second).edits + self.put(kind, *other, first).edits)
@@ -118,7 +118,7 @@ def words(place: Place) -> Iterator[Change]:
 
 
 def arguments(place: Place) -> Iterator[Change]:
-    """Two arguments, elements or fields that stand side by side, swapped."""
+    """Swaps two adjacent arguments, elements or fields."""
     for k, token in place.tokens():
         if token.kind == 'mark' and token.text in ('(', '[', '{'):
             parts = place.source.parts(k)
@@ -127,7 +127,7 @@ def arguments(place: Place) -> Iterator[Change]:
 
 
 def swapped_values(place: Place, one: tuple[int, int], other: tuple[int, int], fields: bool) -> Iterator[Change]:
-    """Swaps two parts, or what stands behind the colons of two fields."""
+    """Swaps two parts, or the texts after the colons of two fields."""
     if any(place.source.is_at(k, '=>', ';', '..') for part in (one, other) for k in range(*part)):
         return
     if not fields:
@@ -137,7 +137,7 @@ def swapped_values(place: Place, one: tuple[int, int], other: tuple[int, int], f
 
 
 def arms(place: Place) -> Iterator[Change]:
-    """The bodies, or the patterns, of two arms that stand side by side, swapped; and those of an `if`."""
+    """Swaps the bodies or the patterns of two adjacent arms, and the two blocks of an `if`."""
     source = place.source
     for k, token in place.tokens():
         opened = source.block_behind(k, place.body.last) if token.text in ('match', 'if') else None
@@ -193,7 +193,7 @@ def nones(place: Place) -> Iterator[Change]:
 
 
 def early_values(result: str) -> list[str]:
-    """What an early return may give for a type."""
+    """The values that an early return may have, by the type."""
     if not result:
         return ['']
     for front, values in (
@@ -206,7 +206,7 @@ def early_values(result: str) -> list[str]:
 
 
 def returns(place: Place) -> Iterator[Change]:
-    """An early return at the body's front or behind a statement; an early end or turn of a loop."""
+    """An early return at the start of the body or after a statement; an early `break` or `continue` of a loop."""
     source = place.source
     for opened in blocks(place):
         for at in [opened + 1] + [last for _, last in source.statements(opened)]:
@@ -224,13 +224,13 @@ def returns(place: Place) -> Iterator[Change]:
 
 
 def before(place: Place, k: int, text: str) -> Change:
-    """A text in front of a token."""
+    """Inserts a text before a token."""
     start = place.source.tokens[k].start
     return Change('early return', place.body.name, ((start, start, text),))
 
 
 def names(place: Place) -> Iterator[Change]:
-    """A variable or a field in the place of another that the body names."""
+    """Replaces a variable or a field by another one of the body."""
     source = place.source
     kinds: dict[bool, list[int]] = {True: [], False: []}
     for k, token in place.tokens():

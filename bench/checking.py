@@ -1,4 +1,4 @@
-"""Checks of crates in a copy of the sources, and what they say of each function and each proof file."""
+"""Checks of crates in a copy of the sources, and their messages about each function and each proof file."""
 import enum
 import os
 import re
@@ -13,14 +13,14 @@ from pathlib import Path
 from program import TOP
 
 SECONDS = 900
-"""A check that takes longer is ended, and nothing is known of its change."""
+"""The time limit of a check. A change whose check takes longer is UNKNOWN."""
 
 ROUNDS = 6
-"""How often answers are removed for one change at most."""
+"""The most times that answers are removed for one change."""
 
 
 class Verdict(enum.StrEnum):
-    """What the check of a change came to."""
+    """The result of a check of a change."""
     NO_SOURCE = 'not compiled'
     REFUSED = 'refused'
     REFUSED_WITHOUT = 'refused without answers'
@@ -29,23 +29,23 @@ class Verdict(enum.StrEnum):
     UNKNOWN = 'unknown'
 
 
-# ---------------------------------------------------------------- what a check says
+# ---------------------------------------------------------------- messages of a check
 
 AT_PLACE = re.compile(r'(?:note: )?(?:\./)?(?P<file>[^\s:]+):(?P<line>\d+):\d+: ?(?P<said>.*)')
 """A line about a place in a file."""
 
 GONE = re.compile(r'has no field|is not in scope|has no `|was not admitted')
-"""What is said of a name in a proof file that the change took away, and of what cites such a proof."""
+"""The message about a name in a proof file that the change removed, or about a citation of such a proof."""
 
 LIMIT = re.compile(r'antt ran out of (stack|the (steps|memory))|(outgrew the memory limit|stopped at the step limit) \(')
 OPEN_GOAL = re.compile(r'fn \S+: no proof: expected answers')
 OF_FUNCTION = re.compile(r'fn (?P<symbol>\S+): (?P<said>.*)')
-"""The line that ends what is said of a function."""
+"""The last line about a function."""
 
 
 @dataclass(frozen=True)
 class Check:
-    """How a check ended, and what it said."""
+    """The exit status of a check, and its lines."""
     status: int | None
     said: list[str]
 
@@ -57,7 +57,7 @@ class Check:
 
     @cached_property
     def functions(self) -> dict[str, str]:
-        """What is said of each function, by its symbol."""
+        """The last message about each function, by its symbol."""
         return {found['symbol']: found['said'] for found in map(OF_FUNCTION.match, self.said) if found}
 
     @cached_property
@@ -66,7 +66,7 @@ class Check:
         return [match for match in map(AT_PLACE.match, self.said) if match]
 
     def told(self) -> list[re.Match[str]]:
-        """The lines about places, errors alone where there are some."""
+        """The lines about places: only the errors, if there are any."""
         return [match for match in self.places if is_error(match)] or self.places
 
     def is_unread(self) -> bool:
@@ -74,11 +74,11 @@ class Check:
         return self.status in (1, 2) and any('error[' in line for line in self.said)
 
     def stale(self) -> list[tuple[str, int]]:
-        """The places in proof files that name what is gone, if nothing else is wrong."""
+        """The places in proof files that use removed names, if there is no other error."""
         return stale_of(self.told())
 
     def first(self) -> str:
-        """The line that says most of why it was refused."""
+        """The line with the most specific reason of the refusal."""
         goals = [line for line in self.said if OPEN_GOAL.match(line)]
         told = [match[0] for match in self.told()]
         return (goals or told or self.said[-1:] or [''])[0][:300]
@@ -100,14 +100,14 @@ def is_error(told: re.Match[str]) -> bool:
 
 
 def stale_of(told: list[re.Match[str]]) -> list[tuple[str, int]]:
-    """The places of these lines, if each is in a proof file and is of a name that is gone."""
+    """The places of these lines, if each is in a proof file and is about a removed name."""
     if not all('proofs/' in match['file'] and GONE.search(match['said']) for match in told):
         return []
     return [(match['file'], int(match['line'])) for match in told]
 
 
 class Bench:
-    """A copy of the sources, in which one change after the other is made and checked."""
+    """A copy of the sources, in which changes are made and checked one after the other."""
 
     def __init__(self, folder: Path, seconds: float) -> None:
         self.folder, self.seconds = folder, seconds
@@ -119,7 +119,7 @@ class Bench:
         self.symbols: dict[str, list[str]] = {}
 
     def take_built(self) -> None:
-        """Takes what checks have kept in the repository, where the copy has nothing: `rt` goes by the contents of files."""
+        """Copies the results that checks have kept in the repository, if the copy has none. `rt` compares the contents of files."""
         for kept in (TOP / 'crates').glob('*/out'):
             if not (self.folder / 'crates' / kept.parent.name / 'out').exists():
                 subprocess.run(['cp', '-a', kept, self.folder / 'crates' / kept.parent.name], check=True)
@@ -138,7 +138,7 @@ class Bench:
         return Check(child.returncode, said.splitlines())
 
     def prove_unchanged(self, crate: str) -> list[str]:
-        """Checks a crate as it is, once: else nothing that is said of a change is to be relied on. Its functions, by their names."""
+        """Checks the unchanged crate, once, since verdicts on changes need a crate that is proved. Returns its functions by their names."""
         if crate not in self.symbols:
             unchanged = self.check(crate)
             if not unchanged.is_proved():
@@ -147,7 +147,7 @@ class Bench:
         return self.symbols[crate]
 
     def try_change(self, crate: str, file: str, text: str) -> tuple[Verdict, str, list[str]]:
-        """The verdict on a file's new text, what was said, and the answers that were removed for it."""
+        """The verdict on a file's new text, the reason, and the answers that were removed for it."""
         before = {file: self.read(file)}
         removed: list[str] = []
         (self.folder / file).write_text(text)
@@ -169,7 +169,7 @@ class Bench:
         return (self.folder / file).read_text()
 
     def drop_answers(self, crate: str, stale: list[tuple[str, int]], before: dict[str, str]) -> list[str]:
-        """Removes the answers at these places, and keeps in `before` what their files were."""
+        """Removes the answers at these places, and keeps the texts of their files in `before`."""
         dropped: list[str] = []
         for place in sorted({place for place, _ in stale}):
             file = f'crates/{crate}/{place}'
@@ -187,13 +187,13 @@ class Bench:
 
 
 PARAGRAPH = re.compile(r'(?:[^\n]+\n)+')
-"""A declaration of a proof file, or its imports: lines with none that is empty."""
+"""A declaration of a proof file, or its imports: lines without an empty one between them."""
 
 
 def without_answers(text: str, lines: set[int]) -> tuple[str, list[str]]:
-    """A proof file without the paragraphs that hold these lines, and the first words of these.
+    """A proof file without the paragraphs of these lines, and the first words of these paragraphs.
 
-    A paragraph is a declaration, or the imports at the front; a bad import is cut out alone."""
+    A paragraph is a declaration, or the imports at the start. Of the imports only the bad one is removed."""
     kept, gone = [], []
     for paragraph in PARAGRAPH.finditer(text):
         rows = paragraph[0].splitlines(keepends=True)

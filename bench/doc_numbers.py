@@ -114,7 +114,7 @@ BRANCH = 0x00000463
 
 
 def lags(pages: Pages) -> Iterator[str]:
-    """The table of lags: each kind of instruction stands in the row of its lag."""
+    """The table of lags: each kind of instruction is in the row of its lag."""
     rows = pages.table("PROGRAMMING.md", "Lags")
     rest = {**{name: lag(decode(word), False, False) for name, word in EXAMPLES.items()}}
     rest["branches that aren't taken"] = lag(decode(BRANCH), False, False)

@@ -1,7 +1,7 @@
 #!/usr/bin/env python3
-"""What only the built program shows: exit statuses, the lines of standard error, and standard output
-that is full, closed or a pipe that nobody reads. Calls the program some hundred times, in a second or two,
-and ends with 1 and a list where anything differs."""
+"""Checks behaviour that only the built program has: exit statuses, the lines of standard error, and standard
+output that is full, closed or a pipe that nobody reads. Calls the program some hundred times, in a second or
+two, and ends with 1 and a list if anything differs."""
 import argparse
 import contextlib
 import os
@@ -26,7 +26,7 @@ LITTLE_MEMORY = 48 << 20
 """Room for the program, but not for the 60,000,000 bytes of the longest trace that `check` reads."""
 
 LATE_STORE = (b'        20 00000014', b'        24 00000014')
-"""What makes a store in the sixth line of the example's trace four cycles late."""
+"""The replacement that makes the store in the sixth line of the example's trace four cycles late."""
 
 RUN_DRIVE = ['run', 'examples/drive.toml', '--thread', '0', '--cycles', '77']
 CHECK_DRIVE = ['check', 'examples/drive.toml', '--thread', '0', '--cycles', '77', '--trace']
@@ -54,7 +54,7 @@ Word = str | bytes
 
 @dataclass(frozen=True)
 class Seen:
-    """How a call ended: its status, or the signal that ended it as a negative number."""
+    """The end of a call: its status, or the signal that ended it as a negative number."""
     status: int
     out: bytes
     err: bytes
@@ -62,7 +62,7 @@ class Seen:
 
 @dataclass
 class Edge:
-    """The program, the folder that it is called in, and what differed so far."""
+    """The program, the folder of its calls, and the differences so far."""
     program: Path
     folder: Path
     rows: int = 0
@@ -79,7 +79,7 @@ class Edge:
         return Seen(ended.returncode, ended.stdout or b'', ended.stderr)
 
     def want(self, name: str, seen: Seen, status: Status, out: bytes | None = b'', err: bytes | None = None) -> None:
-        """Notes what of a call isn't as it must be. `out` None: whatever it wrote; `err` None: the line of the status."""
+        """Records the differences of a call. `out` None: any output is right; `err` None: the line of the status is."""
         self.rows += 1
         wanted_err = complaint(status) if err is None else err
         if seen.status != status:
@@ -128,7 +128,7 @@ PORT_WORDS = [
     0x00712023,  # sw x7, 0(x2)
     0x0000006f,  # j .
 ]
-"""Each thread stores at its port what it reads there and its own number."""
+"""Each thread stores to its port the sum of the word that it reads there and its own number."""
 
 FIRST_INPUT = 0x100
 
@@ -192,7 +192,7 @@ def files(edge: Edge) -> None:
 
 
 def words_that_are_no_text(edge: Edge) -> None:
-    """A word that isn't UTF-8 asks nothing, wherever it stands; one beyond ASCII may name a file."""
+    """An argument that isn't UTF-8 is a usage error in any place; one beyond ASCII may be a file name."""
     bad = b'\xff\xfe'
     run: list[Word] = [*RUN_DRIVE]
     for place in range(len(run) + 1):
@@ -205,7 +205,7 @@ def words_that_are_no_text(edge: Edge) -> None:
 
 
 def full_output(edge: Edge) -> None:
-    """A full device: nothing was taken; where nothing is written the status stays."""
+    """A full device: a write fails. A call that writes nothing keeps its status."""
     with open('/dev/full', 'wb') as full:
         for words in WRITING:
             edge.want(f'{shown(words)} to a full device', edge.call(words, out=full), Status.WRITE)
@@ -215,7 +215,7 @@ def full_output(edge: Edge) -> None:
 
 
 def output_with_room(edge: Edge) -> None:
-    """A file that may have some bytes and no more gets these of the text: a prefix."""
+    """A file with a limit on its size gets a prefix of the text."""
     text = edge.call(['dump', 'examples/drive.toml', '--cycles', '77']).out
     trace = edge.call(['run', 'examples/drive.toml', '--thread', '0', '--cycles', '40000']).out
     for name, words, whole in (('a dump', ['dump', 'examples/drive.toml', '--cycles', '77'], text),
@@ -257,7 +257,7 @@ def unread_pipe() -> Iterator[int]:
 
 
 def other_streams(edge: Edge) -> None:
-    """The status doesn't hang on standard error or standard input."""
+    """The status doesn't depend on standard error or standard input."""
     def no_input_and_no_error() -> None:
         os.close(0)
         os.close(2)

@@ -89,7 +89,7 @@ def faults(crates: Iterable[str]) -> list[str]:
 
 
 def changed_crates(commit: str) -> set[str]:
-    """The crates with a change since a commit in what is proved of them, or in their edits of bench/edits."""
+    """The crates with a change since a commit in the sources of their proofs, or in their edits of bench/edits."""
     git = ['git', '-C', str(TOP)]
     tracked = subprocess.run([*git, 'diff', '--name-only', commit, '--', 'crates', 'bench/edits'], check=True, capture_output=True, text=True)
     others = subprocess.run([*git, 'ls-files', '--others', '--exclude-standard', '--', 'crates', 'bench/edits'], check=True,
@@ -121,7 +121,7 @@ def libraries_below(crates: Iterable[str]) -> set[str]:
 
 
 def copy_sources(folder: Path, crates: Sequence[str]) -> None:
-    """Copies the sources as they are, with what checks kept of these crates and those below, and puts the moved edits in place."""
+    """Copies the current sources, with the results that checks kept for these crates and those below, and puts the moved edits in place."""
     listed = subprocess.run(['git', 'ls-files', '-z', '--cached', '--others', '--exclude-standard', 'crates', 'crates.txt', 'HANDLES'],
                             cwd=TOP, check=True, stdout=subprocess.PIPE)
     for name in filter(None, listed.stdout.decode().split('\0')):
@@ -136,7 +136,7 @@ def copy_sources(folder: Path, crates: Sequence[str]) -> None:
 
 
 def try_crate(folder: Path, crate: str, log: Path) -> dict[str, str]:
-    """Tries a crate's edits in the copy, appends what `rt` writes to the log, and returns the verdict of each edit."""
+    """Tries a crate's edits in the copy, appends the output of `rt` to the log, and returns the verdict of each edit."""
     ran = subprocess.run(['rt', 'must-fail', crate], cwd=folder, stdin=subprocess.DEVNULL, stdout=subprocess.PIPE,
                          stderr=subprocess.STDOUT, text=True, errors='replace', check=False)
     with log.open('a') as out:

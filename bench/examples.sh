@@ -1,6 +1,6 @@
 #!/usr/bin/env bash
-# Whether the copies of the examples that the gate's rows read are the files themselves, byte for byte: a program in the gate
-# runs beside its own data alone, and no link may stand there.
+# Checks that the copies of the examples that the gate's rows read are the same bytes. A program in the gate can only read the data
+# of its own crate, and no link may be among them.
 set -eu
 cd "$(dirname "${BASH_SOURCE[0]}")/.."
 differ=0

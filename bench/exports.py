@@ -5,9 +5,9 @@ A public contract may cite definitions of crates below its own. `specs/Lib.antt`
 line `pub use Rattle.CRATE.specs.FILE`, so that a caller needs only this crate in crates.txt. Each line of output names a
 contract, a definition that it cites, and the line that is missing.
 
-Of the crates in `DOORS`, also the definitions in `specs/` may only use what the crate hands on: a program that names such a
-crate alone in crates.txt can then use its contracts. The exit status is 1 where a line is missing, and 2 where a crate's files
-can't be read."""
+The definitions in `specs/` of the crates in `DOORS` may also only use names that the crate re-exports. A program with only such a
+crate in crates.txt can then use its contracts. The exit status is 1 if a line is missing, and 2 if a crate's files can't be
+read."""
 from __future__ import annotations
 
 import argparse
@@ -21,10 +21,10 @@ from source import CLAUSES, Source
 
 TOP = Path(__file__).resolve().parent.parent
 DOORS = ('flexpret_top',)
-"""The crates that programs name alone in crates.txt."""
+"""The crates that a program may have as its only library in crates.txt."""
 
 USE = re.compile(r'^use Rattle\.(?P<path>[\w.]+)\.\{(?P<names>[^}]*)\}', re.M)
-"""What brings definitions of another file into a file of definitions, on one line or on several."""
+"""The import of another file's definitions in a file of definitions, on one line or on several."""
 
 
 @dataclass(frozen=True)
@@ -39,7 +39,7 @@ class Import:
 
 @dataclass(frozen=True)
 class Missing:
-    """A definition that a public contract cites, and that the crate doesn't hand on."""
+    """A definition that a public contract cites, and that the crate doesn't re-export."""
     crate: str
     place: Path
     line: int
@@ -73,7 +73,7 @@ def end_of(source: Source, k: int) -> int:
 
 
 def exports_of(source: Source) -> Exports:
-    """What the root file of a library makes public."""
+    """The public names of a library's root file."""
     found = Exports()
     for k in range(len(source.tokens)):
         if not source.is_at(k, 'pub'):
@@ -93,7 +93,7 @@ def block_around(source: Source, k: int) -> tuple[int, int]:
 
 
 def imports_of(source: Source) -> Iterator[Import]:
-    """The definitions that the lines `ghost use` of a file bring in."""
+    """The definitions that the `ghost use` lines of a file import."""
     for k in range(len(source.tokens)):
         if not (source.is_at(k, 'ghost') and source.is_at(k + 1, 'use') and source.is_at(k + 2, 'Rattle')):
             continue
@@ -120,7 +120,7 @@ def clauses_of(source: Source, k: int) -> Iterator[tuple[int, int]]:
 
 
 def is_public(source: Source, k: int) -> bool:
-    """Whether the word `pub` stands before the item that begins at a token, with no narrower reach."""
+    """Whether an unrestricted `pub` is before the item that begins at a token."""
     while k > 0 and source.is_at(k - 1, 'const', 'unsafe'):
         k -= 1
     return k > 0 and source.is_at(k - 1, 'pub')
@@ -166,7 +166,7 @@ def reexported(folder: Path) -> list[tuple[str, ...]]:
 
 
 def missing_in(top: Path, crate: str, crates: set[str]) -> Iterator[Missing]:
-    """What the public contracts of one crate cite that the crate doesn't hand on, each once for a contract."""
+    """The definitions that the public contracts of one crate cite and the crate doesn't re-export, each once for a contract."""
     folder = top / 'crates' / crate
     exports = exports_of(Source((folder / 'src' / 'lib.rt').read_text()))
     handed_on = reexported(folder)
@@ -188,7 +188,7 @@ def missing_in(top: Path, crate: str, crates: set[str]) -> Iterator[Missing]:
 
 
 def missing_below(top: Path, crate: str, crates: set[str]) -> Iterator[Missing]:
-    """What the definitions of one crate use that the crate doesn't hand on, each file of definitions once."""
+    """The files of definitions that one crate's definitions import and the crate doesn't re-export, each once."""
     folder = top / 'crates' / crate
     handed_on = reexported(folder)
     seen: set[tuple[str, ...]] = set()

@@ -95,7 +95,7 @@ class Figure:
 
 
 def flexpret(folder: Path, *arguments: str) -> bytes:
-    """What the program writes, or the model."""
+    """The output of the program, or of the model."""
     program = os.environ.get("FLEXPRET")
     command = [str(Path(program).resolve())] if program else [sys.executable, "-m", "model"]
     done = subprocess.run(
@@ -107,7 +107,7 @@ def flexpret(folder: Path, *arguments: str) -> bytes:
 
 
 def turn(folder: Path, setup: str, cycle: int) -> list[str]:
-    """What the dump shows of the turn of a cycle: `-`; a thread and `flushed`; or a thread, its pc and its word."""
+    """The turn of a cycle in the dump: `-`; a thread and `flushed`; or a thread, its pc and its word."""
     lines = flexpret(folder, "dump", setup, "--cycles", str(cycle + 2)).decode().splitlines()
     return lines[2].split()[1:]
 
@@ -185,7 +185,7 @@ def pipeline() -> Figure:
 
 
 def frame() -> Figure:
-    """Who has the cycles of the control loop of examples/drive.toml while T0 sleeps."""
+    """The owners of the cycles of the control loop of examples/drive.toml while T0 sleeps."""
     first, last, wide = 44, 76, 24
     turns = [turn(TOP, "examples/drive.toml", cycle)[0] for cycle in range(first, last)]
     slots = ["T0", "S", "T1", "S"]
@@ -219,7 +219,7 @@ def frame() -> Figure:
 
 
 def rights(setup: Setup, regions: Regions, thread: int, address: int) -> str:
-    """What a confined thread may do at an address."""
+    """The accesses that a confined thread may make at an address."""
     data = address >= DATA
     may = [] if data or not regions.may_fetch(thread, True, address) else ["fetch"]
     may += ["load"] if regions.may_load(thread, True, address, 4) else []
@@ -228,7 +228,7 @@ def rights(setup: Setup, regions: Regions, thread: int, address: int) -> str:
 
 
 def memory() -> Figure:
-    """The memory map of examples/c/pid.toml, with what the confined thread 0 may do."""
+    """The memory map of examples/c/pid.toml, with the accesses of the confined thread 0."""
     setup = read_setup((TOP / "examples/c/pid.toml").read_bytes())
     regions = Regions(setup.iregions, setup.dregions, setup.size)
     figure = Figure(720, 316, "The memory map, with the rights of confined thread 0")
@@ -268,7 +268,7 @@ SECTION = [
     ("24", "rare:", "div  x5, x5, x7"),
     ("28", "", "j    end"),
 ]
-"""A program with a rare case behind the end of its section: address, label, instruction."""
+"""A program with a rare case after the end of its section: address, label, instruction."""
 
 
 def section() -> Figure:
@@ -303,7 +303,7 @@ FLOW = [
     ("own.fpx", "flexpret run", "the image"),
     ("trace", "fp_visits", "what happened"),
 ]
-"""From C to a trace: a file, the tool that reads it, and what it is."""
+"""From C to a trace: files, the tools that read them, and their contents."""
 
 
 def flow() -> Figure:

@@ -1,9 +1,9 @@
 #!/usr/bin/env python3
-"""Throws hostile command lines, with the files that they read, at the built program, each in a process of its own
-with little memory and time. A crash, a status that isn't listed, another text than the status has, or another line of
-standard error is a finding, and so is one line in twenty whose status or bytes aren't those of the executable model.
-Line N of a seed is always the same, so --first goes on where a call ended, and --only N shows one line again.
-The gate makes a short call. The status is 1 where something was found."""
+"""Calls the built program with hostile command lines and files, each in a separate process with little memory and time.
+Findings are a crash, a status that isn't listed, an output that doesn't fit the status, and a wrong line on standard
+error. One line in twenty is also compared with the executable model: another status or other bytes are a finding.
+Line N of a seed is always the same, so --first continues where a call ended, and --only N repeats one line.
+The gate makes a short call. The status is 1 if something was found."""
 import argparse
 import contextlib
 import importlib
@@ -33,7 +33,7 @@ SAMPLE = 20
 """One line in so many is compared with the model."""
 
 BATCH = 200
-"""How many lines a worker does before it reports."""
+"""The number of lines in a batch of a worker."""
 
 TEXTS = {
     Status.DIFFERS: rb'differs line [1-9][0-9]*\n',
@@ -45,18 +45,18 @@ TEXTS = {
     Status.USAGE: rb'',
     Status.READ: rb'',
 }
-"""What the text of a status looks like; Ok has any text, and Write and NoMemory don't come here."""
+"""The form of the output for each status. Ok has any output; Write and NoMemory don't occur here."""
 
 TEXT_OF_STATUS = {status: re.compile(text) for status, text in TEXTS.items()}
 
 
 class Late(Exception):
-    """The time that a call has is over."""
+    """A call exceeds its time."""
 
 
 @contextlib.contextmanager
 def at_most(seconds: float) -> Iterator[None]:
-    """Raises Late where the block takes longer."""
+    """Raises Late if the block takes longer."""
     def ring(_: int, __: FrameType | None) -> None:
         raise Late
     before = signal.signal(signal.SIGALRM, ring)
@@ -70,14 +70,14 @@ def at_most(seconds: float) -> Iterator[None]:
 
 @dataclass(frozen=True)
 class Ended:
-    """How a call ended: its status, the signal that ended it as a negative number, or None for no end in time."""
+    """The end of a call: its status, the signal that ended it as a negative number, or None for no end in time."""
     status: int | None
     out: bytes
     err: bytes
 
 
 class Caller:
-    """Calls the program in a folder of its own."""
+    """Calls the program in a separate folder."""
 
     def __init__(self, program: Path, room: str, seconds: float) -> None:
         self.program, self.seconds = program, seconds
@@ -115,14 +115,14 @@ def model_of(folder: str) -> Any:
 
 
 class Model:
-    """An executable model, which answers words over real files."""
+    """An executable model, which runs command lines on real files."""
 
     def __init__(self, folder: str, seconds: float) -> None:
         self.top = model_of(folder)
         self.seconds = seconds
 
     def answer(self, words: list[bytes]) -> tuple[int, bytes] | None:
-        """The status and the bytes, or None where that takes too long."""
+        """The status and the bytes, or None if the model takes too long."""
         try:
             texts = [word.decode() for word in words]
         except UnicodeDecodeError:
@@ -138,7 +138,7 @@ class Model:
 
 @dataclass
 class Finding:
-    """A line that ended as it must not, with what is wrong."""
+    """A line with a wrong end, and its fault."""
     number: int
     line: Line
     ended: Ended
@@ -147,7 +147,7 @@ class Finding:
 
 @dataclass
 class Tally:
-    """What a batch came to."""
+    """The result of a batch."""
     ends: Counter[tuple[str, int]] = field(default_factory=Counter)
     compared: Counter[str] = field(default_factory=Counter)
     findings: list[Finding] = field(default_factory=list)
@@ -159,7 +159,7 @@ class Tally:
 
 
 def wrong_of(ended: Ended) -> str | None:
-    """What of an end isn't as it must be, whatever was asked."""
+    """The fault of an end that is wrong for every command line, or nothing."""
     if ended.status is None:
         return 'no end in time'
     if ended.status < 0:
@@ -189,7 +189,7 @@ class Worker:
         resource.setrlimit(resource.RLIMIT_CORE, (0, 0))
 
     def line(self, number: int) -> Line:
-        """Line `number`, whose files lie in the folder then."""
+        """Draws line `number`, and puts its files into the folder."""
         chance = random.Random(f'{self.seed}:{number}')
         hostile = Hostile(self.seeds, chance, few=number % SAMPLE == 0)
         line = hostile.line()
@@ -252,7 +252,7 @@ def shown(words: list[bytes]) -> str:
 
 
 def keep(finding: Finding, folder: Path) -> None:
-    """Writes a finding's files and words, and what it wrote, into a folder."""
+    """Writes a finding's files, arguments and output into a folder."""
     to = folder / str(finding.number)
     to.mkdir(parents=True, exist_ok=True)
     for name, content in finding.line.files.items():
@@ -263,7 +263,7 @@ def keep(finding: Finding, folder: Path) -> None:
 
 
 def results(pool: ProcessPoolExecutor, numbers: range, jobs: int) -> Iterator[Tally]:
-    """The batches' tallies, in order, with no more batches handed out than are needed to keep all workers busy."""
+    """The batches' tallies, in order. Only as many batches are queued as keep all workers busy."""
     waiting: list[Future[Tally]] = []
     for first in range(numbers.start, numbers.stop, BATCH):
         waiting.append(pool.submit(batch, range(first, min(first + BATCH, numbers.stop))))
@@ -284,7 +284,7 @@ def print_table(tally: Tally) -> None:
 
 
 def fuzz(options: argparse.Namespace, given: tuple[Any, ...]) -> Tally:
-    """Does all lines, and says at times how far it is."""
+    """Runs all lines, and prints the progress at times."""
     total, began, done = Tally(), time.monotonic(), 0
     numbers = range(options.first, options.first + options.count)
     with ProcessPoolExecutor(options.jobs, initializer=begin, initargs=given) as pool:
@@ -322,7 +322,7 @@ def parsed() -> argparse.Namespace:
 
 
 def try_one(options: argparse.Namespace, given: tuple[Any, ...]) -> Tally:
-    """Does one line, and keeps it, whatever it comes to."""
+    """Runs one line, and keeps its files whatever the result."""
     begin(*given)
     tally, line = Tally(), WORKER[0].line(options.only)
     ended = WORKER[0].caller.call(line.words)

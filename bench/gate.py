@@ -1,8 +1,8 @@
 #!/usr/bin/env python3
 """All that ./test runs: `rt ci`, and then the parts of PARTS, as many at once as there are processors.
 
-A part that needs something which isn't installed is skipped, and its line says so. As root the script first asks `apt-get`
-for what is missing. The status is 0 if nothing failed.
+A part whose modules or commands aren't installed is skipped, and its line lists them. As root the script first installs missing
+ones by `apt-get`. The status is 0 if nothing failed.
 """
 from __future__ import annotations
 
@@ -39,7 +39,7 @@ MODULES = {
     'jinja2': 'python3-jinja2',
     'selenium': 'python3-selenium',
 }
-"""What the tests import beyond Python itself, and the Debian packages that have it."""
+"""The modules that the tests import beyond Python itself, and their Debian packages."""
 
 COMMANDS = {
     'mypy': 'mypy',
@@ -62,19 +62,19 @@ COMMANDS = {
     'gdb-multiarch': 'gdb-multiarch',
     'emacs': 'emacs-nox',
 }
-"""What the tests call, and the Debian packages that have it."""
+"""The commands that the tests call, and their Debian packages."""
 
 OPTIONAL = {'xdist', 'jinja2', 'selenium'}
-"""The tests run without these: slower without xdist, and without those of fp_report, which are skipped by name."""
+"""The modules that the tests can do without: they are slower without xdist, and those of fp_report are skipped by name."""
 
 APT_SECONDS = 600
-"""A call of apt-get that takes longer is ended."""
+"""The time limit of a call of apt-get."""
 
 PART_SECONDS = 1800
-"""A part that takes longer is ended, and has failed."""
+"""The time limit of a part. One that takes longer has failed."""
 
 SHOWN = 60
-"""How many lines of a part that failed are printed."""
+"""The last lines of a failed part that are printed."""
 
 CI_LINE = re.compile(r'^(\d+) passed, (\d+) failed')
 PYTEST_LINE = re.compile(r'^(?=.* in [\d.]+s)(?:=+ )?(?:(\d+) failed)?(?:, )?(?:(\d+) passed)?(?:, )?(?:(\d+) skipped)?(?:.*?(\d+) errors?)?', re.M)
@@ -87,7 +87,7 @@ COMPARED = re.compile(r'^.*: (?P<done>\d+) (?:compared|calls at the edge of the 
 
 @dataclass(frozen=True)
 class Part:
-    """A command, and what it needs: modules of Python, commands, and whether the built programs."""
+    """A command, and its needs: modules of Python, commands, and whether it needs the built programs."""
     name: str
     command: Sequence[str]
     modules: Sequence[str] = ()
@@ -99,7 +99,7 @@ class Part:
 
 @dataclass
 class Sum:
-    """How many tests passed and failed, and why others were skipped."""
+    """The numbers of tests that passed and failed, and the reasons of skipped ones."""
     passed: int = 0
     failed: int = 0
     skipped: list[tuple[int, str]] = field(default_factory=list)
@@ -110,7 +110,7 @@ class Sum:
         self.skipped += other.skipped
 
     def reasons(self) -> Counter[str]:
-        """How many tests were skipped for each reason."""
+        """The number of skipped tests for each reason."""
         reasons: Counter[str] = Counter()
         for count, why in self.skipped:
             reasons[why] += count
@@ -122,13 +122,13 @@ class Sum:
 
 
 def pytest(name: str, folder: str, jobs: int) -> Part:
-    """A part of pytest, over a folder. Its tests say themselves which of them need a program."""
+    """A part of pytest, over a folder. A test that needs a program skips itself without one."""
     command = ['{python}', '-m', 'pytest', '-q', '-rfEs', *(['-n', str(jobs)] if jobs > 1 else []), folder]
     return Part(name, command, ['pytest', 'elftools', 'jsonschema'], programs=False, tests=folder)
 
 
 def parts(jobs: int) -> list[Part]:
-    """All but `rt ci`, those that take longest first."""
+    """All parts but `rt ci`, the longest first."""
     texts = [('bench/api.py', '--check'), ('bench/exports.py',)]
     return [
         *(Part(text[0], ['{python}', *text], programs=False) for text in texts if (TOP / text[0]).is_file()),
@@ -174,7 +174,7 @@ def interpreter(modules: Sequence[str]) -> str:
 
 
 def missing_packages() -> list[str]:
-    """The Debian packages of what isn't installed."""
+    """The Debian packages of missing modules and commands."""
     packages = [package for command, package in COMMANDS.items() if shutil.which(command) is None]
     if not has_modules(interpreter(list(MODULES)), MODULES):
         packages += MODULES.values()
@@ -182,7 +182,7 @@ def missing_packages() -> list[str]:
 
 
 def install(packages: Sequence[str]) -> None:
-    """Asks apt-get for packages, as root on Debian. The tests go on without what it can't get."""
+    """Installs packages by apt-get, as root on Debian. The tests go on without those that it can't install."""
     if not packages or os.geteuid() != 0 or shutil.which('apt-get') is None:
         return
     print(f'./test: apt-get install {" ".join(packages)}', flush=True)
@@ -204,20 +204,27 @@ def install(packages: Sequence[str]) -> None:
 
 @contextlib.contextmanager
 def stamped() -> Iterator[None]:
-    """Notes beside the programs which are there behind it from which sources they are, if these are the same as before."""
+    """Records the sources of each program that is built within this context, if no source changes meanwhile."""
     before = {crate: Checkout(TOP, crate).listed() for crate in PROGRAMS.values()}
+    with tempfile.NamedTemporaryFile(prefix='.test-', dir=TOP) as started:
+        begun = os.stat(started.name).st_mtime_ns
     yield
     for crate, sources in before.items():
         checkout = Checkout(TOP, crate)
-        if checkout.program.is_file() and checkout.listed() == sources:
+        is_new = checkout.program.is_file() and checkout.program.stat().st_mtime_ns >= begun
+        if is_new and checkout.listed() == sources:
             checkout.write_stamp(kit_line(), sources)
 
 
 def run_ci() -> Sum:
-    """Runs `rt ci`, with its lines as they come."""
+    """Runs `rt ci` and prints its lines as they come. If `rt` can't be started, one line says why, and one test has failed."""
     last = ''
-    with subprocess.Popen(['rt', 'ci'], cwd=TOP, stdin=subprocess.DEVNULL, stdout=subprocess.PIPE, text=True,
-                          errors='replace') as child:
+    try:
+        child = subprocess.Popen(['rt', 'ci'], cwd=TOP, stdin=subprocess.DEVNULL, stdout=subprocess.PIPE, text=True, errors='replace')
+    except OSError as fault:
+        print(f'./test: rt ci is not run: rt of the Rattle kit that README.md names is not on the PATH ({fault.strerror})', flush=True)
+        return Sum(failed=1)
+    with child:
         assert child.stdout
         for line in child.stdout:
             print(line, end='', flush=True)
@@ -241,7 +248,7 @@ class Place:
     built: bool
 
     def lacks(self, part: Part) -> str:
-        """What a part needs and isn't there, in words, or nothing."""
+        """The missing needs of a part, in words, or nothing."""
         modules = [name for name in part.modules if not has_modules(self.python, [name])]
         commands = [name for name in part.commands if shutil.which(name) is None]
         packages = [MODULES[name] for name in modules] + [COMMANDS[name] for name in commands if name in COMMANDS]
@@ -252,7 +259,7 @@ class Place:
 
 
 def tests_in(folder: str) -> int:
-    """How many functions of tests are in a folder."""
+    """The number of test functions in a folder."""
     return sum(len(re.findall(r'^def test_', file.read_text(), re.M)) for file in (TOP / folder).rglob('test_*.py'))
 
 
@@ -276,7 +283,7 @@ def counted(part: Part, status: int, said: str) -> Sum:
 
 
 def run_part(part: Part, place: Place) -> tuple[Part, Sum, str, float]:
-    """Runs a part, and returns its tests, what it wrote, and the seconds that it took."""
+    """Runs a part, and returns its tests, its output, and its seconds."""
     lacks = place.lacks(part)
     if lacks:
         return part, Sum(skipped=[(tests_in(part.tests) if part.tests else 1, f'{part.name}: {lacks}')]), '', 0
@@ -293,7 +300,7 @@ def run_part(part: Part, place: Place) -> tuple[Part, Sum, str, float]:
 
 
 def environment(python: str, folder: Path) -> dict[str, str]:
-    """What the parts get: the programs by name, and this Python as `python3`."""
+    """The environment of the parts: the programs by name, and this Python as `python3`."""
     wrapper = folder / 'python3'
     wrapper.write_text(f'#!/bin/sh\nexec {shlex.quote(python)} "$@"\n')
     wrapper.chmod(0o755)
@@ -306,7 +313,7 @@ def program_of(crate: str) -> Path:
 
 
 def run_parts(chosen: Sequence[Part], place: Place, jobs: int) -> Iterator[tuple[Part, Sum, str, float]]:
-    """Runs parts, as many at once as there are processors, and gives each as it ends."""
+    """Runs parts, `jobs` at once, and yields each as it ends."""
     with ThreadPoolExecutor(jobs) as pool:
         for done in as_completed([pool.submit(run_part, part, place) for part in chosen]):
             yield done.result()

@@ -11,7 +11,7 @@ from tables import cases, columns, repeated, unescaped
 EDGES = sorted({base + step for base in (0, 4, 8, 16, 32, 128, 256, 1000, 1152, 4096, 16384, 34816, 65536, 139264, 262144,
                                          1 << 20, 1 << 22, 1 << 29, 1 << 30, 1 << 31, 1 << 32, 4_000_000_000, 1 << 63, 1 << 64)
                 for step in (-4, -1, 0, 1, 4)})
-"""Numbers at and beside the ends of what is allowed somewhere."""
+"""Numbers at and next to the limits of some range."""
 
 SETUP_PIECES = [
     'version = 2', 'version = 3', 'period = 0', 'period = 1000', 'image = ""', 'image = "a.fpx"', '[[thread]]', '[thread]',
@@ -46,14 +46,14 @@ SPECIAL_WORDS = [
 """Words of the machine's own instructions, of ends of visits, and of loads, stores and loops."""
 
 FEW_CYCLES = 300
-"""A run of more isn't drawn where the model is to answer: the model takes its time."""
+"""The most cycles of a run that is compared with the model, which is slow."""
 
 MANY_CYCLES = 20_000
 
 
 @dataclass
 class Corpus:
-    """What is mutated: setups with their images, and files of each other kind."""
+    """The files to mutate: setups with their images, and files of each other kind."""
     setups: list[tuple[bytes, bytes]] = field(default_factory=list)
     called: list[tuple[bytes, bytes, bytes]] = field(default_factory=list)
     sources: list[bytes] = field(default_factory=list)
@@ -104,7 +104,7 @@ def add_cases(read: Corpus) -> None:
 
 @dataclass
 class Line:
-    """A command line, the files that it may read, and where they get what `solo` writes, as a recorded trace."""
+    """A command line, the files that it may read, and the file that gets the output of `solo` as a recorded trace."""
     words: list[bytes]
     files: dict[str, bytes] = field(default_factory=dict)
     recorded: list[bytes] | None = None
@@ -115,7 +115,7 @@ class Line:
 
 
 class Hostile:
-    """Draws one line after the other from a source of chance."""
+    """Draws lines from a generator of random numbers."""
 
     def __init__(self, seeds: Corpus, chance: random.Random, few: bool) -> None:
         self.seeds, self.chance, self.few = seeds, chance, few
@@ -178,7 +178,7 @@ class Hostile:
         return b'%d' % self.chance.randrange(most)
 
     def thread(self, setup: bytes) -> bytes:
-        """Mostly a hard thread of a setup, of which alone a section and a trace of its own are told."""
+        """Mostly a hard thread of a setup: only these have bounds and a trace by `solo`."""
         hard: list[bytes] = HARD_THREAD.findall(setup)
         return self.chance.choice(hard) if hard and self.chance.random() < 0.8 else b'%d' % self.chance.randrange(8)
 
@@ -194,7 +194,7 @@ class Hostile:
     # ------------------------------------------------------------ lines
 
     def line(self) -> Line:
-        """A line of some command, whose words are themselves changed now and then."""
+        """A line of some command, whose arguments are changed now and then."""
         command = self.chance.choices(list(COMMANDS), [weight for _, weight in COMMANDS.values()])[0]
         if self.few and command == 'selfrun':
             command = 'dump'
@@ -204,7 +204,7 @@ class Hostile:
         return line
 
     def change_words(self, line: Line) -> None:
-        """Drops, doubles, swaps, joins or replaces words. None of these gives a run more cycles."""
+        """Drops, doubles, swaps, joins or replaces arguments. None of these gives a run more cycles."""
         for _ in range(self.chance.choice((1, 1, 2, 3))):
             self.chance.choice(WORD_CHANGES)(self.chance, line.words)
 
@@ -254,11 +254,11 @@ COMMANDS: dict[str, tuple[Callable[[Hostile, bytes], Line], int]] = {
     'check': (Hostile.check, 10), 'bound': (Hostile.bound, 13), 'calls': (Hostile.calls, 10),
     'asm': (Hostile.assemble, 9), 'elf': (Hostile.executable, 8), 'selfrun': (Hostile.own_run, 1),
 }
-"""How a line of each command is drawn, and how often in 101."""
+"""The function that draws a line of each command, and its weight in 101."""
 
 
 def word_places(image: bytes) -> list[int]:
-    """Where the words of the segments stand, if the headers of the image are whole."""
+    """The offsets of the segments' words, if the headers of the image are complete."""
     places: list[int] = []
     at = 8
     while at + 8 <= len(image):
@@ -348,7 +348,7 @@ def change_number(chance: random.Random, lines: list[bytes], _: Sequence[str]) -
 
 
 def change_text(chance: random.Random, lines: list[bytes], _: Sequence[str]) -> None:
-    """Another word in the place of one that stands elsewhere in the text."""
+    """Replaces a word by another one of the text."""
     words = re.findall(rb'[A-Za-z_.][A-Za-z0-9_.-]*', b'\n'.join(lines))
     k = chance.randrange(len(lines))
     found = list(re.finditer(rb'[A-Za-z_.][A-Za-z0-9_.-]*', lines[k]))
@@ -360,7 +360,7 @@ def change_text(chance: random.Random, lines: list[bytes], _: Sequence[str]) -> 
 LINE_CHANGES = [drop_line, double_line, swap_lines, add_piece, add_piece, change_number, change_number, change_number, change_text]
 
 
-# ---------------------------------------------------------------- changes of words
+# ---------------------------------------------------------------- changes of arguments
 
 def drop_word(chance: random.Random, words: list[bytes]) -> None:
     if words:
@@ -379,7 +379,7 @@ def swap_words(chance: random.Random, words: list[bytes]) -> None:
 
 
 def join_words(chance: random.Random, words: list[bytes]) -> None:
-    """Two words as one with `=`, which is another spelling of an option."""
+    """Joins two arguments by `=`, which is another spelling of an option."""
     options = [k for k, word in enumerate(words[:-1]) if word.startswith(b'--')]
     if options:
         k = chance.choice(options)

@@ -29,7 +29,7 @@ Loop = tuple[int, int]
 
 @dataclass(frozen=True)
 class Section:
-    """Code at 0 with its loops, and how many of its bytes are asked about."""
+    """Code at 0 with its loops, and the size of its section in bytes."""
     words: Sequence[int]
     loops: Sequence[Loop]
     to: int
@@ -58,7 +58,7 @@ def call(offset: int) -> int:
 
 
 def short_loops() -> Section:
-    """200 loops of two words, one behind the other."""
+    """200 loops of two words, one after the other."""
     return Section([COUNT, branch(-4)] * 200, [(8 * k, 8 * k + 4) for k in range(200)], 1600)
 
 
@@ -87,7 +87,7 @@ def routine() -> list[int]:
 
 
 def many_calls() -> Section:
-    """15,000 words with 10,000 calls of the 64 routines behind them."""
+    """15,000 words with 10,000 calls of the 64 functions after them."""
     size = 60_000
     heads = [size + 80 * k for k in range(64)]
     code = [call(heads[k % 64] - 4 * k) if k % 3 else COUNT for k in range(size // 4)]
@@ -96,7 +96,7 @@ def many_calls() -> Section:
 
 
 def executable() -> bytes:
-    """An ELF file whose 65,535 program headers load a byte each, one behind the other."""
+    """An ELF file whose 65,535 program headers load a byte each, one after the other."""
     count = 65_535
     ident = b'\x7fELF' + bytes([1, 1, 1]) + bytes(9)
     header = struct.pack('<16sHHIIIIIHHHHHH', ident, 2, 243, 1, 0, 52, 0, 0, 52, 32, count, 0, 0, 0)

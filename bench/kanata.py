@@ -1,16 +1,16 @@
 #!/usr/bin/env python3
-"""Reads logs of the format `Kanata` 0004, which the viewer Konata shows, and says which line of one breaks which rule.
+"""Reads logs of the format `Kanata` 0004, which the viewer Konata shows, and reports each line that breaks a rule.
 
 bench/kanata.py FILE..: status 1 if a rule is broken; `-` is standard input. The rules:
 - The first line is the head. Each other one is a command with its fields, apart by tabs: C= (cycle), C (cycles that go by),
   I (id, number in the simulator, thread), L (id, type, text), S and E (id, lane, stage), R (id, number of the end, 1 where
   it is flushed), W (id of the consumer, id of the producer, type). Numbers are decimal; a type of L or W is 0 to 2.
-- One C= comes before all else, and each C goes on by a cycle at least.
-- Ids count from 0 on in the order of the lines I. Nothing is said of an instruction before its I or behind its R.
+- One C= comes first, and each C advances by at least one cycle.
+- Ids count from 0 in the order of the lines I. No line is about an instruction before its I or after its R.
 - A stage ends by E, by the next stage of its lane or by R, in a later cycle than it begins.
 - As this core's turns go: the stages are F, D, E, M and W, a cycle each, and then the turn retires; it is flushed behind D.
   It has one label (type 0) and one detail (type 1) at its end.
-The rules are those that the format is known by; neither the viewer nor a text of its format was at hand.
+The rules are the common description of the format. They weren't compared with the viewer or a specification.
 """
 from __future__ import annotations
 
@@ -21,14 +21,14 @@ from typing import Iterable
 
 HEAD = "Kanata\t0004"
 STAGES = ["F", "D", "E", "M", "W"]
-# The fields behind each command: n for a number, t for a text, s for the name of a stage.
+# The fields after each command: n for a number, t for a text, s for the name of a stage.
 FIELDS = {"C=": "n", "C": "n", "I": "nnn", "L": "nnt", "S": "nns", "E": "nns", "R": "nnn", "W": "nnn"}
 # The largest type of a label, of an end and of an arrow.
 LAST_TYPE = {"L": 2, "R": 1, "W": 2}
 
 
 class LogError(Exception):
-    """What is wrong with a line."""
+    """The fault of a line."""
 
 
 def must(holds: bool, why: str) -> None:
@@ -38,7 +38,7 @@ def must(holds: bool, why: str) -> None:
 
 @dataclass
 class Instruction:
-    """What the log said of an instruction so far."""
+    """The state of an instruction in the log so far."""
 
     stages: list[str] = field(default_factory=list)
     begun: int = 0

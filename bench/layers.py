@@ -33,7 +33,7 @@ DRAWING = re.compile(r"(?<=<!-- made by bench/layers.py -->\n```\n).*?(?=^```$)"
 
 @dataclass
 class Crates:
-    """What crates.txt lists."""
+    """The content of crates.txt."""
 
     layers: dict[str, list[str]] = field(default_factory=dict)
     """The crates of each layer, lowest first."""
@@ -85,7 +85,7 @@ def names_it(folder: Path, library: str) -> bool:
 
 
 def faults(top: Path, crates: Crates, page: str) -> Iterator[str]:
-    """Which rules of the list are broken."""
+    """The violations of the rules."""
     table = set(re.findall(r"`(\w+)`", "\n".join(re.findall(r"^\| (`[^|]*)\|", page, re.M))))
     above: set[str] = set()
     yield from (f"{name} is in no layer" for name in crates.layers.get("", []))

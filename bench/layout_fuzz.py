@@ -160,7 +160,7 @@ return s + t * 3 + k; }}
 
 @dataclass
 class Trial:
-    """A function, how it is compiled, and what is wrong with it."""
+    """A function, the options of its compilation, and its fault."""
     name: str
     source: Path
     way: Way
@@ -182,7 +182,7 @@ def trials(seed: int, first: int, count: int, folder: Path) -> Iterator[Trial]:
 
 
 def compiled(it: Trial, kind: str) -> Path:
-    """The object of a function in the compiler's order or laid out; notes what is wrong."""
+    """The object of a function in the compiler's order or laid out. Records a fault."""
     text = it.assembly.read_text()
     if kind == 'laid':
         options = Options(rotate=it.way.rotate, most_copies=2000)
@@ -206,7 +206,7 @@ def linked(folder: Path, kind: str, objects: list[Path], name: str) -> Executabl
 
 
 def batch(folder: Path, group: list[Trial], runner: Path) -> None:
-    """Tries functions together in an image; notes what is wrong with each."""
+    """Tries functions together in an image. Records the fault of each."""
     runtime = folder / 'runtime.o'
     if not runtime.exists():
         run([*Way('-Os', False).compiler(), '-x', 'c', '-c', '-o', runtime, DATA / 'runtime.inc'])

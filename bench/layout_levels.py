@@ -1,13 +1,13 @@
 #!/usr/bin/env python3
 """Lays out each shape of tools/tests/data/layout at all levels, as sections and through `calls`, and compares.
 
-For each level and way it says how many shapes the analyser takes as the compiler has them and laid out, how many are left
+For each level and way it prints how many shapes the analyser takes in the compiler's order and laid out, how many are left
 by a path, how many do the same in quick_run.c and in qemu-riscv32, whether any of 4,000 executions takes longer than its
-bound, and what the longest executions and the code amount to. It needs gcc for RISC-V, qemu-riscv32, and a C compiler;
+bound, and the sums of the longest executions and of the code. It needs gcc for RISC-V, qemu-riscv32, and a C compiler;
 with --clang also clang. Status 1: not all are accepted, or one does another thing.
 
     bench/layout_levels.py                    # about eight minutes of a processor
-    bench/layout_levels.py --rotate 4 -O2     # these levels alone"""
+    bench/layout_levels.py --rotate 4 -O2     # only these levels"""
 from __future__ import annotations
 
 import argparse
@@ -27,7 +27,7 @@ from layout_shapes import (  # noqa: E402
 
 @dataclass
 class Tally:
-    """What is counted of the shapes in one order of their blocks."""
+    """The counts of the shapes in one order of their blocks."""
     accepted: int = 0
     left: int = 0
     cycles: dict[str, int] = field(default_factory=dict)
@@ -70,7 +70,7 @@ def tally(folder: Path, way: Way) -> Tally:
 
 
 def compare(way: Way) -> bool:
-    """Writes a line of a way, and what is wrong; whether all is right."""
+    """Prints the line of a way, and its faults. Returns whether there are none."""
     with tempfile.TemporaryDirectory() as text:
         folder = Path(text)
         compiled, laid = tally(folder, replace(way, is_laid=False, rotate=0)), tally(folder, way)

@@ -4,7 +4,7 @@
 usage: bench/lines.py [--check] [--top FOLDER] [CRATE ..]
 
 A row of output is `FILE:LINE: COLUMNS columns`, of the definitions (specs), the code (src) and the
-proofs. A column is a character. A line passes where a quoted text alone is wider than QUOTED: a text
+proofs. A column is a character. A line passes if one quoted text in it is wider than QUOTED: a text
 of antt ends on its line. Status: 0 no line is too wide, or --check isn't given; 1 with --check, one
 is; 2 a crate has no files, or one can't be read.
 """

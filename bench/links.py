@@ -1,5 +1,5 @@
 #!/usr/bin/env python3
-"""Checks that each link of the repository's pages leads to a file, and to a heading in it where it has an anchor.
+"""Checks that the target of each link of the repository's pages exists: a file, and its heading if there is an anchor.
 
 usage: bench/links.py [PAGE..]
 
@@ -60,7 +60,7 @@ def broken(page: Path) -> Iterator[str]:
 
 
 def pages() -> list[Path]:
-    """The Markdown files of the repository, but for what is made."""
+    """The Markdown files of the repository, without generated ones."""
     return sorted(
         page for page in TOP.rglob("*.md") if not {"out", ".git", "node_modules"} & set(page.relative_to(TOP).parts)
     )

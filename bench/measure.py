@@ -1,7 +1,7 @@
 #!/usr/bin/env python3
-"""What the program costs: instructions as valgrind counts them, processor time and memory, each beside
-the last figures, which stand in docs/dev/MEASUREMENTS.md. Ends with 1 where one takes over 5 % more
-instructions than it did there. Wants valgrind and GNU time; takes some minutes. It is no part of the gate."""
+"""Measures the program: instructions as valgrind counts them, processor time and memory, each with the last
+figure in docs/dev/MEASUREMENTS.md. Ends with 1 if a call takes over 5 % more instructions than there.
+Needs valgrind and GNU time, and takes some minutes. It isn't part of the gate."""
 import argparse
 import os
 import platform
@@ -21,7 +21,7 @@ from program import TOP, Status, built_program
 
 PAGE = TOP / 'docs/dev/MEASUREMENTS.md'
 BEGIN, END = '<!-- measure.py -->', '<!-- end of measure.py -->'
-"""The lines of the page between which the last figures stand."""
+"""The lines of the page before and after the last figures."""
 
 WORSE = 1.05
 COUNTED, TIMED = 1_000_000, 20_000_000
@@ -31,12 +31,12 @@ RUNS = ('drive:0', 'drive:7', 'plain:0', 'plain:7', 'mem:0', 'mem:7', 'sleep:0',
 """Setups with the thread whose lines are put; in plain, sleep and sleepsoft thread 7 has none."""
 
 ALONE = ('drive:0', 'plain:0')
-"""Those of which a thread alone is run and checked."""
+"""The setups for `solo` and `check`."""
 
 
 @dataclass(frozen=True)
 class Item:
-    """A call to measure. Where it has cycles, it is told by the cycle, and its time may be taken over more of them."""
+    """A call to measure. If it has cycles, its figures are per cycle, and its time may be measured over more cycles."""
     name: str
     words: Sequence[str]
     cycles: int = 0
@@ -47,8 +47,8 @@ class Item:
 
 @dataclass(frozen=True)
 class Figures:
-    """What a call costs, or did at the last time: with cycles instructions a cycle and millions of cycles a second, without
-    them millions of instructions and milliseconds; kilobytes at most."""
+    """The figures of a call, now or the last time: with cycles, instructions per cycle and millions of cycles per second;
+    without them, millions of instructions and milliseconds. The peak memory is in kilobytes."""
     steps: float
     pace: float
     memory: int
@@ -119,7 +119,7 @@ def call(program: Path, words: Sequence[str], folder: Path, out: Path) -> None:
 
 
 def ended(command: Sequence[str | Path], item: Item, folder: Path) -> str:
-    """Runs a command that calls the program, and gives what it says; ends the script where the status is another one."""
+    """Runs a command that calls the program, and returns its standard error; ends the script if the status is another one."""
     done = subprocess.run(command, cwd=folder, stdout=subprocess.DEVNULL, stderr=subprocess.PIPE, text=True)
     if done.returncode != item.status:
         sys.exit(f'{item.name}: status {done.returncode}, and not {item.status}\n{done.stderr}')
@@ -142,7 +142,7 @@ def seconds(program: Path, item: Item, folder: Path) -> float:
 
 
 def memory(program: Path, item: Item, folder: Path) -> int:
-    """The most kilobytes of a call. GNU time is small, so that its own memory isn't what is seen."""
+    """The peak memory of a call in kilobytes. GNU time is small, so its own memory doesn't count."""
     told = folder / 'memory'
     ended(['time', '--quiet', '--format=%M', f'--output={told}', program, *item.words], item, folder)
     return int(told.read_text())
@@ -175,7 +175,7 @@ def machine() -> str:
 
 
 def write_page(rows: Sequence[str], built_from: str, load: float) -> None:
-    """Puts the rows in the place of the page's last figures."""
+    """Replaces the page's last figures by the rows."""
     dated = f'{date.today()}, {built_from}; {machine()}, load {load:.0f}:'
     head = [dated, '', '| call | instructions | pace | memory |', '|---|---|---|---|']
     front, _, rest = PAGE.read_text().partition(f'{BEGIN}\n')
@@ -183,7 +183,7 @@ def write_page(rows: Sequence[str], built_from: str, load: float) -> None:
 
 
 def told(item: Item, now: Figures, last: Figures | None) -> bool:
-    """Prints a row beside the last figures, and says whether it has fallen."""
+    """Prints a row with the last figures, and returns whether its instructions have risen by more than WORSE allows."""
     if last is None:
         print(f'{now.row(item)} new', flush=True)
         return False

@@ -1,9 +1,9 @@
 #!/usr/bin/env python3
 """Draws random single changes of the bodies in the library crates, each line of a body as likely as the next, makes them
-in a copy, and checks their crates, with one change of each function at a time. What a check doesn't tell of a function, and what
-seems proved, is tried alone. A change that only takes away what an answer in proofs/ names is tried again without these
-answers. What is still proved is listed as a diff: it means the same as before, or a contract says too little.
-The same seed over the same sources gives the same changes, so a log goes on where it ended. It is no part of the gate."""
+in a copy, and checks their crates, with one change of each function at a time. A change without a verdict, or one that seems
+proved, is checked again as the only change. If a change only removes a name that an answer in proofs/ uses, it is tried again
+without these answers. Changes that are still proved are listed as diffs: they mean the same as before, or a contract is too weak.
+The same seed with the same sources gives the same changes, so a log continues where it ended. It isn't part of the gate."""
 import argparse
 import contextlib
 import hashlib
@@ -40,7 +40,7 @@ class Tried:
     seconds: float
     diff: str
     beside: int = 0
-    """How many other changes the check had that told the verdict."""
+    """The number of other changes in the check with the verdict."""
 
 
 def tried_of(outcome: Outcome) -> Tried:
@@ -50,7 +50,7 @@ def tried_of(outcome: Outcome) -> Tried:
 
 
 class Log:
-    """A file of lines in JSON: what was drawn from, and then what was tried."""
+    """A file of lines in JSON: the sources of the draws, and then the changes that were tried."""
 
     def __init__(self, path: Path | None, urn: Urn, seed: int) -> None:
         self.path = path
@@ -67,11 +67,11 @@ class Log:
             path.write_text(json.dumps(self.front) + '\n')
 
     def has(self, number: int) -> bool:
-        """Whether it is known what a change comes to."""
+        """Whether the verdict on a change is in the log."""
         return number in self.tried and self.tried[number].verdict != Verdict.UNKNOWN
 
     def add(self, tried: Tried) -> None:
-        """Keeps and prints what was tried."""
+        """Keeps and prints a change that was tried."""
         with self.lock:
             self.tried[tried.number] = tried
             if self.path:
@@ -85,7 +85,7 @@ class Log:
 # ---------------------------------------------------------------- the whole
 
 def outcomes(crate: str, todo: list[Drawn], bench: Bench, options: argparse.Namespace, stop: Event) -> Iterator[Outcome]:
-    """What changes of a crate come to, in rounds or each alone."""
+    """The verdicts on changes of a crate, in rounds or one at a time."""
     rounds = Rounds(bench, crate, bench.prove_unchanged(crate), stop, options.rounds)
     if not options.alone:
         yield from rounds.outcomes(todo)
@@ -97,7 +97,7 @@ def outcomes(crate: str, todo: list[Drawn], bench: Bench, options: argparse.Name
 
 @contextlib.contextmanager
 def scratch(given: Path | None) -> Iterator[Path]:
-    """The folder of the copies: a given one stays, with what checks kept there; another goes."""
+    """The folder of the copies. A given one is kept, with the results of checks in it; a temporary one is removed."""
     if given:
         given.mkdir(parents=True, exist_ok=True)
         yield given.resolve()
@@ -107,7 +107,7 @@ def scratch(given: Path | None) -> Iterator[Path]:
 
 
 def try_all(todo: dict[str, list[Drawn]], log: Log, options: argparse.Namespace) -> None:
-    """Tries the changes that the log lacks, some crates side by side."""
+    """Tries the changes that the log lacks, several crates in parallel."""
     stop = Event()
     with scratch(options.scratch) as folder, ThreadPoolExecutor(options.jobs) as pool:
         benches: SimpleQueue[Bench] = SimpleQueue()
@@ -132,7 +132,7 @@ def try_all(todo: dict[str, list[Drawn]], log: Log, options: argparse.Namespace)
 
 
 def print_table(tried: list[Tried]) -> None:
-    """How many changes of each crate came to which verdict, and what is proved."""
+    """The number of changes of each crate by verdict, and the changes that are proved."""
     counts = Counter((one.crate, one.verdict) for one in tried)
     shown = [verdict for verdict in Verdict if any(counts[crate, verdict] for crate, _ in counts)]
     print(f'{"":18}{"tried":>8}' + ''.join(f'{verdict:>26}' for verdict in shown))

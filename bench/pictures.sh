@@ -1,8 +1,8 @@
 #!/usr/bin/env bash
-# bench/pictures.sh FOLDER: pictures of the examples in a real browser, Chromium without a window. It puts them into FOLDER as
-# *.png, to look at, and says where a text covers another or leaves its picture, where what lies under the pointer in the middle
-# of a turn's cell isn't that cell with its title, and where the browser can't read a picture. FLEXPRET_VIEW names the
-# program, if it isn't the one that ./flexpret-view builds. It isn't part of the gate.
+# bench/pictures.sh FOLDER: renders pictures of the examples in Chromium without a window, into FOLDER as *.png. It reports texts that
+# cover each other or leave the picture, cells of turns that something covers at their middle (so that the title isn't shown there),
+# and pictures that the browser can't read. FLEXPRET_VIEW names the program, if it isn't the one that ./flexpret-view builds.
+# It isn't part of the gate.
 set -u
 if [ $# -ne 1 ]; then
     sed -n '2,5s/^# //p' "$0" >&2
@@ -38,7 +38,7 @@ for (const cell of cells) {
 document.body.textContent = `looked at ${cells.length} cells and ${texts.length} texts: ${said.join("; ") || "well"}`;
 END
 
-# Draws the cycles of a setup, and looks at the picture.
+# Draws the cycles of a setup, and checks the picture.
 draws() {
     local name=$1 setup=$2 from=$3 to_cycle=$4 said
     "$view" turns "$setup" --from "$from" --to "$to_cycle" --svg "$work/$name.svg" || exit 1

@@ -4,8 +4,8 @@
 usage: bench/places.py [--lines] NAME..
 
 NAME is an existing instruction, as `gth` or `ee`: choose those that the new one resembles. A place is a file that
-has a name as a word of its own, in the spelling of the mnemonic or of the variant (`gth`, `Gth`), in definitions,
-sources, proofs, edits, the model, the tools and the documents. Data of tests and files that are made aren't
+has a name as a whole word, in the spelling of the mnemonic or of the variant (`gth`, `Gth`), in definitions,
+sources, proofs, edits, the model, the tools and the documents. Data of tests and generated files aren't
 searched. A file that treats an instruction by a rule for all others doesn't name it: look at `fallbacks`, which are
 listed last. Status: 0 places were found; 1 none was; 2 usage error.
 """
@@ -46,7 +46,7 @@ class Place:
 
 
 def files_of(kind: str) -> Iterator[Path]:
-    """The files of a kind, in their order, without what is made."""
+    """The files of a kind, in their order, without generated ones."""
     for pattern in KINDS[kind]:
         for file in sorted(TOP.glob(pattern)):
             if file.is_file() and "out" not in file.relative_to(TOP).parts:

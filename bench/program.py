@@ -1,4 +1,4 @@
-"""The built program: where it stands, its statuses, and what standard error gets for them."""
+"""The built program: its place, its statuses, and their lines on standard error."""
 import enum
 import sys
 from pathlib import Path

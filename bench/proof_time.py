@@ -1,8 +1,8 @@
 #!/usr/bin/env python3
-"""Where the time of a crate's proof goes: seconds by function and by kind of module. It checks the crate from nothing in a copy,
+"""The time of a crate's proof: seconds by function and by kind of module. It checks the crate from nothing in a copy,
 by one job, and reads the times at which the check kept each module. A function's table of steps (Lts) grows faster
 than its length, its locals and the values that it drops, so one long function can take more than all others of its crate; and
-the gate proves a crate with edits twice, and a changed function again for each of its edits. It is no part of the gate."""
+the gate proves a crate with edits twice, and a changed function again for each of its edits. It isn't part of the gate."""
 import argparse
 import re
 import subprocess
@@ -18,13 +18,13 @@ from checking import Bench
 from drawing import library_crates
 
 SECONDS = 3600
-"""A check that takes longer is ended."""
+"""The time limit of a check."""
 
 KIND = re.compile(r'\.(Lts|Tie|Proof|Answers|Invariants|Reads|Layout|Code|Kinds|Goals|Statement|Met|Named)(?=[.-]|$)')
-"""What a module holds of a function: its table of steps, how that is tied to the contract, the proof, written answers, and so on."""
+"""The kinds of modules of a function: its table of steps, the link of the table to the contract, the proof, written answers, and so on."""
 
 SHOWN = 4
-"""How many kinds are told of a function."""
+"""The number of kinds that are listed for a function."""
 
 
 def longest(kinds: Mapping[str, float], most: int) -> list[tuple[str, float]]:
@@ -55,7 +55,7 @@ def kept_modules(folder: Path) -> list[tuple[float, str, int]]:
 
 def owner_of(name: str) -> tuple[str, str]:
     """The function of a kept module, and the module's kind, the last word that is one: a struct may be named as a kind is.
-    What belongs to none is a file of its own."""
+    A module that belongs to no function counts as a file."""
     path = name.removesuffix('.oantt').removesuffix('.decls')
     path = re.sub(r'^Rattle-\w+?(-(proofs|specs))?\.', '', path)
     kinds = list(KIND.finditer(path))
@@ -63,7 +63,7 @@ def owner_of(name: str) -> tuple[str, str]:
 
 
 def spent(modules: Sequence[tuple[float, str, int]]) -> dict[str, Spent]:
-    """What each function took: a module's time is that since the one before was kept."""
+    """The seconds of each function: a module's time is that since the one before was kept."""
     by_function: dict[str, Spent] = defaultdict(Spent)
     for (before, *_), (at, name, size) in zip(modules, modules[1:]):
         function, kind = owner_of(name)
@@ -74,7 +74,7 @@ def spent(modules: Sequence[tuple[float, str, int]]) -> dict[str, Spent]:
 
 
 def check_anew(bench: Bench, crate: str) -> None:
-    """Checks a crate from nothing. A folder with no work, and a text that no other copy has, keep `rt` from taking other work."""
+    """Checks a crate from nothing. The empty folder and a text that no other copy has keep `rt` from reusing results."""
     folder = bench.folder / 'crates' / crate
     subprocess.run(['rm', '-rf', folder / 'out'], check=True)
     (folder / 'out/incremental').mkdir(parents=True)

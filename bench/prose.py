@@ -38,7 +38,7 @@ class Sentence:
 
     @property
     def length(self) -> int:
-        """The number of words: what has a letter or a digit, between spaces."""
+        """The number of words: texts between spaces that have a letter or a digit."""
         return sum(any(char.isalnum() for char in word) for word in self.text.split())
 
 

@@ -2,7 +2,7 @@
 """Refuses the program one allocation at a time, over a command line of each command: it must answer as with ample memory, or
 end with status 9 and write nothing. Either by `rt try --fail-alloc N`, which proves nothing and builds once for each number, in a
 minute or more; or, with --built, every number of each row on the built program, by a library that is loaded before the C
-library (wants cc). Prints a table, and ends with 1 where anything else was answered. The gate calls it with --built."""
+library (needs cc). Prints a table, and ends with 1 if a call does anything else. The gate calls it with --built."""
 import argparse
 import re
 import subprocess
@@ -29,14 +29,14 @@ class Row:
 
 @dataclass(frozen=True)
 class Answer:
-    """A status and what was written."""
+    """A status and the output."""
     status: int
     out: bytes
 
 
 @dataclass
 class Tally:
-    """What the refusals of a row came to."""
+    """The results of the refusals of a row."""
     tried: int = 0
     refused: int = 0
     own: int = 0
@@ -59,7 +59,7 @@ def example_files(*names: str) -> dict[str, bytes]:
 
 
 def case_files(table: str, name: str) -> dict[str, bytes]:
-    """The files of a case of the rows' tables, each as it is last told."""
+    """The files of a case of the rows' tables, each with its last text."""
     return next(case.files for case in cases(table) if case.name == name)
 
 
@@ -67,7 +67,7 @@ IMAGE = re.compile(rb'^image = "', re.MULTILINE)
 
 
 def row_of(words: list[str], files: dict[str, bytes]) -> Row:
-    """A row with its files below a folder with the command's name, also where words and setups name them."""
+    """A row with its files below a folder with the command's name, also in the names in arguments and setups."""
     name = words[0]
     placed = {f'{name}/{file}': IMAGE.sub(b'image = "%s/' % name.encode(), content) if file.endswith('.toml') else content
               for file, content in files.items()}
@@ -118,7 +118,7 @@ class Tried:
             (self.cases / f'{row.name}.args').write_text(''.join(f'{word}\n' for word in row.words))
 
     def answers(self, number: int) -> dict[str, Answer]:
-        """What each row answers with this allocation refused; 0 for none."""
+        """The result of each row with this allocation refused; 0 for none."""
         fail = ['--fail-alloc', str(number)] if number else []
         ended = subprocess.run(['rt', 'try', *self.data, *fail, '--cases', self.cases], cwd=TOP / 'crates/flexpret_cli',
                                stdin=subprocess.DEVNULL, capture_output=True, timeout=SECONDS)
@@ -151,7 +151,7 @@ class Preloaded:
         subprocess.run(['cc', '-O1', '-shared', '-fPIC', '-o', self.library, TOP / 'bench/refuse.c'], check=True)
 
     def answer(self, row: Row, number: int) -> Answer:
-        """What a row answers with this allocation refused; 0 for none. Standard error has the line of the status."""
+        """The result of a row with this allocation refused; 0 for none. Standard error must have the line of the status."""
         env = {'LD_PRELOAD': str(self.library), 'REFUSE': str(number), 'REFUSE_COUNT': str(self.count)}
         ended = subprocess.run([self.program, *row.words], cwd=self.folder, env=env, stdin=subprocess.DEVNULL, capture_output=True,
                                timeout=SECONDS)
@@ -160,14 +160,14 @@ class Preloaded:
         return Answer(ended.returncode, ended.stdout)
 
     def asked(self) -> int:
-        """How many allocations the last call asked for."""
+        """The number of allocations of the last call."""
         return int(self.count.read_text())
 
 
 # ---------------------------------------------------------------- the whole
 
 def refuse_every(program: Path, some: list[Row], folder: Path) -> Iterator[tuple[Row, Tally]]:
-    """Every allocation that a row asks for, on the built program."""
+    """Refuses every allocation of a row, on the built program."""
     preloaded = Preloaded(program, folder)
     for row in some:
         tally, ample = Tally(), preloaded.answer(row, 0)
@@ -177,7 +177,7 @@ def refuse_every(program: Path, some: list[Row], folder: Path) -> Iterator[tuple
 
 
 def refuse_some(numbers: list[int], some: list[Row], folder: Path) -> Iterator[tuple[Row, Tally]]:
-    """The allocations with these numbers, by `rt try`."""
+    """Refuses the allocations with these numbers, by `rt try`."""
     tried = Tried(some, folder)
     ample = tried.answers(0)
     tallies = {row.name: Tally() for row in some}

@@ -1,6 +1,6 @@
-"""Many changes of a crate in one check. A check proves each function by itself, over the contracts of the others, and says of
-each how that ended: so one change of each function is judged at a time, all functions together. What can't be told so, as of a
-constant, and what seems proved, is tried alone afterwards."""
+"""Many changes of a crate in one check. A check proves each function separately, with the contracts of the others, and reports
+the result for each. So a round has one change of each function. A change without a verdict in a round, as one of a constant, and
+one that seems proved, is checked afterwards as the only change."""
 import threading
 import time
 from collections import deque
@@ -14,12 +14,12 @@ from drawing import Drawn
 from source import Body, Source
 
 MOST = 40
-"""How many changes a check judges at most."""
+"""The most changes of a check."""
 
 
 @dataclass(frozen=True)
 class Outcome:
-    """What a change came to, with how many others, and the answers that were removed for it."""
+    """The verdict on a change, the number of others in its check, and the answers that were removed for it."""
     drawn: Drawn
     verdict: Verdict
     said: str
@@ -37,7 +37,7 @@ class Place:
     symbols: tuple[str, ...]
 
     def is_in_proofs(self, file: str) -> bool:
-        """Whether a proof file, named from its crate, is of this function."""
+        """Whether a proof file, named relative to its crate, is of this function."""
         folders = ('/'.join(['proofs', *symbol.split('::')[1:], '']) for symbol in self.symbols)
         return file.startswith(tuple(folders))
 
@@ -50,7 +50,7 @@ class Places:
         self.of_file: dict[str, list[Place]] = {}
 
     def place_of(self, drawn: Drawn) -> Place | None:
-        """The function that a change is made in, if a check says of it alone how its proof ended."""
+        """The function of a change, if a check reports the result for this function separately."""
         if drawn.file not in self.of_file:
             self.of_file[drawn.file] = list(self.places(drawn.file, Source(drawn.text)))
         at = drawn.change.edits[0][0]
@@ -65,7 +65,7 @@ class Places:
                 yield Place(file, begin, end, (symbol, *self.closures_in(source, body)))
 
     def symbol_of(self, file: str, source: Source, body: Body) -> str | None:
-        """The name of a function: below its file, or, of a method, below its type in another file."""
+        """The name of a function: below its file, or below its type in another file for a method."""
         name = '::'.join(filter(None, (source.owner(body), body.name)))
         parts = file.removeprefix(f'crates/{self.crate}/src/').removesuffix('.rt').split('/')
         own = '::'.join([self.crate, *(part for part in parts if part != 'lib'), name])
@@ -81,7 +81,7 @@ class Places:
 
 @dataclass
 class Trial:
-    """A change that is being tried, and what stood in the proof files that were changed for it."""
+    """A change that is being tried, and the former texts of the proof files that were changed for it."""
     drawn: Drawn
     place: Place
     removed: list[str] = field(default_factory=list)
@@ -95,7 +95,7 @@ class Trial:
 
 @dataclass(frozen=True)
 class Judged:
-    """What a check says of a function: nothing where its verdict can't be told."""
+    """The result of a check for a function: None if it has no verdict."""
     verdict: Verdict | None
     said: str = ''
     stale: tuple[tuple[str, int], ...] = ()
@@ -105,14 +105,14 @@ class Rounds:
     """The rounds over the changes of a crate."""
 
     def __init__(self, bench: Bench, crate: str, symbols: list[str], stop: threading.Event, most: int | None = None) -> None:
-        """`most` is how many rounds there are at most: what then still waits isn't tried, nor is what is in no function."""
+        """`most` limits the rounds. Changes that still wait then aren't tried, nor are changes in no function."""
         self.bench, self.crate, self.stop, self.left = bench, crate, stop, most
         self.places = Places(crate, symbols)
         self.waiting: dict[tuple[str, ...], deque[Trial]] = {}
         self.alone: list[Drawn] = []
 
     def outcomes(self, todo: list[Drawn]) -> Iterator[Outcome]:
-        """Tries changes: first those of functions, together, then each that is left alone."""
+        """Tries changes: first those of functions, in rounds, then each of the rest as the only change."""
         others: list[Drawn] = []
         for drawn in todo:
             place = self.places.place_of(drawn)
@@ -131,8 +131,8 @@ class Rounds:
             yield self.tried_alone(self.alone.pop(0))
 
     def queues(self) -> list[deque[Trial]]:
-        """The functions of the next round, by what waits of each: most wait longest come first. Past the last round come those
-        of which answers were removed."""
+        """The functions of the next round: those with the most waiting changes come first. After the last round only those
+        whose answers were removed are left."""
         queues = sorted(filter(None, self.waiting.values()), key=len, reverse=True)
         if self.left is not None and self.left <= 0:
             queues = [queue for queue in queues if queue[0].tries]
@@ -144,7 +144,7 @@ class Rounds:
         return Outcome(drawn, verdict, said, removed, round(time.monotonic() - began, 1), 0)
 
     def round(self, queues: list[deque[Trial]]) -> Iterator[Outcome]:
-        """Judges the first change that waits of each of these functions."""
+        """Judges the first waiting change of each of these functions."""
         self.left = None if self.left is None else self.left - 1
         for outcome in self.judged([queue[0] for queue in queues]):
             trial = self.waiting[self.symbols_of(outcome.drawn)].popleft()
@@ -160,9 +160,9 @@ class Rounds:
         return place.symbols
 
     def judged(self, trials: list[Trial]) -> Iterator[Outcome]:
-        """What one check of these changes tells, and more checks where it tells nothing; UNKNOWN is to be tried alone.
-        In place of those that don't compile come the next that wait of their functions. A trial whose answers were removed has
-        no outcome yet."""
+        """The outcomes of a check of these changes, and of more checks if it has none. A change with UNKNOWN is to be checked as
+        the only one. Changes that don't compile are replaced by the next waiting ones of their functions. A trial whose answers
+        were removed has no outcome yet."""
         if not trials:
             return
         check, texts = self.checked(trials)
@@ -215,7 +215,7 @@ class Rounds:
             yield trial.ended(judged.verdict, judged.said, beside)
 
     def judgement(self, check: Check, trial: Trial, texts: dict[str, 'Composed']) -> Judged:
-        """What a check says of a change by the lines on its function and on its function's proofs."""
+        """The verdict of a check on a change, by the lines about its function and its function's proofs."""
         said = [check.functions.get(symbol, 'nothing') for symbol in trial.place.symbols if symbol in check.functions]
         failed = [line for line in said if line.startswith(('not proved', 'no proof'))]
         if not failed or any(line.startswith('could not tell') for line in said):
@@ -231,7 +231,7 @@ class Rounds:
         return Judged(None, failed[0][:300])
 
     def is_of(self, file: str, line: int, trial: Trial, texts: dict[str, 'Composed']) -> bool:
-        """Whether a place, named from the crate, is in a change's function or in its proofs."""
+        """Whether a place, named relative to the crate, is in a change's function or in its proofs."""
         if file.startswith('proofs/'):
             return trial.place.is_in_proofs(file)
         whole = f'crates/{self.crate}/{file}'
@@ -243,7 +243,7 @@ class Rounds:
                 if 'error' in match['said'] and self.is_of(match['file'], int(match['line']), trial, texts)]
 
     def put_back(self, trial: Trial) -> None:
-        """Puts the proof files back that were changed for a trial."""
+        """Restores the proof files that were changed for a trial."""
         for name, content in trial.before.items():
             (self.bench.folder / name).parent.mkdir(parents=True, exist_ok=True)
             (self.bench.folder / name).write_text(content)

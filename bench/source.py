@@ -1,4 +1,4 @@
-"""Rattle's sources as tokens, and where the bodies of functions and constants stand in them."""
+"""Rattle's sources as tokens, and the places of the bodies of functions and constants in them."""
 import bisect
 import re
 from collections.abc import Iterator
@@ -16,7 +16,7 @@ TOKEN = re.compile(r'''
 
 CLOSING = {'(': ')', '[': ']', '{': '}'}
 CLAUSES = ('requires', 'ensures')
-"""Words that a block of a contract follows, at times with a name between."""
+"""The keywords before a block of a contract. A name may be between."""
 
 
 @dataclass(frozen=True)
@@ -29,7 +29,7 @@ class Token:
 
 @dataclass(frozen=True)
 class Body:
-    """The tokens from `first` to below `last` of a function's block, or of a constant's value."""
+    """The tokens from `first` up to but not including `last` of a function's block, or of a constant's value."""
     name: str
     first: int
     last: int
@@ -69,7 +69,7 @@ class Source:
         return pairs
 
     def after(self, k: int) -> int:
-        """The token behind this one, or behind the brackets that it opens."""
+        """The token after this one, or after the brackets that it opens."""
         return self.closing.get(k, k) + 1
 
     def between(self, first: int, last: int) -> str:
@@ -98,7 +98,7 @@ class Source:
         return self.is_at(body.begin, 'fn')
 
     def owner(self, body: Body) -> str:
-        """The type, and the trait behind it, of the block that a method stands in, or the name of its trait, or nothing."""
+        """The type, and then the trait, of the block around a method, or the name of its trait, or nothing."""
         for k, token in enumerate(self.tokens[:body.begin]):
             if token.text in ('impl', 'trait') and token.kind == 'name':
                 opened = self.block_behind(k, body.begin)
@@ -119,7 +119,7 @@ class Source:
         return ''.join(reversed(names))
 
     def behind_angles(self, k: int) -> int:
-        """The token behind the bracket that closes the `<` at a token."""
+        """The token after the bracket that closes the `<` at a token."""
         depth = 0
         while True:
             depth += {'<': 1, '>': -1, '>>': -2}.get(self.tokens[k].text, 0)
@@ -164,7 +164,7 @@ class Source:
         return Body(self.tokens[k + 1].text, first, at, '', k)
 
     def runs(self, body: Body) -> list[int]:
-        """The tokens of a body that run: no attributes, no clauses, nothing that is there for proofs alone."""
+        """The executable tokens of a body: no attributes, no clauses, nothing that is only for proofs."""
         kept: list[int] = []
         k = body.first
         while k < body.last:
@@ -177,7 +177,7 @@ class Source:
         return kept
 
     def skipped_at(self, k: int, last: int) -> int | None:
-        """Where it goes on behind a part that doesn't run, if one begins here."""
+        """The token after a part that isn't executable, if one begins here."""
         if self.is_at(k, '#') and self.is_at(k + 1, '['):
             return self.after(k + 1)
         if self.is_at(k, 'prove') and self.is_at(k + 1, '!'):

@@ -1,4 +1,4 @@
-"""Reads the tables of rows: files and command lines that a row is made of."""
+"""Reads the tables of rows: the files and command lines of a row."""
 import re
 import shlex
 from dataclasses import dataclass, field
@@ -30,13 +30,13 @@ def expanded(digits: str) -> bytes:
 
 
 def repeated(pieces: str) -> bytes:
-    """The bytes of pieces of such digits with spaces between them, of which `DIGITS*N` stands N times."""
+    """The bytes of pieces of such digits with spaces between them. A piece `DIGITS*N` is repeated N times."""
     split = (piece.partition('*') for piece in pieces.split(' '))
     return b''.join(expanded(digits) * int(times or 1) for digits, _, times in split)
 
 
 def unescaped(text: str) -> bytes:
-    """The bytes of a text in which `\\n`, `\\r`, `\\t`, `\\\\` and `\\x` with two digits stand for one byte each."""
+    """The bytes of a text in which `\\n`, `\\r`, `\\t`, `\\\\` and `\\x` with two digits are escapes of one byte."""
     def one(found: re.Match[bytes]) -> bytes:
         said = found[1]
         return bytes([int(said[1:], 16)]) if len(said) == 3 else LETTERS.get(said, said)
@@ -50,7 +50,7 @@ def lines_of(table: str) -> list[str]:
 
 
 def cases(table: str) -> list[Case]:
-    """The cases of a table that is written as commands.txt says."""
+    """The cases of a table in the format of commands.txt."""
     done: list[Case] = []
     heading, body = '', []
     for line in lines_of(table):
@@ -64,7 +64,7 @@ def cases(table: str) -> list[Case]:
 
 
 def finish(done: list[Case], heading: str, body: list[str]) -> None:
-    """Adds what stands under a heading to the last case, or begins one."""
+    """Adds the lines under a heading to the last case, or begins one."""
     if heading.startswith('=== '):
         done.append(Case(heading[4:]))
     elif heading.startswith('--- text '):

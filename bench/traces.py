@@ -1,9 +1,9 @@
-"""How many events a second fp_visits and fp_trace take, of a trace of examples/sum.toml.
+"""Measures the events per second of fp_visits and fp_trace on a trace of examples/sum.toml.
 
     python3 bench/traces.py [--events N] [--flexpret PROGRAM]
 
 The trace is a run of PROGRAM. Without one, its events are those of examples/sum.trace from the second period on, again and again with rising
-cycles. The figures are of the processor's time of each tool, of the best of three calls, and leave out what a call over no events takes."""
+cycles. The figures are the processor time of each tool, in the best of three calls, less that of a call with no events."""
 import argparse
 import resource
 import subprocess
@@ -16,7 +16,7 @@ from pathlib import Path
 TOP = Path(__file__).resolve().parents[1]
 TRACE, SETUP = TOP / 'examples/sum.trace', TOP / 'examples/sum.toml'
 BEGIN = '00000010'
-"""Where a period begins."""
+"""The address at which a period begins."""
 
 CYCLES_AN_EVENT = 200 / 49
 ROUNDS = 3

@@ -1,4 +1,4 @@
-"""What the executable model says of each cycle, and each form of `flexpret_view` read back and compared with that."""
+"""Reads each form of `flexpret_view` back, and compares it with the cycles of the executable model."""
 from __future__ import annotations
 
 import sys
@@ -18,10 +18,10 @@ from model.setups import NO_SLOT, SOFT_SLOT, THREADS, Setup
 from model.world import Kind, Turn, World
 
 UNITS_LATE, LATCH_LATE = 3, 4
-"""A unit, and a latch, holds at a cycle's start what the issues of so many cycles before, and earlier ones, have left."""
+"""The lags of a unit and of a latch: at a cycle's start they show the effects of issues that are at least so many cycles old."""
 
 INPUT_GONE, LATCH_GONE = 0, 4
-"""So many cycles behind its unplugging a port shows ones, and a latch is there no more."""
+"""The cycles from the unplugging of a port until it reads as ones, and until its latch is gone."""
 
 COLUMN, LEFT, TIME_WIDTH, LEAST_WIDTH, LEGEND = 12, 44, 84, 560, 210
 """The picture's measures."""
@@ -31,12 +31,12 @@ STAGES = 'FDEMW'
 HEAD = '     cycle            ns slot  F  D  E  M  W  turn'
 
 
-# ---------------------------------------------------------------- what the model says
+# ---------------------------------------------------------------- the model's cycles
 
 
 @dataclass(frozen=True)
 class ThreadState:
-    """What is held of a thread at a cycle's start."""
+    """The state of a thread at a cycle's start."""
     asleep: bool
     armed: int | None
     latch: int | None
@@ -45,7 +45,7 @@ class ThreadState:
 
 @dataclass(frozen=True)
 class Cycle:
-    """A cycle: what is held at its start, and the turn that it picks."""
+    """A cycle: the state at its start, and the turn that it picks."""
     number: int
     time: int
     slots: int
@@ -68,13 +68,13 @@ class Cycle:
         return self.thread() is not None and self.slot() not in ('S', f'T{self.thread()}')
 
     def outcome(self) -> str:
-        """What became of an issue."""
+        """The outcome of an issue."""
         return str(self.turn.event.effect) if self.turn.event else 'held'
 
 
 @dataclass(frozen=True)
 class Held:
-    """What the model holds before a cycle."""
+    """The model's state before a cycle."""
     slots: int
     modes: int
     sleeps: Sequence[int]
@@ -93,7 +93,7 @@ def is_gone(unplug: int | None, cycle: int, late: int) -> bool:
 
 
 class Run:
-    """A run of the model, with what every cycle holds."""
+    """A run of the model, with the state of every cycle."""
 
     def __init__(self, setup: Setup, image: Image, count: int) -> None:
         ports: Ports = [Device() for _ in range(THREADS)]
@@ -117,7 +117,7 @@ class Run:
         return Cycle(number, time, units.slots, units.modes, threads, self.world.step())
 
     def shown(self, thread: int, cycle: int) -> int:
-        """What a thread's port shows while it is there."""
+        """The input of a thread's port while it is plugged in."""
         return next((word for at, word in reversed(self.setup.threads[thread].inputs) if at <= cycle), 0)
 
 
@@ -154,14 +154,14 @@ class Texts:
         return f'T{turn.thread} {turn.pc:08x} {turn.word:08x} {text:<26} {cycle.outcome()}'
 
     def learn(self, line: str, cycle: Cycle) -> None:
-        """Takes an instruction's text from its columns, which start behind the word."""
+        """Takes an instruction's text from its columns, which start after the word."""
         at = 46 + len('T0 00000000 00000000 ')
         if cycle.turn.kind == Kind.ISSUE:
             self.of.setdefault((cycle.turn.pc, cycle.turn.word), line[at:at + 26].rstrip())
 
 
 Wrong = Iterator[tuple[str, str]]
-"""What differs: where, and how."""
+"""A difference: its place, and both values."""
 
 
 def differs(where: str, is_: object, wanted: object) -> Wrong:
@@ -277,7 +277,7 @@ def wrong_vcd(shown: str, window: Window, texts: Texts) -> Wrong:
 
 @dataclass
 class Logged:
-    """What a log says of a turn."""
+    """A turn in a log."""
     thread: str
     texts: dict[str, str] = field(default_factory=dict)
     stages: dict[str, int] = field(default_factory=dict)
@@ -304,7 +304,7 @@ def read_log(text: str) -> tuple[list[Logged], int]:
 
 
 def logged(cycle: Cycle, window: Window, texts: Texts) -> Logged:
-    """What a log has to say of a cycle's turn."""
+    """The expected entries of a log for a cycle's turn."""
     flushed = cycle.is_flushed()
     stages = {name: cycle.number + k for k, name in enumerate(STAGES[:2] if flushed else STAGES) if cycle.number + k < window.end}
     end = cycle.number + (2 if flushed else 5)

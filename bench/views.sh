@@ -1,7 +1,7 @@
 #!/usr/bin/env bash
-# Whether the view writes what is stored of the examples: the lines and the picture of docs/VIEW.md, a value change dump and
-# a log for Konata; whether the logs of all examples keep the format's rules, and their pictures those of XML; and what the
-# script ./flexpret-view and tools/fp_view add. FLEXPRET_VIEW names the program, if it isn't the one that ./flexpret-view builds.
+# Compares the view with the stored files of the examples: the lines and the picture of docs/VIEW.md, a value change dump and a log
+# for Konata. Checks the logs of all examples against the rules of the format, and their pictures as XML. Checks also the additions of
+# ./flexpret-view and tools/fp_view. FLEXPRET_VIEW names the program, if it isn't the one that ./flexpret-view builds.
 set -u
 cd "$(dirname "${BASH_SOURCE[0]}")/.." || exit 1
 view=$(readlink -f "${FLEXPRET_VIEW:-crates/flexpret_view/out/flexpret_view}")
@@ -10,13 +10,13 @@ work=$(mktemp -d)
 trap 'rm -rf "$work"' EXIT
 failed=0
 
-# Says what isn't as it should be.
+# Reports a difference.
 wrong() {
     echo "bench/views.sh: $*" >&2
     failed=1
 }
 
-# Compares a view with a file, after the words that ask for it.
+# shows FILE ARGUMENT..: compares the view of these arguments with a file.
 shows() {
     local file=$1
     shift
@@ -28,7 +28,7 @@ shows examples/slots.konata examples/slots.toml --from 3 --to 20 --konata -
 shows docs/drive.svg examples/drive.toml --from 0 --to 80 --svg -
 shows <(sed -n '/^    \$ .*turns .*sleep.toml/,/^$/{/^    \$/d; /^$/d; s/^    //p}' docs/VIEW.md) examples/sleep.toml --from 4 --to 13
 
-# Compares the line of a view that is refused for its words.
+# refuses LINE ARGUMENT..: compares the line about wrong arguments.
 refuses() {
     local line=$1 said
     shift
@@ -60,7 +60,7 @@ for name in sys.argv[1:]:
         sys.exit(f"{name}: no cell has a title that tells its cycle")
 END
 
-# The script, by a link, beside a program that is as new as the sources: it builds nothing.
+# The script, by a link, with a program of the current sources: it builds nothing.
 mkdir -p "$work/top/crates/flexpret_view/out" "$work/top/tools" "$work/bin"
 cp flexpret-view crates.txt "$work/top"
 cp -R tools/launch.bash tools/fp_launch tools/fplaunch tools/fptools "$work/top/tools"
@@ -81,12 +81,12 @@ chmod +x "$work/bin/rt"
 ln -s "$work/top/flexpret-view" "$work/view"
 export PATH=$work/bin:$PATH
 
-# Two windows, of which the first has the cycle after which a line tells how far the run is; and that line, until it is gone.
+# Two windows. The first has cycle 1048576, after which the line of the progress is shown. `told` is that line and its removal.
 here=(turns examples/drive.toml --from 1048570 --to 1048580)
 behind=(turns examples/drive.toml --from 1048580 --to 1048590)
 told() { printf '\rflexpret_view: 99 %%, cycle 1048576 of %s\r%60s\r' "$1" ''; }
 
-# What a terminal gets where the script is called there, with words of the shell; an end of a line as \r.
+# gets OUTPUT WORD..: compares the output of the script on a terminal, called with words of the shell. Each line ends with \r.
 gets() {
     local wanted=$1 shown
     shift

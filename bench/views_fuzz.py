@@ -2,11 +2,11 @@
 """Compares each form of `flexpret_view` with the executable model of model/ and with the proved program.
 
 Setups with images are drawn at random, a third of them with much use of ports and moments, a third with words of any bits as
-code. Of each the model says what every cycle holds, and a few windows of each form are read back and compared with that: the
+code. For each the model computes the state of every cycle, and a few windows of each form are read back and compared with it: the
 text line by line, a value change dump signal by signal at each cycle, a log for Konata by the rules of kanata.py and turn by
-turn, a picture cell by cell. Of the proved program `run`, `phases` and `dump` at some cycles are compared with the same, and the
-instructions' texts must assemble to their words. Where GTKWave's vcd2fst is installed, it reads some dumps too. Setup N of a
-seed is always the same, so --only N shows one again. The gate makes a short call. The status is 1 where something differs."""
+turn, a picture cell by cell. The proved program's `run`, `phases` and `dump` at some cycles are compared with the same, and the
+instructions' texts must assemble to their words. If GTKWave's vcd2fst is installed, it reads some dumps too. Setup N of a
+seed is always the same, so --only N repeats one. The gate makes a short call. The status is 1 if something differs."""
 from __future__ import annotations
 
 import argparse
@@ -72,7 +72,7 @@ class WildWorld(DrawnWorld):
 
 
 KINDS: list[type[DrawnWorld]] = [DrawnWorld, BusyWorld, WildWorld]
-"""What is drawn, in turns."""
+"""The kinds of setups, drawn in turn."""
 
 
 # ---------------------------------------------------------------- the programs
@@ -123,7 +123,7 @@ def stage_line(cycles: Sequence[Cycle], number: int) -> str:
 
 
 def wrong_dump(programs: Programs, run: Run, number: int) -> Wrong:
-    """A dump at the start of a cycle: the turns before it, and what is held then."""
+    """A dump at the start of a cycle: the turns before it, and the state."""
     fields = dict(line.split(' ', 1) for line in programs.lines('dump', number) if line[0] not in 'T[')
     stages = [stage_line(run.cycles, number - k) for k in range(1, 6)]
     stages[0] = stages[0][:2]
@@ -150,7 +150,7 @@ def has_text(pc: int, word: int) -> bool:
 
 
 def moved(text: str, distance: int) -> str:
-    """The text of an instruction that stands so many bytes before, and leads to so many before."""
+    """The text of an instruction that is placed `distance` bytes lower, with its target as many bytes lower."""
     name, _, operands = text.partition(' ')
     if name not in ('jal', 'beq', 'bne', 'blt', 'bge', 'bltu', 'bgeu'):
         return text
@@ -185,7 +185,7 @@ def wrong_texts(programs: Programs, texts: Texts) -> Wrong:
 
 
 def fst_values(programs: Programs, text: str) -> str:
-    """A dump as GTKWave's tools give it back."""
+    """A dump after a conversion by GTKWave's tools and back."""
     (programs.folder / 'a.vcd').write_text(text)
     subprocess.run(['vcd2fst', 'a.vcd', 'a.fst'], cwd=programs.folder, check=True, capture_output=True)
     return subprocess.run(['fst2vcd', 'a.fst'], cwd=programs.folder, check=True, capture_output=True, text=True).stdout
@@ -213,7 +213,7 @@ def padded(name: str, value: str) -> str:
 
 @dataclass
 class Tally:
-    """What was compared, and what differs."""
+    """The counts of comparisons, and the differences."""
     compared: Counter[str] = field(default_factory=Counter)
     different: Counter[str] = field(default_factory=Counter)
     first: dict[str, str] = field(default_factory=dict)
@@ -237,7 +237,7 @@ def windows(chance: random.Random, cycles: Sequence[Cycle], period: int) -> Iter
 
 
 def kind_of(cycle: Cycle) -> str:
-    """What a cycle is counted as."""
+    """The kind by which a cycle is counted."""
     if cycle.thread() is None:
         return 'idle'
     kind = 'flushed' if cycle.is_flushed() else cycle.outcome().split()[0]
@@ -246,7 +246,7 @@ def kind_of(cycle: Cycle) -> str:
 
 
 class Fuzz:
-    """Draws setups, and compares what is shown of them."""
+    """Draws setups, and compares their views."""
 
     def __init__(self, seed: int, programs: Programs, with_fst: bool) -> None:
         self.seed, self.programs, self.with_fst = seed, programs, with_fst

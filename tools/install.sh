@@ -32,7 +32,7 @@ put() {
     install -D -m 644 "$tools/flexpret.bash" "$prefix/share/bash-completion/completions/$3"
 }
 
-# The tools that the scripts call, and the schemas that these read.
+# The tools that the scripts call, the schemas that they read, and the modules of the model that they import.
 put_tools() {
     local file
     for file in "$tools"/fp* "$tools"/launch.bash "$tools"/*.schema.json; do
@@ -40,6 +40,9 @@ put_tools() {
     done
     for file in "$tools"/fplaunch/*.py "$tools"/fptools/{,html/}*.py "$tools"/fptools/html/templates/*; do
         install -D -m 644 "$file" "$home/tools/${file#"$tools/"}"
+    done
+    for file in "$top"/model/*.py; do
+        install -D -m 644 "$file" "$home/model/${file##*/}"
     done
 }
 

@@ -1,11 +1,11 @@
 # shellcheck shell=bash disable=SC2034
-# What ./flexpret and ./flexpret-view share. Each reads this file, and calls `launches` first.
+# The common part of ./flexpret and ./flexpret-view. Each sources this file, and calls `launches` first.
 
-# The status where the program isn't the one that answers.
+# The status if the result isn't the program's.
 readonly NOT_BUILT=125
 
-# launches SCRIPT CRATE VARIABLE: where the crate's program is, and what lies beside it, from the script's whole name. The variable may name
-# another program.
+# launches SCRIPT CRATE VARIABLE: sets the places of the crate's program and of its records, from the script's full name. The variable may
+# name another program.
 launches() {
     self=$1 script=${1##*/} top=${1%/*} crate=$2 variable=$3
     out=$top/crates/$crate/out
@@ -15,7 +15,7 @@ launches() {
     unproved='' status=0
 }
 
-# A line of the script itself, on standard error.
+# Prints a line of the script on standard error.
 say() {
     printf '%s: %s\n' "$script" "$*" >&2 2>/dev/null
 }
@@ -26,47 +26,59 @@ stop() {
     exit "$1"
 }
 
-# run_python FILE ARGUMENT..: runs a file that needs Python's standard library alone.
+# run_python FILE ARGUMENT..: runs a file that only needs Python's standard library.
 run_python() {
     local python=/usr/bin/python3
     [ -x $python ] || python=python3
     FLEXPRET_QUIET=$quiet "$python" -S "$@"
 }
 
-# helper COMMAND ARGUMENT..: what the scripts leave to Python.
+# helper COMMAND ARGUMENT..: runs a part of the scripts that is written in Python.
 helper() {
     run_python "$top/tools/fp_launch" "$script" "$crate" "$@"
 }
 
-# The first Python that has the packages of the tools.
+# Prints the Python that runs the tools: the first one with all of their packages, else the first one that is new enough.
 tools_python() {
-    local python
+    local python found=''
     for python in python3 /usr/bin/python3; do
         "$python" -c 'import importlib.util, sys
-sys.exit(not all(map(importlib.util.find_spec, ("elftools", "jsonschema"))))' 2>/dev/null && break
-        python=python3
+sys.exit(4 if sys.version_info < (3, 11) else 0 if all(map(importlib.util.find_spec, ("elftools", "jsonschema", "networkx"))) else 3)' 2>/dev/null
+        case $? in
+        0)
+            found=$python
+            break
+            ;;
+        3) found=${found:-$python} ;;
+        esac
     done
-    echo "$python"
+    echo "${found:-python3}"
 }
 
-# tool NAME ARGUMENT..: calls a tool of tools/, which asks this program if it asks one.
+# tool NAME ARGUMENT..: calls a tool of tools/ with this program, for those that run one. A tool without its packages ends with NOT_BUILT.
 tool() {
     [ -x "$top/tools/$1" ] || stop "$NOT_BUILT" "tools/$1 isn't there"
-    env "$variable=$program" "$(tools_python)" "$top/tools/$1" "${@:2}"
+    env "$variable=$program" FLEXPRET_NOT_STARTED=$NOT_BUILT "$(tools_python)" "$top/tools/$1" "${@:2}"
 }
 
-# options ARGUMENT..: takes the script's own options in front of the command, and --quiet behind it too. The rest is `given`.
+# name_program FILE: the value of --use, once.
+name_program() {
+    [ -z "$used" ] || stop 2 '--use is given 2 times'
+    [ -n "$1" ] || stop 2 '--use: FILE is missing, the program to be used'
+    used=$1
+}
+
+# options ARGUMENT..: takes the script's options before the command, and --quiet also after it. The rest is `given`.
 options() {
     while [ $# -gt 0 ]; do
         case $1 in
         --quiet) quiet=1 ;;
         --unproved) unproved=1 ;;
         --use)
-            [ $# -gt 1 ] || stop 2 '--use: FILE is missing, the program to be used'
-            used=$2
+            name_program "${2-}"
             shift
             ;;
-        --use=*) used=${1#*=} ;;
+        --use=*) name_program "${1#*=}" ;;
         --version) version ;;
         --help | -h | help) help ;;
         *) break ;;
@@ -96,8 +108,8 @@ list_times() {
     (cd "$top" && exec find -files0-from "$names" -maxdepth 0 -printf '%s %T@\n' 2>/dev/null)
 }
 
-# Whether the program is that of the sources that are there. Where a size or time isn't that of the last call, the helper reads the stamp
-# beside the program, with the checksums, and notes the new times.
+# Whether the program was built from the current sources. If a size or time differs from the last call, the helper compares the checksums
+# in the stamp of the program, and records the new times.
 is_built() {
     [ -x "$program" ] || return
     [ ! -e "$top/installed" ] || return 0
@@ -105,14 +117,14 @@ is_built() {
     helper is-built
 }
 
-# Chooses the program that --use or the variable names, unless that is this script.
+# Chooses the program that --use or the variable names, unless it is this script.
 choose_program() {
     local named=${!variable-}
     if [ -z "$used" ] && [ -n "$named" ] && ! [ "$named" -ef "$self" ]; then used=$named; fi
     [ -z "$used" ] || use "$used"
 }
 
-# Builds the program, where there is none of these sources. Arguments that the program would refuse build nothing.
+# Builds the program, if there is none of the current sources. Wrong arguments build nothing.
 need_program() {
     if [ -z "$used" ] && ! is_built; then
         [ ! -e "$top/installed" ] || stop "$NOT_BUILT" "$program isn't there: install it again"
@@ -121,7 +133,7 @@ need_program() {
     fi
 }
 
-# use FILE: takes a program that was built elsewhere, and says for which sources.
+# use FILE: takes a program that was built elsewhere, and prints the commit of its sources.
 use() {
     local line='' commit='no record says from which sources it was built' kit=''
     program=$(readlink -f -- "$1")
@@ -137,7 +149,7 @@ use() {
     [ -n "$quiet" ] || say "using $1: $commit"
 }
 
-# run ARGUMENT..: runs the program, which ends with this script. Standard error is kept in `said`: it gets one line at the end.
+# run ARGUMENT..: runs the program, which ends with this script. Its standard error is at most one line, which `said` keeps.
 run() {
     if [ -e /dev/fd/1 ]; then
         { said=$(exec setpriv --pdeathsig TERM -- "$program" "$@" 2>&1 >&3 3>&-); } 3>&1
@@ -147,12 +159,12 @@ run() {
     status=$?
 }
 
-# Passes on what the program wrote to standard error.
+# Prints the standard error of the program.
 pass_on() {
     [ -z "$said" ] || printf '%s\n' "$said" >&2 2>/dev/null
 }
 
-# explain ARGUMENT..: says which argument is wrong, and ends with status 2. Where none is it returns.
+# explain ARGUMENT..: if an argument is wrong, prints it and ends with status 2.
 explain() {
     helper explain "$@"
     [ $? -ne 2 ] || exit 2

@@ -1,1 +1,1 @@
-"""What the scripts ./flexpret and ./flexpret-view leave to Python. It needs the standard library alone."""
+"""The parts of the scripts ./flexpret and ./flexpret-view that are written in Python. They only need the standard library."""

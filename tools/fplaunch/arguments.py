@@ -1,12 +1,12 @@
-"""The command line of the program: which argument is wrong, what is allowed there, and which files it names.
+"""The command line of the program: the wrong argument, the allowed values, and the files that it names.
 
-The rules are those of `read_words` in the crate ask_words; the tests compare both over the rows of the gate."""
+The rules are those of `read_words` in the crate ask_words; the tests compare both on the rows of the gate."""
 from __future__ import annotations
 
 import difflib
 import re
 from dataclasses import dataclass, field
-from typing import Callable, Iterator
+from typing import Callable, Iterator, Sequence
 
 MOST_CYCLES = 4_000_000_000
 """The most cycles of a run."""
@@ -20,7 +20,7 @@ MOST_NUMBER = (1 << 32) - 1
 
 @dataclass(frozen=True)
 class Command:
-    """A command: how its file or number is called, and its options, each of which is needed once."""
+    """A command: the name of its file or number in messages, and its options. Each option is required once."""
 
     subject: str
     options: tuple[str, ...] = ()
@@ -38,13 +38,22 @@ COMMANDS = {
     "elf": Command("FILE"),
     "selfrun": Command("NUMBER"),
 }
+ALL_COMMANDS = (*COMMANDS, "disasm")
+"""The commands of the script: those of the program, and one that a tool runs."""
+
+ADDED = {"asm": ("-o", "--listing", "--map"), "elf": ("-o",), "bound": ("--elf", "--map"), "calls": ("--elf", "--map")}
+"""The options that the script adds to a command."""
+
+BEFORE = ("--quiet", "--unproved", "--use", "--version", "--help")
+"""The options of the scripts themselves, which are written before the command."""
+
 VALUES = {"thread": "I", "cycles": "N", "from": "A", "to": "B", "trace": "FILE", "routines": "FILE"}
-"""How the value of an option is called."""
+"""The name of an option's value in messages."""
 
 
 @dataclass
 class Asked:
-    """The words behind a command: what stands without an option, and the values of each option."""
+    """The arguments after a command: those without an option, and the values of each option."""
 
     subjects: list[str] = field(default_factory=list)
     values: dict[str, list[str]] = field(default_factory=dict)
@@ -54,11 +63,11 @@ class Asked:
 
 
 class Fault(Exception):
-    """What is wrong with a command line, in one line."""
+    """The fault of a command line, in one line."""
 
 
 def form(name: str) -> str:
-    """How a command is called."""
+    """The usage of a command."""
     command = COMMANDS[name]
     return " ".join([name, command.subject, *(f"--{option} {VALUES[option]}" for option in command.options)])
 
@@ -72,7 +81,7 @@ def decimal(text: str, most: int) -> int | None:
 
 
 def address(text: str) -> int | None:
-    """An address in decimal, or in hexadecimal behind 0x."""
+    """An address in decimal, or in hexadecimal after 0x."""
     if re.fullmatch("0x[0-9a-fA-F]{1,8}", text):
         return int(text, 16)
     return decimal(text, MOST_NUMBER)
@@ -100,22 +109,22 @@ FAULTS: dict[str, Callable[[str], str | None]] = {
     "from": address_fault,
     "to": address_fault,
 }
-"""What is wrong with the value of an option. Any text is the name of a file."""
+"""A check of an option's value. It returns the fault, or None. Any text is a file name."""
 
 
 def value_fault(name: str, option: str, text: str) -> str | None:
-    """What is wrong with the value of a command's option."""
+    """The fault of the value of a command's option, or None."""
     if name == "check" and option == "cycles":
         is_large = decimal(text, MOST_CYCLES) is not None and decimal(text, MOST_CHECKED) is None
         return f"check compares at most {MOST_CHECKED} cycles" if is_large else cycles_fault(text, MOST_CHECKED)
     return FAULTS.get(option, lambda text: None)(text)
 
 
-# ---------------------------------------------------------------- words
+# ---------------------------------------------------------------- arguments
 
 
 def sort_out(name: str, words: list[str]) -> Asked:
-    """The words behind a command, by what they are; a word without a place is a fault."""
+    """Sorts the arguments after a command. An argument that belongs nowhere raises a Fault."""
     asked = Asked()
     left = iter(words)
     for word in left:
@@ -128,7 +137,7 @@ def sort_out(name: str, words: list[str]) -> Asked:
 
 
 def option_of(name: str, word: str, left: Iterator[str]) -> tuple[str, str]:
-    """The option that a word names, and its value, which may be the next word."""
+    """The option in an argument, and its value, which may be the next argument."""
     options = COMMANDS[name].options
     if not word:
         raise Fault("an argument is empty")
@@ -145,17 +154,29 @@ def option_of(name: str, word: str, left: Iterator[str]) -> tuple[str, str]:
 
 
 def unknown_option(name: str, word: str, option: str) -> str:
-    """What is said of a word that begins with `-` and is no option of the command."""
-    options = COMMANDS[name].options
-    known = f"{name} has the options {' and '.join(f'--{one}' for one in options)}" if options else f"{name} has no options"
+    """The message about an argument that begins with `-` and is no option of the command."""
+    options = [*(f"--{one}" for one in COMMANDS[name].options), *ADDED.get(name, ())]
+    known = f"{name} has the option{'s' * (len(options) > 1)} {listed(options)}" if options else f"{name} has no options"
     if not word.startswith("--"):
         return f"{word}: {known}; a file whose name begins with - is written ./{word}"
-    near = difflib.get_close_matches(option, options, 1)
-    return f"--{option}: {known}" + (f"; is --{near[0]} meant?" if near else "")
+    near = difflib.get_close_matches(f"--{option}", options, 1)
+    return f"--{option}: {known}" + (f"; is {near[0]} meant?" if near else "")
+
+
+def unknown_option_before(word: str) -> str:
+    """The message about an argument before the command that begins with `-` and is no option of the script."""
+    option = word.partition("=")[0]
+    near = difflib.get_close_matches(option, BEFORE, 1)
+    return f"{option}: no such option before the command; these are {listed(BEFORE)}" + (f"; is {near[0]} meant?" if near else "")
+
+
+def listed(names: Sequence[str]) -> str:
+    """Names as a text: `a`, `a and b`, `a, b and c`."""
+    return " and ".join([", ".join(names[:-1]), names[-1]] if len(names) > 1 else names)
 
 
 def check(name: str, asked: Asked) -> None:
-    """Whether each part of a command is there once, with a value that is allowed."""
+    """Raises a Fault unless each part of a command is given once, with an allowed value."""
     command = COMMANDS[name]
     for option, texts in asked.values.items():
         if len(texts) > 1:
@@ -176,7 +197,7 @@ def check(name: str, asked: Asked) -> None:
 
 
 def parse(words: list[str]) -> tuple[str, Asked]:
-    """The command of a command line and its parts. What isn't allowed is a fault."""
+    """The command of a command line, and its parts. A wrong argument raises a Fault."""
     for word in words:
         try:
             word.encode()
@@ -185,9 +206,11 @@ def parse(words: list[str]) -> tuple[str, Asked]:
     if not words:
         raise Fault("no command is named; --help shows them")
     name = words[0]
+    if name.startswith("-"):
+        raise Fault(unknown_option_before(name))
     if name not in COMMANDS:
-        near = difflib.get_close_matches(name, COMMANDS, 1)
-        hint = f"is {near[0]} meant?" if near else f"the commands are {', '.join(COMMANDS)}"
+        near = difflib.get_close_matches(name, ALL_COMMANDS, 1)
+        hint = f"is {near[0]} meant?" if near else f"the commands are {', '.join(ALL_COMMANDS)}"
         raise Fault(f"{name}: no such command; {hint}")
     asked = sort_out(name, words[1:])
     check(name, asked)
@@ -195,7 +218,7 @@ def parse(words: list[str]) -> tuple[str, Asked]:
 
 
 def fault_of(words: list[str]) -> str | None:
-    """What is wrong with a command line, or nothing."""
+    """The fault of a command line, or None."""
     try:
         parse(words)
     except Fault as fault:
@@ -204,7 +227,7 @@ def fault_of(words: list[str]) -> str | None:
 
 
 def files_of(words: list[str]) -> list[tuple[str, str]]:
-    """The files that a command line names, each with what it is. The image of a setup isn't named."""
+    """The files in a command line, each with its kind in words. A setup's image isn't among them."""
     name, asked = parse(words)
     command = COMMANDS[name]
     files = [] if name == "selfrun" else [(asked.subjects[0], command.subject.lower())]

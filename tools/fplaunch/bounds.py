@@ -1,4 +1,4 @@
-"""What a bound leaves out: edges by which the section is left otherwise than by its end, and a number that is 0."""
+"""The warnings about a bound: edges that leave the section other than by its end, and a bound of 0."""
 from __future__ import annotations
 
 from pathlib import Path
@@ -24,7 +24,7 @@ def words_of(image: Path) -> dict[int, int]:
 
 
 def edges(pc: int, word: int) -> list[int]:
-    """Where a thread goes on after a word, as `bound` has it: a call goes on at the called function."""
+    """The successors of a word, as `bound` defines them: the successor of a call is the called function."""
     if is_branch(word):
         return [pc + 4, target(pc, word)]
     if word & 0x7F == JAL:
@@ -33,7 +33,7 @@ def edges(pc: int, word: int) -> list[int]:
 
 
 def reached(words: Mapping[int, int], start: int, end: int) -> list[int]:
-    """The addresses of a section that a thread reaches from its first."""
+    """The addresses of a section that are reachable from its first."""
     found: set[int] = set()
     ahead = [start]
     while ahead:
@@ -45,7 +45,7 @@ def reached(words: Mapping[int, int], start: int, end: int) -> list[int]:
 
 
 def ways_out(words: Mapping[int, int], start: int, end: int) -> Iterator[str]:
-    """A line for each reachable word by which the section is left otherwise than by its end. What has no bound isn't among them."""
+    """A line for each reachable word that leaves the section other than by its end. Words that have no bound aren't among them."""
     for pc in reached(words, start, end):
         word = words.get(pc, 0)
         if word in (ECALL, EBREAK):
@@ -62,7 +62,7 @@ def ways_out(words: Mapping[int, int], start: int, end: int) -> Iterator[str]:
 
 
 def warnings(command: list[str], line: str) -> list[str]:
-    """What is said of a bound that was answered by a line."""
+    """The warnings about a bound, whose line the program wrote."""
     name, asked = parse(command)
     image = image_of(Path(asked.subjects[0]))
     start, end = address(asked.value("from")), address(asked.value("to"))

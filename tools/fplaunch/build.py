@@ -11,12 +11,12 @@ import subprocess
 import sys
 import time
 from concurrent.futures import FIRST_COMPLETED, Future, ThreadPoolExecutor, wait
-from contextlib import ExitStack, contextmanager
+from contextlib import ExitStack, contextmanager, suppress
 from dataclasses import dataclass, field
 from functools import cached_property
 from graphlib import TopologicalSorter
-from threading import Lock
 from pathlib import Path
+from threading import RLock
 from types import FrameType
 from typing import Iterator, TextIO
 
@@ -33,22 +33,22 @@ LOGIC = "dac8208d650f15bf"
 """The logic of the kit that README.md names."""
 
 FIRST_SECONDS, SOURCE_SECONDS, PROOF_SECONDS, LIBRARY_SECONDS, LINK_SECONDS = 10.0, 0.0018, 0.0003, 3.0, 60.0
-"""What a crate takes on a processor of 2.5 GHz: at all, for a byte of src, for one of specs and proofs, for each crate below it, and a program for its
-link."""
+"""The seconds of a crate on a processor of 2.5 GHz: fixed, for a byte of src, for a byte of specs and proofs, for each crate that it uses, and for
+the link of a program."""
 
 SLACK_SECONDS, MOST_NICENESS = 30.0, 15
-"""A proof gets one more point of niceness for so many seconds that its chain is shorter than the longest one, up to a limit."""
+"""The niceness of a proof: one point for each SLACK_SECONDS by which its chain is shorter than the longest one, up to MOST_NICENESS."""
 
 TRIED = {"flexpret_cli": ["asm", "data/loads.s"], "flexpret_view": ["--help"]}
-"""With which arguments a program is called by its build, which `rt run` does."""
+"""The arguments of the call by which `rt run` tries a program at the end of its build."""
 
 
 class NotBuilt(Exception):
-    """Why there is no program, in one line."""
+    """The reason why there is no program, in one line."""
 
 
 def seconds_of(checkout: Checkout, crate: str) -> float:
-    """What the proof of a crate takes, about, by one job on a quiet processor of 2.5 GHz."""
+    """An estimate of a crate's proof: seconds of one job on a quiet processor of 2.5 GHz."""
     folder = checkout.top / "crates" / crate
     seconds = FIRST_SECONDS + LIBRARY_SECONDS * (len(Checkout(checkout.top, crate).crates()) - 1)
     for file in folder.rglob("*"):
@@ -70,7 +70,7 @@ def processors() -> int:
 
 
 def jobs() -> int:
-    """How many crates are proved at once."""
+    """The number of crates that are proved at once."""
     return max(1, min(processors(), free_memory() // NEEDED_MEMORY))
 
 
@@ -81,7 +81,7 @@ def minutes(seconds: float) -> str:
 
 @dataclass
 class Plan:
-    """The crates of a program, and what is left to be proved."""
+    """The crates of a program, and the state of their proofs."""
 
     checkout: Checkout
     at_once: int
@@ -92,20 +92,20 @@ class Plan:
 
     @cached_property
     def below(self) -> dict[str, list[str]]:
-        """For each crate those of the repository that it uses."""
+        """The crates of the repository that each crate uses."""
         libraries = self.checkout.libraries()
         return {crate: [one for one in libraries[crate] if one in libraries] for crate in self.checkout.crates()}
 
     @cached_property
     def weight(self) -> dict[str, float]:
-        """The seconds that each crate takes, about."""
+        """The estimated seconds of each crate, and of the link for the program's own."""
         weight = {crate: seconds_of(self.checkout, crate) for crate in self.below}
         weight[self.checkout.crate] += LINK_SECONDS
         return weight
 
     @cached_property
     def chain(self) -> dict[str, float]:
-        """The seconds from the start of each crate to the end, if all that waits for it is proved one after the other."""
+        """The estimated seconds from the start of each crate to the end, along the longest chain of crates that depend on it."""
         chain: dict[str, float] = {}
         for crate in reversed(list(TopologicalSorter(self.below).static_order())):
             above = [chain[one] for one, uses in self.below.items() if crate in uses]
@@ -113,7 +113,7 @@ class Plan:
         return chain
 
     def left(self) -> float:
-        """The seconds until the program is there, about, by the pace so far."""
+        """The estimated seconds until the program is built, by the pace so far."""
         spent = self.spent()
         longest = max((self.chain[crate] - spent.get(crate, 0.0) for crate in self.ahead()), default=0.0)
         return max(self.share_left(), longest) * self.pace()
@@ -123,18 +123,19 @@ class Plan:
         return [crate for crate in self.below if crate not in self.done]
 
     def spent(self) -> dict[str, float]:
-        """The seconds that the running proofs took so far, at most those that they take, about."""
+        """The seconds that each running proof took so far, at most its estimate."""
         now = time.monotonic()
         return {crate: min(now - since, self.weight[crate]) for crate, since in self.running.items()}
 
     def share_left(self) -> float:
-        """The seconds of each processor, about, if none has to wait."""
+        """The estimated seconds left for each processor, if none has to wait."""
         spent = self.spent()
         return sum(self.weight[crate] - spent.get(crate, 0.0) for crate in self.ahead()) / self.at_once
 
     def jobs_of(self, crate: str, waiting: int) -> int:
-        """By how many jobs a crate is proved, with so many others that run or could. It gets a second one where the chain that waits for it takes longer
-        than all processors have work, and memory allows. The program's own crate has few functions, and each job reads all that it uses: it gets one."""
+        """The number of jobs for a crate, while `waiting` others run or are ready. A crate gets a second job if the chain that depends on it takes longer
+        than the remaining work of each processor, and memory allows it. The program's own crate gets one: it has few functions, and each job reads all
+        crates below."""
         if crate == self.checkout.crate:
             return 1
         fair = max(1, self.at_once // (waiting + 1))
@@ -142,19 +143,19 @@ class Plan:
         return max(fair, 2) if self.at_once > 1 and is_last else fair
 
     def niceness(self, crate: str) -> int:
-        """How far the proof of a crate yields the processors to others: 0 for the crate that the longest chain begins with."""
+        """The niceness of a crate's proof: 0 for the crate at the start of the longest chain."""
         longest = max(self.chain[one] for one in self.ahead())
         return min(MOST_NICENESS, int((longest - self.chain[crate]) / SLACK_SECONDS))
 
     def pace(self) -> float:
-        """How much longer crates take here than on a quiet processor of 2.5 GHz. A crate that was quick had been proved before."""
+        """The time of crates here, relative to a quiet processor of 2.5 GHz. Crates that took less than FIRST_SECONDS had been proved before."""
         proved = [crate for crate, took in self.done.items() if took > FIRST_SECONDS]
         known = sum(self.weight[crate] for crate in proved)
         return sum(self.done[crate] for crate in proved) / known if known else 1.0
 
 
 class Progress:
-    """Lines on standard error: one that is renewed on a terminal, else one for each crate that is proved."""
+    """Progress on standard error: one line that is rewritten on a terminal, else a line for each crate that is proved."""
 
     def __init__(self, script: str, plan: Plan, quiet: bool) -> None:
         self.script, self.plan, self.quiet = script, plan, quiet
@@ -182,14 +183,14 @@ class Builder:
 
     def __init__(self, plan: Plan, log: TextIO) -> None:
         self.plan, self.log = plan, log
-        self.lock = Lock()
+        self.lock = RLock()
         self.children: set[subprocess.Popen[str]] = set()
         self.stopped = False
         self.hold = ExitStack()
         """Keeps `rt ci` out of the checkout until the crates below the program are proved."""
 
     def call(self, top: Path, crate: str, niceness: int, words: list[str]) -> None:
-        """Calls `rt` in a crate's folder below a top; what it writes goes to the log. A failure is an error with its last line."""
+        """Calls `rt` in a crate's folder below `top`, and appends its output to the log. A failure raises NotBuilt with its last line."""
         with self.lock:
             if self.stopped:
                 raise NotBuilt("broken off")
@@ -208,7 +209,7 @@ class Builder:
             raise NotBuilt(why_not(crate, said, child.returncode))
 
     def prove(self, crate: str, niceness: int, count: int) -> None:
-        """Proves a crate by so many jobs; the program's own is linked too, and called once."""
+        """Proves a crate by `count` jobs. The program's own crate is also linked, and its program called once."""
         flags, checkout = ["--jobs", str(count)], self.plan.checkout
         if crate == checkout.crate:
             self.hold.close()
@@ -218,14 +219,15 @@ class Builder:
                 self.call(top, crate, niceness, ["lib", *flags])
 
     def stop(self) -> None:
-        """Ends what runs."""
+        """Ends the running proofs. A signal may call this while the main thread is already in it: the lock is reentrant."""
         with self.lock:
             self.stopped = True
             for child in self.children:
-                os.killpg(child.pid, signal.SIGTERM)
+                with suppress(ProcessLookupError):  # it has just ended
+                    os.killpg(child.pid, signal.SIGTERM)
 
     def build(self, progress: Progress) -> None:
-        """Proves all crates of the plan, each behind those that it uses, the longest chain first."""
+        """Proves all crates of the plan, each after those that it uses, the longest chain first."""
         plan = self.plan
         order = TopologicalSorter(plan.below)
         order.prepare()
@@ -257,7 +259,7 @@ class Builder:
 
 
 def why_not(crate: str, said: str, status: int) -> str:
-    """Why `rt` failed over a crate, in one line."""
+    """The reason why `rt` failed on a crate, in one line."""
     if "No space left on device" in said or "the disk is full" in said:
         return f"the disk is full: {crate} can't be proved"
     lines = [line for line in said.splitlines() if "error" in line or line.startswith("rt: ")]
@@ -270,7 +272,7 @@ def why_not(crate: str, said: str, status: int) -> str:
 
 @contextmanager
 def in_turn(script: str, checkout: Checkout, quiet: bool) -> Iterator[bool]:
-    """Waits while another call builds in this checkout, and gives whether it had to."""
+    """Waits while another call builds in this checkout. The value is whether it had to wait."""
     with open(checkout.top / "crates.txt") as held:
         waited = False
         try:
@@ -286,7 +288,7 @@ def in_turn(script: str, checkout: Checkout, quiet: bool) -> Iterator[bool]:
 
 
 def first_line(checkout: Checkout, plan: Plan) -> str:
-    """What a build says when it begins."""
+    """The first message of a build."""
     return (
         f"the program isn't built yet: {len(plan.below)} crates are proved first, in about {minutes(plan.left())};"
         " for an answer now: --unproved, or python3 -m model"
@@ -294,7 +296,7 @@ def first_line(checkout: Checkout, plan: Plan) -> str:
 
 
 def look_ahead(checkout: Checkout) -> None:
-    """What stands in the way of a build before it begins."""
+    """Raises NotBuilt if a build can't succeed: no `rt`, no folder, no space on the disk."""
     if shutil.which("rt") is None:
         raise NotBuilt("the program isn't built, and rt of the kit that README.md names isn't on the PATH")
     try:
@@ -309,12 +311,12 @@ def look_ahead(checkout: Checkout) -> None:
 
 
 def other_kit(kit: str) -> str:
-    """What is said of a kit that isn't the one that README.md names."""
+    """A remark about a kit that isn't the one in README.md, else nothing."""
     return "" if LOGIC in kit else f" (the kit is {kit}; README.md names one with logic {LOGIC})"
 
 
 def build(script: str, checkout: Checkout, quiet: bool) -> None:
-    """Builds the program, unless another call has done so meanwhile."""
+    """Builds the program, unless another call has built it in the meantime."""
     look_ahead(checkout)
     with in_turn(script, checkout, quiet) as waited:
         if waited and checkout.is_built():
@@ -336,7 +338,7 @@ def build(script: str, checkout: Checkout, quiet: bool) -> None:
 
 
 def run_builder(builder: Builder, progress: Progress) -> None:
-    """Builds; a signal ends what runs, and the next call goes on behind the crates that are proved."""
+    """Builds. A signal ends the running proofs; the next call continues after the crates that are proved."""
 
     def end(number: int, frame: FrameType | None) -> None:
         builder.stop()

@@ -1,4 +1,4 @@
-"""What is said of the files of a command when one of them can't be read."""
+"""The messages about a command's files if one of them can't be read."""
 from __future__ import annotations
 
 import os
@@ -21,7 +21,7 @@ def state_of(name: str) -> str:
 
 
 def missing(path: Path) -> str:
-    """That a file isn't there, or the first folder of its name that isn't."""
+    """The message that a file isn't there, or the first folder of its path that isn't."""
     for folder in reversed(path.parents):
         if not folder.exists():
             return f"isn't there: there is no folder {folder}"
@@ -29,7 +29,7 @@ def missing(path: Path) -> str:
 
 
 def lines(files: list[tuple[str, str]]) -> list[str]:
-    """A line for each file that can't be read, or for all where each is there; and one for an image that lies next to its setup."""
+    """A line for each file that can't be read, or for all files if each is there; and a line for an image that is next to its setup."""
     told = [(name, what, state_of(name)) for name, what in files]
     for name, what, _ in list(told):
         image = image_of(Path(name)) if what == "setup" else None

@@ -10,7 +10,7 @@ from fplaunch.sources import Checkout, kit_line, read_stamp
 # The other modules are imported by the commands that need them, since each call waits for its imports.
 
 NOT_BUILT = 125
-"""The status where the program isn't the one that answers."""
+"""The status if the result isn't the program's."""
 
 
 def say(script: str, line: str) -> None:
@@ -18,7 +18,7 @@ def say(script: str, line: str) -> None:
 
 
 def is_built(script: str, checkout: Checkout, words: list[str]) -> int:
-    """Status 0 where the program was built from these sources, else 1."""
+    """Status 0 if the program was built from the current sources, else 1."""
     return 0 if checkout.is_built() else 1
 
 
@@ -36,7 +36,7 @@ def build(script: str, checkout: Checkout, words: list[str]) -> int:
 
 
 def unproved(script: str, checkout: Checkout, words: list[str]) -> int:
-    """Answers the program's arguments by `rt try`."""
+    """Runs the program without a proof, by `rt try`."""
     from fplaunch.build import NotBuilt
     from fplaunch.unproved import run
 
@@ -48,7 +48,7 @@ def unproved(script: str, checkout: Checkout, words: list[str]) -> int:
 
 
 def explain(script: str, checkout: Checkout, words: list[str]) -> int:
-    """Says what is wrong with arguments, with status 2; status 0 where nothing is."""
+    """Reports a wrong argument, with status 2. Status 0: there is none."""
     from fplaunch.arguments import fault_of
     from fplaunch.view import fault_of as view_fault
 
@@ -60,7 +60,7 @@ def explain(script: str, checkout: Checkout, words: list[str]) -> int:
 
 
 def files(script: str, checkout: Checkout, words: list[str]) -> int:
-    """Says which file of a command can't be read."""
+    """Reports the file of a command that can't be read."""
     from fplaunch.arguments import Fault, files_of
     from fplaunch.files import lines
     from fplaunch.view import setup_of
@@ -75,7 +75,7 @@ def files(script: str, checkout: Checkout, words: list[str]) -> int:
 
 
 def warn(script: str, checkout: Checkout, words: list[str]) -> int:
-    """Says what the number of a `bound` leaves out: the number's line, and then the command."""
+    """Prints the warnings about a bound. The arguments are its line and then the command."""
     from fplaunch.arguments import Fault
     from fplaunch.bounds import warnings
 
@@ -99,12 +99,13 @@ def option(script: str, checkout: Checkout, words: list[str]) -> int:
 
 
 def version(script: str, checkout: Checkout, words: list[str]) -> int:
-    """Prints what is known of a program: that of the checkout, or a file."""
+    """Prints commit and kit of a program: the checkout's, or a file."""
     program = Path(words[0]) if words else checkout.program
+    is_current = bool(words) or (checkout.top / "installed").exists() or checkout.is_built()
     stamp = read_stamp(Path(f"{program}.sources") if words else checkout.stamp)
     if not program.is_file():
         print(f"{script}: not built")
-    elif stamp is None or not (words or (checkout.top / "installed").exists() or checkout.is_built()):
+    elif stamp is None or not is_current:
         print(f"{script}: {program}: no record says from which sources it was built")
     else:
         print(f"{script}: commit {stamp.commit}, {stamp.kit}, proved: {program}")

@@ -1,19 +1,19 @@
-"""Whether a section of code is surely left by its end alone: plain_section.py SETUP FROM TO. Status 0: it is, 1: ask further.
+"""Whether a section of code can only be left by its end: plain_section.py SETUP FROM TO. Status 0: yes, 1: unknown.
 
-`./flexpret bound` calls this behind each answer, so it imports nothing but sys, and says 1 at whatever isn't plain: a setup whose image
+`./flexpret bound` calls this after each result, so it imports only sys. The status is 1 for all that isn't plain: a setup whose image
 isn't a plain string, a word that isn't in the image, a call, an indirect jump, a trap, a wait, a jump to another address."""
 import sys
 
 PLAIN = {0x03: (0, 1, 2, 4, 5), 0x0F: (0, 1), 0x13: (0, 1, 2, 3, 4, 5, 6, 7), 0x23: (0, 1, 2), 0x33: (0, 1, 2, 3, 4, 5, 6, 7),
          0x73: (1, 2, 3, 5, 6, 7)}  # fmt: skip
-"""The opcodes, each with its values of funct3, after which a thread goes on at the next word."""
+"""The opcodes whose only successor is the next word, each with its values of funct3."""
 
 UPPER = (0x17, 0x37)
 BRANCH, JAL, REGISTERS, IMMEDIATE, TIMING = 0x63, 0x6F, 0x33, 0x13, 0x0B
 ECALL, EBREAK = 0x0000_0073, 0x0010_0073
 
 TIMING_NEXT = {0: 0xFFFF_F07F, 1: 0xFFFF_F07F, 4: 0xFE00_7FFF, 5: 0xFFFF_FFFF}
-"""The timing instructions after which a thread goes on at once, by funct3: the bits that are fixed."""
+"""The timing instructions that don't wait, by funct3, each with the mask of its fixed bits."""
 
 
 def image_of(setup: str) -> str:
@@ -30,7 +30,7 @@ def image_of(setup: str) -> str:
 
 
 def words_in(image: str, start: int, end: int) -> list[int]:
-    """The words from one address up to below another, all of which are in one segment of an image."""
+    """The words from `start` up to but not including `end`. All must be in one segment of the image."""
     with open(image, "rb") as file:
         data = file.read()
     offset = 8
@@ -45,7 +45,7 @@ def words_in(image: str, start: int, end: int) -> list[int]:
 
 
 def is_shift_or_register(word: int, opcode: int, funct3: int) -> bool:
-    """Whether the upper bits of a word are those of an instruction."""
+    """Whether the funct7 field is that of an instruction of OP or OP-IMM."""
     funct7 = word >> 25
     if opcode == REGISTERS:
         return funct7 in (0, 1) or (funct7 == 0x20 and funct3 in (0, 5))
@@ -53,7 +53,7 @@ def is_shift_or_register(word: int, opcode: int, funct3: int) -> bool:
 
 
 def target(pc: int, word: int) -> int:
-    """Where a branch or a jump goes."""
+    """The target of a branch or a jump."""
     if word & 0x7F == JAL:
         offset = (word >> 21 & 0x3FF) << 1 | (word >> 20 & 1) << 11 | (word >> 12 & 0xFF) << 12
         return pc + offset - (word >> 31 << 20)
@@ -62,7 +62,7 @@ def target(pc: int, word: int) -> int:
 
 
 def goes_on(word: int) -> bool:
-    """Whether a word is an instruction after which a thread goes on at the next word, and nowhere else."""
+    """Whether a word is an instruction whose only successor is the next word."""
     opcode, funct3 = word & 0x7F, word >> 12 & 7
     if opcode in (REGISTERS, IMMEDIATE) and not is_shift_or_register(word, opcode, funct3):
         return False
@@ -76,19 +76,19 @@ def is_branch(word: int) -> bool:
 
 
 def is_call(word: int) -> bool:
-    """Whether a word is a jump that keeps the address of the next word."""
+    """Whether a word is a jump that writes the address of the next word to a register."""
     return word & 0x7F == JAL and word >> 7 & 31 != 0
 
 
 def stays(pc: int, word: int, start: int, end: int) -> bool:
-    """Whether a thread surely goes on inside the section, or at its end, after a word."""
+    """Whether all successors of a word are in the section or at its end."""
     if is_branch(word) or (word & 0x7F == JAL and not is_call(word)):
         return start <= target(pc, word) <= end and target(pc, word) % 4 == 0
     return goes_on(word)
 
 
 def is_plain(setup: str, start: int, end: int) -> bool:
-    """Whether each word of a section leads to another one or to its end."""
+    """Whether all successors of all words of a section are in it or at its end."""
     words = words_in(image_of(setup), start, end)
     return bool(words) and all(stays(start + 4 * at, word, start, end) for at, word in enumerate(words))
 

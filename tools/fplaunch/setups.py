@@ -6,7 +6,7 @@ from pathlib import Path
 
 
 def image_of(setup: Path) -> str | None:
-    """The name of a setup's image, if the file can be read that far."""
+    """The name of a setup's image, or None if the setup can't be read."""
     try:
         image = tomllib.loads(setup.read_text(encoding="utf-8-sig")).get("image")
     except (OSError, ValueError):

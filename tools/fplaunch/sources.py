@@ -1,7 +1,7 @@
-"""From which sources a program was built, and whether these are the sources that are there.
+"""The sources that a program was built from, and whether they are the current ones.
 
-A stamp lies beside each program, `out/CRATE.sources`: the kit's line, the commit, the program's own size, time and checksum, and
-the same of each source of its crate and of those below. Checksums are only computed where a size or time differs."""
+A stamp is next to each program, `out/CRATE.sources`: the kit's line, the commit, the program's own size, time and checksum, and
+the same for each source of its crate and of those below. Checksums are only computed if a size or time differs."""
 from __future__ import annotations
 
 import contextlib
@@ -16,12 +16,16 @@ PARTS = ("src", "specs", "proofs")
 """The folders of a crate that its proof reads."""
 
 SUFFIXES = (".rt", ".antt")
-"""How the names of sources end."""
+"""The suffixes of sources."""
+
+
+UNRECORDED = "a kit that no record names"
+"""How a stamp names the kit of a program that `rt ci` or `rt run` left."""
 
 
 @dataclass(frozen=True)
 class File:
-    """A file as a stamp has it: its name from the top, bytes, time of change in nanoseconds, and checksum."""
+    """A file in a stamp: its name relative to the top, size in bytes, time of change in nanoseconds, and SHA-256 checksum."""
 
     name: str
     size: int
@@ -34,12 +38,12 @@ class File:
 
 @dataclass(frozen=True)
 class Stamp:
-    """What is known of a built program."""
+    """The record of a built program."""
 
     kit: str
     commit: str
     uses: tuple[str, ...]
-    """The lines of crates.txt of its crate and of those below."""
+    """The lines of crates.txt for its crate and for those below."""
     program: File
     sources: tuple[File, ...]
 
@@ -60,7 +64,7 @@ def file_at(top: Path, name: str) -> File:
 
 
 def read_stamp(path: Path) -> Stamp | None:
-    """A stamp, if it is there and whole."""
+    """A stamp, or None if it is missing or incomplete."""
     head: dict[str, list[str]] = {"kit": [], "commit": [], "crate": []}
     files: dict[str, list[File]] = {"program": [], "source": []}
     try:
@@ -79,7 +83,7 @@ def read_stamp(path: Path) -> Stamp | None:
 
 @dataclass(frozen=True)
 class Checkout:
-    """A repository, and the crate whose program is asked for."""
+    """A repository, and the crate of a program."""
 
     top: Path
     crate: str
@@ -97,7 +101,7 @@ class Checkout:
         return self.out / f"{self.crate}.sources"
 
     def libraries(self) -> dict[str, list[str]]:
-        """Each crate of the repository with the libraries that it uses, as crates.txt has them."""
+        """The libraries that each crate of the repository uses, by crates.txt."""
         found = {}
         for line in (self.top / "crates.txt").read_text().splitlines():
             name, colon, libraries = line.partition("#")[0].partition(":")
@@ -122,11 +126,11 @@ class Checkout:
         return tuple(f"{crate}: {' '.join(libraries.get(crate, []))}".strip() for crate in self.crates())
 
     def folders(self) -> list[str]:
-        """The folders that hold the sources, whether they are there or not."""
+        """The folders of the sources, also those that don't exist."""
         return [f"crates/{crate}/{part}" for crate in self.crates() for part in PARTS]
 
     def names(self) -> list[str]:
-        """The sources, by their names from the top."""
+        """The names of the sources, relative to the top."""
         found = []
         for folder in self.folders():
             for at, _, files in os.walk(self.top / folder):
@@ -134,16 +138,16 @@ class Checkout:
         return sorted(os.path.relpath(name, self.top) for name in found)
 
     def watched(self) -> list[str]:
-        """The program, the list of crates, the sources and their folders: one of these changes if a source does, goes or comes."""
+        """The program, the list of crates, the sources and their folders. One of them changes if a source is changed, removed or added."""
         found = [f"crates/{self.crate}/out/{self.crate}", "crates.txt"]
         for folder in self.folders():
-            # Where there is no such folder, it would come in the nearest one above it.
+            # A folder that doesn't exist would be made in the nearest one above it.
             found += [] if (self.top / folder).is_dir() else [self.nearest(folder)]
             found += [os.path.relpath(at, self.top) for at, _, _ in os.walk(self.top / folder)]
         return [*found, *self.names()]
 
     def nearest(self, folder: str) -> str:
-        """The nearest folder above a missing one, by its name from the top."""
+        """The nearest existing folder above a missing one, relative to the top."""
         above = Path(folder).parent
         while not (self.top / above).is_dir():
             above = above.parent
@@ -152,11 +156,11 @@ class Checkout:
     # ------------------------------------------------------------ stamps
 
     def listed(self) -> tuple[File, ...]:
-        """The sources as they are now, with their checksums."""
+        """The current sources, with their checksums."""
         return tuple(file_at(self.top, name) for name in self.names())
 
     def write_stamp(self, kit: str, sources: tuple[File, ...]) -> None:
-        """Notes from which sources the program was built that is there now."""
+        """Writes the record of the program that is there now: the kit and the sources that it was built from."""
         program = file_at(self.top, str(self.program.relative_to(self.top)))
         stamp = Stamp(kit, commit_of(self.top), self.uses(), program, sources)
         new = self.stamp.with_suffix(".new")
@@ -164,26 +168,26 @@ class Checkout:
         new.replace(self.stamp)
 
     def is_built(self) -> bool:
-        """Whether the program is there and its stamp, or what `rt` left, says that it was built from these sources."""
+        """Whether the program exists and was built from the current sources, by its stamp or by the files that `rt` left."""
         if not os.access(self.program, os.X_OK):
             return False
         watched = self.watched()
         times = "".join(map(self.time_of, watched))
         if not self.has_these_sources():
             return False
-        # In a folder that can't be written each call reads the stamp.
+        # If the folder can't be written, each call reads the stamp.
         with contextlib.suppress(OSError):
             self.out.joinpath(f"{self.crate}.names").write_text("".join(f"{name}\0" for name in watched))
             self.out.joinpath(f"{self.crate}.times").write_text(times)
         return True
 
     def time_of(self, name: str) -> str:
-        """The size and time of a file, as find prints them for '%s %T@\\n'."""
+        """The size and time of a file, in the form of find for '%s %T@\\n'."""
         stat = (self.top / name).stat()
         return f"{stat.st_size} {stat.st_mtime_ns // 10**9}.{stat.st_mtime_ns % 10**9:09d}0\n"
 
     def has_these_sources(self) -> bool:
-        """Whether the program that is there was built from the sources that are there."""
+        """Whether the program was built from the current sources."""
         stamp = read_stamp(self.stamp)
         if stamp is None or not self.is_same(stamp.program):
             return self.adopt()
@@ -192,7 +196,7 @@ class Checkout:
         return all(map(self.is_same, stamp.sources))
 
     def is_same(self, file: File) -> bool:
-        """Whether a file has the content that a stamp has of it."""
+        """Whether a file has the content that its stamp records."""
         try:
             stat = (self.top / file.name).stat()
         except OSError:
@@ -204,36 +208,37 @@ class Checkout:
     # ------------------------------------------------------------ what rt left
 
     def adopt(self) -> bool:
-        """Whether `rt ci` or `rt run` built the program from the sources as they are, where no stamp says so. Then it gets one.
+        """Whether `rt ci` or `rt run` built the program from the current sources. If so, writes the stamp that is missing.
 
-        Both leave a file that is older than the end of their work and newer than its start. No source changed since, if the
-        inode of none did: that time can't be set back, as those of a checkout or a copy can."""
+        Both leave a file that is older than the end of their work and newer than its start. No source has changed since if no
+        inode has: that time can't be set back, unlike those of a checkout or a copy. The kit of that build is recorded nowhere,
+        and another one may have been installed since. So the stamp has UNRECORDED and the kit that is here now."""
         begun = self.begun_by_rt()
         if begun is None or self.last_change() >= begun:
             return False
         with contextlib.suppress(OSError):
-            self.write_stamp(kit_line(), self.listed())
+            self.write_stamp(f"{UNRECORDED} (here now: {kit_line()})", self.listed())
         return True
 
     def begun_by_rt(self) -> int | None:
-        """The time from which on the program's sources are those of a build by `rt`, if the program is of such a build."""
+        """A time in nanoseconds at which the sources were those of the program, or None if `rt` didn't leave it."""
         built = self.program.stat().st_mtime_ns
         try:
-            # `rt run` writes this behind the build, if no source changed while it went on.
+            # `rt run` writes this after the build, if no source changed during it.
             checked = (self.out / f"{self.crate}.stamp").stat().st_mtime_ns
             if built <= checked:
                 return checked
         except OSError:
             pass
         try:
-            # `rt ci` opens this when it begins, and removes all older programs.
+            # `rt ci` opens this at its start, and removes all older programs.
             opened = (git_folder(self.top) / "rt-ci.lock").stat().st_mtime_ns
         except OSError:
             return None
         return opened if opened <= built else None
 
     def last_change(self) -> int:
-        """The last time at which a source, a folder of sources or the list of crates changed, by their inodes."""
+        """The time of the last change of a source, a folder of sources or the list of crates, by their inodes, in nanoseconds."""
         times = [(self.top / "crates.txt").stat().st_ctime_ns]
         for folder in self.folders():
             for at, _, files in os.walk(self.top / folder):
@@ -243,7 +248,7 @@ class Checkout:
 
 
 def git_folder(top: Path) -> Path:
-    """The folder in which git keeps the state of a checkout."""
+    """The folder of git's state of a checkout."""
     git = top / ".git"
     if git.is_file():
         return Path(top, git.read_text().removeprefix("gitdir:").strip())
@@ -251,7 +256,7 @@ def git_folder(top: Path) -> Path:
 
 
 def said_by(words: list[str], top: Path) -> str:
-    """The first line that a command writes, or nothing where it fails."""
+    """The first line of a command's output, or nothing if it fails."""
     try:
         ran = subprocess.run(words, cwd=top, capture_output=True, text=True, check=False)
     except OSError:
@@ -260,7 +265,7 @@ def said_by(words: list[str], top: Path) -> str:
 
 
 def commit_of(top: Path) -> str:
-    """The commit of a checkout, and whether its crates have changes."""
+    """The commit of a checkout, with a remark if its crates have changes."""
     commit = said_by(["git", "rev-parse", "--short=12", "HEAD"], top)
     changes = said_by(["git", "--no-optional-locks", "status", "--porcelain", "--", "crates", "crates.txt"], top)
     return (commit or "unknown") + (" with changes" if commit and changes else "")

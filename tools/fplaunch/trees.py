@@ -1,4 +1,4 @@
-"""A folder of its own for each crate that is proved.
+"""A separate folder for each crate that is proved.
 
 `rt` locks the folders of a crate and of all crates that it uses, so two proofs in one checkout would wait for each other."""
 from __future__ import annotations
@@ -14,12 +14,12 @@ from typing import Iterator
 from fplaunch.sources import PARTS, Checkout
 
 KEPT = ("rlib", "incremental")
-"""The folders of a crate's out that `rt lib` makes: the library, and what a later proof begins with."""
+"""The folders of a crate's out that `rt lib` makes: the library, and the answers that a later proof reuses."""
 
 
 @contextlib.contextmanager
 def locked(folder: Path, waits: str = "") -> Iterator[None]:
-    """Keeps each `rt` out of a crate's folder. Where one works in it, prints a line and waits for its end."""
+    """Locks a crate's folder against `rt`. If one is running in it, prints a line and waits for its end."""
     held = os.open(folder, os.O_RDONLY)
     try:
         with contextlib.suppress(OSError):  # a file system without locks
@@ -35,7 +35,7 @@ def locked(folder: Path, waits: str = "") -> Iterator[None]:
 
 
 def link(source: str, target: str) -> None:
-    """Gives a file a second name, or copies it where that isn't possible."""
+    """Makes a hard link to a file, or copies it if that isn't possible."""
     try:
         os.link(source, target)
     except OSError:
@@ -43,7 +43,7 @@ def link(source: str, target: str) -> None:
 
 
 def fill(tree: Path, checkout: Checkout, crate: str) -> None:
-    """Puts a crate and those that it uses into an empty folder: copies of the sources, and the libraries that are built."""
+    """Fills an empty folder with a crate and those that it uses: copies of the sources, and the libraries that are built."""
     own = Checkout(checkout.top, crate)
     for one in own.crates():
         here, there = checkout.top / "crates" / one, tree / "crates" / one
@@ -58,7 +58,7 @@ def fill(tree: Path, checkout: Checkout, crate: str) -> None:
 
 
 def move(source: Path, target: Path) -> None:
-    """Moves what `rt` keeps of a crate from one folder of the crate to another, in place of what is there."""
+    """Moves the folders in KEPT from one folder of a crate to another, and replaces those there."""
     for part in KEPT:
         if (source / "out" / part).is_dir():
             (target / "out").mkdir(exist_ok=True)
@@ -68,7 +68,7 @@ def move(source: Path, target: Path) -> None:
 
 @contextlib.contextmanager
 def tree_of(checkout: Checkout, crate: str) -> Iterator[Path]:
-    """The top of a folder for the proof of a crate. What the proof leaves, whole or broken off, is moved into the checkout."""
+    """The top of a folder for the proof of a crate. The results of the proof, complete or interrupted, are moved into the checkout."""
     tree = checkout.out / "trees" / crate
     here, there = checkout.top / "crates" / crate, tree / "crates" / crate
     shutil.rmtree(tree, ignore_errors=True)

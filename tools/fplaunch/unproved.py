@@ -1,4 +1,4 @@
-"""An answer without a proof: `rt try` compiles the sources as they are, and runs the program once."""
+"""A run without a proof: `rt try` compiles the current sources, and runs the program once."""
 from __future__ import annotations
 
 import re
@@ -16,10 +16,10 @@ from fplaunch.setups import image_of
 from fplaunch.sources import Checkout
 
 SECONDS = 60
-"""How long `rt try` lets the program run."""
+"""The time limit of `rt try` for the program."""
 
 MOST_OUTPUT = 1 << 20
-"""The bytes of standard output that `rt try` takes."""
+"""The limit of `rt try` for standard output, in bytes."""
 
 ENDED = re.compile(r"^run=ended status=(\d+)", re.MULTILINE)
 OWN_LINE = re.compile(r"^(rt: |checked: |run=|interpreted: |compiled: )")
@@ -28,22 +28,22 @@ OWN_LINE = re.compile(r"^(rt: |checked: |run=|interpreted: |compiled: )")
 
 @dataclass
 class Handed:
-    """The arguments of the program, and the files that are handed over under other names."""
+    """The arguments of the program, and the files that it gets under other names."""
 
     words: list[str] = field(default_factory=list)
     data: dict[str, Path] = field(default_factory=dict)
     folder: Path = Path()
-    """Where copies are made."""
+    """The folder of copies."""
 
     def add(self, file: str) -> str:
-        """Hands a file over, and returns the name that the program gets for it."""
+        """Adds a file, and returns its name for the program."""
         name = f"file{len(self.data)}"
         if Path(file).is_file():
             self.data[name] = Path(file).resolve()
         return name
 
     def add_setup(self, file: str) -> str:
-        """Hands a setup over with its image, whose name in a copy of the setup is the one that the program gets."""
+        """Adds a setup with its image. A copy of the setup has the image's name for the program."""
         image = image_of(Path(file))
         if image is None or not Path(image).is_file():
             return self.add(file)
@@ -58,7 +58,7 @@ class Handed:
 
 
 def hand_over(words: list[str], folder: Path) -> Handed:
-    """The program's arguments, by other names for the files that they name. Each name is once among the words."""
+    """The program's arguments, with other names for the files in them. Each file is named by one argument."""
     files = dict(files_of(words))
     handed = Handed(folder=folder)
     subject_seen = False
@@ -83,7 +83,7 @@ def hand_over(words: list[str], folder: Path) -> Handed:
 
 
 def hand_over_view(words: list[str], folder: Path) -> tuple[Handed, str]:
-    """The same for the view, whose form goes to standard output; and the file that is to get it, or nothing."""
+    """The same for the view. Its form goes to standard output; the second value is the file for it, or nothing."""
     handed, into = Handed(folder=folder), ""
     left = iter(words)
     for word in left:
@@ -101,7 +101,7 @@ def hand_over_view(words: list[str], folder: Path) -> tuple[Handed, str]:
 
 
 def run(script: str, checkout: Checkout, words: list[str]) -> int:
-    """Answers a command line without a proof, and returns the program's status."""
+    """Runs a command line without a proof, and returns the program's status."""
     if not (checkout.top / "crates.txt").is_file():
         raise NotBuilt("--unproved needs the repository, whose sources it compiles")
     if shutil.which("rt") is None:
@@ -120,7 +120,7 @@ def run(script: str, checkout: Checkout, words: list[str]) -> int:
 
 
 def try_program(checkout: Checkout, handed: Handed, out: BinaryIO) -> tuple[int, str]:
-    """Runs `rt try`, and returns the program's status with what standard error got. Without an answer it is an error."""
+    """Runs `rt try`, and returns the program's status and its standard error. If the program doesn't end by itself, raises NotBuilt."""
     data = [word for name, file in handed.data.items() for word in ("--data", f"{name}={file}")]
     ran = subprocess.run(
         ["rt", "try", *data, "--seconds", str(SECONDS), "--", *handed.words], cwd=checkout.top / "crates" / checkout.crate,

@@ -1,10 +1,12 @@
-"""The command line of the view: what is surely wrong with it, before a program is built that would say so."""
+"""The command line of the view: the faults that can be found before the program is built."""
 from __future__ import annotations
 
 from typing import Iterator
 
+from fplaunch.arguments import unknown_option_before as unknown_option
+
 MOST_CYCLE = 3_999_999_997
-"""The last cycle behind a window."""
+"""The largest end of a window, in cycles."""
 
 MOST_COLUMNS = 2000
 """The most cycles of a picture."""
@@ -14,9 +16,11 @@ OPTIONS = {"from": "CYCLE", "to": "CYCLE", "konata": "FILE", "vcd": "FILE", "svg
 
 
 def fault_of(words: list[str]) -> str | None:
-    """What is wrong with the arguments, or nothing. The program may still find something."""
+    """The fault of the arguments, or None. The program may still find one."""
     if not words:
-        return "no command is named; --help shows the one there is"
+        return "no command is named; --help shows them"
+    if words[0].startswith("-"):
+        return unknown_option(words[0])
     if words[0] != "turns":
         return f"{words[0]}: no such command; the commands are turns and show"
     subjects: list[str] = []
@@ -33,7 +37,7 @@ def fault_of(words: list[str]) -> str | None:
 
 
 def take_option(word: str, left: Iterator[str], values: dict[str, str]) -> str | None:
-    """Takes an option with its value, and says what is wrong with it."""
+    """Takes an option with its value. Returns its fault, or None."""
     option, sign, value = word.removeprefix("--").partition("=")
     if option not in OPTIONS:
         return f"{word}: the options are {', '.join(f'--{one}' for one in OPTIONS)}"
@@ -51,7 +55,7 @@ def take_option(word: str, left: Iterator[str], values: dict[str, str]) -> str |
 
 
 def missing(subjects: list[str], values: dict[str, str]) -> str | None:
-    """What isn't there once."""
+    """The fault of a part that is missing or given twice, or None."""
     absent = [*([] if subjects else ["SETUP"]), *(f"--{one} CYCLE" for one in ("from", "to") if one not in values)]
     if absent:
         return f"turns needs {' and '.join(absent)}"
@@ -62,7 +66,7 @@ def missing(subjects: list[str], values: dict[str, str]) -> str | None:
 
 
 def window_fault(values: dict[str, str]) -> str | None:
-    """What is wrong with the cycles that are shown."""
+    """The fault of the window, or None."""
     first, end = int(values["from"]), int(values["to"])
     if first >= end:
         return f"--from {first} --to {end}: --from is below --to"
@@ -72,7 +76,7 @@ def window_fault(values: dict[str, str]) -> str | None:
 
 
 def setup_of(words: list[str]) -> str:
-    """The setup that arguments without a fault name."""
+    """The setup in arguments without a fault."""
     left = iter(words[1:])
     for word in left:
         if not word.startswith("--"):

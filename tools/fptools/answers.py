@@ -1,4 +1,4 @@
-"""What the program writes of a question: the bound of a section, or a refusal.
+"""The program's answer to a question: the bound of a section, or a refusal.
 
     from fptools.answers import Bound, read_answer
     from fptools.program import Flexpret

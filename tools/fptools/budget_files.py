@@ -1,4 +1,4 @@
-"""Budgets of sections, the files that state them, and what is found of them."""
+"""Budgets of sections, the files that state them, and the results."""
 from __future__ import annotations
 
 from dataclasses import dataclass
@@ -6,16 +6,20 @@ from enum import Enum, IntEnum
 from pathlib import Path
 from typing import Any, Mapping
 
-import jsonschema
-
+from fptools import require
 from fptools.setup import spelled
 from fptools.toml import faults, read_toml
+
+require("jsonschema")
+
+import jsonschema  # noqa: E402
+from jsonschema import ValidationError as ValidationError  # noqa: E402
 
 SCHEMA = Path(__file__).resolve().parents[1] / "budgets.schema.json"
 
 
 class Assumption(Enum):
-    """What a budget takes for granted. Nothing of it is checked."""
+    """The assumptions of a budget. None of them is checked."""
 
     NO_TRAPS = "no traps"
     LOOP_TABLES = "loop tables"
@@ -26,7 +30,7 @@ class Assumption(Enum):
 
 
 class Verdict(IntEnum):
-    """What is said of a budget; the numbers are exit statuses, of which the largest counts."""
+    """The verdict on a budget. The numbers are exit statuses; the largest one counts."""
 
     HOLDS = 0
     OVER = 1
@@ -35,7 +39,7 @@ class Verdict(IntEnum):
 
 @dataclass(frozen=True)
 class Budget:
-    """A section and the most cycles that it may take; None where only its bound is asked."""
+    """A section and the most cycles that it may take; None if only its bound is wanted."""
 
     name: str
     thread: int
@@ -66,7 +70,7 @@ class LoopFact:
 
 @dataclass(frozen=True)
 class Result:
-    """What is found of a budget; without a budget it is the bound alone."""
+    """The result for a budget; without a budget it is only the bound."""
 
     budget: Budget
     verdict: Verdict
@@ -108,8 +112,8 @@ def read_budgets(path: Path, period: int) -> list[Budget]:
 
 
 def fault_text(fault: Exception, budgets: Path | None) -> str:
-    """What is said of a fault; of one in a file of budgets, with the key where it is."""
-    if isinstance(fault, jsonschema.ValidationError):
+    """The message for a fault. One in a file of budgets has its key."""
+    if isinstance(fault, ValidationError):
         return f"{budgets}: {spelled(tuple(fault.absolute_path))}: {fault.message}"
     return str(fault)
 

@@ -1,4 +1,4 @@
-"""Compares budgets with runs. What a run shows is stronger than what was found without one."""
+"""Compares budgets with runs. The result of a run overrides the result without one."""
 from __future__ import annotations
 
 from dataclasses import dataclass, replace
@@ -18,7 +18,7 @@ NAME = "fp_budget"
 
 @dataclass(frozen=True)
 class Compared:
-    """A result with what a run of its thread showed; without these where its section isn't known."""
+    """A result with the observations of a run of its thread; without these if its section isn't known."""
 
     result: Result
     observation: Observation | None = None
@@ -39,7 +39,7 @@ class Runs:
     name: str = NAME  # of the tool that shows how far a run is
 
     def compared(self, results: Sequence[Result]) -> list[Result]:
-        """The results, each with what a run of its thread showed."""
+        """The results, each with the observations of a run of its thread."""
         return [it.result for it in self.observed(results)]
 
     def observed(self, results: Sequence[Result]) -> list[Compared]:

@@ -23,7 +23,7 @@ from fptools.words import MRET, OPCODE_AUIPC, OPCODE_JALR
 
 __all__ = ["HELP", "Assumption", "Budget", "Judge", "Result", "Unknown", "Verdict"]
 
-# What helps against a refusal of the program, by its name.
+# The remedy for a refusal of the program, by its name.
 HELP = {
     "Nesting": "the loop is entered elsewhere than at its head, or tables overlap: lay the code out by fp_layout, "
     "or take the tables that fp_loops writes",
@@ -41,7 +41,7 @@ HELP = {
 LONG_CALL = (
     "a call by AUIPC and JALR, which the linker didn't shorten, as of clang: compile by -S, or with gcc"
 )
-# What helps against a way out of a section, and out of a function.
+# The remedy for an exit of a section, and for one of a function.
 EXIT_HELP = {
     Exit.CALL: "calls = true goes through functions that are called by x1",
     Exit.ELSEWHERE: "lay the code out by fp_layout, or name the address in `exits` if it may end there",
@@ -57,7 +57,7 @@ FUNCTION_HELP = {
 
 
 class Unknown(Exception):
-    """Why nothing can be said of a budget."""
+    """The reason why a budget is unknown."""
 
 
 def other_word(program: Program, image: Mapping[int, int]) -> str:
@@ -128,7 +128,7 @@ class Judge:
         )
 
     def unknown(self, budget: Budget, why: Exception) -> Result:
-        """Why nothing can be said of a budget, and whether the sources are of another build."""
+        """The reason why a budget is unknown, and whether the sources are of another build."""
         text, newer = str(why), self.newer_source
         is_told = not newer or newer in text
         return Result(budget, Verdict.UNKNOWN, text if is_told else f"{text}; {newer}")
@@ -160,12 +160,12 @@ class Judge:
         return bound
 
     def look_at_code(self, asked: Asked) -> None:
-        """The section and its functions are left as meant alone."""
+        """The section and its functions are only left as intended."""
         self._look_at(asked)
         self._look_at_routines(asked.parts[1:])
 
     def _answered(self, answer: Answer) -> int:
-        """The number that the program writes. A refusal is told with its place and what helps."""
+        """The number that the program writes. The message of a refusal has its place and a remedy."""
         text = f"status {answer.status}: {answer.text}"
         try:
             found = read_answer(answer.text)
@@ -211,7 +211,7 @@ class Judge:
             raise Unknown("no path leads to the section's end")
 
     def _look_at_routines(self, routines: list[Section]) -> None:
-        """A called function is left by `ret` alone, and by one at least."""
+        """A called function is only left by `ret`, and has at least one."""
         for way in (it for routine in routines for it in routine.ways_out):
             if way.exit is not Exit.RETURN:
                 raise Unknown(self._way(way, True))
@@ -238,14 +238,14 @@ class Judge:
         return Code(self.image)
 
     def thread(self, number: int) -> ThreadCode:
-        """What a thread may run."""
+        """The code that a thread may run."""
         if number not in self._threads:
             table = self.setup.thread(number)
             self._threads[number] = ThreadCode(self._code, table.entry if table else 0)
         return self._threads[number]
 
     def _look_at_fetches(self, asked: Asked) -> None:
-        """A confined thread fetches in its own and read only regions alone."""
+        """A confined thread only fetches from its own and read-only regions."""
         name, table = f"T{asked.budget.thread}", self.setup.thread(asked.budget.thread)
         if table is None or not table.confined:
             return
@@ -282,7 +282,7 @@ class Judge:
                 raise Unknown(f"{note}: no bound is promised from then on")
 
     def stated_loops(self, asked: Asked) -> list[tuple[Section, StatedLoop]]:
-        """What is known of the loops of a section and of the functions that it calls."""
+        """The known facts about the loops of a section and of the functions that it calls."""
         thread = self.thread(asked.budget.thread)
         entries = {it.entry for it in self.setup.threads}
         entries |= {it.start for it in self.program.functions} | set(thread.handlers(asked.begin))

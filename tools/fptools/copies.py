@@ -168,7 +168,7 @@ def _tests(blocks: list[Block], most: int) -> Iterator[Test]:
         head, (inside, outside) = blocks[loop.head], _sides(flows, loop)
         ends = [index for index in flows.before[loop.head] if index in loop.blocks]
         is_short = len(head.code) <= most and not head.marks
-        # A jump alone may be what is left of a branch that was too far.
+        # A single jump may be the rest of a branch that was too far.
         goes_back_by_jump = len(ends) <= MOST_BACK_EDGES and all(
             blocks[it].code and not blocks[it].branch for it in ends
         )

@@ -15,7 +15,7 @@ MOST_SHOWN = 60  # characters of a row in a message
 MOST_DIGITS = 30
 """The most digits before the point of a number that is read: more than any input has."""
 
-UNCLOSED = "unexpected end of data"  # what the module csv says of a quote without its end
+UNCLOSED = "unexpected end of data"  # the message of the module csv about a quote without its end
 FORMS = (["cycle", "word"], ["seconds", "value"])
 
 
@@ -139,7 +139,7 @@ def _steps() -> Iterator[int]:
 
 
 def beyond(inputs: Sequence[Input]) -> str:
-    """What to do with more inputs than a setup takes."""
+    """The advice for more inputs than a setup takes."""
     every = enough(inputs)
     return (
         f"{len(inputs)} inputs, of {MOST_INPUTS} at most: --changes leaves "

@@ -77,7 +77,7 @@ class CText:
         self.known = frozenset(self.macros)
         self.renumbered = [found[1] for found in LINE.finditer(text)]
         self.included = INCLUDE.findall(text)
-        # A definition of a macro is no code where it stands.
+        # A definition of a macro isn't code at its place.
         self.code = DEFINE.sub(lambda found: re.sub(r"[^\n]", " ", found[0]), self.code)
 
     @cached_property
@@ -209,7 +209,7 @@ class CText:
 
     @cached_property
     def _tests_of_do(self) -> set[int]:
-        """Where the `while` of each `do` stands."""
+        """The place of the `while` of each `do`."""
         tests = set()
         for found in KEYWORD.finditer(self.code):
             if found[1] == "do":
@@ -227,7 +227,7 @@ class CText:
         return at
 
     def _parens(self, at: int) -> int:
-        """Past what is in parentheses or braces that open here."""
+        """The place after the parentheses or braces that open here."""
         depth = 0
         for index in range(at, len(self.code)):
             depth += (self.code[index] in "({") - (self.code[index] in ")}")

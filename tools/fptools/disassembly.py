@@ -70,7 +70,7 @@ class Disassembler:
         return self._known[pc, bits]
 
     def _shown(self, words: Mapping[int, int]) -> dict[int, str]:
-        """What the tool shows of words, by address."""
+        """The tool's output for words, by address."""
         data = bytearray(max(words) + 4)
         for at, bits in words.items():
             data[at : at + 4] = bits.to_bytes(4, "little")

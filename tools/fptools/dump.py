@@ -1,4 +1,4 @@
-"""What `flexpret dump` and `flexpret phases` write, as data.
+"""The output of `flexpret dump` and `flexpret phases`, as data.
 
     from fptools.dump import read_dump
 
@@ -25,7 +25,7 @@ SETTING = re.compile(r" *(\d+) ([0-9a-f]{8}) ([0-9a-f]{8})")
 
 
 class NoDump(Exception):
-    """A text isn't what the program writes; the message has the line."""
+    """A text isn't an output of the program; the message has the line."""
 
 
 @dataclass(frozen=True)
@@ -44,7 +44,7 @@ class Turn:
 
 @dataclass(frozen=True)
 class ThreadState:
-    """What is seen of a thread. Moments are nanoseconds."""
+    """The observed state of a thread. Moments are nanoseconds."""
 
     registers: tuple[int, ...]  # x0 to x31
     mtvec: int
@@ -59,7 +59,7 @@ class ThreadState:
 
 @dataclass(frozen=True)
 class Dump:
-    """What is seen of the machine after some cycles."""
+    """The observed state of the machine after some cycles."""
 
     cycles: int
     fetching: int | None  # the thread that was picked in the last cycle
@@ -74,7 +74,7 @@ class Dump:
 
 @dataclass(frozen=True)
 class Setting:
-    """What picking goes by from a cycle on."""
+    """The settings that thread selection uses from a cycle on."""
 
     cycle: int
     slots: int
@@ -89,7 +89,7 @@ class _Lines:
         self._at = 0
 
     def after(self, head: str) -> str:
-        """What follows a head in the next line."""
+        """The rest of the next line, after its head."""
         line = self._lines[self._at] if self._at < len(self._lines) else ""
         if not line.startswith(f"{head} "):
             raise NoDump(f"line {self._at + 1}: no {head!r}: {line[:80]!r}")

@@ -1,4 +1,4 @@
-"""An executable's words, symbols and source lines, as pyelftools reads them."""
+"""An executable's words, symbols and source lines. Reading a file needs pyelftools."""
 from __future__ import annotations
 
 import re
@@ -8,24 +8,15 @@ from functools import cached_property
 from pathlib import Path
 from typing import Any, Collection, Iterable, Iterator, Mapping
 
-from elftools.common.exceptions import DWARFError, ELFError
-from elftools.construct import ConstructError
-from elftools.elf.elffile import ELFFile
-from elftools.elf.sections import SymbolTableSection
-
 from fptools.image import words_of
+
+# Without an executable nothing here needs pyelftools: the methods that read one import it.
 
 CODE_END = 0x1_0000
 ASSEMBLER = (".s", ".S", ".asm")
 ADDRESS = re.compile(
     r"(?P<name>[A-Za-z_.$][\w.$]*)?(?P<plus>\+)?(?P<number>0x[0-9a-fA-F]{1,16}|[0-9]{1,20})?"
 )
-
-
-# What pyelftools raises beyond its own errors where a file has been cut, or a table of it leads astray.
-FAULTS = (
-    ArithmeticError, AssertionError, AttributeError, ConstructError, LookupError, MemoryError, TypeError, ValueError,
-)  # fmt: skip
 
 
 class ProgramError(Exception):
@@ -77,7 +68,7 @@ Row = tuple[int, Line | None]
 class Program:
     """A static ELF32 executable; without a file, one that has no words, symbols and lines."""
 
-    names_need = "an executable: give --elf FILE"  # what to do where names are asked for and there is no file
+    names_need = "an executable: give --elf FILE"  # the advice if there are names and no file
 
     def __init__(self, path: Path | None = None) -> None:
         self.path = path
@@ -88,6 +79,8 @@ class Program:
         self._files: list[str] = []  # the names of its sources, or of its objects
         if path is None:
             return
+        from fptools.pyelf import FAULTS, ELFError, ELFFile
+
         try:
             with path.open("rb") as file:
                 self._read(ELFFile(file))
@@ -96,7 +89,9 @@ class Program:
         except FAULTS as fault:
             raise ProgramError(f"{path} is a broken ELF file: {fault}") from fault
 
-    def _read(self, elf: ELFFile) -> None:
+    def _read(self, elf: Any) -> None:
+        from fptools.pyelf import SymbolTableSection
+
         kind = elf.elfclass, elf.little_endian, elf["e_machine"], elf["e_type"]
         if kind != (32, True, "EM_RISCV", "ET_EXEC"):
             raise ProgramError(f"{self.path} is no static executable of RISC-V with 32 bits")
@@ -109,7 +104,7 @@ class Program:
         self.functions.sort()
         self.symbols.sort()
 
-    def _take_symbols(self, table: SymbolTableSection) -> None:
+    def _take_symbols(self, table: Any) -> None:
         for symbol in table.iter_symbols():
             at, size, kind = symbol["st_value"], symbol["st_size"], symbol["st_info"]["type"]
             if kind == "STT_FILE":
@@ -148,7 +143,7 @@ class Program:
         return ""
 
     def address(self, text: str) -> int:
-        """The address that a number, a symbol, or a symbol and a number after `+` stands for."""
+        """The address of a number, of a symbol, or of a symbol and a number after `+`."""
         parts = ADDRESS.fullmatch(text)
         if not text or parts is None or bool(parts["plus"]) != bool(parts["name"] and parts["number"]):
             raise ProgramError(f"{text} is no address: a number, NAME or NAME+NUMBER")
@@ -182,7 +177,7 @@ class Program:
         """The source line that an address was compiled from, where the executable has such lines (-g)."""
         index = bisect_right(self._lines, address, key=lambda row: row[0]) - 1
         line = self._lines[index][1] if index >= 0 else None
-        # A compiler gives line 0 to what comes of no line.
+        # A compiler gives line 0 to code that comes from no line.
         return line if line is not None and line.number else None
 
     def lines_of(self, address: int) -> list[Line]:
@@ -200,10 +195,12 @@ class Program:
 
     @cached_property
     def _units(self) -> list[tuple[list[Inlined], list[Declared], list[str]]]:
-        """What the compiler put in place of calls, the functions without code of their own, and the names of all,
+        """The inlined calls, the functions without code of their own, and the names of all,
         unit by unit."""
         if self.path is None:
             return []
+        from fptools.pyelf import FAULTS, DWARFError, ELFError, ELFFile
+
         with self.path.open("rb") as file:
             elf = ELFFile(file)
             if not elf.has_dwarf_info():
@@ -243,15 +240,17 @@ class Program:
 
     @cached_property
     def _lines(self) -> list[Row]:
-        """From which address on which line counts; None from the end of what was compiled together."""
+        """The lines, each with the address from which it counts; None from the end of a piece that was compiled together."""
         # Where one unit ends another may begin: its line counts.
         return sorted((row for piece in self._pieces for row in piece), key=lambda row: (row[0], row[1] is not None))
 
     @cached_property
     def _pieces(self) -> list[list[Row]]:
-        """The rows of what was compiled together, piece by piece."""
+        """The rows of the pieces that were compiled together."""
         if self.path is None:
             return []
+        from fptools.pyelf import FAULTS, DWARFError, ELFError, ELFFile
+
         try:
             with self.path.open("rb") as file:
                 elf = ELFFile(file)
@@ -266,7 +265,7 @@ class Program:
 
 
 def pieces_of(rows: Iterable[Row]) -> Iterator[list[Row]]:
-    """The rows of what was compiled together, up to its end, which is the row without a line."""
+    """The rows of each piece that was compiled together, up to its end, which is the row without a line."""
     piece: list[Row] = []
     for row in rows:
         piece.append(row)
@@ -276,7 +275,7 @@ def pieces_of(rows: Iterable[Row]) -> Iterator[list[Row]]:
 
 
 def linked(pieces: Collection[list[Row]]) -> Iterator[list[Row]]:
-    """Those that are in the executable: what a linker drops (--gc-sections) has lines at address 0 alone, or from there
+    """Those that are in the executable: a piece that a linker drops (--gc-sections) has lines only at address 0, or from there
     on, where others are."""
     whole = [piece for piece in pieces if piece[0][0] < piece[-1][0]]
     for piece in whole:

@@ -1,4 +1,4 @@
-"""The machine of a run between two issues: what a debugger shows of it, and how its position moves.
+"""The machine of a run between two issues: its state for a debugger, and the moves of its position.
 
 The position is a cycle: all issues before it are complete, and none from it on has begun."""
 from __future__ import annotations
@@ -83,7 +83,7 @@ class Machine:
         self.history.close()
 
     def move(self, cycle: int, thread: int) -> None:
-        """Puts the machine before a cycle, and reads what is shown of a thread there."""
+        """Puts the machine before a cycle, and reads the state of a thread there."""
         self.now = cycle
         self.pc(thread)
         self.states.at(cycle)
@@ -110,7 +110,7 @@ class Machine:
         return event_in(line) if line else None
 
     def pc(self, thread: int) -> int | None:
-        """The address of the thread's next issue; None where the events around don't tell it."""
+        """The address of the thread's next issue; None if the events around don't determine it."""
         last = self.last_event(thread)
         if last is not None and last.is_wait:
             return last.pc + WORD
@@ -223,7 +223,7 @@ def _may_run(setup: Setup) -> Iterable[int]:
 
 
 def _behind(event: Event) -> int | None:
-    """Where a thread goes on after an issue, as far as the word tells it."""
+    """The address after an issue, if the word determines it."""
     if event.handler is not None:
         return event.handler
     word = Word(event.pc, event.bits)

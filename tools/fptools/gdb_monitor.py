@@ -40,7 +40,7 @@ class Monitor:
         self._disassembler = Disassembler(find_tool())
 
     def answer(self, text: str, thread: int) -> str:
-        """What a command writes. What is wrong with it stands there too."""
+        """The output of a command. A fault of it is there too."""
         name, *words = text.split() or ["help"]
         commands: dict[str, Callable[[Sequence[str], int], Iterator[str]]] = {
             "help": self._help,
@@ -106,7 +106,7 @@ class Monitor:
         return f"T{turn.thread} {turn.pc:08x} {self.program.name_of(turn.pc):<24} {text}"
 
     def _explained(self, refusal: str, thread: int) -> list[str]:
-        """What fp_refusal says of a refusal; nothing of other reasons."""
+        """The explanation of a refusal by fp_refusal; nothing for other reasons."""
         try:
             return explain(refusal, Context(self.machine.runs.setup, None, self.program, None, thread))
         except FAULTS:

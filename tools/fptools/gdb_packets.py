@@ -24,7 +24,7 @@ class Interrupted(Exception):
 
 
 def escaped(data: bytes) -> bytes:
-    """Data as it stands in a packet."""
+    """Data in the form of a packet."""
     out = bytearray()
     for byte in data:
         out += bytes((ESCAPE, byte ^ FLIPPED)) if byte in ESCAPED else bytes((byte,))
@@ -32,7 +32,7 @@ def escaped(data: bytes) -> bytes:
 
 
 def unescaped(data: bytes) -> bytes:
-    """The data of what stands in a packet."""
+    """The data of a packet's content."""
     out = bytearray()
     bytes_of = iter(data)
     for byte in bytes_of:
@@ -47,7 +47,7 @@ def framed(data: bytes) -> bytes:
 
 
 def _is_sum(text: bytes, inside: bytes) -> bool:
-    """Whether two digits are the sum of what stands in a packet."""
+    """Whether two digits are the sum of a packet's content."""
     try:
         return int(text, 16) == sum(inside) % 256
     except ValueError:
@@ -65,7 +65,7 @@ class Connection:
         self.is_running = False  # Ctrl-C counts only while the machine runs
 
     def receive(self) -> bytes:
-        """The data of the next packet. A broken one is asked for again; other bytes are dropped."""
+        """The data of the next packet. A broken one is requested again; other bytes are dropped."""
         while True:
             packet = self._next()
             if packet is not None:

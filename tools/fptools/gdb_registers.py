@@ -28,7 +28,7 @@ class Register:
 
 CPU = "org.gnu.gdb.riscv.cpu"
 CSR = "org.gnu.gdb.riscv.csr"
-OWN = "org.rilluqar.flexpret"  # what gdb's own features don't have
+OWN = "org.rilluqar.flexpret"  # not in gdb's own features
 
 PC = len(ABI_NAMES)  # the number of the pc; x0 to x31 have their own
 CYCLE, TIME = "cycle", "now"
@@ -45,7 +45,7 @@ REGISTERS = (
     Register("modes", OWN, BARE, csr=MODES),
     Register("dregions", OWN, BARE, csr=DREGIONS),
     Register("iregions", OWN, BARE, csr=IREGIONS),
-    Register(CYCLE, OWN, "uint64", 64),  # the cycle in which the machine stands
+    Register(CYCLE, OWN, "uint64", 64),  # the cycle in which the machine is
     Register(TIME, OWN, "uint64", 64),  # its time in nanoseconds
 )
 
@@ -59,7 +59,7 @@ def _feature(name: str, registers: Iterable[tuple[int, Register]]) -> str:
 
 
 def target_description() -> bytes:
-    """The XML document that gdb asks for by `qXfer:features:read:target.xml`."""
+    """The XML document that gdb requests by `qXfer:features:read:target.xml`."""
     numbered = list(enumerate(REGISTERS))
     features = [
         _feature(name, [(at, it) for at, it in numbered if it.feature == name])

@@ -25,7 +25,7 @@ BUILT = Path("crates/flexpret_cli/out/flexpret_cli")
 
 
 class Waiter(Protocol):
-    """Who may break off what takes long: both calls raise then."""
+    """The party that may break off a long call: both methods raise then."""
 
     def wait_for(self, descriptor: int) -> None:
         """Returns when a descriptor can be read."""
@@ -113,7 +113,7 @@ class Runs:
 
 
 def _mark(path: Path) -> tuple[int, int, int]:
-    """What changes with a file; zeros where there is none."""
+    """The inode, size and time of a file, which change with it; zeros if there is none."""
     try:
         found = path.stat()
     except OSError:

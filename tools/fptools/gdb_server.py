@@ -40,7 +40,7 @@ def refusal(text: str) -> bytes:
 
 
 class Ended(Exception):
-    """gdb has ended the session; the last answer stands with it."""
+    """gdb has ended the session; the exception has the last answer."""
 
     def __init__(self, answer: bytes | None) -> None:
         super().__init__()
@@ -48,7 +48,7 @@ class Ended(Exception):
 
 
 class Wrong(ValueError):
-    """A packet asks for what isn't there."""
+    """A packet requests something that doesn't exist."""
 
 
 @dataclass(frozen=True)

@@ -103,7 +103,7 @@ class State:
 
 
 def _of_dump(dump: Dump) -> State:
-    """What a dump shows, of whichever cycles."""
+    """The content of a dump, for any cycle."""
     return State(
         [list(it.registers) for it in dump.threads],
         [

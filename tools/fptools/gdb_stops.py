@@ -42,7 +42,7 @@ class Kind(Enum):
 
 
 class Access(Enum):
-    """What a watchpoint is of, with its name in a stop reply."""
+    """The kinds of accesses of a watchpoint, with their names in a stop reply."""
 
     WRITE = "watch"
     READ = "rwatch"

@@ -23,7 +23,7 @@ def words_of(data: bytes, start: int = 0) -> dict[int, int]:
 
 
 def read_image(path: Path) -> dict[int, int]:
-    """The words that an image places, by address; what the program takes for no image of any setup is an `ImageError`."""
+    """The words that an image places, by address; a file that the program accepts in no setup is an `ImageError`."""
     data = path.read_bytes()
     if data[:4] == ELF_MAGIC:
         raise ImageError(f"{path} is an executable: `flexpret elf` makes an image of it")

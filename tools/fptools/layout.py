@@ -13,7 +13,7 @@ from fptools.regions import MOST_AROUND, Flows, Irreducible, Loop, Nest, NoOrder
 from fptools.same_flow import do_the_same
 
 MOST_COPIES = 2000
-"""A function gets copies of so many instructions at most, if nothing else is asked."""
+"""The default limit of copied instructions of a function."""
 
 OWN_FAULT = "this is a fault of fp_layout, please report it"
 

@@ -28,7 +28,7 @@ class Level(Enum):
 
 @dataclass(frozen=True)
 class Finding:
-    """What is said of a key."""
+    """A message about a key."""
 
     line: int | None
     level: Level
@@ -56,7 +56,7 @@ def note(path: KeyPath, text: str) -> Said:
 
 
 def lint(setup: Setup) -> list[Finding]:
-    """All findings, by line. What needs a valid setup, or the image, is looked at only where there is one."""
+    """All findings, by line. Rules that need a valid setup, or the image, only run if there is one."""
     said = refusals(setup)
     if not said:
         words, said = _image(setup)
@@ -68,7 +68,7 @@ def lint(setup: Setup) -> list[Finding]:
 
 
 def refusals(setup: Setup) -> list[Said]:
-    """What the program refuses of a setup, beyond its image."""
+    """The faults for which the program refuses a setup, without those of its image."""
     return list(_schema(setup)) or list(_refusals(setup))
 
 
@@ -82,7 +82,7 @@ def read_valid(path: Path) -> Setup:
 
 
 def _schema(setup: Setup) -> Iterator[Said]:
-    """What the schema of setups refuses."""
+    """The faults by the schema of setups."""
     for fault in faults(SCHEMA, setup.values):
         missing = MISSING.fullmatch(fault.message)
         yield error((*fault.absolute_path, *(missing.groups() if missing else ())), fault.message)
@@ -103,7 +103,7 @@ def _is_awake(thread: Mapping[str, Any]) -> bool:
 
 
 def _refusals(setup: Setup) -> Iterator[Said]:
-    """What the program refuses beyond the schema, which can't compare values."""
+    """The faults beyond the schema, which can't compare values."""
     past = f"is past the scratchpad of {setup.size} bytes"
     if len(setup.values["image"].encode()) > MOST_NAME:
         yield error(("image",), f"has more than {MOST_NAME} bytes")

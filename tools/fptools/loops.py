@@ -18,7 +18,7 @@ from fptools.sources import Sources
 from fptools.values import Values, jumps_of
 from fptools.words import Flow
 
-# A number alone: one that goes on, as in `4 * WIDTH` or `4..8`, states nothing.
+# A single number: an expression, as `4 * WIDTH` or `4..8`, states nothing.
 ROUNDS = re.compile(r"@rounds\b(?:\s+(\d{1,9})(?=\s*(?:\*/|$)|[,;:.)](?:\s+\D|\s*$)))?")
 COMMENT_LINE = re.compile(r"\s*(//|/\*|#)")
 ASSEMBLER_COMMENT = re.compile(r"/\*.*?(?:\*/|$)|(?://|#).*")
@@ -30,7 +30,7 @@ MOST_BOUND = 1_048_576
 
 @dataclass(frozen=True)
 class Comment:
-    """A comment `@rounds N`, by its place; without a number where no number alone follows."""
+    """A comment `@rounds N`, by its place; without a number if no single number follows."""
 
     file: Path
     line: int
@@ -41,7 +41,7 @@ class Comment:
 
 @dataclass(frozen=True)
 class StatedLoop:
-    """A loop and what is known of its rounds."""
+    """A loop and the known facts about its rounds."""
 
     loop: Loop
     stated: frozenset[int | None]  # rounds, by the sources
@@ -75,7 +75,7 @@ class StatedLoop:
 
     @property
     def doubt(self) -> str:
-        """What speaks against the stated rounds, or helps to state them."""
+        """The doubt about the stated rounds, or the advice to state them."""
         counts = "" if self.counted is None else f"the code counts {self.counted}"
         if not self.loop.is_interval:
             return "it is entered elsewhere than at its head, or a part of it lies before its head"
@@ -339,7 +339,7 @@ class Comments:
         own = sorted(set(loop.body).difference(*(it.body for it in inside)))
         text = self._text_of(comment)
         if text is not None:
-            # What decides about a loop is a branch; other words may come of lines before it.
+            # A branch decides about a loop; other words may come from lines before it.
             for pc in (pc for pc in own if self.section.reached[pc].flow is Flow.BRANCH):
                 is_known = self.program.line_of(pc) is not None
                 if is_known and not any(
@@ -476,6 +476,6 @@ def ways_out(section: Section, program: Program) -> Iterator[str]:
 
 
 def is_whole(section: Section, loops: list[StatedLoop]) -> bool:
-    """Whether every loop has its bound and the section is left as meant alone."""
+    """Whether every loop has its bound and the section is only left as intended."""
     only_end = all(way.exit is section.way_of_end for way in section.ways_out)
     return section.ends and only_end and all(it.bound is not None and not it.doubt for it in loops)

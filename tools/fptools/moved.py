@@ -1,4 +1,4 @@
-"""Work that a compiler moved out of a section: what comes of lines between its marks, and is issued outside of it."""
+"""Work that a compiler moved out of a section: code of lines between its marks that is issued outside of it."""
 from __future__ import annotations
 
 import re
@@ -15,7 +15,7 @@ ALONE = re.compile(r"\s*FP_MARK\w*\s*\([^()]*\)\s*;?\s*")
 
 
 class NotKnown(Exception):
-    """Why nothing tells whether work was moved, and what helps."""
+    """The reason why moved work can't be detected, and a remedy."""
 
 
 @dataclass(frozen=True)

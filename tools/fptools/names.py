@@ -111,7 +111,7 @@ class Names:
         return function
 
     def _call_of(self, function: Function, thread: int) -> int | None:
-        """The first call of a function that the thread reaches from its entry, and not in a trap handler alone."""
+        """The first call of a function that the thread reaches from its entry, and not only in a trap handler."""
         judge = Judge(self.flexpret, self.setup, self.image, self.program, self.sources)
         for pc, word in sorted(judge.thread(thread).without_traps.words.items()):
             is_apart = not function.start <= pc < function.end

@@ -1,4 +1,4 @@
-"""What a run showed of a thread, and which bounds, budgets and tables it broke."""
+"""The observations of a thread in a run, and the bounds, budgets and tables that it broke."""
 from __future__ import annotations
 
 import fcntl
@@ -35,7 +35,7 @@ class RunFailed(Exception):
 
 
 class Kind(Enum):
-    """What a run can break."""
+    """The limits that a run can break."""
 
     TABLE = "table"  # how often a loop goes back
     BUDGET = "budget"
@@ -56,7 +56,7 @@ class Break:
 
 @dataclass(frozen=True)
 class Question:
-    """What to look at in the trace of a thread."""
+    """The sections and loops to observe in the trace of a thread."""
 
     thread: int | None
     watched: Sequence[Watched] = ()
@@ -69,7 +69,7 @@ class Question:
 
 @dataclass
 class Observation:
-    """What the trace of a thread showed."""
+    """The observations in the trace of a thread."""
 
     question: Question
     events: int = 0

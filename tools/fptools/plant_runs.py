@@ -1,4 +1,4 @@
-"""Runs of the program beside a plant in another process, their pipes connected to each other."""
+"""Runs of the program with a plant in another process, their pipes connected to each other."""
 from __future__ import annotations
 
 import os
@@ -17,7 +17,7 @@ PLANT_FAULT = 10
 """The program's status for a plant that ended, or that answered no word."""
 
 PIECE = 1 << 20
-"""The bytes that one read asks for at most."""
+"""The most bytes of a read."""
 
 GRACE = 5.0
 """Seconds in which a plant may end by itself after the run."""
@@ -29,11 +29,11 @@ Put = Callable[[bytes], object]
 
 
 class NotRun(Exception):
-    """Nothing could be run: wrong files, or no program. The text says why."""
+    """Nothing could be run: wrong files, or no program. The text has the reason."""
 
 
 class PlantFailed(Exception):
-    """The plant broke the run off. The text says how."""
+    """The plant broke the run off. The text has the way."""
 
 
 @dataclass(frozen=True)
@@ -58,7 +58,7 @@ class PlantRun:
 
 @dataclass
 class Parted:
-    """Parts what the program writes to standard error: the trace, the exchanges, a fault's line."""
+    """Splits the program's standard error: the trace, the exchanges, a fault's line."""
 
     trace: Put
     exchange: Put
@@ -197,7 +197,7 @@ def connected(run: PlantRun, plants: Path) -> Iterator[Sequence[subprocess.Popen
 
 
 def run_plant(run: PlantRun, plants: Path, parted: Parted) -> None:
-    """Runs the program beside the plant, and hands on what it writes."""
+    """Runs the program with the plant, and passes on its output."""
     with connected(run, plants) as (plant, program):
         for piece in pieces(program, run.timeout):
             parted.take(piece)

@@ -1,16 +1,17 @@
-"""Explains the refusal lines of the program: where, by symbol and line, and what to do. docs/FORMATS.md
-has the tables."""
+"""Explains the refusal lines of the program: the place, by symbol and line, and what to do. docs/COMMANDS.md
+has the tables. Only the names of an executable need a package beyond Python itself."""
 from __future__ import annotations
 
+import re
 from dataclasses import dataclass, field
 from pathlib import Path
 from typing import Iterator, Mapping
 
+from fptools import has
 from fptools.answers import NoAnswer, Refusal, read_answer
 from fptools.asm_words import text_of
 from fptools.elf import Program, ProgramError
 from fptools.image import ImageError, read_image
-from fptools.lint import Level, lint
 from fptools.setup import KeyPath, Setup, read_setup
 from fptools.source_faults import explain_source, shown
 from fptools.sources import Sources
@@ -46,6 +47,24 @@ SECTION_HINTS = {
     ),
     "NotConfined": ("confined", "others may have a part in its trace: `confined = true`, or use `run`"),
 }
+SETUP_HINTS = {
+    "TooLong": "the file has more than 262,144 bytes: shorten comments and inputs",
+    "Toml": "it isn't a TOML document, or not UTF-8",
+    "UnknownKey": "a key of this table isn't in docs/FORMATS.md: correct the spelling, and move the keys of the "
+    "top above the first [[thread]] or [[loop]]",
+    "MissingKey": "this key is required: add it",
+    "WrongType": "the value has another type: 10 and not \"10\", [[thread]] with two brackets, inputs as "
+    "[cycle, word]",
+    "OutOfRange": "the value isn't in its range, which docs/FORMATS.md has: a list has eight elements, addresses are "
+    "multiples of 4 and need `version = 2` above 16,380, input cycles rise, `last` isn't below `head`",
+    "BadSlot": "a slot is one of T0 to T7, S and D",
+    "BadMode": "a mode is one of hard, hard-asleep, soft and soft-asleep",
+    "BadRegion": "an owner is one of T0 to T7, shared and readonly",
+    "ConfinedPermit": "`confined` and `permit` are both true: drop one",
+    "DoubleThread": "an earlier table has this `id`: join the tables, or change one",
+    "TooMany": "there are at most 8 threads, 256 loops, and 4,096 inputs of a thread",
+}
+"""What to do about a refused setup, by the name of the refusal."""
 IMAGE_HINTS = {
     "TooLong": "the file is longer than any image; for addresses past 16,380 the setup says `version = 2`",
     "Magic": "it doesn't begin with FPX1: `asm` makes an image of a source, and `elf` of an executable",
@@ -73,12 +92,12 @@ ROUTINES_HINTS = {
 
 
 class NoRefusal(Exception):
-    """The text is no refusal line, or what is needed to explain it isn't given."""
+    """The text is no refusal line, or a file that explains it isn't given."""
 
 
 @dataclass
 class Context:
-    """What the refused command was asked with, as far as it is known."""
+    """The arguments of the refused command, as far as they are known."""
 
     setup: Path | None = None
     file: Path | None = None  # the source, image, executable or list of routines
@@ -211,15 +230,28 @@ def _setup(refusal: Refusal, context: Context) -> Iterator[str]:
     if context.setup is None:
         raise NoRefusal("the setup is needed: --setup SETUP")
     try:
-        findings = [it for it in lint(read_setup(context.setup)) if it.level is Level.ERROR]
+        setup = read_setup(context.setup)
     except TomlError as fault:
         yield f"{context.setup}:{fault.line}: error: {fault.text}"
         return
+    if not has("jsonschema", "networkx"):
+        place = "" if refusal.place in ("-", "top") else f"{refusal.place}: "
+        yield f"{context.setup}:{setup.line(key_of(refusal.place)) or 1}: error: {place}{SETUP_HINTS[refusal.name]}"
+        return
+    from fptools.lint import Level, lint
+
+    findings = [it for it in lint(setup) if it.level is Level.ERROR]
     own = [it for it in findings if it.key == refusal.place] or findings
     for finding in own:
         yield f"{context.setup}:{finding.line or 1}: error: {finding.key}: {finding.text}"
     if not own:
         yield f"{context.setup}: error: {refusal.place}: {refusal.name}"
+
+
+def key_of(place: str) -> KeyPath:
+    """The path that `spelled` writes as this text, or the empty one for `-` and `top`."""
+    parts = re.findall(r"[A-Za-z_]\w*|\d+", place)
+    return () if place in ("-", "top") else tuple(int(part) if part.isdecimal() else part for part in parts)
 
 
 def _section(refusal: Refusal, context: Context) -> Iterator[str]:

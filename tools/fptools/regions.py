@@ -6,9 +6,12 @@ from collections import defaultdict
 from collections.abc import Iterable, Sequence
 from dataclasses import dataclass, field
 
-import networkx
-
+from fptools import require
 from fptools.blocks import Block
+
+require("networkx")
+
+import networkx  # noqa: E402
 
 
 MOST_AROUND = 3
@@ -92,7 +95,7 @@ class Flows:
 
 
 class Dominators:
-    """The dominator tree, with the times at which a walk opens and closes each node."""
+    """The dominator tree, with the times at which a depth-first search opens and closes each node."""
 
     def __init__(self, flows: Flows) -> None:
         graph = networkx.DiGraph(flows.edges())

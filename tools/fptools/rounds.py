@@ -1,4 +1,4 @@
-"""How many rounds a counting loop makes, read off the code where its form says so."""
+"""The rounds of a counting loop, computed from its code if it has a known form."""
 from __future__ import annotations
 
 from typing import Collection, Mapping
@@ -24,7 +24,7 @@ def _straight_before(words: Mapping[int, int], jumps: Mapping[int, set[int]], he
 
 
 def _step(body: list[Word], always: Collection[Word], register: int) -> int | None:
-    """What a round adds to a register: 0 if nothing changes it, None if that isn't known."""
+    """The number that a round adds to a register: 0 if nothing changes it, None if it isn't known."""
     changes = [word for word in body if written_by(word) == register and register]
     if not changes:
         return 0

@@ -1,4 +1,4 @@
-"""Compares two arrangements of a function's blocks by a walk through both at once."""
+"""Compares two arrangements of a function's blocks by a simultaneous search through both."""
 from __future__ import annotations
 
 from collections.abc import Sequence

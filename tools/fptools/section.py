@@ -6,9 +6,12 @@ from dataclasses import dataclass, field, replace
 from enum import Enum
 from typing import Collection, Mapping, Protocol
 
-import networkx
-
+from fptools import require
 from fptools.words import RETURN, Flow, Word
+
+require("networkx")
+
+import networkx  # noqa: E402
 
 
 class Function(Protocol):
@@ -67,7 +70,7 @@ class Loop:
 
     @property
     def is_interval(self) -> bool:
-        """Whether it is entered at its head alone, and no word of it lies before the head."""
+        """Whether it is only entered at its head, and no word of it is before the head."""
         return self.is_natural and min(self.body, default=self.head) == self.head
 
 
@@ -95,7 +98,7 @@ class Section:
 
     @property
     def ends(self) -> bool:
-        """Whether a path leads to where it is left as meant."""
+        """Whether a path leads to an intended exit."""
         return any(way.exit is self.way_of_end for way in self.ways_out)
 
 

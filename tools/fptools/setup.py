@@ -132,7 +132,7 @@ class Setup:
 
 
 def read_setup(path: Path) -> Setup:
-    """Reads a setup; what is no TOML document is a `TomlError`."""
+    """Reads a setup. A file that isn't a TOML document is a `TomlError`."""
     text, values = read_toml(path, MOST_BYTES)
     return Setup(path, values, dict(_lines_of(text)))
 

@@ -19,7 +19,7 @@ from fptools.words import Word
 
 @dataclass(frozen=True)
 class Wanted:
-    """Which events are asked for; all where nothing is. Addresses are numbers, NAME or NAME+NUMBER."""
+    """The selection of events; all if there is none. Addresses are numbers, NAME or NAME+NUMBER."""
 
     pcs: Sequence[str] = ()
     functions: Sequence[str] = ()  # by an address in them
@@ -30,7 +30,7 @@ class Wanted:
 
 
 class Filter:
-    """Which events are asked for: by their characters, or by texts in their lines."""
+    """The selection of events: by their characters, or by texts in their lines."""
 
     def __init__(self, asked: Wanted, program: Program) -> None:
         pcs = {program.address(text) for text in asked.pcs}
@@ -46,7 +46,7 @@ class Filter:
         self.takes_all = not any(asks)
 
     def indexes(self, block: Block, waits: list[JudgedWait], period: int) -> list[int]:
-        """The events of a block that are asked for, in order."""
+        """The selected events of a block, in order."""
         if self.takes_all:
             return list(range(len(block.lines)))
         found: set[int] = set()

@@ -1,4 +1,4 @@
-"""Why the assembler refuses a source: the place in the line, what was expected there, and what to write."""
+"""The reason why the assembler refuses a source: the place in the line, the expected text, and the remedy."""
 from __future__ import annotations
 
 import difflib
@@ -41,7 +41,7 @@ ELSEWHERE = {
     **dict.fromkeys((".byte", ".half", ".2byte", ".ascii", ".asciz", ".string"), WORDS_ALONE),
     **dict.fromkeys(("lr.w", "sc.w", "amoadd.w", "amoswap.w"), NO_ATOMICS),
 }  # fmt: skip
-"""What other assemblers have, and what it is here."""
+"""Directives and instructions of other assemblers, each with the advice for it."""
 
 NAMES_OF_OPERANDS = {
     "rrr": "rd, rs1, rs2", "rrn": "rd, rs1, number", "rrv": "rs1, rs2, target", "rn": "rd, number",
@@ -82,7 +82,7 @@ def usage(name: str) -> str:
 
 
 def near(name: str, names: Sequence[str]) -> str:
-    """What a name may have been meant to be; empty where nothing is near."""
+    """A hint with the names that are similar to a name; empty if none is."""
     found = difflib.get_close_matches(name.lower(), names, MOST_NEAR, 0.6)
     return f"did you mean {' or '.join(found)}?" if found else ""
 
@@ -100,7 +100,7 @@ class _Expected(Exception):
 
 
 class _Reader(Cursor):
-    """Reads operands, and says what it expected."""
+    """Reads operands, and reports the expected one."""
 
     def need(self, mark: str) -> None:
         if not self.has(mark):

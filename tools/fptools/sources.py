@@ -94,7 +94,7 @@ class Sources:
     def _text(self, file: Path) -> str:
         if file not in self._texts:
             found = self._find(file)
-            # What a comment has beyond UTF-8 is no fault of an executable, and a form feed ends no line.
+            # Bytes in a comment that aren't UTF-8 are no fault of an executable, and a form feed ends no line.
             self._texts[file] = found.read_text(encoding="utf-8", errors="replace") if found else ""
         return self._texts[file]
 
@@ -122,13 +122,13 @@ class Sources:
         return self._code(file).is_respelled
 
     def _macros_with_loops(self, file: Path) -> frozenset[str]:
-        """The macros of a source, and of the sources beside it that it includes, with a loop in their text."""
+        """The macros with a loop in their text, of a source and of the sources in its folder that it includes."""
         if file not in self._hiding:
             self._hiding[file] = _with_loops(self.macros_of(file))
         return self._hiding[file]
 
     def macros_of(self, file: Path) -> dict[str, str]:
-        """The texts of the macros of a source, and of the sources beside it that it includes."""
+        """The texts of the macros of a source, and of the sources in its folder that it includes."""
         if file not in self._macros:
             macros: dict[str, str] = {}
             ahead, seen = [file], {file}

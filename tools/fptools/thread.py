@@ -1,4 +1,4 @@
-"""The code that a thread can reach from its entry, and what becomes of its traps."""
+"""The code that a thread can reach from its entry, and the ways on after its traps."""
 from __future__ import annotations
 
 from dataclasses import dataclass, field
@@ -133,14 +133,14 @@ def reach(code: Code, starts: Collection[int], stops: Collection[int] = (), into
 
 @dataclass
 class ThreadCode:
-    """What a thread may run from its entry on, its trap handlers among it."""
+    """The code that a thread may run from its entry on, with its trap handlers."""
 
     code: Code
     entry: int
 
     @cached_property
     def without_traps(self) -> Reach:
-        """From the entry alone."""
+        """Only from the entry."""
         return reach(self.code, [self.entry])
 
     @cached_property

@@ -5,9 +5,12 @@ import json
 import re
 import tomllib
 from pathlib import Path
-from typing import Any, Iterator
+from typing import TYPE_CHECKING, Any, Iterator
 
-import jsonschema
+from fptools import require
+
+if TYPE_CHECKING:
+    from jsonschema import ValidationError
 
 LINE = re.compile(r"\(at line (\d+), column \d+\)$")
 
@@ -45,8 +48,11 @@ def _line_of(text: str, fault: str) -> int:
     return int(place[1]) if place else len(text.rstrip("\n").split("\n"))
 
 
-def faults(schema: Path, values: dict[str, Any]) -> Iterator[jsonschema.ValidationError]:
-    """What a schema refuses of values. A TOML float is no integer, though JSON takes 10.0 for one."""
+def faults(schema: Path, values: dict[str, Any]) -> Iterator[ValidationError]:
+    """The faults of values by a schema. A TOML float is no integer, though JSON takes 10.0 for one. It needs jsonschema."""
+    require("jsonschema")
+    import jsonschema
+
     types = jsonschema.Draft7Validator.TYPE_CHECKER.redefine(
         "integer", lambda _, value: isinstance(value, int) and not isinstance(value, bool)
     )

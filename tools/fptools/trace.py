@@ -56,7 +56,7 @@ class Event:
 
     @property
     def stored(self) -> Stored | None:
-        """What is stored."""
+        """The word that is stored."""
         found = STORE.match(self.effect)
         return Stored(int(found[1], 16), int(found[2]), int(found[3], 16)) if found else None
 

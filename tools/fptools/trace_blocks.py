@@ -219,7 +219,7 @@ class TraceReader:
         )
 
     def _narrowed(self, lines: list[bytes], chars: list[str], data: bytes) -> Iterator[Block]:
-        """The block of the lines that are asked for, if it isn't empty."""
+        """The block of the selected lines, if it isn't empty."""
         self.lines_read += len(lines)
         before, first, last = self._before, 0, len(lines)
         if lines:

@@ -1,4 +1,4 @@
-"""What registers hold before each word of a function, as far as numbers and distances are known."""
+"""The values of registers before each word of a function, as far as numbers and distances are known."""
 from __future__ import annotations
 
 from dataclasses import dataclass
@@ -75,7 +75,7 @@ def after(word: Word, state: State) -> State:
 
 
 def joined(pc: int, one: State, other: State) -> State:
-    """What is known before a word to which two edges lead."""
+    """The known values before a word that two edges reach."""
     pairs = enumerate(zip(one, other))
     return tuple(a if a == b else Value((pc, register), 0) for register, (a, b) in pairs)
 
@@ -127,7 +127,7 @@ class Values:
                     ahead.append(to)
 
     def entering(self, head: int, body: Collection[int]) -> State | None:
-        """What is known at a loop's head, as often as it is entered from outside."""
+        """The known values at a loop's head, whenever it is entered from outside."""
         found: State | None = None
         if self.before.get(head) == unknown(head):
             return None
@@ -165,14 +165,14 @@ class Values:
         return inside
 
     def _is_entered(self, pc: int, inside: Collection[int]) -> bool:
-        """Whether other code leads to a word, a call among it."""
+        """Whether other code reaches a word, also by a call."""
         before = self._word(pc - 4)
         if before.pc not in inside and pc in self._next(before):
             return True
         return any(at not in inside or self._word(at).flow is Flow.CALL for at in self.jumps.get(pc, ()))
 
     def _edges(self, pc: int) -> Iterator[tuple[int, State]]:
-        """Where a word leads, with what is known there by it."""
+        """The successors of a word, with the known values there."""
         word, state = self._word(pc), self.before[pc]
         if word.flow is Flow.CALL and word.target is not None:
             gone = self.clobbered(word.target) | {word.rd}

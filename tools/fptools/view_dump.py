@@ -45,7 +45,7 @@ class Dump:
         self._marked = marked_cycles(marks, own, threads)
 
     def text(self, dump: str) -> str:
-        """The view's dump with what is added."""
+        """The view's dump with the added signals."""
         declared, times = times_of(dump)
         lines = [*self._declared(declared), "$enddefinitions $end"]
         last: Values = {}
@@ -110,7 +110,7 @@ class Dump:
         return values
 
     def _of_turn(self, turn: Turn) -> Values:
-        """What a turn changes of its thread's signals."""
+        """The changes of a thread's signals by its turn."""
         event = turn.event
         values: Values = {}
         if event.cause is not None:
@@ -147,7 +147,7 @@ def marked_cycles(
 
 
 def _standing(turn: Turn | None) -> str:
-    """What stands in a stage."""
+    """The content of a stage."""
     return "-" if turn is None else f"T{turn.thread}_{_joined(turn.text)}"
 
 

@@ -36,7 +36,7 @@ class NeverCame(Exception):
 
 @dataclass(frozen=True)
 class Wish:
-    """An event that is asked for: what it is, the how manieth, and the threads it may be of."""
+    """The event to look for: its kind, its number in order, and the threads it may be of."""
 
     text: str
     wanted: Wanted
@@ -47,7 +47,7 @@ class Wish:
 
 
 def wish_of(text: str, program: Program) -> Wish:
-    """The event that a text asks for; addresses may be names of a program."""
+    """The event that a text describes; addresses may be names of a program."""
     first, *rest = text.split(",")
     more = dict(_pair(text, part) for part in rest)
     if len(more) < len(rest) or not more.keys() <= {"nth", "thread"}:

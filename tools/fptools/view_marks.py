@@ -1,4 +1,4 @@
-"""What is marked in a view: addresses, sections with their deadlines, and periods."""
+"""The marks of a view: addresses, sections with their deadlines, and periods."""
 from __future__ import annotations
 
 import re
@@ -47,7 +47,7 @@ class Passage:
 
 @dataclass(frozen=True)
 class Mark:
-    """What is marked: a section from `start` to `end`, an address, or a moment that comes again."""
+    """A mark: a section from `start` to `end`, an address, or a periodic moment."""
 
     text: str
     start: int | None = None

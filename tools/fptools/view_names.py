@@ -1,4 +1,4 @@
-"""What an executable or a map says of the turns of a view: their symbols and source lines."""
+"""The symbols and source lines of the turns of a view, by an executable or a map."""
 from __future__ import annotations
 
 from dataclasses import dataclass
@@ -38,6 +38,6 @@ def printable(text: str) -> str:
 
 
 def cause_of(turn: Turn) -> str:
-    """What the cause of a turn's trap is called; empty where it doesn't trap."""
+    """The name of the cause of a turn's trap; empty if it doesn't trap."""
     cause = turn.event.cause
     return "" if cause is None else CAUSES.get(cause, "unknown")

@@ -216,7 +216,7 @@ class Picture:
         return LETTER * len(text) + 3 <= self._shape.column
 
     def _title(self, row: Row) -> str:
-        """What the pointer shows of a turn."""
+        """The text that the pointer shows for a turn."""
         assert row.turn is not None
         turn, event = row.turn, row.turn.event
         what = f"{event.pc:08x} {event.bits:08x} {turn.text}  {event.effect}"

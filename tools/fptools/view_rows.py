@@ -30,7 +30,7 @@ FLUSHED = re.compile(r"T([0-7]) flushed")
 
 
 class ViewFailed(Exception):
-    """The view refused or failed: its status, and what it wrote to its two streams."""
+    """The view refused or failed: its status, and its output on both streams."""
 
     def __init__(self, status: int, output: str, errors: str) -> None:
         super().__init__(f"status {status}")
@@ -86,10 +86,10 @@ class View:
         self.ask(0, 1)
 
     def ask(self, first: int, end: int, form: str = "") -> str:
-        """What the view writes of a window: text, or another one of its forms."""
+        """The output of the view for a window: text, or another one of its forms."""
         words = [self.path, "turns", str(self.setup), "--from", str(first), "--to", str(end)]
         words += [f"--{form}", "-"] if form else []
-        # A terminal gets what the view writes there, and so how far a long run is.
+        # A terminal gets the view's standard error, and so the progress of a long run.
         is_shown = sys.stderr.isatty()
         words += ["--progress", "all"] if is_shown else []
         errors = None if is_shown else subprocess.PIPE
@@ -103,7 +103,7 @@ class View:
         return [row_of(line) for line in self.ask(first, end).splitlines()[1:]]
 
     def states(self, rows: Sequence[Row]) -> list[Row]:
-        """The same cycles with what the view's dump says of sleep and armed moments."""
+        """The same cycles with sleep and armed moments, from the view's dump."""
         dump = self.ask(rows[0].cycle, rows[-1].cycle + 1, "vcd")
         found = []
         for row, values in zip(rows, values_of(dump)):

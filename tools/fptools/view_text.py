@@ -40,7 +40,7 @@ def _lines(
 def notes_of(
     marks: Sequence[Mark], rows: Sequence[Row], threads: Collection[int]
 ) -> dict[int, list[str]]:
-    """What is said of marks, by cycles."""
+    """The texts about marks, by cycle."""
     notes: dict[int, list[str]] = defaultdict(list)
     for point in points_of(marks, rows):
         if point.thread in threads:

@@ -82,7 +82,7 @@ class Watched:
 
 @dataclass
 class Executions:
-    """What was seen of a section or function."""
+    """The observations of a section or function."""
 
     watched: Watched
     whole: Tally = field(default_factory=Tally)  # those that the bound speaks of
@@ -137,7 +137,7 @@ class Rounds:
 
 @dataclass
 class Wait:
-    """What was seen of a DU or WU. Moments are nanoseconds."""
+    """The observations of a DU or WU. Moments are nanoseconds."""
 
     pc: int
     is_delay: bool

@@ -23,7 +23,7 @@ CSR_MTVEC, CSR_MEPC = 0x305, 0x341
 CONFIGURATION = (0x7C0, 0x7C1, 0x7C2, 0x7C3)  # slots, modes, dregions, iregions
 RETURN_ADDRESS = 1
 
-# The instructions of the core: which bits of a word are fixed, and what they are.
+# The instructions of the core: the mask of the fixed bits of a word, and their values.
 OPCODE, OPCODE_FUNCT3, OPCODE_FUNCT = 0x0000_007F, 0x0000_707F, 0xFE00_707F
 ALL_BUT_RD, ALL_BUT_RS, ALL = 0xFFFF_F07F, 0xFE00_7FFF, 0xFFFF_FFFF
 FORMS = (
@@ -88,7 +88,7 @@ class Word:
 
     @property
     def is_code(self) -> bool:
-        """False for what is no instruction of the core, as a word that nothing placed."""
+        """False for a word that is no instruction of the core, as one that nothing placed."""
         return any(self.bits & fixed == wanted for fixed, wanted in FORMS)
 
     @property
@@ -112,7 +112,7 @@ class Word:
 
     @property
     def target(self) -> int | None:
-        """Where a branch, jump or call leads to."""
+        """The target of a branch, jump or call."""
         if self.opcode == OPCODE_BRANCH:
             offset = (self.field(8, 4) << 1 | self.field(25, 6) << 5 | self.field(7, 1) << 11) - (
                 self.field(31, 1) << 12

@@ -7,7 +7,7 @@ from pathlib import Path
 
 
 class NotWritten(OSError):
-    """A file can't be written. The text says which one, and why."""
+    """A file can't be written. The text has its name and the reason."""
 
     def __str__(self) -> str:
         return f"{self.filename} can't be written: {self.strerror}"

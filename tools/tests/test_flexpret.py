@@ -11,6 +11,7 @@ import shutil
 import signal
 import subprocess
 import sys
+import threading
 import time
 from pathlib import Path
 
@@ -18,7 +19,9 @@ import pytest
 from conftest import TOOLS, TOP
 from fplaunch.arguments import fault_of
 from fplaunch.bounds import ways_out, words_of
+from fplaunch.build import Builder, Plan
 from fplaunch.plain_section import goes_on, is_branch, is_call, stays, target
+from fplaunch.sources import Checkout as Sources
 from fplaunch.view import fault_of as view_fault
 from fptools.words import Flow, Word
 
@@ -49,6 +52,7 @@ exit "$RT_STATUS"
 
 NOT_BUILT = 125
 CRATES = "low:\nbeside:\nmiddle: low beside arrayvec\nflexpret_cli: middle\nflexpret_view: middle\nother: low\n"
+NO_OPTION = "no such option before the command; these are --quiet, --unproved, --use, --version and --help"
 SELFRUN = ("selfrun", "1")
 TURNS = ("turns", "x.toml", "--from", "0", "--to", "9")
 
@@ -352,6 +356,30 @@ def test_a_build_that_is_broken_off_goes_on(either: Checkout) -> None:
     assert either.run(*either.words).returncode == 0
 
 
+def test_a_proof_that_has_just_ended_hides_no_break(checkout: Checkout) -> None:
+    with open(os.devnull, "w") as log:
+        builder = Builder(Plan(Sources(checkout.folder, "flexpret_cli"), 1), log)
+    with subprocess.Popen(["true"], process_group=0, text=True) as ended:
+        ended.wait()
+        builder.children.add(ended)
+        builder.stop()
+    assert builder.stopped
+
+
+def test_a_second_break_does_not_wait_for_the_first(checkout: Checkout) -> None:
+    with open(os.devnull, "w") as log:
+        builder = Builder(Plan(Sources(checkout.folder, "flexpret_cli"), 1), log)
+
+    def broken_off_twice() -> None:
+        with builder.lock:
+            builder.stop()
+
+    thread = threading.Thread(target=broken_off_twice, daemon=True)
+    thread.start()
+    thread.join(10)
+    assert not thread.is_alive()
+
+
 def command_of(process: Path) -> str:
     try:
         return (process / "cmdline").read_text().replace("\0", " ")
@@ -394,6 +422,16 @@ def test_the_program_that_rt_left_answers_the_first_call_in_a_second(either: Che
     assert time.monotonic() - begun < 1 or os.getloadavg()[0] > 2
     either.source.write_text("changed")
     assert either.builds()
+
+
+@pytest.mark.parametrize("leave", [leave_by_ci, leave_by_run])
+def test_the_kit_of_a_program_that_rt_left_is_not_recorded(either: Checkout, leave: object) -> None:
+    time.sleep(0.01)
+    assert callable(leave)
+    leave(either)
+    here = "(here now: rattle-kit-13f logic dac8208d650f15bf)"
+    first = either.run("--version").stdout.splitlines()[0]
+    assert first.startswith(f"{either.script}: commit unknown, a kit that no record names {here}, proved: ")
 
 
 @pytest.mark.parametrize("leave", [leave_by_ci, leave_by_run])
@@ -505,6 +543,23 @@ def test_a_call_costs_at_most_40_milliseconds_of_processor_time(either: Checkout
     assert spent(either.folder / either.script, *either.words) - alone < 0.04
 
 
+def test_a_call_of_bound_costs_at_most_40_milliseconds_of_processor_time(checkout: Checkout) -> None:
+    checkout.build()
+    words = ("bound", "examples/sum.toml", "--thread", "0", "--from", "0x10", "--to", "0x3c")
+    named = {**checkout.environment, "SEEN": "0", "LINE": "bound 184"}
+
+    def spent(program: Path) -> float:
+        before = resource.getrusage(resource.RUSAGE_CHILDREN)
+        for _ in range(10):
+            ran = subprocess.run([program, *words], cwd=TOP, env=named, capture_output=True, check=True)
+            assert (ran.stdout, ran.stderr) == (b"bound 184\n", b"")
+        after = resource.getrusage(resource.RUSAGE_CHILDREN)
+        return (after.ru_utime + after.ru_stime - before.ru_utime - before.ru_stime) / 10
+
+    alone = spent(checkout.out / "flexpret_cli")
+    assert spent(checkout.folder / "flexpret") - alone < 0.04
+
+
 # ---------------------------------------------------------------- arguments
 
 
@@ -521,7 +576,12 @@ def test_help_waits_for_no_build(either: Checkout, words: tuple[str, ...]) -> No
     [
         ((), "no command is named; --help shows them"),
         (("runn",), "runn: no such command; is run meant?"),
-        (("x",), "x: no such command; the commands are run, dump, phases, solo, check, bound, calls, asm, elf, selfrun"),
+        (("x",), "x: no such command; the commands are run, dump, phases, solo, check, bound, calls, asm, elf, selfrun, disasm"),
+        (("--nonsense",), f"--nonsense: {NO_OPTION}"),
+        (("--quite", "run"), f"--quite: {NO_OPTION}; is --quiet meant?"),
+        (("--use", ""), "--use: FILE is missing, the program to be used"),
+        (("--use=", "asm"), "--use: FILE is missing, the program to be used"),
+        (("--use", "a", "--use=b", "asm"), "--use is given 2 times"),
         (("run", "a", "--thread", "8", "--cycles", "1"), "--thread 8: threads are 0 to 7"),
         (("run", "a", "--thread=x", "--cycles", "1"), "--thread x: threads are 0 to 7"),
         (
@@ -542,11 +602,18 @@ def test_help_waits_for_no_build(either: Checkout, words: tuple[str, ...]) -> No
         (("run", "a", "--thread", "1", "--thread", "1", "--cycles", "1"), "--thread is given 2 times"),
         (("run", "a", "--thread"), "--thread: I is missing"),
         (("run", "a", "--thraed", "1"), "--thraed: run has the options --thread and --cycles; is --thread meant?"),
-        (("asm", "-x.s"), "-x.s: asm has no options; a file whose name begins with - is written ./-x.s"),
+        (("asm", "x", "--output", "y"), "--output: asm has the options -o, --listing and --map"),
+        (("elf", "x", "--output", "y"), "--output: elf has the option -o"),
+        (("selfrun", "1", "--x"), "--x: selfrun has no options"),
+        (("asm", "-x.s"), "-x.s: asm has the options -o, --listing and --map; a file whose name begins with - is written ./-x.s"),
         (("check", "a", "--thread", "1", "--cycles", "1", "--trace", "-t"), "--trace -t: a value doesn't begin with - (write ./-t)"),
         (("selfrun", "4294967296"), "selfrun 4294967296: NUMBER is decimal, at most 4294967295"),
         (("asm", ""), "an argument is empty"),
         (("asm", "a", "-o"), "-o: its value is missing"),
+        (("asm", "a", "-o="), "-o: its value is missing"),
+        (("asm", "a", "-o", "a", "-o=b"), "-o is given 2 times"),
+        (("asm", "a", "-o", "a", "--map", "b", "--map", "c"), "--map is given 2 times"),
+        (("bound", "a", "--elf", "b", "--elf="), "--elf: its value is missing"),
     ],
 )
 def test_the_wrong_argument_is_named_before_and_after_the_build(checkout: Checkout, words: tuple[str, ...], said: str) -> None:
@@ -574,7 +641,8 @@ def test_what_is_wrong_by_the_script_is_wrong_by_the_rows_of_the_gate() -> None:
 @pytest.mark.parametrize(
     ("words", "said"),
     [
-        ("", "no command is named; --help shows the one there is"),
+        ("", "no command is named; --help shows them"),
+        ("--nonsense a", f"--nonsense: {NO_OPTION}"),
         ("turn a", "turn: no such command; the commands are turns and show"),
         ("turns a --from 1", "turns needs --to CYCLE"),
         ("turns --from 1 --to 2", "turns needs SETUP"),
@@ -680,8 +748,32 @@ def test_an_output_may_be_a_link_a_device_or_standard_output(checkout: Checkout,
     assert checkout.run("asm", "x.s", "-o", "/dev/null").returncode == 0
 
 
+def test_an_output_that_is_a_pipe_gets_only_answers(checkout: Checkout, tmp_path: Path) -> None:
+    checkout.build()
+    pipe = tmp_path / "pipe"
+    os.mkfifo(pipe)
+    for name, seen, shown, told in (
+        ("pipe", "", "2:asm x.s\n", ""), ("pipe", "5", "", "refused it\n"), ("-", "5", "", "refused it\n"),
+    ):  # fmt: skip
+        with subprocess.Popen(["cat", pipe], stdout=subprocess.PIPE, text=True) as reader:
+            ran = checkout.run("--quiet", "asm", "x.s", "-o", name, SEEN=seen, LINE="refused it")
+            assert (ran.returncode, ran.stdout, ran.stderr) == (int(seen or 0), "", told)
+            if name == "-":
+                pipe.write_text("")
+            assert reader.stdout
+            assert reader.stdout.read() == shown
+    assert list(tmp_path.glob("pipe*")) == [pipe]
+
+
+def test_an_output_that_is_standard_output_keeps_what_is_there(checkout: Checkout, tmp_path: Path) -> None:
+    checkout.build()
+    call = "{ echo before; ./flexpret asm x.s -o -; } >both"
+    ran = subprocess.run(["bash", "-c", call], cwd=tmp_path, env=checkout.environment, stdin=subprocess.DEVNULL, check=False)
+    assert (ran.returncode, (tmp_path / "both").read_text()) == (0, "before\n2:asm x.s\n")
+
+
 @pytest.mark.parametrize(
-    ("name", "why"), [("tools", "it is a folder"), ("nosuch/x", "it can't be written: No such file or directory")]
+    ("name", "why"), [("tools", "it is a folder"), ("/dev/full", "it can't be written"), ("nosuch/x", "it can't be written: No such file or directory")]
 )
 def test_an_output_that_cannot_be_written(checkout: Checkout, name: str, why: str) -> None:
     checkout.build()
@@ -791,7 +883,7 @@ def test_a_window_is_shown_with_more_by_its_tool(tmp_path: Path) -> None:
     ran = checkout.run("--quiet", "--use", other, "show", "x.toml")
     assert (ran.returncode, ran.stdout) == (1, f"{other} x.toml\n")
     ran = checkout.run("--unproved", "show", "x.toml")
-    text = "flexpret-view: --unproved answers turns alone: show asks the built program\n"
+    text = "flexpret-view: --unproved is for turns only: show needs the built program\n"
     assert (ran.returncode, ran.stdout, ran.stderr) == (2, "", text)
 
 
@@ -837,8 +929,54 @@ def test_a_refusal_is_explained_by_its_tool(checkout: Checkout) -> None:
     assert told("10", "calls", *words, "x.toml") == "why: --setup x.toml --file r -- refused it\n"
     assert told("3", "dump", "x.toml", "--cycles", "1") == "why: --setup x.toml -- refused it\n"
     assert told("3", "--quiet", "dump", "x.toml", "--cycles", "1") == ""
-    put_tool(checkout, "fp_refusal", "sys.stderr.write('no package'); sys.exit(2)")
+    put_tool(checkout, "fp_refusal", "sys.stderr.write('no such line'); sys.exit(2)")
     assert told("5", "asm", "x.s") == ""
+    put_tool(checkout, "fp_refusal", "sys.stderr.write('no package'); sys.exit(125)")
+    assert told("5", "asm", "x.s") == "no package\n"
+
+
+def without_packages(checkout: Checkout) -> None:
+    """Gives a checkout a Python of the standard library alone, and what fp_refusal and fp_disasm read."""
+    shutil.copy(TOOLS / "fp_refusal", checkout.folder / "tools")
+    shutil.copytree(TOP / "model", checkout.folder / "model", ignore=shutil.ignore_patterns("tests", "__pycache__"))
+    (checkout.folder / "examples").symlink_to(TOP / "examples")
+    bare = checkout.folder / "bin/python3"
+    bare.write_text(f'#!/bin/sh\nexec {shlex.quote(sys.executable)} -S "$@"\n')
+    bare.chmod(0o755)
+    shared = checkout.folder / "tools/launch.bash"
+    shared.write_text(shared.read_text().replace("/usr/bin/python3", str(bare)))
+
+
+def test_a_refusal_is_explained_by_a_python_without_packages(checkout: Checkout) -> None:
+    checkout.build()
+    without_packages(checkout)
+    (checkout.folder / "x.s").write_text(" adi x1, x1, 1\n")
+
+    def told(line: str, *words: str) -> str:
+        ran = checkout.run(*words, SEEN={"source": "5", "bound": "6"}.get(line.split()[1], "3"), LINE=line)
+        assert ran.stdout == f"{line}\n"
+        return ran.stderr
+
+    assert told("refused source 1 3 UnknownName", "asm", "x.s").startswith("x.s:1:2: error: unknown mnemonic 'adi'\n")
+    words = ("bound", "examples/sum.toml", "--thread=0", "--from=0", "--to=4")
+    assert told("refused bound 3 TimedWait 00000040", *words).startswith("error: TimedWait at 0x40: wu x11, x10\n")
+    dump = ("dump", "examples/sum.toml", "--cycles", "1")
+    assert told("refused setup 7 BadSlot slots[3]", *dump) == (
+        "examples/sum.toml:13: error: slots[3]: a slot is one of T0 to T7, S and D\n"
+    )
+    assert told("refused setup 3 UnknownKey top", *dump).startswith("examples/sum.toml:1: error: a key of this table isn't in ")
+
+
+def test_a_missing_package_is_one_line_and_a_status_of_its_own(checkout: Checkout) -> None:
+    checkout.build()
+    without_packages(checkout)
+    assert checkout.run("disasm", "examples/sum.fpx").returncode == 0
+    bound = ("bound", "examples/c/pid.toml", "--thread=0", "--from=main", "--to=main+4")
+    for words in (("disasm", "examples/sum.fpx"), bound):
+        ran = checkout.run(*words, "--elf", "examples/c/pid.elf")
+        assert (ran.returncode, ran.stdout, len(ran.stderr.splitlines())) == (NOT_BUILT, "", 1)
+        assert re.match(r"fp_\w+: \S+ \(Python 3\.\d+\.\d+\) lacks pyelftools, ", ran.stderr)
+        assert ran.stderr.endswith("apt-get install python3-pyelftools python3-jsonschema python3-networkx\n")
 
 
 # ---------------------------------------------------------------- an answer without a proof
@@ -984,6 +1122,14 @@ def test_install_puts_program_page_and_completion(tmp_path: Path, monkeypatch: p
         assert (prefix / f"share/man/man1/{name}.1").read_text() == (TOP / f"tools/{name}.1").read_text()
         assert (prefix / "share/bash-completion/completions" / name).is_file()
     assert install().returncode == 2
+
+
+def test_installed_tools_find_the_model(tmp_path: Path) -> None:
+    assert install(tmp_path, FLEXPRET=elf(tmp_path / "program"), FLEXPRET_VIEW="/none").returncode == 0
+    image = TOP / "examples/sum.fpx"
+    shown = subprocess.run([tmp_path / "bin/flexpret", "disasm", image], capture_output=True, text=True, check=False)
+    own = subprocess.run([sys.executable, TOOLS / "fp_disasm", image], capture_output=True, text=True, check=True)
+    assert (shown.returncode, shown.stdout, shown.stderr) == (0, own.stdout, "")
 
 
 def test_install_puts_no_script(tmp_path: Path) -> None:

@@ -1,6 +1,7 @@
 """What ./test counts, chooses and skips."""
 from __future__ import annotations
 
+import contextlib
 import os
 import subprocess
 import sys
@@ -11,6 +12,7 @@ from conftest import TOP
 
 sys.path.insert(0, str(TOP / "bench"))
 
+import gate  # noqa: E402
 from gate import MODULES, Part, Place, Sum, counted, interpreter, parts, run_part  # noqa: E402
 
 SCRIPT = Part("script", ["x"])
@@ -79,6 +81,36 @@ def test_the_last_line_is_the_sum() -> None:
     words = [str(TOP / "test"), "--only", "bench/edits.py", "--no-install"]
     ran = subprocess.run(words, capture_output=True, text=True, check=False)
     assert (ran.returncode, ran.stdout.splitlines()[-1]) == (0, "1 passed, 0 failed")
+
+
+def test_without_rt_the_other_parts_run(
+    tmp_path: Path, monkeypatch: pytest.MonkeyPatch, capsys: pytest.CaptureFixture[str]
+) -> None:
+    monkeypatch.setenv("PATH", str(tmp_path))
+    monkeypatch.setattr(gate, "parts", lambda jobs: [Part("p", [sys.executable, "-c", ""], programs=False)])
+    monkeypatch.setattr(gate, "stamped", contextlib.nullcontext)
+    monkeypatch.setattr(sys, "argv", ["test", "--no-install"])
+    assert gate.main() == 1
+    first, second, *_, last = capsys.readouterr().out.splitlines()
+    assert first == (
+        "./test: rt ci is not run: rt of the Rattle kit that README.md names is not on the PATH (No such file or directory)"
+    )
+    assert second.startswith("p: 1 passed, 0 failed, ")
+    assert last == "1 passed, 1 failed"
+
+
+def test_only_a_program_that_was_built_meanwhile_is_recorded(tmp_path: Path, monkeypatch: pytest.MonkeyPatch) -> None:
+    (tmp_path / "crates.txt").write_text("old:\nnew:\n")
+    monkeypatch.setattr(gate, "TOP", tmp_path)
+    monkeypatch.setattr(gate, "PROGRAMS", {"OLD": "old", "NEW": "new"})
+    for crate in ("old", "new"):
+        (tmp_path / f"crates/{crate}/out").mkdir(parents=True)
+    gate.program_of("old").write_text("")
+    os.utime(gate.program_of("old"), (1, 1))
+    with gate.stamped():
+        gate.program_of("new").write_text("")
+    assert not (tmp_path / "crates/old/out/old.sources").exists()
+    assert (tmp_path / "crates/new/out/new.sources").exists()
 
 
 def test_an_unknown_part_is_named() -> None:

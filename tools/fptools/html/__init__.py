@@ -1,4 +1,4 @@
-"""The page that fp_report writes: what is on it, and its template, style and script."""
+"""The page that fp_report writes: its content, template, style and script."""
 from fptools import require
 
-require({"jinja2": ("Jinja2", "python3-jinja2")})
+require("jinja2")

@@ -1,4 +1,4 @@
-"""What a report shows: budgets with their bounds and runs, and the window of the timeline."""
+"""The content of a report: budgets with their bounds and runs, and the window of the timeline."""
 from __future__ import annotations
 
 import hashlib
@@ -32,7 +32,7 @@ class NoReport(Exception):
 
 @dataclass(frozen=True)
 class Finding:
-    """A budget with what a run of its thread showed, and where the longest execution went."""
+    """A budget with the observations of a run of its thread, and the path of the longest execution."""
 
     compared: Compared
     longest: Span | None = None

@@ -43,7 +43,7 @@ class Issue:
 
 @dataclass(frozen=True)
 class Spot:
-    """A source line, or an instruction where no line is known, and what it took of an execution."""
+    """A source line, or an instruction if no line is known, and its cycles in an execution."""
 
     place: str
     text: str
@@ -75,7 +75,7 @@ def _issue(block: Block, index: int, turns: Turns | None) -> Issue:
 
 @dataclass
 class _Taken:
-    """What a source line or an address took so far; `event` is its first one."""
+    """The cycles of a source line or an address so far; `event` is its first one."""
 
     line: Line | None
     event: Event

@@ -37,7 +37,7 @@ WORDS = {Verdict.HOLDS: "holds", Verdict.OVER: "over", Verdict.UNKNOWN: "unknown
 
 @dataclass(frozen=True)
 class Loop:
-    """A loop of a section: its bound with where that comes from, and what the run saw."""
+    """A loop of a section: its bound with its origin, and the rounds in the run."""
 
     where: str
     bound: str
@@ -151,7 +151,7 @@ class Trap:
 
 @dataclass(frozen=True)
 class Page:
-    """What the template writes."""
+    """The values of the template."""
 
     title: str
     findings: Findings

@@ -1,4 +1,4 @@
-"""A setup as a picture: whose each slot and region is, and what the image places there."""
+"""A setup as a picture: the owners of slots and regions, and the image's content in them."""
 from __future__ import annotations
 
 from dataclasses import dataclass
@@ -22,7 +22,7 @@ class Slot:
 
 @dataclass(frozen=True)
 class Region:
-    """An eighth of a scratchpad, the bytes of the image in it, and the names of what is there."""
+    """An eighth of a scratchpad, the bytes of the image in it, and the names in it."""
 
     number: int
     start: int

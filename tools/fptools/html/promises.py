@@ -1,4 +1,4 @@
-"""What is proved and what isn't, in the words of docs/ASSUMPTIONS.md, which a test compares."""
+"""The proved and the unproved statements, in the text of docs/ASSUMPTIONS.md, which a test compares."""
 from __future__ import annotations
 
 PROVED = (

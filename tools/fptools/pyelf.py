@@ -1,0 +1,16 @@
+"""The parts of pyelftools that the tools use. Whoever imports this module ends with a line if the package is missing."""
+from fptools import require
+
+require("elftools")
+
+from elftools.common.exceptions import DWARFError, ELFError  # noqa: E402
+from elftools.construct import ConstructError  # noqa: E402
+from elftools.elf.elffile import ELFFile  # noqa: E402
+from elftools.elf.sections import SymbolTableSection  # noqa: E402
+
+__all__ = ["FAULTS", "DWARFError", "ELFError", "ELFFile", "SymbolTableSection"]
+
+FAULTS = (
+    ArithmeticError, AssertionError, AttributeError, ConstructError, LookupError, MemoryError, TypeError, ValueError,
+)  # fmt: skip
+"""What pyelftools raises beyond its own errors if a file has been cut, or a table in it has wrong offsets."""
