@@ -10,9 +10,8 @@ use Rattle.region_tree.specs.Tree.{IsSection, Tree, graph}
 use Rattle.region_tree.specs.Walk.{IsOwn}
 use Rattle.region_tree.specs.declared.edges.Edges.{Edges as EdgesOf}
 use Rattle.region_tree.proofs.EdgeLaws.{edge-is, is-edge}
-use Rattle.bound_calc.specs.Best.{Costs, Either, In, IsBest, Then, ceiling}
-use Rattle.bound_calc.specs.Hops.{IsLargest}
-use Rattle.bound_calc.specs.Matrices.{entry}
+use Rattle.bound_calc.specs.Best.{Costs, Either, In, Then, ceiling}
+use Rattle.bound_calc.specs.Tops.{IsTop}
 use Rattle.bound_calc.specs.Propagation.{WaysOn, edges_at, leaves, matrix_at, move_costs, index}
 use Rattle.bound_calc.specs.declared.matrix.Matrix.{Matrix}
 use Rattle.bound_calc.proofs.MostLaws.{leaves-not, not-leaves}
@@ -268,20 +267,13 @@ costs-own x (inl (Deep.enters run to turn deep)) = run-own x run
 costs-own x (inr (Leaving.leaves e run edge out turn)) = run-own x run
 costs-own x (inr (Leaving.comes_out run to out turn z)) = run-own x run
 
-≤-two : (a b c : ℕ) → a ≤ b → b ≤ c → a ≤ c
-≤-two a b c h h' = omega arith
-
 -- the largest of what ends in the section or below it and what leaves it
-pub most-is : (x : Route) (m : Matrix) (most : ℕ) → (p : ℕ) × IsOwn x.positions p →
-    IsBest (entry m) (Either (Deep x None) (Leaving x)) → IsLargest m 0 most → IsMost x most
-most-is x m most slot b l = record { covers = covers; among = among l.met }
+pub most-is : (x : Route) (most : ℕ) → (p : ℕ) × IsOwn x.positions p →
+    IsTop (Either (Deep x None) (Leaving x)) 0 most → IsMost x most
+most-is x most slot t = record { covers = λ c n. t.upper n.at c n.end n.costs; among = among t.met }
   where
-    covers : (c : ℕ) → Nested x c → min c ceiling ≤ most
-    covers c n =
-        let e = b.0 n.at c n.end n.costs in
-        ≤-two (min c ceiling) e.0 most e.2 (l.upper n.at e.0 n.end e.1)
-
-    among : (most ≡ 0) ⊎ ((p : ℕ) × (q : ℕ) × (entry m p q ≡ Some most)) →
+    among : (most ≡ 0) ⊎ ((p : ℕ) × (c : ℕ) × (q : ℕ) × Either (Deep x None) (Leaving x) p c q
+        × (min most ceiling ≡ min c ceiling)) →
         (c : ℕ) × Nested x c × (min most ceiling ≡ min c ceiling)
     among (inl none) = (
       0,
@@ -293,6 +285,5 @@ most-is x m most slot b l = record { covers = covers; among = among l.met }
       },
       ap (λ n. min n ceiling) none,
     )
-    among (inr (p, q, is)) =
-        let y = b.1 p most q is in
-        (y.0, record { at = p; own = costs-own x y.1; end = q; costs = y.1 }, y.2)
+    among (inr (p, c, q, y, is)) =
+        (c, record { at = p; own = costs-own x y; end = q; costs = y }, is)

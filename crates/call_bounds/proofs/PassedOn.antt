@@ -14,6 +14,12 @@ pub no-value : {A E : Type 0} (r : Result A E) (P : A → Type 0) (Q : E → Typ
 no-value (Ok value) P Q h = absurd h
 no-value (Err why) P Q h = tt
 
+-- what follows from what is told of a value
+pub from-value : {A E : Type 0} (r : Result A E) {P Q : A → Type 0} → ((x : A) → P x → Q x) →
+    IfOk r P → IfOk r Q
+from-value (Ok value) f h = f value h
+from-value (Err why) f h = tt
+
 -- nothing of there being one
 pub no-success : {A E : Type 0} (r : Result A E) (P : Type 0) (Q : E → Type 0) →
     IsErrAnd r Q → OnOk r P
