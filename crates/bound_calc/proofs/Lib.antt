@@ -13,6 +13,7 @@ pub mod Entries
 pub mod StepLaws
 pub mod AdvanceLaws
 pub mod PassLaws
+pub mod TopLaws
 mod PowerLaws
 mod TurnLaws
 mod FillLaws

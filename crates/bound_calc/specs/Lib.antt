@@ -9,6 +9,8 @@ pub mod Matrices
 pub mod Hops
 pub mod Propagation
 pub mod Rounds
+pub mod Tops
+pub mod Passing
 pub use Rattle.region_tree.specs.Graph
 pub use Rattle.region_tree.specs.Search
 pub use Rattle.region_tree.specs.Tree

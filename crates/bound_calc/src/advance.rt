@@ -5,6 +5,7 @@ ghost use Rattle.std.specs.Prelude.{[], length, Option, Some, None, slice_index_
 ghost use Rattle.bound_calc.specs.Best.{Either, In, IsBest, Then, ceiling};
 ghost use Rattle.bound_calc.specs.Hops.{Hops, IsFarthest, IsLargest, IsLeft, raised};
 ghost use Rattle.bound_calc.specs.Matrices.{cell, entry};
+ghost use Rattle.bound_calc.specs.Tops.{IsTop};
 
 use crate::hop::{Hop, HopRow};
 use crate::matrix::{Matrix, take_in};
@@ -127,4 +128,48 @@ pub fn largest(here: &Matrix, most: u128) -> u128
         largest = largest_row(&here.best[p], largest);
     }
     largest
+}
+
+/// The larger of a number and the sum of a cost, if there is one, and the cost onward.
+fn further(cost: Option<u128>, onward: u128, most: u128) -> u128
+    ensures stays { most ≤ result }
+    ensures upper { (x : ℕ) → cost ≡ Some x → min (x + onward) ceiling ≤ result }
+    ensures met { (result ≡ most) ⊎
+        ((x : ℕ) × (cost ≡ Some x) × (result ≡ min (x + onward) ceiling)) }
+{
+    match cost {
+        None => most,
+        Some(cost) => greater(most, cost.saturating_add(onward)),
+    }
+}
+
+/// The largest of a number and the sums of a column of a matrix, each with the cost onward.
+fn further_column(here: &Matrix, column: usize, onward: u128, most: u128) -> u128
+    requires column { column < 8 }
+    ensures stays { most ≤ result }
+    ensures upper { (p x : ℕ) → p < 8 → cell here.now p column ≡ Some x →
+        min (x + onward) ceiling ≤ result }
+    ensures met { (result ≡ most) ⊎ ((p : ℕ) × (x : ℕ) × (p < 8) ×
+        (cell here.now p column ≡ Some x) × (result ≡ min (x + onward) ceiling)) }
+{
+    let mut furthest = most;
+    for p in 0..8 {
+        furthest = further(here.best[p][column], onward, furthest);
+    }
+    furthest
+}
+
+/// The largest of a number, the sums of a matrix, and the sums of the matrix chained with another.
+/// It needs only the largest sum of each row of the other: an eighth of the sums of a chain.
+pub fn longest(here: &Matrix, into: &Matrix, most: u128) -> u128
+    ensures { IsTop
+        (Either (In (entry here.now)) (Then (In (entry here.now)) (In (entry into.now))))
+        most result }
+{
+    let mut longest = most;
+    for r in 0..8 {
+        let onward = largest_row(&into.best[r], 0);
+        longest = further_column(here, r, onward, longest);
+    }
+    longest
 }

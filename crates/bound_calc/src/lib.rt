@@ -17,12 +17,12 @@ mod rounds;
 mod steps;
 mod ways;
 
-pub use advance::largest;
+pub use advance::{largest, longest};
 pub use cycle_bound::{BoundNo, bound, is_out};
 pub use laws::{rounds_are_steps, stays_in_rounds};
 pub use matrix::Matrix;
 pub use pass::{along, edges_at};
-pub use reached::reach;
+pub use reached::{Pass, reach};
 pub use returns::{jump, through};
 pub use steps::{Steps, has_slot};
 pub use ways::Ways;

@@ -1,9 +1,11 @@
 //! The costs at the words of a section.
 
-ghost use Rattle.std.specs.Prelude.{◌≡◌, length, IfOk};
+ghost use Rattle.std.specs.Prelude.{◌≡◌, ◌+◌, ◌<◌, length, IfOk, OnOk};
 ghost use Rattle.region_tree.specs.Tree.{IsTree};
-ghost use Rattle.bound_calc.specs.Propagation.{AreReached, AreWays, IsReady, over, ways_on};
-ghost use Rattle.bound_calc.specs.Section.{whole};
+ghost use Rattle.bound_calc.specs.Best.{IsBest};
+ghost use Rattle.bound_calc.specs.Matrices.{entry};
+ghost use Rattle.bound_calc.specs.Passing.{IsPass, ReachesAt, here};
+ghost use Rattle.bound_calc.specs.Propagation.{AreReached, AreWays, ways_on};
 
 use crate::fill::fill;
 use crate::front::Front;
@@ -14,49 +16,80 @@ use crate::ways::Ways;
 use region_tree::LoopTree;
 use std::alloc::{AllocError, Global};
 
-/// By index the costs at each word of the section, from the powers of its loops.
-fn reach_in(
-    alloc: Global,
-    tree: &LoopTree,
-    steps: &Steps,
-    ways: &Ways,
-    powers: &[Option<Box<Matrix>>],
-    front: &mut Front,
-) -> Result<Vec<Matrix>, AllocError>
-    requires tree { IsTree tree.now }
-    requires ready { let f = over tree.now steps.now (ways_on ways.now) in
-        IsReady f tree.now (whole f) powers.now }
-    requires room { length front.old.waiting.items ≡ length tree.now.words }
-    ensures { IfOk result (λ at. AreReached tree.now steps.now (ways_on ways.now) at.items) }
-{
-    let last = span_of(tree, None).last;
-    begin(alloc, tree, steps, None, front)?;
-    let mut at = Vec::with_capacity(alloc, last + 1)?;
-    for index in 0..last + 1 {
-        let way = ways.at(index);
-        let power = &powers[index];
-        let edges = edges_at(tree, index);
-        process_word(alloc, tree, steps, way, power, &edges, index, last, front)?;
-        at.push(*front.base)?;
-    }
-    Ok(at)
+/// A pass over the words of a section, from its first word to its last. It holds the matrices of
+/// one word and of those that edges lead on to, and not one for each word of the section.
+#[derive(Drop)]
+pub struct Pass {
+    powers: Vec<Option<Box<Matrix>>>,
+    front: Front,
 }
 
-/// By index the costs at each word of the section, with a frontier that has room for each.
-fn reach_by(
-    alloc: Global,
-    tree: &LoopTree,
-    steps: &Steps,
-    ways: &Ways,
-    front: &mut Front,
-) -> Result<Vec<Matrix>, AllocError>
-    requires tree { IsTree tree.now }
-    requires own { AreWays steps.now (ways_on ways.now) }
-    requires room { length front.old.waiting.items ≡ length tree.now.words }
-    ensures { IfOk result (λ at. AreReached tree.now steps.now (ways_on ways.now) at.items) }
-{
-    let powers = fill(alloc, tree, steps, ways, front)?;
-    reach_in(alloc, tree, steps, ways, &powers, front)
+impl Pass {
+    ghost use Rattle.std.specs.Prelude.{◌≡◌, ◌+◌, ◌<◌, length, IfOk, OnOk};
+    ghost use Rattle.region_tree.specs.Tree.{IsTree};
+    ghost use Rattle.bound_calc.specs.Best.{IsBest};
+    ghost use Rattle.bound_calc.specs.Matrices.{entry};
+    ghost use Rattle.bound_calc.specs.Passing.{IsPass, ReachesAt, here};
+    ghost use Rattle.bound_calc.specs.Propagation.{AreWays, ways_on};
+
+    /// A pass before the first word. The words of `ways` go on at costs of their own, which lead to
+    /// positions of the thread.
+    ///
+    /// # Errors
+    ///
+    /// Memory ran out.
+    pub fn new(
+        alloc: Global,
+        tree: &LoopTree,
+        steps: &Steps,
+        ways: &Ways,
+    ) -> Result<Pass, AllocError>
+        requires own { AreWays steps.now (ways_on ways.now) }
+        ensures start { IfOk result (IsPass tree.now steps.now (ways_on ways.now) 0) }
+        ensures rules { IsTree tree.now }
+    {
+        let mut front = Front::new(alloc, span_of(tree, None).last + 1)?;
+        let powers = fill(alloc, tree, steps, ways, &mut front)?;
+        begin(alloc, tree, steps, None, &mut front)?;
+        Ok(Pass { powers, front })
+    }
+
+    /// Goes over the word at an index, which is the next one. Then [`Pass::here`] has its costs.
+    ///
+    /// # Errors
+    ///
+    /// Memory ran out.
+    pub fn visit(
+        &mut self,
+        alloc: Global,
+        tree: &LoopTree,
+        steps: &Steps,
+        ways: &Ways,
+        index: usize,
+    ) -> Result<(), AllocError>
+        requires tree { IsTree tree.now }
+        requires inside { index < length tree.now.words }
+        requires before { IsPass tree.now steps.now (ways_on ways.now) index self.old }
+        ensures after { OnOk result
+            (IsPass tree.now steps.now (ways_on ways.now) (index + 1) self.new) }
+        ensures here { OnOk result (IsBest (entry (here self.new))
+            (ReachesAt tree.now steps.now (ways_on ways.now) index)) }
+    {
+        let last = span_of(tree, None).last;
+        let way = ways.at(index);
+        let edges = edges_at(tree, index);
+        let power = &self.powers[index];
+        let front = &mut self.front;
+        process_word(alloc, tree, steps, way, power, &edges, index, last, front)?;
+        Ok(())
+    }
+
+    /// The largest costs of paths to the word that the pass went over last.
+    pub fn here(&self) -> &Matrix
+        ensures { result.now ≡ here self.now }
+    {
+        &self.front.base
+    }
 }
 
 /// By index the largest costs of paths to each word of the section. The words of `ways` go on at
@@ -76,6 +109,12 @@ pub fn reach(
         AreReached tree.now steps.now (ways_on ways.now) at.items) }
     ensures rules { IsTree tree.now }
 {
-    let mut front = Front::new(alloc, span_of(tree, None).last + 1)?;
-    reach_by(alloc, tree, steps, ways, &mut front)
+    let mut pass = Pass::new(alloc, tree, steps, ways)?;
+    let count = span_of(tree, None).last + 1;
+    let mut at = Vec::with_capacity(alloc, count)?;
+    for index in 0..count {
+        pass.visit(alloc, tree, steps, ways, index)?;
+        at.push(*pass.here())?;
+    }
+    Ok(at)
 }

@@ -1,16 +1,16 @@
--- Matrices of sets of costs that hold at some index, and of sets whose costs are equal up to the
--- ceiling.
-use Rattle.std.proofs.Common.{◌≡◌, ℕ, ◌+◌, ◌<◌, ◌≤◌, ◌⊎◌, ◌∙◌, refl, arith}
-use Rattle.std.proofs.Common.{inl, inr, subst, min, Some, Bool, true, false}
+-- Matrices of sets of costs that hold at some index, and of sets that cost the same as far as sums
+-- go.
+use Rattle.std.proofs.Common.{◌≡◌, ℕ, ◌+◌, ◌<◌, ◌≤◌, ◌⊎◌, ◌∙◌, arith}
+use Rattle.std.proofs.Common.{inl, inr, subst, min, Some}
 use Rattle.bound_calc.specs.Best.{Costs, Either, Entries, In, IsBest, ceiling}
 use Rattle.bound_calc.proofs.BestLaws.{Within, best-either, best-same}
-use Rattle.call_bounds.specs.Summaries.{Any, When}
+use Rattle.call_bounds.specs.Summaries.{Any}
 
 once-covers : (c e s n : ℕ) → min c n ≤ e → min e n ≤ s → min c n ≤ s
 once-covers c e s n h h' = omega arith
 
--- each cost of f has an equal or larger one in g, and each of g an equal one in f, up to the
--- ceiling
+-- sets of which each cost of the one has one of the other that is the same, or larger, as far as
+-- sums go
 pub record Alike (f g : Costs) : Type 0 where
   pub covers : (p c q : ℕ) → f p c q → (e : ℕ) × g p e q × (min c ceiling ≤ e)
   pub among : (p e q : ℕ) → g p e q → (c : ℕ) × f p c q × (min e ceiling ≡ min c ceiling)
@@ -23,22 +23,19 @@ best-alike {m} {f} {g} a b = (
   (λ p e q is. let z = b.1 p e q is in let y = a.among p z.0 q z.1 in (y.0, y.1, z.2 ∙ y.2)),
 )
 
-pub alike-or : {f g h : Costs} → Alike f g → Alike (Either h f) (Either h g)
-alike-or {f} {g} {h} a = record { covers = covers; among = among }
+pub alike-either : {f g h i : Costs} → Alike f g → Alike h i → Alike (Either f h) (Either g i)
+alike-either {f} {g} {h} {i} a b = record { covers = covers; among = among }
   where
-    covers : (p c q : ℕ) → Either h f p c q → (e : ℕ) × Either h g p e q × (min c ceiling ≤ e)
-    covers p c q (inl x) = (c, inl x, under c c ceiling (omega arith))
-      where
-        under : (c e n : ℕ) → c ≤ e → min c n ≤ e
-        under c e n h = omega arith
-    covers p c q (inr x) = let y = a.covers p c q x in (y.0, inr y.1, y.2)
+    covers : (p c q : ℕ) → Either f h p c q → (e : ℕ) × Either g i p e q × (min c ceiling ≤ e)
+    covers p c q (inl x) = let y = a.covers p c q x in (y.0, inl y.1, y.2)
+    covers p c q (inr x) = let y = b.covers p c q x in (y.0, inr y.1, y.2)
 
-    among : (p e q : ℕ) → Either h g p e q →
-        (c : ℕ) × Either h f p c q × (min e ceiling ≡ min c ceiling)
-    among p e q (inl x) = (e, inl x, refl)
-    among p e q (inr x) = let y = a.among p e q x in (y.0, inr y.1, y.2)
+    among : (p e q : ℕ) → Either g i p e q →
+        (c : ℕ) × Either f h p c q × (min e ceiling ≡ min c ceiling)
+    among p e q (inl x) = let y = a.among p e q x in (y.0, inl y.1, y.2)
+    among p e q (inr x) = let y = b.among p e q x in (y.0, inr y.1, y.2)
 
--- a set joined with a matrix
+-- a set joined onto a matrix
 pub best-onto : {a c : Entries} {f g : Costs} → IsBest a f → IsBest c (Either (In a) g) →
     IsBest c (Either f g)
 best-onto {a} {c} {f} {g} x z =
@@ -60,7 +57,7 @@ pub any-none : {m : Entries} {f : ℕ → Costs} → ((p q c : ℕ) → m p q �
 any-none none =
     ((λ p c q x. absurd (let b = x.1 in omega arith)), (λ p e q is. absurd (none p q e is)))
 
--- a cost below n + 1 is one below n, or at n
+-- what holds below n + 1 holds below n, or at n
 split : (f : ℕ → Costs) {n p c q : ℕ} → Any f (n + 1) p c q → Any f n p c q ⊎ f n p c q
 split f {n} {p} {c} {q} (k, lt, x) = go (let z : (k < n) ⊎ (k ≡ n) = grind arith in z)
   where
@@ -82,61 +79,7 @@ any-more f n a b = best-same there (λ p c q z. split f z) (best-onto a b)
     there p c q (inl z) = wider f z
     there p c q (inr z) = last f z
 
--- the same, joined with another matrix, if the costs at an index are of two kinds
-pub onto-none : {m : Entries} {f : ℕ → Costs} → IsBest m (Either (In m) (Any f 0))
-onto-none {m} {f} = (covers, λ p e q is. (e, inl is, refl))
-  where
-    covers : (p c q : ℕ) → Either (In m) (Any f 0) p c q →
-        (e : ℕ) × (m p q ≡ Some e) × (min c ceiling ≤ e)
-    covers p c q (inl x) = (c, x, under c c ceiling (omega arith))
-      where
-        under : (c e n : ℕ) → c ≤ e → min c n ≤ e
-        under c e n h = omega arith
-    covers p c q (inr x) = absurd (let b = x.1 in omega arith)
-
-pub onto-more : {onto back between new : Entries} (f : ℕ → Costs) (g h : Costs) (n : ℕ) →
-    Within (f n) (Either g h) → Within (Either g h) (f n) →
-    IsBest back (Either (In onto) (Any f n)) → IsBest between (Either (In back) g) →
-    IsBest new (Either (In between) h) → IsBest new (Either (In onto) (Any f (n + 1)))
-onto-more {onto} f g h n cut join a b c = best-same there away (best-onto (best-onto a b) c)
-  where
-    there : Within (Either (Either (Either (In onto) (Any f n)) g) h)
-        (Either (In onto) (Any f (n + 1)))
-    there p c q (inl (inl (inl z))) = inl z
-    there p c q (inl (inl (inr z))) = inr (wider f z)
-    there p c q (inl (inr z)) = inr (last f (join p c q (inl z)))
-    there p c q (inr z) = inr (last f (join p c q (inr z)))
-
-    sorted : (p c q : ℕ) → Any f n p c q ⊎ f n p c q →
-        Either (Either (Either (In onto) (Any f n)) g) h p c q
-    sorted p c q (inl z) = inl (inl (inr z))
-    sorted p c q (inr z) = elim (cut p c q z) [ inl x ↦ inl (inr x) | inr y ↦ inr y ]
-
-    away : Within (Either (In onto) (Any f (n + 1)))
-        (Either (Either (Either (In onto) (Any f n)) g) h)
-    away p c q (inl z) = inl (inl (inl z))
-    away p c q (inr z) = sorted p c q (split f z)
-
--- costs that are joined with a matrix if a test holds
-pub when-true : {onto new : Entries} (f : Costs) (b : Bool) → b ≡ true →
-    IsBest new (Either (In onto) f) → IsBest new (Either (In onto) (When b f))
-when-true f true e best = best
-when-true f false e best = cc
-
-pub when-false : {onto : Entries} (f : Costs) (b : Bool) → b ≡ false →
-    IsBest onto (Either (In onto) (When b f))
-when-false f true e = cc
-when-false {onto} f false e = (covers, λ p e q is. (e, inl is, refl))
-  where
-    covers : (p c q : ℕ) → Either (In onto) (When false f) p c q →
-        (e : ℕ) × (onto p q ≡ Some e) × (min c ceiling ≤ e)
-    covers p c q (inl x) = (c, x, under c c ceiling (omega arith))
-      where
-        under : (c e n : ℕ) → c ≤ e → min c n ≤ e
-        under c e n h = omega arith
-    covers p c q (inr x) = absurd x
-
--- two sets joined with a matrix, one after the other
+-- two sets joined onto a matrix, one after the other
 pub end-more : {onto one two three : Entries} {f g : Costs} →
     IsBest one (Either (In onto) f) → IsBest two g → IsBest three (Either (In one) (In two)) →
     IsBest three (Either (In onto) (Either f g))

@@ -1,4 +1,4 @@
--- The costs of leaving the section, word by word.
+-- What leads out of the section, word by word.
 use Rattle.std.proofs.Common.{◌≡◌, ℕ, ◌+◌, ◌*◌, ◌<◌, ◌≤◌, ◌⊎◌, ◌∙◌, refl, arith, inl, inr, ap, sym}
 use Rattle.std.proofs.Common.{subst, min, Option, Some, None, List, Bool, true, false, Contains}
 use Rattle.std.proofs.lemmas.List.Elements.{Contains-append_left, Contains-append_right}
@@ -10,9 +10,8 @@ use Rattle.region_tree.specs.Tree.{IsSection, Tree, graph}
 use Rattle.region_tree.specs.Walk.{IsOwn}
 use Rattle.region_tree.specs.declared.edges.Edges.{Edges as EdgesOf}
 use Rattle.region_tree.proofs.EdgeLaws.{edge-is, is-edge}
-use Rattle.bound_calc.specs.Best.{Costs, Either, In, IsBest, Then, ceiling}
-use Rattle.bound_calc.specs.Hops.{IsLargest}
-use Rattle.bound_calc.specs.Matrices.{entry}
+use Rattle.bound_calc.specs.Best.{Costs, Either, In, Then, ceiling}
+use Rattle.bound_calc.specs.Tops.{IsTop}
 use Rattle.bound_calc.specs.Propagation.{WaysOn, edges_at, leaves, matrix_at, move_costs, index}
 use Rattle.bound_calc.specs.declared.matrix.Matrix.{Matrix}
 use Rattle.bound_calc.proofs.MostLaws.{leaves-not, not-leaves}
@@ -31,7 +30,7 @@ use Rattle.call_bounds.proofs.PatchLaws.{agrees}
 use Rattle.call_bounds.proofs.RunNet.{call-is, plain-move}
 use Rattle.call_bounds.proofs.Ways.{IsWayOf, covered, found}
 
--- a path of the section and an edge of its graph out of it
+-- a walk of the section and an edge of its graph out of it
 record Leaves (x : Route) (p c q : ℕ) : Type 0 where
   word : ℕ
   at : ℕ
@@ -120,7 +119,7 @@ sum-among : (a b c one two n : ℕ) → min one n ≡ min a n → min two n ≡ 
     min c n ≡ min (a + b) n
 sum-among a b c one two n h1 h2 is = omega arith
 
--- the costs at the words, each with its steps out of the section, are those of leaving paths
+-- what leads to the words and from there out of the section costs what walks do that leave it
 pub leaving-alike : (x : Route) (at : List Matrix) (ways : WaysOn) → Gone x None at →
     ((u : ℕ) → Reachable (part x.calls None) u →
     IsWayOf x (Through x) (callee x.calls u) (ways (index (part_tree x.calls None) u))) →
@@ -255,7 +254,7 @@ leaving-alike x at ways g are = record {
             by_edge v lag (known (record { to = v; lag = lag }) (is-edge (Some v) lag v refl))
             (leaves-not t v y.0) y.1
 
--- paths begin at own positions
+-- walks begin at own positions
 run-own : (x : Route) {a : Part} {p u q c : ℕ} {k : LoopSetup → ℕ} → Run x a p u q c k →
     IsOwn x.positions p
 run-own x (Run.start o) = o
@@ -268,20 +267,13 @@ costs-own x (inl (Deep.enters run to turn deep)) = run-own x run
 costs-own x (inr (Leaving.leaves e run edge out turn)) = run-own x run
 costs-own x (inr (Leaving.comes_out run to out turn z)) = run-own x run
 
-≤-two : (a b c : ℕ) → a ≤ b → b ≤ c → a ≤ c
-≤-two a b c h h' = omega arith
-
--- the largest cost that ends in the section or below it, or leaves it
-pub most-is : (x : Route) (m : Matrix) (most : ℕ) → (p : ℕ) × IsOwn x.positions p →
-    IsBest (entry m) (Either (Deep x None) (Leaving x)) → IsLargest m 0 most → IsMost x most
-most-is x m most slot b l = record { covers = covers; among = among l.met }
+-- the largest of what ends in the section or below it and what leaves it
+pub most-is : (x : Route) (most : ℕ) → (p : ℕ) × IsOwn x.positions p →
+    IsTop (Either (Deep x None) (Leaving x)) 0 most → IsMost x most
+most-is x most slot t = record { covers = λ c n. t.upper n.at c n.end n.costs; among = among t.met }
   where
-    covers : (c : ℕ) → Nested x c → min c ceiling ≤ most
-    covers c n =
-        let e = b.0 n.at c n.end n.costs in
-        ≤-two (min c ceiling) e.0 most e.2 (l.upper n.at e.0 n.end e.1)
-
-    among : (most ≡ 0) ⊎ ((p : ℕ) × (q : ℕ) × (entry m p q ≡ Some most)) →
+    among : (most ≡ 0) ⊎ ((p : ℕ) × (c : ℕ) × (q : ℕ) × Either (Deep x None) (Leaving x) p c q
+        × (min most ceiling ≡ min c ceiling)) →
         (c : ℕ) × Nested x c × (min most ceiling ≡ min c ceiling)
     among (inl none) = (
       0,
@@ -293,6 +285,5 @@ most-is x m most slot b l = record { covers = covers; among = among l.met }
       },
       ap (λ n. min n ceiling) none,
     )
-    among (inr (p, q, is)) =
-        let y = b.1 p most q is in
-        (y.0, record { at = p; own = costs-own x y.1; end = q; costs = y.1 }, y.2)
+    among (inr (p, c, q, y, is)) =
+        (c, record { at = p; own = costs-own x y; end = q; costs = y }, is)

@@ -1,4 +1,4 @@
--- Clauses about errors that a function passes on.
+-- What is told of errors that are passed on.
 use Rattle.std.proofs.Common.{◌≡◌, sym, subst, Result, Ok, Err, IfOk, IfErr, OnOk}
 use Rattle.std.specs.Result.{IsErrAnd}
 use Rattle.call_bounds.specs.declared.tree.CallNo.{CallNo}
@@ -8,35 +8,41 @@ use Rattle.call_bounds.specs.declared.tree.CallNo.TheVariants.{TimedWait, Unboun
 use Rattle.call_bounds.specs.Calls.{Calls}
 use Rattle.call_bounds.specs.CallRefused.{AreCallsAllowed, IsCallRefused, IsTreeRefused}
 
--- an error satisfies every clause on successes
+-- nothing of a value
 pub no-value : {A E : Type 0} (r : Result A E) (P : A → Type 0) (Q : E → Type 0) →
     IsErrAnd r Q → IfOk r P
 no-value (Ok value) P Q h = absurd h
 no-value (Err why) P Q h = tt
 
--- the same for a clause that doesn't use the value
+-- what follows from what is told of a value
+pub from-value : {A E : Type 0} (r : Result A E) {P Q : A → Type 0} → ((x : A) → P x → Q x) →
+    IfOk r P → IfOk r Q
+from-value (Ok value) f h = f value h
+from-value (Err why) f h = tt
+
+-- nothing of there being one
 pub no-success : {A E : Type 0} (r : Result A E) (P : Type 0) (Q : E → Type 0) →
     IsErrAnd r Q → OnOk r P
 no-success (Ok value) P Q h = absurd h
 no-success (Err why) P Q h = tt
 
--- a clause on successes holds if its claim holds in any case
+-- what holds anyway is told of a success
 pub any-success : {A E : Type 0} (r : Result A E) (P : Type 0) → P → OnOk r P
 any-success (Ok value) P p = p
 any-success (Err why) P p = tt
 
--- a clause on errors holds if it holds of the error that is passed on
+-- an error is told as it was
 pub told-as : {A E : Type 0} (P : E → Type 0) (r : Result A E) (why : E) →
     IsErrAnd r (λ told. told ≡ why) → P why → IfErr r P
 told-as P (Ok value) why h is = absurd h
 told-as P (Err told) why h is = subst P (sym h) is
 
--- a refused allocation is always a permitted refusal
+-- that memory was refused is told whatever holds
 pub memory-refused : {A : Type 0} (x : Calls) (r : Result A CallNo) →
     IsErrAnd r (λ told. told ≡ NoMemory) → IfErr r (IsCallRefused x)
 memory-refused x r h = told-as (IsCallRefused x) r NoMemory h tt
 
--- a refusal of a function is one of the whole, if no earlier cause holds
+-- a refusal of a part is one of the whole, where nothing earlier holds
 pub tree-refused : (x : Calls) (why : CallNo) → AreCallsAllowed x → IsTreeRefused x why →
     IsCallRefused x why
 tree-refused x (Nesting a) allowed is = (allowed, is)

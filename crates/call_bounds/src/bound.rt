@@ -6,26 +6,30 @@ ghost use Rattle.std.specs.Option.{option_map};
 ghost use Rattle.rv_decode.specs.Lag.{redirect_lag};
 ghost use Rattle.slot_table.specs.Frame.{frame};
 ghost use Rattle.region_tree.specs.Walk.{IsOwn};
-ghost use Rattle.bound_calc.specs.Best.{Either, In, IsBest, Then};
+ghost use Rattle.region_tree.specs.Tree.{IsTree};
+ghost use Rattle.bound_calc.specs.Best.{In, Then};
 ghost use Rattle.bound_calc.specs.Bound.{positions};
 ghost use Rattle.bound_calc.specs.declared.cycle_bound.BoundNo.TheVariants.{Overflow};
 ghost use Rattle.bound_calc.specs.Matrices.{entry};
-ghost use Rattle.bound_calc.specs.Propagation.{leaves, move_costs, ways_on};
+ghost use Rattle.bound_calc.specs.Propagation.{AreWays, leaves, move_costs, ways_on};
+ghost use Rattle.bound_calc.specs.Tops.{IsTop};
 ghost use Rattle.call_bounds.specs.CallRefusals.{IsCallable, IsListing};
 ghost use Rattle.call_bounds.specs.CallWalk.{IsCallBound, IsTooCostly};
 ghost use Rattle.call_bounds.specs.Listing.{calls};
 ghost use Rattle.call_bounds.specs.Patched.{part_tree};
-ghost use Rattle.call_bounds.specs.Summaries.{Any, AreKnown, AreSummaries};
-ghost use Rattle.call_bounds.specs.Summaries.{IsMost, LeavesAt, When, route};
+ghost use Rattle.call_bounds.specs.Summaries.{AreKnown, AreSummaries, EndsAt};
+ghost use Rattle.call_bounds.specs.Summaries.{IsMost, When, route};
+ghost use Rattle.call_bounds.specs.Tops.{EndsFrom, IsMostBelow};
 
-use crate::summary::{Summaries, callees, deep, summaries_of};
+use crate::summary::{Summaries, callees, summaries_of};
 use crate::tree::CallTree;
-use bound_calc::{BoundNo, Matrix, Steps, Ways, along, edges_at, is_out, largest, reach};
-use region_tree::{JUMP_LAG, LoopTree};
+use bound_calc::{BoundNo, Matrix, Pass, Steps, Ways, along, edges_at, is_out, largest, longest};
+use region_tree::{Edges, JUMP_LAG, LoopTree};
 use slot_table::SlotTable;
 use std::alloc::{AllocError, Global};
 
-/// Joins `onto` with `here` taken along the edge to `target`, if that edge leaves the section.
+/// The largest of a number and, if the edge to `target` leaves the section, the costs at a word
+/// taken along the edge.
 fn leave_by(
     part: &LoopTree,
     steps: &Steps,
@@ -33,39 +37,75 @@ fn leave_by(
     here: &Matrix,
     target: Option<u32>,
     lag: u64,
-    onto: &Matrix,
-) -> Matrix
+    most: u128,
+) -> u128
     requires lag { lag ≤ redirect_lag }
-    ensures { IsBest (entry result)
-        (Either (In (entry onto.now))
+    ensures { IsTop
         (When (leaves part.now target)
         (Then (In (entry here.now)) (move_costs steps.now (option_map
-        (λ m. m.now) way.entry) lag)))) }
+        (λ m. m.now) way.entry) lag))) most result }
 {
     if is_out(part, target) {
-        along(steps, way, here, lag, onto)
+        largest(&along(steps, way, here, lag, &Matrix::NONE), most)
     } else {
-        *onto
+        most
     }
 }
 
-/// Joins `onto` with the costs of the paths that leave the section: for each word its matrix in
-/// `at`, and then an edge out of the section.
-fn leaving(part: &LoopTree, steps: &Steps, ways: &Ways, at: &[Matrix], onto: &Matrix) -> Matrix
-    requires room { length at.now ≡ length part.now.words }
-    ensures { IsBest (entry result)
-        (Either (In (entry onto.now))
-        (Any (LeavesAt part.now steps.now (ways_on ways.now) at.now) (length at.now))) }
+/// The largest of a number, the costs up to a word, and the costs on from there by a call.
+fn end_by(into: Option<&Matrix>, here: &Matrix, most: u128) -> u128
+    ensures { IsTop (EndsAt (option_map (λ m. m.now) into.entry) (entry here.now)) most result }
 {
-    let mut out = *onto;
-    for index in 0..at.len() {
-        let edges = edges_at(part, index);
-        let here = &at[index];
-        let way = ways.at(index);
-        let next = leave_by(part, steps, way, here, edges.next, edges.next_lag, &out);
-        out = leave_by(part, steps, way, here, edges.jump, JUMP_LAG, &next);
+    match into {
+        None => largest(here, most),
+        Some(into) => longest(here, into, most),
     }
-    out
+}
+
+/// The largest of a number and the costs of the paths that end at a word, go on from there into a
+/// routine, or leave the section from there.
+fn most_at(
+    part: &LoopTree,
+    steps: &Steps,
+    way: Option<&Matrix>,
+    into: Option<&Matrix>,
+    here: &Matrix,
+    edges: &Edges,
+    most: u128,
+) -> u128
+    requires lag { edges.now.next_lag ≤ redirect_lag }
+    ensures { IsTop (EndsFrom part.now steps.now (option_map (λ m. m.now) way.entry)
+        (option_map (λ m. m.now) into.entry) edges.now (entry here.now)) most result }
+{
+    let ended = end_by(into, here, most);
+    let next = leave_by(part, steps, way, here, edges.next, edges.next_lag, ended);
+    leave_by(part, steps, way, here, edges.jump, JUMP_LAG, next)
+}
+
+/// The largest cost of a path that ends at a word of the section, in a routine that it calls, or
+/// outside. It holds the costs at one word at a time.
+fn most_over(
+    alloc: Global,
+    part: &LoopTree,
+    steps: &Steps,
+    ways: &Ways,
+    into: &Ways,
+) -> Result<u128, AllocError>
+    requires own { AreWays steps.now (ways_on ways.now) }
+    ensures most { IfOk result (IsMostBelow part.now steps.now (ways_on ways.now)
+        (ways_on into.now) (length part.now.words)) }
+    ensures rules { IsTree part.now }
+{
+    let section = part.section();
+    let mut pass = Pass::new(alloc, part, steps, ways)?;
+    let mut most = 0;
+    for index in 0..((section.to - section.from) / 4) as usize {
+        pass.visit(alloc, part, steps, ways, index)?;
+        let edges = edges_at(part, index);
+        let way = ways.at(index);
+        most = most_at(part, steps, way, into.at(index), pass.here(), &edges, most);
+    }
+    Ok(most)
 }
 
 /// The largest cost of a path of the section, from its tree and the summaries of its callees.
@@ -85,9 +125,8 @@ fn most_in(
 {
     let callees = callees(alloc, tree, part.section())?;
     let ways = Ways::new(&callees, &done.through);
-    let at = reach(alloc, part, steps, &ways)?;
-    let ended = deep(&Ways::new(&callees, &done.deep), &at);
-    Ok(largest(&leaving(part, steps, &ways, &at, &ended), 0))
+    let into = Ways::new(&callees, &done.deep);
+    most_over(alloc, part, steps, &ways, &into)
 }
 
 /// The largest cost of a path of the section, from the summaries of the routines.

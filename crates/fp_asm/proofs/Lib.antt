@@ -10,6 +10,7 @@ pub mod Ways
 pub mod LabelByLabel
 pub mod WordByWord
 pub mod TargetByTarget
+pub mod NoStatement
 pub mod PassByPass
 pub mod RunByRun
 pub mod Segments

@@ -35,6 +35,9 @@ fn sized(alloc: Global, location: u32, pieces: &[Piece]) -> Result<Option<(u32, 
     ensures refused { IfErr result
         (IsStopOf (sized_of location (map abstract_piece pieces.now))) }
 {
+    if pieces.is_empty() {
+        return Ok(None);
+    }
     match statement_after(alloc, pieces)? {
         Some(statement) => Ok(Some((size(&statement), location_after(location, &statement)))),
         None => Ok(None),
@@ -64,6 +67,9 @@ impl<'a> First<'a> {
         ensures refused { IfErr result
             (IsStopOf (first_line (abstract_first self.old) line.now)) }
     {
+        if line.is_empty() {
+            return Ok(());
+        }
         let pieces = pieces(alloc, line)?;
         let n = add_labels(&mut self.labels, self.location, &pieces)?;
         if let Some((size, after)) = sized(alloc, self.location, &pieces[n..])? {

@@ -22,13 +22,12 @@ fn add_label<'a>(labels: &mut Labels<'a>, name: &'a [u8], location: u32) -> Resu
     ensures refused { IfErr result
         (IsStopOf (with_label location (abstract_labels labels.old) name.now)) }
 {
-    if labels.contains_key(name) {
-        return Err(Stop::Fault {
+    match labels.insert(name, location)? {
+        None => Ok(()),
+        Some(_) => Err(Stop::Fault {
             code: AsmNo::DoubleLabel,
-        });
+        }),
     }
-    labels.insert(name, location)?;
-    Ok(())
 }
 
 #[tactic(auto, unfolding(crate::specs::First::has_label))]

@@ -85,8 +85,14 @@ impl Second {
             (IsStopOf
             (second_line (abstract_labels labels.now) (abstract_second self.old) line.now)) }
     {
+        if line.is_empty() {
+            return Ok(());
+        }
         let pieces = pieces(alloc, line)?;
         let n = skip_labels(&pieces);
+        if n == pieces.len() {
+            return Ok(());
+        }
         let statement = statement_after(alloc, &pieces[n..])?;
         self.write(alloc, labels, &statement)
     }

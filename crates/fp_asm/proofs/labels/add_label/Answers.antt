@@ -1,14 +1,14 @@
-use Rattle.std.proofs.Common.{sym, ◌∙◌, ap, Ok}
+use Rattle.std.proofs.Common.{sym, ◌∙◌, ap, Ok, is_some}
 use Rattle.fp_asm.proofs.LabelByLabel.{seen, label_there, label_new}
 use Rattle.fp_asm.proofs.labels.add_label.Goals as goal
 
-pub returns-then-contains_key-clause-refused : goal.returns-then-contains_key-clause-refused
-returns-then-contains_key-clause-refused c =
+pub returns-in-Some-clause-refused : goal.returns-in-Some-clause-refused
+returns-in-Some-clause-refused c =
     label_there c.args.labels.now.entries c.args.name.now c.args.location
-    (sym c.contains_key.ensures ∙ c.if-contains_key.true)
+    (ap is_some (sym c.in_ok-insert.ensures.old ∙ c.in-Some.is))
 
-pub returns-clause-ok : goal.returns-clause-ok
-returns-clause-ok c =
+pub returns-in-None-clause-ok : goal.returns-in-None-clause-ok
+returns-in-None-clause-ok c =
     label_new c.args.labels.now.entries c.args.name c.args.location
-    (sym c.contains_key.ensures ∙ c.if-contains_key.false)
+    (ap is_some (sym c.in_ok-insert.ensures.old ∙ c.in-None.is))
     ∙ ap (λ es. Ok (seen es)) (sym c.in_ok-insert.ensures.entries)
