@@ -1,5 +1,5 @@
--- Matrices of sets of costs that hold at some index, and of sets that cost the same as far as sums
--- go.
+-- Matrices of sets of costs that hold at some index, and of sets whose costs are equal up to the
+-- ceiling.
 use Rattle.std.proofs.Common.{◌≡◌, ℕ, ◌+◌, ◌<◌, ◌≤◌, ◌⊎◌, ◌∙◌, arith}
 use Rattle.std.proofs.Common.{inl, inr, subst, min, Some}
 use Rattle.bound_calc.specs.Best.{Costs, Either, Entries, In, IsBest, ceiling}
@@ -9,8 +9,7 @@ use Rattle.call_bounds.specs.Summaries.{Any}
 once-covers : (c e s n : ℕ) → min c n ≤ e → min e n ≤ s → min c n ≤ s
 once-covers c e s n h h' = omega arith
 
--- sets of which each cost of the one has one of the other that is the same, or larger, as far as
--- sums go
+-- two sets: each cost of one has a cost of the other that is equal or larger, up to the ceiling
 pub record Alike (f g : Costs) : Type 0 where
   pub covers : (p c q : ℕ) → f p c q → (e : ℕ) × g p e q × (min c ceiling ≤ e)
   pub among : (p e q : ℕ) → g p e q → (c : ℕ) × f p c q × (min e ceiling ≡ min c ceiling)
@@ -35,7 +34,7 @@ alike-either {f} {g} {h} {i} a b = record { covers = covers; among = among }
     among p e q (inl x) = let y = a.among p e q x in (y.0, inl y.1, y.2)
     among p e q (inr x) = let y = b.among p e q x in (y.0, inr y.1, y.2)
 
--- a set joined onto a matrix
+-- a set joined with a matrix
 pub best-onto : {a c : Entries} {f g : Costs} → IsBest a f → IsBest c (Either (In a) g) →
     IsBest c (Either f g)
 best-onto {a} {c} {f} {g} x z =
@@ -57,7 +56,7 @@ pub any-none : {m : Entries} {f : ℕ → Costs} → ((p q c : ℕ) → m p q �
 any-none none =
     ((λ p c q x. absurd (let b = x.1 in omega arith)), (λ p e q is. absurd (none p q e is)))
 
--- what holds below n + 1 holds below n, or at n
+-- a set that holds below n + 1 holds below n, or at n
 split : (f : ℕ → Costs) {n p c q : ℕ} → Any f (n + 1) p c q → Any f n p c q ⊎ f n p c q
 split f {n} {p} {c} {q} (k, lt, x) = go (let z : (k < n) ⊎ (k ≡ n) = grind arith in z)
   where
@@ -79,7 +78,7 @@ any-more f n a b = best-same there (λ p c q z. split f z) (best-onto a b)
     there p c q (inl z) = wider f z
     there p c q (inr z) = last f z
 
--- two sets joined onto a matrix, one after the other
+-- two sets joined with a matrix, one after the other
 pub end-more : {onto one two three : Entries} {f g : Costs} →
     IsBest one (Either (In onto) f) → IsBest two g → IsBest three (Either (In one) (In two)) →
     IsBest three (Either (In onto) (Either f g))

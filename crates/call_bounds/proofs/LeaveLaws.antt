@@ -1,4 +1,4 @@
--- What leads out of the section, word by word.
+-- The costs of leaving the section, word by word.
 use Rattle.std.proofs.Common.{◌≡◌, ℕ, ◌+◌, ◌*◌, ◌<◌, ◌≤◌, ◌⊎◌, ◌∙◌, refl, arith, inl, inr, ap, sym}
 use Rattle.std.proofs.Common.{subst, min, Option, Some, None, List, Bool, true, false, Contains}
 use Rattle.std.proofs.lemmas.List.Elements.{Contains-append_left, Contains-append_right}
@@ -30,7 +30,7 @@ use Rattle.call_bounds.proofs.PatchLaws.{agrees}
 use Rattle.call_bounds.proofs.RunNet.{call-is, plain-move}
 use Rattle.call_bounds.proofs.Ways.{IsWayOf, covered, found}
 
--- a walk of the section and an edge of its graph out of it
+-- a path of the section and an edge of its graph out of it
 record Leaves (x : Route) (p c q : ℕ) : Type 0 where
   word : ℕ
   at : ℕ
@@ -119,7 +119,7 @@ sum-among : (a b c one two n : ℕ) → min one n ≡ min a n → min two n ≡ 
     min c n ≡ min (a + b) n
 sum-among a b c one two n h1 h2 is = omega arith
 
--- what leads to the words and from there out of the section costs what walks do that leave it
+-- costs at a word and of an edge out of the section are costs of paths that leave it
 pub leaving-alike : (x : Route) (at : List Matrix) (ways : WaysOn) → Gone x None at →
     ((u : ℕ) → Reachable (part x.calls None) u →
     IsWayOf x (Through x) (callee x.calls u) (ways (index (part_tree x.calls None) u))) →
@@ -254,7 +254,7 @@ leaving-alike x at ways g are = record {
             by_edge v lag (known (record { to = v; lag = lag }) (is-edge (Some v) lag v refl))
             (leaves-not t v y.0) y.1
 
--- walks begin at own positions
+-- paths begin at own positions
 run-own : (x : Route) {a : Part} {p u q c : ℕ} {k : LoopSetup → ℕ} → Run x a p u q c k →
     IsOwn x.positions p
 run-own x (Run.start o) = o
@@ -267,7 +267,7 @@ costs-own x (inl (Deep.enters run to turn deep)) = run-own x run
 costs-own x (inr (Leaving.leaves e run edge out turn)) = run-own x run
 costs-own x (inr (Leaving.comes_out run to out turn z)) = run-own x run
 
--- the largest of what ends in the section or below it and what leaves it
+-- the largest cost of paths that end in the section or in a function, and of those that leave it
 pub most-is : (x : Route) (most : ℕ) → (p : ℕ) × IsOwn x.positions p →
     IsTop (Either (Deep x None) (Leaving x)) 0 most → IsMost x most
 most-is x most slot t = record { covers = λ c n. t.upper n.at c n.end n.costs; among = among t.met }

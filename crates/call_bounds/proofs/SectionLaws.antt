@@ -1,4 +1,4 @@
--- The section, once all its routines are known.
+-- The section, after all its functions are known.
 use Rattle.std.proofs.Common.{◌≡◌, ℕ, ◌∙◌, subst, sym, List, Option, None, Some, length}
 use Rattle.region_tree.specs.Tree.{IsTree, Tree}
 use Rattle.region_tree.specs.Walk.{IsOwn, Positions}
@@ -18,7 +18,7 @@ use Rattle.call_bounds.proofs.LeaveLaws.{leaving-alike, most-is}
 use Rattle.call_bounds.proofs.PartLaws.{Gone, count, deep-alike, gone, holds, many}
 use Rattle.call_bounds.proofs.TopLaws.{ends-either, top-alike}
 
--- the section's callees are known where all reached routines are
+-- the section's callees are known if all reached functions are
 section-knows : (l : Listing) (s : Positions) (through deep : List Matrix) →
     AreKnown l s (λ k. Unit {0}) through deep → KnowsCallees l s 0 through deep
 section-knows l s through deep all k lt call =
