@@ -24,6 +24,7 @@ use scratchpad::Spm;
 
 /// The effect of an instruction whose value may come late, with that value. Until M its effect is
 /// `Nothing`. A load at the port reads the word of three cycles ago, when it was issued.
+#[inline(always)]
 fn late_effect(
     guard: &Guard,
     imem: &Spm,
@@ -60,6 +61,7 @@ fn late_effect(
 }
 
 /// The stage register's content for an instruction with its effect.
+#[inline(always)]
 fn stored(x: &Executed, effect: Option<Effect>) -> Stored
     ensures { result ≡ record { pc = x.now.pc; word = x.now.word; effect = effect } }
 {
@@ -108,6 +110,7 @@ fn put_late(thread: u8, x: &Executed, effect: Option<Effect>, m: &mut Held<Store
 }
 
 /// Applies a thread's effect to its port.
+#[inline(always)]
 fn put_word(ports: &mut Ports, thread: u8, effect: &Option<Effect>)
     requires eight { vec_len ports.old ≡ 8 }
     requires thread { thread < 8 }
@@ -125,6 +128,7 @@ fn put_word(ports: &mut Ports, thread: u8, effect: &Option<Effect>)
 
 /// Writes to `m` the result of M for an instruction that was issued three cycles ago. Does its
 /// store, in the data scratchpad or at its thread's port.
+#[inline(always)]
 #[tactic(auto, unfolding(crate::proofs::Opened::storing))]
 fn access_issue(
     guard: &Guard,
@@ -161,13 +165,32 @@ fn access_issue(
         put_late(thread, x, effect, m);
         return;
     }
-    store_word(guard, dmem, &x.effect);
-    put_word(ports, thread, &x.effect);
+    // In a variable of its own the effect stays known, whatever the store writes.
+    if let Some(
+        Effect::Store {
+            address,
+            size,
+            value,
+        },
+    ) = x.effect
+    {
+        let effect = Some(Effect::Store {
+            address,
+            size,
+            value,
+        });
+        store_word(guard, dmem, &effect);
+        put_word(ports, thread, &effect);
+        let what = stored(x, effect);
+        *m = Held::Issue { thread, what };
+        return;
+    }
     let what = stored(x, x.effect);
     *m = Held::Issue { thread, what };
 }
 
 /// Writes to `m` the result of M for a turn that was issued three cycles ago, and does its store.
+#[inline(always)]
 #[tactic(auto, unfolding(crate::proofs::Opened::storing))]
 pub fn memory_stage(
     guard: &Guard,
