@@ -94,14 +94,15 @@ fn put_same(thread: u8, x: &Executed, m: &mut Held<Stored>)
       effect = x.now.effect;
     }) }
 {
+    if !matches!(m, Held::Issue { .. }) {
+        let what = stored(x, None);
+        *m = Held::Issue { thread, what };
+    }
     if let Held::Issue { thread: of, what } = m {
         *of = thread;
         what.pc = x.pc;
         what.word = x.word;
         from_mut(&mut what.effect).copy_from_slice(from_ref(&x.effect));
-    } else {
-        let what = stored(x, x.effect);
-        *m = Held::Issue { thread, what };
     }
 }
 
