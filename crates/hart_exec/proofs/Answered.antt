@@ -1,8 +1,7 @@
 -- The result of an access, and the instruction's execution by it.
 use Rattle.std.proofs.Common.{◌≡◌, ℕ, Option, Some, None, Bool, true, false}
-use Rattle.std.proofs.Common.{inl, inr, refl, sym, ap, ap₂, subst, ◌∙◌}
+use Rattle.std.proofs.Common.{inl, inr, refl, ap, ap₂, subst, ◌∙◌}
 use Rattle.std.specs.Prelude.{slice_set, if◌then◌else◌, ◌==◌, ◌&&◌, not, Result, Ok, Err}
-use Rattle.std.proofs.lemmas.List.{set-get_or}
 use Rattle.std.proofs.lemmas.Bool.Decides.{eqb_tells}
 use Rattle.rv_decode.specs.Lag.{redirect_lag}
 use Rattle.rv_decode.specs.CsrNumbers.{csr_mtvec, csr_mscratch, csr_mepc}
@@ -19,7 +18,7 @@ use Rattle.core_model.specs.Csr.{is_shared, csr_value, csr_update, may_hold}
 use Rattle.core_model.specs.Csr.{legal_value, with_csr, csr_write, csr_done, csr_access}
 use Rattle.trap_unit.specs.declared.unit.CsrDone.{CsrDone}
 use Rattle.trap_unit.specs.declared.unit.CsrNo.{CsrNo}
-use Rattle.trap_unit.specs.declared.unit.CsrNo.TheVariants.{Unknown, NoPermit, ReadOnly, BadValue}
+use Rattle.trap_unit.specs.declared.unit.CsrNo.TheVariants.{BadValue}
 use Rattle.trap_unit.specs.Access.{answer_by, done_with, guard_after, sched_after, traps_after}
 use Rattle.trap_unit.specs.Rows.{with_trap}
 use Rattle.hart_exec.specs.declared.hart.Hart.{Hart}

@@ -1,7 +1,7 @@
 -- The units after an instruction.
-use Rattle.std.proofs.Common.{◌≡◌, ℕ, Option, Some, None, List}
-use Rattle.std.proofs.Common.{Bool, true, false, refl, sym, ap, ◌∙◌}
-use Rattle.std.specs.Prelude.{slice_set, slice_index_or, if◌then◌else◌, ◌==◌}
+use Rattle.std.proofs.Common.{◌≡◌, ℕ, Option, Some, None}
+use Rattle.std.proofs.Common.{Bool, true, false, refl, sym}
+use Rattle.std.specs.Prelude.{slice_set, if◌then◌else◌, ◌==◌}
 use Rattle.std.proofs.lemmas.List.{set-get_or}
 use Rattle.rv_exec.specs.declared.outcome.Effect.{Effect}
 use Rattle.rv_exec.specs.declared.outcome.Effect.TheVariants.{Nothing, Reg, Store, Csr, Trap, Wait}
@@ -11,8 +11,8 @@ use Rattle.core_model.specs.declared.own.Own.{Own}
 use Rattle.core_model.specs.Thread.{Execution, reg_effect}
 use Rattle.hart_exec.specs.declared.hart.Hart.{Hart}
 use Rattle.hart_exec.specs.declared.outcome.ExecResult.{ExecResult}
-use Rattle.hart_exec.specs.Units.{Units, RefinesInPlace, abstract_result, guard_by}
-use Rattle.hart_exec.specs.Units.{own_of, row_of, sched_by, units_after, units_of}
+use Rattle.hart_exec.specs.Units.{RefinesInPlace, abstract_result, guard_by}
+use Rattle.hart_exec.specs.Units.{own_of, sched_by, units_after, units_of}
 
 -- an effect that is no write of a control and status register
 abbrev pub IsQuiet : Option Effect → Type 0

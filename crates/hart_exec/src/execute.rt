@@ -41,7 +41,7 @@ fn is_rare(i: &Ins) -> bool {
 /// nothing, for an instruction on control registers, traps or time and for a refused access.
 #[tactic(auto, unfolding(crate::proofs::Opened::plain), using(crate::proofs::Zero::aligned_zero))]
 #[inline(always)]
-fn execute_untrapped<const RARE: bool, const COLD: bool>(
+fn execute_untrapped<const RARE: bool>(
     hart: &mut Hart<'_>,
     at: PcWord,
     s: Sources,
@@ -74,8 +74,8 @@ fn execute_untrapped<const RARE: bool, const COLD: bool>(
         | Ins::Op { rd, .. } => Some(write(at, i, rd, o.value)),
         Ins::Jal { rd, .. } | Ins::Jalr { rd, .. } => Some(jump(at, i, o.target, rd, o.value)),
         Ins::Branch { .. } => Some(branch_on(at, i, o.taken, o.target)),
-        Ins::Load { op, .. } => load::<RARE, COLD>(hart, at, i, op, o.address),
-        Ins::Store { op, .. } => store::<RARE, COLD>(hart, at, i, op, o.address, s.b),
+        Ins::Load { op, .. } => load::<RARE>(hart, at, i, op, o.address),
+        Ins::Store { op, .. } => store::<RARE>(hart, at, i, op, o.address, s.b),
         Ins::Muldiv { .. } | Ins::Fence { .. } => Some(pass(at, i)),
         Ins::Mret => Some(return_from_trap(hart, at, i)),
         Ins::Csr { op, rd, csr, src } => {
@@ -97,7 +97,7 @@ fn execute_untrapped<const RARE: bool, const COLD: bool>(
 /// What an instruction does; a trap of its result comes first.
 #[tactic(auto, unfolding(core_model::specs::Issue::run_at), using(crate::proofs::Targets::steps))]
 #[inline(always)]
-fn run_at<const RARE: bool, const COLD: bool>(
+fn run_at<const RARE: bool>(
     hart: &mut Hart<'_>,
     at: PcWord,
     s: Sources,
@@ -120,7 +120,7 @@ fn run_at<const RARE: bool, const COLD: bool>(
     let o = execute(i, at.pc, s.a, s.b);
     match o.trap {
         Some(cause) => trap_if_rare::<RARE>(hart, at, cause),
-        None => execute_untrapped::<RARE, COLD>(hart, at, s, &o, i),
+        None => execute_untrapped::<RARE>(hart, at, s, &o, i),
     }
 }
 
@@ -144,12 +144,10 @@ fn expire(hart: &mut Hart<'_>, at: PcWord) -> ExecResult
 
 /// Executes the instruction at a pc, but for a late value. An expiry comes before all else; then a
 /// fetch that is refused. Neither shows a word. Without `RARE` it returns None and changes nothing
-/// for both, for traps, and for instructions on control registers, traps or time: a caller that
-/// executes these out of line keeps the results of the others in registers. `COLD` is for such a
-/// function out of line: the compiler inlines an instance that has one caller.
+/// for both, for traps, and for instructions on control registers, traps or time.
 #[tactic(auto, unfolding(crate::proofs::Opened::whole), using(crate::proofs::Zero::aligned_zero))]
 #[inline(always)]
-pub fn execute_some<const RARE: bool, const COLD: bool>(
+fn execute_some<const RARE: bool>(
     hart: &mut Hart<'_>,
     at: PcWord,
     expired: bool,
@@ -174,7 +172,32 @@ pub fn execute_some<const RARE: bool, const COLD: bool>(
     if !hart.guard.may_fetch(hart.thread, hart.confined, at.pc) {
         return trap_if_rare::<RARE>(hart, PcWord { word: 0, ..at }, cause::FETCH_FAULT);
     }
-    run_at::<RARE, COLD>(hart, at, s, &decode(at.word))
+    run_at::<RARE>(hart, at, s, &decode(at.word))
+}
+
+/// Executes the instruction at a pc, but for a late value, if it is frequent. It returns None and
+/// changes nothing for an expiry, a refused fetch, a trap, and an instruction on control registers,
+/// traps or time. A caller that executes these out of line keeps the results of the others in
+/// registers. It should have one caller: the compiler then inlines it, simplified.
+pub fn execute_frequent(
+    hart: &mut Hart<'_>,
+    at: PcWord,
+    expired: bool,
+    s: Sources,
+) -> Option<ExecResult>
+    requires { at.pc % 4 ≡ 0 }
+    ensures left { result ≡ None → units_of hart.new ≡ units_of hart.old }
+    ensures holds { Holds hart.old hart.new }
+    ensures refines { IfSome result (λ x. Refines hart.old hart.new x (execute_in
+        (environment_of hart.old) at.pc
+        (own_of hart.old) expired at.word s.a s.b)) }
+    ensures pc { IfSome result (λ x. x.pc % 4 ≡ 0) }
+    ensures printable { IfSome result (λ x. IsPrintableEffect x.effect) }
+    ensures store { IfSome result (λ x. IsAlignedStore x.effect) }
+    ensures shown { IfSome result (λ x. HasWord x.effect x.word) }
+    ensures address { IfSome result (λ x. IsAligned (ins x.word) x.address) }
+{
+    execute_some::<false>(hart, at, expired, s)
 }
 
 /// Executes the instruction at a pc, but for a late value. An expiry comes before all else; then a
@@ -192,5 +215,5 @@ pub fn execute_in(hart: &mut Hart<'_>, at: PcWord, expired: bool, s: Sources) ->
     ensures shown { HasWord result.effect result.word }
     ensures address { IsAligned (ins result.word) result.address }
 {
-    execute_some::<true, false>(hart, at, expired, s).unwrap()
+    execute_some::<true>(hart, at, expired, s).unwrap()
 }

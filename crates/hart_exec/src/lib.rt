@@ -14,7 +14,7 @@ mod sources;
 mod timing;
 mod word_sources;
 
-pub use execute::{execute_in, execute_some};
+pub use execute::{execute_frequent, execute_in};
 pub use hart::Hart;
 pub use late::finish;
 pub use outcome::{ExecResult, PcWord, Sources};

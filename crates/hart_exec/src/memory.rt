@@ -28,7 +28,7 @@ fn cut(op: StoreOp, value: u32) -> u32
 /// A load; one that isn't allowed is a load access fault, cause 5.
 #[tactic(auto, unfolding(core_model::specs::Outcomes::load, crate::specs::Units::environment_of))]
 #[inline(always)]
-pub fn load<const RARE: bool, const COLD: bool>(
+pub fn load<const RARE: bool>(
     hart: &mut Hart<'_>,
     at: PcWord,
     i: &Ins,
@@ -64,7 +64,7 @@ pub fn load<const RARE: bool, const COLD: bool>(
 /// A store; one that isn't allowed is a store access fault, cause 7.
 #[tactic(auto, unfolding(core_model::specs::Outcomes::store, crate::specs::Units::environment_of))]
 #[inline(always)]
-pub fn store<const RARE: bool, const COLD: bool>(
+pub fn store<const RARE: bool>(
     hart: &mut Hart<'_>,
     at: PcWord,
     i: &Ins,

@@ -1,15 +1,17 @@
 //! E: instructions are executed, but for late values.
 
-ghost use Rattle.std.specs.Prelude.{◌≡◌, ◌-◌, ◌<◌, ◌==◌, if◌then◌else◌};
+ghost use Rattle.std.specs.Prelude.{◌≡◌, ◌-◌, ◌<◌, ◌%◌, ◌==◌, if◌then◌else◌};
 ghost use Rattle.std.specs.Prelude.{List, Option, Some, None, IfSome, is_some, length, true};
+ghost use Rattle.core_model.specs.Issue.{execute_in};
 ghost use Rattle.core_model.specs.Thread.{no_own};
 ghost use Rattle.rv_decode.specs.Table.{ins};
 ghost use Rattle.rv_decode.specs.Lag.{plain_lag, late_lag};
 ghost use Rattle.rv_exec.specs.Access.{IsAligned};
 ghost use Rattle.timer_unit.specs.Time.{most_cycles};
 ghost use Rattle.fp_ports.specs.PluggedPorts.{Row};
-ghost use Rattle.hart_exec.specs.Effects.{HasWord};
-ghost use Rattle.hart_exec.specs.Units.{abstract_result};
+ghost use Rattle.hart_exec.specs.Effects.{HasWord, IsAlignedStore, IsPrintableEffect};
+ghost use Rattle.hart_exec.specs.Units.{Holds, Refines, abstract_result, environment_of};
+ghost use Rattle.hart_exec.specs.Units.{own_of, units_of};
 ghost use Rattle.pipe_model.specs.Stages.{execute_stage, executed_of, redirect_of};
 ghost use Rattle.pipe_model.specs.declared.stage_registers.Held.TheVariants.{Issue};
 ghost use Rattle.pipe_model.specs.declared.stage_registers.Flush.TheVariants.{Decode};
@@ -20,7 +22,7 @@ ghost use Rattle.pipeline_core.specs.Abstraction.{executed_by, abstract_state};
 
 use crate::units::Units;
 use core_model::CYCLES_TO_E;
-use hart_exec::{ExecResult, Hart, PcWord, Sources, execute_some};
+use hart_exec::{ExecResult, Hart, PcWord, Sources, execute_frequent, execute_in};
 use pipe_model::{Decoded, Executed, Flush, Held, Redirect};
 use rv_decode::{LATE_LAG, PLAIN_LAG};
 use rv_exec::Effect;
@@ -130,6 +132,35 @@ fn leave(
     true
 }
 
+/// Executes an instruction. Without `RARE` it returns None and changes nothing for an expiry, a
+/// trap, and an instruction on control registers, traps or time.
+#[inline(always)]
+fn execute_some<const RARE: bool>(
+    hart: &mut Hart<'_>,
+    at: PcWord,
+    expired: bool,
+    s: Sources,
+) -> Option<ExecResult>
+    requires { at.pc % 4 ≡ 0 }
+    ensures all { RARE ≡ true → is_some result ≡ true }
+    ensures left { result ≡ None → units_of hart.new ≡ units_of hart.old }
+    ensures holds { Holds hart.old hart.new }
+    ensures refines { IfSome result (λ x. Refines hart.old hart.new x (execute_in
+        (environment_of hart.old) at.pc
+        (own_of hart.old) expired at.word s.a s.b)) }
+    ensures pc { IfSome result (λ x. x.pc % 4 ≡ 0) }
+    ensures printable { IfSome result (λ x. IsPrintableEffect x.effect) }
+    ensures store { IfSome result (λ x. IsAlignedStore x.effect) }
+    ensures shown { IfSome result (λ x. HasWord x.effect x.word) }
+    ensures address { IfSome result (λ x. IsAligned (ins x.word) x.address) }
+{
+    if RARE {
+        Some(execute_in(hart, at, expired, s))
+    } else {
+        execute_frequent(hart, at, expired, s)
+    }
+}
+
 /// Executes an issue on its thread's units. Without `RARE` it returns None and changes no unit for
 /// an expiry, a trap, and an instruction on control registers, traps or time.
 #[tactic(auto, unfolding(pipe_model::specs::Stages::execute_stage))]
@@ -175,7 +206,7 @@ fn execute_issue<const RARE: bool>(
         traps: &mut units.traps,
     };
     let s = Sources { a: x.a, b: x.b };
-    let done = execute_some::<RARE, RARE>(&mut hart, at, x.expired, s)?;
+    let done = execute_some::<RARE>(&mut hart, at, x.expired, s)?;
     Some(leave(thread, x, &done, e, redirect))
 }
 

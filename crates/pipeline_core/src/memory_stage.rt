@@ -21,6 +21,7 @@ use region_guard::{Guard, PORT_ADDRESS};
 use rv_decode::{Ins, decode};
 use rv_exec::Effect;
 use scratchpad::Spm;
+use std::slice::{from_mut, from_ref};
 
 /// The effect of an instruction whose value may come late, with that value. Until M its effect is
 /// `Nothing`. A load at the port reads the word of three cycles ago, when it was issued.
@@ -82,6 +83,27 @@ fn put_register(thread: u8, x: &Executed, rd: u8, value: u32, m: &mut Held<Store
 {
     let what = stored(x, Some(Effect::Reg { rd, value }));
     *m = Held::Issue { thread, what };
+}
+
+/// Writes to `m` an instruction with the effect that it had after E, which is moved whole.
+#[inline(always)]
+fn put_same(thread: u8, x: &Executed, m: &mut Held<Stored>)
+    ensures { m.new ≡ Issue thread (record {
+      pc = x.now.pc;
+      word = x.now.word;
+      effect = x.now.effect;
+    }) }
+{
+    if !matches!(m, Held::Issue { .. }) {
+        let what = stored(x, None);
+        *m = Held::Issue { thread, what };
+    }
+    if let Held::Issue { thread: of, what } = m {
+        *of = thread;
+        what.pc = x.pc;
+        what.word = x.word;
+        from_mut(&mut what.effect).copy_from_slice(from_ref(&x.effect));
+    }
 }
 
 /// Writes to `m` an instruction whose value may have come late. Its effect is `Reg` or `Nothing`,
@@ -150,21 +172,29 @@ fn access_issue(
     ensures idle { uses_port guard.now.size (Issue thread x.now) ≡ false → ports.new ≡ ports.old }
     ensures eight { vec_len ports.new ≡ 8 }
 {
-    // The most frequent effect stores nothing, and only its own fields are copied.
-    if let Some(Effect::Reg { rd, value }) = x.effect {
-        put_register(thread, x, rd, value, m);
-        return;
-    }
-    // A late value stores nothing either, so this path has no test for a store.
     if let Some(Effect::Nothing) = x.effect {
         let effect = late_effect(guard, imem, dmem, ports, thread, cycle, x);
         put_late(thread, x, effect, m);
         return;
     }
-    store_word(guard, dmem, &x.effect);
-    put_word(ports, thread, &x.effect);
-    let what = stored(x, x.effect);
-    *m = Held::Issue { thread, what };
+    // In a variable of its own the effect stays known, whatever the store writes.
+    if let Some(
+        Effect::Store {
+            address,
+            size,
+            value,
+        },
+    ) = x.effect
+    {
+        let effect = Some(Effect::Store {
+            address,
+            size,
+            value,
+        });
+        store_word(guard, dmem, &effect);
+        put_word(ports, thread, &effect);
+    }
+    put_same(thread, x, m);
 }
 
 /// Writes to `m` the result of M for a turn that was issued three cycles ago, and does its store.

@@ -70,6 +70,9 @@ fn byte_3(old: u32, lanes: Lanes) -> u32
 fn merge(old: u32, lanes: Lanes) -> u32
     ensures { result ≡ merged_word old lanes }
 {
+    if lanes.mask == 0b1111 {
+        return lanes.value;
+    }
     byte_0(old, lanes)
         + byte_1(old, lanes) * 256
         + byte_2(old, lanes) * 65536

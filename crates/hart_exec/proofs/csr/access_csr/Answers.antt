@@ -1,5 +1,5 @@
 -- The result of an access decides the execution of the instruction.
-use Rattle.std.proofs.Common.{◌≡◌, Some, None, Err, ap, sym, refl, ◌∙◌}
+use Rattle.std.proofs.Common.{ap, sym, refl, ◌∙◌}
 use Rattle.trap_unit.specs.Access.{guard_after, sched_after, shared_value}
 use Rattle.trap_unit.specs.Access.{traps_after, value_by, written_in}
 use Rattle.hart_exec.specs.Units.{environment_of, own_of}
