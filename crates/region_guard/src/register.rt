@@ -158,26 +158,26 @@ impl Regions {
     }
 
     // Whether a confined thread may load and fetch in a region, which is 0 to 7.
-    pub(crate) fn is_readable(&self, region: u8, thread: u8) -> bool
+    pub(crate) fn is_readable(&self, region: u32, thread: u8) -> bool
         requires { region < 8 }
         ensures { result ≡ is_readable (region_kind thread (nibble_at self.now region)) }
     {
         if thread < 8 {
             (self.readable[thread as usize] >> region) % 2 == 1
         } else {
-            is_readable(nibble(self.word, region), thread)
+            is_readable(nibble(self.word, region as u8), thread)
         }
     }
 
     // Whether a thread may store in a region, which is 0 to 7.
-    pub(crate) fn is_writable(&self, region: u8, thread: u8) -> bool
+    pub(crate) fn is_writable(&self, region: u32, thread: u8) -> bool
         requires { region < 8 }
         ensures { result ≡ is_writable (region_kind thread (nibble_at self.now region)) }
     {
         if thread < 8 {
             (self.writable[thread as usize] >> region) % 2 == 1
         } else {
-            is_writable(nibble(self.word, region), thread)
+            is_writable(nibble(self.word, region as u8), thread)
         }
     }
 }
