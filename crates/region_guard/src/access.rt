@@ -122,4 +122,55 @@ impl Guard {
         self.d
             .is_writable(region_at(self.size, address - DATA_START), thread)
     }
+
+    // As `may_read`, for a thread 0 to 7.
+    fn may_read_by(&self, regions: &Regions, thread: u8, confined: bool, offset: u32) -> bool
+        requires inside { offset < self.now.size }
+        requires thread { thread < 8 }
+        ensures { result ≡ may_read thread self.now.size confined regions.now offset }
+    {
+        !confined || regions.is_readable_by(region_at(self.size, offset), thread)
+    }
+
+    /// As [`may_fetch`](Guard::may_fetch), for a thread 0 to 7.
+    #[tactic(auto, unfolding(crate::specs::Regions::may_fetch))]
+    pub fn may_fetch_by(&self, thread: u8, confined: bool, address: u32) -> bool
+        requires { thread < 8 }
+        ensures { result ≡ may_fetch thread self.now.size confined self.now.i address }
+    {
+        if address >= self.size {
+            return false;
+        }
+        self.may_read_by(&self.i, thread, confined, address)
+    }
+
+    /// As [`may_load`](Guard::may_load), for a thread 0 to 7.
+    #[tactic(auto, unfolding(crate::specs::Regions::may_load))]
+    pub fn may_load_by(&self, thread: u8, confined: bool, address: u32, size: u8) -> bool
+        requires { thread < 8 }
+        ensures { result
+            ≡ may_load thread self.now.size confined self.now.i self.now.d address size }
+    {
+        if address < self.size {
+            self.may_read_by(&self.i, thread, confined, address)
+        } else if self.is_data(address) {
+            self.may_read_by(&self.d, thread, confined, address - DATA_START)
+        } else {
+            is_port(address, size)
+        }
+    }
+
+    /// As [`may_store`](Guard::may_store), for a thread 0 to 7.
+    #[tactic(auto, unfolding(crate::specs::Regions::may_store))]
+    pub fn may_store_by(&self, thread: u8, address: u32, size: u8) -> bool
+        requires { thread < 8 }
+        ensures { result ≡ may_store thread self.now.size self.now.d address size }
+    {
+        if self.is_data(address) {
+            self.d
+                .is_writable_by(region_at(self.size, address - DATA_START), thread)
+        } else {
+            is_port(address, size)
+        }
+    }
 }
