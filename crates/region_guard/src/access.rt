@@ -116,11 +116,12 @@ impl Guard {
     pub fn may_store(&self, thread: u8, address: u32, size: u8) -> bool
         ensures { result ≡ may_store thread self.now.size self.now.d address size }
     {
-        if !self.is_data(address) {
-            return is_port(address, size);
+        if self.is_data(address) {
+            self.d
+                .is_writable(region_at(self.size, address - DATA_START), thread)
+        } else {
+            is_port(address, size)
         }
-        self.d
-            .is_writable(region_at(self.size, address - DATA_START), thread)
     }
 
     // As `may_read`, for a thread 0 to 7.
@@ -166,11 +167,10 @@ impl Guard {
         requires { thread < 8 }
         ensures { result ≡ may_store thread self.now.size self.now.d address size }
     {
-        if self.is_data(address) {
-            self.d
-                .is_writable_by(region_at(self.size, address - DATA_START), thread)
-        } else {
-            is_port(address, size)
+        if !self.is_data(address) {
+            return is_port(address, size);
         }
+        self.d
+            .is_writable_by(region_at(self.size, address - DATA_START), thread)
     }
 }

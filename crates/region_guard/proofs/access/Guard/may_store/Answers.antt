@@ -2,6 +2,6 @@ use Rattle.std.proofs.Common.{rules}
 use Rattle.region_guard.specs.Regions.{may_store, region_kind, region_of}
 use Rattle.region_guard.proofs.access.Guard.may_store.Goals as goal
 
-pub returns : goal.returns
+pub returns-then-is_data : goal.returns-then-is_data
 unfolding may_store region_kind region_of
-returns c = search rules
+returns-then-is_data c = search rules
