@@ -169,7 +169,7 @@ fn execute_some<const RARE: bool>(
     if expired {
         return if RARE { Some(expire(hart, at)) } else { None };
     }
-    if !hart.guard.may_fetch(hart.thread, hart.confined, at.pc) {
+    if !hart.guard.may_fetch_by(hart.thread, hart.confined, at.pc) {
         return trap_if_rare::<RARE>(hart, PcWord { word: 0, ..at }, cause::FETCH_FAULT);
     }
     run_at::<RARE>(hart, at, s, &decode(at.word))

@@ -51,7 +51,7 @@ pub fn load<const RARE: bool>(
 {
     if !hart
         .guard
-        .may_load(hart.thread, hart.confined, address, load_size(op))
+        .may_load_by(hart.thread, hart.confined, address, load_size(op))
     {
         return trap_if_rare::<RARE>(hart, at, cause::LOAD_FAULT);
     }
@@ -88,7 +88,7 @@ pub fn store<const RARE: bool>(
     ensures address { IfSome result (λ x. x.address % store_size op ≡ 0) }
 {
     let size = store_size(op);
-    if !hart.guard.may_store(hart.thread, address, size) {
+    if !hart.guard.may_store_by(hart.thread, address, size) {
         return trap_if_rare::<RARE>(hart, at, cause::STORE_FAULT);
     }
     let effect = Effect::Store {

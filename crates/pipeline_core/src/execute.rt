@@ -245,6 +245,37 @@ fn execute_rare(
     }
 }
 
+/// Executes a rare issue by a call, and puts its redirect where the frequent ones have theirs. The
+/// call's result is cleared at the beginning of this function, which frequent issues don't reach.
+#[inline(always)]
+fn execute_out_of_line(
+    units: &mut Units,
+    cycle: u64,
+    thread: u8,
+    x: &Decoded,
+    e: &mut Held<Executed>,
+    redirect: &mut Redirect,
+) -> bool
+    requires thread { thread < 8 }
+    requires cycle { cycle < most_cycles }
+    requires pc { IsPc x.now.pc }
+    ensures e { e.new ≡ (executed_by units.old cycle (Issue thread x.now)).e }
+    ensures redirect { (executed_by units.old cycle (Issue thread x.now)).redirect
+        ≡ (if result then Some redirect.new else None) }
+    ensures units { (ports : List (Option Row)) → abstract_state units.new ports
+        ≡ record (abstract_state units.old ports) {
+          control = (executed_by units.old cycle (Issue thread x.now)).control;
+        } }
+    ensures fits { ExecutedFits e.new }
+    ensures redirect_fits { RedirectFits (if result then Some redirect.new else None) }
+{
+    let Some(to) = execute_rare(units, cycle, thread, x, e) else {
+        return false;
+    };
+    *redirect = to;
+    true
+}
+
 /// Executes an issue, out of line if it is rare.
 #[inline(always)]
 fn execute_turn(
@@ -268,14 +299,10 @@ fn execute_turn(
     ensures fits { ExecutedFits e.new }
     ensures redirect_fits { RedirectFits (if result then Some redirect.new else None) }
 {
-    if let Some(flushes) = execute_issue::<false>(units, cycle, thread, x, e, redirect) {
-        return flushes;
+    match execute_issue::<false>(units, cycle, thread, x, e, redirect) {
+        Some(flushes) => flushes,
+        None => execute_out_of_line(units, cycle, thread, x, e, redirect),
     }
-    let Some(to) = execute_rare(units, cycle, thread, x, e) else {
-        return false;
-    };
-    *redirect = to;
-    true
 }
 
 /// Executes the turn that was issued two cycles ago. Returns whether its thread's next turns are

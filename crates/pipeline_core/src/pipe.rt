@@ -140,7 +140,7 @@ impl Pipe {
     {
         self.older_stages(units, ports, cycle);
         let now = units.clock.now(cycle);
-        let pick = units.scheduler.pick(&units.sched, cycle, now);
+        let pick = units.scheduler.early_pick(&units.sched, cycle, now);
         let mut redirect = Redirect {
             thread: 0,
             pc: 0,

@@ -5,7 +5,7 @@ ghost use Rattle.region_guard.specs.Regions.{IsSize, IsSize-prop, index_of, is_c
 ghost use Rattle.region_guard.specs.Regions.{is_data, is_port, may_fetch, may_load};
 ghost use Rattle.region_guard.specs.Regions.{may_read, may_store, region_of};
 
-use crate::memory_map::{DATA_START, LARGE_SIZE, PORT_ADDRESS, SMALL_SIZE};
+use crate::memory_map::{DATA_START, PORT_ADDRESS};
 use crate::register::Regions;
 
 /// The owners of the regions of both scratchpads.
@@ -24,19 +24,14 @@ pub struct Guard {
     ghost sized: { IsSize size } by { IsSize-prop size },
 }
 
-// The region of an address in its scratchpad.
-#[tactic(auto, unfolding(crate::specs::Regions::region_of))]
-fn region_of(size: u32, address: u32) -> u8
-    requires { IsSize size }
-    ensures region { result ≡ region_of size address }
+// The region of an offset in a scratchpad: one has 2^11 or 2^13 bytes.
+fn region_at(size: u32, offset: u32) -> u32
+    requires sized { IsSize size }
+    requires inside { offset < size }
+    ensures region { result ≡ region_of size offset }
     ensures small { result < 8 }
 {
-    let region = if size == SMALL_SIZE {
-        address % SMALL_SIZE / (SMALL_SIZE / 8)
-    } else {
-        address % LARGE_SIZE / (LARGE_SIZE / 8)
-    };
-    region as u8
+    offset >> (size.trailing_zeros() - 3)
 }
 
 // Whether an access is one of the whole word of the port.
@@ -81,11 +76,12 @@ impl Guard {
         (address - DATA_START) / 4
     }
 
-    // Whether a thread may load or fetch at an address of the scratchpad with these regions.
-    fn may_read(&self, regions: &Regions, thread: u8, confined: bool, address: u32) -> bool
-        ensures { result ≡ may_read thread self.now.size confined regions.now address }
+    // Whether a thread may load or fetch at an offset in the scratchpad with these regions.
+    fn may_read(&self, regions: &Regions, thread: u8, confined: bool, offset: u32) -> bool
+        requires { offset < self.now.size }
+        ensures { result ≡ may_read thread self.now.size confined regions.now offset }
     {
-        !confined || regions.is_readable(region_of(self.size, address), thread)
+        !confined || regions.is_readable(region_at(self.size, offset), thread)
     }
 
     /// Whether a thread may fetch at an address: in the instruction scratchpad; a confined thread
@@ -108,7 +104,7 @@ impl Guard {
         if address < self.size {
             self.may_read(&self.i, thread, confined, address)
         } else if self.is_data(address) {
-            self.may_read(&self.d, thread, confined, address)
+            self.may_read(&self.d, thread, confined, address - DATA_START)
         } else {
             is_port(address, size)
         }
@@ -120,9 +116,61 @@ impl Guard {
     pub fn may_store(&self, thread: u8, address: u32, size: u8) -> bool
         ensures { result ≡ may_store thread self.now.size self.now.d address size }
     {
+        if self.is_data(address) {
+            self.d
+                .is_writable(region_at(self.size, address - DATA_START), thread)
+        } else {
+            is_port(address, size)
+        }
+    }
+
+    // As `may_read`, for a thread 0 to 7.
+    fn may_read_by(&self, regions: &Regions, thread: u8, confined: bool, offset: u32) -> bool
+        requires inside { offset < self.now.size }
+        requires thread { thread < 8 }
+        ensures { result ≡ may_read thread self.now.size confined regions.now offset }
+    {
+        !confined || regions.is_readable_by(region_at(self.size, offset), thread)
+    }
+
+    /// As [`may_fetch`](Guard::may_fetch), for a thread 0 to 7.
+    #[tactic(auto, unfolding(crate::specs::Regions::may_fetch))]
+    pub fn may_fetch_by(&self, thread: u8, confined: bool, address: u32) -> bool
+        requires { thread < 8 }
+        ensures { result ≡ may_fetch thread self.now.size confined self.now.i address }
+    {
+        if address >= self.size {
+            return false;
+        }
+        self.may_read_by(&self.i, thread, confined, address)
+    }
+
+    /// As [`may_load`](Guard::may_load), for a thread 0 to 7.
+    #[tactic(auto, unfolding(crate::specs::Regions::may_load))]
+    pub fn may_load_by(&self, thread: u8, confined: bool, address: u32, size: u8) -> bool
+        requires { thread < 8 }
+        ensures { result
+            ≡ may_load thread self.now.size confined self.now.i self.now.d address size }
+    {
+        if address < self.size {
+            self.may_read_by(&self.i, thread, confined, address)
+        } else if self.is_data(address) {
+            self.may_read_by(&self.d, thread, confined, address - DATA_START)
+        } else {
+            is_port(address, size)
+        }
+    }
+
+    /// As [`may_store`](Guard::may_store), for a thread 0 to 7.
+    #[tactic(auto, unfolding(crate::specs::Regions::may_store))]
+    pub fn may_store_by(&self, thread: u8, address: u32, size: u8) -> bool
+        requires { thread < 8 }
+        ensures { result ≡ may_store thread self.now.size self.now.d address size }
+    {
         if !self.is_data(address) {
             return is_port(address, size);
         }
-        self.d.is_writable(region_of(self.size, address), thread)
+        self.d
+            .is_writable_by(region_at(self.size, address - DATA_START), thread)
     }
 }

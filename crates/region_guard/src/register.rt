@@ -157,27 +157,45 @@ impl Regions {
         self.word
     }
 
+    // Whether a confined thread may load and fetch in a region; both are 0 to 7.
+    pub(crate) fn is_readable_by(&self, region: u32, thread: u8) -> bool
+        requires region { region < 8 }
+        requires thread { thread < 8 }
+        ensures { result ≡ is_readable (region_kind thread (nibble_at self.now region)) }
+    {
+        (self.readable[thread as usize] >> region) % 2 == 1
+    }
+
     // Whether a confined thread may load and fetch in a region, which is 0 to 7.
-    pub(crate) fn is_readable(&self, region: u8, thread: u8) -> bool
+    pub(crate) fn is_readable(&self, region: u32, thread: u8) -> bool
         requires { region < 8 }
         ensures { result ≡ is_readable (region_kind thread (nibble_at self.now region)) }
     {
         if thread < 8 {
-            (self.readable[thread as usize] >> region) % 2 == 1
+            self.is_readable_by(region, thread)
         } else {
-            is_readable(nibble(self.word, region), thread)
+            is_readable(nibble(self.word, region as u8), thread)
         }
     }
 
+    // Whether a thread may store in a region; both are 0 to 7.
+    pub(crate) fn is_writable_by(&self, region: u32, thread: u8) -> bool
+        requires region { region < 8 }
+        requires thread { thread < 8 }
+        ensures { result ≡ is_writable (region_kind thread (nibble_at self.now region)) }
+    {
+        (self.writable[thread as usize] >> region) % 2 == 1
+    }
+
     // Whether a thread may store in a region, which is 0 to 7.
-    pub(crate) fn is_writable(&self, region: u8, thread: u8) -> bool
+    pub(crate) fn is_writable(&self, region: u32, thread: u8) -> bool
         requires { region < 8 }
         ensures { result ≡ is_writable (region_kind thread (nibble_at self.now region)) }
     {
         if thread < 8 {
-            (self.writable[thread as usize] >> region) % 2 == 1
+            self.is_writable_by(region, thread)
         } else {
-            is_writable(nibble(self.word, region), thread)
+            is_writable(nibble(self.word, region as u8), thread)
         }
     }
 }

@@ -1,6 +1,6 @@
 //! From words to instructions.
 
-ghost use Rattle.std.specs.Prelude.{◌≡◌, ◌⊎◌};
+ghost use Rattle.std.specs.Prelude.{◌≡◌, ◌≤◌, ◌^◌, ◌⊎◌};
 ghost use Rattle.rv_decode.specs.Fields.{field};
 ghost use Rattle.rv_decode.specs.Range.{HasRegisters, InRange};
 ghost use Rattle.rv_decode.specs.Table.{ins, read_by, lui_rows, auipc_rows, jal_rows};
@@ -174,7 +174,8 @@ fn op_imm(word: u32) -> Ins
         4 => ImmOp::Xori,
         6 => ImmOp::Ori,
         7 => ImmOp::Andi,
-        _ => return shift(word),
+        1 | 5 => return shift(word),
+        _ => return Ins::Illegal { word },
     };
     Ins::OpImm {
         op,
@@ -211,17 +212,39 @@ fn op(word: u32) -> Ins
     requires { field word 0 7 ≡ 0x33 }
     ensures { result ≡ read_by op_rows word }
 {
+    // The most frequent ones have zeros from bit 25 on.
+    if word >= 0x0200_0000 {
+        return other_op(word);
+    }
+    let op = match funct3(word) {
+        0 => AluOp::Add,
+        1 => AluOp::Sll,
+        2 => AluOp::Slt,
+        3 => AluOp::Sltu,
+        4 => AluOp::Xor,
+        5 => AluOp::Srl,
+        6 => AluOp::Or,
+        7 => AluOp::And,
+        _ => return Ins::Illegal { word },
+    };
+    Ins::Op {
+        op,
+        rd: rd(word),
+        rs1: rs1(word),
+        rs2: rs2(word),
+    }
+}
+
+#[tactic(auto, unfolding(crate::specs::Table::op_rows))]
+#[inline(always)]
+fn other_op(word: u32) -> Ins
+    requires code { field word 0 7 ≡ 0x33 }
+    requires kind { 2 ^ 25 ≤ word }
+    ensures { result ≡ read_by op_rows word }
+{
     let op = match (funct7(word), funct3(word)) {
-        (0, 0) => AluOp::Add,
         (0x20, 0) => AluOp::Sub,
-        (0, 1) => AluOp::Sll,
-        (0, 2) => AluOp::Slt,
-        (0, 3) => AluOp::Sltu,
-        (0, 4) => AluOp::Xor,
-        (0, 5) => AluOp::Srl,
         (0x20, 5) => AluOp::Sra,
-        (0, 6) => AluOp::Or,
-        (0, 7) => AluOp::And,
         (1, _) => return muldiv(word),
         _ => return Ins::Illegal { word },
     };

@@ -1,5 +1,5 @@
 -- The thread that is picked in a cycle.
-use Rattle.std.specs.Prelude.{ℕ, ◌+◌, ◌<◌, ◌%◌, ◌==◌, nat_le, Bool, ◌&&◌, ◌||◌, if◌then◌else◌}
+use Rattle.std.specs.Prelude.{ℕ, ◌+◌, ◌<◌, ◌%◌, nat_le, Bool, ◌&&◌, if◌then◌else◌}
 use Rattle.std.specs.Prelude.{List, [], ◌∷◌, slice_index_or, map, find, Option, Some, None}
 use Rattle.slot_table.specs.Frame.{turn}
 use Rattle.slot_table.specs.declared.frame.Turn.{Turn}

@@ -1,8 +1,9 @@
 //! The pick of a cycle.
 
-ghost use Rattle.std.specs.Prelude.{◌≡◌, ◌<◌, ◌&&◌, IfSome, find, nat_lt};
+ghost use Rattle.std.specs.Prelude.{◌≡◌, ◌<◌, ◌^◌, ◌&&◌, IfSome, IsTrue, find, nat_lt};
+ghost use Rattle.slot_table.specs.Frame.{is_slot, turn_named};
 ghost use Rattle.slot_scheduler.specs.Picking.{IsPick, after_last, donation};
-ghost use Rattle.slot_scheduler.specs.Picking.{is_awake, pick, takes_donated};
+ghost use Rattle.slot_scheduler.specs.Picking.{is_awake, pick, pick_in, takes_donated};
 
 use crate::mode_word::Modes;
 use slot_table::{DISABLED, SlotTable};
@@ -100,7 +101,29 @@ impl Scheduler {
         ensures pointer { self.new ≡ (pick s.now cycle now self.old).last }
         ensures thread { IsPick result }
     {
-        let slot = s.slots.slot(cycle);
+        self.pick_slot(s, s.slots.slot(cycle), now)
+    }
+
+    /// The pick of a cycle before 2^61, as [`pick`](Scheduler::pick) tells it.
+    #[tactic(auto, unfolding(crate::specs::Picking::pick))]
+    #[inline(always)]
+    pub fn early_pick(&mut self, s: &Sched, cycle: u64, now: u64) -> Pick
+        requires { cycle < 2 ^ 61 }
+        ensures pick { result ≡ (pick s.now cycle now self.old).pick }
+        ensures pointer { self.new ≡ (pick s.now cycle now self.old).last }
+        ensures thread { IsPick result }
+    {
+        self.pick_slot(s, s.slots.early_slot(cycle), now)
+    }
+
+    // The pick of a cycle by the nibble of its slot.
+    #[inline(always)]
+    fn pick_slot(&mut self, s: &Sched, slot: u8, now: u64) -> Pick
+        requires { IsTrue (is_slot slot) }
+        ensures pick { result ≡ (pick_in s.now now self.old (turn_named slot)).pick }
+        ensures pointer { self.new ≡ (pick_in s.now now self.old (turn_named slot)).last }
+        ensures thread { IsPick result }
+    {
         if s.is_awake(slot, now) {
             Pick::Issue { thread: slot }
         } else if slot == DISABLED {

@@ -1,6 +1,6 @@
 //! The frame of slots that share the cycles.
 
-ghost use Rattle.std.specs.Prelude.{◌≡◌, ◌<◌, ◌≤◌, ◌%◌, ◌==◌, if◌then◌else◌};
+ghost use Rattle.std.specs.Prelude.{◌≡◌, ◌<◌, ◌≤◌, ◌%◌, ◌^◌, ◌==◌, if◌then◌else◌};
 ghost use Rattle.std.specs.Prelude.{filter, length, position, not, IfSome};
 ghost use Rattle.slot_table.specs.Frame.{is_slot, is_used, turn_named};
 ghost use Rattle.slot_table.specs.Table.{laid_out, magic_of};
@@ -110,11 +110,23 @@ impl Frame {
         ensures inside { result < 8 }
     {
         if cycle < EARLY {
-            let part = self.magic.wrapping_mul(cycle);
-            ((u128::from(part) * u128::from(self.len)) >> 64) as u64
+            self.early_position_of(cycle)
         } else {
             self.late_position_of(cycle)
         }
+    }
+
+    /// The position of a cycle before 2^61.
+    #[inline(always)]
+    pub fn early_position_of(&self, cycle: u64) -> u64
+        requires len { self.now.len ≤ 8 }
+        requires magic { self.now.magic ≡ magic_of self.now.len }
+        requires early { cycle < 2 ^ 61 }
+        ensures position { result ≡ (if self.now.len == 0 then 0 else cycle % self.now.len) }
+        ensures inside { result < 8 }
+    {
+        let part = self.magic.wrapping_mul(cycle);
+        ((u128::from(part) * u128::from(self.len)) >> 64) as u64
     }
 
     // The position of a cycle that is too late for the multiplication.

@@ -1,6 +1,6 @@
 //! The slots register as a type that holds only accepted words.
 
-ghost use Rattle.std.specs.Prelude.{◌≡◌, IsTrue, is_ok, length};
+ghost use Rattle.std.specs.Prelude.{◌≡◌, ◌<◌, ◌^◌, IsTrue, is_ok, length};
 ghost use Rattle.slot_table.specs.Frame.{IsTurn, frame, is_slot, turn, turn_named};
 ghost use Rattle.slot_table.specs.Table.{is_table, table_of};
 
@@ -77,6 +77,17 @@ impl SlotTable {
         ensures turn { turn_named result ≡ turn self.now cycle }
     {
         self.layout.slots[self.layout.position_of(cycle) as usize]
+    }
+
+    /// The nibble of a cycle's slot as [`slot`](SlotTable::slot) tells it, for a cycle before 2^61.
+    /// It makes no test of the cycle.
+    #[inline(always)]
+    pub fn early_slot(&self, cycle: u64) -> u8
+        requires { cycle < 2 ^ 61 }
+        ensures slot { IsTrue (is_slot result) }
+        ensures turn { turn_named result ≡ turn self.now cycle }
+    {
+        self.layout.slots[self.layout.early_position_of(cycle) as usize]
     }
 
     /// The turn of a cycle: that of the frame's entry at the cycle's number modulo the frame's

@@ -9,8 +9,12 @@ pub returns-clause-refines : goal.returns-clause-refines
 unfolding execute_in environment_of
 returns-clause-refines g c =
     carried _ _ c.args.hart.now _ c.run_at.result _ _ refl refl refl
-    (rw
-    (c.if-expired.false, ← c.may_fetch.ensures, c.if-not-may_fetch.false, ← c.decode.ensures.table)
+    (rw (
+      c.if-expired.false,
+      ← c.may_fetch_by.ensures,
+      c.if-not-may_fetch_by.false,
+      ← c.decode.ensures.table,
+    )
     refl) c.run_at.ensures.refines
 
 pub returns-clause-shown : goal.returns-clause-shown

@@ -5,16 +5,9 @@ use Rattle.pipeline_core.specs.declared.units.Units.{Units}
 use Rattle.pipeline_core.specs.Abstraction.{executed_by, abstract_state}
 use Rattle.pipeline_core.proofs.execute.execute_turn.Goals as goal
 
-pub returns-in_default-execute_rare-clause-units : goal.returns-in_default-execute_rare-clause-units
-returns-in_default-execute_rare-clause-units c ports =
-    c.execute_rare.ensures.units ports
+pub returns-in-None-clause-units : goal.returns-in-None-clause-units
+returns-in-None-clause-units c ports =
+    c.execute_out_of_line.ensures.units ports
     ∙ ap (λ (u : Units). record (abstract_state u ports) {
       control = (executed_by u c.args.cycle (Issue c.args.thread c.args.x.now)).control;
-    }) (c.in_default.ensures.left refl)
-
-pub returns-clause-units : goal.returns-clause-units
-returns-clause-units c ports =
-    c.execute_rare.ensures.units ports
-    ∙ ap (λ (u : Units). record (abstract_state u ports) {
-      control = (executed_by u c.args.cycle (Issue c.args.thread c.args.x.now)).control;
-    }) (c.in_default.ensures.left refl)
+    }) (c.in-None.ensures.left refl)

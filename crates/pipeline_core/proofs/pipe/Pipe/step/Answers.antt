@@ -14,7 +14,7 @@ returns-clause-step g c =
     )
     (steps _ _ _ _ c.args.cycle _ _ _ _ _ _ _ _ _ _ c.older_stages.ensures.w
     c.older_stages.ensures.m c.older_stages.ensures.units
-    c.now-now.ensures c.pick-pick.ensures.pick c.pick-pick.ensures.pointer
+    c.now-now.ensures c.early_pick-pick.ensures.pick c.early_pick-pick.ensures.pointer
     (rw c.older_stages.ensures.d at c.execute-redirects.ensures.e)
     (sym (rw c.older_stages.ensures.d at c.execute-redirects.ensures.redirect))
     (rw c.older_stages.ensures.d at c.execute-redirects.ensures.units _)

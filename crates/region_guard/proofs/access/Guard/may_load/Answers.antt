@@ -1,7 +1,7 @@
 use Rattle.std.proofs.Common.{rules}
-use Rattle.region_guard.specs.Regions.{may_load}
+use Rattle.region_guard.specs.Regions.{may_load, region_kind, region_of}
 use Rattle.region_guard.proofs.access.Guard.may_load.Goals as goal
 
 pub returns-then-is_data : goal.returns-then-is_data
-unfolding may_load
+unfolding may_load region_kind region_of
 returns-then-is_data c = search rules
