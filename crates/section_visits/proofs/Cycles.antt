@@ -22,7 +22,7 @@ use Rattle.run_laws.proofs.Induction.{one_of, two_of, sync_of}
 use Rattle.region_tree.specs.Walk.{IsOwn}
 use Rattle.bound_calc.specs.Bound.{positions}
 use Rattle.section_visits.specs.InSettings.{IsHardBy}
-use Rattle.run_laws.specs.LagLaw.{is_trap}
+use Rattle.core_model.specs.Traps.{is_trap}
 use Rattle.section_visits.specs.Visits.{issues_of}
 
 -- the thread issues in the cycle

@@ -21,7 +21,7 @@ use Rattle.section_visits.proofs.Cycles.{Stays, begins, cycles, goes_on}
 use Rattle.section_visits.proofs.Instructions.{Gone}
 use Rattle.section_visits.specs.InSettings.{AreLinkedIn, IsHardBy, IsSet, Throughout}
 use Rattle.section_visits.specs.VisitBound.{Along, AreLinked}
-use Rattle.run_laws.specs.LagLaw.{is_trap}
+use Rattle.core_model.specs.Traps.{is_trap}
 use Rattle.section_visits.specs.Visits.{Issued, issue_in, issues_of}
 
 -- at known words issues that don't trap go along a way
