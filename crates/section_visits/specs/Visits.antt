@@ -32,9 +32,9 @@ first_of last [] = last
 first_of last (i ∷ before) = first_of i before
 
 -- each is in the section and doesn't trap
-abbrev pub GoOn : Graph → List Issued → Type 0
-GoOn g [] = Unit {0}
-GoOn g (i ∷ before) = GoOn g before × Lies g i.pc × (i.traps ≡ false)
+abbrev pub StaysInSection : Graph → List Issued → Type 0
+StaysInSection g [] = Unit {0}
+StaysInSection g (i ∷ before) = StaysInSection g before × Lies g i.pc × (i.traps ≡ false)
 
 -- A visit: issues in order, the newest first, among all those of the thread. The first is at the
 -- section's first word. The last is the first of them that is outside the section or traps; if
@@ -45,7 +45,7 @@ pub record IsVisit (g : Graph) (issues : List Issued) (last : Issued)
   pub later : List Issued
   pub among : issues ≡ later ++ (last ∷ (before ++ earlier))
   pub starts : (first_of last before).pc ≡ g.from
-  pub goes_on : GoOn g before
+  pub goes_on : StaysInSection g before
   pub ends : (later ≡ []) ⊎ ((Lies g last.pc → ⊥) ⊎ (last.traps ≡ true))
 
 -- a loop's counter at an issue, by the addresses of those before it, the newest first: 0 at the
