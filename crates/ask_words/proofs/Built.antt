@@ -6,7 +6,7 @@ use Rattle.clap.specs.Walk.{Rule, Row}
 use Rattle.clap.specs.Simple.{filled, filled_from, with_index, help_rule, built, with_rule, App}
 use Rattle.clap.specs.declared.parser.matches.ValueSource.TheVariants.{CommandLine}
 use Rattle.clap.specs.declared.builder.value_parser.Reading.TheVariants.{AsWritten}
-use Rattle.ask_words.specs.Forms.{Text}
+use Rattle.fp_setup.specs.Vocabulary.{Text}
 use Rattle.ask_words.specs.Rules.{option_rule, file_rule, shaped, app}
 
 abbrev pub built_option : Text → Rule

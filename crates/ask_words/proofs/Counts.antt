@@ -9,7 +9,8 @@ use Rattle.std.specs.Str.{bytes_eq}
 use Rattle.std.proofs.Math.Seq.{drop-cons}
 use Rattle.std.proofs.lemmas.List.{drop_all}
 use Rattle.std.proofs.Math.Numerals.{one-add}
-use Rattle.ask_words.specs.Forms.{Text, Pairs, Form, gives, opens, bad, form, pairs, and_pair}
+use Rattle.fp_setup.specs.Vocabulary.{Text}
+use Rattle.ask_words.specs.Forms.{Pairs, Form, gives, opens, bad, form, pairs, and_pair}
 use Rattle.ask_words.specs.Forms.{count_of, with_form, each_once, file_id, is_equals}
 use Rattle.ask_words.specs.Code.{count_in, is_one, has_forms, is_bad_form, gives_to, opened_by}
 

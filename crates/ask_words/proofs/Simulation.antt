@@ -10,7 +10,8 @@ use Rattle.clap.specs.Takes.{turn_passes, settle_passes, walk_passes}
 use Rattle.clap.specs.Simple.{Shape}
 use Rattle.clap.specs.declared.parser.matches.ValueSource.TheVariants.{CommandLine}
 use Rattle.clap.specs.declared.builder.value_parser.Reading.TheVariants.{AsWritten}
-use Rattle.ask_words.specs.Forms.{Text, Pairs, Form, gives, opens, bad, file_id}
+use Rattle.fp_setup.specs.Vocabulary.{Text}
+use Rattle.ask_words.specs.Forms.{Pairs, Form, gives, opens, bad, file_id}
 use Rattle.ask_words.specs.Forms.{is_among, is_plain, after_dashes, dashed_form}
 use Rattle.ask_words.specs.Forms.{form, pairs, with_form, and_pair, count_of}
 use Rattle.ask_words.proofs.Built.{shown}

@@ -15,7 +15,8 @@ use Rattle.clap.specs.Simple.{built, is_simple, is_in_order, matches_of}
 use Rattle.clap.specs.Facts.{explicit_source}
 use Rattle.clap.proofs.WalkLemmas.{both}
 use Rattle.clap.proofs.SimpleLemmas.{is_nil, is_false}
-use Rattle.ask_words.specs.Forms.{Text, Pairs, file_id, is_among, pairs, count_of}
+use Rattle.fp_setup.specs.Vocabulary.{Text}
+use Rattle.ask_words.specs.Forms.{Pairs, file_id, is_among, pairs, count_of}
 use Rattle.ask_words.specs.Forms.{each_once, value_of, text_in, texts_of, texts_in}
 use Rattle.ask_words.specs.Code.{has_forms, pairs_in}
 use Rattle.ask_words.specs.Rules.{app, is_fit, option_rule, row_text}

@@ -13,7 +13,8 @@ use Rattle.clap.specs.Simple.{Shape}
 use Rattle.clap.proofs.SimpleLemmas.{is_false}
 use Rattle.clap.specs.declared.parser.matches.ValueSource.TheVariants.{CommandLine}
 use Rattle.clap.specs.declared.builder.value_parser.Reading.TheVariants.{AsWritten}
-use Rattle.ask_words.specs.Forms.{Text, Form, gives, opens, bad, file_id, is_among, is_plain}
+use Rattle.fp_setup.specs.Vocabulary.{Text}
+use Rattle.ask_words.specs.Forms.{Form, gives, opens, bad, file_id, is_among, is_plain}
 use Rattle.ask_words.specs.Forms.{is_equals, after_dashes, option_form, dashed_form}
 use Rattle.ask_words.proofs.Built.{built_option, built_file, shown}
 

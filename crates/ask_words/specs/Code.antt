@@ -3,7 +3,8 @@ use Rattle.std.specs.Prelude.{ℕ, ◌==◌, List, Option, Some, None}
 use Rattle.std.specs.Prelude.{option_map, Bool, true, false, unwrap_or, []}
 use Rattle.std.specs.Option.{option_map_or}
 use Rattle.std.specs.Str.{bytes_eq}
-use Rattle.ask_words.specs.Forms.{Text, Pairs, Form, gives, opens, bad, pairs, each_once, count_of}
+use Rattle.fp_setup.specs.Vocabulary.{Text}
+use Rattle.ask_words.specs.Forms.{Pairs, Form, gives, opens, bad, pairs, each_once, count_of}
 use Rattle.ask_words.specs.Commands.{CommandRow, run_row, dump_row, asm_row, bound_row, selfrun_row}
 use Rattle.ask_words.specs.Commands.{phases_row, solo_row, check_row, elf_row, calls_row}
 use Rattle.ask_words.specs.declared.command.Command.{Command}

@@ -3,8 +3,10 @@ use Rattle.std.specs.Prelude.{ℕ, List, [], ◌∷◌, Option, Some, None}
 use Rattle.std.specs.Prelude.{option_map, option_and_then, codes, find}
 use Rattle.std.specs.Str.{bytes_eq}
 use Rattle.timer_unit.specs.Time.{most_cycles}
+use Rattle.fp_setup.specs.Checks.{largest_word}
 use Rattle.ask_words.specs.Limits.{most_checked_cycles}
-use Rattle.ask_words.specs.Forms.{Text, texts_in}
+use Rattle.fp_setup.specs.Vocabulary.{Text}
+use Rattle.ask_words.specs.Forms.{texts_in}
 use Rattle.ask_words.specs.Numbers.{thread_in, number_in, address_in}
 use Rattle.ask_words.specs.declared.asked.Ask.{Ask}
 use Rattle.ask_words.specs.declared.asked.Ask.TheVariants.{Run, Dump, Asm, Bound, Selfrun}
@@ -55,7 +57,7 @@ bound_asks _ = None
 
 -- a number, at most 4,294,967,295
 abbrev pub selfrun_asks : List Text → Option Ask
-selfrun_asks (number ∷ []) = option_map Selfrun (number_in 4294967295 number)
+selfrun_asks (number ∷ []) = option_map Selfrun (number_in largest_word number)
 selfrun_asks _ = None
 
 abbrev pub phases_asks : List Text → Option Ask

@@ -4,9 +4,7 @@ use Rattle.std.specs.Prelude.{Option, Some, None, map, unwrap_or, option_map}
 use Rattle.std.specs.Prelude.{option_and_then, if◌then◌else◌, codes, find}
 use Rattle.std.specs.List.{list_all, list_any, before_first, after_first}
 use Rattle.std.specs.Str.{bytes_eq}
-
-abbrev pub Text : Type 0
-Text = List ℕ
+use Rattle.fp_setup.specs.Vocabulary.{Text}
 
 -- the text after this first byte
 abbrev pub after_byte : ℕ → Text → Option Text

@@ -1,6 +1,7 @@
 -- The values that a command may have.
 use Rattle.std.specs.Prelude.{ℕ, ◌<◌, ◌≤◌}
 use Rattle.timer_unit.specs.Time.{most_cycles}
+use Rattle.fp_setup.specs.Checks.{largest_word}
 use Rattle.ask_words.specs.declared.asked.Ask.{Ask}
 use Rattle.ask_words.specs.declared.asked.Ask.TheVariants.{Run, Dump, Asm, Bound, Selfrun}
 use Rattle.ask_words.specs.declared.asked.Ask.TheVariants.{Phases, Solo, Check, Elf, Calls}
@@ -16,7 +17,7 @@ IsWithinLimits (Run setup thread cycles) = (thread < 8) × (cycles ≤ most_cycl
 IsWithinLimits (Dump setup cycles) = cycles ≤ most_cycles
 IsWithinLimits (Asm source) = Unit {0}
 IsWithinLimits (Bound setup thread section) = thread < 8
-IsWithinLimits (Selfrun number) = number ≤ 4294967295
+IsWithinLimits (Selfrun number) = number ≤ largest_word
 IsWithinLimits (Phases setup cycles) = cycles ≤ most_cycles
 IsWithinLimits (Solo setup thread cycles) = (thread < 8) × (cycles ≤ most_cycles)
 IsWithinLimits (Check setup thread cycles trace) = (thread < 8) × (cycles ≤ most_checked_cycles)

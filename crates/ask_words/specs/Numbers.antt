@@ -1,7 +1,9 @@
 -- Numbers in words.
 use Rattle.std.specs.Prelude.{ℕ, ◌+◌, ◌-◌, ◌*◌, ◌&&◌, nat_le, Bool, if◌then◌else◌}
 use Rattle.std.specs.Prelude.{[], ◌∷◌, length, Option, Some, None, option_and_then}
-use Rattle.ask_words.specs.Forms.{Text, after_byte}
+use Rattle.fp_setup.specs.Checks.{largest_word}
+use Rattle.fp_setup.specs.Vocabulary.{Text}
+use Rattle.ask_words.specs.Forms.{after_byte}
 
 -- whether a byte is one of a range. The lexer of sources has its own: arguments are no source
 abbrev pub is_between : ℕ → ℕ → ℕ → Bool
@@ -60,4 +62,4 @@ address_value (Some ds) word = hexadecimal_in ds
 
 -- an address: decimal, or hexadecimal after `0x`, below 2^32
 unfoldable pub address_in : Text → Option ℕ
-address_in word = within 4294967295 (address_value (after_prefix word) word)
+address_in word = within largest_word (address_value (after_prefix word) word)

@@ -6,7 +6,8 @@ use Rattle.std.specs.Str.{bytes_eq}
 use Rattle.clap.specs.Walk.{Rule, Row, first_of}
 use Rattle.clap.specs.Simple.{new_rule, new_shape, App}
 use Rattle.clap.specs.declared.builder.action.ArgAction.TheVariants.{Set}
-use Rattle.ask_words.specs.Forms.{Text, file_id}
+use Rattle.fp_setup.specs.Vocabulary.{Text}
+use Rattle.ask_words.specs.Forms.{file_id}
 
 abbrev pub option_rule : Text → Rule
 option_rule name = record (new_rule name) { long = Some name; action = Some Set; required = true }

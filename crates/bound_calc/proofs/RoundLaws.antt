@@ -12,7 +12,7 @@ use Rattle.region_tree.specs.Walk.{Course, Keeps, Leads, Step, counter_after, co
 use Rattle.bound_calc.specs.Bound.{course}
 use Rattle.bound_calc.specs.Section.{IsAccepted}
 use Rattle.bound_calc.specs.Rounds.{inner_loops, word_after, position_after, AreIn, Avoid}
-use Rattle.bound_calc.specs.Rounds.{AreSteps, AreRounds, Enters, StaysInRounds, RoundsAreSteps}
+use Rattle.bound_calc.specs.Rounds.{AreSteps, AreRounds, EntersLoop, StaysInRounds, RoundsAreSteps}
 use Rattle.bound_calc.specs.Rounds.AreRounds.{none, more}
 use Rattle.bound_calc.proofs.Accepted.{accepted, holds-or}
 use Rattle.bound_calc.proofs.Counters.{counted-other, counted-back, counted-≤}
@@ -91,19 +91,19 @@ record Found (x : Course) (j : LoopSetup) (p : ℕ) (before during : List Step)
   counts : counter j 0 (during ++ before) ≡ count
   fresh : (i : LoopSetup) → counter i 0 late ≤ counter i 0 (during ++ before)
 
-entered-word : (j : LoopSetup) (u : ℕ) (before : List Step) → Enters j u before →
+entered-word : (j : LoopSetup) (u : ℕ) (before : List Step) → EntersLoop j u before →
     word_after u before ≡ j.head
 entered-word j u [] e = e
 entered-word j u (t ∷ ts) e = e.0
 
-entered-counter : (j : LoopSetup) (u : ℕ) (before : List Step) → Enters j u before →
+entered-counter : (j : LoopSetup) (u : ℕ) (before : List Step) → EntersLoop j u before →
     counter j 0 before ≡ 0
 entered-counter j u [] e = refl
 entered-counter j u (t ∷ ts) e = counted-out t.from t.to j (counter j 0 ts) e.0 e.1
 
 found : (x : Course) (j : LoopSetup) (p : ℕ) (before during : List Step) (v q : ℕ) →
     Leads x x.graph.from p (during ++ before) v q →
-    Keeps x.graph.loops (λ i. 0) (during ++ before) → Enters j x.graph.from before →
+    Keeps x.graph.loops (λ i. 0) (during ++ before) → EntersLoop j x.graph.from before →
     AreIn j during → Found x j (position_after p before) before during v q
 found x j p before [] v q l k enters within =
     let e = leads-ends x x.graph.from p before v q l in

@@ -63,9 +63,9 @@ pub record AreBounded (x : Course) (j : LoopSetup) (p : ℕ) (ts : List Step) (v
   pub steps : ts ≡ late ++ early
 
 -- steps that come to a loop's head from outside the loop, or none from its head
-abbrev pub Enters : LoopSetup → ℕ → List Step → Type 0
-Enters j u [] = u ≡ j.head
-Enters j u (t ∷ ts) = (t.to ≡ j.head) × (Holds j t.from → ⊥)
+abbrev pub EntersLoop : LoopSetup → ℕ → List Step → Type 0
+EntersLoop j u [] = u ≡ j.head
+EntersLoop j u (t ∷ ts) = (t.to ≡ j.head) × (Holds j t.from → ⊥)
 
 -- When a path that keeps the bounds enters a loop at its head, or starts there, it makes at most
 -- bound + 1 rounds. This holds while it stays in the loop, up to the next step that leaves it or to
@@ -74,7 +74,8 @@ abbrev pub StaysInRounds : Type 0
 StaysInRounds =
     (x : Course) (j : LoopSetup) (p v q : ℕ) (before during after : List Step) →
     Contains x.graph.loops j →
-    IsWalk x p (after ++ (during ++ before)) v q → Enters j x.graph.from before → AreIn j during →
+    IsWalk x p (after ++ (during ++ before)) v q → EntersLoop j x.graph.from before →
+    AreIn j during →
     AreBounded x j (position_after p before) during (word_after j.head during)
     (position_after (position_after p before) during)
 

@@ -69,8 +69,8 @@ in_parts x is (CostsOf.goes_back {p = p} {u = u} {q = q} {w = w} {c = c} {d = d}
     }
 
 -- a path with matching calls and returns that has just entered a function costs these sums
-abbrev Goes : Route → ℕ → Part → ℕ → ℕ → Type 0
-Goes x p a m c =
+abbrev EndsPath : Route → ℕ → Part → ℕ → ℕ → Type 0
+EndsPath x p a m c =
     (s : List ℕ) (n : ℕ) (l : LoopSetup → ℕ) → part_in x.calls s ≡ a →
     IsReached x.calls a → ((b : Part) → Below x.calls s b → CallsLead x.calls b a) →
     CallWalk x p (range x.calls a).from m s n l →
@@ -78,7 +78,7 @@ Goes x p a m c =
     l j ≡ 0) → CostsOf x (n + c)
 
 goes : (x : Route) (p : ℕ) → AreParts x.calls → {a : Part} {m c z : ℕ} → Deep x a m c z →
-    Goes x p a m c
+    EndsPath x p a m c
 goes x p is (Deep.ends run) s n l here reached over walk zero =
     let y = played x p is run s n l here reached over walk zero in
     subst (λ c. CostsOf x c) y.cost_is (CostsOf.ends y.walk)
@@ -86,7 +86,7 @@ goes x p is {a} {m} (Deep.enters {u = u} {q = q} {c = c} {d = d} {r = r} {i = i}
     {k = k} {t = t} run to turn deep) s n l here reached over walk zero =
     go (goes x p is deep) (played x p is run s n l here reached over walk zero)
   where
-    go : Goes x p (Some t) r i → Played x p s a u q (n + c) l k → CostsOf x (n + (c + (d + i)))
+    go : EndsPath x p (Some t) r i → Played x p s a u q (n + c) l k → CostsOf x (n + (c + (d + i)))
     go again y =
         subst (λ c. CostsOf x c) (omega (arith, y.cost_is)) (again (u ∷ s) (y.cost + d)
         (λ j. counter_after_call t j (y.counters j)) to (IsReached.next reached y.word to) over_t

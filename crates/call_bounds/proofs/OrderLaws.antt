@@ -6,7 +6,7 @@ use Rattle.std.proofs.Common.{get_or-set_same, get_or-set_other, count_by, lengt
 use Rattle.std.proofs.Math.ListN.{get_or-append}
 use Rattle.std.proofs.lemmas.List.{get_or-append-add}
 use Rattle.std.proofs.lemmas.List.Sums.{count_by-le-length, sum_by-cons}
-use Rattle.call_bounds.specs.Reachability.{DoesCall as DoesRow, IsExact}
+use Rattle.call_bounds.specs.Reachability.{HasCall, IsExact}
 use Rattle.call_bounds.specs.Reachability.{IsCalled, is_met, unmet_count}
 use Rattle.call_bounds.proofs.RankLaws.{rank-falls}
 use Rattle.region_tree.specs.Refusals.{IsLowest, Nowhere}
@@ -139,7 +139,7 @@ count-all (false ∷ bs) =
     let c = sum_by-cons (λ (b : Bool). cond {A = ℕ} b 1 0) false bs in omega arith
 
 rank-less : (n : ℕ) (table : List Bool) (j k rj rk : ℕ) → IsRankOf n table j rj →
-    IsRankOf n table k rk → DoesRow n table j k → (IsCalled n table k k → ⊥) → rk < rj
+    IsRankOf n table k rk → HasCall n table j k → (IsCalled n table k k → ⊥) → rk < rj
 rank-less n table j k rj rk a b call once =
     let less = rank-falls n table j k a.0 b.0 a.1 b.1 call once in
     let x = count-all a.0 in let y = count-all b.0 in

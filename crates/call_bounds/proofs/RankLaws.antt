@@ -2,7 +2,7 @@
 use Rattle.std.proofs.Common.{◌≡◌, ℕ, zero, suc, ◌+◌, ◌<◌, ◌≤◌, refl, arith, sym}
 use Rattle.std.proofs.Common.{◌∙◌, cond, Bool, true, false, List, [], ◌∷◌, length}
 use Rattle.std.proofs.lemmas.List.Sums.{sum_by-cons}
-use Rattle.call_bounds.specs.Reachability.{DoesCall, IsExact, IsCalled, is_met, unmet_count}
+use Rattle.call_bounds.specs.Reachability.{HasCall, IsExact, IsCalled, is_met, unmet_count}
 
 -- reachability by calls is transitive
 pub lead-on : {n : ℕ} {table : List Bool} {a b c : ℕ} → IsCalled n table a b →
@@ -56,7 +56,7 @@ not-true false h = refl
 
 -- more functions are reachable from the caller than from the callee
 pub rank-falls : (n : ℕ) (table : List Bool) (r t : ℕ) (of_r of_t : List Bool) →
-    IsExact n table r of_r → IsExact n table t of_t → DoesCall n table r t →
+    IsExact n table r of_r → IsExact n table t of_t → HasCall n table r t →
     (IsCalled n table t t → ⊥) → unmet_count of_r < unmet_count of_t
 rank-falls n table r t of_r of_t er et call once =
     unmet-< of_r of_t t (er.count ∙ sym et.count)

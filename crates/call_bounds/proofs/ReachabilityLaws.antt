@@ -5,7 +5,7 @@ use Rattle.std.proofs.Common.{true, false, List, [], length, replicate, slice_in
 use Rattle.std.proofs.Common.{slice_set, get_or-set_other, get_or-set_same, length-set}
 use Rattle.std.proofs.lemmas.List.{get_or_default, get_or_past, length-replicate}
 use Rattle.std.proofs.lemmas.List.Sums.{sum_by-set}
-use Rattle.call_bounds.specs.Reachability.{DoesCall, IsClosed, IsExact, IsSound, IsCalled}
+use Rattle.call_bounds.specs.Reachability.{HasCall, IsClosed, IsExact, IsSound, IsCalled}
 use Rattle.call_bounds.specs.Reachability.{Spread, SpreadMet, Swept, is_met, unmet_count}
 
 is_or_not : (a b : ℕ) → (a ≡ b) ⊎ (a ≢ b)
@@ -52,7 +52,7 @@ spread-start n table j met count = record {
 
 -- a new callee is marked
 pub spread-one : (n : ℕ) (table : List Bool) (j c : ℕ) (old new : List Bool) (changed : Bool) →
-    DoesCall n table j c → is_met new c ≡ false → Spread n table j c old new changed →
+    HasCall n table j c → is_met new c ≡ false → Spread n table j c old new changed →
     Spread n table j (c + 1) old (slice_set new c true) true
 spread-one n table j c old new changed call fresh s = record {
   count = length-set new c true ∙ s.count;
@@ -82,7 +82,7 @@ spread-one n table j c old new changed call fresh s = record {
         (get_or-set_same new c true false within)
     grows k h (inr other) = get_or-set_other new c k true false other ∙ h
 
-    grows-here : (k : ℕ) → DoesCall n table j k → (k < c) ⊎ (k ≡ c) →
+    grows-here : (k : ℕ) → HasCall n table j k → (k < c) ⊎ (k ≡ c) →
         is_met (slice_set new c true) k ≡ true
     grows-here k h (inl below) = grows k (s.here k below h) (is_or_not k c)
     grows-here k h (inr same) =
@@ -90,13 +90,13 @@ spread-one n table j c old new changed call fresh s = record {
         (get_or-set_same new c true false within)
 
     came : (k : ℕ) → is_met (slice_set new c true) k ≡ true → (k ≡ c) ⊎ (k ≢ c) →
-        (is_met old k ≡ true) ⊎ DoesCall n table j k
-    came k h (inl same) = inr (subst (λ k. DoesCall n table j k) (sym same) call)
+        (is_met old k ≡ true) ⊎ HasCall n table j k
+    came k h (inl same) = inr (subst (λ k. HasCall n table j k) (sym same) call)
     came k h (inr other) = s.from k (sym (get_or-set_other new c k true false other) ∙ h)
 
 -- no callee, or a marked one
 pub spread-same : (n : ℕ) (table : List Bool) (j c : ℕ) (old new : List Bool) (changed : Bool) →
-    (DoesCall n table j c → is_met new c ≡ true) → Spread n table j c old new changed →
+    (HasCall n table j c → is_met new c ≡ true) → Spread n table j c old new changed →
     Spread n table j (c + 1) old new changed
 spread-same n table j c old new changed known s = record {
   count = s.count;
@@ -108,10 +108,10 @@ spread-same n table j c old new changed known s = record {
   fewer = s.fewer;
 }
   where
-    here : (k : ℕ) → DoesCall n table j k → (k < c) ⊎ (k ≡ c) → is_met new k ≡ true
+    here : (k : ℕ) → HasCall n table j k → (k < c) ⊎ (k ≡ c) → is_met new k ≡ true
     here k h (inl below) = s.here k below h
     here k h (inr e) =
-        subst (λ k. is_met new k ≡ true) (sym e) (known (subst (λ k. DoesCall n table j k) e h))
+        subst (λ k. is_met new k ≡ true) (sym e) (known (subst (λ k. HasCall n table j k) e h))
 
 pub sweep-start : (n : ℕ) (table met : List Bool) → length met ≡ n → Swept n table 0 met met false
 sweep-start n table met count = record {
@@ -137,7 +137,7 @@ sweep-none n table c old new changed out s = record {
   fewer = s.fewer;
 }
   where
-    closed : changed ≡ false → (j k : ℕ) → is_met new j ≡ true → DoesCall n table j k →
+    closed : changed ≡ false → (j k : ℕ) → is_met new j ≡ true → HasCall n table j k →
         (j < c) ⊎ (j ≡ c) → is_met new k ≡ true
     closed e j k h call (inl below) = s.closed e j k below h call
     closed e j k h call (inr same) =
@@ -179,12 +179,12 @@ sweep-same n table c old mid new changed here s p =
       fewer = s.fewer;
     })
   where
-    closed : changed ≡ false → (j k : ℕ) → is_met mid j ≡ true → DoesCall n table j k →
+    closed : changed ≡ false → (j k : ℕ) → is_met mid j ≡ true → HasCall n table j k →
         (j < c) ⊎ (j ≡ c) → is_met mid k ≡ true
     closed e j k h call (inl below) = s.closed e j k below h call
     closed e j k h call (inr same) =
         subst (λ m. is_met m k ≡ true) (p.same refl)
-        (p.here k call.1 (subst (λ j. DoesCall n table j k) same call))
+        (p.here k call.1 (subst (λ j. HasCall n table j k) same call))
 
 -- one more function
 pub sweep-part : (n : ℕ) (table : List Bool) (c : ℕ) (old mid new : List Bool)
@@ -200,15 +200,15 @@ sweep-part n table c old mid new changed false s (inr z) =
     sweep-same n table c old mid new changed z.0 s z.1
 
 -- the rounds so far
-pub record Goes (n : ℕ) (table : List Bool) (a : ℕ) (met : List Bool)
+pub record Marks (n : ℕ) (table : List Bool) (a : ℕ) (met : List Bool)
     (changed : Bool) : Type 0 where
   pub count : length met ≡ n
   pub sound : IsSound n table a met
-  pub begun : (k : ℕ) → DoesCall n table a k → is_met met k ≡ true
+  pub begun : (k : ℕ) → HasCall n table a k → is_met met k ≡ true
   pub closed : changed ≡ false → IsClosed n table met
 
 pub goes-start : (n : ℕ) (table : List Bool) (a : ℕ) (old new : List Bool) (changed : Bool) →
-    ((k : ℕ) → is_met old k ≡ false) → Spread n table a n old new changed → Goes n table a new true
+    ((k : ℕ) → is_met old k ≡ false) → Spread n table a n old new changed → Marks n table a new true
 goes-start n table a old new changed none p = record {
   count = p.count;
   sound = λ k h. elim (p.from k h) [
@@ -220,7 +220,7 @@ goes-start n table a old new changed none p = record {
 }
 
 pub goes-on : (n : ℕ) (table : List Bool) (a : ℕ) (old new : List Bool) (before changed : Bool) →
-    Goes n table a old before → Swept n table n old new changed → Goes n table a new changed
+    Marks n table a old before → Swept n table n old new changed → Marks n table a new changed
 goes-on n table a old new before changed g s = record {
   count = s.count;
   sound = s.sound a g.sound;
@@ -228,7 +228,7 @@ goes-on n table a old new before changed g s = record {
   closed = λ e j k h call. s.closed e j k call.0 h call;
 }
 
-pub exact : (n : ℕ) (table : List Bool) (a : ℕ) (met : List Bool) → Goes n table a met false →
+pub exact : (n : ℕ) (table : List Bool) (a : ℕ) (met : List Bool) → Marks n table a met false →
     IsExact n table a met
 exact n table a met g = record { count = g.count; exact = λ k. (g.sound k, there k) }
   where

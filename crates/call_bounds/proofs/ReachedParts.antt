@@ -1,7 +1,7 @@
 -- Call-graph reachability, by the table of which functions call which.
 use Rattle.std.proofs.Common.{◌≡◌, ℕ, ◌<◌, ◌⊎◌, refl, arith, inl, inr}
 use Rattle.std.proofs.Common.{sym, subst, ◌∙◌, Some, None, List, Bool}
-use Rattle.call_bounds.specs.Reachability.{DoesCall as DoesRow, IsCalled}
+use Rattle.call_bounds.specs.Reachability.{HasCall, IsCalled}
 use Rattle.call_bounds.specs.declared.routines.Routine.{Routine}
 use Rattle.call_bounds.specs.Build.{IsTable}
 use Rattle.call_bounds.specs.CallRefusals.{IsListing}
@@ -13,11 +13,11 @@ use Rattle.call_bounds.proofs.Numbers.{number-of, number-once, routine-of}
 -- calls of the table are calls
 pub row-of : (l : Listing) (table : List Bool) (j k : ℕ) → IsTable l table →
     j < part_count l → k < part_count l → DoesCall (calls l) (part_at l j) (part_at l k) →
-    DoesRow (part_count l) table j k
+    HasCall (part_count l) table j k
 row-of l table j k is hj hk d = (hj, hk, (is.exact j k hj hk).1 d)
 
 pub call-of : (l : Listing) (table : List Bool) (j k : ℕ) → IsTable l table →
-    DoesRow (part_count l) table j k → DoesCall (calls l) (part_at l j) (part_at l k)
+    HasCall (part_count l) table j k → DoesCall (calls l) (part_at l j) (part_at l k)
 call-of l table j k is d = (is.exact j k d.0 d.1).0 d.2
 
 -- a callee of a reached function is reached

@@ -2,7 +2,7 @@
 
 ghost use Rattle.std.specs.Prelude.{◌≡◌, ℕ, ◌+◌, ◌*◌, ◌<◌, ◌≤◌, ◌⊎◌, true};
 ghost use Rattle.std.specs.Prelude.{false, length, IfOk, slice_index_or};
-ghost use Rattle.call_bounds.specs.Reachability.{DoesCall, IsCalled, IsClosed, IsSound, IsExact};
+ghost use Rattle.call_bounds.specs.Reachability.{HasCall, IsCalled, IsClosed, IsSound, IsExact};
 ghost use Rattle.call_bounds.specs.Reachability.{Spread, SpreadMet, Swept, is_met, unmet_count};
 
 use std::alloc::{AllocError, Global};

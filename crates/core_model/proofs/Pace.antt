@@ -16,7 +16,7 @@ use Rattle.core_model.specs.declared.own.Own.{Own}
 use Rattle.core_model.specs.Thread.{Environment, Execution, reg_effect, with_late_value}
 use Rattle.core_model.specs.Traps.{trapped, unless_trap}
 use Rattle.core_model.specs.Outcomes.{plus, load, store, branch, write}
-use Rattle.core_model.specs.Delays.{delay, wait, with_high}
+use Rattle.core_model.specs.Waiting.{delay, wait, with_high}
 use Rattle.core_model.specs.Csr.{csr_access}
 use Rattle.core_model.specs.Issue.{execute_untrapped, run_at, execute_in}
 use Rattle.core_model.specs.Issue.{late_rd, csr_op, csr_operand, csr_writes}

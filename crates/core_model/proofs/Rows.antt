@@ -14,7 +14,7 @@ use Rattle.region_guard.specs.Regions.{region_of, index_of}
 use Rattle.region_guard.specs.Regions.RegionKind.{ReadOnly}
 use Rattle.core_model.specs.Thread.{fresh}
 use Rattle.core_model.specs.Outcomes.{load, store, branch}
-use Rattle.core_model.specs.Delays.{delay, wait}
+use Rattle.core_model.specs.Waiting.{delay, wait}
 use Rattle.core_model.specs.Csr.{csr_update, may_hold, csr_access}
 use Rattle.core_model.specs.Issue.{execute_untrapped, run_at, execute_in}
 use Rattle.core_model.specs.Issue.{execute_word, effect_of, issue}

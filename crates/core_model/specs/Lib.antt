@@ -2,7 +2,7 @@ pub mod Cycles
 pub mod Thread
 pub mod Traps
 pub mod Outcomes
-pub mod Delays
+pub mod Waiting
 pub mod Csr
 pub mod Issue
 pub mod Memory

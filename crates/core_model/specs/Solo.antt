@@ -20,7 +20,7 @@ pub record Alone : Type 0 where
   pub words : List ℕ
 
 -- the state after a cycle, and the cycle's event if it has one
-pub record Turned : Type 0 where
+pub record SoloTurn : Type 0 where
   pub alone : Alone
   pub event : Option Event
 
@@ -65,7 +65,7 @@ unfoldable pub may_go : Setting → ℕ → Thread → Bool
 may_go s c t = has_position s.own c && nat_le t.ready c && nat_le t.own.sleep (time s.period c)
 
 -- an issue: the thread and its words after it, and the event
-abbrev pub solo_issue : Setting → ℕ → Alone → Completion → Turned
+abbrev pub solo_issue : Setting → ℕ → Alone → Completion → SoloTurn
 solo_issue s c t d =
     record {
       alone = record { thread = d.thread; words = own_after s d.effect t.words };
@@ -73,7 +73,7 @@ solo_issue s c t d =
     }
 
 -- one cycle, with the word of the port in it
-unfoldable pub solo_turn : Setting → ℕ → ℕ → Alone → Turned
+unfoldable pub solo_turn : Setting → ℕ → ℕ → Alone → SoloTurn
 solo_turn s c port t =
     if may_go s c t.thread
     then solo_issue s c t (issue (solo_environment s c) (contents_alone s port t.words) c t.thread)
@@ -84,7 +84,7 @@ abbrev pub port_at : View → ℕ → ℕ
 port_at v c = slice_index_or v.shown c absent_word
 
 -- the past, extended by a turn
-abbrev pub add_turn : Past → Turned → Past
+abbrev pub add_turn : Past → SoloTurn → Past
 add_turn p d = record { alone = d.alone; events = d.event ∷ p.events }
 
 -- the cycles before c

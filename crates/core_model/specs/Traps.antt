@@ -1,7 +1,8 @@
 -- Traps: the registers that a trap saves, and the target of MRET. A trap in an instruction's result
 -- takes precedence over its other effects.
-use Rattle.std.specs.Prelude.{ℕ, Option, Some, None}
+use Rattle.std.specs.Prelude.{ℕ, Bool, true, false, Option, Some, None}
 use Rattle.rv_decode.specs.Lag.{redirect_lag}
+use Rattle.rv_exec.specs.declared.outcome.Effect.{Effect}
 use Rattle.rv_exec.specs.declared.outcome.Effect.TheVariants.{Nothing, Trap}
 use Rattle.core_model.specs.declared.own.Own.{Own}
 use Rattle.core_model.specs.Thread.{Execution}
@@ -17,6 +18,11 @@ trapped pc t word cause =
       address = 0;
       effect = Some (Trap cause t.trap.mtvec);
     }
+
+-- whether an effect is a trap
+abbrev pub is_trap : Option Effect → Bool
+is_trap (Some (Trap cause target)) = true
+is_trap _ = false
 
 -- MRET jumps to mepc (RISC-V privileged manual, "Trap-Return Instructions")
 abbrev pub trap_return : Own → ℕ → Execution

@@ -26,7 +26,7 @@ pub dump-ok : {A E : Type 0} → (r : Ready) (first rows : List (Option Row)) (m
     OnOk put ((written : List ℕ) → Runs r first (λ s. seen s r.cycles) written →
     Appends before after written)
 dump-ok r first rows m before after (Ok x) passes puts =
-    λ written runs. (let Told : List ℕ → Type 0 = Appends before after in subst Told
+    λ written runs. (let Adds : List ℕ → Type 0 = Appends before after in subst Adds
     (sym runs.text_is) (puts runs.start r.cycles r.cycles (passes runs.start runs.refines).refines))
 dump-ok r first rows m before after (Err e) passes puts = tt
 
@@ -38,7 +38,7 @@ pub dump-err : {A E : Type 0} → (r : Ready) (first rows : List (Option Row)) (
     AppendsFront before after written)
 dump-err r first rows m before after (Ok x) passes puts = tt
 dump-err r first rows m before after (Err e) passes puts =
-    λ written runs. (let Told : List ℕ → Type 0 = AppendsFront before after in subst Told
+    λ written runs. (let Adds : List ℕ → Type 0 = AppendsFront before after in subst Adds
     (sym runs.text_is) (puts runs.start r.cycles r.cycles (passes runs.start runs.refines).refines))
 
 -- a run without output has done its cycles
@@ -70,8 +70,8 @@ pub trace-ok : {A E : Type 0} → (r : Ready) (thread : ℕ) (first rows : List 
     HasRun s r.cycles r.cycles thread first m rows before after) → OnOk put ((written : List ℕ) →
     Runs r first (λ s. text (events s thread r.cycles)) written → Appends before after written)
 trace-ok r thread first rows m before after (Ok x) run =
-    λ written runs. (let Told : List ℕ → Type 0 = Appends before after in
-    subst Told (sym runs.text_is) (run runs.start runs.refines).put)
+    λ written runs. (let Adds : List ℕ → Type 0 = Appends before after in
+    subst Adds (sym runs.text_is) (run runs.start runs.refines).put)
 trace-ok r thread first rows m before after (Err e) run = tt
 
 pub trace-err : {A E : Type 0} → (r : Ready) (thread : ℕ) (first rows : List (Option Row))
@@ -81,8 +81,8 @@ pub trace-err : {A E : Type 0} → (r : Ready) (thread : ℕ) (first rows : List
     AppendsFront before after written)
 trace-err r thread first rows m before after (Ok x) run = tt
 trace-err r thread first rows m before after (Err e) run =
-    λ written runs. (let Told : List ℕ → Type 0 = AppendsFront before after in
-    subst Told (sym runs.text_is) (run runs.start runs.refines).put)
+    λ written runs. (let Adds : List ℕ → Type 0 = AppendsFront before after in
+    subst Adds (sym runs.text_is) (run runs.start runs.refines).put)
 
 -- the lines of settings that a run writes
 abbrev pub HasLoggedAll : Ready → List (Option Row) → Machine → List (Option Row) →
@@ -97,8 +97,8 @@ pub phases-ok : {A E : Type 0} → (r : Ready) (first rows : List (Option Row))
     OnOk put ((written : List ℕ) → Runs r first (λ s. phases_text (phases s r.cycles)) written →
     Appends before after written)
 phases-ok r first rows m before after (Ok x) logs =
-    λ written runs. (let Told : List ℕ → Type 0 = Appends before after in
-    subst Told (sym runs.text_is) (logs runs.start runs.starts runs.refines).put)
+    λ written runs. (let Adds : List ℕ → Type 0 = Appends before after in
+    subst Adds (sym runs.text_is) (logs runs.start runs.starts runs.refines).put)
 phases-ok r first rows m before after (Err e) logs = tt
 
 pub phases-err : {A E : Type 0} → (r : Ready) (first rows : List (Option Row))
@@ -108,8 +108,8 @@ pub phases-err : {A E : Type 0} → (r : Ready) (first rows : List (Option Row))
     Runs r first (λ s. phases_text (phases s r.cycles)) written → AppendsFront before after written)
 phases-err r first rows m before after (Ok x) logs = tt
 phases-err r first rows m before after (Err e) logs =
-    λ written runs. (let Told : List ℕ → Type 0 = AppendsFront before after in
-    subst Told (sym runs.text_is) (logs runs.start runs.starts runs.refines).put)
+    λ written runs. (let Adds : List ℕ → Type 0 = AppendsFront before after in
+    subst Adds (sym runs.text_is) (logs runs.start runs.starts runs.refines).put)
 
 pub phases-left : {A E : Type 0} → (r : Ready) (first rows : List (Option Row))
     (m : Machine) (before after : Option (List ℕ)) (put : Result A E) → AreLeft first rows →
@@ -154,7 +154,7 @@ pub put-ok : {A E : Type 0} → (put : Result A E) (before after : Option (List 
     OnOk put ((written : List ℕ) → written ≡ text → Appends before after written)
 put-ok (Ok x) before after bytes text same puts =
     λ written is.
-    (let Told : List ℕ → Type 0 = Appends before after in subst Told (same ∙ sym is) puts)
+    (let Adds : List ℕ → Type 0 = Appends before after in subst Adds (same ∙ sym is) puts)
 put-ok (Err e) before after bytes text same puts = tt
 
 pub put-err : {A E : Type 0} → (put : Result A E) (before after : Option (List ℕ))
@@ -163,4 +163,4 @@ pub put-err : {A E : Type 0} → (put : Result A E) (before after : Option (List
 put-err (Ok x) before after bytes text same puts = tt
 put-err (Err e) before after bytes text same puts =
     λ written is.
-    (let Told : List ℕ → Type 0 = AppendsFront before after in subst Told (same ∙ sym is) puts)
+    (let Adds : List ℕ → Type 0 = AppendsFront before after in subst Adds (same ∙ sym is) puts)

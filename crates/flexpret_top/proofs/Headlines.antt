@@ -107,8 +107,8 @@ alone-over law keep (Some (Run setup i n)) files ports before after said =
     let answers = ap (λ (q : Result Program Answer). ends (then_by q (trace_of ports i n))) is in
     let Tells : Answer → Type 0 = IsSaid 0 before after in
     let told = subst Tells (said.is ∙ answers) said.said in
-    let Told : List ℕ → Type 0 = Appends before after in
-    subst Told
+    let Adds : List ℕ → Type 0 = Appends before after in
+    subst Adds
     (law (machine_of p ports) i n (program-keeps keep files setup p is) hard quiet) told.1)
 alone-over law keep (Some (Dump setup n)) files ports before after said = tt
 alone-over law keep (Some (Asm source)) files ports before after said = tt
@@ -138,13 +138,13 @@ retired-over law phased keep (Some (Run setup i n)) files ports before after sai
     let answers = ap (λ (q : Result Program Answer). ends (then_by q (trace_of ports i n))) is in
     let Tells : Answer → Type 0 = IsSaid 0 before after in
     let told = subst Tells (said.is ∙ answers) said.said in
-    let Told : List ℕ → Type 0 = Appends before after in
+    let Adds : List ℕ → Type 0 = Appends before after in
     record {
       alone =
-          λ hard quiet. subst Told
+          λ hard quiet. subst Adds
           (law (machine_of p ports) i n (program-keeps keep files setup p is) hard quiet) told.1;
       phased =
-          λ confined kept. subst Told (phased (machine_of p ports) i n
+          λ confined kept. subst Adds (phased (machine_of p ports) i n
           (program-keeps keep files setup p is) confined kept) told.1;
     })
 retired-over law phased keep (Some (Dump setup n)) files ports before after said = tt
@@ -204,8 +204,8 @@ as-run-over law keep (Some (Solo setup i n)) files ports before after said =
     let Tells : Answer → Type 0 = IsSaid 0 before after in
     let solo : IsSolo p i n ports before after = solo-said p i n ports before after
     (subst Tells (said.is ∙ answers) said.said) in
-    let Told : List ℕ → Type 0 = Appends before after in
-    subst Told (sym (law (machine_of p ports) i n
+    let Adds : List ℕ → Type 0 = Appends before after in
+    subst Adds (sym (law (machine_of p ports) i n
     (program-keeps keep files setup p is) solo.thread quiet)) solo.wrote)
 as-run-over law keep (Some (Run setup i n)) files ports before after said = tt
 as-run-over law keep (Some (Dump setup n)) files ports before after said = tt
@@ -235,8 +235,8 @@ phased-over law keep (Some (Run setup i n)) files ports before after said =
     let answers = ap (λ (q : Result Program Answer). ends (then_by q (trace_of ports i n))) is in
     let Tells : Answer → Type 0 = IsSaid 0 before after in
     let told = subst Tells (said.is ∙ answers) said.said in
-    let Told : List ℕ → Type 0 = Appends before after in
-    subst Told
+    let Adds : List ℕ → Type 0 = Appends before after in
+    subst Adds
     (law (machine_of p ports) i n (program-keeps keep files setup p is) confined kept) told.1)
 phased-over law keep (Some (Dump setup n)) files ports before after said = tt
 phased-over law keep (Some (Asm source)) files ports before after said = tt

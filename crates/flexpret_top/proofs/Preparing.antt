@@ -72,7 +72,7 @@ ready-leaves files name before after last r ready leaves =
 -- the ports after a run that was stopped
 ready-leaves-part : (files : FileMap) (name : List ℕ) (before after last : List (Option Row))
     (r : Ready) → IsReady files name before after r → LeavesPartOfRun r after last →
-    command.LeavesPartOfRun files name r.cycles before last
+    command.LeavesMachineInPart files name r.cycles before last
 ready-leaves-part files name before after last r ready leaves =
     let s : Start = start_of ready.made before r.cycles in
     let some = leaves s ready.refines ready.starts in

@@ -72,7 +72,7 @@ Leaves (Elf file) files before after = after ≡ before
 Leaves (Calls setup thread section routines) files before after = after ≡ before
 
 -- The same if the sink failed within the text: the ports are those after some of the cycles.
-pub record LeavesPartOfRun (files : FileMap) (name : List ℕ) (n : ℕ)
+pub record LeavesMachineInPart (files : FileMap) (name : List ℕ) (n : ℕ)
     (before after : List (Option Row)) : Type 0 where
   pub made : Program
   pub is : program files name ≡ Ok made
@@ -83,10 +83,10 @@ pub record LeavesPartOfRun (files : FileMap) (name : List ℕ) (n : ℕ)
 -- the ports after a text that was cut short
 abbrev pub LeavesInPart : Ask → FileMap → List (Option Row) → List (Option Row) → Type 0
 LeavesInPart (Run setup thread cycles) files before after =
-    LeavesPartOfRun files setup cycles before after
+    LeavesMachineInPart files setup cycles before after
 LeavesInPart (Dump setup cycles) files before after = LeavesMachine files setup cycles before after
 LeavesInPart (Phases setup cycles) files before after =
-    LeavesPartOfRun files setup cycles before after
+    LeavesMachineInPart files setup cycles before after
 LeavesInPart _ files before after = after ≡ before
 
 -- after status 8: a refusal's line leaves the ports as they were

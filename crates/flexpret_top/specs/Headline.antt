@@ -12,7 +12,7 @@ use Rattle.call_bounds.specs.declared.routines.Routine.{Routine}
 use Rattle.call_bounds.specs.CallWalk.{IsCallBound, route}
 use Rattle.call_bounds.specs.Listing.{calls}
 use Rattle.section_visits.specs.CallVisits.{IsCallVisit, KeepsReturns}
-use Rattle.section_visits.specs.CallVisits.{KeepsBounds as KeepsCallBounds}
+use Rattle.section_visits.specs.CallVisits.{KeepsCallBounds}
 use Rattle.core_model.specs.Solo.{solo}
 use Rattle.fp_elf.specs.Elf.{elf_of}
 use Rattle.fp_setup.specs.Rules.{KeepsRules}

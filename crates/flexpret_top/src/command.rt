@@ -60,7 +60,7 @@ fn refuse<K: Sink>(refusal: &Refusal, out: &mut K) -> Status
 }
 
 /// Writes the line of a trace that isn't the defined one.
-fn tell_difference<K: Sink>(line: u64, out: &mut K) -> Status
+fn write_difference<K: Sink>(line: u64, out: &mut K) -> Status
     ensures counted { K.faults out.old ≤ K.faults out.new }
     ensures ends { Ends (Stop.Differs line) (K.faults out.old) (K.faults out.new)
         (K.taken out.old) (K.taken out.new) result }
@@ -82,7 +82,7 @@ fn end<K: Sink>(stop: Stop, out: &mut K) -> Status
 {
     match stop {
         Stop::Refused(refusal) => refuse(&refusal, out),
-        Stop::Differs { line } => tell_difference(line, out),
+        Stop::Differs { line } => write_difference(line, out),
         Stop::Read => Status::Read,
         Stop::NoMemory => Status::NoMemory,
     }

@@ -11,7 +11,7 @@ pub enum Fault {
     /// Usage error.
     Usage,
     /// Usage error, already reported.
-    Told,
+    Reported,
     /// The window has no cycle.
     EmptyWindow,
     /// A picture of too many cycles.
@@ -30,7 +30,8 @@ impl Fault {
     /// The status of the program, the same as `flexpret`'s for the same fault.
     pub fn status(&self) -> Status {
         match self {
-            Fault::Usage | Fault::Told | Fault::EmptyWindow | Fault::WidePicture => Status::Usage,
+            Fault::Usage | Fault::Reported | Fault::EmptyWindow | Fault::WidePicture =>
+                Status::Usage,
             Fault::Refused(refusal) => Status::of_refusal(refusal),
             Fault::Read => Status::Read,
             Fault::Write => Status::Write,
@@ -42,7 +43,7 @@ impl Fault {
     pub fn complaint(&self) -> Option<&'static str> {
         match self {
             Fault::Usage => Some("flexpret_view: usage"),
-            Fault::Told | Fault::Refused(_) => None,
+            Fault::Reported | Fault::Refused(_) => None,
             Fault::EmptyWindow => Some("flexpret_view: --from isn't below --to"),
             Fault::WidePicture => Some("flexpret_view: a picture has at most 2000 cycles"),
             Fault::Read => Some("flexpret_view: read failed"),

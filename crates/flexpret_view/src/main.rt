@@ -44,7 +44,7 @@ fn write_view<W: Write>(
     requires start { machine.old.at ≡ 0 }
     requires eight { vec_len ports.old ≡ 8 }
 {
-    let mut progress = ProgressLine::new(rt, ask.telling, &ask.window);
+    let mut progress = ProgressLine::new(rt, ask.progress, &ask.window);
     let put = put_view(out, ask.form, &ask.window, machine, ports, &mut progress);
     progress.clear();
     put?;
@@ -67,7 +67,7 @@ fn write_buffered<W: Write + Drop>(
 }
 
 /// Runs a machine, and writes the requested view to the requested file.
-fn write_asked(
+fn write_output(
     rt: HostRuntime,
     ask: &Ask<'_>,
     machine: &mut Machine,
@@ -96,7 +96,7 @@ fn run_program(
 {
     feed_inputs(&program.setup, ports)?;
     let mut machine = Machine::load(rt.alloc(), &program.setup, &program.image)?;
-    write_asked(rt, ask, &mut machine, ports).map_err(Fault::from)
+    write_output(rt, ask, &mut machine, ports).map_err(Fault::from)
 }
 
 /// The program of a setup's file.
@@ -126,12 +126,12 @@ fn answer(rt: HostRuntime, ask: &Ask<'_>) -> Result<(), Fault> {
 
 /// Reports why the arguments are no command, with the parser's text if it has one. If that text is
 /// its help, there is no fault.
-fn tell_no(rt: HostRuntime, no: &WordsNo) -> Result<(), Fault> {
+fn report_no(rt: HostRuntime, no: &WordsNo) -> Result<(), Fault> {
     match no {
-        WordsNo::Told(error) => {
+        WordsNo::Parser(error) => {
             let printed = error.print(&rt);
             if error.use_stderr() {
-                return Err(Fault::Told);
+                return Err(Fault::Reported);
             }
             Ok(printed?)
         }
@@ -147,12 +147,12 @@ fn run(rt: HostRuntime) -> Result<(), Fault> {
     let words = read_args(rt)?;
     match read_words(rt.alloc(), &words) {
         Ok(ask) => answer(rt, &ask),
-        Err(no) => tell_no(rt, &no),
+        Err(no) => report_no(rt, &no),
     }
 }
 
 /// Reports a fault: a refusal on standard output, as `flexpret` does, and others on standard error.
-fn tell(rt: HostRuntime, fault: &Fault) -> Status {
+fn report_fault(rt: HostRuntime, fault: &Fault) -> Status {
     if let Fault::Refused(refusal) = fault {
         if rt.print(refusal_line(refusal).as_str()).is_err() {
             return Fault::Write.status();
@@ -167,6 +167,6 @@ fn tell(rt: HostRuntime, fault: &Fault) -> Status {
 fn main(rt: HostRuntime) -> ExitCode {
     match run(rt) {
         Ok(()) => ExitCode::from(Status::Ok.number()),
-        Err(fault) => ExitCode::from(tell(rt, &fault).number()),
+        Err(fault) => ExitCode::from(report_fault(rt, &fault).number()),
     }
 }

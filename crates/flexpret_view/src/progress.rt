@@ -7,7 +7,7 @@ const BLANKS: &str = "                                                          
 
 /// Until when progress is shown.
 #[derive(Clone, Copy, PartialEq, Eq)]
-pub enum Telling {
+pub enum ShownUntil {
     /// Never.
     Never,
     /// Until the window begins.
@@ -21,48 +21,48 @@ pub enum Telling {
 #[derive(Drop)]
 pub struct ProgressLine {
     rt: HostRuntime,
-    telling: Telling,
+    until: ShownUntil,
     /// How many cycles the run has.
     cycles: u64,
     /// Whether a line is shown.
-    stands: bool,
+    is_shown: bool,
 }
 
 impl ProgressLine {
     /// A line that isn't shown yet, for a run that shows a window.
-    pub fn new(rt: HostRuntime, telling: Telling, window: &Window) -> ProgressLine {
+    pub fn new(rt: HostRuntime, until: ShownUntil, window: &Window) -> ProgressLine {
         ProgressLine {
             rt,
-            telling,
+            until,
             cycles: window.run_len(),
-            stands: false,
+            is_shown: false,
         }
     }
 
     /// Removes the line, if one is shown.
     pub fn clear(&mut self) {
-        if self.stands {
+        if self.is_shown {
             let _ = eprint!(self.rt; "\r{BLANKS}\r");
-            self.stands = false;
+            self.is_shown = false;
         }
     }
 }
 
 impl Progress for ProgressLine {
     fn tell(&mut self, done: u64) {
-        if self.telling == Telling::Never {
+        if self.until == ShownUntil::Never {
             return;
         }
         let cycles = self.cycles;
         let percent = done.saturating_mul(100).checked_div(cycles).unwrap_or(100);
         let _ = eprint!(self.rt; "\rflexpret_view: {percent} %, cycle {done} of {cycles}");
-        self.stands = true;
+        self.is_shown = true;
     }
 
     fn begin_window(&mut self) {
-        if self.telling == Telling::Before {
+        if self.until == ShownUntil::Before {
             self.clear();
-            self.telling = Telling::Never;
+            self.until = ShownUntil::Never;
         }
     }
 }

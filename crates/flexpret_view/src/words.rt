@@ -1,7 +1,7 @@
 //! The command of the command line.
 
 use crate::options::{BEFORE, commands};
-use crate::progress::Telling;
+use crate::progress::ShownUntil;
 use clap::error::ErrorKind;
 use clap::{ArgMatches, Error};
 use pipe_view::{Form, Window};
@@ -25,14 +25,14 @@ pub struct Ask<'a> {
     /// The file that gets it; `-` for standard output.
     pub file: &'a str,
     /// Until when progress is shown.
-    pub telling: Telling,
+    pub progress: ShownUntil,
 }
 
 /// Why the arguments are no command.
 #[derive(Drop)]
 pub enum WordsNo {
     /// The parser reports an error, or shows its help.
-    Told(Error),
+    Parser(Error),
     /// The arguments name no command, or lack one that it requires.
     Usage,
     /// The window has no cycle.
@@ -47,7 +47,7 @@ impl From<Error> for WordsNo {
     fn from(error: Error) -> WordsNo {
         match error.kind() {
             ErrorKind::OutOfMemory => WordsNo::NoMemory,
-            _ => WordsNo::Told(error),
+            _ => WordsNo::Parser(error),
         }
     }
 }
@@ -66,11 +66,11 @@ fn form_of<'a>(matches: &ArgMatches<'a>) -> (Form, &'a str) {
 }
 
 /// Until when progress is shown. For a view that goes to a file, this is the end of the run.
-fn telling_of(matches: &ArgMatches<'_>, file: &str) -> Telling {
+fn shown_until(matches: &ArgMatches<'_>, file: &str) -> ShownUntil {
     match matches.get_str("progress") {
-        None => Telling::Never,
-        Some(until) if until == BEFORE && file == STANDARD_OUTPUT => Telling::Before,
-        Some(_) => Telling::All,
+        None => ShownUntil::Never,
+        Some(until) if until == BEFORE && file == STANDARD_OUTPUT => ShownUntil::Before,
+        Some(_) => ShownUntil::All,
     }
 }
 
@@ -98,7 +98,7 @@ fn asked<'a>(matches: &ArgMatches<'a>) -> Result<Ask<'a>, WordsNo> {
         window,
         form,
         file,
-        telling: telling_of(matches, file),
+        progress: shown_until(matches, file),
     })
 }
 
@@ -111,7 +111,7 @@ fn parsed<'a>(alloc: Global, words: &'a [String]) -> Result<ArgMatches<'a>, Erro
 ///
 /// # Errors
 ///
-/// `Told` with the parser's text if the arguments don't fit the options, or request help; `Usage`
+/// `Parser` with the parser's text if the arguments don't fit the options, or request help; `Usage`
 /// if they name no command or lack an argument that it requires; `EmptyWindow` if `from` isn't
 /// below `to`; `WidePicture` if a picture of more than 2,000 cycles is requested; `NoMemory` if
 /// memory ran out.

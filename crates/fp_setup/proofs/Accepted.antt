@@ -19,7 +19,7 @@ use Rattle.fp_setup.specs.Checks.{is_in, integer_check, bytes_check, eight_check
 use Rattle.fp_setup.specs.FaultOrder.{Around, integers, key_fault, keys_fault, unknown_fault}
 use Rattle.fp_setup.specs.FaultOrder.{threads_fault, loops_fault, top_check, top_fault}
 use Rattle.fp_setup.specs.SetupOfTables.{loop_of, nibble_word, rows_at, settings, version_at}
-use Rattle.fp_setup.specs.Setup.{document, setup, setup_in, setup_of, unless}
+use Rattle.fp_setup.specs.Setup.{document, setup, setup_in, setup_of, unless_fault}
 use Rattle.fp_setup.proofs.RowsKept.{AreLoopsKept, AreRowsKept, loops-kept, threads-kept}
 use Rattle.fp_setup.proofs.TopTable.{period_within}
 use Rattle.fp_setup.proofs.ValuesKept.{IsLong, bytes-kept, eight-kept, integer-kept}
@@ -128,7 +128,7 @@ refuses f s is = cc
 
 of-table : (ms : Members) (s : Settings) (found : Option Fault) →
     top_fault (size_of (version_at ms)) ms ≡ found →
-    unless found (settings ms) ≡ Ok s → KeepsRules s
+    unless_fault found (settings ms) ≡ Ok s → KeepsRules s
 of-table ms s None good is =
     let same : settings ms ≡ s = cc in subst KeepsRules same (table-kept ms good)
 of-table ms s (Some f) bad is = absurd (refuses f s is)

@@ -30,7 +30,7 @@ use Rattle.fp_setup.specs.FaultOrder.{thread_table_fault, thread_fault, loop_tab
 use Rattle.fp_setup.specs.FaultOrder.{loop_fault, id_of, threads_from, loops_from}
 use Rattle.fp_setup.specs.FaultOrder.{threads_fault, loops_fault, top_check, top_fault}
 use Rattle.fp_setup.specs.SetupOfTables.{settings, version_at}
-use Rattle.fp_setup.specs.Setup.{unless, document, setup, setup_in, setup_of, IsFaultOf}
+use Rattle.fp_setup.specs.Setup.{unless_fault, document, setup, setup_in, setup_of, IsFaultOf}
 use Rattle.fp_setup.specs.Places.{IsPlace, HasPlace, keys_in}
 
 -- the fault that a check finds, if any, has such a place
@@ -261,10 +261,10 @@ abbrev pub ResultAtPlace : {A : Type 0} → Result A Fault → Type 0
 ResultAtPlace (Ok x) = Unit {0}
 ResultAtPlace (Err f) = IsPlace f.place
 
-unless-at_place : {A : Type 0} (found : Option Fault) (x : A) → FoundAtPlace found →
-    ResultAtPlace (unless found x)
-unless-at_place None x p = tt
-unless-at_place (Some f) x p = p
+unless_fault-at_place : {A : Type 0} (found : Option Fault) (x : A) → FoundAtPlace found →
+    ResultAtPlace (unless_fault found x)
+unless_fault-at_place None x p = tt
+unless_fault-at_place (Some f) x p = p
 
 no_place-good : IsPlace no_place
 no_place-good = record { table = lit≤ tt; key = lit≤ tt }
@@ -273,7 +273,7 @@ setup_in-at_place : (o : Option Members) → ResultAtPlace (setup_in o)
 unfolding setup_of
 setup_in-at_place None = no_place-good
 setup_in-at_place (Some ms) =
-    unless-at_place (top_fault (size_of (version_at ms)) ms) (settings ms)
+    unless_fault-at_place (top_fault (size_of (version_at ms)) ms) (settings ms)
     (top-at_place (size_of (version_at ms)) ms)
 
 if-result-at_place : {A : Type 0} (b : Bool) (x y : Result A Fault) → ResultAtPlace x →

@@ -81,6 +81,10 @@ eight_fault words place ds =
 unfoldable pub eight_check : Words → Check
 eight_check words place d = typed place (as_list d) (eight_fault words place)
 
+-- the largest word, of 32 bits
+abbrev pub largest_word : ℕ
+largest_word = 4294967295
+
 -- an input after one with that cycle: a later cycle and a word
 abbrev pub is_after : Option ℕ → ℕ → Bool
 is_after None at = true
@@ -88,7 +92,7 @@ is_after (Some before) at = nat_lt before at
 
 abbrev pub is_input : Option ℕ → ℤ → ℤ → Bool
 is_input before (pos at) (pos word) =
-    (nat_le at most_cycles && is_after before at) && nat_le word 4294967295
+    (nat_le at most_cycles && is_after before at) && nat_le word largest_word
 is_input before _ _ = false
 
 unfoldable pub input_check : Option ℕ → Check

@@ -14,9 +14,9 @@ use Rattle.fp_setup.specs.FaultOrder.{top_fault}
 use Rattle.fp_setup.specs.SetupOfTables.{settings, version_at}
 
 -- the fault where there is one, else the value
-abbrev pub unless : {A : Type 0} → Option Fault → A → Result A Fault
-unless None value = Ok value
-unless (Some found) value = Err found
+abbrev pub unless_fault : {A : Type 0} → Option Fault → A → Result A Fault
+unless_fault None value = Ok value
+unless_fault (Some found) value = Err found
 
 -- the table of a text, if the text is UTF-8 and a document
 abbrev pub document : List ℕ → Option Members
@@ -24,7 +24,7 @@ document bytes = if is_utf8 bytes then parse_document bytes else None
 
 -- the setup of a table, or its first fault
 unfoldable pub setup_of : Members → Result Settings Fault
-setup_of ms = unless (top_fault (size_of (version_at ms)) ms) (settings ms)
+setup_of ms = unless_fault (top_fault (size_of (version_at ms)) ms) (settings ms)
 
 abbrev pub setup_in : Option Members → Result Settings Fault
 setup_in None = Err (fault_at no.Toml no_place)

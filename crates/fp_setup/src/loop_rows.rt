@@ -26,7 +26,7 @@ use toml::{Table, Value};
 const MOST_LOOPS: usize = 256;
 
 /// The largest bound that a loop may have.
-const MOST_TURNS: u32 = 1_048_576;
+const MOST_ROUNDS: u32 = 1_048_576;
 
 /// The keys of a loop's table, in the order of their numbers.
 const KEYS: [&str; 3] = ["head", "last", "bound"];
@@ -44,7 +44,7 @@ fn loop_table(table: &Table, size: u32, row: Place) -> Result<LoopSetup, Fault>
     no_other_key(table, &KEYS, row)?;
     let head = needed_integer(table, "head", Range::addresses(0, size), row.key(1))?;
     let last = needed_integer(table, "last", Range::addresses(head, size), row.key(2))?;
-    let limit = needed_integer(table, "bound", Range::integers(0, MOST_TURNS), row.key(3))?;
+    let limit = needed_integer(table, "bound", Range::integers(0, MOST_ROUNDS), row.key(3))?;
     Ok(LoopSetup { head, last, limit })
 }
 

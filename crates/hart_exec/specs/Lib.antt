@@ -2,7 +2,7 @@ pub mod Effects
 pub mod Units
 pub use Rattle.core_model.specs.Csr
 pub use Rattle.core_model.specs.Issue
-pub use Rattle.core_model.specs.Delays
+pub use Rattle.core_model.specs.Waiting
 pub use Rattle.core_model.specs.Outcomes
 pub use Rattle.core_model.specs.Thread
 pub use Rattle.core_model.specs.Traps

@@ -5,7 +5,7 @@ ghost use Rattle.rv_decode.specs.Table.{ins};
 ghost use Rattle.rv_decode.specs.Range.{InRange};
 ghost use Rattle.rv_exec.specs.Access.{IsAligned};
 ghost use Rattle.core_model.specs.Issue.{execute_untrapped, run_at, execute_in};
-ghost use Rattle.core_model.specs.Delays.{with_armed};
+ghost use Rattle.core_model.specs.Waiting.{with_armed};
 ghost use Rattle.core_model.specs.Traps.{trapped};
 ghost use Rattle.rv_exec.specs.TrapCauses.{cause_expiry};
 ghost use Rattle.hart_exec.specs.Effects.{IsPrintableEffect, IsAlignedStore, HasWord, HasTarget};

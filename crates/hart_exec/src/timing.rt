@@ -3,7 +3,7 @@
 ghost use Rattle.std.specs.Prelude.{◌≡◌, ◌<◌, ◌%◌, ◌/◌, ◌^◌, Some, None, false};
 ghost use Rattle.rv_decode.specs.Lag.{lag, redirect_lag};
 ghost use Rattle.core_model.specs.Outcomes.{advance, write};
-ghost use Rattle.core_model.specs.Delays.{delay, wait, with_armed, with_high};
+ghost use Rattle.core_model.specs.Waiting.{delay, wait, with_armed, with_high};
 ghost use Rattle.rv_exec.specs.declared.outcome.Effect.TheVariants.{Nothing};
 ghost use Rattle.hart_exec.specs.Effects.{IsPrintableEffect, IsAlignedStore};
 ghost use Rattle.hart_exec.specs.Units.{Holds, Refines, RefinesInPlace, own_of};
@@ -50,7 +50,7 @@ pub fn read_high(hart: &Hart<'_>, at: PcWord, i: &Ins, rd: u8) -> ExecResult
 }
 
 /// DU: the thread stays at its word until the moment.
-#[tactic(auto, unfolding(core_model::specs::Delays::delay))]
+#[tactic(auto, unfolding(core_model::specs::Waiting::delay))]
 #[inline(always)]
 pub fn delay_until(at: PcWord, i: &Ins, now: u64, until: u64) -> ExecResult
     requires pc { at.pc % 4 ≡ 0 }
@@ -75,7 +75,7 @@ pub fn delay_until(at: PcWord, i: &Ins, now: u64, until: u64) -> ExecResult
 }
 
 /// WU: the thread sleeps until the moment, or until its armed one where that is earlier.
-#[tactic(auto, unfolding(core_model::specs::Delays::wait))]
+#[tactic(auto, unfolding(core_model::specs::Waiting::wait))]
 #[inline(always)]
 pub fn wait_until(hart: &mut Hart<'_>, at: PcWord, i: &Ins, until: u64) -> ExecResult
     requires pc { at.pc % 4 ≡ 0 }

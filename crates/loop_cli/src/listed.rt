@@ -85,7 +85,7 @@ fn add_lines(alloc: Global, text: &str, plants: &mut Vec<Option<Listed>>) -> Res
         match words.next() {
             None | Some("#") => {}
             Some(thread) => {
-                let thread = thread_of(thread)? as usize;
+                let thread = parsed_thread(thread)? as usize;
                 if plants[thread].is_some() {
                     return Err(Fault::Plants);
                 }
@@ -101,15 +101,15 @@ fn plant_of(alloc: Global, mut words: SplitWhitespace<'_>) -> Result<Listed, Fau
     match words.next() {
         Some("body") => Ok(Listed::Body(last_number(words)?)),
         Some("motor") => Ok(Listed::Motor(last_number(words)?)),
-        Some("table") => Ok(Listed::Table(words_of(alloc, words)?)),
-        Some("recorded") => Ok(Listed::Recorded(words_of(alloc, words)?)),
+        Some("table") => Ok(Listed::Table(parsed_words(alloc, words)?)),
+        Some("recorded") => Ok(Listed::Recorded(parsed_words(alloc, words)?)),
         Some("pipe") => pipe_of(words),
         _ => Err(Fault::Plants),
     }
 }
 
 /// The words of a table or a recording.
-fn words_of(alloc: Global, words: SplitWhitespace<'_>) -> Result<Vec<u32>, Fault> {
+fn parsed_words(alloc: Global, words: SplitWhitespace<'_>) -> Result<Vec<u32>, Fault> {
     let mut all = Vec::new(alloc);
     for word in words {
         all.push(number(Some(word))?)?;
@@ -126,7 +126,7 @@ fn pipe_of(mut words: SplitWhitespace<'_>) -> Result<Listed, Fault> {
 }
 
 /// A thread's number.
-fn thread_of(text: &str) -> Result<u8, Fault>
+fn parsed_thread(text: &str) -> Result<u8, Fault>
     ensures { IfOk result (λ thread. thread < 8) }
 {
     match text.parse::<u8>() {

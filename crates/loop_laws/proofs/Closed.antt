@@ -17,8 +17,8 @@ use Rattle.loop_laws.specs.LoopLaws.{LoopIsolation, LoopsExist, LoopsWithoutPerm
 use Rattle.loop_laws.proofs.Causal.{past-words}
 
 -- the words of thread i's port in the first c cycles
-abbrev words_of : (ℕ → Plant) → Start → ℕ → ℕ → List ℕ
-words_of plants s i c = get_or (closed_words plants s c) i []
+abbrev shown_by : (ℕ → Plant) → Start → ℕ → ℕ → List ℕ
+shown_by plants s i c = get_or (closed_words plants s c) i []
 
 -- the plant's word of the next cycle
 abbrev next_word : (ℕ → Plant) → Start → ℕ → ℕ → ℕ
@@ -26,10 +26,10 @@ next_word plants s i c = plants i (stores_before (closed_start plants s c) i c) 
 
 -- a cycle adds one word
 next-words : (plants : ℕ → Plant) (s : Start) (i c : ℕ) → i < 8 →
-    words_of plants s i (suc c) ≡ words_of plants s i c ++ next_word plants s i c ∷ []
+    shown_by plants s i (suc c) ≡ shown_by plants s i c ++ next_word plants s i c ∷ []
 unfolding closed_words
 next-words plants s i c below =
-    get_or-map-range_with_len (λ (k : ℕ). words_of plants s k c ++ next_word plants s k c ∷ []) 0 8
+    get_or-map-range_with_len (λ (k : ℕ). shown_by plants s k c ++ next_word plants s k c ∷ []) 0 8
     i i [] below (zero-add i)
 
 -- there are eight ports at most
@@ -39,48 +39,48 @@ length-ports plants s zero = omega arith
 length-ports plants s (suc c) =
     let e : length (closed_words plants s (suc c)) ≡ length (range_with_len 0 8) =
     length-map (range_with_len 0 8)
-    (λ (k : ℕ). words_of plants s k c ++ next_word plants s k c ∷ []) in
+    (λ (k : ℕ). shown_by plants s k c ++ next_word plants s k c ∷ []) in
     omega (arith, e)
 
 length-words : (plants : ℕ → Plant) (s : Start) (i c : ℕ) → i < 8 →
-    length (words_of plants s i c) ≡ c
+    length (shown_by plants s i c) ≡ c
 unfolding closed_words
 length-words plants s i zero below = refl
 length-words plants s i (suc c) below =
-    let e : length (words_of plants s i c ++ next_word plants s i c ∷ [])
-    ≡ length (words_of plants s i c) + 1 =
-    length-append (words_of plants s i c) (next_word plants s i c ∷ []) in
+    let e : length (shown_by plants s i c ++ next_word plants s i c ∷ [])
+    ≡ length (shown_by plants s i c) + 1 =
+    length-append (shown_by plants s i c) (next_word plants s i c ∷ []) in
     ap (λ (ws : List ℕ). length ws) (next-words plants s i c below)
     ∙ omega (arith, e, length-words plants s i c below)
 
 -- the words of the first cycles stay as the run grows longer
 words-longer : (plants : ℕ → Plant) (s : Start) (i c m at : ℕ) → i < 8 → at < c →
-    get_or (words_of plants s i (c + m)) at 0xFFFFFFFF
-    ≡ get_or (words_of plants s i c) at 0xFFFFFFFF
+    get_or (shown_by plants s i (c + m)) at 0xFFFFFFFF
+    ≡ get_or (shown_by plants s i c) at 0xFFFFFFFF
 words-longer plants s i c zero at below h = rw add-zero refl
 words-longer plants s i c (suc m) at below h =
     rw add-suc
     (ap (λ (ws : List ℕ). get_or ws at 0xFFFFFFFF) (next-words plants s i (c + m) below)
-    ∙ get_or-append (words_of plants s i (c + m)) (next_word plants s i (c + m) ∷ []) 0xFFFFFFFF at
+    ∙ get_or-append (shown_by plants s i (c + m)) (next_word plants s i (c + m) ∷ []) 0xFFFFFFFF at
     (omega (arith, length-words plants s i (c + m) below)) ∙ words-longer plants s i c m at below h)
 
 words-same : (plants : ℕ → Plant) (s : Start) (i c n at : ℕ) → i < 8 → at < c → c ≤ n →
-    get_or (words_of plants s i n) at 0xFFFFFFFF ≡ get_or (words_of plants s i c) at 0xFFFFFFFF
+    get_or (shown_by plants s i n) at 0xFFFFFFFF ≡ get_or (shown_by plants s i c) at 0xFFFFFFFF
 words-same plants s i c n at below h l =
     let e : c + (n - c) ≡ n = omega arith in
-    subst (λ (m : ℕ). get_or (words_of plants s i m) at 0xFFFFFFFF
-    ≡ get_or (words_of plants s i c) at 0xFFFFFFFF) e (words-longer plants s i c (n - c) at below h)
+    subst (λ (m : ℕ). get_or (shown_by plants s i m) at 0xFFFFFFFF
+    ≡ get_or (shown_by plants s i c) at 0xFFFFFFFF) e (words-longer plants s i c (n - c) at below h)
 
 newest-word : (plants : ℕ → Plant) (s : Start) (i c : ℕ) → i < 8 →
-    get_or (words_of plants s i (suc c)) c 0xFFFFFFFF ≡ next_word plants s i c
+    get_or (shown_by plants s i (suc c)) c 0xFFFFFFFF ≡ next_word plants s i c
 newest-word plants s i c below =
-    let words = words_of plants s i c in
+    let words = shown_by plants s i c in
     let word = next_word plants s i c in
     let Goal : ℕ → Type 0 = λ k. get_or (words ++ word ∷ []) k 0xFFFFFFFF ≡ word in
     ap (λ (ws : List ℕ). get_or ws c 0xFFFFFFFF) (next-words plants s i c below)
     ∙ subst Goal (length-words plants s i c below) (get_or-append_seam words word [] 0xFFFFFFFF)
 
-no-words : (plants : ℕ → Plant) (s : Start) (k c : ℕ) → 8 ≤ k → words_of plants s k c ≡ []
+no-words : (plants : ℕ → Plant) (s : Start) (k c : ℕ) → 8 ≤ k → shown_by plants s k c ≡ []
 no-words plants s k c past =
     get_or-eq_default (closed_words plants s c) [] (omega (arith, length-ports plants s c))
 

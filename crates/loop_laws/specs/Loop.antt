@@ -6,6 +6,7 @@ use Rattle.rv_exec.specs.declared.outcome.Effect.{Effect}
 use Rattle.rv_exec.specs.declared.outcome.Effect.TheVariants.{Store}
 use Rattle.rv_exec.specs.declared.outcome.Event.{Event}
 use Rattle.region_guard.specs.MemoryMap.{port_address}
+use Rattle.fp_ports.specs.PluggedPorts.{absent_word}
 use Rattle.core_model.specs.Thread.{Thread}
 use Rattle.core_model.specs.View.{Setting, View}
 use Rattle.core_model.specs.Solo.{Past, add_turn, solo_turn, oldest_first}
@@ -25,13 +26,13 @@ Plant = List PortStore → ℕ → ℕ
 
 -- a plant that ignores all stores: it shows fixed input words, and ones after the last of them
 abbrev pub input_plant : List ℕ → Plant
-input_plant words stores c = slice_index_or words c 0xFFFFFFFF
+input_plant words stores c = slice_index_or words c absent_word
 
 -- a plant at a port that is present in some cycles only. It receives the stores of those cycles; in
 -- all others the port reads as ones
 abbrev pub plant_behind_port : (ℕ → Bool) → Plant → Plant
 plant_behind_port is_present plant stores c =
-    if is_present c then plant (filter (λ store. is_present store.cycle) stores) c else 0xFFFFFFFF
+    if is_present c then plant (filter (λ store. is_present store.cycle) stores) c else absent_word
 
 -- the store at the port that an effect of cycle c is, if it is one
 abbrev pub port_store : ℕ → Effect → List PortStore

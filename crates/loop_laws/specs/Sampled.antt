@@ -3,6 +3,7 @@
 use Rattle.std.specs.Prelude.{◌≡◌, ℕ, zero, suc, ◌+◌, ◌*◌, ◌-◌, ◌/◌, ◌<◌, ◌≤◌, nat_lt, true, List}
 use Rattle.std.specs.Prelude.{[], ◌∷◌, ◌++◌, filter, length, slice_index_or, Option, Some, None}
 use Rattle.core_model.specs.World.{Start, has_port, port_word, world}
+use Rattle.core_model.specs.Cycles.{cycles_to_m}
 use Rattle.loop_laws.specs.Loop.{Plant, PortStore, plant_behind_port}
 use Rattle.loop_laws.specs.Answered.{closed_start, inputs_of, stores_before}
 
@@ -49,7 +50,7 @@ sampled_start responses every s n = closed_start (λ k. plant_of s every k (resp
 -- the latch of thread i's port in a machine at cycle c: a store reaches it three cycles after its
 -- issue
 abbrev pub latch_word : Start → ℕ → ℕ → ℕ
-latch_word s i c = slice_index_or (world s (c - 3)).latches i 0
+latch_word s i c = slice_index_or (world s (c - cycles_to_m)).latches i 0
 
 -- the first k samples of that latch, one each `every` cycles
 abbrev pub latch_samples : Start → ℕ → ℕ → ℕ → List ℕ
@@ -66,7 +67,7 @@ LatchOfStores = (s : Start) (i c : ℕ) → i < length s.latches
 -- the delay of a store: a sample in cycle c includes the stores issued in cycle c - 4 and before
 abbrev pub StoreDelay : Type 0
 StoreDelay = (s : Start) (i a c : ℕ) → c ≤ a + 3
-    → arrived_stores c (stores_before s i a) ≡ stores_before s i (c - 3)
+    → arrived_stores c (stores_before s i a) ≡ stores_before s i (c - cycles_to_m)
 
 -- in loops with sampled plants a port that is present shows its plant's response to the samples of
 -- its latch so far

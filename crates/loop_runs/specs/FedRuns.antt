@@ -6,6 +6,7 @@ use Rattle.fp_ports.specs.declared.feeds.Feed.{Feed}
 use Rattle.fp_ports.specs.Kinds.{kept_from}
 use Rattle.fp_ports.specs.PluggedPorts.{Row, Forgot, row_at, fed}
 use Rattle.core_model.specs.World.{Start, has_port, port_word}
+use Rattle.core_model.specs.Cycles.{cycles_to_m}
 use Rattle.loop_laws.specs.Answered.{with_shown}
 use Rattle.machine.specs.declared.state.Machine.{Machine}
 use Rattle.machine.specs.WorldRelation.{Refines}
@@ -40,7 +41,7 @@ AllForgot first before after = (k : ℕ) → k < 8 → Forgot first (row_at befo
 -- before cycle c - 3. The loads in flight were issued in cycles c - 3 to c - 1.
 abbrev pub ForgetsRunning : Type 0
 ForgetsRunning = (s : Start) (c n : ℕ) (m : Machine) (before after : List (Option Row))
-    → Refines s c n m before → AllForgot (c - 3) before after → Refines s c n m after
+    → Refines s c n m before → AllForgot (c - cycles_to_m) before after → Refines s c n m after
 
 -- feeds, the newest first: each is of an earlier cycle than the one before it, and all are before c
 abbrev pub FallsBelow : ℕ → List Feed → Type 0
@@ -50,4 +51,4 @@ FallsBelow c (feed ∷ older) = (feed.at < c) × FallsBelow feed.at older
 -- a device of fp_ports keeps at most three of such feeds, once it forgets the cycles before c - 3
 abbrev pub KeepsThree : Type 0
 KeepsThree = (feeds : List Feed) (c : ℕ) → 0 < c → FallsBelow c feeds
-    → length (kept_from (c - 3) feeds) ≤ 3
+    → length (kept_from (c - cycles_to_m) feeds) ≤ 3

@@ -18,7 +18,7 @@ use Rattle.trace_print.specs.DumpLines.{timer_text, latch_text, memory_text}
 use Rattle.timer_unit.specs.declared.row.Timer.{Timer}
 use Rattle.core_model.specs.World.{Start, Took, Registers, thread_of, world}
 use Rattle.core_model.specs.World.Took.{Idle, Lost, Ran}
-use Rattle.core_model.specs.Cycles.{cycles_to_w}
+use Rattle.core_model.specs.Cycles.{cycles_to_e, cycles_to_m, cycles_to_w}
 
 -- the turn of cycle n - 1 - e, nobody's before cycle 0
 abbrev pub turn_before : Start → ℕ → ℕ → Took
@@ -84,13 +84,13 @@ is_port_left (Some unplug) n = nat_lt n (unplug + cycles_to_w)
 abbrev pub latch_seen : Start → ℕ → ℕ → Option ℕ
 latch_seen s n i =
     if slice_index_or s.handed i false && is_port_left (slice_index_or s.unplugs i None) n
-    then Some (slice_index_or (world s (n - 3)).latches i 0)
+    then Some (slice_index_or (world s (n - cycles_to_m)).latches i 0)
     else None
 
 -- a thread's lines
 abbrev pub thread_seen : Start → ℕ → ℕ → List ℕ
 thread_seen s n i =
-    let own = (thread_of (world s (n - 2)) i).own in
+    let own = (thread_of (world s (n - cycles_to_e)) i).own in
     registers_seen i (thread_of (world s (n - cycles_to_w)) i).regs
     ++ (traps_seen i own.trap
     ++ (timer_seen i own.timer own.sleep ++ latch_text i (latch_seen s n i)))
@@ -106,6 +106,6 @@ unfoldable pub seen : Start → ℕ → List ℕ
 seen s n =
     cycles_text n
     ++ (stages_seen s n
-    ++ (shared_seen (world s (n - 2)).registers
+    ++ (shared_seen (world s (n - cycles_to_e)).registers
     ++ (flat_map (thread_seen s n) (range_with_len 0 8)
-    ++ flat_map (words_seen (world s (n - 3)).d_words) (range_with_len 0 (s.size / 32)))))
+    ++ flat_map (words_seen (world s (n - cycles_to_m)).d_words) (range_with_len 0 (s.size / 32)))))

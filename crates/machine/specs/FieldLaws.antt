@@ -1,6 +1,7 @@
 -- Theorems on the fields of a machine, and on ports that refine a cycle of a world.
 use Rattle.std.specs.Prelude.{◌≡◌, ℕ, suc, ◌+◌, ◌<◌, List, length, Option}
 use Rattle.core_model.specs.World.{Start}
+use Rattle.core_model.specs.Cycles.{cycles_to_m}
 use Rattle.pipe_model.specs.Stages.{StageRegisters, State, Ticked}
 use Rattle.pipe_model.specs.Relation.{Refines, PortsRefine, RefinesNext}
 use Rattle.machine.specs.DumpedState.{seen}
@@ -21,7 +22,7 @@ pub record Unplugged (s : Start) (c : ℕ) (p : StageRegisters) (u : State) : Ty
 abbrev pub Unplugs : Type 0
 Unplugs =
     (s : Start) (c n : ℕ) (p : StageRegisters) (u : State) (at : ℕ) (unplugs : List (Option ℕ)) →
-    FieldsRefine s c n p u at unplugs → c < n + 3 → length u.ports ≡ 8 →
+    FieldsRefine s c n p u at unplugs → c < n + cycles_to_m → length u.ports ≡ 8 →
     Unplugged s c p (with_ports_left u c unplugs)
 
 -- the state after the pipeline's step refines the next cycle

@@ -17,3 +17,4 @@ pub use Rattle.run_laws.specs.TraceLaws
 pub use Rattle.timer_unit.specs.Time
 pub use Rattle.trace_print.specs.Text
 pub use Rattle.core_model.specs.World
+pub use Rattle.rv_exec.specs.Line

@@ -21,7 +21,7 @@ use Rattle.pipeline_core.specs.Abstraction.{abstract_stages, abstract_state}
 use Rattle.machine.specs.FieldRelation.{FieldsRefine}
 use Rattle.machine.specs.DumpedState.{is_port_left}
 use Rattle.machine.specs.declared.state.Machine.{Machine}
-use Rattle.core_model.specs.Cycles.{cycles_to_w}
+use Rattle.core_model.specs.Cycles.{cycles_to_m, cycles_to_w}
 
 -- the machine and the ports refine cycle c of the world; its lists of shown words have n entries
 abbrev pub Refines : Start → ℕ → ℕ → Machine → List (Option Row) → Type 0
@@ -80,7 +80,7 @@ pub record Stopped (s : Start) (n thread : ℕ) (first : List (Option Row)) (m :
 abbrev pub row_after : Start → ℕ → ℕ → Option Row → Option Row
 row_after s n k row =
     if slice_index_or s.handed k false && is_port_left (slice_index_or s.unplugs k None) n
-    then row_with_word row (slice_index_or (world s (n - 3)).latches k 0)
+    then row_with_word row (slice_index_or (world s (n - cycles_to_m)).latches k 0)
     else None
 
 -- the ports after n cycles of a world

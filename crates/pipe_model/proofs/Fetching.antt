@@ -17,7 +17,8 @@ use Rattle.pipe_model.specs.declared.stage_registers.Executed.{Executed}
 use Rattle.pipe_model.specs.declared.stage_registers.Fetched.{Fetched}
 use Rattle.pipe_model.specs.declared.stage_registers.Stored.{Stored}
 use Rattle.pipe_model.specs.declared.stage_registers.Redirect.{Redirect}
-use Rattle.pipe_model.specs.Stages.{StageRegisters, State, decode_stage, flushes_d, operand}
+use Rattle.pipe_model.specs.Forwarding.{operand}
+use Rattle.pipe_model.specs.Stages.{StageRegisters, State, decode_stage, flushes_d}
 use Rattle.pipe_model.specs.Relation.{turn_at, in_memory, in_execute, in_decode, in_fetch}
 use Rattle.pipe_model.specs.Relation.{decoded_in, pick_in, bank_in, control_in, Begins, Refines}
 use Rattle.pipe_model.specs.StageView.{FetchHolds}

@@ -17,7 +17,8 @@ use Rattle.core_model.proofs.Pace.{Paced, is_csr, filled-csr}
 use Rattle.pipe_model.specs.declared.stage_registers.Redirect.{Redirect}
 use Rattle.pipe_model.specs.declared.stage_registers.Flush.{Flush}
 use Rattle.pipe_model.specs.declared.stage_registers.Flush.TheVariants.{Decode, DecodeAndFetch}
-use Rattle.pipe_model.specs.Stages.{forward, from_e, from_m, flushes_d, includes_fetch}
+use Rattle.pipe_model.specs.Forwarding.{forward, from_e, from_m}
+use Rattle.pipe_model.specs.Stages.{flushes_d, includes_fetch}
 use Rattle.pipe_model.specs.Stages.{flushes_f, flush_of, next_after_redirect, redirect_of}
 use Rattle.pipe_model.specs.Relation.{issues, pc_after_issue, execution_in, in_execute, in_memory}
 use Rattle.pipe_model.proofs.Moved.{did-pace, unequal, equals}

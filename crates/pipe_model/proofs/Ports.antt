@@ -53,10 +53,10 @@ was_there None n c e h = refl
 was_there (Some u) n c e h = grind (arith, nat_tests)
 
 -- the latch that a row shows
-abbrev pub Shown : Option Row → ℕ → Type 0
-Shown row latch = IfSome row (λ r. r.latch ≡ latch)
+abbrev pub HasLatch : Option Row → ℕ → Type 0
+HasLatch row latch = IfSome row (λ r. r.latch ≡ latch)
 
-shown-written : (row : Option Row) (value : ℕ) → Shown (row_with_word row value) value
+shown-written : (row : Option Row) (value : ℕ) → HasLatch (row_with_word row value) value
 shown-written None value = tt
 shown-written (Some r) value = refl
 
@@ -126,26 +126,27 @@ same-ports ports (Ran j pc word effect) k = same-effect ports j effect k
 -- The latches of ports and world after an effect of thread j. If its port is present, it is present
 -- in the world.
 module _ (j : ℕ) (there : Bool) (ports : List (Option Row)) (ls : List ℕ) (eight : length ls ≡ 8)
-    (below : j < 8) (has : (k : ℕ) → k < 8 → Shown (row_at ports k) (get_or ls k 0))
+    (below : j < 8) (has : (k : ℕ) → k < 8 → HasLatch (row_at ports k) (get_or ls k 0))
     (real : is_some (row_at ports j) ≡ true → there ≡ true) where
-  put-mine : (value : ℕ) → Shown (row_at (set ports j (row_with_word (row_at ports j) value)) j)
+  put-mine : (value : ℕ) → HasLatch (row_at (set ports j (row_with_word (row_at ports j) value)) j)
       (get_or (if there then set ls j value else ls) j 0)
   put-mine value =
-      row-put ports j value (λ row. Shown row (get_or (if there then set ls j value else ls) j 0))
+      row-put ports j value
+      (λ row. HasLatch row (get_or (if there then set ls j value else ls) j 0))
       tt (go (row_at ports j) refl)
     where
       go : (row : Option Row) → row_at ports j ≡ row →
-          Shown (row_with_word row value) (get_or (if there then set ls j value else ls) j 0)
+          HasLatch (row_with_word row value) (get_or (if there then set ls j value else ls) j 0)
       go None e = tt
       go (Some r) e =
           let is : there ≡ true = real (rw e refl) in
           rw is (sym (get_or-set_same ls j value 0 (rw eight below)))
 
   put : (value k : ℕ) (b : Bool) → (j == k) ≡ b → k < 8 →
-      Shown (row_at (set ports j (row_with_word (row_at ports j) value)) k)
+      HasLatch (row_at (set ports j (row_with_word (row_at ports j) value)) k)
       (get_or (if there then set ls j value else ls) k 0)
   put value k false e h =
-      subst₂ Shown
+      subst₂ HasLatch
       (sym (get_or-set_other ports j k (row_with_word (row_at ports j) value) None (unequal j k e)))
       (sym (other there)) (has k h)
     where
@@ -154,19 +155,20 @@ module _ (j : ℕ) (there : Bool) (ports : List (Option Row)) (ls : List ℕ) (e
       other false = refl
   put value k true e h =
       let P : ℕ → Type 0 =
-      λ x. Shown (row_at (set ports j (row_with_word (row_at ports j) value)) x)
+      λ x. HasLatch (row_at (set ports j (row_with_word (row_at ports j) value)) x)
       (get_or (if there then set ls j value else ls) x 0) in
       subst P (equals j k e) (put-mine value)
 
   shown-effect : (e : Option Effect) (k : ℕ) → k < 8 →
-      Shown (row_at (put_at_port j e ports) k) (get_or (latches_with there j e ls) k 0)
+      HasLatch (row_at (put_at_port j e ports) k) (get_or (latches_with there j e ls) k 0)
   shown-effect None k h = has k h
   shown-effect (Some Nothing) k h = has k h
   shown-effect (Some (Reg x y)) k h = has k h
   shown-effect (Some (Store address width value)) k h = go (address == 0x40000000)
     where
       go : (b : Bool) →
-          Shown (row_at (if b then set ports j (row_with_word (row_at ports j) value) else ports) k)
+          HasLatch
+          (row_at (if b then set ports j (row_with_word (row_at ports j) value) else ports) k)
           (get_or (if b && there then set ls j value else ls) k 0)
       go true = put value k (j == k) refl h
       go false = has k h

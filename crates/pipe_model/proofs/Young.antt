@@ -17,7 +17,8 @@ use Rattle.core_model.proofs.Turns.{Turned}
 use Rattle.pipe_model.specs.declared.stage_registers.Held.TheVariants.{Flushed, Issue}
 use Rattle.pipe_model.specs.declared.stage_registers.Decoded.{Decoded}
 use Rattle.pipe_model.specs.declared.stage_registers.Redirect.{Redirect}
-use Rattle.pipe_model.specs.Stages.{from_m, operand, flushes_f, next_after_redirect}
+use Rattle.pipe_model.specs.Forwarding.{from_m, operand}
+use Rattle.pipe_model.specs.Stages.{flushes_f, next_after_redirect}
 use Rattle.pipe_model.specs.Stages.{decode_stage, fetch_stage, next_after_fetch}
 use Rattle.pipe_model.specs.Relation.{issues, pc_after_issue, pick_in, in_execute}
 use Rattle.pipe_model.specs.Relation.{in_memory, in_decode, decoded_in, in_fetch}

@@ -13,6 +13,7 @@ use Rattle.core_model.specs.Issue.{late_rd, source_1, source_2}
 use Rattle.core_model.specs.Memory.{code_at}
 use Rattle.core_model.specs.World.{Start, World, Took, world, thread_of}
 use Rattle.core_model.specs.World.Took.{Idle, Lost, Ran}
+use Rattle.core_model.specs.Cycles.{cycles_to_e, cycles_to_m}
 use Rattle.pipe_model.specs.declared.stage_registers.Held.{Held}
 use Rattle.pipe_model.specs.declared.stage_registers.Held.TheVariants.{Bubble, Flushed, Issue}
 use Rattle.pipe_model.specs.declared.stage_registers.Decoded.{Decoded}
@@ -80,7 +81,7 @@ execute_holds w (Ran k pc word effect) = Issue k (executed_by (thread_of w k).re
 -- the stage registers before cycle c
 pub record Contents (s : Start) (c : ℕ) (p : StageRegisters) : Type 0 where
   pub f : FetchHolds s p.f (turn_at s c 0)
-  pub d : p.d ≡ decode_holds s (world s (c - 2)) (turn_at s c 1)
-  pub e : p.e ≡ execute_holds (world s (c - 3)) (turn_at s c 2)
+  pub d : p.d ≡ decode_holds s (world s (c - cycles_to_e)) (turn_at s c 1)
+  pub e : p.e ≡ execute_holds (world s (c - cycles_to_m)) (turn_at s c 2)
   pub m : p.m ≡ in_memory (turn_at s c 3)
   pub w : p.w ≡ in_write (turn_at s c 4)

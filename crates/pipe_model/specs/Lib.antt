@@ -1,3 +1,4 @@
+pub mod Forwarding
 pub mod Stages
 pub mod Relation
 pub mod StageView

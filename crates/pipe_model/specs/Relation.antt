@@ -26,7 +26,7 @@ use Rattle.pipe_model.specs.declared.stage_registers.Executed.{Executed}
 use Rattle.pipe_model.specs.declared.stage_registers.Stored.{Stored}
 use Rattle.pipe_model.specs.declared.stage_registers.Written.{Written}
 use Rattle.pipe_model.specs.Stages.{StageRegisters, Control, State, Ticked, event_at}
-use Rattle.core_model.specs.Cycles.{cycles_to_w}
+use Rattle.core_model.specs.Cycles.{cycles_to_e, cycles_to_m, cycles_to_w}
 
 -- the turn of cycle c - 1 - e
 abbrev pub turn_at : Start → ℕ → ℕ → Took
@@ -144,8 +144,8 @@ units_of s c ports =
     record {
       bank = bank_in (world s (c - cycles_to_w));
       i_words = s.i_words;
-      d_words = (world s (c - 3)).d_words;
-      control = control_in (world s (c - 2));
+      d_words = (world s (c - cycles_to_m)).d_words;
+      control = control_in (world s (c - cycles_to_e));
       last = (world s c).last;
       period = s.period;
       size = s.size;
@@ -159,9 +159,9 @@ abbrev pub stage_registers_of : Start → ℕ → List ℕ → StageRegisters
 stage_registers_of s c next =
     record {
       next = next;
-      f = in_fetch s c (world s (c - 2)) (turn_at s c 1) (pick_in (turn_at s c 0));
-      d = in_decode s (c - 2) (world s (c - 2)) (turn_at s c 1);
-      e = in_execute s (c - 3) (world s (c - 3)) (turn_at s c 2);
+      f = in_fetch s c (world s (c - cycles_to_e)) (turn_at s c 1) (pick_in (turn_at s c 0));
+      d = in_decode s (c - cycles_to_e) (world s (c - cycles_to_e)) (turn_at s c 1);
+      e = in_execute s (c - cycles_to_m) (world s (c - cycles_to_m)) (turn_at s c 2);
       m = in_memory (turn_at s c 3);
       w = in_write (turn_at s c 4);
     }
@@ -170,7 +170,7 @@ stage_registers_of s c next =
 pub record Fronts (s : Start) (c : ℕ) (f : Held Fetched) (pcs : List ℕ) : Type 0 where
   pub count : length pcs ≡ 8
   pub next : (k : ℕ) → k < 8 →
-      slice_index_or pcs k 0 ≡ next_of (world s (c - 2)) (turn_at s c 1) f k
+      slice_index_or pcs k 0 ≡ next_of (world s (c - cycles_to_e)) (turn_at s c 1) f k
 
 -- each port that is there has the latch of the world
 abbrev pub HasLatches : World → List (Option Row) → Type 0
@@ -182,7 +182,7 @@ pub record Refines (s : Start) (c : ℕ) (p : StageRegisters) (u : State) : Type
   pub stage_registers : p ≡ stage_registers_of s c p.next
   pub fronts : Fronts s c p.f p.next
   pub units : u ≡ units_of s c u.ports
-  pub ports : HasLatches (world s (c - 3)) u.ports
+  pub ports : HasLatches (world s (c - cycles_to_m)) u.ports
 
 -- a start with eight threads, all ready
 pub record Begins (s : Start) : Type 0 where
@@ -194,13 +194,14 @@ pub record Begins (s : Start) : Type 0 where
 -- was issued in c - 3.
 abbrev pub stays_in : Option ℕ → ℕ → Bool
 stays_in None c = true
-stays_in (Some unplug) c = nat_lt c (unplug + 3)
+stays_in (Some unplug) c = nat_lt c (unplug + cycles_to_m)
 
 -- the ports in cycle c: which are there, and the words that the turn issued in c - 3 reads
 pub record PortsRefine (s : Start) (c : ℕ) (ports : List (Option Row)) : Type 0 where
   pub there : (k : ℕ) → k < 8 → is_some (row_at ports k)
       ≡ (slice_index_or s.handed k false && stays_in (slice_index_or s.unplugs k None) c)
-  pub words : (k : ℕ) → k < 8 → 3 ≤ c → word_seen (row_at ports k) (c - 3) ≡ port_word s (c - 3) k
+  pub words : (k : ℕ) → k < 8 → cycles_to_m ≤ c →
+      word_seen (row_at ports k) (c - cycles_to_m) ≡ port_word s (c - cycles_to_m) k
 
 -- the event that retires, from its cycle and turn
 abbrev pub event_in : ℕ → Took → Option Event

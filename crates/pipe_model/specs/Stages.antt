@@ -6,7 +6,7 @@ use Rattle.std.specs.Prelude.{List, [], slice_index_or, slice_set, Option, Some,
 use Rattle.rv_decode.specs.Table.{ins}
 use Rattle.rv_decode.specs.Lag.{plain_lag, late_lag}
 use Rattle.rv_exec.specs.declared.outcome.Effect.{Effect}
-use Rattle.rv_exec.specs.declared.outcome.Effect.TheVariants.{Reg, Store}
+use Rattle.rv_exec.specs.declared.outcome.Effect.TheVariants.{Store}
 use Rattle.rv_exec.specs.declared.outcome.Event.{Event}
 use Rattle.region_guard.specs.MemoryMap.{port_address}
 use Rattle.slot_scheduler.specs.declared.picking.Pick.{Pick}
@@ -17,7 +17,7 @@ use Rattle.timer_unit.specs.Time.{time, is_due, timer_of}
 use Rattle.fp_ports.specs.PluggedPorts.{Row, row_at, word_seen, row_with_word}
 use Rattle.core_model.specs.declared.own.Own.{Own}
 use Rattle.core_model.specs.declared.own.Trapping.{Trapping}
-use Rattle.core_model.specs.Thread.{Execution, no_own, with_late_value, regs_after, reg_in, reg_set}
+use Rattle.core_model.specs.Thread.{Execution, no_own, with_late_value, regs_after}
 use Rattle.core_model.specs.Outcomes.{plus}
 use Rattle.core_model.specs.Issue.{execute_in, late_rd, late_value, source_1, source_2}
 use Rattle.core_model.specs.Memory.{code_at, data_at}
@@ -32,7 +32,8 @@ use Rattle.pipe_model.specs.declared.stage_registers.Written.{Written}
 use Rattle.pipe_model.specs.declared.stage_registers.Redirect.{Redirect}
 use Rattle.pipe_model.specs.declared.stage_registers.Flush.{Flush}
 use Rattle.pipe_model.specs.declared.stage_registers.Flush.TheVariants.{Decode, DecodeAndFetch}
-use Rattle.core_model.specs.Cycles.{cycles_to_w}
+use Rattle.pipe_model.specs.Forwarding.{operand}
+use Rattle.core_model.specs.Cycles.{cycles_to_d, cycles_to_e, cycles_to_m, cycles_to_w}
 
 -- the pc that each thread fetches next, and the stage registers
 pub record StageRegisters : Type 0 where
@@ -195,25 +196,6 @@ abbrev pub flushes_f : ℕ → Option Redirect → Bool
 flushes_f k None = false
 flushes_f k (Some r) = r.thread == k && includes_fetch r.flush
 
--- forwarding: a value that isn't in its register yet
-abbrev pub forward : Option Effect → List ℕ → List ℕ
-forward (Some (Reg rd value)) regs = reg_set regs rd value
-forward _ regs = regs
-
-abbrev pub from_e : ℕ → Held Executed → List ℕ → List ℕ
-from_e k Bubble regs = regs
-from_e k (Flushed j) regs = regs
-from_e k (Issue j x) regs = if j == k then forward x.effect regs else regs
-
-abbrev pub from_m : ℕ → Held Stored → List ℕ → List ℕ
-from_m k Bubble regs = regs
-from_m k (Flushed j) regs = regs
-from_m k (Issue j x) regs = if j == k then forward x.effect regs else regs
-
--- a source register of thread k: the younger turns come after the bank
-abbrev pub operand : List (List ℕ) → Held Stored → Held Executed → ℕ → ℕ → ℕ
-operand bank m e k x = reg_in (from_e k e (from_m k m (slice_index_or bank k []))) x
-
 -- D: the turn is flushed, or it reads its sources and tests whether its armed moment is reached
 unfoldable pub decode_stage : List (List ℕ) → Held Stored → Held Executed → List Timer →
     Option Redirect → ℕ → Held Fetched → Held Decoded
@@ -257,12 +239,13 @@ pub record Ticked : Type 0 where
 abbrev pub finish : StageRegisters → State → ℕ → Picked → Held Stored → After → Ticked
 finish p u c picked m e =
     let bank = bank_after p.m u.bank in
+    let now_in_d = time u.period (c - cycles_to_d) in
     let next = next_after_redirect e.redirect p.next in
     record {
       stage_registers = record {
         next = next_after_fetch e.redirect picked.pick next;
         f = fetch_stage u.size u.i_words e.redirect next picked.pick;
-        d = decode_stage bank m e.e e.control.timers e.redirect (time u.period (c - 1)) p.f;
+        d = decode_stage bank m e.e e.control.timers e.redirect now_in_d p.f;
         e = e.e;
         m = m;
         w = writeback_stage p.m;
@@ -283,6 +266,7 @@ finish p u c picked m e =
 unfoldable pub step : StageRegisters → State → ℕ → Ticked
 step p u c =
     let picked = pick (sched_by u.control.registers u.control.sleeps) c (time u.period c) u.last in
-    let m = memory_stage u.size u.i_words u.d_words u.ports (c - 3) p.e in
-    let e = execute_stage u.size u.confined u.permit (time u.period (c - 2)) u.control p.d in
+    let m = memory_stage u.size u.i_words u.d_words u.ports (c - cycles_to_m) p.e in
+    let now_in_e = time u.period (c - cycles_to_e) in
+    let e = execute_stage u.size u.confined u.permit now_in_e u.control p.d in
     finish p u c picked m e

@@ -13,19 +13,18 @@ use Rattle.pipe_model.specs.declared.stage_registers.Held.TheVariants.{Bubble, F
 use Rattle.pipe_model.specs.declared.stage_registers.Stored.{Stored}
 use Rattle.pipe_model.specs.Stages.{retired_event}
 use Rattle.slot_scheduler.specs.ModeWord.{mode_of}
-use Rattle.rv_exec.specs.declared.outcome.Effect.{Effect}
-use Rattle.rv_exec.specs.declared.outcome.Effect.TheVariants.{Trap}
 use Rattle.slot_table.specs.declared.frame.Turn.{Turn}
 use Rattle.slot_table.specs.declared.frame.Turn.TheVariants.{Thread}
 use Rattle.slot_table.specs.Frame.{turn}
 use Rattle.timer_unit.specs.Time.{time, timer_of}
 use Rattle.trace_print.specs.Text.{line_text}
+use Rattle.core_model.specs.Traps.{is_trap}
 use Rattle.core_model.specs.World.{Start}
 use Rattle.pipe_view.specs.declared.cycle.ThreadState.{ThreadState}
 use Rattle.pipe_view.specs.declared.cycle.Cycle.{Cycle}
 use Rattle.pipe_view.specs.declared.cycle.CycleStart.{CycleStart}
 use Rattle.pipe_view.specs.declared.watch.Watch.{Watch}
-use Rattle.core_model.specs.Cycles.{cycles_to_w}
+use Rattle.core_model.specs.Cycles.{cycles_to_m, cycles_to_w}
 
 -- whether a thread's mode is asleep at the start of a machine's next cycle, or its sleep moment is
 -- in the future
@@ -77,10 +76,6 @@ is_donated (Thread owner) (Some k) = not (k == owner)
 is_donated _ _ = false
 
 -- whether a turn traps, by its effect
-abbrev pub is_trap : Option Effect → Bool
-is_trap (Some (Trap cause target)) = true
-is_trap _ = false
-
 abbrev pub is_trapped_turn : Held Stored → Bool
 is_trapped_turn (Issue k x) = is_trap x.effect
 is_trapped_turn _ = false
@@ -123,5 +118,5 @@ whole_next w = slice_index_or w.starts 2 None
 -- refines
 abbrev pub IsTick : Machine → List (Option Row) → Machine → List (Option Row) → Type 0
 IsTick m ports next ports_next =
-    (s : Start) (n : ℕ) → m.at < n + 3 → Refines s m.at n m ports →
+    (s : Start) (n : ℕ) → m.at < n + cycles_to_m → Refines s m.at n m ports →
     Ticks s m.at n ports next ports_next (retired_event (m.at - cycles_to_w) m.pipe.m)

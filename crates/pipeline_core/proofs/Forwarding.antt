@@ -11,7 +11,7 @@ use Rattle.pipe_model.specs.declared.stage_registers.Held.{Held}
 use Rattle.pipe_model.specs.declared.stage_registers.Held.TheVariants.{Bubble, Flushed, Issue}
 use Rattle.pipe_model.specs.declared.stage_registers.Executed.{Executed}
 use Rattle.pipe_model.specs.declared.stage_registers.Stored.{Stored}
-use Rattle.pipe_model.specs.Stages.{forward, from_m, operand}
+use Rattle.pipe_model.specs.Forwarding.{forward, from_m, operand}
 
 -- the number of registers stays
 forward-length : (e : Option Effect) (regs : List ℕ) → length (forward e regs) ≡ length regs

@@ -16,3 +16,4 @@ pub use Rattle.rv_exec.specs.declared.outcome.Effect
 pub use Rattle.slot_scheduler.specs.Picking
 pub use Rattle.timer_unit.specs.Time
 pub use Rattle.core_model.specs.World
+pub use Rattle.rv_exec.specs.Line

@@ -8,9 +8,8 @@ use Rattle.rv_decode.specs.Table.{ins}
 use Rattle.rv_decode.specs.declared.instruction.Ins.{Ins}
 use Rattle.rv_decode.specs.declared.instruction.Ins.TheVariants.{Load, Store}
 use Rattle.rv_exec.specs.Access.{IsAligned}
-use Rattle.rv_exec.specs.Line.{IsWidth, IsPrintable}
+use Rattle.rv_exec.specs.Line.{IsWidth}
 use Rattle.rv_exec.specs.declared.outcome.Effect.{Effect}
-use Rattle.rv_exec.specs.declared.outcome.Event.{Event}
 use Rattle.rv_exec.specs.declared.outcome.Effect.TheVariants as effect
 use Rattle.region_guard.specs.MemoryMap.{port_address}
 use Rattle.region_guard.specs.Regions.{is_code, is_data}
@@ -77,11 +76,6 @@ effect_uses_port size x e = at_port e
 abbrev pub uses_port : ℕ → Held Executed → Bool
 uses_port size (Issue k x) = effect_uses_port size x x.effect
 uses_port size _ = false
-
--- an event can be shown in a line of a trace
-abbrev pub IsPrintableEvent : Option Event → Type 0
-IsPrintableEvent (Some e) = IsPrintable e.effect
-IsPrintableEvent None = Unit {0}
 
 -- a redirect has a thread below 8 and a pc
 abbrev pub RedirectFits : Option Redirect → Type 0

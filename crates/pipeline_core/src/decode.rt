@@ -7,8 +7,8 @@ ghost use Rattle.core_model.specs.Thread.{reg_in};
 ghost use Rattle.core_model.specs.Issue.{source_1, source_2};
 ghost use Rattle.regfile_bank.specs.Registers.{registers_of};
 ghost use Rattle.pipe_model.specs.declared.stage_registers.Held.TheVariants.{Issue};
-ghost use Rattle.pipe_model.specs.Stages.{forward, from_m, from_e};
-ghost use Rattle.pipe_model.specs.Stages.{operand, flushes_d, decode_stage};
+ghost use Rattle.pipe_model.specs.Forwarding.{forward, from_m, from_e, operand};
+ghost use Rattle.pipe_model.specs.Stages.{flushes_d, decode_stage};
 ghost use Rattle.pipeline_core.specs.StageFacts.{EffectFits, FetchedFits, DecodedFits};
 ghost use Rattle.pipeline_core.specs.StageFacts.{ExecutedFits, StoredFits};
 

@@ -64,7 +64,8 @@ impl Pipe {
     ghost use Rattle.pipe_model.specs.Relation.{Begins, PortsRefine, Refines};
     ghost use Rattle.pipe_model.specs.Relation.{RefinesNext, HasLatches};
     ghost use Rattle.pipe_model.specs.PipelineLaws.{empty, first_units};
-    ghost use Rattle.pipeline_core.specs.StageFacts.{IsPrintableEvent, uses_port};
+    ghost use Rattle.pipeline_core.specs.StageFacts.{uses_port};
+    ghost use Rattle.rv_exec.specs.Line.{IsPrintableEvent};
     ghost use Rattle.pipeline_core.specs.Abstraction.{executed_by, abstract_stages};
     ghost use Rattle.pipeline_core.specs.Abstraction.{abstract_state, abstract_ticked};
 

@@ -4,7 +4,8 @@ ghost use Rattle.std.specs.Prelude.{◌≡◌, ◌-◌, ◌<◌, [], slice_index
 ghost use Rattle.core_model.specs.Thread.{reg_set, regs_after};
 ghost use Rattle.pipe_model.specs.Stages.{bank_after, writeback_stage, retired_event};
 ghost use Rattle.pipeline_core.specs.StageFacts.{EffectFits, StoredFits};
-ghost use Rattle.pipeline_core.specs.StageFacts.{WrittenFits, IsPrintableEvent};
+ghost use Rattle.pipeline_core.specs.StageFacts.{WrittenFits};
+ghost use Rattle.rv_exec.specs.Line.{IsPrintableEvent};
 ghost use Rattle.core_model.specs.Cycles.{cycles_to_w};
 
 use core_model::CYCLES_TO_W;

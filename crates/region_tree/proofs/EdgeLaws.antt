@@ -96,8 +96,8 @@ aligned-is t v e = go (t % 4 == 0) refl e
 next-is : (a v : ℕ) → a % 4 ≡ 0 → Some ((a + 4) % 2 ^ 32) ≡ Some v → v % 4 ≡ 0
 next-is a v h e = let same : (a + 4) % 2 ^ 32 ≡ v = cc in omega arith
 
-abbrev Leads : Edges → ℕ → Type 0
-Leads e v = (e.next ≡ Some v) ⊎ (e.jump ≡ Some v)
+abbrev LeadsTo : Edges → ℕ → Type 0
+LeadsTo e v = (e.next ≡ Some v) ⊎ (e.jump ≡ Some v)
 
 jump-alone : (t v : ℕ) → (None ≡ Some v) ⊎ (aligned_target t ≡ Some v) → v % 4 ≡ 0
 jump-alone t v (inl e) = cc
@@ -112,7 +112,7 @@ nowhere : (v : ℕ) → (None ≡ Some v) ⊎ (None ≡ Some v) → v % 4 ≡ 0
 nowhere v (inl e) = cc
 nowhere v (inr e) = cc
 
-aligned-from : (a v : ℕ) (i : Ins) → a % 4 ≡ 0 → Leads (edges_from a i) v → v % 4 ≡ 0
+aligned-from : (a v : ℕ) (i : Ins) → a % 4 ≡ 0 → LeadsTo (edges_from a i) v → v % 4 ≡ 0
 unfolding edges_from
 aligned-from a v (Load op rd rs1 imm) h l = next-alone a v h l
 aligned-from a v (Muldiv op rd rs1 rs2) h l = next-alone a v h l

@@ -144,11 +144,11 @@ gather-pop t met todo todo' k is g = record {
 }
 
 -- a target of a reachable word, if it lies in the section
-abbrev pub Leads : Tree → Option ℕ → Type 0
-Leads t target = (v : ℕ) → target ≡ Some v → Lies (graph t) v → Reachable (graph t) v
+abbrev pub ReachesTarget : Tree → Option ℕ → Type 0
+ReachesTarget t target = (v : ℕ) → target ≡ Some v → Lies (graph t) v → Reachable (graph t) v
 
 pub gather-visit : (t : Tree) (out : ℕ → Type 0) (target : Option ℕ)
-    (met met' : List Bool) (todo todo' : List ℕ) → IsDraft t → Leads t target →
+    (met met' : List Bool) (todo todo' : List ℕ) → IsDraft t → ReachesTarget t target →
     IsVisited (index_of t.section target) met met' todo todo' → IsGathered t out met todo →
     IsGathered t out met' todo'
 gather-visit t out target met met' todo todo' d leads v g = record {
@@ -241,7 +241,7 @@ gather-end t met todo d none g = record {
 
 -- the targets of a reachable word
 pub next-leads : (t : Tree) (k : ℕ) → Reachable (graph t) (address t k) →
-    Leads t (edges_of (word_at t (address t k)) (address t k)).next
+    ReachesTarget t (edges_of (word_at t (address t k)) (address t k)).next
 next-leads t k r v is l =
     next (record { to = v; lag = e.next_lag }) r (Contains-append_left (edge_to e.next e.next_lag)
     (edge_to e.jump 3) (record { to = v; lag = e.next_lag }) (is-edge e.next e.next_lag v is)) l
@@ -250,7 +250,7 @@ next-leads t k r v is l =
     e = edges_of (word_at t (address t k)) (address t k)
 
 pub jump-leads : (t : Tree) (k : ℕ) → Reachable (graph t) (address t k) →
-    Leads t (edges_of (word_at t (address t k)) (address t k)).jump
+    ReachesTarget t (edges_of (word_at t (address t k)) (address t k)).jump
 jump-leads t k r v is l =
     next (record { to = v; lag = 3 }) r (Contains-append_right (edge_to e.next e.next_lag)
     (edge_to e.jump 3) (record { to = v; lag = 3 }) (is-edge e.jump 3 v is)) l

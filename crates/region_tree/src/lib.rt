@@ -1,5 +1,5 @@
-//! The control graph of a section of code: the edges of its words, and the tree of its counting
-//! loops.
+//! The control-flow graph of a section of code: the edges of its words, and the tree of its
+//! counting loops. A region of this crate is a region of that graph, not one of a scratchpad.
 
 #![tactic(auto)]
 

@@ -113,7 +113,7 @@ takes-wide s i c n w a later last asleep (Issue k) p t stays below is sync quiet
         (subst Quiet same still) found)
 
 -- before cycle c
-record Going (s : Start) (i n c : ℕ) : Type 0 where
+record WideInvariant (s : Start) (i n c : ℕ) : Type 0 where
   tied : Tied s i c (recent s c).now (narrow (wide_at (wide_view s i n) c))
   rest : (wide_at (wide_view s i n) c).rest ≡ found_from s i c (n - c)
   stays : (recent s c).now.registers ≡ s.registers
@@ -135,7 +135,7 @@ picked s i c p w same last =
     has_position (map (λ slot. slot == i) (frame r.slots)) c && nat_le m (time s.period c)) same
     (get_or-map (λ (t : Thread). t.own.sleep) w.threads i (fresh 0))
 
-begins : (s : Start) (i n : ℕ) → StartsUnconfinedHard s i → Going s i n zero
+begins : (s : Start) (i n : ℕ) → StartsUnconfinedHard s i → WideInvariant s i n zero
 unfolding recent wide_at wide_view view
 begins s i n p = record {
   tied = record {
@@ -162,8 +162,8 @@ found_next : (s : Start) (i n c : ℕ) → c < n →
 unfolding found_from world recent after_turn
 found_next s i n c l = let e : n - c ≡ suc (n - suc c) = omega arith in rw e refl
 
-goes_on : (s : Start) (i n c : ℕ) → c < n → StartsUnconfinedHard s i → Going s i n c →
-    list_all leaves_registers (recent s (suc c)).now.turns ≡ true → Going s i n (suc c)
+goes_on : (s : Start) (i n c : ℕ) → c < n → StartsUnconfinedHard s i → WideInvariant s i n c →
+    list_all leaves_registers (recent s (suc c)).now.turns ≡ true → WideInvariant s i n (suc c)
 unfolding recent wide_at after_turn
 goes_on s i n c l p g quiet =
     let r = recent s c in
@@ -196,7 +196,7 @@ goes_on s i n c l p g quiet =
     }
 
 always : (s : Start) (i n c : ℕ) → c ≤ n → StartsUnconfinedHard s i →
-    list_all leaves_registers (recent s c).now.turns ≡ true → Going s i n c
+    list_all leaves_registers (recent s c).now.turns ≡ true → WideInvariant s i n c
 always s i n zero l p q = begins s i n p
 always s i n (suc c) l p q =
     goes_on s i n c l p (always s i n c (omega arith) p (quiet_before s c q)) q
@@ -204,5 +204,5 @@ always s i n (suc c) l p q =
 pub retired-wide-isolation : RetiredWideIsolation
 unfolding world
 retired-wide-isolation s i n p quiet =
-    let g : Going s i n (n - 4) = always s i n (n - 4) (omega arith) p quiet in
+    let g : WideInvariant s i n (n - 4) = always s i n (n - 4) (omega arith) p quiet in
     sym (ap oldest_first g.tied.events ∙ oldest_first-own_turns i (recent s (n - 4)).now.turns)

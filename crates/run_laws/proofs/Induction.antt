@@ -29,7 +29,7 @@ use Rattle.core_model.proofs.Picks.{pick-below}
 use Rattle.run_laws.proofs.Steps.{own_turns, Tied, Wakes, takes-tied, takes-wakes, takes-all}
 
 -- before cycle c, by the settings of the run and the worlds that picking still reads
-pub record Going (s : Start) (i c : ℕ) (phases : List Phase) : Type 0 where
+pub record PhasedInvariant (s : Start) (i c : ℕ) (phases : List Phase) : Type 0 where
   pub tied : Tied s i c (recent s c).now (phased_at (view s i) phases c)
   one : ((thread_of (recent s c).before i).own.sleep ≡ (thread_of (recent s c).now i).own.sleep)
       ⊎ (c + 2 ≤ (thread_of (recent s c).now i).ready)
@@ -48,7 +48,8 @@ picked s i c p w h m never last =
     ∙ ap (λ (x : ℕ). has_position (positions i p) c && nat_le x (time s.period c))
     (get_or-map (λ (t : Thread). t.own.sleep) w.threads i (fresh 0))
 
-begins : (s : Start) (i : ℕ) (phases : List Phase) → StartsConfined s i → Going s i zero phases
+begins : (s : Start) (i : ℕ) (phases : List Phase) → StartsConfined s i →
+    PhasedInvariant s i zero phases
 unfolding recent phased_at view
 begins s i phases p = record {
   tied = record {
@@ -95,8 +96,8 @@ two_of before c t u w (inl e) = go w.either
 
 goes_on : (s : Start) (i c : ℕ) (phases : List Phase) → StartsConfined s i →
     Matches (phase_at phases c) (recent s c).earlier.registers →
-    is_never_soft i (phase_at phases c) ≡ true → Going s i c phases →
-    list_all leaves_regions (recent s (suc c)).now.turns ≡ true → Going s i (suc c) phases
+    is_never_soft i (phase_at phases c) ≡ true → PhasedInvariant s i c phases →
+    list_all leaves_regions (recent s (suc c)).now.turns ≡ true → PhasedInvariant s i (suc c) phases
 unfolding recent phased_at after_turn view
 goes_on s i c phases p m never g kept =
     let r = recent s c in
@@ -170,7 +171,7 @@ nobody-soft i = rw (zero-div (4 ^ i)) refl
 
 pub always : (s : Start) (i n c : ℕ) → c ≤ n → StartsConfined s i →
     list_all (is_never_soft i) (Before s n) ≡ true →
-    list_all leaves_regions (recent s c).now.turns ≡ true → Going s i c (Before s n)
+    list_all leaves_regions (recent s c).now.turns ≡ true → PhasedInvariant s i c (Before s n)
 always s i n zero l p never q = begins s i (Before s n) p
 always s i n (suc c) l p never q =
     let less : c ≤ n = omega arith in
@@ -210,7 +211,7 @@ phased-before s i n c l p never kept =
     let e : c + (n - c) ≡ n = omega arith in
     let q : list_all leaves_regions (world s c).turns ≡ true = all_longer leaves_regions s c
     (n - c) (subst (λ (m : ℕ). list_all leaves_regions (world s m).turns ≡ true) (sym e) kept) in
-    let g : Going s i c (phases s n) = always s i (n - 4) c l p never q in
+    let g : PhasedInvariant s i c (phases s n) = always s i (n - 4) c l p never q in
     ap oldest_first g.tied.events ∙ oldest_first-own_turns i (recent s c).now.turns
 
 pub phased-isolation : PhasedIsolation

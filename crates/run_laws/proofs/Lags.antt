@@ -14,13 +14,13 @@ use Rattle.timer_unit.specs.Time.{is_due}
 use Rattle.core_model.specs.declared.own.Own.{Own}
 use Rattle.core_model.specs.Thread.{Thread, Environment, Contents, Execution}
 use Rattle.core_model.specs.Thread.{reg_in, reg_effect, with_late_value}
-use Rattle.core_model.specs.Traps.{trapped, unless_trap}
+use Rattle.core_model.specs.Traps.{trapped, unless_trap, is_trap}
 use Rattle.core_model.specs.Outcomes.{load, store, branch}
-use Rattle.core_model.specs.Delays.{delay, wait, with_armed}
+use Rattle.core_model.specs.Waiting.{delay, wait, with_armed}
 use Rattle.core_model.specs.Csr.{csr_access}
 use Rattle.core_model.specs.Issue.{execute_untrapped, run_at, execute_in, execute_word}
 use Rattle.core_model.specs.Issue.{effect_of, value_in, issue, source_1, source_2, late_rd}
-use Rattle.run_laws.specs.LagLaw.{is_trap, HasLagOfTable}
+use Rattle.run_laws.specs.LagLaw.{HasLagOfTable}
 
 abbrev pub HasLag : Ins → Outcome → Execution → Type 0
 HasLag n o d = d.lag ≡ lag n o.taken (is_trap d.effect)

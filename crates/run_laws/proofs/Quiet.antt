@@ -19,7 +19,7 @@ use Rattle.run_laws.specs.Isolation.{StartsConfined, StartsConfinedHard}
 use Rattle.run_laws.specs.RetiredIsolation.{RetiredIsolation, RetiredPhasedIsolation}
 use Rattle.run_laws.proofs.Outside.{quiet-regions}
 use Rattle.run_laws.proofs.Picks.{both}
-use Rattle.run_laws.proofs.Induction.{Going, always, oldest_first-own_turns}
+use Rattle.run_laws.proofs.Induction.{PhasedInvariant, always, oldest_first-own_turns}
 
 quiet-after : (c : ℕ) (took : Took) (p : Phase) → leaves_registers took ≡ true →
     phase_after c took p ≡ []
@@ -79,7 +79,8 @@ pub retired-phased-isolation : RetiredPhasedIsolation
 unfolding world
 retired-phased-isolation s i n p never kept =
     let same : n - 4 ≤ n - 4 = omega arith in
-    let g : Going s i (n - 4) (phases s n) = always s i (n - 4) (n - 4) same p never kept in
+    let g : PhasedInvariant s i (n - 4) (phases s n) =
+    always s i (n - 4) (n - 4) same p never kept in
     sym (ap oldest_first g.tied.events ∙ oldest_first-own_turns i (recent s (n - 4)).now.turns)
 
 pub retired-isolation : RetiredIsolation

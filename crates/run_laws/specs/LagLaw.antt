@@ -1,17 +1,11 @@
 -- The lag of an issue, by the table of lags.
-use Rattle.std.specs.Prelude.{◌≡◌, ℕ, ◌+◌, Bool, true, false, Option, Some}
+use Rattle.std.specs.Prelude.{◌≡◌, ℕ, ◌+◌, Bool}
 use Rattle.rv_decode.specs.Table.{ins}
 use Rattle.rv_decode.specs.Lag.{lag}
-use Rattle.rv_exec.specs.declared.outcome.Effect.{Effect}
-use Rattle.rv_exec.specs.declared.outcome.Effect.TheVariants.{Trap}
 use Rattle.rv_exec.specs.Result.{result_of}
 use Rattle.core_model.specs.Thread.{Environment, Contents, Thread, Completion, reg_in}
+use Rattle.core_model.specs.Traps.{is_trap}
 use Rattle.core_model.specs.Issue.{source_1, source_2, issue}
-
--- whether the effect is a trap
-abbrev pub is_trap : Option Effect → Bool
-is_trap (Some (Trap cause target)) = true
-is_trap _ = false
 
 -- the word at the thread's pc is a branch that is taken
 abbrev pub is_taken_at : Contents → Thread → Bool

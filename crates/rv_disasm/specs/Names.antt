@@ -21,7 +21,7 @@ use Rattle.rv_decode.specs.declared.instruction.MulOp.TheVariants.{Mul, Mulh, Mu
 use Rattle.rv_decode.specs.declared.instruction.MulOp.TheVariants.{Div, Divu, Rem, Remu}
 use Rattle.rv_decode.specs.declared.instruction.CsrKind.{CsrKind}
 use Rattle.rv_decode.specs.declared.instruction.CsrKind.TheVariants.{Rw, Rs, Rc, Rwi, Rsi, Rci}
-use Rattle.rv_disasm.specs.TextTokens.{Text}
+use Rattle.fp_asm.specs.Pieces.{Text}
 
 abbrev pub branch_name : BranchOp → Text
 branch_name Beq = codes "beq"

@@ -13,7 +13,8 @@ use Rattle.rv_decode.specs.declared.instruction.CsrKind.{CsrKind}
 use Rattle.rv_decode.specs.declared.instruction.CsrKind.TheVariants.{Rw, Rs, Rc, Rwi, Rsi, Rci}
 use Rattle.rv_disasm.specs.Names.{branch_name, load_name, store_name, imm_name}
 use Rattle.rv_disasm.specs.Names.{shift_name, alu_name, mul_name, csr_name}
-use Rattle.rv_disasm.specs.TextTokens.{Text, TextToken, counted, digits, Line, line, line_text}
+use Rattle.fp_asm.specs.Pieces.{Text}
+use Rattle.rv_disasm.specs.TextTokens.{TextToken, counted, digits, Line, line, line_text}
 use Rattle.rv_disasm.specs.TextTokens.{register_token, two_registers, three_registers, with_number}
 use Rattle.rv_disasm.specs.TextTokens.{with_memory, with_csr, with_upper, with_target, with_branch}
 

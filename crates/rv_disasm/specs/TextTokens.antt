@@ -3,11 +3,8 @@ use Rattle.std.specs.Prelude.{ℕ, suc, ◌==◌, ℤ, pos, negsuc, List, [], �
 use Rattle.std.specs.Prelude.{◌++◌, codes, decimal, flat_map, if◌then◌else◌}
 use Rattle.rv_decode.specs.CsrNumbers.{csr_mtvec, csr_mscratch, csr_mepc, csr_mcause, csr_mhartid}
 use Rattle.rv_decode.specs.CsrNumbers.{csr_slots, csr_modes, csr_dregions, csr_iregions}
+use Rattle.fp_asm.specs.Pieces.{Text}
 use Rattle.trace_print.specs.Digits.{hex}
-
--- a text by its bytes
-abbrev pub Text : Type 0
-Text = List ℕ
 
 -- A name, a number in decimal, `0x` and a number of hexadecimal digits, or a mark.
 pub data TextToken : Type 0 where

@@ -31,9 +31,10 @@ use Rattle.call_bounds.specs.CallWalk.{CallWalk, CostsOf, Route, part_in, route}
 use Rattle.call_bounds.proofs.Facts.{parts, reached-listed}
 use Rattle.call_bounds.proofs.Nested.{Top, opened, top}
 use Rattle.call_bounds.proofs.Parts.{AreParts}
-use Rattle.section_visits.specs.CallVisits.{ComesBack, GoOn, KeepsBounds, KeepsReturns}
+use Rattle.section_visits.specs.CallVisits.{ComesBack, StaysInFunctions}
+use Rattle.section_visits.specs.CallVisits.{KeepsCallBounds, KeepsReturns}
 use Rattle.section_visits.specs.CallVisits.{counted_after, counter_at, open_at}
-use Rattle.section_visits.specs.CallVisitBound.{CallVisitsAreBounded, IsHost, IsMet}
+use Rattle.section_visits.specs.CallVisitBound.{CallVisitsAreBounded, HostsCalls, IsMet}
 use Rattle.section_visits.proofs.Returns.{issue-returns}
 use Rattle.section_visits.proofs.CallVisited.{Way, ends, goes}
 
@@ -44,7 +45,7 @@ abbrev Links : (ℕ → Type 0) → Route → List Issued → Type 0
 Links set x l = AreLinkedIn set (IsMet x.calls) (Way x.calls) x.positions l
 
 -- the issues up to one in its function, as a path
-record Walked (x : Route) (i : Issued) (before : List Issued) : Type 0 where
+record IsCallPathTo (x : Route) (i : Issued) (before : List Issued) : Type 0 where
   cost : ℕ
   counters : LoopSetup → ℕ
   walk : CallWalk x (at x (first_of i before)) i.pc (at x i) (open_at x.calls before) cost counters
@@ -53,7 +54,7 @@ record Walked (x : Route) (i : Issued) (before : List Issued) : Type 0 where
   same : (j : LoopSetup) → counters j ≡ counter_at x.calls j i before
 
 -- the last word of the path is a reachable word of a reached function
-met : (x : Route) (i : Issued) (before : List Issued) → AreParts x.calls → Walked x i before →
+met : (x : Route) (i : Issued) (before : List Issued) → AreParts x.calls → IsCallPathTo x i before →
     IsMet x.calls i.pc
 met x i before is w =
     go (top x w.counters (at x (first_of i before)) (open_at x.calls before) i.pc (at x i) w.cost
@@ -79,7 +80,7 @@ until-last set x i h before earlier l here c low high =
     let order = l.1 in here c low (let up : c ≤ i.cycle = omega arith in up)
 
 from-last : (set : ℕ → Type 0) (x : Route) (i h : Issued) (before : List Issued) →
-    Throughout set (first_of h before).cycle i.cycle → Walked x h before →
+    Throughout set (first_of h before).cycle i.cycle → IsCallPathTo x h before →
     Throughout set h.cycle i.cycle
 from-last set x i h before here w c low high =
     let order = w.order in
@@ -88,9 +89,9 @@ from-last set x i h before here w c low high =
 walked : (set : ℕ → Type 0) (x : Route) (i : Issued) (before earlier : List Issued) →
     AreParts x.calls → IsCallable x.calls → Links set x (i ∷ (before ++ earlier)) →
     Throughout set (first_of i before).cycle i.cycle →
-    (first_of i before).pc ≡ x.calls.section.from → GoOn x.calls before →
+    (first_of i before).pc ≡ x.calls.section.from → StaysInFunctions x.calls before →
     Lies (part x.calls (part_in x.calls (open_at x.calls before))) i.pc →
-    KeepsReturns x.calls i before → KeepsBounds x.calls i before → Walked x i before
+    KeepsReturns x.calls i before → KeepsCallBounds x.calls i before → IsCallPathTo x i before
 walked set x i [] earlier is ok l here starts on lies comes keeps = record {
   cost = 0;
   counters = λ _. 0;
@@ -106,10 +107,10 @@ walked set x i (h ∷ before) earlier is ok l here starts on lies comes keeps =
     go (walked set x h before earlier is ok l.0
     (until-last set x i h before earlier l here) starts on.0 on.1 comes.0 keeps.0)
   where
-    go : Walked x h before → Walked x i (h ∷ before)
+    go : IsCallPathTo x h before → IsCallPathTo x i (h ∷ before)
     go w = onto (l.3 (from-last set x i h before here w) (met x h before is w) on.2)
       where
-        onto : Along (Way x.calls) x.positions h i → Walked x i (h ∷ before)
+        onto : Along (Way x.calls) x.positions h i → IsCallPathTo x i (h ∷ before)
         onto a = record {
           cost = w.cost + (i.cycle - h.cycle);
           counters =
@@ -153,8 +154,8 @@ bounded : (set : ℕ → Type 0) (x : Route) (b : ℕ) →
     ((c : ℕ) → CostsOf x c → c ≤ b) → AreParts x.calls → IsCallable x.calls →
     (last : Issued) (before earlier : List Issued) → Links set x (last ∷ (before ++ earlier)) →
     Throughout set (first_of last before).cycle last.cycle →
-    (first_of last before).pc ≡ x.calls.section.from → GoOn x.calls before →
-    KeepsReturns x.calls last before → KeepsBounds x.calls last before →
+    (first_of last before).pc ≡ x.calls.section.from → StaysInFunctions x.calls before →
+    KeepsReturns x.calls last before → KeepsCallBounds x.calls last before →
     Lies (part x.calls (part_in x.calls (open_at x.calls before))) last.pc
     ⊎ (Lies (part x.calls (part_in x.calls (open_at x.calls before))) last.pc → ⊥) →
     last.cycle - (first_of last before).cycle ≤ b
@@ -166,7 +167,7 @@ bounded set x b most is ok last (h ∷ before) earlier l here starts on comes ke
     go (walked set x h before earlier is ok l.0
     (until-last set x last h before earlier l here) starts on.0 on.1 comes.0 keeps.0)
   where
-    go : Walked x h before → last.cycle - (first_of h before).cycle ≤ b
+    go : IsCallPathTo x h before → last.cycle - (first_of h before).cycle ≤ b
     go w = onto (l.3 (from-last set x last h before here w) (met x h before is w) on.2)
       where
         onto : Along (Way x.calls) x.positions h last → last.cycle - (first_of h before).cycle ≤ b
@@ -270,7 +271,7 @@ call_visits_in_settings x slots thread b s n is ok most host last before here v 
     (last ∷ (before ++ v.earlier)) links) here v.starts v.goes_on comes keeps
     (lies-or (part x (part_in x (open_at x before))) last.pc)
 
-words-of : (s : Start) (x : Calls) (slots thread : ℕ) → IsListing x → IsHost s x slots thread →
+words-of : (s : Start) (x : Calls) (slots thread : ℕ) → IsListing x → HostsCalls s x slots thread →
     HasWordsOfParts s x
 words-of s x slots thread is h = record {
   eight = h.eight;

@@ -77,9 +77,9 @@ unfolding edges_of
 call-way x u t e is h = call-ins (ins (x.word u)) u x.routines t e is h
 
 -- the path with one more issue, if that is in its function
-abbrev Goes : Route → ℕ → ℕ → List ℕ → ℕ → (LoopSetup → ℕ) → ℕ → ℕ → ℕ →
+abbrev ExtendsPath : Route → ℕ → ℕ → List ℕ → ℕ → (LoopSetup → ℕ) → ℕ → ℕ → ℕ →
     Option Routine → Bool → Type 0
-Goes x p u s c l d r v o b =
+ExtendsPath x p u s c l d r v o b =
     Lies (part x.calls (part_in x.calls (open_after o b u s))) v →
     ((j : LoopSetup) → Counts x.calls j → counted_after o b s u v j (l j) ≤ j.limit) →
     CallWalk x p v r (open_after o b u s) (c + d) (λ j. counted_after o b s u v j (l j))
@@ -119,7 +119,7 @@ not-both false a c = cc
 pub goes : (x : Route) (p u q c d r : ℕ) (s : List ℕ) (l : LoopSetup → ℕ) (e : Edge) →
     AreParts x.calls → IsCallable x.calls → CallWalk x p u q s c l → Way x.calls u e →
     IsNextTurn x.positions e.lag q d r → ComesBack s (is_back (x.calls.word u)) e.to →
-    Goes x p u s c l d r e.to (callee x.calls u) (is_back (x.calls.word u))
+    ExtendsPath x p u s c l d r e.to (callee x.calls u) (is_back (x.calls.word u))
 goes x p u q c d r s l e is ok walk way turn comes =
     go (callee x.calls u) (is_back (x.calls.word u)) refl refl way
   where
@@ -134,7 +134,7 @@ goes x p u q c d r s l e is ok walk way turn comes =
 
     comes_back : (s : List ℕ) → CallWalk x p u q s c l →
         Reachable (part x.calls (part_in x.calls s)) u → ComesBack s true e.to →
-        is_back (x.calls.word u) ≡ true → e.lag ≡ 3 → Goes x p u s c l d r e.to None true
+        is_back (x.calls.word u) ≡ true → e.lag ≡ 3 → ExtendsPath x p u s c l d r e.to None true
     comes_back [] walk word comes back lag lies bounds = absurd (no-back x.calls u ok word back)
     comes_back (w ∷ s) walk word comes back lag lies bounds =
         subst (λ v. CallWalk x p v r s (c + d) (λ j. counter_after w (w + 4) j (l j))) (sym comes)
@@ -142,7 +142,7 @@ goes x p u q c d r s l e is ok walk way turn comes =
         lies) (subst (λ n. IsNextTurn x.positions n q d r) lag turn) bounds)
 
     go : (o : Option Routine) (b : Bool) → callee x.calls u ≡ o → is_back (x.calls.word u) ≡ b →
-        Way x.calls u e → Goes x p u s c l d r e.to o b
+        Way x.calls u e → ExtendsPath x p u s c l d r e.to o b
     go (Some t) b to back (inl y) lies bounds = enters t to (call-way x.calls u t e to y.1)
     go (Some t) b to back (inr y) lies bounds =
         absurd (let z = back-callee x.calls u y.0 in let w : None ≡ Some t = sym z ∙ to in cc)

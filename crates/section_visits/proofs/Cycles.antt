@@ -22,7 +22,7 @@ use Rattle.run_laws.proofs.Induction.{one_of, two_of, sync_of}
 use Rattle.region_tree.specs.Walk.{IsOwn}
 use Rattle.bound_calc.specs.Bound.{positions}
 use Rattle.section_visits.specs.InSettings.{IsHardBy}
-use Rattle.run_laws.specs.LagLaw.{is_trap}
+use Rattle.core_model.specs.Traps.{is_trap}
 use Rattle.section_visits.specs.Visits.{issues_of}
 
 -- the thread issues in the cycle
@@ -166,7 +166,7 @@ is-picked s slots i c h w set last =
     set.same_slots (get_or-map (λ (t : Thread). t.own.sleep) w.threads i (fresh 0))
 
 -- an issue of the thread
-pub record Goes (s : Start) (slots i c : ℕ) : Type 0 where
+pub record IssuesInCycle (s : Start) (slots i c : ℕ) : Type 0 where
   pub own : IsHardAt s slots i c → IsOwn (positions slots i) (c % length (frame slots))
   pub ready : (thread_of (recent s c).now i).ready ≤ c
   pub awake : IsHardAt s slots i c → (thread_of (recent s c).now i).own.sleep ≤ time s.period c
@@ -186,7 +186,7 @@ pub record Stays (s : Start) (slots i c : ℕ) : Type 0 where
       (thread_of (recent s c).now i).own.sleep ≤ time s.period c → ⊥
 
 pub cycles : (s : Start) (slots i c : ℕ) → i < 8 → CycleInvariant s i c →
-    Goes s slots i c ⊎ Stays s slots i c
+    IssuesInCycle s slots i c ⊎ Stays s slots i c
 unfolding recent after_turn
 cycles s slots i c h g = go (takes-issues s i c r.now k.last k.pick h g.eight)
   where
@@ -240,7 +240,7 @@ cycles s slots i c h g = go (takes-issues s i c r.now k.last k.pick h g.eight)
 
     go : Issues s i c r.now (after_pick s c r.now k.last k.pick) k.pick
         ⊎ Rests i c r.now (after_pick s c r.now k.last k.pick) k.pick →
-        Goes s slots i c ⊎ Stays s slots i c
+        IssuesInCycle s slots i c ⊎ Stays s slots i c
     go (inl y) = inl (record {
       own = λ set. own-there (frame slots) c i (parts set y.picked).0;
       ready = y.ready;

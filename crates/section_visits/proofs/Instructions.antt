@@ -17,9 +17,9 @@ use Rattle.core_model.specs.declared.own.CsrOp.{CsrOp}
 use Rattle.core_model.specs.declared.own.Own.{Own}
 use Rattle.core_model.specs.Thread.{Environment, Contents, Execution, Thread}
 use Rattle.core_model.specs.Thread.{with_late_value, reg_effect, reg_in}
-use Rattle.core_model.specs.Traps.{trapped, unless_trap}
+use Rattle.core_model.specs.Traps.{trapped, unless_trap, is_trap}
 use Rattle.core_model.specs.Outcomes.{advance, load, store, go_to, branch}
-use Rattle.core_model.specs.Delays.{with_high, with_armed}
+use Rattle.core_model.specs.Waiting.{with_high, with_armed}
 use Rattle.core_model.specs.Csr.{csr_access, csr_done, csr_value, csr_write}
 use Rattle.core_model.specs.Csr.{with_csr, may_hold, csr_update, legal_value}
 use Rattle.core_model.specs.Issue.{execute_in, execute_word, csr_op, csr_operand}
@@ -31,7 +31,6 @@ use Rattle.region_tree.specs.Edges.{edges_from, edges_of, next_edge, no_edges, a
 use Rattle.region_tree.specs.Edges as e
 use Rattle.region_tree.specs.Graph.{Edge, edge_list}
 use Rattle.timer_unit.specs.Time.{is_due}
-use Rattle.run_laws.specs.LagLaw.{is_trap}
 
 -- the instruction went along an edge
 pub record Stepped (sleep : ℕ) (edges : Edges) (d : Execution) : Type 0 where

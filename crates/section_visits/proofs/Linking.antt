@@ -15,12 +15,12 @@ use Rattle.core_model.proofs.Turns.{Turned, ages, nexts}
 use Rattle.core_model.specs.World.{Start, Took, issue_of, newest, recent, thread_of, world}
 use Rattle.core_model.specs.World.Took.{Idle, Lost, Ran}
 use Rattle.run_laws.proofs.Induction.{earlier_is}
-use Rattle.section_visits.proofs.Cycles.{Goes, CycleInvariant, IsHardAt}
+use Rattle.section_visits.proofs.Cycles.{IssuesInCycle, CycleInvariant, IsHardAt}
 use Rattle.section_visits.proofs.Cycles.{Stays, begins, cycles, goes_on}
 use Rattle.section_visits.proofs.Instructions.{Gone}
 use Rattle.section_visits.specs.InSettings.{AreLinkedIn, IsHardBy, IsSet, Throughout}
 use Rattle.section_visits.specs.VisitBound.{Along, AreLinked}
-use Rattle.run_laws.specs.LagLaw.{is_trap}
+use Rattle.core_model.specs.Traps.{is_trap}
 use Rattle.section_visits.specs.Visits.{Issued, issue_in, issues_of}
 
 -- at known words issues that don't trap follow an edge
@@ -129,7 +129,7 @@ link-of set known way s slots i c (b ∷ more) th traps p own ready = (
 )
 
 pending-new : (set known : ℕ → Type 0) (way : ℕ → Edge → Type 0) (s : Start) (slots i c : ℕ) →
-    (set c → IsHardAt s slots i c) → Went known way s i → (g : Goes s slots i c) →
+    (set c → IsHardAt s slots i c) → Went known way s i → (g : IssuesInCycle s slots i c) →
     (l : List Issued) → Pending set known way s slots i (suc c) (record {
       cycle = c;
       pc = (thread_of (recent s c).now i).pc;
@@ -234,7 +234,7 @@ linked set known way s slots i n (suc c) up sets went number eight =
         more : CycleInvariant s i (suc c)
         more = goes_on s i c number y.going
 
-        go : Goes s slots i c ⊎ Stays s slots i c → Linked set known way s slots i (suc c)
+        go : IssuesInCycle s slots i c ⊎ Stays s slots i c → Linked set known way s slots i (suc c)
         go (inl g) = record {
           going = more;
           links = subst (λ k. AreLinkedIn set known way (positions slots i) k) (sym g.issues)

@@ -17,7 +17,7 @@ use Rattle.section_visits.proofs.Instructions.{Gone, issue-fetches, issue-goes}
 use Rattle.section_visits.proofs.Linking.{Went, all-below, linked-always, linked_all}
 use Rattle.section_visits.proofs.Scheduled.{always-set, quiet-keeps}
 use Rattle.section_visits.specs.InSettings.{HasWords, IsSet, IssuesFollowEdgesInSettings}
-use Rattle.section_visits.specs.VisitBound.{EdgeOf, IsHost, IssuesFollowEdges}
+use Rattle.section_visits.specs.VisitBound.{EdgeOf, HostsSection, IssuesFollowEdges}
 use Rattle.section_visits.specs.Visits.{issues_of}
 
 pub stop-no : (s : Stop) → (s ≡ Indirect → ⊥) → (s ≡ Timed → ⊥) → s ≡ No
@@ -55,7 +55,7 @@ issues_in_settings t slots thread s n is h =
 
 -- equal words of a section are equal at the reachable words
 pub words-of : (t : Tree) (slots thread : ℕ) (s : Start) → IsTree t →
-    IsHost s t slots thread → HasWords s t
+    HostsSection s t slots thread → HasWords s t
 words-of t slots thread s is h = record {
   eight = h.eight;
   same_words =

@@ -10,12 +10,11 @@ use Rattle.rv_decode.specs.declared.instruction.Ins.TheVariants.{Jalr}
 use Rattle.rv_exec.specs.Result.{result_of}
 use Rattle.core_model.specs.declared.own.Own.{Own}
 use Rattle.core_model.specs.Thread.{Environment, Contents, Execution, Thread, reg_in}
-use Rattle.core_model.specs.Traps.{trapped, unless_trap}
+use Rattle.core_model.specs.Traps.{trapped, unless_trap, is_trap}
 use Rattle.core_model.specs.Issue.{execute_in, execute_word, effect_of, execute_untrapped}
 use Rattle.core_model.specs.Issue.{issue, late_rd, run_at, source_1, source_2, value_in}
 use Rattle.timer_unit.specs.Time.{is_due}
 use Rattle.section_visits.proofs.Instructions.{filled-trap}
-use Rattle.run_laws.specs.LagLaw.{is_trap}
 use Rattle.call_bounds.specs.Calls.{is_back}
 
 pub ins-back : ins 0x00008067 ≡ Jalr 0 1 (pos 0)

@@ -15,7 +15,7 @@ use Rattle.section_visits.proofs.Scheduled.{always-set, quiet-keeps}
 use Rattle.section_visits.specs.InSettings.{AreLinkedIn, IsSet, IssuesFollowEdgesInSettings}
 use Rattle.section_visits.specs.InSettings.{Throughout, VisitsAreBoundedInSettings}
 use Rattle.section_visits.specs.VisitBound.{Along, EdgeOf, VisitsAreBounded}
-use Rattle.section_visits.specs.Visits.{GoOn, Issued, KeepsBounds, counter_at, first_of}
+use Rattle.section_visits.specs.Visits.{StaysInSection, Issued, KeepsBounds, counter_at, first_of}
 
 -- the edges of a course, as a relation
 abbrev Follows : Course → Issued → Issued → Type 0
@@ -52,7 +52,7 @@ is-step x h i f = record {
 }
 
 -- the issues up to one in the section, as a path
-record Walked (x : Course) (i : Issued) (before : List Issued) : Type 0 where
+record IsPathTo (x : Course) (i : Issued) (before : List Issued) : Type 0 where
   steps : List Step
   walk : IsWalk x ((first_of i before).cycle % length x.positions.frame) steps i.pc
       (i.cycle % length x.positions.frame)
@@ -70,7 +70,7 @@ until-last set x i h before earlier l here c low high =
     let order = l.1 in here c low (let up : c ≤ i.cycle = omega arith in up)
 
 from-last : (set : ℕ → Type 0) (x : Course) (i h : Issued) (before : List Issued) →
-    Throughout set (first_of h before).cycle i.cycle → Walked x h before →
+    Throughout set (first_of h before).cycle i.cycle → IsPathTo x h before →
     Throughout set h.cycle i.cycle
 from-last set x i h before here w c low high =
     let order = w.order in
@@ -78,8 +78,8 @@ from-last set x i h before here w c low high =
 
 walked : (set : ℕ → Type 0) (x : Course) (i : Issued) (before earlier : List Issued) →
     FollowIn set x (i ∷ (before ++ earlier)) → Throughout set (first_of i before).cycle i.cycle →
-    (first_of i before).pc ≡ x.graph.from → GoOn x.graph before →
-    Lies x.graph i.pc → KeepsBounds x.graph.loops i before → Walked x i before
+    (first_of i before).pc ≡ x.graph.from → StaysInSection x.graph before →
+    Lies x.graph i.pc → KeepsBounds x.graph.loops i before → IsPathTo x i before
 walked set x i [] earlier l here starts on lies keeps = record {
   steps = [];
   walk = record {
@@ -98,7 +98,7 @@ walked set x i (h ∷ before) earlier l here starts on lies keeps =
     go (walked set x h before earlier l.0
     (until-last set x i h before earlier l here) starts on.0 on.1 keeps.0)
   where
-    go : Walked x h before → Walked x i (h ∷ before)
+    go : IsPathTo x h before → IsPathTo x i (h ∷ before)
     go w =
         let f : Follows x h i = l.3 (from-last set x i h before here w) w.reached on.2 in
         let is = is-step x h i f in
@@ -139,7 +139,7 @@ lies-or g u =
 bounded : (set : ℕ → Type 0) (x : Course) (b : ℕ) → ((c : ℕ) → CostsOf x c → c ≤ b) →
     (last : Issued) (before earlier : List Issued) → FollowIn set x (last ∷ (before ++ earlier)) →
     Throughout set (first_of last before).cycle last.cycle →
-    (first_of last before).pc ≡ x.graph.from → GoOn x.graph before →
+    (first_of last before).pc ≡ x.graph.from → StaysInSection x.graph before →
     KeepsBounds x.graph.loops last before → Lies x.graph last.pc ⊎ (Lies x.graph last.pc → ⊥) →
     last.cycle - (first_of last before).cycle ≤ b
 bounded set x b most last before earlier l here starts on keeps (inl lies) =

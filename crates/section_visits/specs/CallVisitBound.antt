@@ -8,7 +8,7 @@ use Rattle.section_visits.specs.Visits.{Issued, first_of, issues_of}
 use Rattle.call_bounds.specs.Calls.{Calls, IsReached, Part, part}
 use Rattle.call_bounds.specs.CallRefusals.{IsCallable, IsListing}
 use Rattle.call_bounds.specs.CallWalk.{CostsOf, route}
-use Rattle.section_visits.specs.CallVisits.{IsCallVisit, KeepsBounds, KeepsReturns}
+use Rattle.section_visits.specs.CallVisits.{IsCallVisit, KeepsCallBounds, KeepsReturns}
 
 -- a reachable word of a reached function
 pub record IsMet (x : Calls) (u : ℕ) : Type 0 where
@@ -18,7 +18,7 @@ pub record IsMet (x : Calls) (u : ℕ) : Type 0 where
 
 -- A machine with these slots, where the thread is hard and active at the start, and where the
 -- reached functions have the same words.
-pub record IsHost (s : Start) (x : Calls) (slots thread : ℕ) : Type 0 where
+pub record HostsCalls (s : Start) (x : Calls) (slots thread : ℕ) : Type 0 where
   pub eight : length s.threads ≡ 8
   pub hard : mode_of s.registers.modes thread ≡ 0
   pub same_slots : s.registers.slots ≡ slots
@@ -32,6 +32,6 @@ abbrev pub CallVisitsAreBounded : Type 0
 CallVisitsAreBounded =
     (x : Calls) (slots thread b : ℕ) (s : Start) (n : ℕ) → IsListing x →
     IsCallable x → ((c : ℕ) → CostsOf (route x slots thread) c → c ≤ b) →
-    IsHost s x slots thread → is_quiet s n ≡ true → (last : Issued) (before : List Issued) →
+    HostsCalls s x slots thread → is_quiet s n ≡ true → (last : Issued) (before : List Issued) →
     IsCallVisit x (issues_of thread (world s n).turns) last before → KeepsReturns x last before →
-    KeepsBounds x last before → last.cycle - (first_of last before).cycle ≤ b
+    KeepsCallBounds x last before → last.cycle - (first_of last before).cycle ≤ b

@@ -25,10 +25,11 @@ open_at x [] = []
 open_at x (i ∷ before) = open_after (callee x i.pc) (is_back (x.word i.pc)) i.pc (open_at x before)
 
 -- each is in its function and doesn't trap
-abbrev pub GoOn : Calls → List Issued → Type 0
-GoOn x [] = Unit {0}
-GoOn x (i ∷ before) =
-    GoOn x before × Lies (part x (part_in x (open_at x before))) i.pc × (i.traps ≡ false)
+abbrev pub StaysInFunctions : Calls → List Issued → Type 0
+StaysInFunctions x [] = Unit {0}
+StaysInFunctions x (i ∷ before) =
+    StaysInFunctions x before
+    × Lies (part x (part_in x (open_at x before))) i.pc × (i.traps ≡ false)
 
 -- A call visit: issues in order, the newest first, among all those of the thread. The first is at
 -- the section's first word. The last is the first of them that is outside its function or traps; if
@@ -39,7 +40,7 @@ pub record IsCallVisit (x : Calls) (issues : List Issued) (last : Issued)
   pub later : List Issued
   pub among : issues ≡ later ++ (last ∷ (before ++ earlier))
   pub starts : (first_of last before).pc ≡ x.section.from
-  pub goes_on : GoOn x before
+  pub goes_on : StaysInFunctions x before
   pub ends : (later ≡ [])
       ⊎ ((Lies (part x (part_in x (open_at x before))) last.pc → ⊥) ⊎ (last.traps ≡ true))
 
@@ -70,8 +71,8 @@ counter_at x j last (i ∷ before) =
     (counter_at x j i before)
 
 -- no counter ever passes its loop's bound
-abbrev pub KeepsBounds : Calls → Issued → List Issued → Type 0
-KeepsBounds x last [] = Unit {0}
-KeepsBounds x last (i ∷ before) =
-    KeepsBounds x i before
+abbrev pub KeepsCallBounds : Calls → Issued → List Issued → Type 0
+KeepsCallBounds x last [] = Unit {0}
+KeepsCallBounds x last (i ∷ before) =
+    KeepsCallBounds x i before
     × ((j : LoopSetup) → Counts x j → counter_at x j last (i ∷ before) ≤ j.limit)

@@ -7,7 +7,7 @@ use Rattle.call_bounds.specs.Calls.{Calls}
 use Rattle.call_bounds.specs.CallRefusals.{IsCallable, IsListing}
 use Rattle.call_bounds.specs.CallWalk.{CostsOf, route}
 use Rattle.section_visits.specs.CallVisitBound.{IsMet}
-use Rattle.section_visits.specs.CallVisits.{IsCallVisit, KeepsBounds, KeepsReturns}
+use Rattle.section_visits.specs.CallVisits.{IsCallVisit, KeepsCallBounds, KeepsReturns}
 use Rattle.section_visits.specs.InSettings.{IsSet, Throughout}
 
 -- a machine whose memory has the reachable words of the reached functions, as far as the scratchpad
@@ -27,4 +27,4 @@ CallVisitsAreBoundedInSettings =
     HasWordsOfParts s x → (last : Issued) (before : List Issued) →
     Throughout (IsSet s slots thread) (first_of last before).cycle last.cycle →
     IsCallVisit x (issues_of thread (world s n).turns) last before → KeepsReturns x last before →
-    KeepsBounds x last before → last.cycle - (first_of last before).cycle ≤ b
+    KeepsCallBounds x last before → last.cycle - (first_of last before).cycle ≤ b

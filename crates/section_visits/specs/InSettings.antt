@@ -8,6 +8,7 @@ use Rattle.region_tree.specs.Walk.{CostsOf, IsOwn, Positions}
 use Rattle.slot_scheduler.specs.ModeWord.{mode_of}
 use Rattle.bound_calc.specs.Bound.{course}
 use Rattle.core_model.specs.World.{Registers, Start, world}
+use Rattle.core_model.specs.Cycles.{cycles_to_e}
 use Rattle.section_visits.specs.VisitBound.{Along, EdgeOf}
 use Rattle.section_visits.specs.Visits.{Issued, IsVisit, KeepsBounds, first_of, issues_of}
 
@@ -18,7 +19,7 @@ pub record IsHardBy (slots thread : ℕ) (r : Registers) : Type 0 where
 
 -- picking in cycle c uses such registers: those of two cycles before
 abbrev pub IsSet : Start → ℕ → ℕ → ℕ → Type 0
-IsSet s slots thread c = IsHardBy slots thread (world s (c - 2)).registers
+IsSet s slots thread c = IsHardBy slots thread (world s (c - cycles_to_e)).registers
 
 -- a condition holds in each cycle from the first to the last
 abbrev pub Throughout : (ℕ → Type 0) → ℕ → ℕ → Type 0

@@ -6,7 +6,7 @@ use Rattle.slot_scheduler.specs.ModeWord.{mode_of}
 use Rattle.call_bounds.specs.CallRefusals.{IsCallable, IsListing}
 use Rattle.call_bounds.specs.CallWalk.{CostsOf, route}
 use Rattle.call_bounds.specs.Calls.{Calls}
-use Rattle.section_visits.specs.CallVisits.{IsCallVisit, KeepsBounds, KeepsReturns}
+use Rattle.section_visits.specs.CallVisits.{IsCallVisit, KeepsCallBounds, KeepsReturns}
 use Rattle.section_visits.specs.CallVisitBound.{IsMet}
 use Rattle.run_laws.specs.TraceLaws.{IsQuiet, Machine}
 use Rattle.section_visits.specs.SetupVisitBound.{issues}
@@ -30,4 +30,4 @@ CallVisitsStayBounded =
     ((c : ℕ) → CostsOf (route x slots i) c → c ≤ b) → KeepsRules m.setup →
     IsAlikeInParts m i slots x → IsQuiet m n → (last : Issued) (before : List Issued) →
     IsCallVisit x (issues m i n) last before → KeepsReturns x last before →
-    KeepsBounds x last before → last.cycle - (first_of last before).cycle ≤ b
+    KeepsCallBounds x last before → last.cycle - (first_of last before).cycle ≤ b

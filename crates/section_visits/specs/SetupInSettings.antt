@@ -21,7 +21,7 @@ use Rattle.setup_model.specs.Start.{start}
 use Rattle.run_laws.specs.TraceLaws.{Machine, phases_in}
 use Rattle.section_visits.specs.CallVisitBound.{IsMet}
 use Rattle.section_visits.specs.CallVisits.{IsCallVisit, KeepsReturns}
-use Rattle.section_visits.specs.CallVisits.{KeepsBounds as KeepsCallBounds}
+use Rattle.section_visits.specs.CallVisits.{KeepsCallBounds}
 use Rattle.section_visits.specs.InSettings.{IsSet, Throughout}
 use Rattle.section_visits.specs.SetupVisitBound.{issues, tree_in}
 use Rattle.section_visits.specs.Visits.{Issued, IsVisit, KeepsBounds, first_of}

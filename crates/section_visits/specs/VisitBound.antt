@@ -13,7 +13,7 @@ use Rattle.section_visits.specs.Visits.{Issued, IsVisit, KeepsBounds, first_of, 
 -- A machine with these slots, where the thread is hard and active at the start. The section has the
 -- same words, as far as the scratchpad goes. The other threads' code, the rights of all threads and
 -- the rest of memory don't matter.
-pub record IsHost (s : Start) (t : Tree) (slots thread : ℕ) : Type 0 where
+pub record HostsSection (s : Start) (t : Tree) (slots thread : ℕ) : Type 0 where
   pub eight : length s.threads ≡ 8
   pub hard : mode_of s.registers.modes thread ≡ 0
   pub same_slots : s.registers.slots ≡ slots
@@ -52,7 +52,7 @@ FollowEdges x issues = AreLinked (Reachable x.graph) (EdgeOf x.graph) x.position
 -- bound.
 abbrev pub IssuesFollowEdges : Type 0
 IssuesFollowEdges =
-    (t : Tree) (slots thread : ℕ) (s : Start) (n : ℕ) → IsTree t → IsHost s t slots thread →
+    (t : Tree) (slots thread : ℕ) (s : Start) (n : ℕ) → IsTree t → HostsSection s t slots thread →
     is_quiet s n ≡ true → FollowEdges (course t slots thread) (issues_of thread (world s n).turns)
 
 -- Take a visit of the section in a quiet run of such a machine that keeps the stated bounds of the
@@ -62,6 +62,6 @@ abbrev pub VisitsAreBounded : Type 0
 VisitsAreBounded =
     (t : Tree) (slots thread b : ℕ) (s : Start) (n : ℕ) → IsTree t →
     ((c : ℕ) → CostsOf (course t slots thread) c → c ≤ b) →
-    IsHost s t slots thread → is_quiet s n ≡ true → (last : Issued) (before : List Issued) →
+    HostsSection s t slots thread → is_quiet s n ≡ true → (last : Issued) (before : List Issued) →
     IsVisit (graph t) (issues_of thread (world s n).turns) last before →
     KeepsBounds t.loops last before → last.cycle - (first_of last before).cycle ≤ b

@@ -1,7 +1,7 @@
 -- The issues of one thread in a run, and its visits of a section of code.
 use Rattle.std.specs.Prelude.{◌≡◌, ◌⊎◌, ℕ, ◌==◌, ◌≤◌, Bool, true, false, if◌then◌else◌}
 use Rattle.std.specs.Prelude.{Option, Some, List, [], ◌∷◌, ◌++◌, length, Contains}
-use Rattle.run_laws.specs.LagLaw.{is_trap}
+use Rattle.core_model.specs.Traps.{is_trap}
 use Rattle.fp_setup.specs.declared.loop_list.LoopSetup.{LoopSetup}
 use Rattle.region_tree.specs.Graph.{Graph, Lies}
 use Rattle.region_tree.specs.Walk.{counter_after}
@@ -32,9 +32,9 @@ first_of last [] = last
 first_of last (i ∷ before) = first_of i before
 
 -- each is in the section and doesn't trap
-abbrev pub GoOn : Graph → List Issued → Type 0
-GoOn g [] = Unit {0}
-GoOn g (i ∷ before) = GoOn g before × Lies g i.pc × (i.traps ≡ false)
+abbrev pub StaysInSection : Graph → List Issued → Type 0
+StaysInSection g [] = Unit {0}
+StaysInSection g (i ∷ before) = StaysInSection g before × Lies g i.pc × (i.traps ≡ false)
 
 -- A visit: issues in order, the newest first, among all those of the thread. The first is at the
 -- section's first word. The last is the first of them that is outside the section or traps; if
@@ -45,7 +45,7 @@ pub record IsVisit (g : Graph) (issues : List Issued) (last : Issued)
   pub later : List Issued
   pub among : issues ≡ later ++ (last ∷ (before ++ earlier))
   pub starts : (first_of last before).pc ≡ g.from
-  pub goes_on : GoOn g before
+  pub goes_on : StaysInSection g before
   pub ends : (later ≡ []) ⊎ ((Lies g last.pc → ⊥) ⊎ (last.traps ≡ true))
 
 -- a loop's counter at an issue, by the addresses of those before it, the newest first: 0 at the

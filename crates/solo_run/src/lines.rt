@@ -4,9 +4,9 @@ ghost use Rattle.std.specs.Prelude.{◌≡◌, ◌≤◌, ◌<◌, ◌^◌, IfSo
 ghost use Rattle.std.specs.Io.KnownBytes.{Appends};
 ghost use Rattle.fp_io.specs.Causes.{Rose};
 ghost use Rattle.fp_io.specs.Content.{AppendsFront};
-ghost use Rattle.rv_exec.specs.Line.{IsPrintable};
+ghost use Rattle.rv_exec.specs.Line.{IsPrintable, IsPrintableEvent};
 ghost use Rattle.trace_print.specs.Text.{line_text};
-ghost use Rattle.solo_run.specs.Text.{IsPrintableEvent, event_text};
+ghost use Rattle.solo_run.specs.Text.{event_text};
 
 use fp_io::{PutFailed, Sink};
 use rv_exec::Event;

@@ -19,8 +19,8 @@ abbrev pub IsAlignedTrap : Trapping → Type 0
 IsAlignedTrap trap = (trap.mtvec % 4 ≡ 0) × (trap.mepc % 4 ≡ 0)
 
 -- the numbers of these registers: mtvec, mscratch, mepc and mcause
-abbrev pub is_trap : ℕ → Bool
-is_trap csr = csr == csr_mtvec || csr == csr_mscratch || csr == csr_mepc || csr == csr_mcause
+abbrev pub is_trap_csr : ℕ → Bool
+is_trap_csr csr = csr == csr_mtvec || csr == csr_mscratch || csr == csr_mepc || csr == csr_mcause
 
 -- a thread's state with these trap registers, as input of the definitions of one thread
 abbrev pub with_trap : Trapping → Own

@@ -2,7 +2,7 @@
 
 ghost use Rattle.std.specs.Prelude.{◌≡◌, ◌<◌, ◌%◌, Some, IsTrue, length, replicate, slice_set};
 ghost use Rattle.core_model.specs.Csr.{csr_value, may_hold, legal_value};
-ghost use Rattle.trap_unit.specs.Rows.{no_trap, trap_of, is_trap};
+ghost use Rattle.trap_unit.specs.Rows.{no_trap, trap_of, is_trap_csr};
 ghost use Rattle.trap_unit.specs.Rows.{with_trap, trap_entry, IsAlignedTrap};
 ghost use Rattle.trap_unit.specs.Access.{value_by, answer_by, written_in};
 ghost use Rattle.trap_unit.specs.Access.{traps_after, sched_after, guard_after};
@@ -101,7 +101,7 @@ impl Traps {
     /// A thread's word of mtvec, mscratch, mepc or mcause, by its number.
     pub fn value(&self, thread: u8, csr: u16) -> u32
         requires thread { thread < 8 }
-        requires csr { IsTrue (is_trap csr) }
+        requires csr { IsTrue (is_trap_csr csr) }
         ensures { Some result ≡ csr_value thread (with_trap (trap_of self.now thread)) csr
             (Some 0) }
     {

@@ -15,7 +15,7 @@ use Rattle.slot_table.specs.Table.{is_table}
 use Rattle.region_guard.specs.RegionsWord.{is_regions}
 use Rattle.slot_scheduler.specs.Picking.{is_awake, after_last, donation, pick}
 use Rattle.core_model.specs.Outcomes.{load, store, branch}
-use Rattle.core_model.specs.Delays.{delay, wait}
+use Rattle.core_model.specs.Waiting.{delay, wait}
 use Rattle.core_model.specs.Csr.{csr_update, may_hold, csr_access}
 use Rattle.core_model.specs.Issue.{execute_untrapped, run_at, execute_in}
 use Rattle.core_model.specs.Issue.{execute_word, effect_of, issue}

@@ -6,7 +6,7 @@ use Rattle.clap.specs.Words.{App, with_rule}
 use Rattle.clap.specs.declared.builder.command.Command.{Command}
 use Rattle.clap.specs.declared.builder.command.Command.TheOpen.{Command-F}
 use Rattle.clap.specs.declared.builder.command.Command.TheViews.{out-Command}
-use Rattle.ask_words.specs.Forms.{Text}
+use Rattle.fp_setup.specs.Vocabulary.{Text}
 use Rattle.ask_words.specs.Rules.{shaped}
 use Rattle.ask_words.proofs.parse.named_command.Goals as goal
 

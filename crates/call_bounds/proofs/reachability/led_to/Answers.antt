@@ -1,5 +1,5 @@
 use Rattle.std.proofs.Common.{subst}
-use Rattle.call_bounds.proofs.ReachabilityLaws.{Goes, exact, goes-on, goes-start}
+use Rattle.call_bounds.proofs.ReachabilityLaws.{Marks, exact, goes-on, goes-start}
 use Rattle.call_bounds.proofs.reachability.led_to.Goals as goal
 
 pub loop-changed-init : goal.loop-changed-init
@@ -13,5 +13,5 @@ loop-changed-preserved c = search goes-on
 pub returns : goal.returns
 returns c =
     exact c.args.count c.args.table.now c.args.part c.loop-changed.met.items
-    (subst (λ b. Goes c.args.count c.args.table.now c.args.part c.loop-changed.met.items b)
+    (subst (λ b. Marks c.args.count c.args.table.now c.args.part c.loop-changed.met.items b)
     c.loop-changed-test.false c.loop-changed.invariant)

@@ -1,5 +1,6 @@
--- The instructions DU and WU, and updates of a thread's timer. Each definition takes its inputs as
--- plain values. A lag is the number of cycles after which the thread's next instruction may issue.
+-- Waiting: the instructions DU and WU, and updates of a thread's timer. Each definition takes its
+-- inputs as plain values. A lag is the number of cycles after which the thread's next instruction
+-- may issue.
 use Rattle.std.specs.Prelude.{ℕ, nat_le, min, if◌then◌else◌, Option, Some, None}
 use Rattle.rv_decode.specs.Lag.{redirect_lag}
 use Rattle.rv_exec.specs.declared.outcome.Effect.TheVariants.{Nothing, Wait}
