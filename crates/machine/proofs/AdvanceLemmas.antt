@@ -1,22 +1,17 @@
 -- Cycles up to a line.
 use Rattle.std.proofs.Common.{◌≡◌, ℕ, ◌+◌, ◌-◌, ◌<◌, ◌≤◌, Bool, true, false, List, [], ◌++◌}
-use Rattle.std.proofs.Common.{length, Option, refl, ap, sym, subst, ◌∙◌, arith, add-one}
+use Rattle.std.proofs.Common.{Option, refl, ap, sym, subst, ◌∙◌, arith, add-one}
 use Rattle.std.proofs.lemmas.List.{append-nil}
 use Rattle.fp_ports.specs.PluggedPorts.{Row}
 use Rattle.rv_exec.specs.declared.outcome.Event.{Event}
 use Rattle.trace_print.specs.Text.{text}
 use Rattle.core_model.specs.World.{Start, events}
-use Rattle.pipe_model.specs.Stages.{retired_event, step}
-use Rattle.pipe_model.specs.Relation.{event_in, of_thread, turn_at}
+use Rattle.pipe_model.specs.Relation.{of_thread}
 use Rattle.pipe_model.specs.PipelineLaws.{EventsGrow}
-use Rattle.pipe_model.proofs.Keeping.{keeps}
-use Rattle.pipeline_core.specs.Abstraction.{abstract_stages, abstract_state}
 use Rattle.machine.specs.declared.state.Machine.{Machine}
 use Rattle.machine.specs.Advancing.{Advanced}
-use Rattle.machine.specs.FieldLaws.{Unplugged, with_ports_left}
-use Rattle.machine.specs.WorldRelation.{AreLeft, Refines, Ticks}
+use Rattle.machine.specs.WorldRelation.{Refines, Ticks}
 use Rattle.machine.specs.Sleeping.{PassedOver}
-use Rattle.machine.proofs.PortLemmas.{unplugs}
 use Rattle.machine.proofs.RunLemmas.{text-next}
 use Rattle.machine.proofs.SleepLemmas.{no_events_passed}
 
@@ -130,24 +125,3 @@ advance_to_line grows s c n thread m after later rows new
           ∙ ap (λ xs. text (events s thread c) ++ xs) (sym shown);
       quiet = λ h. ap (λ d. text (events s thread d)) last ∙ before;
     }
-
--- the turn in M is the one whose event retires
-pub retires_as : (s : Start) (n : ℕ) (m : Machine) (rows : List (Option Row)) →
-    length rows ≡ 8 → m.at < n + 3 → Refines s m.at n m rows →
-    retired_event (m.at - 4) m.pipe.m ≡ event_in (m.at - 4) (turn_at s m.at 3)
-unfolding step
-retires_as s n m rows eight within st =
-    let left : Unplugged s m.at (abstract_stages m.pipe)
-    (with_ports_left (abstract_state m.units rows) m.at m.unplugs) = unplugs s m.at n
-    (abstract_stages m.pipe) (abstract_state m.units rows) m.at m.unplugs st within eight in
-    (keeps s m.at (abstract_stages m.pipe) (with_ports_left (abstract_state m.units rows) m.at
-    m.unplugs) st.begins left.shows left.refines).event
-
--- one cycle
-pub ticks_alone : (s : Start) (n thread : ℕ) (m after : Machine) (rows new : List (Option Row))
-    (shown : Bool) (line : List ℕ) (event : Option Event) → after.at ≡ m.at + 1 →
-    event ≡ event_in (m.at - 4) (turn_at s m.at 3) → Advanced s m.at n thread after new shown line →
-    AreLeft rows new → Ticks s m.at n rows after new event
-ticks_alone s n thread m after rows new shown line event at is gone left =
-    let At : ℕ → Type 0 = λ c. Refines s c n after new in
-    record { refines = subst At (at ∙ add-one m.at) gone.refines; event_is = is; left = left }

@@ -17,6 +17,7 @@ use rv_exec::{Effect, Lanes, store_lanes};
 use scratchpad::Spm;
 
 /// The word of the instruction scratchpad at a pc, 0 outside.
+#[inline(always)]
 #[tactic(auto, unfolding(core_model::specs::Memory::code_at))]
 pub fn code_word(guard: &Guard, imem: &Spm, pc: u32) -> u32
     requires { length imem.now ≡ guard.now.size / 4 }
@@ -31,6 +32,7 @@ pub fn code_word(guard: &Guard, imem: &Spm, pc: u32) -> u32
 
 /// The word that a thread's load reads at an address; outside the scratchpads it is the word that
 /// the thread's port showed three cycles ago.
+#[inline(always)]
 #[tactic(auto, unfolding(core_model::specs::Memory::data_at))]
 pub fn data_word(
     guard: &Guard,
@@ -63,6 +65,7 @@ pub fn data_word(
 }
 
 /// The lanes of a store of `size` bytes.
+#[inline(always)]
 fn lanes_of(size: u8, address: u32, value: u32) -> Lanes
     requires width { IsWidth size }
     requires aligned { address % size ≡ 0 }
@@ -76,6 +79,7 @@ fn lanes_of(size: u8, address: u32, value: u32) -> Lanes
 }
 
 /// Applies an effect to the data scratchpad.
+#[inline(always)]
 pub fn store_word(guard: &Guard, dmem: &mut Spm, effect: &Option<Effect>)
     requires dmem { length dmem.old ≡ guard.now.size / 4 }
     requires fits { EffectFits effect.now }

@@ -25,6 +25,7 @@ use std::slice::{from_mut, from_ref};
 
 /// The effect of an instruction whose value may come late, with that value. Until M its effect is
 /// `Nothing`. A load at the port reads the word of three cycles ago, when it was issued.
+#[inline(always)]
 fn late_effect(
     guard: &Guard,
     imem: &Spm,
@@ -61,6 +62,7 @@ fn late_effect(
 }
 
 /// The stage register's content for an instruction with its effect.
+#[inline(always)]
 fn stored(x: &Executed, effect: Option<Effect>) -> Stored
     ensures { result ≡ record { pc = x.now.pc; word = x.now.word; effect = effect } }
 {
@@ -130,6 +132,7 @@ fn put_late(thread: u8, x: &Executed, effect: Option<Effect>, m: &mut Held<Store
 }
 
 /// Applies a thread's effect to its port.
+#[inline(always)]
 fn put_word(ports: &mut Ports, thread: u8, effect: &Option<Effect>)
     requires eight { vec_len ports.old ≡ 8 }
     requires thread { thread < 8 }
@@ -147,6 +150,7 @@ fn put_word(ports: &mut Ports, thread: u8, effect: &Option<Effect>)
 
 /// Writes to `m` the result of M for an instruction that was issued three cycles ago. Does its
 /// store, in the data scratchpad or at its thread's port.
+#[inline(always)]
 #[tactic(auto, unfolding(crate::proofs::Opened::storing))]
 fn access_issue(
     guard: &Guard,
@@ -198,6 +202,7 @@ fn access_issue(
 }
 
 /// Writes to `m` the result of M for a turn that was issued three cycles ago, and does its store.
+#[inline(always)]
 #[tactic(auto, unfolding(crate::proofs::Opened::storing))]
 pub fn memory_stage(
     guard: &Guard,

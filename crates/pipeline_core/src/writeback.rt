@@ -15,6 +15,7 @@ use rv_exec::{Effect, Event};
 
 /// The event that retires in a cycle, if there is one: the event of the turn in W, which was issued
 /// [`CYCLES_TO_W`] cycles ago.
+#[inline(always)]
 #[tactic(auto, unfolding(pipe_model::specs::Stages::retired_event))]
 pub fn retire(held: &Held<Stored>, cycle: u64) -> Option<Event>
     requires { StoredFits held.now }
@@ -47,6 +48,7 @@ fn write_old(bank: &mut Bank, thread: u8, rd: u8, old: u32)
 }
 
 /// Writes the register of an effect, if it has one.
+#[inline(always)]
 #[tactic(auto, using(crate::proofs::Registers::unwritten))]
 fn write_register(bank: &mut Bank, thread: u8, effect: &Option<Effect>)
     requires thread { thread < 8 }
@@ -86,6 +88,7 @@ fn leave_written(held: &Held<Stored>, w: &mut Held<Written>)
 }
 
 /// Writes the register of the turn's effect, if it has one, and writes the turn to `w`.
+#[inline(always)]
 #[tactic(auto, unfolding(crate::proofs::Opened::writing_back))]
 pub fn writeback_stage(bank: &mut Bank, held: &Held<Stored>, w: &mut Held<Written>)
     requires { StoredFits held.now }

@@ -1,7 +1,6 @@
 -- A run is one that continues from cycle 0.
-use Rattle.std.proofs.Common.{◌≡◌, ℕ, Result, Ok, Err, OnOk, OnErr, List, Option, arith}
+use Rattle.std.proofs.Common.{Result, Ok, Err, OnOk, OnErr}
 use Rattle.std.proofs.Math.Nat.{le_refl}
-use Rattle.core_model.specs.World.{Start}
 use Rattle.machine.proofs.SleepLemmas.{run_begins_at}
 use Rattle.machine.proofs.state.Machine.run.Goals as goal
 
