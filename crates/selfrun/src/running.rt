@@ -86,9 +86,10 @@ fn tallies(machine: &mut Machine, cycles: u64, ports: &mut Ports) -> [Tally; 8]
     events_grow();
     let mut tallies = [Tally { events: 0, fold: 0 }; 8];
     let mut folder = LineFolder::new();
+    let loses_ports = machine.loses_ports();
     for _cycle in 0..cycles {
         count(&mut tallies, &mut folder, &machine.pipe.m, machine.at);
-        let _event = machine.tick(ports);
+        let _event = machine.cycle_on(ports, loses_ports);
     }
     tallies
 }

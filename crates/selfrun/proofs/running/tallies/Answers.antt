@@ -1,4 +1,6 @@
 use Rattle.std.proofs.Common.{◌≡◌, ◌+◌, ◌<◌, arith, refl, ap, sym, ◌∙◌}
+use Rattle.std.specs.Prelude.{is_some}
+use Rattle.std.specs.List.{list_any}
 use Rattle.selfrun.specs.Counting.{tallies_with}
 use Rattle.selfrun.proofs.TallyLemmas.{tallies_begin, tallies_on, tallies_end, few_none, few_more}
 use Rattle.selfrun.proofs.running.tallies.Goals as goal
@@ -7,6 +9,7 @@ pub loop-cycle-init : goal.loop-cycle-init
 loop-cycle-init g c = record {
   at = c.requires.start;
   eight = c.requires.eight;
+  known = c.loses_ports-loses_ports.ensures;
   few = few_none;
   runs = λ s st. tallies_begin s c.args.cycles c.args.machine.now _ _ refl st;
 }
@@ -18,15 +21,16 @@ loop-cycle-preserved g c =
     let within : c.loop-cycle.machine.at < c.args.cycles + 3 =
     omega (arith, inv.at, c.loop-cycle-test.true) in
     let told = c.count.ensures
-    ∙ ap (λ e. tallies_with c.loop-cycle.tallies e) (sym c.tick-event.ensures.retires) in
+    ∙ ap (λ e. tallies_with c.loop-cycle.tallies e) (sym c.cycle_on-event.ensures.retires) in
     record {
-      at = c.tick-event.ensures.at ∙ ap (λ n. n + 1) inv.at;
-      eight = c.tick-event.ensures.eight;
-      few = rw told (few_more c.loop-cycle.tallies c.tick-event.result k inv.few);
+      at = c.cycle_on-event.ensures.at ∙ ap (λ n. n + 1) inv.at;
+      eight = c.cycle_on-event.ensures.eight;
+      known = inv.known ∙ ap (list_any is_some) (sym c.cycle_on-event.ensures.unplugs);
+      few = rw told (few_more c.loop-cycle.tallies c.cycle_on-event.result k inv.few);
       runs =
           λ s st. rw told (tallies_on c.events_grow.ensures s k c.args.cycles c.loop-cycle.machine
-          c.tick-event.new.self _ _ c.loop-cycle.tallies c.tick-event.result (inv.runs s st) inv.at
-          (c.tick-event.ensures.relation s c.args.cycles within));
+          c.cycle_on-event.new.self _ _ c.loop-cycle.tallies c.cycle_on-event.result (inv.runs s st) inv.at
+          (c.cycle_on-event.ensures.relation s c.args.cycles within));
     }
 
 pub returns : goal.returns

@@ -1,4 +1,6 @@
 use Rattle.std.proofs.Common.{◌≡◌, vec_len}
+use Rattle.std.specs.Prelude.{is_some}
+use Rattle.std.specs.List.{list_any}
 use Rattle.fp_ports.specs.PluggedPorts.{rows_of}
 use Rattle.core_model.specs.World.{Start}
 use Rattle.machine.specs.WorldRelation.{Refines}
@@ -14,6 +16,7 @@ invariant-loop-cycle g l =
     record {
       at : l.machine.at ≡ l._cycle;
       eight : vec_len l.ports ≡ 8;
+      known : l.loses_ports ≡ list_any is_some l.machine.unplugs;
       few : AreFew l.tallies l._cycle;
       runs : (s : Start) → Refines s 0 l.cycles l.initial.machine first →
           HasTallied s l._cycle l.cycles l.machine rows l.tallies;
