@@ -147,7 +147,7 @@ fn expire(hart: &mut Hart<'_>, at: PcWord) -> ExecResult
 /// for both, for traps, and for instructions on control registers, traps or time.
 #[tactic(auto, unfolding(crate::proofs::Opened::whole), using(crate::proofs::Zero::aligned_zero))]
 #[inline(always)]
-fn execute_some<const RARE: bool>(
+fn execute_some<const RARE: bool, const LOOP: u8>(
     hart: &mut Hart<'_>,
     at: PcWord,
     expired: bool,
@@ -178,8 +178,9 @@ fn execute_some<const RARE: bool>(
 /// Executes the instruction at a pc, but for a late value, if it is frequent. It returns None and
 /// changes nothing for an expiry, a refused fetch, a trap, and an instruction on control registers,
 /// traps or time. A caller that executes these out of line keeps the results of the others in
-/// registers. It should have one caller: the compiler then inlines it, simplified.
-pub fn execute_frequent(
+/// registers. Each `LOOP` is an instance, which should have one caller: the compiler then inlines
+/// it, simplified.
+pub fn execute_frequent<const LOOP: u8>(
     hart: &mut Hart<'_>,
     at: PcWord,
     expired: bool,
@@ -197,7 +198,7 @@ pub fn execute_frequent(
     ensures shown { IfSome result (λ x. HasWord x.effect x.word) }
     ensures address { IfSome result (λ x. IsAligned (ins x.word) x.address) }
 {
-    execute_some::<false>(hart, at, expired, s)
+    execute_some::<false, LOOP>(hart, at, expired, s)
 }
 
 /// Executes the instruction at a pc, but for a late value. An expiry comes before all else; then a
@@ -215,5 +216,5 @@ pub fn execute_in(hart: &mut Hart<'_>, at: PcWord, expired: bool, s: Sources) ->
     ensures shown { HasWord result.effect result.word }
     ensures address { IsAligned (ins result.word) result.address }
 {
-    execute_some::<true>(hart, at, expired, s).unwrap()
+    execute_some::<true, 0>(hart, at, expired, s).unwrap()
 }

@@ -135,7 +135,7 @@ fn leave(
 /// Executes an instruction. Without `RARE` it returns None and changes nothing for an expiry, a
 /// trap, and an instruction on control registers, traps or time.
 #[inline(always)]
-fn execute_some<const RARE: bool>(
+fn execute_some<const RARE: bool, const LOOP: u8>(
     hart: &mut Hart<'_>,
     at: PcWord,
     expired: bool,
@@ -157,7 +157,7 @@ fn execute_some<const RARE: bool>(
     if RARE {
         Some(execute_in(hart, at, expired, s))
     } else {
-        execute_frequent(hart, at, expired, s)
+        execute_frequent::<LOOP>(hart, at, expired, s)
     }
 }
 
@@ -165,7 +165,7 @@ fn execute_some<const RARE: bool>(
 /// an expiry, a trap, and an instruction on control registers, traps or time.
 #[tactic(auto, unfolding(pipe_model::specs::Stages::execute_stage))]
 #[inline(always)]
-fn execute_issue<const RARE: bool>(
+fn execute_issue<const RARE: bool, const LOOP: u8>(
     units: &mut Units,
     cycle: u64,
     thread: u8,
@@ -206,7 +206,7 @@ fn execute_issue<const RARE: bool>(
         traps: &mut units.traps,
     };
     let s = Sources { a: x.a, b: x.b };
-    let done = execute_some::<RARE>(&mut hart, at, x.expired, s)?;
+    let done = execute_some::<RARE, LOOP>(&mut hart, at, x.expired, s)?;
     Some(leave(thread, x, &done, e, redirect))
 }
 
@@ -238,7 +238,7 @@ fn execute_rare(
         pc: 0,
         flush: Flush::Decode,
     };
-    if execute_issue::<true>(units, cycle, thread, x, e, &mut redirect).unwrap() {
+    if execute_issue::<true, 0>(units, cycle, thread, x, e, &mut redirect).unwrap() {
         Some(redirect)
     } else {
         None
@@ -278,7 +278,7 @@ fn execute_out_of_line(
 
 /// Executes an issue, out of line if it is rare.
 #[inline(always)]
-fn execute_turn(
+fn execute_turn<const LOOP: u8>(
     units: &mut Units,
     cycle: u64,
     thread: u8,
@@ -299,7 +299,7 @@ fn execute_turn(
     ensures fits { ExecutedFits e.new }
     ensures redirect_fits { RedirectFits (if result then Some redirect.new else None) }
 {
-    match execute_issue::<false>(units, cycle, thread, x, e, redirect) {
+    match execute_issue::<false, LOOP>(units, cycle, thread, x, e, redirect) {
         Some(flushes) => flushes,
         None => execute_out_of_line(units, cycle, thread, x, e, redirect),
     }
@@ -310,7 +310,7 @@ fn execute_turn(
 /// slots, modes and regions.
 #[tactic(auto, unfolding(pipe_model::specs::Stages::execute_stage))]
 #[inline(always)]
-pub fn execute_stage(
+pub fn execute_stage<const LOOP: u8>(
     units: &mut Units,
     cycle: u64,
     held: &Held<Decoded>,
@@ -338,6 +338,8 @@ pub fn execute_stage(
             *e = Held::Flushed { thread: *thread };
             false
         }
-        Held::Issue { thread, what } => execute_turn(units, cycle, *thread, what, e, redirect),
+        Held::Issue { thread, what } => {
+            execute_turn::<LOOP>(units, cycle, *thread, what, e, redirect)
+        }
     }
 }

@@ -23,6 +23,9 @@ use pipe_model::{
 use rv_exec::Event;
 use slot_scheduler::Pick;
 
+/// The instance of E in [`Pipe::tick`]. Each loop over cycles has another number.
+const ONE_CYCLE: u8 = 0;
+
 /// The stage registers, with the turns of the last five cycles. Before cycle c, `f` holds the turn
 /// of c − 1, `d` that of c − 2, and so on to `w` with that of c − 5.
 ///
@@ -114,7 +117,39 @@ impl Pipe {
     {
         refinement();
         let event = retire(&self.m, cycle);
-        self.step(units, ports, cycle);
+        self.step::<ONE_CYCLE>(units, ports, cycle);
+        event
+    }
+
+    /// Does the same as [`tick`](Pipe::tick), in a loop over cycles. `LOOP` is a number of that loop
+    /// alone, not 0: the compiler inlines E only if its instance has one caller.
+    #[inline(always)]
+    pub fn tick_in_loop<const LOOP: u8>(
+        &mut self,
+        units: &mut Units,
+        ports: &mut Ports,
+        cycle: u64,
+    ) -> Option<Event>
+        requires cycle { cycle < most_cycles }
+        requires eight { vec_len ports.old ≡ 8 }
+        ensures relation { let before = rows_of latched word_at ports.old.items in let after =
+            rows_of latched word_at ports.new.items in
+            (s : Start) → Begins s → PortsRefine s cycle before →
+            Refines s cycle (abstract_stages self.old)
+            (abstract_state units.old before) →
+            RefinesNext s cycle before (abstract_ticked self.new units.new after result) }
+        ensures step { abstract_ticked self.new units.new
+            (rows_of latched word_at ports.new.items)
+            result ≡ step (abstract_stages self.old)
+            (abstract_state units.old (rows_of latched word_at ports.old.items)) cycle }
+        ensures idle { uses_port units.old.guard.size self.old.e ≡ false → ports.new ≡ ports.old }
+        ensures eight { vec_len ports.new ≡ 8 }
+        ensures retires { result ≡ retired_event (cycle - cycles_to_w) self.old.m }
+        ensures printable { IsPrintableEvent result }
+    {
+        refinement();
+        let event = retire(&self.m, cycle);
+        self.step::<LOOP>(units, ports, cycle);
         event
     }
 
@@ -124,11 +159,9 @@ impl Pipe {
     /// turn in E was issued two cycles ago and the turn in D one cycle ago; they use the times of
     /// those cycles.
     ///
-    /// Inlined, and so is `tick`: a loop over cycles then contains the stages, which saves 15
-    /// instructions per cycle. A program should have one such loop: with a second copy the compiler
-    /// leaves calls in both.
+    /// Inlined, and so are `tick` and `tick_in_loop`: a loop over cycles then contains the stages.
     #[inline(always)]
-    fn step(&mut self, units: &mut Units, ports: &mut Ports, cycle: u64)
+    fn step<const LOOP: u8>(&mut self, units: &mut Units, ports: &mut Ports, cycle: u64)
         requires cycle { cycle < most_cycles }
         requires eight { vec_len ports.old ≡ 8 }
         ensures step { abstract_ticked self.new units.new
@@ -147,7 +180,7 @@ impl Pipe {
             pc: 0,
             flush: Flush::Decode,
         };
-        let redirects = self.execute(units, cycle, &mut redirect);
+        let redirects = self.execute::<LOOP>(units, cycle, &mut redirect);
         self.younger_stages(units, redirects, redirect, pick, cycle);
     }
 
@@ -188,7 +221,12 @@ impl Pipe {
     /// E. Returns whether turns of a thread are flushed; if so, `redirect` has the thread and the
     /// pc at which it continues.
     #[inline(always)]
-    fn execute(&mut self, units: &mut Units, cycle: u64, redirect: &mut Redirect) -> bool
+    fn execute<const LOOP: u8>(
+        &mut self,
+        units: &mut Units,
+        cycle: u64,
+        redirect: &mut Redirect,
+    ) -> bool
         requires cycle { cycle < most_cycles }
         ensures e { self.new.e ≡ (executed_by units.old cycle self.old.d).e }
         ensures redirect { (executed_by units.old cycle self.old.d).redirect
@@ -204,7 +242,7 @@ impl Pipe {
         ensures m { self.new.m ≡ self.old.m }
         ensures w { self.new.w ≡ self.old.w }
     {
-        execute_stage(units, cycle, &self.d, &mut self.e, redirect)
+        execute_stage::<LOOP>(units, cycle, &self.d, &mut self.e, redirect)
     }
 
     /// D and F, from the result of E: if E flushes turns of a thread, that thread fetches next at
