@@ -132,16 +132,6 @@ class Plan:
         spent = self.spent()
         return sum(self.weight[crate] - spent.get(crate, 0.0) for crate in self.ahead()) / self.at_once
 
-    def jobs_of(self, crate: str, waiting: int) -> int:
-        """The number of jobs for a crate, while `waiting` others run or are ready. A crate gets a second job if the chain that depends on it takes longer
-        than the remaining work of each processor, and memory allows it. The program's own crate gets one: it has few functions, and each job reads all
-        crates below."""
-        if crate == self.checkout.crate:
-            return 1
-        fair = max(1, self.at_once // (waiting + 1))
-        is_last = self.chain[crate] > self.share_left() and free_memory() > NEEDED_MEMORY * (self.at_once + 1)
-        return max(fair, 2) if self.at_once > 1 and is_last else fair
-
     def niceness(self, crate: str) -> int:
         """The niceness of a crate's proof: 0 for the crate at the start of the longest chain."""
         longest = max(self.chain[one] for one in self.ahead())
@@ -208,9 +198,10 @@ class Builder:
         if child.returncode:
             raise NotBuilt(why_not(crate, said, child.returncode))
 
-    def prove(self, crate: str, niceness: int, count: int) -> None:
-        """Proves a crate by `count` jobs. The program's own crate is also linked, and its program called once."""
-        flags, checkout = ["--jobs", str(count)], self.plan.checkout
+    def prove(self, crate: str, niceness: int) -> None:
+        """Proves a crate by one job: each further job reads all libraries of the crate again. The program's own crate is also linked, and its program
+        called once."""
+        flags, checkout = ["--jobs", "1"], self.plan.checkout
         if crate == checkout.crate:
             self.hold.close()
             self.call(checkout.top, crate, niceness, ["run", *flags, "--", *TRIED[crate]])
@@ -241,9 +232,8 @@ class Builder:
                     ready = sorted([*ready, *order.get_ready()], key=plan.chain.__getitem__)
                     while ready and len(futures) < plan.at_once:
                         crate = ready.pop()
-                        count = plan.jobs_of(crate, len(futures) + len(ready))
                         plan.running[crate] = time.monotonic()
-                        futures[pool.submit(self.prove, crate, plan.niceness(crate), count)] = crate
+                        futures[pool.submit(self.prove, crate, plan.niceness(crate))] = crate
                     progress.show()
                     ended, _ = wait(futures, timeout=30 if progress.terminal else None, return_when=FIRST_COMPLETED)
                     for future in ended:

@@ -165,33 +165,15 @@ def test_the_longest_chain_comes_first(checkout: Checkout) -> None:
     assert ran.stdout == "b True\n"
 
 
-def test_a_crate_that_all_wait_for_gets_a_second_job(checkout: Checkout) -> None:
-    (checkout.folder / "crates.txt").write_text("a:\nb:\nc: b\nd: c\nflexpret_cli: a d\n")
-    for name in ("a", "b", "c", "d"):
-        (checkout.folder / "crates" / name / "src").mkdir(parents=True, exist_ok=True)
-        (checkout.folder / "crates" / name / "src/lib.rt").write_text(" " * 20000)
-    command = "import sys; sys.path.insert(0, 'tools'); from fplaunch import build; from pathlib import Path;"
-    command += " build.free_memory = lambda: int(sys.argv[1]) << 30; plan = build.Plan(build.Checkout(Path('.'), 'flexpret_cli'), int(sys.argv[2]));"
-    command += " print(plan.jobs_of('b', 3), plan.jobs_of('a', 3), plan.jobs_of('d', 0))"
-
-    def counts(gigabytes: int, at_once: int) -> str:
-        words = [sys.executable, "-c", command, str(gigabytes), str(at_once)]
-        return subprocess.run(words, cwd=checkout.folder, capture_output=True, text=True, check=True).stdout
-
-    assert counts(16, 2) == "2 1 2\n"
-    assert counts(4, 2) == "1 1 2\n", "a second job takes memory"
-    assert counts(16, 1) == "1 1 1\n"
-
-
 def test_a_shorter_chain_yields_the_processors(checkout: Checkout) -> None:
     (checkout.folder / "crates.txt").write_text("a:\nb:\nc: b\nflexpret_cli: a c\n")
     for name, size in (("a", 20000), ("b", 100000), ("c", 100000)):
         (checkout.folder / "crates" / name / "src").mkdir(parents=True, exist_ok=True)
         (checkout.folder / "crates" / name / "src/lib.rt").write_text(" " * size)
     command = "import sys; sys.path.insert(0, 'tools'); from fplaunch import build; from pathlib import Path;"
-    command += " plan = build.Plan(build.Checkout(Path('.'), 'flexpret_cli'), 2); print(plan.niceness('b'), plan.niceness('a') > 5, plan.jobs_of('flexpret_cli', 0))"
+    command += " plan = build.Plan(build.Checkout(Path('.'), 'flexpret_cli'), 2); print(plan.niceness('b'), plan.niceness('a') > 5)"
     ran = subprocess.run([sys.executable, "-c", command], cwd=checkout.folder, capture_output=True, text=True, check=True)
-    assert ran.stdout == "0 True 1\n"
+    assert ran.stdout == "0 True\n"
 
 
 def test_nothing_is_built_twice_until_a_source_changes(either: Checkout) -> None:
