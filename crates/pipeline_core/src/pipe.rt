@@ -121,8 +121,8 @@ impl Pipe {
         event
     }
 
-    /// Does the same as [`tick`](Pipe::tick), in a loop over cycles. `LOOP` is a number of that loop
-    /// alone, not 0: the compiler inlines E only if its instance has one caller.
+    /// Does the same as [`tick`](Pipe::tick), in a loop over cycles. `LOOP` is the number of only
+    /// that loop, above 0: the compiler inlines E only if its instance has one caller.
     #[inline(always)]
     pub fn tick_in_loop<const LOOP: u8>(
         &mut self,

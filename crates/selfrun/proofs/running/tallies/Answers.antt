@@ -29,7 +29,8 @@ loop-cycle-preserved g c =
       few = rw told (few_more c.loop-cycle.tallies c.cycle_on-event.result k inv.few);
       runs =
           λ s st. rw told (tallies_on c.events_grow.ensures s k c.args.cycles c.loop-cycle.machine
-          c.cycle_on-event.new.self _ _ c.loop-cycle.tallies c.cycle_on-event.result (inv.runs s st) inv.at
+          c.cycle_on-event.new.self _ _ c.loop-cycle.tallies c.cycle_on-event.result
+          (inv.runs s st) inv.at
           (c.cycle_on-event.ensures.relation s c.args.cycles within));
     }
 

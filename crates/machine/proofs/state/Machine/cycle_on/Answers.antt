@@ -8,8 +8,9 @@ pub returns-clause-relation : goal.returns-clause-relation
 returns-clause-relation g c =
     let same : length c.args.ports.now.items ≡ 8 = omega arith in
     λ s n within st.
-    ticks s n c.args.self.now _ _ _ _ c.tick_in_loop-event.result (length-map c.args.ports.now.items _
-    ∙ same) c.take_if_any.ensures.rows within st (c.tick_in_loop-event.ensures.relation s) refl refl
+    ticks s n c.args.self.now _ _ _ _ c.tick_in_loop-event.result
+    (length-map c.args.ports.now.items _ ∙ same) c.take_if_any.ensures.rows within st
+    (c.tick_in_loop-event.ensures.relation s) refl refl
 
 pub returns-clause-words : goal.returns-clause-words
 returns-clause-words g c =
