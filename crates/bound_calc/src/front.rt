@@ -8,8 +8,7 @@ use crate::matrix::Matrix;
 use std::alloc::{AllocError, Global};
 
 /// The costs that lead from the words already passed to the words ahead. A matrix is kept only
-/// while an edge leads on to its word, not for each word of the section. For the largest section
-/// that would be 33 MB, and a third of the time.
+/// while an edge leads on to its word, not for each word of the section.
 #[derive(Drop)]
 pub struct Front {
     /// By index the costs that edges brought to a word ahead.
@@ -19,7 +18,7 @@ pub struct Front {
     /// The steps from there to the next word. Through straight code they are composed: eight steps
     /// a word instead of a matrix.
     pub hops: HopRow,
-    /// A box for reuse: allocating one at each stop would be a tenth of all steps.
+    /// A box for reuse, so that no stop of the pass allocates one.
     pub spare: Option<Box<Matrix>>,
 }
 

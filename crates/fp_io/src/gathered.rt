@@ -19,8 +19,7 @@ const ROOM: usize = 8192;
 /// the sink behind it and to the buffered bytes. They state that the bytes reach that sink in order
 /// and once.
 ///
-/// The bytes are the first `len` of an array. An `ArrayVec` would cost some 40 instructions more
-/// per line of a run, since its `clear` overwrites each byte.
+/// The bytes are the first `len` of an array: the `clear` of an `ArrayVec` overwrites each byte.
 #[derive(Drop)]
 pub struct Gathered<K> {
     sink: K,
@@ -80,8 +79,7 @@ impl<K: Sink + Drop> Gathered<K> {
     }
 
     /// Passes on the buffered bytes, and then bytes that don't fit with them. It is separate from
-    /// `put`, so that the fast path, nearly every put, saves no registers. Saving them would double
-    /// its instructions.
+    /// `put`, so that the fast path, nearly every put, saves no registers.
     ///
     /// # Errors
     ///

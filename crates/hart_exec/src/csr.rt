@@ -13,7 +13,7 @@ use rv_decode::{CsrKind, Ins, lag_of};
 use rv_exec::{Effect, cause};
 use trap_unit::CsrOp;
 
-/// What a CSR instruction wants of a register.
+/// The access of a CSR instruction to its register.
 #[derive(Clone, Copy)]
 pub struct Access {
     /// Whether it swaps, sets or clears bits.
@@ -27,7 +27,7 @@ pub struct Access {
 impl Access {
     ghost use Rattle.hart_exec.specs.Effects.{access_of};
 
-    /// What an instruction of a kind wants, with its field `src` and the value of its register.
+    /// The access of an instruction, from its kind, its field `src` and the value of its register.
     pub fn of(kind: CsrKind, src: u8, a: u32) -> Access
         ensures { result ≡ access_of kind src a }
     {

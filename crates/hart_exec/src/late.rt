@@ -28,9 +28,9 @@ fn fill(effect: Option<Effect>, rd: u8, value: u32) -> Option<Effect>
     }
 }
 
-/// The effect with its late value, if it has one: that of a load by the aligned word at its
-/// address, that of a multiplication or division by its sources. Inlined, since the caller decodes:
-/// then only the fields of these three are worked out, and no instruction is put into memory.
+/// The effect with its late value, if it has one. A load's value comes from the aligned word at its
+/// address; that of a multiplication or division comes from its sources. Inlined, because the
+/// caller decodes: only the fields of these three are then computed, and no `Ins` is in memory.
 #[inline(always)]
 pub fn finish(
     effect: Option<Effect>,

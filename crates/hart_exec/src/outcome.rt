@@ -1,8 +1,8 @@
-//! What goes into the execution of an instruction, and what is known after it.
+//! The inputs of an execution, and its result.
 
 use rv_exec::Effect;
 
-/// Where an instruction stands, and its word.
+/// The address of an instruction, and its word.
 #[derive(Clone, Copy, Debug)]
 pub struct PcWord {
     /// Its address, in bytes.
@@ -20,15 +20,15 @@ pub struct Sources {
     pub b: u32,
 }
 
-/// What is known of an instruction once it is executed, besides what it did to the units.
+/// The result of an execution, without the changes of the units.
 #[derive(Clone, Copy, Debug)]
 pub struct ExecResult {
-    /// Where the thread goes on: the address of its next word, in bytes.
+    /// The address of the thread's next word, in bytes.
     pub pc: u32,
     /// The least number of cycles from the issue of the instruction to that of the thread's next
     /// one, 1 to 3.
     pub lag: u64,
-    /// The word; 0 where an expiry or a refused fetch takes its place.
+    /// The word; 0 if an expiry or a refused fetch replaces the instruction.
     pub word: u32,
     /// The address of a load or store that is allowed, in bytes, else 0.
     pub address: u32,

@@ -1,4 +1,4 @@
-//! The registers that a word's instruction reads, for who asks nothing else of it.
+//! The registers that a word's instruction reads, without a full decoding of the word.
 
 ghost use Rattle.std.specs.Prelude.{◌≡◌, ◌*◌, ◌+◌, ◌<◌};
 ghost use Rattle.rv_decode.specs.Fields.{field};
@@ -8,7 +8,7 @@ ghost use Rattle.core_model.specs.Issue.{source_1, source_2};
 use crate::sources::sources_of;
 use rv_decode::decode;
 
-/// The bits that tell a word of 32 bits from a shorter one. Each entry that isn't 0 has them.
+/// The bits that are set in each instruction of 32 bits. Each entry that isn't 0 has them.
 const WHOLE: u32 = 0x0000_0003;
 /// The bits of the first register.
 const FIRST: u32 = 0x000f_8000;
@@ -18,10 +18,10 @@ const SECOND: u32 = 0x01f0_0000;
 const FUNCT7: u32 = 0xfe00_0000;
 /// The bits of the register that is written.
 const WRITTEN: u32 = 0x0000_0f80;
-/// The bits of which none may be set in what an entry leaves of a word.
+/// The bits that must be 0 in a word after its entry is applied.
 const CLEAR: u32 = FUNCT7 | WRITTEN | WHOLE;
 
-/// No register, whatever the other bits are; so it is where the word is no instruction.
+/// No register, for any other bits; also for words that are no instruction.
 const NONE: u32 = 0;
 /// One register.
 const ONE: u32 = WHOLE | FIRST;
@@ -36,9 +36,9 @@ const PAIR: u32 = TWO | (FUNCT7 - 0x0200_0000);
 /// Two registers, where funct7 and the register that is written are 0.
 const TIME: u32 = TWO | FUNCT7 | WRITTEN;
 
-/// By bits 2 to 6 of a word and its funct3: the bits that name the registers that it reads, and
-/// those of which none may be set for that. Where one is set, the word is read in full: it is a
-/// subtraction, an arithmetic shift by a register, or no instruction.
+/// By bits 2 to 6 of a word and its funct3: the fields of the registers that it reads, and the bits
+/// that must be 0. If one of these bits is set, the word is decoded in full: it is a subtraction,
+/// an arithmetic shift by a register, or no instruction.
 static FIELDS: [u32; 256] = [
     ONE, ONE, ONE, NONE, ONE, ONE, NONE, NONE, // 0x03, loads
     NONE, NONE, NONE, NONE, NONE, NONE, NONE, NONE, // 0x07
@@ -74,7 +74,7 @@ static FIELDS: [u32; 256] = [
     NONE, NONE, NONE, NONE, NONE, NONE, NONE, NONE, // 0x7f
 ];
 
-/// Where a word's entry stands: one multiplication moves both fields beside each other.
+/// The index of a word's entry: one multiplication moves both fields next to each other.
 #[inline(always)]
 fn entry_of(word: u32) -> usize
     ensures { result ≡ field word 2 5 * 8 + field word 12 3 }
@@ -82,7 +82,7 @@ fn entry_of(word: u32) -> usize
     ((word & 0x0000_707c).wrapping_mul(0x0200_1000) >> 24) as usize
 }
 
-/// The registers that the instruction of a word reads, for a word that the table leaves open.
+/// The registers that the instruction of a word reads, for a word that needs a full decoding.
 #[cold]
 #[inline(never)]
 fn decoded_sources(word: u32) -> (u8, u8)
@@ -93,9 +93,9 @@ fn decoded_sources(word: u32) -> (u8, u8)
     sources_of(&decode(word))
 }
 
-/// The numbers of the registers that the instruction of a word reads, x0 where it reads none: those
-/// that [`sources_of`] tells of the decoded word. A table tells them, since D asks in each cycle
-/// and asks nothing else: that takes 5 to 11 instructions a cycle less than to decode.
+/// The numbers of the registers that the instruction of a word reads, x0 where it reads none, as
+/// [`sources_of`] returns them for the decoded word. D needs them in each cycle and nothing else of
+/// the instruction: so they come from a table, without a full decoding.
 #[inline(always)]
 pub fn sources_in(word: u32) -> (u8, u8)
     ensures first { result.0 ≡ source_1 (ins word) }

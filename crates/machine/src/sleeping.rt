@@ -31,9 +31,7 @@ impl Machine {
     /// any port is ever removed, since a port must be removed in its cycle.
     ///
     /// This is a special case of [`tick`](Machine::tick), for setups whose threads sleep through
-    /// most cycles. With six threads that wake every 2,000 nanoseconds it saves more than half of
-    /// the instructions of a cycle of `run`. In a cycle in which a thread has a turn it costs two
-    /// or three instructions.
+    /// most cycles. In a cycle in which a thread has a turn it makes one test.
     #[inline(always)]
     pub fn skip_sleep(&mut self, end: u64)
         requires { self.old.at ≤ end }

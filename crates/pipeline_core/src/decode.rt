@@ -138,7 +138,7 @@ fn decoded(
 }
 
 /// Writes an issue to `d`. If an issue is there, as in most cycles, its fields are written one by
-/// one, so that no padding is written. That saves two instructions per cycle.
+/// one, so that no padding is written.
 #[inline(always)]
 fn put_decoded(thread: u8, what: Decoded, d: &mut Held<Decoded>)
     ensures { d.new ≡ Issue thread what }

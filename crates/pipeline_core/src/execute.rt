@@ -41,7 +41,7 @@ fn flush_of(lag: u64) -> Option<Flush>
     }
 }
 
-/// What stands in the stage register of an executed instruction with its effect.
+/// The content of the stage register for an executed instruction with its effect.
 fn executed_of(x: &Decoded, done: &ExecResult, effect: Option<Effect>) -> Executed
     ensures { result ≡ record {
       pc = x.now.pc;
@@ -62,7 +62,7 @@ fn executed_of(x: &Decoded, done: &ExecResult, effect: Option<Effect>) -> Execut
     }
 }
 
-/// The issue as its instruction was executed: one whose word isn't shown has no sources.
+/// The issue as its event shows it: without a shown word it has no sources.
 fn shown(x: &Decoded, done: &ExecResult) -> Decoded
     ensures a { result.a ≡ (if done.now.word == 0 then 0 else x.now.a) }
     ensures b { result.b ≡ (if done.now.word == 0 then 0 else x.now.b) }
@@ -75,7 +75,7 @@ fn shown(x: &Decoded, done: &ExecResult) -> Decoded
     }
 }
 
-/// Leaves an executed instruction in `e`. The two most frequent effects have lines of their own, so
+/// Writes an executed instruction to `e`. The two most frequent effects have arms of their own, so
 /// that only the variant's own fields are copied; their words are shown.
 #[inline(always)]
 fn put_executed(thread: u8, x: &Decoded, done: &ExecResult, e: &mut Held<Executed>)
@@ -98,11 +98,10 @@ fn put_executed(thread: u8, x: &Decoded, done: &ExecResult, e: &mut Held<Execute
     }
 }
 
-/// Leaves an executed instruction in `e`. Returns whether its thread's next turns are flushed;
-/// where they are, `redirect` says where it goes on, else it has no meaning. An `Option<Redirect>`
-/// would be spilled to memory: ten instructions in each cycle that has none. The stage register is
-/// written on each of the two ways, since the compiler then knows the lag there: with one write
-/// before the ways parted, a cycle took 38 instructions more.
+/// Writes an executed instruction to `e`. Returns whether its thread's next turns are flushed; only
+/// then `redirect` has a meaning, and the thread continues there. An `Option<Redirect>` would be
+/// spilled to memory in each cycle. The stage register is written in both branches, because the
+/// compiler knows the lag there.
 #[inline(always)]
 fn leave(
     thread: u8,
@@ -210,8 +209,8 @@ fn execute_issue<const RARE: bool, const LOOP: u8>(
     Some(leave(thread, x, &done, e, redirect))
 }
 
-/// Executes a rare issue, out of line. Inlined, it costs each cycle 20 to 40 instructions: its
-/// results are merged with the frequent ones in memory.
+/// Executes a rare issue, out of line. Inlined, its results would be merged with the frequent ones
+/// in memory, in each cycle.
 #[cold]
 #[inline(never)]
 fn execute_rare(

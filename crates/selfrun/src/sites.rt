@@ -40,8 +40,7 @@ fn site_of(pairs: &HexPairs, pc: u32, word: u32) -> Site
 /// A cache of the sites of the last events. A thread has as many entries as its own program has
 /// words, so that nearly every event hits. Contracts don't depend on it.
 ///
-/// Most lines have 42 bytes, and 18 of them are the pc and the word, which recur in a loop. Caching
-/// them saves 21 instructions per event.
+/// Most lines have 42 bytes, and 18 of them are the pc and the word, which recur in a loop.
 #[derive(Drop)]
 pub struct Sites {
     kept: [Site; ENTRIES],

@@ -54,8 +54,7 @@ pub fn push_word(text: &mut ArrayString<96>, word: u32)
     ensures len { array_string_len text.new ≡ array_string_len text.old + 8 }
 {
     let digits = word_digits(word);
-    // Digits are ASCII and so valid UTF-8. A test of each byte would cost more than making the
-    // digits.
+    // Digits are ASCII and so valid UTF-8: no byte is tested.
     text.push_str(unsafe { str::from_utf8_unchecked(&digits) });
 }
 

@@ -22,10 +22,9 @@ const NONE: u64 = 10_000_000_000;
 /// The line of an event, in a buffer that is used again for the line of the next one: empty at
 /// first.
 ///
-/// It has the same bytes as [`line`](crate::line), with about a fifth of its instructions. With
-/// [`line`](crate::line), a run with four hard threads spends a third of its instructions on lines:
-/// hence this special case. Digits come in pairs from a table and are written in place. The upper
-/// six columns of the cycle change once in 10,000 cycles and are reused from the previous line.
+/// It has the same bytes as [`line`](crate::line), with fewer instructions, because runs spend many
+/// of theirs on lines. Digits come in pairs from a table and are written in place. The upper six
+/// columns of the cycle change once in 10,000 cycles and are reused from the previous line.
 #[derive(Drop)]
 pub struct EventLine {
     /// The line, followed by bytes of earlier lines.
