@@ -1,5 +1,5 @@
 #!/usr/bin/env python3
-"""All that ./test runs: `rt ci`, and then the parts of PARTS, as many at once as there are processors.
+"""All that ./test runs: `rt ci`, and then the parts of `parts`, as many at once as there are processors.
 
 A part whose modules or commands aren't installed is skipped, and its line lists them. As root the script first installs missing
 ones by `apt-get`. The status is 0 if nothing failed.
@@ -121,14 +121,14 @@ class Sum:
         return f'{self.passed} passed, {self.failed} failed' + (f', {skipped} skipped' if skipped else '')
 
 
-def pytest(name: str, folder: str, jobs: int) -> Part:
-    """A part of pytest, over a folder. A test that needs a program skips itself without one."""
+def pytest(name: str, folder: str, jobs: int, modules: Sequence[str] = ()) -> Part:
+    """A part of pytest, over a folder whose tests import `modules`. A test that needs a program skips itself without one."""
     command = ['{python}', '-m', 'pytest', '-q', '-rfEs', *(['-n', str(jobs)] if jobs > 1 else []), folder]
-    return Part(name, command, ['pytest', 'elftools', 'jsonschema'], programs=False, tests=folder)
+    return Part(name, command, ['pytest', *modules], programs=False, tests=folder)
 
 
 def parts(jobs: int) -> list[Part]:
-    """All parts but `rt ci`, the longest first."""
+    """All parts but `rt ci`, in the order of their start."""
     texts = [('bench/api.py', '--check'), ('bench/exports.py',)]
     return [
         *(Part(text[0], ['{python}', *text], programs=False) for text in texts if (TOP / text[0]).is_file()),
@@ -136,7 +136,7 @@ def parts(jobs: int) -> list[Part]:
         Part('bench/lines.py', ['{python}', 'bench/lines.py', '--check'], programs=False),
         Part('tables of the model', ['{python}', '-m', 'model.tables.check'], commands=['riscv64-unknown-elf-as', 'qemu-riscv32'],
              programs=False),
-        pytest('tools', 'tools/tests', jobs),
+        pytest('tools', 'tools/tests', jobs, ['elftools', 'jsonschema', 'networkx']),
         pytest('model', 'model', 1),
         Part('bench/fuzz.py', ['{python}', 'bench/fuzz.py', '--count', '400', '--jobs', '1']),
         Part('bench/views_fuzz.py', ['{python}', 'bench/views_fuzz.py', '--seed', '1', '--count', '4']),
@@ -222,7 +222,8 @@ def run_ci() -> Sum:
     try:
         child = subprocess.Popen(['rt', 'ci'], cwd=TOP, stdin=subprocess.DEVNULL, stdout=subprocess.PIPE, text=True, errors='replace')
     except OSError as fault:
-        print(f'./test: rt ci is not run: rt of the Rattle kit that README.md names is not on the PATH ({fault.strerror})', flush=True)
+        print(f"./test: rt ci can't be run ({fault.strerror}): put rt of the kit that README.md names on the PATH, or leave it out by --no-ci",
+              flush=True)
         return Sum(failed=1)
     with child:
         assert child.stdout

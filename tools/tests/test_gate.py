@@ -1,7 +1,6 @@
 """What ./test counts, chooses and skips."""
 from __future__ import annotations
 
-import contextlib
 import os
 import subprocess
 import sys
@@ -60,7 +59,7 @@ def test_tests_without_pytest_are_skipped_with_their_number(tmp_path: Path) -> N
     ((count, why),) = found.skipped
     assert count > 100
     assert "pytest is not installed" in why
-    assert "(Debian: python3-pytest python3-pyelftools python3-jsonschema)" in why
+    assert "(Debian: python3-pytest python3-pyelftools python3-jsonschema python3-networkx)" in why
 
 
 def test_the_first_python_with_the_modules_is_taken(tmp_path: Path, monkeypatch: pytest.MonkeyPatch) -> None:
@@ -87,13 +86,15 @@ def test_without_rt_the_other_parts_run(
     tmp_path: Path, monkeypatch: pytest.MonkeyPatch, capsys: pytest.CaptureFixture[str]
 ) -> None:
     monkeypatch.setenv("PATH", str(tmp_path))
+    (tmp_path / "crates.txt").write_text("program:\n")
+    monkeypatch.setattr(gate, "TOP", tmp_path)
+    monkeypatch.setattr(gate, "PROGRAMS", {"PROGRAM": "program"})
     monkeypatch.setattr(gate, "parts", lambda jobs: [Part("p", [sys.executable, "-c", ""], programs=False)])
-    monkeypatch.setattr(gate, "stamped", contextlib.nullcontext)
     monkeypatch.setattr(sys, "argv", ["test", "--no-install"])
     assert gate.main() == 1
     first, second, *_, last = capsys.readouterr().out.splitlines()
     assert first == (
-        "./test: rt ci is not run: rt of the Rattle kit that README.md names is not on the PATH (No such file or directory)"
+        "./test: rt ci can't be run (No such file or directory): put rt of the kit that README.md names on the PATH, or leave it out by --no-ci"
     )
     assert second.startswith("p: 1 passed, 0 failed, ")
     assert last == "1 passed, 1 failed"
