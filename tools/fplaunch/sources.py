@@ -212,12 +212,12 @@ class Checkout:
 
         Both leave a file that is older than the end of their work and newer than its start. No source has changed since if no
         inode has: that time can't be set back, unlike those of a checkout or a copy. The kit of that build is recorded nowhere,
-        and another one may have been installed since. So the stamp has UNRECORDED and the kit that is here now."""
+        and another one may have been installed since. So the stamp has UNRECORDED, and the kit that is installed at this call."""
         begun = self.begun_by_rt()
         if begun is None or self.last_change() >= begun:
             return False
         with contextlib.suppress(OSError):
-            self.write_stamp(f"{UNRECORDED} (here now: {kit_line()})", self.listed())
+            self.write_stamp(f"{UNRECORDED} (found beside {kit_line()})", self.listed())
         return True
 
     def begun_by_rt(self) -> int | None:

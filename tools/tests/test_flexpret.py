@@ -411,7 +411,7 @@ def test_the_kit_of_a_program_that_rt_left_is_not_recorded(either: Checkout, lea
     time.sleep(0.01)
     assert callable(leave)
     leave(either)
-    here = "(here now: rattle-kit-13f logic dac8208d650f15bf)"
+    here = "(found beside rattle-kit-13f logic dac8208d650f15bf)"
     first = either.run("--version").stdout.splitlines()[0]
     assert first.startswith(f"{either.script}: commit unknown, a kit that no record names {here}, proved: ")
 
