@@ -124,7 +124,7 @@ def value_fault(name: str, option: str, text: str) -> str | None:
 
 
 def sort_out(name: str, words: list[str]) -> Asked:
-    """Sorts the arguments after a command. An argument that belongs nowhere raises a Fault."""
+    """Sorts the arguments after a command. An argument that the command doesn't have raises a Fault."""
     asked = Asked()
     left = iter(words)
     for word in left:

@@ -37,7 +37,7 @@ FIRST_SECONDS, SOURCE_SECONDS, PROOF_SECONDS, LIBRARY_SECONDS, LINK_SECONDS = 10
 the link of a program."""
 
 SLACK_SECONDS, MOST_NICENESS = 30.0, 15
-"""The niceness of a proof: one point for each SLACK_SECONDS by which its chain is shorter than the longest one, up to MOST_NICENESS."""
+"""Seconds, and the largest niceness. A proof gets one point for each SLACK_SECONDS by which its chain is shorter than the longest one."""
 
 TRIED = {"flexpret_cli": ["asm", "data/loads.s"], "flexpret_view": ["--help"]}
 """The arguments of the call by which `rt run` tries a program at the end of its build."""

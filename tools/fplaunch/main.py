@@ -99,7 +99,7 @@ def option(script: str, checkout: Checkout, words: list[str]) -> int:
 
 
 def version(script: str, checkout: Checkout, words: list[str]) -> int:
-    """Prints commit and kit of a program: the checkout's, or a file."""
+    """Prints the commit and the kit of a program: the checkout's, or the one in a file."""
     program = Path(words[0]) if words else checkout.program
     is_current = bool(words) or (checkout.top / "installed").exists() or checkout.is_built()
     stamp = read_stamp(Path(f"{program}.sources") if words else checkout.stamp)

@@ -4,6 +4,7 @@ from __future__ import annotations
 import importlib.util
 import os
 import sys
+from typing import NoReturn
 
 PACKAGES = {
     "elftools": ("pyelftools", "python3-pyelftools"),
@@ -16,7 +17,7 @@ PACKAGES = {
 OLDEST = (3, 11)
 """The oldest version of Python that the tools run on."""
 
-NOT_STARTED = int(os.environ.get("FLEXPRET_NOT_STARTED", 2))
+NOT_STARTED = int(os.environ.get("FLEXPRET_NOT_STARTED") or 2)
 """The status of a tool whose Python is too old or lacks a package. The scripts set their own one for the tools that they call."""
 
 
@@ -34,7 +35,7 @@ def require(*modules: str) -> None:
     end(f"lacks {names}; for /usr/bin/python3 of Debian: apt-get install {debian}")
 
 
-def end(fault: str) -> None:
+def end(fault: str) -> NoReturn:
     """Ends the call with a line about the Python that runs it."""
     version = ".".join(map(str, sys.version_info[:3]))
     print(f"{os.path.basename(sys.argv[0])}: {sys.executable} (Python {version}) {fault}", file=sys.stderr)

@@ -1,4 +1,4 @@
-"""The parts of pyelftools that the tools use. Whoever imports this module ends with a line if the package is missing."""
+"""The parts of pyelftools that the tools use. An import of this module ends the call with one line if the package is missing."""
 from fptools import require
 
 require("elftools")

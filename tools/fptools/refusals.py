@@ -50,13 +50,13 @@ SECTION_HINTS = {
 SETUP_HINTS = {
     "TooLong": "the file has more than 262,144 bytes: shorten comments and inputs",
     "Toml": "it isn't a TOML document, or not UTF-8",
-    "UnknownKey": "a key of this table isn't in docs/FORMATS.md: correct the spelling, and move the keys of the "
-    "top above the first [[thread]] or [[loop]]",
+    "UnknownKey": "it has a key that this table doesn't know: correct the spelling, and move the keys of the top "
+    "above the first [[thread]] or [[loop]]",
     "MissingKey": "this key is required: add it",
     "WrongType": "the value has another type: 10 and not \"10\", [[thread]] with two brackets, inputs as "
     "[cycle, word]",
-    "OutOfRange": "the value isn't in its range, which docs/FORMATS.md has: a list has eight elements, addresses are "
-    "multiples of 4 and need `version = 2` above 16,380, input cycles rise, `last` isn't below `head`",
+    "OutOfRange": "the value isn't in its range: a list has eight elements, addresses are multiples of 4 and need "
+    "`version = 2` above 16,380, input cycles rise, `last` isn't below `head`",
     "BadSlot": "a slot is one of T0 to T7, S and D",
     "BadMode": "a mode is one of hard, hard-asleep, soft and soft-asleep",
     "BadRegion": "an owner is one of T0 to T7, shared and readonly",
@@ -249,7 +249,7 @@ def _setup(refusal: Refusal, context: Context) -> Iterator[str]:
 
 
 def key_of(place: str) -> KeyPath:
-    """The path that `spelled` writes as this text, or the empty one for `-` and `top`."""
+    """The path that `spelled` writes as this text, or the empty path for `-` and `top`."""
     parts = re.findall(r"[A-Za-z_]\w*|\d+", place)
     return () if place in ("-", "top") else tuple(int(part) if part.isdecimal() else part for part in parts)
 
