@@ -50,8 +50,8 @@ SECTION_HINTS = {
 SETUP_HINTS = {
     "TooLong": "the file has more than 262,144 bytes: shorten comments and inputs",
     "Toml": "it isn't a TOML document, or not UTF-8",
-    "UnknownKey": "it has a key that this table doesn't know: correct the spelling, and move the keys of the top "
-    "above the first [[thread]] or [[loop]]",
+    "UnknownKey": "this table has an unknown key: correct the spelling, and move the keys of the top above the first "
+    "[[thread]] or [[loop]]",
     "MissingKey": "this key is required: add it",
     "WrongType": "the value has another type: 10 and not \"10\", [[thread]] with two brackets, inputs as "
     "[cycle, word]",

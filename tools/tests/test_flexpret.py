@@ -13,6 +13,7 @@ import subprocess
 import sys
 import threading
 import time
+from collections.abc import Callable
 from pathlib import Path
 
 import pytest
@@ -510,36 +511,42 @@ def test_the_program_ends_with_the_script(checkout: Checkout) -> None:
     raise AssertionError("the program still runs")
 
 
+def processor_time(call: Callable[[], object]) -> float:
+    """The least processor time of ten calls, with all that each calls, in seconds: on a busy machine some calls take twice as long."""
+    times = []
+    for _ in range(10):
+        before = resource.getrusage(resource.RUSAGE_CHILDREN)
+        call()
+        after = resource.getrusage(resource.RUSAGE_CHILDREN)
+        times.append(after.ru_utime + after.ru_stime - before.ru_utime - before.ru_stime)
+    return min(times)
+
+
 def test_a_call_costs_at_most_40_milliseconds_of_processor_time(either: Checkout) -> None:
     either.build()
     either.run(*either.words)
 
-    def spent(*words: str | Path) -> float:
-        before = resource.getrusage(resource.RUSAGE_CHILDREN)
-        for _ in range(10):
-            subprocess.run(words, env=either.environment, stdin=subprocess.DEVNULL, stdout=subprocess.DEVNULL, check=True)
-        after = resource.getrusage(resource.RUSAGE_CHILDREN)
-        return (after.ru_utime + after.ru_stime - before.ru_utime - before.ru_stime) / 10
+    def spent(program: Path) -> float:
+        words = [program, *either.words]
+        return processor_time(
+            lambda: subprocess.run(words, env=either.environment, stdin=subprocess.DEVNULL, stdout=subprocess.DEVNULL, check=True)
+        )
 
-    alone = spent(either.out / either.out.parent.name, *either.words)
-    assert spent(either.folder / either.script, *either.words) - alone < 0.04
+    alone = spent(either.out / either.out.parent.name)
+    assert spent(either.folder / either.script) - alone < 0.04
 
 
-def test_a_call_of_bound_costs_at_most_40_milliseconds_of_processor_time(checkout: Checkout) -> None:
+def test_a_call_of_bound_costs_at_most_100_milliseconds_of_processor_time(checkout: Checkout) -> None:
     checkout.build()
     words = ("bound", "examples/sum.toml", "--thread", "0", "--from", "0x10", "--to", "0x3c")
     named = {**checkout.environment, "SEEN": "0", "LINE": "bound 184"}
 
-    def spent(program: Path) -> float:
-        before = resource.getrusage(resource.RUSAGE_CHILDREN)
-        for _ in range(10):
-            ran = subprocess.run([program, *words], cwd=TOP, env=named, capture_output=True, check=True)
-            assert (ran.stdout, ran.stderr) == (b"bound 184\n", b"")
-        after = resource.getrusage(resource.RUSAGE_CHILDREN)
-        return (after.ru_utime + after.ru_stime - before.ru_utime - before.ru_stime) / 10
+    def call(program: Path) -> None:
+        ran = subprocess.run([program, *words], cwd=TOP, env=named, capture_output=True, check=True)
+        assert (ran.stdout, ran.stderr) == (b"bound 184\n", b"")
 
-    alone = spent(checkout.out / "flexpret_cli")
-    assert spent(checkout.folder / "flexpret") - alone < 0.04
+    alone = processor_time(lambda: call(checkout.out / "flexpret_cli"))
+    assert processor_time(lambda: call(checkout.folder / "flexpret")) - alone < 0.1
 
 
 # ---------------------------------------------------------------- arguments
@@ -734,28 +741,89 @@ def test_an_output_that_is_a_pipe_gets_only_answers(checkout: Checkout, tmp_path
     checkout.build()
     pipe = tmp_path / "pipe"
     os.mkfifo(pipe)
-    for name, seen, shown, told in (
-        ("pipe", "", "2:asm x.s\n", ""), ("pipe", "5", "", "refused it\n"), ("-", "5", "", "refused it\n"),
-    ):  # fmt: skip
-        with subprocess.Popen(["cat", pipe], stdout=subprocess.PIPE, text=True) as reader:
-            ran = checkout.run("--quiet", "asm", "x.s", "-o", name, SEEN=seen, LINE="refused it")
+    for seen, shown, told in (("", "2:asm x.s\n", ""), ("5", "", "refused it\n")):
+        with read(pipe) as reader:
+            ran = checkout.run("--quiet", "asm", "x.s", "-o", "pipe", SEEN=seen, LINE="refused it")
             assert (ran.returncode, ran.stdout, ran.stderr) == (int(seen or 0), "", told)
-            if name == "-":
-                pipe.write_text("")
-            assert reader.stdout
-            assert reader.stdout.read() == shown
+            assert reader.communicate()[0] == shown
+    ran = checkout.run("--quiet", "asm", "x.s", "-o", "-", SEEN="5", LINE="refused it")
+    assert (ran.returncode, ran.stdout, ran.stderr) == (5, "", "refused it\n")
     assert list(tmp_path.glob("pipe*")) == [pipe]
 
 
-def test_an_output_that_is_standard_output_keeps_what_is_there(checkout: Checkout, tmp_path: Path) -> None:
+def read(pipe: Path) -> subprocess.Popen[str]:
+    """A reader of a pipe. It ends by itself if no writer opens the pipe."""
+    return subprocess.Popen(["timeout", "20", "cat", pipe], stdout=subprocess.PIPE, text=True)
+
+
+def test_a_pipe_that_is_opened_after_a_refusal_ends(checkout: Checkout, tmp_path: Path) -> None:
     checkout.build()
-    call = "{ echo before; ./flexpret asm x.s -o -; } >both"
-    ran = subprocess.run(["bash", "-c", call], cwd=tmp_path, env=checkout.environment, stdin=subprocess.DEVNULL, check=False)
-    assert (ran.returncode, (tmp_path / "both").read_text()) == (0, "before\n2:asm x.s\n")
+    os.mkfifo(tmp_path / "pipe")
+    words = ["timeout", "20", tmp_path / "flexpret", "--quiet", "asm", "x.s", "-o", "pipe"]
+    named = {**checkout.environment, "SEEN": "5", "LINE": "refused it"}
+    with subprocess.Popen(words, cwd=tmp_path, env=named, stdin=subprocess.DEVNULL, stderr=subprocess.PIPE, text=True) as script:
+        assert script.stderr
+        assert script.stderr.readline() == "refused it\n"
+        time.sleep(0.2)
+        with read(tmp_path / "pipe") as reader:
+            assert (reader.communicate()[0], reader.returncode) == ("", 0)
+        assert script.wait() == 5
+
+
+def test_a_listing_is_compared_with_the_image_wherever_that_is_written(checkout: Checkout, tmp_path: Path) -> None:
+    image = "FPX1\0\0\0\0"
+    (tmp_path / "image").write_text(image)
+    program = tmp_path / "program"
+    program.write_text(f"#!/bin/sh\nexec cat {tmp_path}/image\n")
+    program.chmod(0o755)
+    (tmp_path / "x.s").write_text("a:\n")
+    (tmp_path / "model").symlink_to(TOP / "model")
+    os.mkfifo(tmp_path / "pipe")
+
+    def call(name: str) -> str:
+        """Standard output of a call that also writes a listing and a map."""
+        ran = checkout.run("--quiet", "--use", str(program), "asm", "x.s", "-o", name, "--listing", "l", "--map", "m")
+        assert (ran.returncode, ran.stderr) == (0, "")
+        assert "a:" in (tmp_path / "l").read_text()
+        assert (tmp_path / "m").read_text().endswith("\n00000000 1 a\n")
+        (tmp_path / "l").unlink()
+        (tmp_path / "m").unlink()
+        return ran.stdout
+
+    with read(tmp_path / "pipe") as reader:
+        assert call("pipe") == ""
+        assert reader.communicate()[0] == image
+    assert [call("-"), call("/dev/stdout"), call("/dev/null"), call("x.fpx"), call("-x.fpx")] == [image, image, "", "", ""]
+    assert ((tmp_path / "x.fpx").read_text(), (tmp_path / "-x.fpx").read_text()) == (image, image)
+
+
+@pytest.mark.parametrize("name", ["-", "/dev/stdout"])
+def test_an_output_that_is_standard_output_keeps_what_is_there(checkout: Checkout, tmp_path: Path, name: str) -> None:
+    checkout.build()
+    (tmp_path / "-").mkdir()
+    call = f"{{ echo before; ./flexpret asm x.s -o {name}; echo $?; }} >both"
+    subprocess.run(["bash", "-c", call], cwd=tmp_path, env=checkout.environment, stdin=subprocess.DEVNULL, check=False)
+    assert (tmp_path / "both").read_text() == "before\n2:asm x.s\n0\n"
+
+
+@pytest.mark.parametrize("before", ["", "trap '' PIPE; "])
+def test_a_reader_of_an_output_that_stops_ends_it_without_a_word(checkout: Checkout, before: str) -> None:
+    checkout.build()
+    call = f"{before}{{ sleep 0.2; ./flexpret asm x.s -o -; }} | true; echo ${{PIPESTATUS[0]}}"
+    ran = subprocess.run(
+        ["bash", "-c", call], cwd=checkout.folder, env=checkout.environment, stdin=subprocess.DEVNULL, capture_output=True, text=True,
+        check=False,
+    )  # fmt: skip
+    assert (ran.stdout, ran.stderr) == ("8\n", "")
 
 
 @pytest.mark.parametrize(
-    ("name", "why"), [("tools", "it is a folder"), ("/dev/full", "it can't be written"), ("nosuch/x", "it can't be written: No such file or directory")]
+    ("name", "why"),
+    [
+        ("tools", "it is a folder"),
+        ("/dev/full", "it can't be written"),
+        ("nosuch/x", "no file can be made in nosuch: No such file or directory"),
+    ],
 )
 def test_an_output_that_cannot_be_written(checkout: Checkout, name: str, why: str) -> None:
     checkout.build()
@@ -946,7 +1014,7 @@ def test_a_refusal_is_explained_by_a_python_without_packages(checkout: Checkout)
     assert told("refused setup 7 BadSlot slots[3]", *dump) == (
         "examples/sum.toml:13: error: slots[3]: a slot is one of T0 to T7, S and D\n"
     )
-    assert told("refused setup 3 UnknownKey top", *dump).startswith("examples/sum.toml:1: error: a key of this table isn't in ")
+    assert told("refused setup 3 UnknownKey top", *dump).startswith("examples/sum.toml:1: error: this table has an unknown key: ")
 
 
 def test_a_missing_package_is_one_line_and_a_status_of_its_own(checkout: Checkout) -> None:
@@ -954,6 +1022,10 @@ def test_a_missing_package_is_one_line_and_a_status_of_its_own(checkout: Checkou
     without_packages(checkout)
     assert checkout.run("disasm", "examples/sum.fpx").returncode == 0
     bound = ("bound", "examples/c/pid.toml", "--thread=0", "--from=main", "--to=main+4")
+    (checkout.folder / "m").write_text("# map of x.s: address, line, labels\n00000010 1 main\n")
+    ran = checkout.run("--quiet", *bound, "--map", "m")
+    assert (ran.returncode, ran.stderr) == (0, "")
+    assert ran.stdout.endswith(" --from 0x00000010 --to 0x00000014\n")
     for words in (("disasm", "examples/sum.fpx"), bound):
         ran = checkout.run(*words, "--elf", "examples/c/pid.elf")
         assert (ran.returncode, ran.stdout, len(ran.stderr.splitlines())) == (NOT_BUILT, "", 1)
