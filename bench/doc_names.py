@@ -5,7 +5,7 @@ usage: bench/doc_names.py [PAGE..]
 
 Without a page: DEFINITIONS, ARCHITECTURE, LIBRARY and TESTING. Each file FILE.antt must be in the specs/ of its crate,
 and FILE.rt in its src/. The crate is before the file, as `CRATE/specs/FILE.antt` or `CRATE: FILE.antt`; else it is that
-of the file before it in its cell, or one in the heading of the section, or any. Where a table has the columns
+of the file before it in its line, or one in the heading of the section, or any. Where a table has the columns
 "definition" and "file", a file of the row must declare the name at the beginning of each piece of code of the
 definition. Status: 0 all are there; 1 one isn't; 2 a page can't be read.
 """
