@@ -527,7 +527,7 @@ def test_a_call_costs_at_most_40_milliseconds_of_processor_time(either: Checkout
     either.run(*either.words)
 
     def spent(program: Path) -> float:
-        words = [program, *either.words]
+        words = [str(program), *either.words]
         return processor_time(
             lambda: subprocess.run(words, env=either.environment, stdin=subprocess.DEVNULL, stdout=subprocess.DEVNULL, check=True)
         )
@@ -759,7 +759,7 @@ def read(pipe: Path) -> subprocess.Popen[str]:
 def test_a_pipe_that_is_opened_after_a_refusal_ends(checkout: Checkout, tmp_path: Path) -> None:
     checkout.build()
     os.mkfifo(tmp_path / "pipe")
-    words = ["timeout", "20", tmp_path / "flexpret", "--quiet", "asm", "x.s", "-o", "pipe"]
+    words = ["timeout", "20", str(tmp_path / "flexpret"), "--quiet", "asm", "x.s", "-o", "pipe"]
     named = {**checkout.environment, "SEEN": "5", "LINE": "refused it"}
     with subprocess.Popen(words, cwd=tmp_path, env=named, stdin=subprocess.DEVNULL, stderr=subprocess.PIPE, text=True) as script:
         assert script.stderr
