@@ -137,6 +137,12 @@ class Plan:
         longest = max(self.chain[one] for one in self.ahead())
         return min(MOST_NICENESS, int((longest - self.chain[crate]) / SLACK_SECONDS))
 
+    def jobs(self, ready: int) -> int:
+        """The number of jobs of the proof that was added to `running` last: one, and one for each processor that neither the other
+        running proofs nor the `ready` crates need. Each job reads all libraries of the crate, so memory limits them too."""
+        idle = self.at_once - len(self.running) - ready
+        return 1 + max(0, min(idle, free_memory() // NEEDED_MEMORY - 1))
+
     def pace(self) -> float:
         """The time of crates here, relative to a quiet processor of 2.5 GHz. Crates that took less than FIRST_SECONDS had been proved before."""
         proved = [crate for crate, took in self.done.items() if took > FIRST_SECONDS]
@@ -198,10 +204,9 @@ class Builder:
         if child.returncode:
             raise NotBuilt(why_not(crate, said, child.returncode))
 
-    def prove(self, crate: str, niceness: int) -> None:
-        """Proves a crate by one job: each further job reads all libraries of the crate again. The program's own crate is also linked, and its program
-        called once."""
-        flags, checkout = ["--jobs", "1"], self.plan.checkout
+    def prove(self, crate: str, niceness: int, count: int) -> None:
+        """Proves a crate by `count` jobs. The program's own crate is also linked, and its program called once."""
+        flags, checkout = ["--jobs", str(count)], self.plan.checkout
         if crate == checkout.crate:
             self.hold.close()
             self.call(checkout.top, crate, niceness, ["run", *flags, "--", *TRIED[crate]])
@@ -233,7 +238,7 @@ class Builder:
                     while ready and len(futures) < plan.at_once:
                         crate = ready.pop()
                         plan.running[crate] = time.monotonic()
-                        futures[pool.submit(self.prove, crate, plan.niceness(crate))] = crate
+                        futures[pool.submit(self.prove, crate, plan.niceness(crate), plan.jobs(len(ready)))] = crate
                     progress.show()
                     ended, _ = wait(futures, timeout=30 if progress.terminal else None, return_when=FIRST_COMPLETED)
                     for future in ended:
