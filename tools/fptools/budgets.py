@@ -327,8 +327,7 @@ class Judge:
         """A loop that neither code nor sources bound: its table is taken for granted, or the budget is unknown."""
         note = f"{self.where(stated.loop.head)}: only the setup's table bounds this loop ({stated.doubt})"
         if not asked.assumes(Assumption.LOOP_TABLES, note):
-            helps = "state `@rounds N` in the line of its branch and compile with -g"
-            raise Unknown(f"{note}: {helps}, or assume = [{Assumption.LOOP_TABLES.value!r}]")
+            raise Unknown(f"{note}: {stated.advice}, or assume = [{Assumption.LOOP_TABLES.value!r}]")
 
     def _look_at_traps(self, asked: Asked, thread: ThreadCode) -> None:
         """No bound counts a trap handler, so a trap may not come back."""

@@ -94,6 +94,13 @@ class StatedLoop:
             return "a loop that is entered makes a round"
         return f"a setup takes {MOST_BOUND} at most" if self.bound is None else ""
 
+    @property
+    def advice(self) -> str:
+        """What to do about the doubt."""
+        if self.stated:
+            return "docs/C.md#rounds has the comments `@rounds` that count"
+        return "state `@rounds N` in the line of its branch and compile with -g"
+
 
 class Comments:
     """Which comments of the sources are of which loop of a section."""

@@ -96,8 +96,7 @@ class Names:
         if table is None and Assumption.LOOP_TABLES in asked.budget.assume:
             raise Unknown(f"{where}: neither the sources nor the setup bound this loop ({stated.doubt})")
         if table is None:
-            helps = "state `@rounds N` in the line of its branch and compile with -g"
-            raise Unknown(f"{where}: nothing bounds this loop ({stated.doubt}): {helps}")
+            raise Unknown(f"{where}: nothing bounds this loop ({stated.doubt}): {stated.advice}")
         judge.assume_table(asked, stated)
         return table
 

@@ -209,8 +209,8 @@ def test_a_reader_that_stops_ends_both(tmp_path: Path) -> None:
     ("call", "said"),
     [
         (["--", "/none/plant"], "fp_plant: /none/plant: No such file or directory"),
-        (["--plants", "/none", "--", "true"], "fp_plant: [Errno 2] No such file"),
-        (["-o", "/none/a", "--", "true"], "fp_plant: [Errno 2] No such file"),
+        (["--plants", "/none", "--", "true"], "fp_plant: /none/a: No such file"),
+        (["-o", "/none/a", "--", "true"], "fp_plant: /none/a: No such file"),
         (["--program", "/none", "--", "true"], "fp_plant: /none isn't built"),
     ],
 )
