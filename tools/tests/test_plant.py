@@ -209,7 +209,7 @@ def test_a_reader_that_stops_ends_both(tmp_path: Path) -> None:
     ("call", "said"),
     [
         (["--", "/none/plant"], "fp_plant: /none/plant: No such file or directory"),
-        (["--plants", "/none", "--", "true"], "fp_plant: /none/a: No such file"),
+        (["--plants", "/none", "--", "true"], "fp_plant: /none: No such file"),
         (["-o", "/none/a", "--", "true"], "fp_plant: /none/a: No such file"),
         (["--program", "/none", "--", "true"], "fp_plant: /none isn't built"),
     ],
