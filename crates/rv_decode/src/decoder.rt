@@ -10,6 +10,9 @@ ghost use Rattle.rv_decode.specs.Table.{imm_rows, op_rows, fence_rows, system_ro
 use crate::fields::{csr, funct3, funct7, imm_b, imm_i, imm_j, imm_s, imm_u, opcode, rd, rs1, rs2};
 use crate::instruction::{AluOp, BranchOp, CsrKind, ImmOp, Ins, LoadOp, MulOp, ShiftOp, StoreOp};
 
+/// The lowest word whose funct7 isn't 0.
+const WITH_FUNCT7: u32 = 0x0200_0000;
+
 /// The instruction of the word `w`; [`Ins::Illegal`] if it is none (RISC-V unprivileged manual,
 /// "RV32/64G Instruction Set Listings", for RV32I, M, Zicsr and Zifencei; privileged manual,
 /// "Trap-Return Instructions", for MRET). The rows of opcode 0x0b, the timing instructions, are
@@ -175,6 +178,7 @@ fn op_imm(word: u32) -> Ins
         6 => ImmOp::Ori,
         7 => ImmOp::Andi,
         1 | 5 => return shift(word),
+        // funct3 is below 8.
         _ => return Ins::Illegal { word },
     };
     Ins::OpImm {
@@ -212,8 +216,8 @@ fn op(word: u32) -> Ins
     requires { field word 0 7 ≡ 0x33 }
     ensures { result ≡ read_by op_rows word }
 {
-    // The most frequent ones have zeros from bit 25 on.
-    if word >= 0x0200_0000 {
+    // The most frequent ones have funct7 0.
+    if word >= WITH_FUNCT7 {
         return other_op(word);
     }
     let op = match funct3(word) {
@@ -225,6 +229,7 @@ fn op(word: u32) -> Ins
         5 => AluOp::Srl,
         6 => AluOp::Or,
         7 => AluOp::And,
+        // funct3 is below 8.
         _ => return Ins::Illegal { word },
     };
     Ins::Op {
@@ -272,6 +277,7 @@ fn muldiv(word: u32) -> Ins
         5 => MulOp::Divu,
         6 => MulOp::Rem,
         7 => MulOp::Remu,
+        // funct3 is below 8.
         _ => return Ins::Illegal { word },
     };
     Ins::Muldiv {

@@ -18,7 +18,7 @@ pub fn rd(word: u32) -> u8
     ((word >> 7) & 0x1f) as u8
 }
 
-/// Bits 12 to 14.
+/// Bits 12 to 14, 0 to 7.
 pub fn funct3(word: u32) -> u32
     ensures { result ≡ field word 12 3 }
 {
@@ -78,6 +78,7 @@ pub fn imm_i(word: u32) -> i32
 pub fn imm_s(word: u32) -> i32
     ensures { result ≡ imm_s word }
 {
+    // Bits 7 to 11, which are rd in other formats.
     (word.cast_signed() >> 25) * 0x20 + i32::from(rd(word))
 }
 
