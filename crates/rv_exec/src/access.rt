@@ -4,7 +4,7 @@ ghost use Rattle.std.specs.Prelude.{◌≡◌, ◌<◌, ◌*◌, ◌/◌, ◌%�
 ghost use Rattle.rv_exec.specs.Access.{load_size, store_size, loaded_value, lanes};
 ghost use Rattle.rv_exec.specs.Line.{IsWidth};
 
-use crate::outcome::Lanes;
+use crate::outcome::{ALL_LANES, Lanes};
 use rv_decode::{LoadOp, StoreOp};
 
 /// The size of a load: 1, 2 or 4 bytes.
@@ -68,7 +68,7 @@ pub fn store_lanes(op: StoreOp, address: u32, b: u32) -> Lanes
     match op {
         StoreOp::Sb => in_lanes(address, 0b0001, b & 0xff),
         StoreOp::Sh => in_lanes(address, 0b0011, b & 0xffff),
-        StoreOp::Sw => in_lanes(address, 0b1111, b),
+        StoreOp::Sw => in_lanes(address, ALL_LANES, b),
     }
 }
 

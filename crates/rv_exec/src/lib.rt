@@ -13,4 +13,4 @@ pub use access::{load_size, load_value, store_lanes, store_size};
 pub use alu::compute;
 pub use execution::execute;
 pub use muldiv::multiply;
-pub use outcome::{Effect, Event, Lanes, Outcome};
+pub use outcome::{ALL_LANES, Effect, Event, Lanes, Outcome};

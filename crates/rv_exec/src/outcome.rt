@@ -137,6 +137,9 @@ pub struct Lanes {
     pub value: u32,
 }
 
+/// The mask of all four lanes of a word.
+pub const ALL_LANES: u8 = 0b1111;
+
 /// The effect of an issue, as in a trace.
 #[derive(Clone, Copy, Debug)]
 pub enum Effect {

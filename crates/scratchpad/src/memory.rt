@@ -6,7 +6,7 @@ ghost use Rattle.region_guard.specs.Regions.{IsSize};
 ghost use Rattle.rv_exec.specs.Access.{merged_word, merged_byte};
 ghost use Rattle.scratchpad.specs.Words.{word_in as word_of_bytes, words_of, written_at};
 
-use rv_exec::Lanes;
+use rv_exec::{ALL_LANES, Lanes};
 use std::alloc::{AllocError, Global};
 use std::marker::Model;
 
@@ -70,7 +70,7 @@ fn byte_3(old: u32, lanes: Lanes) -> u32
 fn merge(old: u32, lanes: Lanes) -> u32
     ensures { result ≡ merged_word old lanes }
 {
-    if lanes.mask == 0b1111 {
+    if lanes.mask == ALL_LANES {
         return lanes.value;
     }
     byte_0(old, lanes)
