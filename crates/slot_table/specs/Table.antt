@@ -1,5 +1,5 @@
 -- The slots register as a type.
-use Rattle.std.specs.Prelude.{ℕ, ◌+◌, ◌-◌, ◌/◌, ◌%◌, max, Bool, not, List, ◌++◌, length}
+use Rattle.std.specs.Prelude.{ℕ, ◌+◌, ◌-◌, ◌/◌, ◌%◌, ◌^◌, max, Bool, not, List, ◌++◌, length}
 use Rattle.std.specs.Prelude.{replicate, position, Option, Some, None, Result, Ok, Err}
 use Rattle.std.specs.List.{list_all}
 use Rattle.slot_table.specs.Nibbles.{nibbles}
@@ -27,6 +27,10 @@ table_of word = unless_bad word (bad_slot word)
 -- the slots of a frame in eight positions; positions past its end are disabled
 abbrev pub in_positions : List ℕ → List ℕ
 in_positions slots = slots ++ replicate (8 - length slots) disabled_slot
+
+-- cycles below it have their position by a multiplication
+abbrev pub early : ℕ
+early = 2 ^ 61
 
 -- 2 ^ 64 by a length, rounded up, in 64 bits
 abbrev pub magic_of : ℕ → ℕ

@@ -1,9 +1,9 @@
 //! The frame of slots that share the cycles.
 
-ghost use Rattle.std.specs.Prelude.{◌≡◌, ◌<◌, ◌≤◌, ◌%◌, ◌^◌, ◌==◌, if◌then◌else◌};
+ghost use Rattle.std.specs.Prelude.{◌≡◌, ◌<◌, ◌≤◌, ◌%◌, ◌==◌, if◌then◌else◌};
 ghost use Rattle.std.specs.Prelude.{filter, length, position, not, IfSome};
 ghost use Rattle.slot_table.specs.Frame.{is_slot, is_used, turn_named};
-ghost use Rattle.slot_table.specs.Table.{laid_out, magic_of};
+ghost use Rattle.slot_table.specs.Table.{early, laid_out, magic_of};
 
 use thiserror::Error;
 
@@ -33,8 +33,7 @@ pub struct Frame {
     pub len: u8,
     /// The factor that gives a cycle's position: 2^64 / `len`, rounded up, and 0 for one slot.
     ///
-    /// It is stored because a division by a variable length takes longer than the rest of a pick,
-    /// and a division by each of the eight constant lengths needs a jump table.
+    /// It is stored, so that no pick divides.
     pub magic: u64,
 }
 
@@ -116,12 +115,13 @@ impl Frame {
         }
     }
 
-    /// The position of a cycle before 2^61.
+    /// The position of a cycle before 2^61 in the frame: its number modulo the frame's length, and
+    /// 0 if the length is 0.
     #[inline(always)]
     pub fn early_position_of(&self, cycle: u64) -> u64
         requires len { self.now.len ≤ 8 }
         requires magic { self.now.magic ≡ magic_of self.now.len }
-        requires early { cycle < 2 ^ 61 }
+        requires early { cycle < early }
         ensures position { result ≡ (if self.now.len == 0 then 0 else cycle % self.now.len) }
         ensures inside { result < 8 }
     {

@@ -1,8 +1,8 @@
 //! The slots register as a type that holds only accepted words.
 
-ghost use Rattle.std.specs.Prelude.{◌≡◌, ◌<◌, ◌^◌, IsTrue, is_ok, length};
+ghost use Rattle.std.specs.Prelude.{◌≡◌, ◌<◌, IsTrue, is_ok, length};
 ghost use Rattle.slot_table.specs.Frame.{IsTurn, frame, is_slot, turn, turn_named};
-ghost use Rattle.slot_table.specs.Table.{is_table, table_of};
+ghost use Rattle.slot_table.specs.Table.{early, is_table, table_of};
 
 use crate::frame::{BadSlot, Frame, Turn, bad_slot, turn_named};
 use crate::nibbles::nibbles_of;
@@ -79,11 +79,11 @@ impl SlotTable {
         self.layout.slots[self.layout.position_of(cycle) as usize]
     }
 
-    /// The nibble of a cycle's slot as [`slot`](SlotTable::slot) tells it, for a cycle before 2^61.
-    /// It makes no test of the cycle.
+    /// The nibble of the slot of a cycle before 2^61: as [`slot`](SlotTable::slot), without a test
+    /// of the cycle.
     #[inline(always)]
     pub fn early_slot(&self, cycle: u64) -> u8
-        requires { cycle < 2 ^ 61 }
+        requires { cycle < early }
         ensures slot { IsTrue (is_slot result) }
         ensures turn { turn_named result ≡ turn self.now cycle }
     {
