@@ -1,7 +1,8 @@
 //! The pick of a cycle.
 
-ghost use Rattle.std.specs.Prelude.{◌≡◌, ◌<◌, ◌^◌, ◌&&◌, IfSome, IsTrue, find, nat_lt};
+ghost use Rattle.std.specs.Prelude.{◌≡◌, ◌<◌, ◌&&◌, IfSome, IsTrue, find, nat_lt};
 ghost use Rattle.slot_table.specs.Frame.{is_slot, turn_named};
+ghost use Rattle.slot_table.specs.Table.{early};
 ghost use Rattle.slot_scheduler.specs.Picking.{IsPick, after_last, donation};
 ghost use Rattle.slot_scheduler.specs.Picking.{is_awake, pick, pick_in, takes_donated};
 
@@ -104,11 +105,12 @@ impl Scheduler {
         self.pick_slot(s, s.slots.slot(cycle), now)
     }
 
-    /// The pick of a cycle before 2^61, as [`pick`](Scheduler::pick) tells it.
+    /// The pick of a cycle before 2^61, at a time in nanoseconds: as [`pick`](Scheduler::pick),
+    /// without a test of the cycle.
     #[tactic(auto, unfolding(crate::specs::Picking::pick))]
     #[inline(always)]
     pub fn early_pick(&mut self, s: &Sched, cycle: u64, now: u64) -> Pick
-        requires { cycle < 2 ^ 61 }
+        requires { cycle < early }
         ensures pick { result ≡ (pick s.now cycle now self.old).pick }
         ensures pointer { self.new ≡ (pick s.now cycle now self.old).last }
         ensures thread { IsPick result }
