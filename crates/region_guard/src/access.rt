@@ -8,6 +8,9 @@ ghost use Rattle.region_guard.specs.Regions.{may_read, may_store, region_of};
 use crate::memory_map::{DATA_START, PORT_ADDRESS};
 use crate::register::Regions;
 
+/// The number of bits of a region's index: there are eight.
+const INDEX_BITS: u32 = 3;
+
 /// The owners of the regions of both scratchpads.
 ///
 /// The instruction scratchpad begins at address 0, the data scratchpad at [`DATA_START`], and the
@@ -24,14 +27,14 @@ pub struct Guard {
     ghost sized: { IsSize size } by { IsSize-prop size },
 }
 
-// The region of an offset in a scratchpad: one has 2^11 or 2^13 bytes.
+// The region of an offset in a scratchpad. Regions have 2^11 or 2^13 bytes.
 fn region_at(size: u32, offset: u32) -> u32
     requires sized { IsSize size }
     requires inside { offset < size }
     ensures region { result ≡ region_of size offset }
     ensures small { result < 8 }
 {
-    offset >> (size.trailing_zeros() - 3)
+    offset >> (size.trailing_zeros() - INDEX_BITS)
 }
 
 // Whether an access is one of the whole word of the port.
@@ -124,7 +127,8 @@ impl Guard {
         }
     }
 
-    // As `may_read`, for a thread 0 to 7.
+    // Whether a thread 0 to 7 may load or fetch at an offset: as `may_read`, without a test of the
+    // thread.
     fn may_read_by(&self, regions: &Regions, thread: u8, confined: bool, offset: u32) -> bool
         requires inside { offset < self.now.size }
         requires thread { thread < 8 }
@@ -133,7 +137,8 @@ impl Guard {
         !confined || regions.is_readable_by(region_at(self.size, offset), thread)
     }
 
-    /// As [`may_fetch`](Guard::may_fetch), for a thread 0 to 7.
+    /// Whether a thread 0 to 7 may fetch at an address: as [`may_fetch`](Guard::may_fetch), without
+    /// a test of the thread.
     #[tactic(auto, unfolding(crate::specs::Regions::may_fetch))]
     pub fn may_fetch_by(&self, thread: u8, confined: bool, address: u32) -> bool
         requires { thread < 8 }
@@ -145,7 +150,8 @@ impl Guard {
         self.may_read_by(&self.i, thread, confined, address)
     }
 
-    /// As [`may_load`](Guard::may_load), for a thread 0 to 7.
+    /// Whether a thread 0 to 7 may load `size` bytes at an address that is aligned for them: as
+    /// [`may_load`](Guard::may_load), without a test of the thread.
     #[tactic(auto, unfolding(crate::specs::Regions::may_load))]
     pub fn may_load_by(&self, thread: u8, confined: bool, address: u32, size: u8) -> bool
         requires { thread < 8 }
@@ -161,7 +167,8 @@ impl Guard {
         }
     }
 
-    /// As [`may_store`](Guard::may_store), for a thread 0 to 7.
+    /// Whether a thread 0 to 7 may store `size` bytes at an address that is aligned for them: as
+    /// [`may_store`](Guard::may_store), without a test of the thread.
     #[tactic(auto, unfolding(crate::specs::Regions::may_store))]
     pub fn may_store_by(&self, thread: u8, address: u32, size: u8) -> bool
         requires { thread < 8 }

@@ -18,8 +18,7 @@ use thiserror::Error;
 pub struct Regions {
     word: u32,
     // For each thread the regions that it may read if it is confined, and those that it may write;
-    // region i is bit i. They are stored because each fetch and each access tests one: a bit test
-    // replaces extracting the region's nibble and two comparisons.
+    // region i is bit i. They are stored, so that each fetch and each access tests only one bit.
     readable: [u8; 8],
     writable: [u8; 8],
 }
