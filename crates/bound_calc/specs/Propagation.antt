@@ -213,7 +213,7 @@ pub record IsGone (t : Tree) (s : Positions) (way : Option Matrix) (e : Edges) (
   pub short : (p d q : ℕ) → Hops new.hops p d q → d ≤ 10
   pub ahead : (w : ℕ) → k < w → AreBest (Ahead new (k + 1) w) (Either (Either (Waits old.waiting w)
       (Via (up_of t k last e.next) w (Then (In (entry old.base)) (move_costs s way e.next_lag))))
-      (Via (up_of t k last e.jump) w (Then (In (entry old.base)) (move_costs s way 3))))
+      (Via (up_of t k last e.jump) w (Then (In (entry old.base)) (move_costs s way redirect_lag))))
 
 -- the requirements of a pass over a part
 pub record IsReady (x : Field) (t : Tree) (s : Scope) (powers : Powers) : Type 0 where
@@ -276,7 +276,7 @@ pub record Ended (s : Positions) (ends : List Bool) (at : List Matrix) (n p c q 
   pub index : ℕ
   pub below : index < n
   pub is : slice_index_or ends index false ≡ true
-  pub jump : Then (In (matrix_at at index)) (Steps s 3) p c q
+  pub jump : Then (In (matrix_at at index)) (Steps s redirect_lag) p c q
 
 -- a matrix was joined after a jump, if its word is an end
 pub record EndedHere (s : Positions) (is_end : Bool) (here back new : Matrix) : Type 0 where

@@ -48,9 +48,8 @@ fn advance_column(here: &Matrix, column: usize, hop: Option<Hop>, onto: &mut Mat
     }
 }
 
-/// Joins into a matrix another that is advanced by a step. It works in place, since a copy of a
-/// matrix costs as much as the step. It works by columns, since all sums of a column have the same
-/// step.
+/// Joins into a matrix another that is advanced by a step. It works in place, without a copy of the
+/// matrix. It works by columns, since all sums of a column have the same step.
 pub fn advance(here: &Matrix, hops: &HopRow, onto: &mut Matrix)
     requires positions { (p d q : ℕ) → Hops hops.now.hops p d q → (p < 8) × (q < 8) }
     ensures { IsBest (entry onto.new)
@@ -131,7 +130,7 @@ pub fn largest(here: &Matrix, most: u128) -> u128
 }
 
 /// The larger of a number and the sum of a cost, if there is one, and the cost onward.
-fn further(cost: Option<u128>, onward: u128, most: u128) -> u128
+fn larger_on(cost: Option<u128>, onward: u128, most: u128) -> u128
     ensures stays { most ≤ result }
     ensures upper { (x : ℕ) → cost ≡ Some x → min (x + onward) ceiling ≤ result }
     ensures met { (result ≡ most) ⊎
@@ -144,7 +143,7 @@ fn further(cost: Option<u128>, onward: u128, most: u128) -> u128
 }
 
 /// The largest of a number and the sums of a column of a matrix, each with the cost onward.
-fn further_column(here: &Matrix, column: usize, onward: u128, most: u128) -> u128
+fn largest_column_on(here: &Matrix, column: usize, onward: u128, most: u128) -> u128
     requires column { column < 8 }
     ensures stays { most ≤ result }
     ensures upper { (p x : ℕ) → p < 8 → cell here.now p column ≡ Some x →
@@ -152,24 +151,24 @@ fn further_column(here: &Matrix, column: usize, onward: u128, most: u128) -> u12
     ensures met { (result ≡ most) ⊎ ((p : ℕ) × (x : ℕ) × (p < 8) ×
         (cell here.now p column ≡ Some x) × (result ≡ min (x + onward) ceiling)) }
 {
-    let mut furthest = most;
+    let mut largest = most;
     for p in 0..8 {
-        furthest = further(here.best[p][column], onward, furthest);
+        largest = larger_on(here.best[p][column], onward, largest);
     }
-    furthest
+    largest
 }
 
-/// The largest of a number, the sums of a matrix, and the sums of the matrix chained with another.
-/// It needs only the largest sum of each row of the other: an eighth of the sums of a chain.
-pub fn longest(here: &Matrix, into: &Matrix, most: u128) -> u128
+/// The largest of a number, the sums of a matrix, and the sums of the matrix chained with another,
+/// in cycles. Of the other it uses the largest sum of each row, or 0 for a row without sums.
+pub fn largest_through(here: &Matrix, into: &Matrix, most: u128) -> u128
     ensures { IsTop
         (Either (In (entry here.now)) (Then (In (entry here.now)) (In (entry into.now))))
         most result }
 {
-    let mut longest = most;
+    let mut largest = most;
     for r in 0..8 {
         let onward = largest_row(&into.best[r], 0);
-        longest = further_column(here, r, onward, longest);
+        largest = largest_column_on(here, r, onward, largest);
     }
-    longest
+    largest
 }

@@ -106,7 +106,7 @@ fn most(
             skip(steps, edges.next_lag, front);
         } else {
             let power = &powers[index];
-            process_word(alloc, tree, steps, None, power, &edges, index, last, front)?;
+            process_word(alloc, tree, steps, None, power, index, last, front)?;
             most = most_from(tree, steps, &front.base, &edges, most);
         }
     }

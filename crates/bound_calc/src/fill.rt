@@ -120,8 +120,7 @@ fn index_below(tree: &LoopTree, index: usize) -> usize
 }
 
 /// The powers of all loops whose heads are reachable, inner loops first. From each head it goes on
-/// to the next one below. Looking for a loop at every word of a large section would be a tenth of
-/// all steps of its bound.
+/// to the next one below.
 ///
 /// # Errors
 ///

@@ -18,7 +18,7 @@ pub struct Front {
     /// The steps from there to the next word. Through straight code they are composed: eight steps
     /// a word instead of a matrix.
     pub hops: HopRow,
-    /// A box for reuse, so that no stop of the pass allocates one.
+    /// A box for reuse: a stop allocates only if there is none.
     pub spare: Option<Box<Matrix>>,
 }
 

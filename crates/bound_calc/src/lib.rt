@@ -17,7 +17,7 @@ mod rounds;
 mod steps;
 mod ways;
 
-pub use advance::{largest, longest};
+pub use advance::{largest, largest_through};
 pub use cycle_bound::{BoundNo, bound, is_out};
 pub use laws::{rounds_are_steps, stays_in_rounds};
 pub use matrix::Matrix;

@@ -360,14 +360,12 @@ pub fn process_word(
     steps: &Steps,
     way: Option<&Matrix>,
     power: &Option<Box<Matrix>>,
-    edges: &Edges,
     index: usize,
     last: usize,
     front: &mut Front,
 ) -> Result<(), AllocError>
     requires order { index ≤ last }
     requires within { last < length tree.now.words }
-    requires edges { edges.now ≡ edges_at tree.now index }
     requires room { length front.old.waiting.items ≡ length tree.now.words }
     requires positions { (p d q : ℕ) → Hops (abstract_front front.old).hops p d q → (p < 8) ×
         (q < 8) }
@@ -377,5 +375,6 @@ pub fn process_word(
         (edges_at tree.now index) index last here (abstract_front front.new)) }
 {
     arrive(alloc, power, index, front)?;
-    follow_edges(alloc, tree, steps, way, edges, index, last, front)
+    let edges = edges_at(tree, index);
+    follow_edges(alloc, tree, steps, way, &edges, index, last, front)
 }

@@ -10,14 +10,14 @@ ghost use Rattle.bound_calc.specs.Propagation.{AreReached, AreWays, ways_on};
 use crate::fill::fill;
 use crate::front::Front;
 use crate::matrix::Matrix;
-use crate::pass::{begin, edges_at, process_word, span_of};
+use crate::pass::{begin, process_word, span_of};
 use crate::steps::Steps;
 use crate::ways::Ways;
 use region_tree::LoopTree;
 use std::alloc::{AllocError, Global};
 
-/// A pass over the words of a section, from its first word to its last. It holds the matrices of
-/// one word and of those that edges lead on to, and not one for each word of the section.
+/// A pass over the words of a section, from its first word to its last. It holds a matrix for each
+/// loop, for the last word, and for each later word that an edge leads to.
 #[derive(Drop)]
 pub struct Pass {
     powers: Vec<Option<Box<Matrix>>>,
@@ -54,11 +54,12 @@ impl Pass {
         Ok(Pass { powers, front })
     }
 
-    /// Goes over the word at an index, which is the next one. Then [`Pass::here`] has its costs.
+    /// Computes the costs at the word at an index, which is the next one. [`Pass::here`] returns
+    /// them.
     ///
     /// # Errors
     ///
-    /// Memory ran out.
+    /// Memory ran out. The pass can't be continued then.
     pub fn visit(
         &mut self,
         alloc: Global,
@@ -77,14 +78,13 @@ impl Pass {
     {
         let last = span_of(tree, None).last;
         let way = ways.at(index);
-        let edges = edges_at(tree, index);
         let power = &self.powers[index];
         let front = &mut self.front;
-        process_word(alloc, tree, steps, way, power, &edges, index, last, front)?;
+        process_word(alloc, tree, steps, way, power, index, last, front)?;
         Ok(())
     }
 
-    /// The largest costs of paths to the word that the pass went over last.
+    /// The largest costs of paths to the last visited word, in cycles. Only after a visit.
     pub fn here(&self) -> &Matrix
         ensures { result.now ≡ here self.now }
     {

@@ -92,9 +92,7 @@ fn back_at_head(
             skip(steps, edges.next_lag, front);
         } else {
             let power = &powers[index];
-            process_word(
-                alloc, tree, steps, way, power, &edges, index, span.last, front,
-            )?;
+            process_word(alloc, tree, steps, way, power, index, span.last, front)?;
             turn_edges(steps, way, &mut back, &front.base, &edges, j.head);
         }
     }

@@ -23,7 +23,9 @@ ghost use Rattle.call_bounds.specs.Tops.{EndsFrom, IsMostBelow};
 
 use crate::summary::{Summaries, callees, summaries_of};
 use crate::tree::CallTree;
-use bound_calc::{BoundNo, Matrix, Pass, Steps, Ways, along, edges_at, is_out, largest, longest};
+use bound_calc::{
+    BoundNo, Matrix, Pass, Steps, Ways, along, edges_at, is_out, largest, largest_through,
+};
 use region_tree::{Edges, JUMP_LAG, LoopTree};
 use slot_table::SlotTable;
 use std::alloc::{AllocError, Global};
@@ -58,7 +60,7 @@ fn end_by(into: Option<&Matrix>, here: &Matrix, most: u128) -> u128
 {
     match into {
         None => largest(here, most),
-        Some(into) => longest(here, into, most),
+        Some(into) => largest_through(here, into, most),
     }
 }
 

@@ -14,4 +14,4 @@ returns-in-None c =
 pub returns-in-Some : goal.returns-in-Some
 returns-in-Some c =
     subst (λ w. IsTop (EndsAt (option_map (λ m. m.now) w) (entry c.args.here.now)) c.args.most
-    c.longest.result) (sym c.in-Some.is) c.longest.ensures
+    c.largest_through.result) (sym c.in-Some.is) c.largest_through.ensures
