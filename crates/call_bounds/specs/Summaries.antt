@@ -1,6 +1,7 @@
 -- Summaries of functions: matrices of the largest costs between frame positions.
 use Rattle.std.specs.Prelude.{◌≡◌, ℕ, ◌+◌, ◌*◌, ◌<◌, ◌≤◌, Bool, true, false}
 use Rattle.std.specs.Prelude.{Option, Some, None, List, length, slice_index_or, min}
+use Rattle.rv_decode.specs.Lag.{redirect_lag}
 use Rattle.region_tree.specs.Tree.{Tree}
 use Rattle.region_tree.specs.Walk.{IsOwn, Positions}
 use Rattle.region_tree.specs.declared.section.Section.{Section}
@@ -52,7 +53,7 @@ abbrev pub LeavesAt : Tree → Positions → WaysOn → List Matrix → ℕ → 
 LeavesAt t s ways at k =
     let e = edges_at t k in
     Either (When (leaves t e.next) (Then (In (matrix_at at k)) (move_costs s (ways k) e.next_lag)))
-    (When (leaves t e.jump) (Then (In (matrix_at at k)) (move_costs s (ways k) 3)))
+    (When (leaves t e.jump) (Then (In (matrix_at at k)) (move_costs s (ways k) redirect_lag)))
 
 -- the calls of a listing, with the turns of a thread
 abbrev pub route : Listing → Positions → Route
@@ -61,8 +62,8 @@ route l s = record { calls = calls l; positions = s }
 -- The matrices of calls of a routine: from the call to the word after it, and from the call to
 -- where a path may end.
 pub record IsSummary (x : Route) (t : Routine) (through deep : Matrix) : Type 0 where
-  pub back : IsBest (entry through) (Then (Steps x.positions 3) (Through x t))
-  pub ends : IsBest (entry deep) (Then (Steps x.positions 3) (Deep x (Some t)))
+  pub back : IsBest (entry through) (Then (Steps x.positions redirect_lag) (Through x t))
+  pub ends : IsBest (entry deep) (Then (Steps x.positions redirect_lag) (Deep x (Some t)))
 
 -- the matrices of the function with a number, if it is a routine
 abbrev pub IsSummaryOf : Listing → Positions → ℕ → Matrix → Matrix → Type 0

@@ -1,5 +1,6 @@
 -- The largest cost of the paths that end at the words of a section.
 use Rattle.std.specs.Prelude.{◌≡◌, ℕ, ◌<◌, Option, List, length}
+use Rattle.rv_decode.specs.Lag.{redirect_lag}
 use Rattle.region_tree.specs.Tree.{Tree}
 use Rattle.region_tree.specs.Walk.{Positions}
 use Rattle.region_tree.specs.declared.edges.Edges.{Edges}
@@ -15,7 +16,7 @@ abbrev pub EndsFrom : Tree → Positions → Option Matrix → Option Matrix →
 EndsFrom t s way into e here =
     Either (Either (EndsAt into here)
     (When (leaves t e.next) (Then (In here) (move_costs s way e.next_lag))))
-    (When (leaves t e.jump) (Then (In here) (move_costs s way 3)))
+    (When (leaves t e.jump) (Then (In here) (move_costs s way redirect_lag)))
 
 -- the same at the word with an index
 abbrev pub EndsBy : Tree → Positions → WaysOn → WaysOn → ℕ → Entries → Costs

@@ -93,7 +93,7 @@ fn end_at(into: Option<&Matrix>, here: &Matrix, onto: &Matrix) -> Matrix
 }
 
 /// The costs up to any of the words, or from one of them on into a routine that it calls.
-pub fn deep(into: &Ways, at: &[Matrix]) -> Matrix
+fn deep(into: &Ways, at: &[Matrix]) -> Matrix
     ensures { IsBest (entry result) (Ending (ways_on into.now) at.now (length at.now)) }
 {
     let mut deep = Matrix::NONE;
