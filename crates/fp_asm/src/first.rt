@@ -35,6 +35,7 @@ fn sized(alloc: Global, location: u32, pieces: &[Piece]) -> Result<Option<(u32, 
     ensures refused { IfErr result
         (IsStopOf (sized_of location (map abstract_piece pieces.now))) }
 {
+    // A line of labels only places no word.
     if pieces.is_empty() {
         return Ok(None);
     }
@@ -67,6 +68,7 @@ impl<'a> First<'a> {
         ensures refused { IfErr result
             (IsStopOf (first_line (abstract_first self.old) line.now)) }
     {
+        // An empty line has no pieces.
         if line.is_empty() {
             return Ok(());
         }

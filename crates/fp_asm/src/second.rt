@@ -85,11 +85,13 @@ impl Second {
             (IsStopOf
             (second_line (abstract_labels labels.now) (abstract_second self.old) line.now)) }
     {
+        // An empty line has no pieces.
         if line.is_empty() {
             return Ok(());
         }
         let pieces = pieces(alloc, line)?;
         let n = skip_labels(&pieces);
+        // A line of labels only places no word.
         if n == pieces.len() {
             return Ok(());
         }
