@@ -4,7 +4,7 @@
 ghost use Rattle.run_laws.specs.Isolation.{EqualViews, Isolation, PhasedIsolation};
 ghost use Rattle.run_laws.specs.Isolation.{QuietUnpermitted, WideIsolation};
 
-/// A confined hard thread without a permit runs as if it were by itself: in a quiet run its events
+/// A confined hard thread without a permit runs as if it were by itself. In a quiet run its events
 /// are those of the definition of one thread, over its view.
 pub fn runs_alone()
     ensures { Isolation }
@@ -13,7 +13,7 @@ pub fn runs_alone()
 }
 
 /// A confined thread without a permit that is never soft active runs as if it were by itself over
-/// the settings of the scheduling: while no region register is written, its events are those of the
+/// the settings of the scheduling. While no region register is written, its events are those of the
 /// definition of one thread, over its view and the settings of the run.
 pub fn runs_by_phases()
     ensures { PhasedIsolation }
@@ -34,8 +34,9 @@ pub fn stays_quiet()
 {}
 
 /// A hard thread that isn't confined depends only on its wide view. In a quiet run its events are
-/// those of the definition of one thread, over the view, all code, the words that its loads read
-/// where others may write, and with a permit the configuration registers.
+/// those of the definition of one thread over the wide view. This has the view, all code, and the
+/// words that its loads read where others may write. With a permit it has the configuration
+/// registers too.
 pub fn runs_by_wide_view()
     ensures { WideIsolation }
 {
