@@ -25,8 +25,8 @@ pub record HostsCalls (s : Start) (x : Calls) (slots thread : ℕ) : Type 0 wher
   pub same_words : (u : ℕ) → u % 4 ≡ 0 → IsMet x u → u < s.size →
       code_at s.size s.i_words u ≡ x.word u
 
--- Take a call visit in a quiet run of such a machine, whose returns match its calls, and that keeps
--- the stated bounds. It takes no longer than any upper bound on the cost of the paths with matching
+-- Take a call visit in a quiet run of such a machine. Its returns match its calls, and it keeps the
+-- stated bounds. It takes no longer than any upper bound on the cost of the paths with matching
 -- calls and returns.
 abbrev pub CallVisitsAreBounded : Type 0
 CallVisitsAreBounded =

@@ -16,10 +16,10 @@ pub record HasWordsOfParts (s : Start) (x : Calls) : Type 0 where
   pub eight : length s.threads ≡ 8
   pub same_words : (u : ℕ) → IsMet x u → u < s.size → code_at s.size s.i_words u ≡ x.word u
 
--- In a run of such a machine a call visit takes no longer than any upper bound on the paths with
--- matching calls and returns. This holds if picking uses these slots and a hard active mode of the
--- thread during the visit. The visit's returns must match its calls, and it must keep the stated
--- bounds of the loops.
+-- In a run of such a machine a call visit takes no longer than any upper bound on the cost of the
+-- paths with matching calls and returns. This holds if picking uses these slots and a hard active
+-- mode of the thread during the visit. The visit's returns must match its calls, and it must keep
+-- the stated bounds of the loops.
 abbrev pub CallVisitsAreBoundedInSettings : Type 0
 CallVisitsAreBoundedInSettings =
     (x : Calls) (slots thread b : ℕ) (s : Start) (n : ℕ) → IsListing x →

@@ -25,7 +25,7 @@ use Rattle.section_visits.specs.CallVisits.{KeepsCallBounds}
 use Rattle.section_visits.specs.InSettings.{IsSet, Throughout}
 use Rattle.section_visits.specs.SetupVisitBound.{issues, tree_in}
 use Rattle.section_visits.specs.Visits.{Issued, IsVisit, KeepsBounds, first_of}
-use Rattle.core_model.specs.Cycles.{cycles_to_w}
+use Rattle.core_model.specs.Cycles.{cycles_to_e, cycles_to_w}
 
 -- the image of the machine has the same reachable words of a section as another image
 abbrev pub HasSameWords : Machine → Tree → List Segment → Type 0
@@ -75,7 +75,7 @@ VisitsStayBoundedByPhases =
     IsTree (tree_in setup image s) →
     ((c : ℕ) → CostsOf (course (tree_in setup image s) slots i) c → c ≤ b) →
     KeepsRules m.setup → HasSameWords m (tree_in setup image s) image →
-    (last : Issued) (before : List Issued) → last.cycle ≤ n - cycles_to_w + 2 →
+    (last : Issued) (before : List Issued) → last.cycle ≤ n - cycles_to_w + cycles_to_e →
     Throughout (λ c. IsHardPhase slots i (phase_at (phases_in m n) c))
     (first_of last before).cycle last.cycle → IsVisit (graph (tree_in setup image s))
     (issues m i n) last before → KeepsBounds (tree_in setup image s).loops last before →
@@ -109,7 +109,7 @@ CallVisitsStayBoundedByPhases =
     (x : Calls) (slots i b : ℕ) (m : Machine) (n : ℕ) → IsListing x →
     IsCallable x → ((c : ℕ) → CallCostsOf (route x slots i) c → c ≤ b) →
     KeepsRules m.setup → HasSameWordsOfParts m x → (last : Issued) (before : List Issued) →
-    last.cycle ≤ n - cycles_to_w + 2 →
+    last.cycle ≤ n - cycles_to_w + cycles_to_e →
     Throughout (λ c. IsHardPhase slots i (phase_at (phases_in m n) c))
     (first_of last before).cycle last.cycle → IsCallVisit x (issues m i n) last before →
     KeepsReturns x last before → KeepsCallBounds x last before →

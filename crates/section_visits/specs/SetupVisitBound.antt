@@ -29,7 +29,7 @@ pub record IsAlike (m : Machine) (i slots : ℕ) (image : List Segment) (s : Sec
 abbrev pub tree_in : Settings → List Segment → Section → Tree
 tree_in setup image s = tree_of (word image) s setup.loops
 
--- Take a visit of thread i to a section of the setup's image that keeps the bounds of the setup's
+-- Take a visit of thread i to a section of the setup's image. It keeps the bounds of the setup's
 -- loops. It takes no longer than any upper bound on the cost of the section's paths. This holds in
 -- every quiet run of every machine whose setup keeps the rules, as each accepted one does. The
 -- machine must have the same slots, mode of i and words of the section. The rest of its setup and

@@ -30,8 +30,8 @@ pub record Along (way : ℕ → Edge → Type 0) (s : Positions) (first second :
   pub turn : IsNextTurn s edge.lag (first.cycle % length s.frame) (second.cycle - first.cycle)
       (second.cycle % length s.frame)
 
--- Issues, the newest first, are at the thread's positions; and each that is at a known word and
--- doesn't trap is followed by the next one along an edge.
+-- Issues, the newest first, are at the thread's positions. Each that is at a known word and doesn't
+-- trap is followed by the next one along an edge.
 abbrev pub AreLinked : (ℕ → Type 0) → (ℕ → Edge → Type 0) → Positions → List Issued → Type 0
 AreLinked known way s [] = Unit {0}
 AreLinked known way s (i ∷ []) = IsOwn s (i.cycle % length s.frame)
@@ -55,7 +55,7 @@ IssuesFollowEdges =
     (t : Tree) (slots thread : ℕ) (s : Start) (n : ℕ) → IsTree t → HostsSection s t slots thread →
     is_quiet s n ≡ true → FollowEdges (course t slots thread) (issues_of thread (world s n).turns)
 
--- Take a visit of the section in a quiet run of such a machine that keeps the stated bounds of the
+-- Take a visit of the section in a quiet run of such a machine. It keeps the stated bounds of the
 -- section's loops. It takes no longer than any upper bound on the cost of the section's paths. A
 -- visit is measured from its first issue to its last.
 abbrev pub VisitsAreBounded : Type 0
