@@ -44,7 +44,7 @@ fn write_view<W: Write>(
     requires start { machine.old.at ≡ 0 }
     requires eight { vec_len ports.old ≡ 8 }
 {
-    let mut progress = ProgressLine::new(rt, ask.progress, &ask.window);
+    let mut progress = ProgressLine::new(rt, ask.until, &ask.window);
     let put = put_view(out, ask.form, &ask.window, machine, ports, &mut progress);
     progress.clear();
     put?;

@@ -25,7 +25,7 @@ pub struct Ask<'a> {
     /// The file that gets it; `-` for standard output.
     pub file: &'a str,
     /// Until when progress is shown.
-    pub progress: ShownUntil,
+    pub until: ShownUntil,
 }
 
 /// Why the arguments are no command.
@@ -98,7 +98,7 @@ fn asked<'a>(matches: &ArgMatches<'a>) -> Result<Ask<'a>, WordsNo> {
         window,
         form,
         file,
-        progress: shown_until(matches, file),
+        until: shown_until(matches, file),
     })
 }
 
