@@ -52,8 +52,20 @@ fn push_mode(text: &mut RowText, word: u32, thread: u8)
     }
 }
 
+/// Appends the thread of a pick, or `b` for a bubble. Both calls must have the same pick; else it
+/// appends `?`.
+fn push_pick(text: &mut RowText, early: Pick, any: Pick) {
+    match (early, any) {
+        (Pick::Issue { thread }, Pick::Issue { thread: same }) if thread == same => {
+            write!(text, "{thread}")
+        }
+        (Pick::Bubble, Pick::Bubble) => text.push_str("b"),
+        _ => text.push_str("?"),
+    }
+}
+
 /// The picks of eight cycles of 10 nanoseconds, from the first one on, where thread 0 sleeps until
-/// a moment. `b` is a bubble.
+/// a moment. It calls the pick of early cycles, which the pipeline uses, and that of any cycle.
 fn push_picks(text: &mut RowText, slots: u32, modes: u32, sleep: u64) {
     let (Ok(slots), Ok(modes)) = (SlotTable::from_word(slots), Modes::from_word(modes)) else {
         return text.push_str("no words");
@@ -63,12 +75,11 @@ fn push_picks(text: &mut RowText, slots: u32, modes: u32, sleep: u64) {
         modes,
         sleep: [sleep, 0, 0, 0, 0, 0, 0, 0],
     };
-    let mut scheduler = Scheduler::new();
+    let (mut early, mut any) = (Scheduler::new(), Scheduler::new());
     for cycle in 0..8u64 {
-        match scheduler.pick(&sched, cycle, cycle * 10) {
-            Pick::Issue { thread } => write!(text, "{thread}"),
-            Pick::Bubble => text.push_str("b"),
-        }
+        let now = cycle * 10;
+        let pick = early.early_pick(&sched, cycle, now);
+        push_pick(text, pick, any.pick(&sched, cycle, now));
     }
 }
 
@@ -81,7 +92,8 @@ fn push_regions(text: &mut RowText, word: u32) {
 }
 
 /// Whether a thread may load, store and fetch at an address, where the data regions are thread 0's,
-/// thread 1's, a shared one, and then read only ones, as those of code.
+/// thread 1's, a shared one, and then read only ones, as those of code. It calls the forms for a
+/// thread 0 to 7, which the pipeline uses, and those for any number. Both must agree.
 fn push_access(text: &mut RowText, n: &[u64; 8]) {
     let code = Regions::from_word(0xcccc_cccc);
     let (Ok(i), Ok(d)) = (code, Regions::from_word(0xcccc_c810)) else {
@@ -91,9 +103,15 @@ fn push_access(text: &mut RowText, n: &[u64; 8]) {
     let guard = Guard { i, d, size };
     let (thread, confined) = (thread_of(n[1]), n[2] != 0);
     let (address, bytes) = (low_word(n[3]), low_byte(n[4]));
-    let load = guard.may_load(thread, confined, address, bytes);
-    let store = guard.may_store(thread, address, bytes);
-    let fetch = guard.may_fetch(thread, confined, address);
+    let load = guard.may_load_by(thread, confined, address, bytes);
+    let store = guard.may_store_by(thread, address, bytes);
+    let fetch = guard.may_fetch_by(thread, confined, address);
+    let agree = load == guard.may_load(thread, confined, address, bytes)
+        && store == guard.may_store(thread, address, bytes)
+        && fetch == guard.may_fetch(thread, confined, address);
+    if !agree {
+        return text.push_str("the forms differ");
+    }
     write!(text, "{load} {store} {fetch}")
 }
 
