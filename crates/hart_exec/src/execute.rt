@@ -145,6 +145,8 @@ fn expire(hart: &mut Hart<'_>, at: PcWord) -> ExecResult
 /// Executes the instruction at a pc, but for a late value. An expiry comes before all else; then a
 /// fetch that is refused. Neither shows a word. Without `RARE` it returns None and changes nothing
 /// for both, for traps, and for instructions on control registers, traps or time.
+///
+/// Its code is the same for each `LOOP`. Each number makes a copy, as [`execute_frequent`] says.
 #[tactic(auto, unfolding(crate::proofs::Opened::whole), using(crate::proofs::Zero::aligned_zero))]
 #[inline(always)]
 fn execute_some<const RARE: bool, const LOOP: u8>(
@@ -177,9 +179,12 @@ fn execute_some<const RARE: bool, const LOOP: u8>(
 
 /// Executes the instruction at a pc, but for a late value, if it is frequent. It returns None and
 /// changes nothing for an expiry, a refused fetch, a trap, and an instruction on control registers,
-/// traps or time. A caller that executes these out of line keeps the results of the others in
-/// registers. Each `LOOP` is an instance, which should have one caller: the compiler then inlines
-/// it, simplified.
+/// traps or time. So a caller can execute these out of line.
+///
+/// `LOOP` has no effect on a result. Each number makes a separate copy of the code. The compiler
+/// inlines a copy that has one caller, so each loop over cycles has a number that no other has.
+/// These are taken: 0 by a single cycle of the pipeline, 1 by a run of the machine, 2 by the
+/// machine's own test run, and 3 by a run of one thread.
 pub fn execute_frequent<const LOOP: u8>(
     hart: &mut Hart<'_>,
     at: PcWord,
@@ -202,10 +207,16 @@ pub fn execute_frequent<const LOOP: u8>(
 }
 
 /// Executes the instruction at a pc, but for a late value. An expiry comes before all else; then a
-/// fetch that is refused. Neither shows a word.
+/// fetch that is refused. Neither shows a word. `LOOP` is the number of the caller's loop, as in
+/// [`execute_frequent`].
 #[tactic(auto, unfolding(crate::proofs::Opened::whole), using(crate::proofs::Zero::aligned_zero))]
 #[inline(always)]
-pub fn execute_in(hart: &mut Hart<'_>, at: PcWord, expired: bool, s: Sources) -> ExecResult
+pub fn execute_in<const LOOP: u8>(
+    hart: &mut Hart<'_>,
+    at: PcWord,
+    expired: bool,
+    s: Sources,
+) -> ExecResult
     requires { at.pc % 4 ≡ 0 }
     ensures holds { Holds hart.old hart.new }
     ensures refines { Refines hart.old hart.new result (execute_in (environment_of hart.old) at.pc
@@ -216,5 +227,5 @@ pub fn execute_in(hart: &mut Hart<'_>, at: PcWord, expired: bool, s: Sources) ->
     ensures shown { HasWord result.effect result.word }
     ensures address { IsAligned (ins result.word) result.address }
 {
-    execute_some::<true, 0>(hart, at, expired, s).unwrap()
+    execute_some::<true, LOOP>(hart, at, expired, s).unwrap()
 }

@@ -27,6 +27,9 @@ use pipe_model::{Decoded, Executed, Flush, Held, Redirect};
 use rv_decode::{LATE_LAG, PLAIN_LAG};
 use rv_exec::Effect;
 
+/// The loop number of [`execute_rare`], which no loop contains.
+const OUT_OF_LINE: u8 = 0;
+
 /// Which younger turns a redirect flushes after a lag, by the lag of the execution; None where none
 /// are.
 #[inline(always)]
@@ -99,9 +102,8 @@ fn put_executed(thread: u8, x: &Decoded, done: &ExecResult, e: &mut Held<Execute
 }
 
 /// Writes an executed instruction to `e`. Returns whether its thread's next turns are flushed; only
-/// then `redirect` has a meaning, and the thread continues there. An `Option<Redirect>` would be
-/// spilled to memory in each cycle. The stage register is written in both branches, because the
-/// compiler knows the lag there.
+/// then `redirect` has a meaning, and the thread continues there. The stage register is written in
+/// both branches, because the compiler knows the lag there.
 #[inline(always)]
 fn leave(
     thread: u8,
@@ -131,10 +133,10 @@ fn leave(
     true
 }
 
-/// Executes an instruction. Without `RARE` it returns None and changes nothing for an expiry, a
-/// trap, and an instruction on control registers, traps or time.
+/// Executes an instruction: any one with `RARE`, else only a frequent one. Without `RARE` it
+/// returns None and changes nothing for a rare instruction, an expiry and a trap.
 #[inline(always)]
-fn execute_some<const RARE: bool, const LOOP: u8>(
+fn execute_one<const RARE: bool, const LOOP: u8>(
     hart: &mut Hart<'_>,
     at: PcWord,
     expired: bool,
@@ -154,7 +156,7 @@ fn execute_some<const RARE: bool, const LOOP: u8>(
     ensures address { IfSome result (λ x. IsAligned (ins x.word) x.address) }
 {
     if RARE {
-        Some(execute_in(hart, at, expired, s))
+        Some(execute_in::<LOOP>(hart, at, expired, s))
     } else {
         execute_frequent::<LOOP>(hart, at, expired, s)
     }
@@ -205,12 +207,12 @@ fn execute_issue<const RARE: bool, const LOOP: u8>(
         traps: &mut units.traps,
     };
     let s = Sources { a: x.a, b: x.b };
-    let done = execute_some::<RARE, LOOP>(&mut hart, at, x.expired, s)?;
+    let done = execute_one::<RARE, LOOP>(&mut hart, at, x.expired, s)?;
     Some(leave(thread, x, &done, e, redirect))
 }
 
-/// Executes a rare issue, out of line. Inlined, its results would be merged with the frequent ones
-/// in memory, in each cycle.
+/// Executes a rare issue. It is a function by itself, so that the results of the frequent issues
+/// stay in registers.
 #[cold]
 #[inline(never)]
 fn execute_rare(
@@ -237,15 +239,15 @@ fn execute_rare(
         pc: 0,
         flush: Flush::Decode,
     };
-    if execute_issue::<true, 0>(units, cycle, thread, x, e, &mut redirect).unwrap() {
+    if execute_issue::<true, OUT_OF_LINE>(units, cycle, thread, x, e, &mut redirect).unwrap() {
         Some(redirect)
     } else {
         None
     }
 }
 
-/// Executes a rare issue by a call, and puts its redirect where the frequent ones have theirs. The
-/// call's result is cleared at the beginning of this function, which frequent issues don't reach.
+/// Executes a rare issue by a call, and writes its redirect to `redirect`. It is a separate
+/// function, so that frequent issues don't touch the memory of the call's result.
 #[inline(always)]
 fn execute_out_of_line(
     units: &mut Units,
