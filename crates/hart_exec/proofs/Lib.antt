@@ -5,3 +5,4 @@ pub mod Targets
 pub mod Left
 pub mod Answered
 pub mod Shown
+pub mod Frequent

@@ -1,5 +1,5 @@
 -- The access of a CSR instruction, and predicates on effects, words and targets.
-use Rattle.std.specs.Prelude.{◌≡◌, ◌≢◌, ℕ, ◌%◌, true, Option, Some, None}
+use Rattle.std.specs.Prelude.{◌≡◌, ◌≢◌, ℕ, ◌%◌, ◌||◌, Bool, true, false, not, Option, Some, None}
 use Rattle.rv_decode.specs.declared.instruction.Ins.{Ins}
 use Rattle.rv_decode.specs.declared.instruction.Ins.TheVariants as row
 use Rattle.rv_decode.specs.declared.instruction.CsrKind.{CsrKind}
@@ -8,12 +8,30 @@ use Rattle.rv_exec.specs.Line.{IsPrintable}
 use Rattle.rv_exec.specs.declared.outcome.Effect.{Effect}
 use Rattle.rv_exec.specs.declared.outcome.Effect.TheVariants.{Store, Trap}
 use Rattle.core_model.specs.Issue.{csr_op, csr_operand, csr_writes}
+use Rattle.core_model.specs.Thread.{Execution}
+use Rattle.core_model.specs.Traps.{is_trap}
 use Rattle.hart_exec.specs.declared.csr.Access.{Access}
 
 -- the access that a CSR instruction requires
 abbrev pub access_of : CsrKind → ℕ → ℕ → Access
 access_of kind src a =
     record { op = csr_op kind; operand = csr_operand kind src a; writes = csr_writes kind src }
+
+-- whether an instruction is on control registers, traps or time
+abbrev pub is_rare : Ins → Bool
+is_rare row.Mret = true
+is_rare (row.Csr op rd csr src) = true
+is_rare (row.Gt rd) = true
+is_rare (row.Gth rd) = true
+is_rare (row.Du rs1 rs2) = true
+is_rare (row.Wu rs1 rs2) = true
+is_rare (row.Ee rs1 rs2) = true
+is_rare row.De = true
+is_rare _ = false
+
+-- whether an instruction with this execution is frequent: it isn't rare, and doesn't trap
+abbrev pub is_frequent : Ins → Execution → Bool
+is_frequent i d = not (is_rare i || is_trap d.effect)
 
 -- the address of a store is a multiple of its number of bytes
 abbrev pub IsAlignedStore : Option Effect → Type 0

@@ -1,6 +1,6 @@
 //! The execution of an instruction, but for a late value.
 
-ghost use Rattle.std.specs.Prelude.{◌≡◌, ◌%◌, IfSome, None, is_some, true};
+ghost use Rattle.std.specs.Prelude.{◌≡◌, ◌%◌, IfSome, None, is_some, true, false};
 ghost use Rattle.rv_decode.specs.Table.{ins};
 ghost use Rattle.rv_decode.specs.Range.{InRange};
 ghost use Rattle.rv_exec.specs.Access.{IsAligned};
@@ -9,6 +9,7 @@ ghost use Rattle.core_model.specs.Waiting.{with_armed};
 ghost use Rattle.core_model.specs.Traps.{trapped};
 ghost use Rattle.rv_exec.specs.TrapCauses.{cause_expiry};
 ghost use Rattle.hart_exec.specs.Effects.{IsPrintableEffect, IsAlignedStore, HasWord, HasTarget};
+ghost use Rattle.hart_exec.specs.Effects.{is_rare, is_frequent};
 ghost use Rattle.hart_exec.specs.Units.{Holds, Refines, environment_of, own_of, units_of};
 
 use crate::csr::{Access, access_csr};
@@ -23,7 +24,9 @@ use timer_unit::moment;
 
 /// Whether an instruction is on control registers, traps or time. Few are.
 #[inline(always)]
-fn is_rare(i: &Ins) -> bool {
+fn is_rare(i: &Ins) -> bool
+    ensures { result ≡ is_rare i.now }
+{
     matches!(
         *i,
         Ins::Mret
@@ -57,6 +60,8 @@ fn execute_untrapped<const RARE: bool>(
     ensures holds { Holds hart.old hart.new }
     ensures refines { IfSome result (λ x. Refines hart.old hart.new x (execute_untrapped
         (environment_of hart.old) at.pc (own_of hart.old) at.word s.a s.b o.now i.now)) }
+    ensures frequent { RARE ≡ false → is_some result ≡ is_frequent i.now (execute_untrapped
+        (environment_of hart.old) at.pc (own_of hart.old) at.word s.a s.b o.now i.now) }
     ensures pc { IfSome result (λ x. x.pc % 4 ≡ 0) }
     ensures printable { IfSome result (λ x. IsPrintableEffect x.effect) }
     ensures store { IfSome result (λ x. IsAlignedStore x.effect) }
@@ -111,6 +116,8 @@ fn run_at<const RARE: bool>(
     ensures refines { IfSome result (λ x. Refines hart.old hart.new x (run_at
         (environment_of hart.old) at.pc
         (own_of hart.old) at.word s.a s.b i.now)) }
+    ensures frequent { RARE ≡ false → is_some result ≡ is_frequent i.now (run_at
+        (environment_of hart.old) at.pc (own_of hart.old) at.word s.a s.b i.now) }
     ensures pc { IfSome result (λ x. x.pc % 4 ≡ 0) }
     ensures printable { IfSome result (λ x. IsPrintableEffect x.effect) }
     ensures store { IfSome result (λ x. IsAlignedStore x.effect) }
@@ -162,6 +169,9 @@ fn execute_some<const RARE: bool, const LOOP: u8>(
     ensures refines { IfSome result (λ x. Refines hart.old hart.new x (execute_in
         (environment_of hart.old) at.pc
         (own_of hart.old) expired at.word s.a s.b)) }
+    ensures frequent { RARE ≡ false → is_some result ≡
+        is_frequent (ins at.word) (execute_in
+        (environment_of hart.old) at.pc (own_of hart.old) expired at.word s.a s.b) }
     ensures pc { IfSome result (λ x. x.pc % 4 ≡ 0) }
     ensures printable { IfSome result (λ x. IsPrintableEffect x.effect) }
     ensures store { IfSome result (λ x. IsAlignedStore x.effect) }
@@ -197,6 +207,9 @@ pub fn execute_frequent<const LOOP: u8>(
     ensures refines { IfSome result (λ x. Refines hart.old hart.new x (execute_in
         (environment_of hart.old) at.pc
         (own_of hart.old) expired at.word s.a s.b)) }
+    ensures frequent { is_some result ≡
+        is_frequent (ins at.word) (execute_in
+        (environment_of hart.old) at.pc (own_of hart.old) expired at.word s.a s.b) }
     ensures pc { IfSome result (λ x. x.pc % 4 ≡ 0) }
     ensures printable { IfSome result (λ x. IsPrintableEffect x.effect) }
     ensures store { IfSome result (λ x. IsAlignedStore x.effect) }

@@ -43,6 +43,8 @@ pub fn load<const RARE: bool>(
     ensures holds { Holds hart.old hart.new }
     ensures refines { IfSome result (λ x. Refines hart.old hart.new x (load at.pc (own_of hart.old)
         at.word address ((environment_of hart.old).load address (load_size op)))) }
+    ensures frequent { RARE ≡ false → is_some result
+        ≡ (environment_of hart.old).load address (load_size op) }
     ensures pc { IfSome result (λ x. x.pc % 4 ≡ 0) }
     ensures printable { IfSome result (λ x. IsPrintableEffect x.effect) }
     ensures store { IfSome result (λ x. IsAlignedStore x.effect) }
@@ -81,6 +83,8 @@ pub fn store<const RARE: bool>(
     ensures refines { IfSome result (λ x. Refines hart.old hart.new x (store at.pc (own_of hart.old)
         at.word address (store_size op) (value % 256 ^ store_size op)
         ((environment_of hart.old).store address (store_size op)))) }
+    ensures frequent { RARE ≡ false → is_some result
+        ≡ (environment_of hart.old).store address (store_size op) }
     ensures pc { IfSome result (λ x. x.pc % 4 ≡ 0) }
     ensures printable { IfSome result (λ x. IsPrintableEffect x.effect) }
     ensures store { IfSome result (λ x. IsAlignedStore x.effect) }

@@ -87,6 +87,7 @@ pub fn trap_if_rare<const RARE: bool>(
     ensures holds { Holds hart.old hart.new }
     ensures refines { IfSome result (λ x. Refines hart.old hart.new x
         (trapped at.pc (own_of hart.old) at.word cause)) }
+    ensures frequent { RARE ≡ false → result ≡ None }
     ensures pc { IfSome result (λ x. x.pc % 4 ≡ 0) }
     ensures printable { IfSome result (λ x. IsPrintableEffect x.effect) }
     ensures store { IfSome result (λ x. IsAlignedStore x.effect) }

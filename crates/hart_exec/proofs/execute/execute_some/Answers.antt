@@ -17,6 +17,17 @@ returns-clause-refines g c =
     )
     refl) c.run_at.ensures.refines
 
+pub returns-clause-frequent : goal.returns-clause-frequent
+unfolding execute_in environment_of
+returns-clause-frequent g c =
+    λ common. rw (
+      c.if-expired.false,
+      ← c.may_fetch_by.ensures,
+      c.if-not-may_fetch_by.false,
+      ← c.decode.ensures.table,
+    )
+    (c.run_at.ensures.frequent common)
+
 pub returns-clause-shown : goal.returns-clause-shown
 unfolding environment_of
 returns-clause-shown g c =
