@@ -36,9 +36,9 @@ const PAIR: u32 = TWO | (FUNCT7 - 0x0200_0000);
 /// Two registers, where funct7 and the register that is written are 0.
 const TIME: u32 = TWO | FUNCT7 | WRITTEN;
 
-/// By bits 2 to 6 of a word and its funct3: the fields of the registers that it reads, and the bits
-/// that must be 0. If one of these bits is set, the word is decoded in full: it is a subtraction,
-/// an arithmetic shift by a register, or no instruction.
+/// By bits 2 to 6 of a word and its funct3: the fields of the registers that it reads. An entry also
+/// has the bits that must be 0. If one of these bits is set, the word is decoded in full: it is a
+/// subtraction, an arithmetic shift by a register, or no instruction.
 static FIELDS: [u32; 256] = [
     ONE, ONE, ONE, NONE, ONE, ONE, NONE, NONE, // 0x03, loads
     NONE, NONE, NONE, NONE, NONE, NONE, NONE, NONE, // 0x07
@@ -93,9 +93,9 @@ fn decoded_sources(word: u32) -> (u8, u8)
     sources_of(&decode(word))
 }
 
-/// The numbers of the registers that the instruction of a word reads, x0 where it reads none, as
-/// [`sources_of`] returns them for the decoded word. D needs them in each cycle and nothing else of
-/// the instruction: so they come from a table, without a full decoding.
+/// The numbers of the registers that the instruction of a word reads, and x0 where it reads none.
+/// They are those of [`sources_of`] for the decoded word. A table gives them, since D needs nothing
+/// else of the instruction.
 #[inline(always)]
 pub fn sources_in(word: u32) -> (u8, u8)
     ensures first { result.0 ≡ source_1 (ins word) }
