@@ -7,6 +7,7 @@ use Rattle.slot_scheduler.specs.declared.picking.Sched.{Sched}
 use Rattle.timer_unit.specs.declared.row.Timer.{Timer}
 use Rattle.core_model.specs.declared.own.Trapping.{Trapping}
 use Rattle.core_model.specs.World.{Registers}
+use Rattle.core_model.specs.Cycles.{cycles_to_e}
 use Rattle.timer_unit.specs.Time.{time}
 use Rattle.pipe_model.specs.declared.stage_registers.Held.{Held}
 use Rattle.pipe_model.specs.declared.stage_registers.Decoded.{Decoded}
@@ -30,7 +31,7 @@ abstract_control s g timers traps =
 -- the result of the execute stage for a turn in a cycle
 abbrev pub executed_by : Units → ℕ → Held Decoded → After
 executed_by u cycle d =
-    execute_stage u.guard.size u.confined u.permit (time u.clock (cycle - 2))
+    execute_stage u.guard.size u.confined u.permit (time u.clock (cycle - cycles_to_e))
     (abstract_control u.sched u.guard u.timers u.traps) d
 
 -- the contents of the units, with the ports

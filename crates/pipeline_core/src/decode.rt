@@ -5,6 +5,7 @@ ghost use Rattle.timer_unit.specs.Time.{is_due, time, timer_of, most_cycles};
 ghost use Rattle.rv_decode.specs.Table.{ins};
 ghost use Rattle.core_model.specs.Thread.{reg_in};
 ghost use Rattle.core_model.specs.Issue.{source_1, source_2};
+ghost use Rattle.core_model.specs.Cycles.{cycles_to_d};
 ghost use Rattle.regfile_bank.specs.Registers.{registers_of};
 ghost use Rattle.pipe_model.specs.declared.stage_registers.Held.TheVariants.{Issue};
 ghost use Rattle.pipe_model.specs.Forwarding.{forward, from_m, from_e, operand};
@@ -95,7 +96,7 @@ fn is_due(units: &Units, cycle: u64, thread: u8) -> bool
     requires thread { thread < 8 }
     requires cycle { cycle < most_cycles }
     ensures { result ≡ is_due (timer_of units.now.timers thread).armed
-        (time units.now.clock (cycle - 1)) }
+        (time units.now.clock (cycle - cycles_to_d)) }
 {
     units
         .timers
@@ -121,7 +122,7 @@ fn decoded(
       pc = x.now.pc;
       word = x.now.word;
       expired = is_due (timer_of units.now.timers thread).armed
-          (time units.now.clock (cycle - 1));
+          (time units.now.clock (cycle - cycles_to_d));
       a = operand units.now.bank m.now e.now thread (source_1 (ins x.now.word));
       b = operand units.now.bank m.now e.now thread (source_2 (ins x.now.word));
     } }
@@ -178,7 +179,7 @@ pub fn decode_stage(
     requires f { FetchedFits held.now }
     requires cycle { cycle < most_cycles }
     ensures stage { d.new ≡ decode_stage units.now.bank m.now e.now units.now.timers redirect
-        (time units.now.clock (cycle - 1)) held.now }
+        (time units.now.clock (cycle - cycles_to_d)) held.now }
     ensures fits { DecodedFits d.new }
 {
     let (thread, x) = match held {

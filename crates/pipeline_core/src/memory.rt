@@ -6,6 +6,7 @@ ghost use Rattle.rv_exec.specs.Access.{lanes_at};
 ghost use Rattle.rv_exec.specs.Line.{IsWidth};
 ghost use Rattle.core_model.specs.Memory.{code_at, data_at};
 ghost use Rattle.core_model.specs.World.{words_after};
+ghost use Rattle.core_model.specs.Cycles.{cycles_to_m};
 ghost use Rattle.fp_ports.specs.PluggedPorts.{rows_of, row_at, word_seen};
 ghost use Rattle.pipeline_core.specs.StageFacts.{EffectFits};
 
@@ -48,7 +49,7 @@ pub fn data_word(
     requires eight { vec_len ports.old ≡ 8 }
     requires thread { thread < 8 }
     ensures word { result ≡ data_at guard.now.size imem.now dmem.now
-        (word_seen (row_at (rows_of latched word_at ports.old.items) thread) (cycle - 3)) address }
+        (word_seen (row_at (rows_of latched word_at ports.old.items) thread) (cycle - cycles_to_m)) address }
     ensures rows { rows_of latched word_at ports.new.items ≡
         rows_of latched word_at ports.old.items }
     ensures untouched { (is_code guard.now.size address || is_data guard.now.size address) ≡ true →

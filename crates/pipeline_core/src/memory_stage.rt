@@ -6,6 +6,7 @@ ghost use Rattle.rv_exec.specs.Access.{IsAligned};
 ghost use Rattle.core_model.specs.Thread.{with_late_value};
 ghost use Rattle.core_model.specs.Issue.{late_rd, late_value};
 ghost use Rattle.core_model.specs.Memory.{data_at};
+ghost use Rattle.core_model.specs.Cycles.{cycles_to_m};
 ghost use Rattle.fp_ports.specs.PluggedPorts.{rows_of, row_at, word_seen};
 ghost use Rattle.pipe_model.specs.declared.stage_registers.Held.TheVariants.{Issue};
 ghost use Rattle.rv_exec.specs.declared.outcome.Effect.TheVariants.{Nothing, Reg};
@@ -42,7 +43,7 @@ fn late_effect(
     requires nothing { x.now.effect ≡ Some Nothing }
     requires aligned { IsAligned (ins x.now.word) x.now.address }
     ensures effect { let found = data_at guard.now.size imem.now dmem.now
-        (word_seen (row_at (rows_of latched word_at ports.old.items) thread) (cycle - 3))
+        (word_seen (row_at (rows_of latched word_at ports.old.items) thread) (cycle - cycles_to_m))
         x.now.address in
         result ≡ with_late_value (late_rd (ins x.now.word))
         (late_value (ins x.now.word) found x.now.address x.now.a x.now.b) x.now.effect }
@@ -87,7 +88,8 @@ fn put_register(thread: u8, x: &Executed, rd: u8, value: u32, m: &mut Held<Store
     *m = Held::Issue { thread, what };
 }
 
-/// Writes to `m` an instruction with the effect that it had after E, which is moved whole.
+/// Writes to `m` an instruction with its effect after E. The effect is copied as a slice of one
+/// element, without a case for each variant.
 #[inline(always)]
 fn put_same(thread: u8, x: &Executed, m: &mut Held<Stored>)
     ensures { m.new ≡ Issue thread (record {
@@ -167,7 +169,7 @@ fn access_issue(
     requires eight { vec_len ports.old ≡ 8 }
     requires fits { ExecutedFits (Issue thread x.now) }
     ensures stage { m.new ≡ memory_stage guard.now.size imem.now dmem.old
-        (rows_of latched word_at ports.old.items) (cycle - 3) (Issue thread x.now) }
+        (rows_of latched word_at ports.old.items) (cycle - cycles_to_m) (Issue thread x.now) }
     ensures fits { StoredFits m.new }
     ensures words { dmem.new ≡ words_stored guard.now.size m.new dmem.old }
     ensures length { length dmem.new ≡ length dmem.old }
@@ -181,7 +183,7 @@ fn access_issue(
         put_late(thread, x, effect, m);
         return;
     }
-    // In a variable of its own the effect stays known, whatever the store writes.
+    // A local `Store`: `store_word` and `put_word` then need no test of the variant.
     if let Some(
         Effect::Store {
             address,
@@ -218,7 +220,7 @@ pub fn memory_stage(
     requires eight { vec_len ports.old ≡ 8 }
     requires fits { ExecutedFits held.now }
     ensures stage { m.new ≡ memory_stage guard.now.size imem.now dmem.old
-        (rows_of latched word_at ports.old.items) (cycle - 3) held.now }
+        (rows_of latched word_at ports.old.items) (cycle - cycles_to_m) held.now }
     ensures fits { StoredFits m.new }
     ensures words { dmem.new ≡ words_stored guard.now.size m.new dmem.old }
     ensures length { length dmem.new ≡ length dmem.old }

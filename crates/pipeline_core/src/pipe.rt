@@ -8,7 +8,7 @@ ghost use Rattle.pipeline_core.specs.StageFacts.{ExecutedFits, StoredFits, Writt
 ghost use Rattle.pipeline_core.specs.StageFacts.{RedirectFits, FetchedFits-prop};
 ghost use Rattle.pipeline_core.specs.StageFacts.{DecodedFits-prop, ExecutedFits-prop};
 ghost use Rattle.pipeline_core.specs.StageFacts.{StoredFits-prop, WrittenFits-prop};
-ghost use Rattle.core_model.specs.Cycles.{cycles_to_w};
+ghost use Rattle.core_model.specs.Cycles.{cycles_to_d, cycles_to_m, cycles_to_w};
 
 use crate::decode::decode_stage;
 use crate::execute::execute_stage;
@@ -23,7 +23,7 @@ use pipe_model::{
 use rv_exec::Event;
 use slot_scheduler::Pick;
 
-/// The instance of E in [`Pipe::tick`]. Each loop over cycles has another number.
+/// The loop number of [`Pipe::tick`].
 const ONE_CYCLE: u8 = 0;
 
 /// The stage registers, with the turns of the last five cycles. Before cycle c, `f` holds the turn
@@ -115,14 +115,12 @@ impl Pipe {
         ensures retires { result ≡ retired_event (cycle - cycles_to_w) self.old.m }
         ensures printable { IsPrintableEvent result }
     {
-        refinement();
-        let event = retire(&self.m, cycle);
-        self.step::<ONE_CYCLE>(units, ports, cycle);
-        event
+        self.tick_in_loop::<ONE_CYCLE>(units, ports, cycle)
     }
 
-    /// Does the same as [`tick`](Pipe::tick), in a loop over cycles. `LOOP` is the number of only
-    /// that loop, above 0: the compiler inlines E only if its instance has one caller.
+    /// Does the same as [`tick`](Pipe::tick), in a loop over cycles. `LOOP` is the loop's number. It
+    /// has no effect on a result, and no other loop of the program may have it, as
+    /// [`execute_frequent`](hart_exec::execute_frequent) says.
     #[inline(always)]
     pub fn tick_in_loop<const LOOP: u8>(
         &mut self,
@@ -191,7 +189,7 @@ impl Pipe {
         requires eight { vec_len ports.old ≡ 8 }
         ensures w { self.new.w ≡ writeback_stage self.old.m }
         ensures m { self.new.m ≡ memory_stage units.old.guard.size units.old.imem units.old.dmem
-            (rows_of latched word_at ports.old.items) (cycle - 3) self.old.e }
+            (rows_of latched word_at ports.old.items) (cycle - cycles_to_m) self.old.e }
         ensures units { let rows = rows_of latched word_at ports.old.items in
             abstract_state units.new (rows_of latched word_at ports.new.items)
             ≡ record (abstract_state units.old rows) {
@@ -261,7 +259,7 @@ impl Pipe {
         requires fits { RedirectFits (if redirects then Some redirect else None) }
         ensures d { let told = if redirects then Some redirect else None in self.new.d ≡
             decode_stage units.now.bank self.old.m self.old.e units.now.timers told
-            (time units.now.clock (cycle - 1)) self.old.f }
+            (time units.now.clock (cycle - cycles_to_d)) self.old.f }
         ensures f { let told = if redirects then Some redirect else None in self.new.f ≡
             fetch_stage units.now.guard.size units.now.imem told
             (next_after_redirect told self.old.next) pick }
@@ -286,7 +284,7 @@ impl Pipe {
         requires cycle { cycle < most_cycles }
         requires pick { IsPick pick }
         ensures d { self.new.d ≡ decode_stage units.now.bank self.old.m self.old.e
-            units.now.timers redirect (time units.now.clock (cycle - 1)) self.old.f }
+            units.now.timers redirect (time units.now.clock (cycle - cycles_to_d)) self.old.f }
         ensures f { self.new.f ≡
             fetch_stage units.now.guard.size units.now.imem redirect self.old.next pick }
         ensures next { self.new.next ≡ next_after_fetch redirect pick self.old.next }
