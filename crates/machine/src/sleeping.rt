@@ -48,7 +48,7 @@ impl Machine {
     }
 
     /// The same, if the cycle before picked no thread. It isn't inlined, so that cycles in which a
-    /// thread is picked don't pay for it.
+    /// thread is picked have only the test of `f`.
     #[cold]
     #[inline(never)]
     fn skip_empty(&mut self, end: u64)

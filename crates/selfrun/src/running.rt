@@ -29,7 +29,7 @@ use std::alloc::{AllocError, Global};
 /// The number of cycles that the machine runs.
 const CYCLES: u64 = 100_000;
 
-/// The number of the loop over cycles in [`tallies`]: no other loop of the program has it.
+/// The loop number of [`tallies`].
 const SELFRUN: u8 = 2;
 
 /// Eight ports that aren't there.
@@ -92,7 +92,7 @@ fn tallies(machine: &mut Machine, cycles: u64, ports: &mut Ports) -> [Tally; 8]
     let loses_ports = machine.loses_ports();
     for _cycle in 0..cycles {
         count(&mut tallies, &mut folder, &machine.pipe.m, machine.at);
-        let _event = machine.cycle_on::<SELFRUN>(ports, loses_ports);
+        let _event = machine.tick_in_loop::<SELFRUN>(ports, loses_ports);
     }
     tallies
 }

@@ -21,17 +21,17 @@ loop-cycle-preserved g c =
     let within : c.loop-cycle.machine.at < c.args.cycles + 3 =
     omega (arith, inv.at, c.loop-cycle-test.true) in
     let told = c.count.ensures
-    ∙ ap (λ e. tallies_with c.loop-cycle.tallies e) (sym c.cycle_on-event.ensures.retires) in
+    ∙ ap (λ e. tallies_with c.loop-cycle.tallies e) (sym c.tick_in_loop-event.ensures.retires) in
     record {
-      at = c.cycle_on-event.ensures.at ∙ ap (λ n. n + 1) inv.at;
-      eight = c.cycle_on-event.ensures.eight;
-      known = inv.known ∙ ap (list_any is_some) (sym c.cycle_on-event.ensures.unplugs);
-      few = rw told (few_more c.loop-cycle.tallies c.cycle_on-event.result k inv.few);
+      at = c.tick_in_loop-event.ensures.at ∙ ap (λ n. n + 1) inv.at;
+      eight = c.tick_in_loop-event.ensures.eight;
+      known = inv.known ∙ ap (list_any is_some) (sym c.tick_in_loop-event.ensures.unplugs);
+      few = rw told (few_more c.loop-cycle.tallies c.tick_in_loop-event.result k inv.few);
       runs =
           λ s st. rw told (tallies_on c.events_grow.ensures s k c.args.cycles c.loop-cycle.machine
-          c.cycle_on-event.new.self _ _ c.loop-cycle.tallies c.cycle_on-event.result
+          c.tick_in_loop-event.new.self _ _ c.loop-cycle.tallies c.tick_in_loop-event.result
           (inv.runs s st) inv.at
-          (c.cycle_on-event.ensures.relation s c.args.cycles within));
+          (c.tick_in_loop-event.ensures.relation s c.args.cycles within));
     }
 
 pub returns : goal.returns

@@ -35,14 +35,14 @@ loop-self-init g c = record {
 pub loop-self-preserved : goal.loop-self-preserved
 loop-self-preserved g c =
     let inv = c.loop-self.invariant in
-    let cycle = c.cycle_on-event.ensures in
+    let cycle = c.tick_in_loop-event.ensures in
     let skip = c.skip_sleep.ensures in
     let at : ℕ = c.loop-self.self.at in
     let quiet : c.loop-self.shown ≡ false =
     still c.loop-self.shown at c.loop-self.stop inv.last c.loop-self-test.true in
     let whole : c.loop-self.stop ≡ c.args.end = inv.whole quiet in
     let below : at < c.args.end = subst (λ stop. at < stop) whole c.loop-self-test.true in
-    let same : length c.cycle_on-event.new.ports.items ≡ 8 = omega (arith, cycle.eight) in
+    let same : length c.tick_in_loop-event.new.ports.items ≡ 8 = omega (arith, cycle.eight) in
     let forth : c.args.self.now.at ≤ c.skip_sleep.new.self.at =
     goes_forth _ at _ _ inv.forth cycle.at skip.on in
     let unplugs = ap (λ (m : Machine). m.unplugs) skip.same ∙ cycle.unplugs ∙ inv.unplugs in
@@ -50,7 +50,7 @@ loop-self-preserved g c =
     ∙ ap (λ (m : Machine). list_any is_some m.unplugs) (sym skip.same) in
     elim c.if-set_line.branch [
       | then-set_line w ↦
-          (let here : c.skip_sleep.new.self.at ≡ c.cycle_on-event.new.self.at = stays_here at
+          (let here : c.skip_sleep.new.self.at ≡ c.tick_in_loop-event.new.self.at = stays_here at
           _ _ _ w.stop-is cycle.at skip.on skip.end in
           record {
             within = skip.end;
@@ -66,12 +66,12 @@ loop-self-preserved g c =
             advanced =
                 λ s n within st. shown_as (sym w.shown-is)
                 (advance_to_line c.events_grow.ensures s c.args.self.now.at n c.args.thread
-                c.loop-self.self c.cycle_on-event.new.self c.skip_sleep.new.self
-                _ _ c.cycle_on-event.result c.loop-self.line c.set_line.new.line
+                c.loop-self.self c.tick_in_loop-event.new.self c.skip_sleep.new.self
+                _ _ c.tick_in_loop-event.result c.loop-self.line c.set_line.new.line
                 (shown_as quiet (inv.advanced s n within st))
                 (cycle.relation s n (below_in at _ _ below within)) cycle.at here
                 (skip.passed s n _ (le_trans (stop_within at _ _ w.stop-is below) within)
-                (length-map c.cycle_on-event.new.ports.items _ ∙ same))
+                (length-map c.tick_in_loop-event.new.ports.items _ ∙ same))
                 (c.set_line.ensures.shown w.if-set_line.true
                 ∙ ap (λ (e : Option Event). text (of_thread c.args.thread e)) (sym cycle.retires)));
           })
@@ -89,11 +89,11 @@ loop-self-preserved g c =
         advanced =
             λ s n within st. shown_as (sym (w.shown-is ∙ quiet))
             (advance_on c.events_grow.ensures s c.args.self.now.at n c.args.thread c.loop-self.self
-            c.cycle_on-event.new.self c.skip_sleep.new.self _ _ c.cycle_on-event.result
+            c.tick_in_loop-event.new.self c.skip_sleep.new.self _ _ c.tick_in_loop-event.result
             c.loop-self.line c.set_line.new.line (shown_as quiet (inv.advanced s n within st))
             (cycle.relation s n (below_in at _ _ below within)) cycle.at skip.on
             (skip.passed s n _ (as_within _ _ _ (w.stop-is ∙ whole) within)
-            (length-map c.cycle_on-event.new.ports.items _ ∙ same))
+            (length-map c.tick_in_loop-event.new.ports.items _ ∙ same))
             (ap (λ (e : Option Event). of_thread c.args.thread e) cycle.retires
             ∙ c.set_line.ensures.others w.if-set_line.false));
       }

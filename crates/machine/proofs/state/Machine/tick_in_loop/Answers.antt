@@ -2,7 +2,7 @@ use Rattle.std.proofs.Common.{◌≡◌, length, refl, arith, ◌∙◌}
 use Rattle.std.proofs.lemmas.List.{length-map}
 use Rattle.machine.proofs.RunLemmas.{ticks}
 use Rattle.machine.proofs.WordLemmas.{cycle_words}
-use Rattle.machine.proofs.state.Machine.cycle_on.Goals as goal
+use Rattle.machine.proofs.state.Machine.tick_in_loop.Goals as goal
 
 pub returns-clause-relation : goal.returns-clause-relation
 returns-clause-relation g c =
