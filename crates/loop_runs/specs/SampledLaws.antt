@@ -13,7 +13,8 @@ use Rattle.loop_runs.specs.Plants.{Response, loop_start, response_at}
 abbrev pub plant_at : List (Option Response) → ℕ → Start → ℕ → Plant
 plant_at responses every s i = plant_of s every i (response_at responses i)
 
--- in a quiet run a confined hard thread has the same events as by itself in the loop with its plant
+-- in a quiet run a confined hard thread has the same events as when it runs by itself in the loop
+-- with its plant
 abbrev pub SampledAlone : Type 0
 SampledAlone = (responses : List (Option Response)) (every : ℕ) (s : Start) (n i c : ℕ)
     → StartsConfinedHard s i → c ≤ n → is_quiet (loop_start responses every s n) c ≡ true

@@ -3,8 +3,8 @@
 
 ghost use Rattle.loop_runs.specs.SampledLaws.{SampledAlone, SampledPhased, SampledUnpermitted};
 
-/// In a quiet run a confined hard thread has the same events as by itself in the loop with its
-/// plant. The other threads may run any code.
+/// In a quiet run a confined hard thread has the same events as when it runs by itself in the loop
+/// with its plant. The other threads may run any code.
 pub fn runs_alone_in_loops()
     ensures { SampledAlone }
 {
