@@ -36,9 +36,9 @@ const PAIR: u32 = TWO | (FUNCT7 - 0x0200_0000);
 /// Two registers, where funct7 and the register that is written are 0.
 const TIME: u32 = TWO | FUNCT7 | WRITTEN;
 
-/// By bits 2 to 6 of a word and its funct3: the fields of the registers that it reads. An entry also
-/// has the bits that must be 0. If one of these bits is set, the word is decoded in full: it is a
-/// subtraction, an arithmetic shift by a register, or no instruction.
+/// By bits 2 to 6 of a word and its funct3: the fields of the registers that it reads. An entry
+/// also has the bits that must be 0. If one of these bits is set, the word is decoded in full: it
+/// is a subtraction, an arithmetic shift by a register, or no instruction.
 static FIELDS: [u32; 256] = [
     ONE, ONE, ONE, NONE, ONE, ONE, NONE, NONE, // 0x03, loads
     NONE, NONE, NONE, NONE, NONE, NONE, NONE, NONE, // 0x07

@@ -49,7 +49,8 @@ pub fn data_word(
     requires eight { vec_len ports.old ≡ 8 }
     requires thread { thread < 8 }
     ensures word { result ≡ data_at guard.now.size imem.now dmem.now
-        (word_seen (row_at (rows_of latched word_at ports.old.items) thread) (cycle - cycles_to_m)) address }
+        (word_seen (row_at (rows_of latched word_at ports.old.items) thread)
+        (cycle - cycles_to_m)) address }
     ensures rows { rows_of latched word_at ports.new.items ≡
         rows_of latched word_at ports.old.items }
     ensures untouched { (is_code guard.now.size address || is_data guard.now.size address) ≡ true →

@@ -118,8 +118,8 @@ impl Pipe {
         self.tick_in_loop::<ONE_CYCLE>(units, ports, cycle)
     }
 
-    /// Does the same as [`tick`](Pipe::tick), in a loop over cycles. `LOOP` is the loop's number. It
-    /// has no effect on a result, and no other loop of the program may have it, as
+    /// Does the same as [`tick`](Pipe::tick), in a loop over cycles. `LOOP` is the loop's number.
+    /// It has no effect on a result, and no other loop of the program may have it, as
     /// [`execute_frequent`](hart_exec::execute_frequent) says.
     #[inline(always)]
     pub fn tick_in_loop<const LOOP: u8>(
