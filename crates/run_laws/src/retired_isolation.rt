@@ -5,7 +5,8 @@ ghost use Rattle.run_laws.specs.RetiredIsolation.{RetiredEqualViews, RetiredIsol
 ghost use Rattle.run_laws.specs.RetiredIsolation.{RetiredPhasedIsolation, RetiredWideIsolation};
 
 /// If no retired issue writes a configuration register, a confined hard thread without a permit
-/// runs as if it were by itself. Its events are those of the definition of one thread over its view.
+/// runs as if it were by itself. Its events are those that the definition of one thread has over
+/// its view.
 pub fn runs_alone()
     ensures { RetiredIsolation }
 {}
