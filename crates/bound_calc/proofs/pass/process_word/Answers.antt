@@ -7,7 +7,7 @@ use Rattle.bound_calc.proofs.pass.process_word.Goals as goal
 pub follow_edges-requires-clause-lag : goal.follow_edges-requires-clause-lag
 follow_edges-requires-clause-lag c =
     subst (λ e. e.next_lag ≤ 3) (sym c.edges_at-edges.ensures)
-      (lag-small c.args.tree.now c.args.index)
+    (lag-small c.args.tree.now c.args.index)
 
 pub returns : goal.returns
 returns c =
