@@ -26,6 +26,9 @@ from fplaunch.trees import locked, tree_of
 NEEDED_MEMORY = 2 << 30
 """Bytes that one proof may take."""
 
+JOB_MEMORY = 4 << 30
+"""Bytes that each job of a proof by several jobs may take: all libraries of the last crates."""
+
 NEEDED_DISK = 3 << 30
 """Bytes that a build may take on the disk."""
 
@@ -141,7 +144,7 @@ class Plan:
         """The number of jobs of the proof that was added to `running` last: one, and one for each processor that neither the other
         running proofs nor the `ready` crates need. Each job reads all libraries of the crate, so memory limits them too."""
         idle = self.at_once - len(self.running) - ready
-        return 1 + max(0, min(idle, free_memory() // NEEDED_MEMORY - 1))
+        return 1 + max(0, min(idle, free_memory() // JOB_MEMORY - 1))
 
     def pace(self) -> float:
         """The time of crates here, relative to a quiet processor of 2.5 GHz. Crates that took less than FIRST_SECONDS had been proved before."""

@@ -181,7 +181,7 @@ def test_a_proof_has_the_processors_that_no_other_crate_needs(checkout: Checkout
     command = "import sys; sys.path.insert(0, 'tools'); from fplaunch import build; from pathlib import Path;"
     command += " build.free_memory = lambda: memory; plan = build.Plan(build.Checkout(Path('.'), 'flexpret_cli'), 4); plan.running['a'] = 0.0;"
     command += " print([plan.jobs(ready) for ready in (0, 1, 2, 3, 9)])"
-    for memory, jobs in ((64, [4, 3, 2, 1, 1]), (5, [2, 2, 2, 1, 1]), (1, [1, 1, 1, 1, 1])):
+    for memory, jobs in ((64, [4, 3, 2, 1, 1]), (9, [2, 2, 2, 1, 1]), (7, [1, 1, 1, 1, 1])):
         words = [sys.executable, "-c", f"memory = {memory} << 30; {command}"]
         ran = subprocess.run(words, cwd=checkout.folder, capture_output=True, text=True, check=True)
         assert ran.stdout == f"{jobs}\n"
