@@ -112,7 +112,7 @@ unfolding run_at
 run-paced a pc t w x y n =
     unless-paced pc t w (late_rd n) _ _ (goes-paced a pc t w x y (result_of n pc x y) n)
 
--- the word of an execution is the fetched one, or 0 after a trap of the fetch
+-- the word of an execution is the fetched one, or 0 after an expiry or a refused fetch
 goes-word : (a : Environment) (pc : ℕ) (t : Own) (w x y : ℕ) (o : Outcome) (n : Ins) →
     (execute_untrapped a pc t w x y o n).word ≡ w
 unfolding execute_untrapped load store branch csr_access delay wait
@@ -145,7 +145,7 @@ act-word a pc t false w x y = go (a.fetch pc)
     go true = inl (run-word a pc t w x y (ins w))
     go false = inr refl
 
--- of the whole instruction
+-- an execution is paced, with the late register that its own word has
 pub record Pace (pc : ℕ) (d : Execution) : Type 0 where
   pub paced : Paced pc (late_rd (ins d.word)) d
 

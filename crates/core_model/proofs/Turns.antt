@@ -145,7 +145,8 @@ ages s (suc c) = ap length (nexts s c).turns ∙ ap suc (ages s c)
 pub turn-older : (s : Start) (c e : ℕ) → turn_at s (suc c) (suc e) ≡ turn_at s c e
 turn-older s c e = rw (nexts s c).turns refl
 
--- at a lag, from cycle 0 on: the turn of c - 1 - e takes the world of c - 1 - e to the one after it
+-- the turn that is e turns below the newest takes the world of its cycle, c - 1 - e, to the next
+-- one; before cycle 0 no turn changes the world
 pub lagging : (s : Start) (c e : ℕ) →
     Turned s (c - suc e) (world s (c - suc e)) (turn_at s c e) (world s (suc c - suc e))
 lagging s c e = go (cases_lt e c)

@@ -19,7 +19,7 @@ positions i p = if mode_of p.modes i == 0 then map (λ slot. slot == i) (frame p
 abbrev pub setting_in : Setting → Phase → Setting
 setting_in s p = record s { own = positions s.thread p }
 
--- the last setting of a list that begins in cycle c or before; p if there is none
+-- of the settings in a list, the last one that begins in cycle c or before; p if there is none
 abbrev pub latest : ℕ → Phase → List Phase → Phase
 latest c p [] = p
 latest c p (q ∷ qs) = latest c (if nat_le q.from c then q else p) qs

@@ -20,14 +20,15 @@ pub fn tells_picks()
     ensures { SettingsOfPicks }
 {}
 
-/// No retired issue sees an unretired write of slots or modes. The settings so far decide picking
-/// in its cycle, whatever comes later. The contract states the theorem; the call does nothing.
+/// No retired issue sees an unretired write of slots or modes. In the cycle of a retired issue, the
+/// settings so far decide picking, whatever comes later. The contract states the theorem; the call
+/// does nothing.
 pub fn unretired_is_unseen()
     ensures { UnretiredUnseen }
 {}
 
-/// A thread has a cycle if the slot of that cycle is its own and its mode is hard active. The
-/// contract states the theorem; the call does nothing.
+/// A thread has a cycle exactly if the slot of that cycle is its own and its mode is hard active.
+/// The contract states the theorem; the call does nothing.
 pub fn has_own_turns()
     ensures { OwnPositions }
 {}
