@@ -1,4 +1,4 @@
--- The length of a line: at most 59 bytes, while the cycle has ten digits.
+-- The length of a line: at most 59 bytes, if the cycle has at most ten digits.
 use Rattle.std.proofs.Common.{◌≡◌, ℕ, zero, suc, ◌/◌, ◌^◌, ◌<◌, ◌≤◌, length, refl}
 use Rattle.std.proofs.Common.{arith, inl, inr, lit≤, true, false, if◌then◌else◌, ◌==◌}
 use Rattle.std.specs.Prelude.{◌++◌, decimal, codes}

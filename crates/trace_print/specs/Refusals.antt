@@ -47,7 +47,7 @@ section_names =
     ∷ named 6 (codes "NotConfined")
     ∷ []
 
--- with an image, 1 to 6, or with an ELF file, 31 to 42
+-- the names of the faults of an image, 1 to 6, and of an ELF file, 31 to 42
 unfoldable pub image_names : List Named
 image_names =
     named 1 (codes "TooLong")
@@ -70,7 +70,7 @@ image_names =
     ∷ named 42 (codes "TooManySegments")
     ∷ []
 
--- with a line of a source
+-- the names of the faults of a source or of one of its lines
 unfoldable pub source_names : List Named
 source_names =
     named 1 (codes "TooLong")
@@ -86,7 +86,8 @@ source_names =
     ∷ named 11 (codes "TooManySegments")
     ∷ []
 
--- why there is no bound; at each but Overflow the value is an address
+-- the names of the reasons for which there is no bound; except for Overflow, the value is an
+-- address
 unfoldable pub bound_names : List Named
 bound_names =
     named 1 (codes "Nesting")

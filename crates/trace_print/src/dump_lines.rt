@@ -18,7 +18,7 @@ pub enum StageContent {
     Nothing,
     /// The picked thread. It isn't shown whether its turn will be flushed.
     Picked { thread: u8 },
-    /// A turn of the thread that was flushed.
+    /// A flushed turn of the thread.
     Flushed { thread: u8 },
     /// An issue of the thread, with its pc and its word.
     Issue { thread: u8, pc: u32, word: u32 },

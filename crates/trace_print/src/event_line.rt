@@ -19,12 +19,13 @@ const SAME: u64 = 10_000;
 /// The value of `first` if no cycle's upper digits are kept: a cycle that no line shows.
 const NONE: u64 = 10_000_000_000;
 
-/// The line of an event, in a buffer that is used again for the line of the next one: empty at
-/// first.
+/// The line of an event. It is empty at first. Its buffer is used again for the line of the next
+/// event.
 ///
-/// It has the same bytes as [`line`](crate::line), with fewer instructions, because runs spend many
-/// of theirs on lines. Digits come in pairs from a table and are written in place. The upper six
-/// columns of the cycle change once in 10,000 cycles and are reused from the previous line.
+/// It has the same bytes as [`line`](crate::line), and takes fewer instructions to make: a run
+/// spends many of its instructions on lines. Digits come in pairs from a table and are written in
+/// place. The upper six columns of the cycle change once in 10,000 cycles and are reused from the
+/// previous line.
 #[derive(Drop)]
 pub struct EventLine {
     /// The line, followed by bytes of earlier lines.
@@ -97,7 +98,8 @@ impl EventLine {
     }
 }
 
-/// Writes a cycle right-aligned in ten columns, and returns the first cycle with its upper digits.
+/// Writes a cycle right-aligned in ten columns. Returns the first cycle with the same upper digits,
+/// or [`NONE`] below 10,000.
 #[inline(always)]
 fn set_cycle(text: &mut [u8; ROOM], first: u64, cycle: u64) -> u64
     requires cycle { cycle < 10 ^ 10 }

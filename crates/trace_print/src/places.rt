@@ -39,7 +39,7 @@ fn push_row(text: &mut ArrayString<96>, table: u8, row: u32)
     push_index(text, row);
 }
 
-/// Appends a key's value, or if `item` isn't 0 the element with that number.
+/// Appends the name of a key. If `item` isn't 0, the index of an element follows: `item` - 1.
 #[tactic(auto, unfolding(crate::specs::Places::value_text))]
 fn push_value(text: &mut ArrayString<96>, table: u8, key: u8, item: u32)
     requires room { array_string_len text.old + 21 ≤ 96 }
