@@ -202,7 +202,7 @@ absent-turn s c i w (Lost k) after t off = ap (λ (ls : List ℕ). get_or ls i 0
 absent-turn s c i w (Ran k pc word effect) after t off =
     ap (λ (ls : List ℕ). get_or ls i 0) t.latches ∙ absent-latch s c i k effect w.latches off
 
--- the store of a cycle counts where the port is present in that cycle
+-- the store of a cycle counts if the port is present in that cycle, and only then
 one-present : (s : Start) (i c : ℕ) (xs : List PortStore) → has_port s i c ≡ true → IsOne c xs →
     present_stores s i xs ≡ xs
 one-present s i c xs on (inl e) = rw e refl
@@ -263,7 +263,7 @@ arrived-append : (m : ℕ) (xs ys : List PortStore) →
     arrived_stores m (xs ++ ys) ≡ arrived_stores m xs ++ arrived_stores m ys
 arrived-append m xs ys = filter-append (λ (store : PortStore). nat_lt (store.cycle + 3) m) xs ys
 
--- all of them
+-- three cycles after the last of them, all stores have arrived
 all-arrived : (s : Start) (i a m : ℕ) → a + 3 ≤ m →
     arrived_stores m (stores_before s i a) ≡ stores_before s i a
 unfolding world recent

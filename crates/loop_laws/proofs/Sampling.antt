@@ -27,7 +27,8 @@ filters-swap p q (x ∷ xs) = go (p x) (q x) refl refl (filters-swap p q xs)
     go false true e f same = rw (e, f, e) same
     go false false e f same = rw (e, f) same
 
--- a sample of the latch is the last store that was sent to the port so far
+-- a sample of the latch is the word of the last store that has reached the port, or the latch at
+-- the start
 latch-sample : (t : Start) (i a m : ℕ) → i < length t.latches → m ≤ a + 3
     → latch_word t i m
     ≡ last_word (get_or t.latches i 0) (arrived_stores m (present_stores t i (stores_before t i a)))

@@ -36,8 +36,8 @@ inputs_of s i = input_plant (slice_index_or s.shown i [])
 abbrev pub plant_at : ℕ → Plant → Start → ℕ → Plant
 plant_at i plant s k = if k == i then plant else inputs_of s k
 
--- the words of the eight ports in the first c cycles, if each thread has its plant: a cycle's word
--- is the plant's response in the run with the words before it
+-- The words of the eight ports in the first c cycles, if each thread has its plant. A cycle's word
+-- is the plant's response in the run with the words before it.
 unfoldable pub closed_words : (ℕ → Plant) → Start → ℕ → List (List ℕ)
 closed_words plants s zero = []
 closed_words plants s (suc c) =
@@ -45,6 +45,6 @@ closed_words plants s (suc c) =
     let stores = λ (k : ℕ). stores_before (with_all_shown s before) k c in
     map (λ k. slice_index_or before k [] ++ plants k (stores k) c ∷ []) (range_with_len 0 8)
 
--- the start of a run of n cycles whose ports show the words of plants
+-- the start whose ports show the words of plants in a run of n cycles
 abbrev pub closed_start : (ℕ → Plant) → Start → ℕ → Start
 closed_start plants s n = with_all_shown s (closed_words plants s n)

@@ -19,16 +19,16 @@ abbrev pub LoopIsolation : Type 0
 LoopIsolation = (plant : Plant) (s : Start) (i n : ℕ) → StartsConfinedHard s i → is_quiet s n ≡ true
     → IsAnswered plant s i n → events s i n ≡ solo_in_loop (loop_view s i) plant n
 
--- two machines give equal events of a thread that has in both the same plant, and the same view
--- without its port's words
+-- Let such a thread have the same plant in two machines, and the same view without its port's
+-- words. In quiet runs both machines give it equal events.
 abbrev pub EqualLoops : Type 0
 EqualLoops =
     (plant : Plant) (s t : Start) (i n : ℕ) → StartsConfinedHard s i → StartsConfinedHard t i →
     is_quiet s n ≡ true → is_quiet t n ≡ true → loop_view s i ≡ loop_view t i
     → IsAnswered plant s i n → IsAnswered plant t i n → events s i n ≡ events t i n
 
--- the same while slots and modes change: no region register is written, and no setting makes the
--- thread soft active
+-- as `LoopIsolation`, while slots and modes change: no region register is written, and no setting
+-- makes the thread soft active
 abbrev pub PhasedLoops : Type 0
 PhasedLoops = (plant : Plant) (s : Start) (i n : ℕ) → StartsConfined s i
     → list_all (is_never_soft i) (phases s n) ≡ true → keeps_regions s n ≡ true
@@ -46,11 +46,11 @@ LoopsWithoutPermits = (plants : ℕ → Plant) (s : Start) (i n : ℕ) → Start
     → ((k : ℕ) → slice_index_or s.permit k false ≡ false)
     → events (closed_start plants s n) i n ≡ solo_in_loop (loop_view s i) (plants i) n
 
--- fixed input words are a plant that ignores all stores: it responds to each thread in each run
+-- fixed input words are a plant that ignores all stores: it responds to its thread in each run
 abbrev pub InputsAnswer : Type 0
 InputsAnswer = (s : Start) (i n : ℕ) → IsAnswered (inputs_of s i) s i n
 
--- a thread has the same events by itself in the loop with this plant as by itself with these words
+-- by itself, a thread has the same events in the loop with this plant as with these words
 abbrev pub InputsAreLoops : Type 0
 InputsAreLoops = (v : View) (n : ℕ)
     → solo_in_loop (without_port_words v) (input_plant v.shown) n ≡ solo v n
@@ -60,7 +60,7 @@ abbrev pub PhasedInputsAreLoops : Type 0
 PhasedInputsAreLoops = (v : View) (ps : List Phase) (n : ℕ)
     → phased_in_loop (without_port_words v) (input_plant v.shown) ps n ≡ phased v ps n
 
--- the world before a cycle depends on the port words of earlier cycles only
+-- of the port words, only those of earlier cycles have an effect on the world before a cycle
 abbrev pub PastWords : Type 0
 PastWords = (s : Start) (shown : List (List ℕ)) (c : ℕ)
     → ((at k : ℕ) → at < c → port_word (with_all_shown s shown) at k ≡ port_word s at k)

@@ -32,7 +32,7 @@ abbrev pub present_stores : Start → ℕ → List PortStore → List PortStore
 present_stores s i stores = filter (λ store. has_port s i store.cycle) stores
 
 -- the sampled plant at thread i's port: it receives stores while the thread has a port, and its
--- first sample is the latch as it was handed in
+-- samples are the latch at the start until a store arrives
 abbrev pub sampled_at : Start → ℕ → ℕ → (List ℕ → ℕ) → Plant
 sampled_at s every i response =
     plant_behind_port (has_port s i) (sampled response every (slice_index_or s.latches i 0))

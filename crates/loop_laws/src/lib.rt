@@ -18,22 +18,23 @@ pub fn runs_alone_in_loop()
     run_laws::isolation::runs_alone();
 }
 
-/// In quiet runs two machines give equal events of a confined hard thread that has in both the same
-/// plant, and the same view without its port's words.
+/// Let a confined hard thread have the same plant in two machines, and the same view without its
+/// port's words. In quiet runs both machines give it equal events.
 pub fn shows_equal_events()
     ensures { EqualLoops }
 {
     runs_alone_in_loop();
 }
 
-/// A confined thread in a closed loop runs as if it were by itself with its plant over the settings
-/// of the scheduling, while no setting makes it soft active and no region register is written.
+/// Over the settings of the scheduling, a confined thread in a closed loop runs as if it were by
+/// itself with its plant. The conditions are that no setting makes it soft active, and that no
+/// region register is written.
 pub fn runs_by_phases_in_loop()
     ensures { PhasedLoops }
 {}
 
-/// Fixed input words are a plant that ignores all stores: it responds to each thread in each run,
-/// and a thread has the same events by itself in the loop with it as by itself with these words.
+/// Fixed input words are a plant that ignores all stores. It responds to its thread in each run. By
+/// itself, a thread has the same events in the loop with this plant as with these words.
 pub fn takes_inputs_as_plants()
     ensures answered { InputsAnswer }
     ensures alone { InputsAreLoops }
@@ -48,7 +49,8 @@ pub fn runs_alone_over_inputs()
     takes_inputs_as_plants();
 }
 
-/// The world before a cycle is the same for starts whose ports show the same words before it.
+/// The world before a cycle is the same for two starts that differ only in the port words of that
+/// cycle and later ones.
 pub fn depends_on_past_words()
     ensures { PastWords }
 {}
@@ -70,7 +72,7 @@ pub fn runs_alone_without_permits()
 }
 
 /// The latch of a port is the word of the last store that its thread issued there while the port
-/// was present.
+/// was present. Before such a store it is the latch at the start.
 pub fn latches_last_store()
     ensures { LatchOfStores }
 {}
