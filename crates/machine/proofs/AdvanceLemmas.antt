@@ -24,7 +24,7 @@ pub never : (shown : Bool) (x y : ℕ) → shown ≡ true → shown ≡ false �
 never true x y h k = cc
 never false x y h k = cc
 
--- the moments of an advance: its cycles, those that are skipped after them, and the end
+-- the bounds of an advance: its cycles, those that are skipped after them, and the end
 pub up_to : (at end : ℕ) → at < end → at ≤ end
 up_to at end low = omega arith
 

@@ -17,9 +17,10 @@ use fp_io::{PutFailed, Sink};
 use fp_ports::Ports;
 
 impl Machine {
-    /// Puts the dump of the machine, each line by one call: the cycles done, the contents of the
-    /// stages, the configuration registers, the registers, timer and latch of each thread, and the
-    /// nonzero words of the data scratchpad. It allocates no memory.
+    /// Puts the dump of the machine, each line by one call. First come the cycles done, the
+    /// contents of the stages, and the configuration registers. The registers, trap registers,
+    /// timer, sleep moment and latch of each thread follow. Last come the words of the data
+    /// scratchpad, eight a line, without the lines of zeros. No memory is allocated.
     ///
     /// # Errors
     ///

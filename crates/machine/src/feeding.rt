@@ -46,8 +46,9 @@ fn feed_thread(ports: &mut Ports, thread: u8, inputs: &[Input]) -> Result<(), Al
     Ok(())
 }
 
-/// A machine with ports that were fed the inputs of its setup starts in the world of the setup and
-/// of the ports before they were fed. The contract states the theorem; the call does nothing.
+/// Take a machine with ports that were fed the inputs of its setup. It starts in the world of the
+/// setup and of the ports before they were fed. The contract states the theorem; the call does
+/// nothing.
 pub fn feeds_the_start()
     ensures { FeedsStart }
 {}

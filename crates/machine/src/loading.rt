@@ -77,7 +77,8 @@ fn permits(setup: &Setup) -> [bool; 8]
     ]
 }
 
-/// The cycle from which each thread's issues find no port, if there is one.
+/// For each thread, the cycle from which its issues find no port; None if its port is never
+/// removed.
 fn unplugs(setup: &Setup) -> [Option<u64>; 8]
     ensures { result ≡ map (λ (t : ThreadSetup). t.unplug) setup.now.threads }
 {

@@ -11,6 +11,7 @@ pub struct Machine {
     pub units: Units,
     /// The number of cycles done.
     pub at: u64,
-    /// The cycle from which a thread's issues find no port, if there is one.
+    /// For each thread, the cycle from which its issues find no port; None if its port is never
+    /// removed.
     pub unplugs: [Option<u64>; 8],
 }
