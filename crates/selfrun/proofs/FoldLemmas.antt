@@ -223,7 +223,7 @@ by_bytes w small =
     let d0 : w % 0x100 % 16 ≡ w % 16 = omega arith in
     rw (d5, d4, d3, d2, d1, d0, two, three, four, five, six, seven, d7) refl
 
--- each of these effects has its own text
+-- the hash with the text of an effect, from the effect's fields
 pub of_nothing : (h : ℕ) → with_byte h 45 ≡ fold_of h (effect_text Nothing)
 unfolding fold_of effect_text
 of_nothing h = refl

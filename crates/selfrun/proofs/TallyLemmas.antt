@@ -189,7 +189,7 @@ beside_none : (number n : ℕ) →
 unfolding own_start start plain_threads
 beside_none number n = refl
 
--- those of the machine's own number of cycles are its own
+-- the tallies of the first 100,000 cycles are those of the machine's own run
 own_tallies_are : (number n : ℕ) → n ≡ 100000 →
     tallies_of (own_start number n) n ≡ own_tallies number
 unfolding own_tallies

@@ -45,8 +45,8 @@ drawn_ins x =
     form (x / 2 ^ 28 % 8) (1 + x / 2 ^ 8 % 7) (1 + x / 2 ^ 12 % 7) (1 + x / 2 ^ 16 % 7)
     (4 * (x / 2 ^ 20 % 64))
 
--- the instructions of thread k before the drawn ones: they load the address of region k of the data
--- scratchpad, 0x20000000 + 2048 * k, into x8, as a multiple of 4,096 minus 2,048 for an odd k
+-- The instructions of thread k before the drawn ones. They load the address of region k of the data
+-- scratchpad, 0x20000000 + 2048 * k, into x8. For an odd k it is a multiple of 4,096 minus 2,048.
 abbrev pub first_ins : ℕ → List Ins
 first_ins k =
     Lui 8 (0x20000 + (k + 1) / 2) ∷ OpImm Addi 8 8 (if k % 2 == 0 then pos 0 else negsuc 2047) ∷ []

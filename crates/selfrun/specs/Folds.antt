@@ -25,7 +25,7 @@ pair_sum byte = hex_digit (byte / 16) * 31 + hex_digit (byte % 16)
 abbrev pub ArePairs : List ℕ → Type 0
 ArePairs pairs = (byte : ℕ) → byte < 256 → slice_index_or pairs byte 0 ≡ pair_sum byte
 
--- a register's name and the sign after it, by register
+-- a register's name and the `=` after it, by register
 abbrev pub name_text : ℕ → List ℕ
 name_text rd = codes "x" ++ (two_digits rd ++ codes "=")
 

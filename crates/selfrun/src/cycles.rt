@@ -46,7 +46,8 @@ fn lower_pieces() -> [Piece; 100]
 pub struct Cycles {
     /// The last two digits of a cycle and the space after it, by these digits.
     lower: [Piece; 100],
-    /// The first one of the hundred cycles, 100 or more: below that, spaces stand for digits.
+    /// The first one of the hundred cycles, 100 or more: a cycle below 100 has spaces in place of
+    /// digits.
     first: u64,
     /// The text before their last two digits.
     upper: Piece,

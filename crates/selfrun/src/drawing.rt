@@ -28,7 +28,7 @@ fn push_ins(bytes: &mut Vec<u8>, ins: &Ins) -> Result<(), AllocError>
     bytes.extend_from_slice(&buffer)
 }
 
-/// Appends a number of drawn instructions, and returns the last draw.
+/// Appends [`DRAWS`] drawn instructions, and returns the last draw.
 fn push_drawn(bytes: &mut Vec<u8>, first: u32) -> Result<u32, AllocError>
     ensures bytes { OnOk result (bytes.new.items ≡ bytes.old.items
         ++ bytes_of (drawn_from first 124)) }
@@ -76,8 +76,9 @@ pub fn drawn_image(alloc: Global, number: u32) -> Result<Image, AllocError>
     Ok(image)
 }
 
-/// The setup of the machine's own run: a period of 10 ns, slots for threads 0 to 3, which are hard
-/// and confined, and for soft threads, which 4 to 7 are; each thread enters at its own segment.
+/// The setup of the machine's own run. The period is 10 ns. Threads 0 to 3 are hard and confined,
+/// with one slot each. Four slots follow for threads 4 to 7, which are soft. Each thread enters at
+/// its own segment.
 ///
 /// # Errors
 ///

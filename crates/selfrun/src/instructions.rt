@@ -6,7 +6,7 @@ ghost use Rattle.selfrun.specs.Drawn.{drawn_ins, next_draw};
 
 use rv_decode::{AluOp, BranchOp, ImmOp, Ins, LoadOp, StoreOp};
 
-/// The draw after a number: the number times 1,664,525 and 1,013,904,223, modulo 2^32.
+/// The draw after a number: 1,664,525 times the number, plus 1,013,904,223, modulo 2^32.
 #[tactic(auto, unfolding(crate::specs::Drawn::next_draw))]
 pub fn next_draw(x: u32) -> u32
     ensures { result ≡ next_draw x }

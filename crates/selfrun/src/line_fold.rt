@@ -14,7 +14,7 @@ use rv_exec::{Effect, Event};
 use std::marker::Model;
 use trace_print::line;
 
-/// The names of the registers, each with the sign after it.
+/// The names of the registers, each with the `=` after it.
 fn register_names() -> [Piece; 32]
     ensures { AreNames result }
 {
