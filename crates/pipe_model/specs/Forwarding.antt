@@ -23,6 +23,7 @@ from_m k Bubble regs = regs
 from_m k (Flushed j) regs = regs
 from_m k (Issue j x) regs = if j == k then forward x.effect regs else regs
 
--- a source register of thread k: the younger turns come after the bank
+-- a source register of thread k: its value in E if there is one, else that in M, else that of the
+-- bank
 abbrev pub operand : List (List ℕ) → Held Stored → Held Executed → ℕ → ℕ → ℕ
 operand bank m e k x = reg_in (from_e k e (from_m k m (slice_index_or bank k []))) x

@@ -184,7 +184,7 @@ pub record Refines (s : Start) (c : ℕ) (p : StageRegisters) (u : State) : Type
   pub units : u ≡ units_of s c u.ports
   pub ports : HasLatches (world s (c - cycles_to_m)) u.ports
 
--- a start with eight threads, all ready
+-- a start with eight threads, all ready, and eight latches
 pub record Begins (s : Start) : Type 0 where
   pub eight : length s.threads ≡ 8
   pub ready : (k : ℕ) → (slice_index_or s.threads k (fresh 0)).ready ≡ 0

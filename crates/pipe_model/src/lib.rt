@@ -10,8 +10,9 @@ ghost use Rattle.pipe_model.specs.PipelineLaws.{RefinesWithoutPort, ShowsTurns, 
 
 pub use stage_registers::{Decoded, Executed, Fetched, Flush, Held, Redirect, Stored, Written};
 
-/// If the pipeline's state refines a cycle of a world, its state after one cycle refines the next
-/// one, for any words of code and data. The contract states the theorem; the call does nothing.
+/// If the pipeline's state and its ports refine a cycle of a world, the state after that cycle
+/// refines the next one. The words of code and data are arbitrary. The contract states the theorem;
+/// the call does nothing.
 pub fn refinement()
     ensures { StepRefines }
 {}
@@ -42,8 +43,8 @@ pub fn shows_turns()
 {}
 
 /// Stage registers that refine a cycle hold the contents that the profile of the core defines for
-/// the last five turns, from each turn's pc, word and effect. The contract states the theorem; the
-/// call does nothing.
+/// the last five turns. They follow from each turn's pc, word and effect, and from its thread's
+/// registers. The contract states the theorem; the call does nothing.
 pub fn holds_turns()
     ensures { HoldsTurns }
 {}

@@ -88,8 +88,9 @@ pub enum Flush {
     DecodeAndFetch,
 }
 
-/// A redirect from E to D and F in the same cycle: the thread, 0 to 7, fetches at `pc` next, and
-/// its turns in D and F are flushed as `flush` says. Turns of other threads aren't touched.
+/// A redirect from E to D and F in the same cycle: the thread, 0 to 7, fetches at `pc` next. Its
+/// turn in D is flushed, and with `DecodeAndFetch` that in F too. Turns of other threads aren't
+/// touched.
 #[derive(Clone, Copy, Debug)]
 pub struct Redirect {
     /// Whose turns are flushed.

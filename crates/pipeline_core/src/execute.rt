@@ -30,8 +30,7 @@ use rv_exec::Effect;
 /// The loop number of [`execute_rare`], which no loop contains.
 const OUT_OF_LINE: u8 = 0;
 
-/// Which younger turns a redirect flushes after a lag, by the lag of the execution; None where none
-/// are.
+/// Which younger turns of the thread are flushed, by the lag of the execution; None if none are.
 #[inline(always)]
 fn flush_of(lag: u64) -> Option<Flush>
     ensures flush { result ≡ (if lag == plain_lag then None
@@ -307,8 +306,8 @@ fn execute_turn<const LOOP: u8>(
 }
 
 /// Executes the turn that was issued two cycles ago. Returns whether its thread's next turns are
-/// flushed; where they are, `redirect` says where it goes on. Changes the units of its thread, and
-/// slots, modes and regions.
+/// flushed. If so, `redirect` has the pc at which the thread continues. Changes the units of its
+/// thread, and slots, modes and regions.
 #[tactic(auto, unfolding(pipe_model::specs::Stages::execute_stage))]
 #[inline(always)]
 pub fn execute_stage<const LOOP: u8>(

@@ -25,7 +25,7 @@ use scratchpad::Spm;
 use std::slice::{from_mut, from_ref};
 
 /// The effect of an instruction whose value may come late, with that value. Until M its effect is
-/// `Nothing`. A load at the port reads the word of three cycles ago, when it was issued.
+/// `Nothing`. A load at the port reads the word of three cycles ago, the cycle of the load's issue.
 #[inline(always)]
 fn late_effect(
     guard: &Guard,

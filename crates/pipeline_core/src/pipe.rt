@@ -29,8 +29,8 @@ const ONE_CYCLE: u8 = 0;
 /// The stage registers, with the turns of the last five cycles. Before cycle c, `f` holds the turn
 /// of c − 1, `d` that of c − 2, and so on to `w` with that of c − 5.
 ///
-/// Threads are 0 to 7, pcs are multiples of four, effects can be shown in a line of a trace, and
-/// the addresses of loads and stores are aligned for their sizes.
+/// Threads are 0 to 7, and pcs are multiples of four. Effects can be shown in a line of a trace.
+/// The addresses of loads and stores are aligned for their sizes.
 #[derive(Clone, Copy, Debug)]
 pub struct Pipe {
     /// The pc that each thread fetches next.

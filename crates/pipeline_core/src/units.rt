@@ -21,7 +21,7 @@ pub struct Units {
     pub dmem: Spm,
     /// The region registers, and the size of each scratchpad.
     pub guard: Guard,
-    /// The round-robin pointer of donation.
+    /// The round-robin pointer of the soft threads.
     pub scheduler: Scheduler,
     /// Slots, modes and sleep moments, as written by the execute stage.
     pub sched: Sched,
