@@ -87,11 +87,12 @@ pub record Refines (before after : Hart) (x : ExecResult) (d : Execution) : Type
   pub did : abstract_result d.own x ≡ d
   pub units : units_of after ≡ units_after before.thread d (units_of before)
 
--- and changes nothing of its thread
+-- it does so and changes no unit, whatever the units are
 abbrev pub RefinesInPlace : ExecResult → (Own → Execution) → Type 0
 RefinesInPlace x d = (h : Hart) → Refines h h x (d (own_of h))
 
--- the same thread with the same units, be they changed
+-- the same thread, time and rights, with references to the same units; the content of a unit may
+-- differ
 abbrev pub Holds : Hart → Hart → Type 0
 Holds a b =
     (b.thread ≡ a.thread) × (b.time ≡ a.time) × (b.confined ≡ a.confined) × (b.permit ≡ a.permit)

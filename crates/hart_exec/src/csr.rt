@@ -16,7 +16,7 @@ use trap_unit::CsrOp;
 /// The access of a CSR instruction to its register.
 #[derive(Clone, Copy)]
 pub struct Access {
-    /// Whether it swaps, sets or clears bits.
+    /// Whether it replaces the old value, or sets or clears bits in it.
     pub op: CsrOp,
     /// The value of its register, or its immediate, 0 to 31.
     pub operand: u32,

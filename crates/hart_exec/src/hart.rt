@@ -7,8 +7,9 @@ use slot_scheduler::Sched;
 use timer_unit::Timers;
 use trap_unit::Traps;
 
-/// A hardware thread in the cycle of an issue of it, with the units that the instruction reads and
-/// changes. Of the other threads' timers, trap registers and sleep moments it changes nothing.
+/// A hardware thread in the cycle in which it issues an instruction, with the units that the
+/// instruction reads and changes. It changes no timer, trap register or sleep moment of another
+/// thread.
 #[derive(Drop)]
 pub struct Hart<'a> {
     /// The thread's number, 0 to 7.

@@ -179,7 +179,7 @@ pub fn branch_on(at: PcWord, i: &Ins, taken: bool, target: u32) -> ExecResult
     }
 }
 
-/// MRET: the thread goes back to where its last trap was taken.
+/// MRET: the thread continues at mepc.
 #[inline(always)]
 pub fn return_from_trap(hart: &Hart<'_>, at: PcWord, i: &Ins) -> ExecResult
     requires { lag i.now false false ≡ redirect_lag }
