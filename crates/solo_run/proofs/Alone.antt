@@ -253,7 +253,8 @@ stays g a pc t false w x y h = go (a.fetch pc)
     go true = run-stays g a pc t w x y (ins w) h
     go false = (refl, lit≤ tt)
 
--- An instruction of such a thread keeps the regions, and its lag is at most three.
+-- Without a permit every access to a configuration register is refused. So an instruction of such a
+-- thread keeps the regions, and its lag is at most three.
 without_permit : (h : Hart) → h.permit ≡ false → (csr : ℕ) → (environment_of h).shared csr ≡ None
 unfolding environment_of
 without_permit h permit csr = rw permit refl

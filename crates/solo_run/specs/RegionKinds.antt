@@ -17,7 +17,7 @@ abstract_kind Foreign = foreign
 abbrev pub abstract_kinds : List Given → List RegionKind
 abstract_kinds kinds = map abstract_kind kinds
 
--- from its number in a view
+-- a kind, from its number in a view
 abbrev pub kind_of_number : ℕ → RegionKind
 kind_of_number number =
     if number == 0 then mine

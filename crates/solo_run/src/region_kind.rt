@@ -7,7 +7,7 @@ pub enum RegionKind {
     Mine,
     /// Every thread may fetch and load there.
     ReadOnly,
-    /// Every thread may store there; none that is confined may load.
+    /// Every thread may store there; a confined thread may neither fetch nor load there.
     Shared,
     /// It is another thread's.
     Foreign,

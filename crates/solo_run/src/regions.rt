@@ -40,8 +40,8 @@ fn word_of(digits: &[u8; 8]) -> u32
     word
 }
 
-/// A region register in which each region has the kind for the thread that the numbers of a view
-/// give.
+/// A region register whose eight regions have given kinds for a thread. `numbers` has the number of
+/// each kind, as a view does.
 pub fn regions(numbers: [u8; 8], thread: u8) -> Regions
     requires { thread < 8 }
     ensures { region_kinds thread result ≡ kinds_of_numbers numbers }
