@@ -22,8 +22,8 @@ rs1 w = field w 15 5
 abbrev pub rs2 : ℕ → ℕ
 rs2 w = field w 20 5
 
--- the immediates of the formats I, S, B, U and J, with their bits as in the manual's figures; the U
--- immediate is only the field, without the twelve zero bits below it
+-- The immediates of the formats I, S, B, U and J, with their bits as in the manual's figures. The U
+-- immediate is only the field, without the twelve zero bits below it. Here is that of format I.
 abbrev pub imm_i : ℕ → ℤ
 imm_i w = sign_extended 12 (field w 20 12)
 

@@ -280,28 +280,29 @@ pub enum Ins {
         /// The register that is written, 0 to 31; x0 keeps 0.
         rd: u8,
     },
-    /// Delay until the moment `rs1` × 2^32 + `rs2`, holding the slots.
+    /// Delay until the moment `rs1` × 2^32 + `rs2`, and keep the slots.
     Du {
         /// The register with the high word of the moment in nanoseconds, 0 to 31.
         rs1: u8,
         /// The register with its low word, 0 to 31.
         rs2: u8,
     },
-    /// Wait until that moment, or the armed one if that is earlier, and donate the slots.
+    /// Wait until the moment `rs1` × 2^32 + `rs2`, or the armed one if that is earlier, and donate
+    /// the slots.
     Wu {
         /// The register with the high word of the moment in nanoseconds, 0 to 31.
         rs1: u8,
         /// The register with its low word, 0 to 31.
         rs2: u8,
     },
-    /// Arm the expiry trap at that moment.
+    /// Arm the expiry trap at the moment `rs1` × 2^32 + `rs2`.
     Ee {
         /// The register with the high word of the moment in nanoseconds, 0 to 31.
         rs1: u8,
         /// The register with its low word, 0 to 31.
         rs2: u8,
     },
-    /// Disarm it.
+    /// Disarm the expiry trap.
     De,
     /// A word that is no instruction.
     Illegal {

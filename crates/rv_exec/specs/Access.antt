@@ -11,7 +11,7 @@ use Rattle.rv_decode.specs.declared.instruction.StoreOp.TheVariants.{Sb, Sh, Sw}
 use Rattle.rv_decode.specs.declared.instruction.Ins.{Ins}
 use Rattle.rv_decode.specs.declared.instruction.Ins.TheVariants.{Load, Store}
 
--- the size of a load or store, in bytes
+-- the number of bytes that a load reads
 abbrev pub load_size : LoadOp → ℕ
 load_size Lb = 1
 load_size Lh = 2

@@ -52,9 +52,9 @@ quotient (pos a) (negsuc b) = pos 0 -ℤ pos (a / suc b)
 quotient (negsuc a) (pos b) = pos 0 -ℤ pos (suc a / b)
 quotient (negsuc a) (negsuc b) = pos (suc a / suc b)
 
--- "Multiplication Operations" and "Division Operations" of the M extension: the high words are
--- those of the products of both signed, of signed and unsigned, and of both unsigned; a division by
--- 0 gives all ones and leaves a
+-- "Multiplication Operations" and "Division Operations" of the M extension. The high words are
+-- those of the products of both signed, of signed and unsigned, and of both unsigned. A quotient by
+-- 0 is all ones, and a remainder by 0 is a.
 unfoldable pub mul_result : MulOp → ℕ → ℕ → ℕ
 mul_result Mul a b = a * b % 2 ^ 32
 mul_result Mulh a b = word (floor_div (signed a *ℤ signed b) (2 ^ 32))

@@ -51,7 +51,7 @@ of_value n = record nothing { value = n }
 abbrev pub of_trap : ℕ → Outcome
 of_trap cause = record nothing { trap = Some cause }
 
--- an access of a number of bytes at an address; it traps if it isn't aligned
+-- an access of a number of bytes at an address; it traps if the address isn't aligned
 abbrev pub of_access : ℕ → ℕ → ℕ → Outcome
 of_access address size cause =
     record nothing { address = address; trap = unless (is_aligned address size) cause }

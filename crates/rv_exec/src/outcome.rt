@@ -183,7 +183,7 @@ pub enum Effect {
     Wait,
 }
 
-/// An issue of a thread's instruction that was neither flushed nor waiting at a DU.
+/// An issue of a thread, with its effect. The issue of a DU that waits is no event.
 #[derive(Clone, Copy, Debug)]
 pub struct Event {
     /// The cycle in which it was issued.
