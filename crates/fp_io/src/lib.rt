@@ -1,8 +1,8 @@
 //! Input and output of the program: files that are read whole by name, and a sink that takes bytes.
 //!
-//! Both are traits, so that the layers above are proved for every kind of file and sink. An
-//! object's contract may expose its content, and it counts its faults. With the count, a caller's
-//! contract can state that a fault is returned only if one occurred.
+//! Both are traits, so that the layers above are proved for every kind of file and sink. An object
+//! counts its faults, and its contract may expose its content. With the count, a caller's contract
+//! can state that a fault is returned only if one occurred.
 
 #![tactic(auto)]
 

@@ -14,7 +14,7 @@ use Rattle.fp_setup.specs.Faults.{fault, first, element_of}
 use Rattle.fp_setup.specs.Vocabulary.{Text, number_of, refusal}
 use Rattle.fp_setup.specs.Values.{number, as_list, pair, input_of}
 
--- a value at its place
+-- a check of a value at its place: the fault, or none
 abbrev pub Check : Type 0
 Check = Place → Data → Option Fault
 

@@ -12,7 +12,7 @@ use Rattle.fp_setup.specs.Vocabulary.{Text, number_of}
 use Rattle.fp_setup.specs.Values.{number, text, members, number_at}
 use Rattle.fp_setup.specs.Values.{text_at, truth_at, elements_at, input_of}
 
--- the number of digits in a base, the lowest first
+-- the number with these digits in a base, the lowest first
 abbrev pub word_of : ℕ → List ℕ → ℕ
 word_of base [] = 0
 word_of base (digit ∷ digits) = digit + base * word_of base digits

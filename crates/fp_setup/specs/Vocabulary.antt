@@ -47,7 +47,7 @@ is_value Slots n = is_slot n
 is_value Owners n = is_owner n
 is_value Modes n = nat_lt n 4
 
--- a word of eight of these, in the register that holds them; modes have two bits each
+-- whether the register of these numbers accepts a word; it accepts every word of eight modes
 abbrev pub is_word : Words → ℕ → Bool
 is_word Slots word = is_table word
 is_word Owners word = is_regions word

@@ -24,7 +24,8 @@ impl Range {
         Range { low, high, step: 1 }
     }
 
-    /// The addresses of words, from one to the last of a scratchpad of `size` bytes, at least 4.
+    /// The addresses of words, from `low` to the last word of a scratchpad of `size` bytes. `size`
+    /// is at least 4.
     pub(crate) fn addresses(low: u32, size: u32) -> Range
         requires { 4 ≤ size }
         ensures { result ≡ addresses low size }

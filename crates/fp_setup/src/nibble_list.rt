@@ -30,7 +30,7 @@ fn eight_numbers(items: &[Value], words: Words, place: Place) -> Result<[u8; 8],
     Ok(numbers)
 }
 
-/// The number of eight digits in a base, the lowest first.
+/// The number with eight given digits in a base, the lowest first.
 fn word_of_digits(base: u32, digits: &[u8; 8]) -> u32
     requires base { base ≤ 16 }
     requires digits { list_all (λ n. nat_lt n base) digits.now ≡ true }

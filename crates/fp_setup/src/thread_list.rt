@@ -17,7 +17,7 @@ pub struct ThreadSetup {
     /// Whether the thread may read and write the registers of scheduling and regions. A confined
     /// thread may not.
     pub permit: bool,
-    /// The cycle from which on the thread's issues find no port, if there is one.
+    /// The cycle from which on the thread's issues find no port; None if the port is never removed.
     pub unplug: Option<u64>,
     /// The inputs of the thread's port.
     pub inputs: Inputs,
