@@ -1,5 +1,5 @@
 -- The regions of the two scratchpads, and the permissions of threads to fetch, load and store.
--- `size` is that of each scratchpad, in bytes; each has eight regions of a size / 8 bytes.
+-- `size` is that of each scratchpad, in bytes; each has eight regions of `size` / 8 bytes.
 use Rattle.std.specs.Prelude.{◌≡◌, ◌⊎◌, ℕ, ◌+◌, ◌/◌, ◌%◌, ◌==◌, nat_lt, nat_le}
 use Rattle.std.specs.Prelude.{Bool, true, false, not, ◌&&◌, ◌||◌, if◌then◌else◌}
 use Rattle.std.proofs.Common.{inl, inr, ap, arith}

@@ -8,7 +8,7 @@ ghost use Rattle.region_guard.specs.Regions.{may_read, may_store, region_of};
 use crate::memory_map::{DATA_START, PORT_ADDRESS};
 use crate::register::Regions;
 
-/// The number of bits of a region's index: there are eight.
+/// The number of bits of a region's index: there are eight regions.
 const INDEX_BITS: u32 = 3;
 
 /// The owners of the regions of both scratchpads.
@@ -59,7 +59,8 @@ impl Guard {
         address.wrapping_sub(DATA_START) < self.size
     }
 
-    /// The index of the word in the instruction scratchpad that an address of it is in.
+    /// The index, in the instruction scratchpad, of the word that contains an address of this
+    /// scratchpad.
     #[tactic(auto, unfolding(crate::specs::Regions::index_of))]
     pub fn code_index(&self, address: u32) -> u32
         requires { IsTrue (is_code self.now.size address) }
@@ -69,7 +70,7 @@ impl Guard {
         address / 4
     }
 
-    /// The index of the word in the data scratchpad that an address of it is in.
+    /// The index, in the data scratchpad, of the word that contains an address of this scratchpad.
     #[tactic(auto, unfolding(crate::specs::Regions::index_of))]
     pub fn data_index(&self, address: u32) -> u32
         requires { IsTrue (is_data self.now.size address) }
@@ -97,8 +98,8 @@ impl Guard {
     }
 
     /// Whether a thread may load `size` bytes at an address that is aligned for them: in both
-    /// scratchpads, a confined thread only in its own and read-only regions; and four bytes at the
-    /// port.
+    /// scratchpads, and four bytes at the port. In the scratchpads a confined thread may load only
+    /// in its own and read-only regions.
     #[tactic(auto, unfolding(crate::specs::Regions::may_load))]
     pub fn may_load(&self, thread: u8, confined: bool, address: u32, size: u8) -> bool
         ensures { result

@@ -12,8 +12,8 @@ use std::marker::Model;
 use thiserror::Error;
 
 /// A word of a region register, dregions (0x7C2) or iregions (0x7C3): a nibble for each of a
-/// scratchpad's eight regions, region i in bits 4i to 4i + 3, which names the thread that owns it
-/// (0 to 7), or is 8 for a shared and 12 for a read only region.
+/// scratchpad's eight regions, region i in bits 4i to 4i + 3. A nibble is the thread that owns the
+/// region (0 to 7), or 8 for a shared and 12 for a read only region.
 #[derive(Clone, Copy, Debug)]
 pub struct Regions {
     word: u32,

@@ -117,7 +117,7 @@ fewer left some small =
     tried (λ left. nat_lt (bit_and left (left - 1)) left) 1 255 all_fewer left some small in
     grind (arith, nat_tests, less)
 
--- the times of the sleep moments
+-- whether the time has reached a thread's sleep moment
 abbrev pub slept : Sched → ℕ → ℕ → Bool
 slept s now thread = nat_le (slice_index_or s.sleep thread 0) now
 

@@ -19,7 +19,7 @@ is_awake s now thread =
 abbrev pub takes_donated : Sched → ℕ → ℕ → Bool
 takes_donated s now thread = is_soft (mode_of s.modes thread) && is_awake s now thread
 
--- the threads in the order of the search: those after the last one, and that one at the end
+-- the threads in the order of the search, which begins after the last picked one and ends with it
 unfoldable pub after_last : ℕ → List ℕ
 after_last last = map (λ d. (last + d) % 8) (1 ∷ 2 ∷ 3 ∷ 4 ∷ 5 ∷ 6 ∷ 7 ∷ 8 ∷ [])
 

@@ -119,7 +119,7 @@ impl Modes {
         self.word
     }
 
-    /// Whether a slot's nibble, which is below 16, names a thread that is active.
+    /// Whether a slot's nibble, which is below 16, is an active thread.
     #[tactic(auto, using(crate::proofs::Masks::active_bit))]
     pub(crate) fn is_active(&self, slot: u8) -> bool
         requires { slot < 16 }

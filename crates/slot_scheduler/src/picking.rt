@@ -30,7 +30,8 @@ pub enum Pick {
     Bubble,
 }
 
-/// The round-robin pointer: the soft thread that was picked last by donation, at first 7.
+/// The round-robin pointer: the thread that was picked last in a soft slot or in a donated one, at
+/// first 7.
 #[derive(Clone, Copy, Debug)]
 pub struct Scheduler {
     last: u8,
@@ -59,7 +60,7 @@ impl Sched {
         self.modes.is_active(slot) && self.sleep[slot as usize] <= now
     }
 
-    // The first soft thread that is awake, of those after the last one and that one at the end.
+    // The first soft thread that is awake, in the order that begins after `last` and ends with it.
     //
     // Bit j of `left` is the thread j after `first`, and each iteration clears the lowest bit. So
     // the loop visits no hard thread, and ends at once if no thread is soft.

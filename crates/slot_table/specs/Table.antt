@@ -28,7 +28,7 @@ table_of word = unless_bad word (bad_slot word)
 abbrev pub in_positions : List ℕ → List ℕ
 in_positions slots = slots ++ replicate (8 - length slots) disabled_slot
 
--- cycles below it have their position by a multiplication
+-- the position of each cycle below this one is computed by a multiplication
 abbrev pub early : ℕ
 early = 2 ^ 61
 

@@ -27,7 +27,7 @@ low_word now = now % 4294967296
 abbrev pub high_word : ℕ → ℕ
 high_word now = now / 4294967296 % 4294967296
 
--- whether a moment is armed that the time has reached
+-- whether the time has reached the armed moment; false if none is armed
 abbrev pub is_due : Option ℕ → ℕ → Bool
 is_due None now = false
 is_due (Some armed) now = nat_le armed now

@@ -40,7 +40,8 @@ impl Clock {
         Clock { period }
     }
 
-    /// The time of a cycle, at most [`LAST_TIMED_CYCLE`], in nanoseconds from the first cycle's.
+    /// The time of a cycle, in nanoseconds since cycle 0. The cycle is at most
+    /// [`LAST_TIMED_CYCLE`].
     pub fn now(&self, cycle: u64) -> u64
         requires { cycle ≤ last_timed_cycle }
         ensures { result ≡ time self.now cycle }

@@ -95,7 +95,8 @@ impl Timers {
         self.rows[thread as usize].armed
     }
 
-    /// Whether a moment is armed for the thread that the time has reached.
+    /// Whether the time has reached the moment that is armed for the thread; false if none is
+    /// armed.
     pub fn due(&self, thread: u8, now: u64) -> bool
         requires { thread < 8 }
         ensures { result ≡ is_due (timer_of self.now thread).armed now }
