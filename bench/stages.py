@@ -112,7 +112,7 @@ class Nodes:
         self.type = self.add('!DISubroutineType(types: !{null})')
 
     def add(self, text: str) -> str:
-        """Adds a node, and returns the text that stands for it."""
+        """Adds a node, and returns the name by which others refer to it."""
         name = f'!{FIRST_NODE + len(self.texts)}'
         self.texts.append(f'{name} = {text}')
         return name

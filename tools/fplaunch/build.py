@@ -39,6 +39,9 @@ FIRST_SECONDS, SOURCE_SECONDS, PROOF_SECONDS, LIBRARY_SECONDS, LINK_SECONDS = 10
 """The seconds of a crate on a processor of 2.5 GHz: fixed, for a byte of src, for a byte of specs and proofs, for each crate that it uses, and for
 the link of a program."""
 
+JOBS_GAIN = 1.3
+"""How many times as fast the longest chain of crates is proved where processors are idle: they get jobs of its proofs."""
+
 SLACK_SECONDS, MOST_NICENESS = 30.0, 15
 """Seconds, and the largest niceness. A proof gets one point for each SLACK_SECONDS by which its chain is shorter than the longest one."""
 
@@ -119,7 +122,7 @@ class Plan:
         """The estimated seconds until the program is built, by the pace so far."""
         spent = self.spent()
         longest = max((self.chain[crate] - spent.get(crate, 0.0) for crate in self.ahead()), default=0.0)
-        return max(self.share_left(), longest) * self.pace()
+        return max(self.share_left(), longest / JOBS_GAIN) * self.pace()
 
     def ahead(self) -> list[str]:
         """The crates that aren't proved yet."""
